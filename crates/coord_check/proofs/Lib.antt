@@ -1,0 +1,5 @@
+pub mod Firsts
+pub mod Empties
+pub mod Nodes
+pub mod Links
+pub mod Verdict

@@ -1,0 +1,14 @@
+-- The letters as they are printed.
+use Rattle.std.specs.Prelude.{ℕ, List, codes}
+use Rattle.coord_check.specs.declared.violation.Letter.{Letter}
+use Rattle.coord_check.specs.declared.violation.Letter.TheVariants as letter
+
+abbrev pub letter_name : Letter → List ℕ
+letter_name letter.N = codes "N"
+letter_name letter.A = codes "A"
+letter_name letter.B = codes "B"
+letter_name letter.C = codes "C"
+letter_name letter.D = codes "D"
+letter_name letter.E = codes "E"
+letter_name letter.F = codes "F"
+letter_name letter.G = codes "G"

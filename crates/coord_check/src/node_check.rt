@@ -1,0 +1,56 @@
+//! The predicate over one node.
+
+ghost use Rattle.std.specs.Prelude.{◌≡◌};
+ghost use Rattle.coord_check.specs.Letters.{awaits_rightly, has_right_parent, is_parent_near, is_within, is_unsound};
+
+use coord_node::{Node, NodeSet};
+use coord_types::{Mode, NodeId};
+
+/// Whether a node breaks what the rules keep of each node, in a world of so many steps.
+pub(crate) fn is_unsound(node: &Node, count: u64) -> bool
+    ensures { result ≡ is_unsound count node.now }
+{
+    let (pend, neighbours) = (node.pend(), node.neighbours());
+    let is_sound = awaits_rightly(node.mode(), pend)
+        && has_right_parent(node.mode(), node.parent())
+        && is_parent_near(node.parent(), pend, neighbours)
+        && is_within(pend, neighbours)
+        && node.confirmed() <= node.epoch()
+        && node.epoch() <= count;
+    !is_sound
+}
+
+/// Whether a node awaits somebody exactly where it is Abort.
+fn awaits_rightly(mode: Mode, pend: &NodeSet) -> bool
+    ensures { result ≡ awaits_rightly mode pend.now }
+{
+    (mode == Mode::Abort) != pend.is_empty()
+}
+
+/// Whether a Ready node has no parent, and a Converge node has one.
+fn has_right_parent(mode: Mode, parent: Option<NodeId>) -> bool
+    ensures { result ≡ has_right_parent mode parent }
+{
+    match mode {
+        Mode::Ready => parent.is_none(),
+        Mode::Abort => true,
+        Mode::Converge => parent.is_some(),
+    }
+}
+
+/// Whether a parent is a neighbour that isn't awaited.
+fn is_parent_near(parent: Option<NodeId>, pend: &NodeSet, neighbours: &NodeSet) -> bool
+    ensures { result ≡ is_parent_near parent pend.now neighbours.now }
+{
+    match parent {
+        None => true,
+        Some(parent) => !pend.contains(parent) && neighbours.contains(parent),
+    }
+}
+
+/// Whether all that are awaited are neighbours.
+fn is_within(pend: &NodeSet, neighbours: &NodeSet) -> bool
+    ensures { result ≡ is_within pend.now neighbours.now }
+{
+    pend.as_slice().iter().all(|id| neighbours.contains(*id))
+}

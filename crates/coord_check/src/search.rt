@@ -1,0 +1,111 @@
+//! The search for the first fault.
+
+ghost use Rattle.std.specs.Prelude.{◌≡◌, ◌↔◌, IsNone};
+ghost use Rattle.std.specs.List.{flat_map};
+ghost use Rattle.coord_world.specs.Legal.{Legal};
+ghost use Rattle.coord_world.specs.Ranges.{InRange};
+ghost use Rattle.coord_check.specs.Faults.{faults, first, link_faults, faults_from, node_faults, nodes_from};
+
+use crate::letters::is_broken;
+use crate::node_check::is_unsound;
+use crate::side::Side;
+use crate::violation::{Letter, Violation};
+use coord_types::NodeId;
+use coord_world::World;
+
+/// One more than the greatest number of a node.
+const END: u8 = 65;
+
+/// The letters of links, in the order in which they are tried.
+const LINK_LETTERS: [Letter; 7] = [
+    Letter::A,
+    Letter::B,
+    Letter::C,
+    Letter::D,
+    Letter::E,
+    Letter::F,
+    Letter::G,
+];
+
+/// The first fault of a world; None where it is legal. Nodes come first, in ascending order. Then
+/// come the links, in ascending order of their lesser and then their greater end: of each link the
+/// letters from A to G, each as the lesser end sees it and then as the greater one does.
+pub fn check(world: &World) -> Option<Violation>
+    ensures first { result ≡ first (faults world.now) }
+    ensures legal { IsNone result ↔ Legal world.now }
+{
+    let count = world.count();
+    if let Some(fault) = first_of_nodes(world, count) {
+        return Some(fault);
+    }
+    first_of_links(world)
+}
+
+fn first_of_nodes(world: &World, count: u64) -> Option<Violation>
+    requires { count ≡ world.now.count }
+    ensures { result ≡ first (flat_map (node_faults world.now) (nodes_from 1)) }
+{
+    for number in 1..END {
+        let id = NodeId::new(number)?;
+        if let Some(fault) = fault_of_node(world, count, id) {
+            return Some(fault);
+        }
+    }
+    None
+}
+
+fn fault_of_node(world: &World, count: u64, id: NodeId) -> Option<Violation>
+    requires { count ≡ world.now.count }
+    ensures { result ≡ first (node_faults world.now id) }
+{
+    let node = world.node(id)?;
+    is_unsound(node, count).then_some(Violation {
+        a: id,
+        b: id,
+        letter: Letter::N,
+    })
+}
+
+fn first_of_links(world: &World) -> Option<Violation>
+    requires { InRange world.now }
+    ensures { result ≡ first (flat_map (faults_from world.now) (nodes_from 1)) }
+{
+    for number in 1..END {
+        let a = NodeId::new(number)?;
+        if let Some(fault) = first_of_links_from(world, a) {
+            return Some(fault);
+        }
+    }
+    None
+}
+
+/// The first fault of the links from a node to those with greater numbers.
+fn first_of_links_from(world: &World, a: NodeId) -> Option<Violation>
+    requires { InRange world.now }
+    ensures { result ≡ first (faults_from world.now a) }
+{
+    for number in a.number() + 1..END {
+        let b = NodeId::new(number)?;
+        if let Some(fault) = first_of_link(world, a, b) {
+            return Some(fault);
+        }
+    }
+    None
+}
+
+fn first_of_link(world: &World, a: NodeId, b: NodeId) -> Option<Violation>
+    requires { InRange world.now }
+    ensures { result ≡ first (link_faults world.now a b) }
+{
+    let near = Side::of(world, a, b)?;
+    let far = Side::of(world, b, a)?;
+    for letter in LINK_LETTERS {
+        if is_broken(letter, near, far) {
+            return Some(Violation { a, b, letter });
+        }
+        if is_broken(letter, far, near) {
+            return Some(Violation { a: b, b: a, letter });
+        }
+    }
+    None
+}

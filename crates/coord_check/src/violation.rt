@@ -1,0 +1,66 @@
+//! What is said of a world that is not legal.
+
+ghost use Rattle.std.specs.Prelude.{◌≡◌};
+ghost use Rattle.coord_check.specs.Names.{letter_name};
+
+use coord_types::NodeId;
+use std::fmt;
+
+/// The predicate that fails: `N` is over one node, the others over a link, as one end sees it.
+#[derive(Clone, Copy, Debug, PartialEq, Eq)]
+pub enum Letter {
+    /// The node's mode, parent, awaited neighbours and epochs fit each other.
+    N,
+    /// No more than the front of a lane was taken.
+    A,
+    /// Each acknowledgement that is awaited stands in one place.
+    B,
+    /// At most one Ready is on the way.
+    C,
+    /// No Ready stands behind an Abort.
+    D,
+    /// A Converge node whose parent is Ready again has its Ready on the way.
+    E,
+    /// The two nodes are not each other's parent.
+    F,
+    /// A node in a reset has no Ready on the way but to its parent, or beside an Abort.
+    G,
+}
+
+impl Letter {
+    pub fn name(self) -> &'static str
+        ensures { result.now ≡ letter_name self }
+    {
+        match self {
+            Letter::N => "N",
+            Letter::A => "A",
+            Letter::B => "B",
+            Letter::C => "C",
+            Letter::D => "D",
+            Letter::E => "E",
+            Letter::F => "F",
+            Letter::G => "G",
+        }
+    }
+}
+
+impl fmt::Display for Letter {
+    fn fmt<W: fmt::Write>(&self, f: &mut fmt::Formatter<W>) -> fmt::Result {
+        f.write_str(self.name())
+    }
+}
+
+/// A fault: the letter that fails at node `a`, or at its link to `b`; at a node both are the node.
+#[derive(Clone, Copy, Debug, PartialEq, Eq)]
+pub struct Violation {
+    pub a: NodeId,
+    pub b: NodeId,
+    pub letter: Letter,
+}
+
+impl fmt::Display for Violation {
+    fn fmt<W: fmt::Write>(&self, f: &mut fmt::Formatter<W>) -> fmt::Result {
+        let (a, b) = (self.a.number(), self.b.number());
+        write!(f, "{a} {b} {}", self.letter)
+    }
+}

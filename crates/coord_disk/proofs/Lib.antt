@@ -1,0 +1,3 @@
+pub mod MomentLemmas
+pub mod Overwritten
+pub mod Replays

@@ -1,0 +1,12 @@
+-- What a crash leaves.
+use Rattle.std.specs.Prelude.{◌≡◌, ℕ, List}
+use Rattle.coord_disk.specs.Filled.{IsFilled}
+use Rattle.coord_disk.specs.Present.{Present}
+use Rattle.coord_disk.specs.declared.choice.Choice.{Choice}
+use Rattle.coord_disk.specs.declared.choice.Choice.TheVariants.{Lost, Kept, Filled}
+
+-- a crash by this choice leaves these bytes
+abbrev pub IsLeft : Choice → Present → List ℕ → Type 0
+IsLeft Lost disk image = image ≡ disk.synced
+IsLeft Kept disk image = image ≡ disk.read
+IsLeft (Filled filler) disk image = IsFilled disk filler.items image

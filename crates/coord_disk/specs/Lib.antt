@@ -1,0 +1,9 @@
+pub mod Blip
+pub mod Filled
+pub mod Fuse
+pub mod History
+pub mod Left
+pub mod Memory
+pub mod MemoryLaws
+pub mod Moments
+pub mod Present

@@ -1,0 +1,24 @@
+-- A disk in memory.
+use Rattle.std.specs.Prelude.{ℕ, length}
+use Rattle.coord_disk.specs.History.{Past, present_after, past_with}
+use Rattle.coord_disk.specs.Present.{Present}
+use Rattle.coord_disk.specs.declared.choice.Choice.{Choice}
+use Rattle.coord_disk.specs.declared.memory.MemDisk.{MemDisk}
+
+-- what it held at first, or after the last crash, and the writes and syncs since
+abbrev pub past_of : MemDisk → Past
+past_of disk = past_with disk.read.items disk.history
+
+abbrev pub present_of : MemDisk → Present
+present_of disk = present_after (past_of disk)
+
+-- how much was done since then
+abbrev pub clock_of : MemDisk → ℕ
+clock_of disk = length (past_of disk).deeds
+
+-- what the next crash leaves
+abbrev pub choice_of : MemDisk → Choice
+choice_of disk = disk.choice
+
+abbrev pub failures_of : MemDisk → ℕ
+failures_of disk = length disk.failed.items

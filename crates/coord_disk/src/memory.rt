@@ -1,0 +1,224 @@
+//! A disk in memory, which may be crashed at will.
+
+ghost use Rattle.std.specs.Prelude.{◌≡◌, ◌+◌, ◌<◌, ◌≤◌, ◌^◌, [], true, List, ℕ, length, Some, None, IfOk, OnOk, OnErr, IsSome};
+ghost use Rattle.std.specs.Option.{ForSome};
+ghost use Rattle.coord_disk.specs.Present.{IsImage, overwritten, whole, written_at};
+ghost use Rattle.coord_disk.specs.History.{Past, LedTo, Adds, LeftSince, past_with, present_after};
+
+use crate::history::{History, settle, write};
+use crate::strike::strike;
+use crate::{Choice, CrashDisk, Disk, DiskFault};
+use http_server::Log;
+use std::alloc::{AllocError, Global};
+
+/// A disk in memory. It keeps a record of all its writes and syncs, and fails a call where it finds no memory.
+#[derive(Drop)]
+pub struct MemDisk {
+    alloc: Global,
+    read: Vec<u8>,
+    history: Option<History>,
+    choice: Choice,
+    failed: Log<u8, u8>,
+    ghost led: { ForSome history (λ h. LedTo h read.items) },
+}
+
+impl MemDisk {
+    ghost use Rattle.coord_disk.specs.Memory.{past_of, present_of, choice_of, failures_of};
+    ghost use Rattle.coord_disk.specs.Left.{IsLeft};
+    ghost use Rattle.coord_disk.specs.declared.choice.Choice.TheVariants.{Lost};
+
+    /// A disk with nothing on it, that loses what is not synced.
+    pub fn new(alloc: Global) -> Self
+        ensures present { present_of result ≡ whole [] }
+        ensures choice { choice_of result ≡ Lost }
+        ensures failures { failures_of result ≡ 0 }
+    {
+        MemDisk::over(alloc, Vec::new(alloc))
+    }
+
+    /// A disk with these bytes, all of them synced, that loses what is not.
+    pub fn from_bytes(alloc: Global, bytes: &[u8]) -> Result<Self, AllocError>
+        ensures present { IfOk result (λ disk. present_of disk ≡ whole bytes.now) }
+        ensures choice { IfOk result (λ disk. choice_of disk ≡ Lost) }
+        ensures failures { IfOk result (λ disk. failures_of disk ≡ 0) }
+    {
+        Ok(MemDisk::over(alloc, bytes.to_vec(alloc)?))
+    }
+
+    fn over(alloc: Global, read: Vec<u8>) -> Self
+        ensures present { present_of result ≡ whole read.items }
+        ensures choice { choice_of result ≡ Lost }
+        ensures failures { failures_of result ≡ 0 }
+    {
+        MemDisk {
+            alloc,
+            read,
+            history: None,
+            choice: Choice::Lost,
+            failed: Log::new(),
+        }
+    }
+
+    /// The bytes as a read gives them.
+    pub fn bytes(&self) -> &[u8]
+        ensures { result.now ≡ (present_of self.now).read }
+    {
+        self.read.as_slice()
+    }
+
+    /// Says what the next crash leaves.
+    pub fn choose(&mut self, choice: Choice)
+        ensures past { past_of self.new ≡ past_of self.old }
+        ensures choice { choice_of self.new ≡ choice }
+        ensures failures { failures_of self.new ≡ failures_of self.old }
+    {
+        self.choice = choice;
+    }
+
+    // From here on what is done is recorded.
+    fn begin(&mut self) -> Result<(), AllocError>
+        ensures past { past_of self.new ≡ past_of self.old }
+        ensures failures { failures_of self.new ≡ failures_of self.old }
+        ensures ok { OnOk result (IsSome self.new.history) }
+    {
+        if self.history.is_none() {
+            self.history = Some(History {
+                first: self.read.to_vec(self.alloc)?,
+                synced: self.read.to_vec(self.alloc)?,
+                deeds: Vec::new(self.alloc),
+            });
+        }
+        Ok(())
+    }
+
+    fn record_write(&mut self, at: u64, bytes: &[u8]) -> Result<(), AllocError>
+        requires { at + length bytes.now < 2 ^ 64 }
+        ensures ok { OnOk result (Adds (past_of self.old) (past_of self.new) (written_at at bytes.now (present_of self.old))) }
+        ensures err { OnErr result (past_of self.new ≡ past_of self.old) }
+        ensures failures { failures_of self.new ≡ failures_of self.old }
+    {
+        self.begin()?;
+        match &mut self.history {
+            Some(history) => write(self.alloc, &mut self.read, history, at, bytes),
+            None => unreachable!(),
+        }
+    }
+
+    fn record_sync(&mut self) -> Result<(), AllocError>
+        ensures ok { OnOk result (Adds (past_of self.old) (past_of self.new) (whole (present_of self.old).read)) }
+        ensures err { OnErr result (past_of self.new ≡ past_of self.old) }
+        ensures failures { failures_of self.new ≡ failures_of self.old }
+    {
+        self.begin()?;
+        match &mut self.history {
+            Some(history) => settle(self.alloc, &self.read, history),
+            None => unreachable!(),
+        }
+    }
+
+    // A call fails for want of memory.
+    fn fail(&mut self) -> DiskFault
+        ensures past { past_of self.new ≡ past_of self.old }
+        ensures failures { failures_of self.new ≡ failures_of self.old + 1 }
+    {
+        self.failed = self.failed.and(&0, &0);
+        DiskFault
+    }
+
+    fn struck(&mut self)
+        ensures present { present_of self.new ≡ whole (present_of self.new).read }
+        ensures left { IsLeft (choice_of self.old) (present_of self.old) (present_of self.new).read }
+        ensures image { IsImage (present_of self.old) (present_of self.new).read }
+        ensures choice { choice_of self.new ≡ choice_of self.old }
+        ensures failures { failures_of self.new ≡ failures_of self.old }
+    {
+        if let Some(history) = self.history.take() {
+            strike(&mut self.read, history, &self.choice);
+        }
+    }
+}
+
+impl Disk for MemDisk {
+    ghost use Rattle.std.specs.Prelude.{◌≡◌, ◌+◌, ◌<◌, ◌^◌, true, length, OnOk, OnErr};
+    ghost use Rattle.coord_disk.specs.History.{Adds, LeftSince};
+    ghost use Rattle.coord_disk.specs.Memory.{past_of, present_of, clock_of, failures_of};
+    ghost use Rattle.coord_disk.specs.Moments.{Elapses, HasCause};
+    ghost use Rattle.coord_disk.specs.Present.{FitsNoMore, IsImage, Writes, whole, written_at};
+    ghost use Rattle.coord_disk.specs.MemoryLaws.{counts_now, only_now, reads_image};
+
+    ghost present = { present_of };
+
+    ghost keeps_model = { λ _. true };
+
+    ghost clock = { clock_of };
+
+    ghost left_since = { λ d. LeftSince (past_of d) };
+
+    ghost failures = { failures_of };
+
+    ghost counts_now = { λ d t image _ le now. counts_now (past_of d) t image le now };
+
+    ghost only_now = { λ d image _ left. only_now (past_of d) image left };
+
+    ghost reads_image = { λ d _. reads_image d.read.items d.history d.led };
+
+    fn len(&mut self) -> Result<u64, DiskFault> {
+        Ok(self.read.len() as u64)
+    }
+
+    fn read(&mut self, at: u64, buf: &mut [u8]) -> Result<(), DiskFault> {
+        let at = at as usize;
+        buf.copy_from_slice(&self.read[at..at + buf.len()]);
+        Ok(())
+    }
+
+    /// Without memory it fails, and nothing changes.
+    fn write_at(&mut self, at: u64, bytes: &[u8]) -> Result<(), DiskFault>
+        requires { at + length bytes.now < 2 ^ 64 }
+        ensures ok { OnOk result (Adds (past_of self.old) (past_of self.new) (written_at at bytes.now (present_of self.old))) }
+        ensures err { OnErr result (past_of self.new ≡ past_of self.old) }
+        ensures written { OnOk result (present_of self.new ≡ written_at at bytes.now (present_of self.old)) }
+        ensures crash { Writes at bytes.now (present_of self.old) (present_of self.new) }
+        ensures time { Elapses (clock_of self.old) (clock_of self.new) (LeftSince (past_of self.old)) (LeftSince (past_of self.new)) (IsImage (present_of self.new)) }
+        ensures cause { HasCause (failures_of self.old) (failures_of self.new) result }
+    {
+        match self.record_write(at, bytes) {
+            Ok(()) => Ok(()),
+            Err(_) => Err(self.fail()),
+        }
+    }
+
+    /// Without memory it fails, and nothing changes.
+    fn sync(&mut self) -> Result<(), DiskFault>
+        ensures ok { OnOk result (Adds (past_of self.old) (past_of self.new) (whole (present_of self.old).read)) }
+        ensures err { OnErr result (past_of self.new ≡ past_of self.old) }
+        ensures durable { OnOk result (present_of self.new ≡ whole (present_of self.old).read) }
+        ensures crash { FitsNoMore (present_of self.old) (present_of self.new) }
+        ensures time { Elapses (clock_of self.old) (clock_of self.new) (LeftSince (past_of self.old)) (LeftSince (past_of self.new)) (IsImage (present_of self.new)) }
+        ensures cause { HasCause (failures_of self.old) (failures_of self.new) result }
+    {
+        match self.record_sync() {
+            Ok(()) => Ok(()),
+            Err(_) => Err(self.fail()),
+        }
+    }
+}
+
+impl CrashDisk for MemDisk {
+    ghost use Rattle.std.specs.Prelude.{◌≡◌};
+    ghost use Rattle.coord_disk.specs.Left.{IsLeft};
+    ghost use Rattle.coord_disk.specs.Memory.{present_of, choice_of, failures_of};
+    ghost use Rattle.coord_disk.specs.Present.{IsImage, whole};
+
+    /// It leaves what was chosen.
+    fn crash(mut self) -> Self
+        ensures left { IsLeft (choice_of self) (present_of self) (present_of result).read }
+        ensures image { IsImage (present_of self) (present_of result).read }
+        ensures synced { present_of result ≡ whole (present_of result).read }
+        ensures choice { choice_of result ≡ choice_of self }
+        ensures failures { failures_of result ≡ failures_of self }
+    {
+        self.struck();
+        self
+    }
+}

@@ -1,0 +1,72 @@
+//! What a crash leaves of a disk in memory.
+
+ghost use Rattle.std.specs.Prelude.{◌≡◌, ◌+◌, ◌&&◌, nat_le, nat_lt, List, ℕ, length, Some};
+ghost use Rattle.coord_disk.specs.Present.{IsImage, is_within, whole};
+ghost use Rattle.coord_disk.specs.Filled.{IsFilled, repeated};
+ghost use Rattle.coord_disk.specs.History.{LedTo, past_with, present_after, replayed};
+ghost use Rattle.coord_disk.specs.Left.{IsLeft};
+
+use crate::Choice;
+use crate::history::{Deed, History};
+
+// Whether so many bytes from `at` on cover the place.
+fn covers(at: u64, len: u64, place: u64) -> bool
+    ensures { result ≡ (nat_le at place && nat_lt place (at + len)) }
+{
+    at <= place && place - at < len
+}
+
+// Whether the place was written since the last sync.
+fn is_written(deeds: &[Deed], place: u64) -> bool
+    ensures { (first : List ℕ) → result ≡ is_within (replayed (whole first) deeds.now).written place }
+{
+    let mut n = deeds.len();
+    while n > 0 {
+        n -= 1;
+        match &deeds[n] {
+            Deed::Synced => return false,
+            Deed::Wrote { at, bytes } => {
+                if covers(*at, bytes.len() as u64, place) {
+                    return true;
+                }
+            }
+        }
+    }
+    false
+}
+
+// The n-th byte of these, repeated.
+fn filling(filler: &[u8], n: usize) -> u8
+    ensures { result ≡ repeated filler.now n }
+{
+    if filler.is_empty() {
+        0
+    } else {
+        filler[n % filler.len()]
+    }
+}
+
+fn fill(read: &mut [u8], history: &History, filler: &[u8])
+    requires { LedTo history.now read.old }
+    ensures { IsFilled (present_after (past_with read.old (Some history.now))) filler.now read.new }
+{
+    let mut filled = 0;
+    for place in 0..read.len() {
+        if history.synced.len() <= place || is_written(&history.deeds, place as u64) {
+            read[place] = filling(filler, filled);
+            filled += 1;
+        }
+    }
+}
+
+/// Leaves in place of what is read what a crash leaves.
+pub fn strike(read: &mut Vec<u8>, history: History, choice: &Choice)
+    requires { LedTo history read.old.items }
+    ensures { IsLeft choice.now (present_after (past_with read.old.items (Some history))) read.new.items }
+{
+    match choice {
+        Choice::Kept => {}
+        Choice::Lost => *read = history.synced,
+        Choice::Filled(filler) => fill(read, &history, filler),
+    }
+}

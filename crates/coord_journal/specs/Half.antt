@@ -1,0 +1,13 @@
+-- A half of the device, apart from the rest.
+use Rattle.std.specs.Prelude.{◌≡◌, ℕ, ◌+◌, ◌≤◌, List, ◌∷◌, ◌++◌, length}
+use Rattle.coord_journal.specs.Text.{Content, IsOpened, half_front}
+use Rattle.coord_journal.specs.declared.layout.TheConstants.{MAX_SNAPSHOT}
+
+-- these bytes hold the content, and so many of them are used, the closed gate included
+pub record IsHalf (bytes : List ℕ) (content : Content) (used : ℕ) : Type 0 where
+  pub opened : List ℕ
+  pub behind : List ℕ
+  pub spelled : bytes ≡ half_front content.version content.snapshot opened ++ 0 ∷ behind
+  pub snapshot : length content.snapshot ≤ MAX_SNAPSHOT
+  pub batches : IsOpened content.batches opened
+  pub used_is : length (half_front content.version content.snapshot opened) + 1 ≡ used

@@ -1,0 +1,27 @@
+-- An open journal.
+use Rattle.std.specs.Prelude.{◌≡◌, ℕ, Bool, false}
+use Rattle.coord_disk.specs.Present.{Present, whole}
+use Rattle.coord_journal.specs.Text.{Content, IsTextAt, used_by}
+use Rattle.coord_journal.specs.declared.journal.Journal.{Journal}
+
+abbrev pub disk_of : {D : Type 0} → Journal D → D
+disk_of journal = journal.disk
+
+-- the size of a half
+abbrev pub half_size_of : {D : Type 0} → Journal D → ℕ
+half_size_of journal = journal.half_size
+
+-- how many bytes of the selected half are used, its closed gate included
+abbrev pub used_of : {D : Type 0} → Journal D → ℕ
+used_of journal = journal.used
+
+-- whether the device has failed in an append
+abbrev pub has_stopped : {D : Type 0} → Journal D → Bool
+has_stopped journal = journal.stopped
+
+-- its disk holds the text of this content, all of it synced, and it may be added to
+pub record IsReady {D : Type 0} (present : D → Present) (journal : Journal D) (content : Content) : Type 0 where
+  pub synced : present (disk_of journal) ≡ whole (present (disk_of journal)).read
+  pub text : IsTextAt (present (disk_of journal)).read content (half_size_of journal) journal.gate (used_of journal)
+  pub used : used_of journal ≡ used_by content
+  pub going : has_stopped journal ≡ false

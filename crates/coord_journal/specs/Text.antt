@@ -1,0 +1,94 @@
+-- The text of a journal: a header, and a half that ends at its first closed gate.
+use Rattle.std.specs.Prelude.{◌≡◌, ◌≢◌, ◌⊎◌, ℕ, ◌+◌, ◌*◌, ◌%◌, ◌≤◌, List, [], ◌∷◌, ◌++◌, length}
+use Rattle.std.specs.Int.{w32, w64, to_be_bytes}
+use Rattle.coord_journal.specs.declared.layout.TheConstants.{MIN_HALF, MAX_HALF, MAX_SNAPSHOT, MAX_BODY}
+
+pub record Content : Type 0 where
+  pub version : ℕ
+  pub snapshot : List ℕ
+  pub batches : List (List ℕ)
+
+-- a length and that many bytes
+abbrev pub sized : List ℕ → List ℕ
+sized bytes = to_be_bytes w32 (length bytes) ++ bytes
+
+-- one byte, a body of at most so many bytes, and what is behind it
+abbrev pub BeginsWithBody : ℕ → ℕ → List ℕ → List ℕ → List ℕ → Type 0
+BeginsWithBody limit first body behind bytes = (length body ≤ limit) × (bytes ≡ first ∷ (sized body ++ behind))
+
+-- open gates, which are any byte but 0, each with a batch behind it
+abbrev pub IsOpened : List (List ℕ) → List ℕ → Type 0
+IsOpened [] bytes = bytes ≡ []
+IsOpened (batch ∷ batches) bytes = (gate : ℕ) × (rest : List ℕ) × (gate ≢ 0) × BeginsWithBody MAX_BODY gate batch rest bytes × IsOpened batches rest
+
+-- these bytes are open gates with these batches, so many bytes in all, and then a closed gate
+abbrev pub ReadsAs : List (List ℕ) → ℕ → List ℕ → Type 0
+ReadsAs batches size bytes = (opened : List ℕ) × (behind : List ℕ) × (bytes ≡ opened ++ 0 ∷ behind) × IsOpened batches opened × (length opened ≡ size)
+
+-- a half up to its first closed gate
+abbrev pub half_front : ℕ → List ℕ → List ℕ → List ℕ
+half_front version snapshot opened = version ∷ (sized snapshot ++ opened)
+
+-- ACRRESET
+abbrev pub magic : List ℕ
+magic = 65 ∷ 67 ∷ 82 ∷ 82 ∷ 69 ∷ 83 ∷ 69 ∷ 84 ∷ []
+
+-- a size that a half may have
+pub record IsHalfSize (half_size : ℕ) : Type 0 where
+  pub smallest : MIN_HALF ≤ half_size
+  pub greatest : half_size ≤ MAX_HALF
+
+-- bytes that begin with a header, which has the selector and the size of a half
+pub record HasHeader (bytes : List ℕ) (selector half_size : ℕ) (rest : List ℕ) : Type 0 where
+  pub spelled : bytes ≡ (selector ∷ magic) ++ (to_be_bytes w64 half_size ++ rest)
+  pub size : IsHalfSize half_size
+
+-- where the selected half begins behind the header: an even selector names the first, an odd one the second
+abbrev pub half_start : ℕ → ℕ → ℕ
+half_start selector half_size = (selector % 2) * half_size
+
+-- all in front of the first closed gate of the selected half; `skipped` is what stands before the half
+abbrev pub lead : ℕ → ℕ → List ℕ → List ℕ → List ℕ
+lead selector half_size skipped front = (selector ∷ magic) ++ (to_be_bytes w64 half_size ++ (skipped ++ front))
+
+-- These bytes are such a text, with its closed gate at this place, and this many bytes of the half used, that gate included. What stands behind the gate is not read.
+pub record IsTextAt (bytes : List ℕ) (content : Content) (half_size gate used : ℕ) : Type 0 where
+  pub selector : ℕ
+  pub skipped : List ℕ
+  pub opened : List ℕ
+  pub behind : List ℕ
+  pub spelled : bytes ≡ lead selector half_size skipped (half_front content.version content.snapshot opened) ++ 0 ∷ behind
+  pub size : IsHalfSize half_size
+  pub skips : length skipped ≡ half_start selector half_size
+  pub snapshot : length content.snapshot ≤ MAX_SNAPSHOT
+  pub batches : IsOpened content.batches opened
+  pub used_is : length (half_front content.version content.snapshot opened) + 1 ≡ used
+  pub fits : used ≤ half_size
+  pub gate_is : length (lead selector half_size skipped (half_front content.version content.snapshot opened)) ≡ gate
+
+abbrev pub IsText : Content → List ℕ → Type 0
+IsText content bytes = (half_size gate used : ℕ) × IsTextAt bytes content half_size gate used
+
+-- with nothing behind the snapshot
+abbrev pub without_batch : ℕ → List ℕ → Content
+without_batch version snapshot = record { version = version; snapshot = snapshot; batches = [] }
+
+abbrev pub with_batch : Content → List ℕ → Content
+with_batch content batch = record { version = content.version; snapshot = content.snapshot; batches = content.batches ++ batch ∷ [] }
+
+-- the text of the content, or of this and one batch more
+abbrev pub IsBeforeOrAfter : Content → List ℕ → List ℕ → Type 0
+IsBeforeOrAfter content batch bytes = IsText content bytes ⊎ IsText (with_batch content batch) bytes
+
+-- a journal that was just made: half 0 is selected, and its gate is the last byte
+abbrev pub formatted : ℕ → ℕ → List ℕ → List ℕ
+formatted half_size version snapshot = lead 0 half_size [] (half_front version snapshot []) ++ 0 ∷ []
+
+-- how much of a half such batches take
+abbrev pub size_of : List (List ℕ) → ℕ
+size_of [] = 0
+size_of (batch ∷ batches) = 5 + length batch + size_of batches
+
+-- how much of a half such a text uses, its closed gate included
+abbrev pub used_by : Content → ℕ
+used_by content = 6 + length content.snapshot + size_of content.batches

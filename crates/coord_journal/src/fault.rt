@@ -1,0 +1,81 @@
+ghost use Rattle.std.specs.Prelude.{◌≡◌, Some};
+ghost use Rattle.coord_journal.specs.Fault.{name_of, number_of};
+ghost use Rattle.coord_journal.specs.declared.fault.JournalFault.TheVariants.{OutOfMemory, Device};
+
+use coord_disk::DiskFault;
+use std::alloc::{AllocError, AllocFailed};
+use std::error::Error;
+use std::fmt;
+
+/// Why a call on a journal was refused.
+#[derive(Clone, Copy, Debug, PartialEq, Eq, Hash)]
+pub enum JournalFault {
+    /// No memory was found.
+    OutOfMemory,
+    /// The device failed during the call.
+    Device,
+    /// The device to be formatted is not empty.
+    NotEmpty,
+    /// The size of a half is outside its limits.
+    HalfSize,
+    /// The device does not begin with a journal's header.
+    NoMagic,
+    /// The selected half is cut short, or a length in it is over its limit.
+    BadRecord,
+    /// The body does not fit into the half.
+    JournalFull,
+    /// The device has failed before.
+    Stopped,
+}
+
+impl JournalFault {
+    /// From 1 to 8.
+    pub fn number(self) -> u8
+        ensures { result ≡ number_of self }
+    {
+        self as u8 + 1
+    }
+}
+
+impl fmt::Display for JournalFault {
+    ghost output = { λ fault. Some (name_of fault) };
+
+    fn fmt<W: fmt::Write>(&self, f: &mut fmt::Formatter<W>) -> fmt::Result {
+        f.write_str(match self {
+            JournalFault::OutOfMemory => "OutOfMemory",
+            JournalFault::Device => "Device",
+            JournalFault::NotEmpty => "NotEmpty",
+            JournalFault::HalfSize => "HalfSize",
+            JournalFault::NoMagic => "NoMagic",
+            JournalFault::BadRecord => "BadRecord",
+            JournalFault::JournalFull => "JournalFull",
+            JournalFault::Stopped => "Stopped",
+        })
+    }
+}
+
+impl Error for JournalFault {}
+
+impl From<DiskFault> for JournalFault {
+    ghost from_gives = { λ _ fault. fault ≡ Device };
+
+    fn from(_: DiskFault) -> Self {
+        JournalFault::Device
+    }
+}
+
+impl From<AllocError> for JournalFault {
+    ghost from_gives = { λ _ fault. fault ≡ OutOfMemory };
+
+    fn from(_: AllocError) -> Self {
+        JournalFault::OutOfMemory
+    }
+}
+
+impl<T: Drop> From<AllocFailed<T>> for JournalFault {
+    ghost from_gives = { λ _ fault. fault ≡ OutOfMemory };
+
+    fn from(_: AllocFailed<T>) -> Self {
+        JournalFault::OutOfMemory
+    }
+}

@@ -1,0 +1,103 @@
+//! Opens a journal.
+
+ghost use Rattle.std.specs.Prelude.{◌≡◌, ◌≢◌, ◌+◌, ◌<◌, ◌≤◌, true, false, List, ℕ, MatchResult, IfOk, IfErr, OnOk, OnErr, IsErrOf};
+ghost use Rattle.coord_disk.specs.Moments.{LeavesOnly};
+ghost use Rattle.coord_disk.specs.Present.{IsImage, whole};
+ghost use Rattle.coord_journal.specs.Contents.{content_of};
+ghost use Rattle.coord_journal.specs.Faults.{RefusesOpen};
+ghost use Rattle.coord_journal.specs.Journal.{IsReady, disk_of, has_stopped};
+ghost use Rattle.coord_journal.specs.declared.layout.TheConstants.{MAX_HALF};
+ghost use Rattle.coord_journal.specs.Text.{Content, IsText, IsTextAt, half_start, used_by};
+ghost use Rattle.coord_journal.specs.declared.fault.JournalFault.TheVariants.{Device};
+
+use crate::barrier::read_settled;
+use crate::header::read_header;
+use crate::layout::HEADER;
+use crate::read::read_half;
+use crate::{Contents, Journal, JournalFault};
+use coord_disk::Disk;
+use std::alloc::Global;
+
+/// Where a text ends on its device: the size of a half, the place of the closed gate, and how much of the half ends with it.
+#[derive(Clone, Copy)]
+struct Place {
+    half_size: u64,
+    gate: u64,
+    used: u64,
+}
+
+// Where the selected half begins behind the header.
+fn start_of(selector: u8, half_size: usize) -> usize
+    ensures start { result ≡ half_start selector half_size }
+    ensures low { result ≤ half_size }
+{
+    if selector % 2 == 0 { 0 } else { half_size }
+}
+
+// What the bytes of a device say.
+fn read_text(alloc: Global, bytes: &[u8]) -> Result<(Place, Contents), JournalFault>
+    ensures text { IfOk result (λ read. IsTextAt bytes.now (content_of read.1) read.0.half_size read.0.gate read.0.used) }
+    ensures only { (content : Content) → IsText content bytes.now → IfOk result (λ read. content_of read.1 ≡ content) }
+    ensures used { IfOk result (λ read. read.0.used ≡ used_by (content_of read.1)) }
+    ensures near { IfOk result (λ read. (read.0.half_size ≤ MAX_HALF) × (read.0.used ≤ read.0.half_size) × (read.0.gate < 17 + read.0.half_size + read.0.used)) }
+    ensures fault { IfErr result (RefusesOpen bytes.now) }
+    ensures not_device { IfErr result (λ fault. fault ≢ Device) }
+{
+    let Some(header) = read_header(bytes) else {
+        return Err(JournalFault::NoMagic);
+    };
+    let size = header.half_size as usize;
+    let start = start_of(header.selector, size);
+    if header.rest.len() < start {
+        return Err(JournalFault::BadRecord);
+    }
+    let behind = &header.rest[start..];
+    let (contents, used) = match read_half(alloc, &behind[..size.min(behind.len())]) {
+        Ok(read) => read,
+        Err(fault) => return Err(fault),
+    };
+    let place = Place {
+        half_size: header.half_size,
+        gate: (HEADER + start + used - 1) as u64,
+        used: used as u64,
+    };
+    Ok((place, contents))
+}
+
+/// Opens the journal on a device, and gives what it holds. It begins with a sync, reads, and writes nothing.
+///
+/// A refusal hands the disk back.
+pub fn open<D: Disk>(
+    alloc: Global,
+    mut disk: D,
+) -> Result<(Journal<D>, Contents), (JournalFault, D)>
+    // Where the bytes of the device are the text of a content, it gives that content, or there is no memory or the device fails.
+    ensures text { D.keeps_model disk ≡ true → IfOk result (λ opened. IsText (content_of opened.1) (D.present disk).read) }
+    ensures only { (content : Content) → D.keeps_model disk ≡ true → IsText content (D.present disk).read → IfOk result (λ opened. content_of opened.1 ≡ content) }
+    ensures fault { D.keeps_model disk ≡ true → IfErr result (λ refused. RefusesOpen (D.present disk).read refused.0) }
+
+    // It may be added to, and the device reads as before.
+    ensures ready { D.keeps_model disk ≡ true → IfOk result (λ opened. IsReady D.present opened.0 (content_of opened.1)) }
+    ensures bytes { D.keeps_model disk ≡ true → IfOk result (λ opened. D.present (disk_of opened.0) ≡ whole (D.present disk).read) }
+    ensures going { IfOk result (λ opened. has_stopped opened.0 ≡ false) }
+    ensures unchanged { D.keeps_model disk ≡ true → IfErr result (λ refused. refused.0 ≢ Device → D.present refused.1 ≡ whole (D.present disk).read) }
+
+    // A crash at any moment leaves nothing that it could not have left before.
+    ensures any_moment { D.keeps_model disk ≡ true → IfOk result (λ opened. LeavesOnly D.clock D.left_since disk (disk_of opened.0) (IsImage (D.present disk))) }
+    ensures any_moment_refused { D.keeps_model disk ≡ true → IfErr result (λ refused. LeavesOnly D.clock D.left_since disk refused.1 (IsImage (D.present disk))) }
+
+    ensures model { MatchResult result (λ opened. D.keeps_model (disk_of opened.0) ≡ D.keeps_model disk) (λ refused. D.keeps_model refused.1 ≡ D.keeps_model disk) }
+    ensures device { IfErr result (λ refused. refused.0 ≡ Device → D.failures disk < D.failures refused.1) }
+{
+    let bytes = match read_settled(alloc, &mut disk) {
+        Ok(bytes) => bytes,
+        Err(fault) => return Err((fault, disk)),
+    };
+    match read_text(alloc, &bytes) {
+        Ok((place, contents)) => {
+            let journal = Journal::at(alloc, disk, place.half_size, place.gate, place.used);
+            Ok((journal, contents))
+        }
+        Err(fault) => Err((fault, disk)),
+    }
+}

@@ -1,0 +1,78 @@
+-- The lane machine: one direction of a link, stop and wait, its messages numbered from 1.
+use Rattle.std.specs.Prelude.{◌≡◌, ◌⊎◌, ◌≢◌, ℕ, ◌+◌, ◌==◌, ◌||◌, not, nat_le, nat_lt, Bool, List, [], ◌∷◌, ◌++◌, Option, Some, None, Result, Ok, Err, if◌then◌else◌}
+use Rattle.std.proofs.Common.{refl}
+use Rattle.std.specs.Coded.{Coded, code_by, coded×, coded_ℕ, coded_list}
+use Rattle.coord_types.specs.Messages.{is_nil, behind_front, begins_with, msg_code}
+use Rattle.coord_types.specs.declared.messages.Msg.{Msg}
+use Rattle.coord_types.specs.declared.refusals.Refusal.{Refusal}
+use Rattle.coord_types.specs.declared.refusals.Refusal.TheVariants.{Old, Early, Differs}
+
+-- `base` messages are receipted, the queue has those from number base + 1 on, and `got` were taken at the other end
+pub record Lane : Type 0 where
+  pub inc : ℕ
+  pub base : ℕ
+  pub got : ℕ
+  pub queue : List Msg
+
+abbrev pub new_lane : ℕ → Lane
+new_lane inc = record { inc = inc; base = 0; got = 0; queue = [] }
+
+-- messages go behind the others
+abbrev pub sent : List Msg → Lane → Lane
+sent ms l = record l { queue = l.queue ++ ms }
+
+-- the front is taken at the other end
+abbrev pub took : Lane → Lane
+took l = record l { got = l.got + 1 }
+
+-- the front is receipted and leaves the queue
+abbrev pub cleared : Lane → Lane
+cleared l = record l { base = l.base + 1; queue = behind_front l.queue }
+
+-- the messages on the way: not the front, where it was taken
+abbrev pub transit : Lane → List Msg
+transit l = if l.got == l.base then l.queue else behind_front l.queue
+
+abbrev pub front_in : ℕ → List Msg → Option (ℕ × Msg)
+front_in base [] = None
+front_in base (m ∷ ms) = Some (base + 1, m)
+
+-- the number and the message of the front, which alone travels
+abbrev pub front_of : Lane → Option (ℕ × Msg)
+front_of l = front_in l.base l.queue
+
+-- tests, each with the refusal that it stands for
+abbrev pub Tests : Type 0
+Tests = List (Bool × Refusal)
+
+-- refused by the first test that holds
+abbrev pub refused_or : {V : Type 0} → V → Tests → Result V Refusal
+refused_or v [] = Ok v
+refused_or v (t ∷ ts) = if t.0 then Err t.1 else refused_or v ts
+
+-- why a message with this number isn't taken: it was taken already; it isn't the next one, or the one before it isn't receipted; it isn't the front's
+abbrev pub against_take : Lane → ℕ → Msg → Tests
+against_take l number m =
+    (nat_le number l.got, Old) ∷ (nat_lt (l.got + 1) number || not (l.got == l.base) || is_nil l.queue, Early)
+    ∷ (not (begins_with l.queue m), Differs) ∷ []
+
+abbrev pub judged_take : Lane → ℕ → Msg → Result (Unit {0}) Refusal
+judged_take l number m = refused_or tt (against_take l number m)
+
+-- why a receipt with this number clears nothing: its message was cleared already; it wasn't taken, or isn't the front
+abbrev pub against_clear : Lane → ℕ → Tests
+against_clear l number =
+    (nat_le number l.base, Old) ∷ (nat_lt l.got number || nat_lt (l.base + 1) number || is_nil l.queue, Early) ∷ []
+
+abbrev pub judged_clear : Lane → ℕ → Result (Unit {0}) Refusal
+judged_clear l number = refused_or tt (against_clear l number)
+
+-- the front is not yet taken, or it is; no more than the front is ever taken
+abbrev pub Counts : Lane → Type 0
+Counts l = (l.got ≡ l.base) ⊎ ((l.got ≡ l.base + 1) × (l.queue ≢ []))
+
+-- a lane is stored as the tuple of its fields
+abbrev pub lane_code : Coded Lane
+lane_code =
+    code_by (ℕ × (ℕ × (ℕ × List Msg))) (coded× coded_ℕ (coded× coded_ℕ (coded× coded_ℕ (coded_list msg_code))))
+    (λ l. (l.inc, (l.base, (l.got, l.queue)))) (λ p. record { inc = p.0; base = p.1.0; got = p.1.1.0; queue = p.1.1.1 }) (λ _. refl)

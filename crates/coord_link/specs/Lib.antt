@@ -1,0 +1,4 @@
+pub mod LaneMachine
+pub mod Padded
+pub mod Moves
+pub mod WorkedRun

@@ -1,0 +1,237 @@
+//! One direction of a link.
+
+ghost use Rattle.std.specs.Prelude.{◌≡◌, ◌<◌, ◌≤◌, ◌-◌, ◌^◌, ◌↔◌, [], ◌∷◌, length, IsTrue};
+ghost use Rattle.coord_link.specs.LaneMachine.{new_lane, sent, took, cleared, transit, front_of, judged_take, judged_clear};
+
+use coord_types::{Msg, Refusal};
+use std::marker::Model;
+
+/// The most messages that a lane holds.
+pub const PLACES: usize = 4;
+
+/// What stands behind the queue in its array, and is never read.
+const BEHIND: Msg = Msg::Abort;
+
+/// The messages from one node to its neighbour, numbered from 1 since the link was made. Contracts
+/// see it as a lane of `specs/LaneMachine.antt`.
+#[derive(Clone, Copy, Debug)]
+pub struct Lane {
+    inc: u64,
+    base: u64,
+    got: u64,
+    /// The first `len` are the messages that aren't receipted, the oldest first; the others are
+    /// `BEHIND`, so that equal lanes have equal arrays.
+    queue: [Msg; PLACES],
+    len: usize,
+}
+
+impl Model for Lane {
+    ghost use Rattle.std.specs.Prelude.{◌≡◌, ◌≤◌, length, take};
+    ghost use Rattle.coord_link.specs.Padded.{padded};
+    ghost use Rattle.coord_link.specs.LaneMachine.{Lane as Machine, lane_code};
+
+    ghost Value = { Machine };
+
+    ghost coded = { lane_code };
+
+    ghost view = { λ a. record { inc = a.inc; base = a.base; got = a.got; queue = take a.len a.queue } };
+
+    ghost invariant = { λ a. (a.queue ≡ padded (take a.len a.queue)) × (a.len ≡ length (take a.len a.queue)) };
+
+    ghost inverse = { λ l. record { inc = l.inc; base = l.base; got = l.got; queue = padded l.queue; len = length l.queue } };
+
+    ghost use Rattle.std.proofs.Common.{sym};
+
+    ghost inverse_ok = { λ a h. λ i. record { inc = a.inc; base = a.base; got = a.got; queue = sym h.0 i; len = sym h.1 i } };
+}
+
+impl Lane {
+    /// The empty lane of a link that was made by step number `inc`.
+    pub fn new(inc: u64) -> Self
+        ensures { result ≡ new_lane inc }
+    {
+        Lane {
+            inc,
+            base: 0,
+            got: 0,
+            queue: [BEHIND; PLACES],
+            len: 0,
+        }
+    }
+
+    /// The number of the step that made the link.
+    pub fn inc(&self) -> u64
+        ensures { result ≡ self.now.inc }
+    {
+        self.inc
+    }
+
+    /// How many messages are receipted.
+    pub fn base(&self) -> u64
+        ensures { result ≡ self.now.base }
+    {
+        self.base
+    }
+
+    /// How many messages were taken at the other end.
+    pub fn got(&self) -> u64
+        ensures { result ≡ self.now.got }
+    {
+        self.got
+    }
+
+    /// The messages that aren't receipted, the oldest first.
+    pub fn queue(&self) -> &[Msg]
+        ensures value { result.now ≡ self.now.queue }
+        ensures most { length self.now.queue ≤ PLACES }
+    {
+        &self.queue[..self.len]
+    }
+
+    /// Whether there is no place for another message.
+    pub fn is_full(&self) -> bool
+        ensures full { IsTrue result ↔ (length self.now.queue ≡ PLACES) }
+        ensures most { length self.now.queue ≤ PLACES }
+    {
+        self.len == PLACES
+    }
+
+    /// Puts a message behind the others.
+    pub fn send(&mut self, msg: Msg)
+        requires { length self.old.queue < PLACES }
+        ensures { self.new ≡ sent (msg ∷ []) self.old }
+    {
+        self.queue[self.len] = msg;
+        self.len += 1;
+    }
+
+    /// The number and the message of the front, which alone travels; None where nothing waits.
+    pub fn current(&self) -> Option<(u64, Msg)>
+        requires { self.now.base < 2 ^ 64 - 1 }
+        ensures { result ≡ front_of self.now }
+    {
+        if self.len == 0 {
+            None
+        } else {
+            Some((self.base + 1, self.queue[0]))
+        }
+    }
+
+    /// Whether the message with this number is taken now. It is Old where it was taken already,
+    /// Early where another one comes first or the one before it isn't receipted, and Differs where
+    /// it isn't the front's.
+    pub fn judge_take(&self, number: u64, msg: Msg) -> Result<(), Refusal>
+        ensures { result ≡ judged_take self.now number msg }
+    {
+        if number <= self.got {
+            return Err(Refusal::Old);
+        }
+        if number - 1 > self.got || self.got != self.base || self.len == 0 {
+            return Err(Refusal::Early);
+        }
+        if self.queue[0] != msg {
+            return Err(Refusal::Differs);
+        }
+        Ok(())
+    }
+
+    /// Notes that the front was taken at the other end, as `judge_take` allowed.
+    pub fn take(&mut self)
+        requires { self.old.got < 2 ^ 64 - 1 }
+        ensures { self.new ≡ took self.old }
+    {
+        self.got += 1;
+    }
+
+    /// Whether a receipt with this number clears the front. It is Old where its message was cleared
+    /// already, and Early where that message wasn't taken or isn't the front.
+    pub fn judge_clear(&self, number: u64) -> Result<(), Refusal>
+        ensures { result ≡ judged_clear self.now number }
+    {
+        if number <= self.base {
+            return Err(Refusal::Old);
+        }
+        if number > self.got || number - 1 > self.base || self.len == 0 {
+            return Err(Refusal::Early);
+        }
+        Ok(())
+    }
+
+    /// Removes the front, whose receipt came, as `judge_clear` allowed.
+    pub fn clear(&mut self)
+        requires front { 0 < length self.old.queue }
+        requires room { self.old.base < 2 ^ 64 - 1 }
+        ensures { self.new ≡ cleared self.old }
+    {
+        self.base += 1;
+        self.queue = [self.queue[1], self.queue[2], self.queue[3], BEHIND];
+        self.len -= 1;
+    }
+
+    /// The messages on the way: those of the queue, without a front that was taken.
+    pub fn transit(&self) -> &[Msg]
+        ensures { result.now ≡ transit self.now }
+    {
+        let on_the_way = &self.queue[..self.len];
+        if self.got == self.base || self.len == 0 {
+            on_the_way
+        } else {
+            &on_the_way[1..]
+        }
+    }
+}
+
+#[cfg(test)]
+mod tests {
+    use super::*;
+
+    // What a sender does that has something to say.
+    fn sent_unless_full(lane: &mut Lane, msg: Msg) -> bool {
+        if lane.is_full() {
+            return false;
+        }
+        lane.send(msg);
+        true
+    }
+
+    // The lane from the initiator of a reset to its only neighbour, with packets and receipts that
+    // come again and too early.
+    #[test]
+    fn reset_lane(rt: HostRuntime) {
+        let mut lane = Lane::new(3);
+        assert_eq!(rt; lane.current(), None);
+        assert_eq!(rt; lane.judge_take(1, Msg::Abort), Err(Refusal::Early));
+        lane.send(Msg::Abort);
+        assert_eq!(rt; lane.current(), Some((1, Msg::Abort)));
+        assert_eq!(rt; lane.judge_take(1, Msg::Ready), Err(Refusal::Differs));
+        assert_eq!(rt; lane.judge_clear(1), Err(Refusal::Early));
+        assert_eq!(rt; lane.judge_take(1, Msg::Abort), Ok(()));
+        lane.take();
+        assert_eq!(rt; lane.judge_take(1, Msg::Abort), Err(Refusal::Old));
+        lane.send(Msg::Ready);
+        assert_eq!(rt; lane.queue(), [Msg::Abort, Msg::Ready].as_slice());
+        assert_eq!(rt; lane.transit(), [Msg::Ready].as_slice());
+        assert_eq!(rt; lane.judge_take(2, Msg::Ready), Err(Refusal::Early));
+        assert_eq!(rt; lane.judge_clear(1), Ok(()));
+        let before = lane;
+        lane.clear();
+        assert_eq!(rt; lane.judge_clear(1), Err(Refusal::Old));
+        assert_eq!(rt; lane.current(), Some((2, Msg::Ready)));
+        assert_eq!(rt; (lane.inc(), lane.base(), lane.got()), (3, 1, 1));
+        assert_eq!(rt; (before.base(), before.queue().len()), (0, 2));
+    }
+
+    #[test]
+    fn holds_four(rt: HostRuntime) {
+        let mut lane = Lane::new(1);
+        for msg in [Msg::Abort, Msg::Ack, Msg::Ready, Msg::Abort] {
+            assert!(rt; sent_unless_full(&mut lane, msg));
+        }
+        assert!(rt; lane.is_full());
+        assert!(rt; !sent_unless_full(&mut lane, Msg::Ack));
+        assert_eq!(rt;
+            lane.queue(),
+            [Msg::Abort, Msg::Ack, Msg::Ready, Msg::Abort].as_slice()
+        );
+    }
+}

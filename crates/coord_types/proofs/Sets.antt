@@ -1,0 +1,155 @@
+-- Sets of nodes, and lists in ascending order.
+use Rattle.std.proofs.Common.{◌≡◌, ◌≢◌, ℕ, ◌<◌, Bool, true, false, ◌&&◌, ◌||◌, not, List, [], ◌∷◌, ◌++◌, Option, Some, None, map, refl, sym, ap, ◌∙◌, subst, arith, cond, eqb, length}
+use Rattle.std.specs.Prelude.{nat_eq, is_some}
+use Rattle.std.specs.Ordering.{nat_cmp, eq_by_cmp}
+use Rattle.std.specs.declared.cmp.Ordering.TheVariants.{Less, Greater}
+use Rattle.std.specs.List.{filter, list_any, AllByRecursion}
+use Rattle.std.specs.List.Sorted.{IsStrictlySortedBy}
+use Rattle.std.specs.FinMap.{nat_cmp-IsAntisymmetric}
+use Rattle.coord_types.specs.Table as table
+use Rattle.coord_types.proofs.Tables as fm
+use Rattle.coord_types.proofs.Tables.{same_table}
+use Rattle.std.specs.FinMap.Entries.{put, by_order}
+use Rattle.std.proofs.lemmas.Bool.Decides.{nat_tests}
+use Rattle.std.proofs.lemmas.Map.Keys.{sorted_head, sorted_tail}
+use Rattle.coord_types.specs.NodeSet.{NodeSet, contains, empty, insert, remove, len, items, from_list}
+
+some_or : (b : Bool) (o : Option (Unit {0})) → is_some (cond b (Some tt) o) ≡ (b || is_some o)
+some_or true o = refl
+some_or false o = refl
+
+none_or : (b : Bool) (o : Option (Unit {0})) → is_some (cond b None o) ≡ (not b && is_some o)
+none_or true o = refl
+none_or false o = refl
+
+eq_by_nat : (q k : ℕ) → eq_by_cmp nat_cmp q k ≡ eqb q k
+eq_by_nat q k = grind (arith, nat_tests)
+
+pub contains-empty : (q : ℕ) → contains empty q ≡ false
+unfolding contains empty
+contains-empty q = refl
+
+pub contains-insert : (s : NodeSet) (k q : ℕ) → contains (insert s k) q ≡ (eqb q k || contains s q)
+unfolding contains insert
+contains-insert s k q = ap is_some (fm.get-insert s k tt q) ∙ some_or (eq_by_cmp nat_cmp q k) (table.get s q) ∙ ap (λ b. b || is_some (table.get s q)) (eq_by_nat q k)
+
+pub contains-remove : (s : NodeSet) (k q : ℕ) → contains (remove s k) q ≡ (not (eqb q k) && contains s q)
+unfolding contains remove
+contains-remove s k q = ap is_some (fm.get-remove s k q) ∙ none_or (eq_by_cmp nat_cmp q k) (table.get s q) ∙ ap (λ b. not b && is_some (table.get s q)) (eq_by_nat q k)
+
+pub contains-from_list : (ks : List ℕ) (q : ℕ) → contains (from_list ks) q ≡ list_any (λ y. nat_eq y q) ks
+unfolding from_list
+contains-from_list [] q = contains-empty q
+contains-from_list (k ∷ ks) q = grind (arith, nat_tests, contains-insert (from_list ks) k q, contains-from_list ks q)
+
+same_unit : (o p : Option (Unit {0})) → is_some o ≡ is_some p → o ≡ p
+same_unit None None e = refl
+same_unit None (Some p) e = cc
+same_unit (Some o) None e = cc
+same_unit (Some o) (Some p) e = refl
+
+-- sets with the same members are equal
+pub same_nodes : (s t : NodeSet) → ((q : ℕ) → contains s q ≡ contains t q) → s ≡ t
+unfolding contains
+same_nodes s t same = same_table nat_cmp-IsAntisymmetric s t (λ q. same_unit _ _ (same q))
+
+pub empty_of_len : (s : NodeSet) → len s ≡ 0 → s ≡ empty
+unfolding len empty
+empty_of_len s e = fm.empty_of_len s e
+
+pub len-empty : len empty ≡ 0
+unfolding len empty
+len-empty = refl
+
+pub len_zero : (s : NodeSet) → ((q : ℕ) → contains s q ≡ false) → len s ≡ 0
+len_zero s none = ap len (same_nodes s empty (λ q. none q ∙ sym (contains-empty q))) ∙ len-empty
+
+-- a filter that leaves one number out makes the set without it
+any-filter_out : (q k : ℕ) (xs : List ℕ) → list_any (λ y. nat_eq y q) (filter (λ x. not (nat_eq x k)) xs) ≡ (not (nat_eq q k) && list_any (λ y. nat_eq y q) xs)
+any-filter_out q k [] = grind (arith, nat_tests)
+any-filter_out q k (x ∷ xs) = grind (arith, nat_tests, any-filter_out q k xs)
+
+pub from_list-filter_out : (k : ℕ) (xs : List ℕ) → from_list (filter (λ x. not (nat_eq x k)) xs) ≡ remove (from_list xs) k
+from_list-filter_out k xs = same_nodes _ _ (λ q.
+    contains-from_list _ q ∙ any-filter_out q k xs ∙ ap (λ b. not (nat_eq q k) && b) (sym (contains-from_list xs q)) ∙ sym (contains-remove (from_list xs) k q))
+
+-- a number below all goes to the front
+front : (k : ℕ) (es : List (ℕ × Unit {0})) → AllByRecursion (λ y. nat_cmp k y ≡ Less) (map (λ e. e.0) es) → put nat_cmp k tt es ≡ (k, tt) ∷ es
+front k [] below = refl
+front k (e ∷ es) below = ap (λ o. by_order o ((k, tt) ∷ e ∷ es) ((e.0, tt) ∷ es) (e ∷ put nat_cmp k tt es)) below.0
+
+items-insert_front : (s : NodeSet) (k : ℕ) → AllByRecursion (λ y. nat_cmp k y ≡ Less) (items s) → items (insert s k) ≡ k ∷ items s
+unfolding items insert
+items-insert_front s k below = ap (map (λ e. e.0)) (fm.entries-insert s k tt ∙ front k (table.entries s) below)
+
+pub items-empty : items empty ≡ []
+unfolding items empty
+items-empty = refl
+
+-- the items of the set of a list in ascending order are that list
+pub items-from_list : (xs : List ℕ) → IsStrictlySortedBy nat_cmp xs → items (from_list xs) ≡ xs
+unfolding from_list
+items-from_list [] sorted = items-empty
+items-from_list (x ∷ xs) sorted =
+    let e = items-from_list xs (sorted_tail nat_cmp x xs sorted) in
+    items-insert_front (from_list xs) x (subst (AllByRecursion (λ y. nat_cmp x y ≡ Less)) (sym e) (sorted_head nat_cmp x xs sorted)) ∙ ap (λ l. x ∷ l) e
+
+-- a list in ascending order with the members of a set has its items
+pub items_are : (s : NodeSet) (xs : List ℕ) → IsStrictlySortedBy nat_cmp xs → ((q : ℕ) → contains s q ≡ list_any (λ y. nat_eq y q) xs) → items s ≡ xs
+items_are s xs sorted same =
+    ap items (same_nodes s (from_list xs) (λ q. same q ∙ sym (contains-from_list xs q))) ∙ items-from_list xs sorted
+
+pub ruleset node_sets = (contains-empty, contains-insert, contains-remove, contains-from_list, len-empty)
+
+-- a set with a member isn't empty
+pub len_not_zero : (s : NodeSet) (q : ℕ) → contains s q ≡ true → len s ≢ 0
+len_not_zero s q has zero = grind (arith, contains-empty q, ap (λ t. contains t q) (empty_of_len s zero))
+
+pub len-from_list_zero : (xs : List ℕ) → (length xs ≡ 0 → len (from_list xs) ≡ 0) × (len (from_list xs) ≡ 0 → length xs ≡ 0)
+unfolding from_list
+len-from_list_zero [] = (λ _. len-empty, λ _. omega arith)
+len-from_list_zero (x ∷ xs) = (λ e. absurd (omega arith), λ zero. absurd (len_not_zero _ x (grind (arith, nat_tests, contains-insert (from_list xs) x x)) zero))
+
+-- one node alone
+pub items_only : (k : ℕ) → items (insert empty k) ≡ k ∷ []
+items_only k = items-insert_front empty k (subst (AllByRecursion (λ y. nat_cmp k y ≡ Less)) (sym items-empty) tt) ∙ ap (λ l. k ∷ l) items-empty
+
+pub ruleset listed = (items_only, items-empty)
+
+greater : (k y : ℕ) → y < k → nat_cmp k y ≡ Greater
+greater k y below = grind (arith, nat_tests)
+
+-- a number above all goes to the end
+back : (k : ℕ) (es : List (ℕ × Unit {0})) → AllByRecursion (λ y. y < k) (map (λ e. e.0) es) → put nat_cmp k tt es ≡ es ++ (k, tt) ∷ []
+back k [] below = refl
+back k (e ∷ es) below =
+    let above : nat_cmp k e.0 ≡ Greater = greater k e.0 below.0 in
+    ap (λ o. by_order o ((k, tt) ∷ e ∷ es) ((e.0, tt) ∷ es) (e ∷ put nat_cmp k tt es)) above ∙ ap (λ l. e ∷ l) (back k es below.1)
+
+map-push : (es : List (ℕ × Unit {0})) (k : ℕ) → map (λ e. e.0) (es ++ (k, tt) ∷ []) ≡ map (λ e. e.0) es ++ k ∷ []
+map-push [] k = refl
+map-push (e ∷ es) k = ap (λ l. e.0 ∷ l) (map-push es k)
+
+pub items-insert_back : (s : NodeSet) (k : ℕ) → AllByRecursion (λ y. y < k) (items s) → items (insert s k) ≡ items s ++ k ∷ []
+unfolding items insert
+items-insert_back s k below = ap (map (λ e. e.0)) (fm.entries-insert s k tt ∙ back k (table.entries s) below) ∙ map-push (table.entries s) k
+
+any_tied : (q : ℕ) (xs : List ℕ) → list_any (eq_by_cmp nat_cmp q) xs ≡ list_any (λ y. nat_eq y q) xs
+any_tied q [] = refl
+any_tied q (x ∷ xs) = grind (arith, nat_tests, any_tied q xs)
+
+-- a set has what its items have
+pub contains-items : (s : NodeSet) (q : ℕ) → contains s q ≡ list_any (λ y. nat_eq y q) (items s)
+unfolding contains items
+contains-items s q = fm.contains_key-keys s q ∙ any_tied q (table.keys s)
+
+length-keys : (es : List (ℕ × Unit {0})) → length (map (λ e. e.0) es) ≡ length es
+length-keys [] = refl
+length-keys (e ∷ es) = omega (arith, length-keys es)
+
+len_of_items : (s : NodeSet) → len s ≡ length (items s)
+unfolding len items
+len_of_items s = sym (length-keys (table.entries s))
+
+pub len_listed : (xs : List ℕ) → IsStrictlySortedBy nat_cmp xs → len (from_list xs) ≡ length xs
+len_listed xs sorted = len_of_items (from_list xs) ∙ ap length (items-from_list xs sorted)

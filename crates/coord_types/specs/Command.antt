@@ -1,0 +1,14 @@
+-- When two commands are the same, as a test that computes.
+use Rattle.std.specs.Prelude.{◌==◌, ◌&&◌, Bool, false}
+use Rattle.coord_types.specs.declared.steps.Command.{Command}
+use Rattle.coord_types.specs.declared.steps.Command.TheVariants.{Add, Remove, Join, Drop, Reset, Confirm}
+
+-- of one form, and naming the same values
+abbrev pub same_command : Command → Command → Bool
+same_command (Add u g) (Add v h) = (u == v) && (g == h)
+same_command (Remove u) (Remove v) = u == v
+same_command (Join a b) (Join c d) = (a == c) && (b == d)
+same_command (Drop a b) (Drop c d) = (a == c) && (b == d)
+same_command (Reset u) (Reset v) = u == v
+same_command (Confirm u e) (Confirm v f) = (u == v) && (e == f)
+same_command x y = false

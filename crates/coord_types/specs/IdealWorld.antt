@@ -1,0 +1,10 @@
+-- The ideal world: nodes and what is on the way between them, without numbers and receipts.
+use Rattle.std.specs.Prelude.{ℕ, Bool, List}
+use Rattle.coord_types.specs.NodeState.{NodeState}
+use Rattle.coord_types.specs.declared.messages.Msg.{Msg}
+
+-- the state of each node, which nodes are linked, and what is on the way from one to another, the oldest first
+pub record Ideal : Type 0 where
+  pub row : ℕ → NodeState
+  pub linked : ℕ → ℕ → Bool
+  pub way : ℕ → ℕ → List Msg

@@ -1,0 +1,44 @@
+-- Messages, and lists of them as they stand on the way, the oldest first.
+use Rattle.std.specs.Prelude.{◌≡◌, ℕ, zero, suc, Bool, true, false, List, [], ◌∷◌}
+use Rattle.std.proofs.Common.{refl}
+use Rattle.std.specs.Coded.{Coded, code_by, coded_ℕ}
+use Rattle.coord_types.specs.declared.messages.Msg.{Msg}
+use Rattle.coord_types.specs.declared.messages.Msg.TheVariants as msg
+
+abbrev pub same_msg : Msg → Msg → Bool
+same_msg msg.Abort msg.Abort = true
+same_msg msg.Ack msg.Ack = true
+same_msg msg.Ready msg.Ready = true
+same_msg m n = false
+
+abbrev pub is_nil : List Msg → Bool
+is_nil [] = true
+is_nil (m ∷ ms) = false
+
+abbrev pub begins_with : List Msg → Msg → Bool
+begins_with [] m = false
+begins_with (front ∷ ms) m = same_msg front m
+
+-- the list without its first message
+abbrev pub behind_front : List Msg → List Msg
+behind_front [] = []
+behind_front (m ∷ ms) = ms
+
+-- a message as a number, and back
+abbrev pub msg_number : Msg → ℕ
+msg_number msg.Abort = 0
+msg_number msg.Ack = 1
+msg_number msg.Ready = 2
+
+abbrev pub msg_from : ℕ → Msg
+msg_from zero = msg.Abort
+msg_from (suc zero) = msg.Ack
+msg_from (suc (suc n)) = msg.Ready
+
+pub msg_back : (m : Msg) → msg_from (msg_number m) ≡ m
+msg_back msg.Abort = refl
+msg_back msg.Ack = refl
+msg_back msg.Ready = refl
+
+abbrev pub msg_code : Coded Msg
+msg_code = code_by ℕ coded_ℕ msg_number msg_from msg_back

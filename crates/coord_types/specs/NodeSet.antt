@@ -1,0 +1,42 @@
+-- A finite set of nodes, by their numbers, whose items have an order.
+use Rattle.std.specs.Prelude.{ℕ, Bool, List, [], ◌∷◌, is_some}
+use Rattle.std.specs.Cmp.{nat_cmp_total}
+use Rattle.std.specs.Coded.{Coded, coded_ℕ}
+use Rattle.coord_types.specs.Table as table
+use base.Stored.{coded_unit}
+
+abbrev pub NodeSet : Type 0
+NodeSet = table.Table nat_cmp_total (Unit {0})
+
+abbrev pub nodes_code : Coded NodeSet
+nodes_code = table.code coded_ℕ coded_unit
+
+unfoldable pub contains : NodeSet → ℕ → Bool
+unfolding table.get
+contains s q = is_some (table.get s q)
+
+unfoldable pub empty : NodeSet
+unfolding table.empty
+empty = table.empty
+
+unfoldable pub insert : NodeSet → ℕ → NodeSet
+unfolding table.insert
+insert s k = table.insert s k tt
+
+unfoldable pub remove : NodeSet → ℕ → NodeSet
+unfolding table.remove
+remove s k = table.remove s k
+
+unfoldable pub len : NodeSet → ℕ
+unfolding table.len
+len s = table.len s
+
+-- in ascending order
+unfoldable pub items : NodeSet → List ℕ
+unfolding table.keys
+items s = table.keys s
+
+unfoldable pub from_list : List ℕ → NodeSet
+unfolding empty insert
+from_list [] = empty
+from_list (k ∷ ks) = insert (from_list ks) k

@@ -1,0 +1,24 @@
+//! The plain values of a reset coordinator: identifiers, messages, packets, commands, replies
+//! and refusals. Each type keeps its range, so no function above tests it again.
+//!
+//! The definitions that the crates above share stand in `specs/`: the finite table that computes
+//! (`Table`), the set of nodes (`NodeSet`), a node's state (`NodeState`) and the ideal world
+//! (`IdealWorld`), over which the laws of the protocol are stated.
+#![tactic(auto)]
+
+mod ids;
+mod messages;
+mod outputs;
+mod packets;
+mod refusals;
+mod steps;
+
+pub use ids::{Client, Group, NodeId};
+pub use messages::{Mode, Msg};
+pub use outputs::Output;
+pub use packets::{DataPacket, Packet, ReceiptPacket};
+pub use refusals::Refusal;
+pub use steps::{Command, Kind, Reply, Session, Step};
+
+#[cfg(test)]
+mod tests;

@@ -1,0 +1,25 @@
+-- Runs from the empty world, computed through the definitions.
+use Rattle.std.proofs.Common.{refl}
+use Rattle.coord_types.specs.Table as table
+use Rattle.coord_types.specs.NodeSet as set
+use Rattle.coord_world.specs.Runs.{StoredRun, TwoInitiators, DropInAbort, DropInConverge}
+
+-- two nodes and one reset
+pub stored_computes : StoredRun
+unfolding table.empty table.get table.insert table.remove table.change table.len set.contains set.empty set.insert set.remove set.len
+stored_computes = (refl, refl)
+
+-- two initiators
+pub two_compute : TwoInitiators
+unfolding table.empty table.get table.insert table.remove table.change table.len set.contains set.empty set.insert set.remove set.len
+two_compute = (refl, refl)
+
+-- a drop while the wave goes out
+pub abort_computes : DropInAbort
+unfolding table.empty table.get table.insert table.remove table.change table.len set.contains set.empty set.insert set.remove set.len
+abort_computes = (refl, refl)
+
+-- a drop after it has come back
+pub converge_computes : DropInConverge
+unfolding table.empty table.get table.insert table.remove table.change table.len set.contains set.empty set.insert set.remove set.len
+converge_computes = (refl, refl)

@@ -1,0 +1,52 @@
+-- The world before any step is legal and in its ranges.
+use Rattle.std.proofs.Common.{◌≡◌, ℕ, false, None, sym, ◌∙◌, ap, arith}
+use Rattle.std.specs.Prelude.{is_some}
+use Rattle.std.specs.Cmp.{nat_cmp_total}
+use Rattle.coord_types.specs.NodeSet.{contains}
+use Rattle.coord_types.specs.Table.{get}
+use Rattle.coord_types.proofs.Sets.{contains-empty}
+use Rattle.coord_types.proofs.Tables.{get-empty, len-empty}
+use Rattle.coord_link.specs.LaneMachine.{Lane}
+use Rattle.coord_world.specs.Legal.{Legal}
+use Rattle.coord_world.specs.NumberedWorld.{is_linked, no_world, pair_cmp_total, state_or_none}
+use Rattle.coord_world.specs.Ranges.{InRange}
+
+-- no node
+no_row : (u : ℕ) → get no_world.rows u ≡ None
+no_row u = get-empty nat_cmp_total u
+
+-- no lane
+no_lane : (u v : ℕ) → get no_world.lanes (u, v) ≡ None
+no_lane u v = get-empty pair_cmp_total (u, v)
+
+-- no session
+no_session : (c : ℕ) → get no_world.sessions c ≡ None
+no_session c = get-empty nat_cmp_total c
+
+-- and so no link
+no_link : (u v : ℕ) → is_linked no_world u v ≡ false
+no_link u v = ap is_some (no_lane u v)
+
+-- nothing is out of range
+pub no_world_in_range : InRange no_world
+no_world_in_range = record {
+  count = omega arith;
+  nodes = λ u r is. let none = no_row u in cc;
+  lanes = λ u v l is. let none = no_lane u v in cc;
+  sessions = λ c s is. let none = no_session c in cc;
+  links = omega (arith, len-empty pair_cmp_total Lane);
+  linked = λ u v. no_link u v ∙ sym (contains-empty v) ∙ ap (λ o. contains (state_or_none o).neighbours v) (sym (no_row u));
+  mirrored = λ u v. no_link u v ∙ sym (no_link v u);
+  apart = λ u. no_link u u;
+  ends = λ u v is. let none = no_link u v in cc;
+  one_group = λ u v is. let none = no_link u v in cc;
+  one_incarnation = λ u v l k is back. let none = no_lane u v in cc;
+}
+
+-- and nothing illegal
+pub no_world_legal : Legal no_world
+no_world_legal = record {
+  nodes = λ u r is. let none = no_row u in cc;
+  lanes = λ u v l is. let none = no_lane u v in cc;
+  links = λ u v is. let none = no_link u v in cc;
+}

@@ -1,0 +1,72 @@
+-- What is found in a world's tables after each change of the world.
+use Rattle.std.proofs.Common.{◌≡◌, ℕ, ◌+◌, Bool, true, false, Option, Some, None, ap, ◌∙◌, refl, subst, arith, cond, eqb}
+use Rattle.std.specs.Ordering.{eq_by_cmp, nat_cmp}
+use Rattle.std.specs.Cmp.{nat_cmp_total}
+use Rattle.std.proofs.lemmas.Bool.Decides.{nat_tests}
+use Rattle.coord_types.specs.Table as table
+use Rattle.coord_types.specs.Table.{Table, get}
+use Rattle.coord_types.proofs.Tables.{get-insert, get-remove, get-change, option_map}
+use Rattle.coord_link.specs.LaneMachine.{Lane, sent, new_lane}
+use Rattle.coord_node.specs.IdealRules.{added, is_link}
+use Rattle.coord_node.specs.Rules.{Deed}
+use Rattle.coord_types.specs.declared.steps.Command.TheVariants.{Join, Drop}
+use Rattle.coord_world.specs.NumberedWorld.{World, pair_cmp}
+use Rattle.coord_world.specs.Next.{on_lane, does, ordered, is_lane}
+
+-- pairs that tie are equal
+pub same_pair : (p q : ℕ × ℕ) → eq_by_cmp pair_cmp p q ≡ true → p ≡ q
+same_pair p q h =
+    let a : p.0 ≡ q.0 = grind (arith, nat_tests) in
+    let b : p.1 ≡ q.1 = grind (arith, nat_tests) in
+    λ i. (a i, b i)
+
+-- by number
+pub get-set : {X : Type 0} (m : Table nat_cmp_total X) (u : ℕ) (x : X) (q : ℕ) → get (table.insert m u x) q ≡ cond (eqb q u) (Some x) (get m q)
+get-set m u x q = get-insert m u x q ∙ ap (λ b. cond b (Some x) (get m q)) (same q)
+  where
+    same : (q : ℕ) → eq_by_cmp nat_cmp q u ≡ eqb q u
+    same q = grind (arith, nat_tests)
+
+-- and after a removal
+pub get-unset : {X : Type 0} (m : Table nat_cmp_total X) (u q : ℕ) → get (table.remove m u) q ≡ cond (eqb q u) None (get m q)
+get-unset m u q = get-remove m u q ∙ ap (λ b. cond b None (get m q)) (same q)
+  where
+    same : (q : ℕ) → eq_by_cmp nat_cmp q u ≡ eqb q u
+    same q = grind (arith, nat_tests)
+
+module _ (w : World) where
+  -- a lane after a deed at u
+  pub lane_done : (u : ℕ) (d : Deed) (x y : ℕ) → get (does w u d).lanes (x, y) ≡ option_map (λ l. cond (eqb x u) (sent (added d y) l) l) (get w.lanes (x, y))
+  lane_done u d x y = get-change pair_cmp (λ k l. cond (eqb k.0 u) (sent (added d k.1) l) l) same_pair w.lanes (x, y)
+
+  -- a lane after a change of the one from u to v
+  pub lane_on : (u v : ℕ) (f : Lane → Lane) (x y : ℕ) → get (on_lane w u v f).lanes (x, y) ≡ option_map (λ l. cond (is_lane (x, y) u v) (f l) l) (get w.lanes (x, y))
+  lane_on u v f x y = get-change pair_cmp (λ k l. cond (is_lane k u v) (f l) l) same_pair w.lanes (x, y)
+
+  -- a lane after a link is cut, and after one is made
+  pub lane_left : (a b x y : ℕ) → get (ordered w (Drop a b)).lanes (x, y) ≡ cond (is_link a b x y) None (get w.lanes (x, y))
+  lane_left a b x y = get-remove (table.remove w.lanes (a, b)) (b, a) (x, y) ∙ ap (cond (eq_by_cmp pair_cmp (x, y) (b, a)) None) (get-remove w.lanes (a, b) (x, y)) ∙ grind (arith, nat_tests)
+
+  -- and after one is made
+  pub lane_made : (a b x y : ℕ) → get (ordered w (Join a b)).lanes (x, y) ≡ cond (is_link a b x y) (Some (new_lane (w.count + 1))) (get w.lanes (x, y))
+  lane_made a b x y = get-insert (table.insert w.lanes (a, b) (new_lane (w.count + 1))) (b, a) (new_lane (w.count + 1)) (x, y)
+      ∙ ap (cond (eq_by_cmp pair_cmp (x, y) (b, a)) (Some (new_lane (w.count + 1)))) (get-insert w.lanes (a, b) (new_lane (w.count + 1)) (x, y)) ∙ grind (arith, nat_tests)
+
+module _ {X : Type 0} (o : Option X) where
+  -- what is found among changed ones was changed
+  pub each_changed : (f : X → X) (P : X → Type 0) → ((x : X) → o ≡ Some x → P (f x)) → (y : X) → option_map f o ≡ Some y → P y
+  each_changed f P changed y e = of_option o refl e
+    where
+      of_option : (p : Option X) → o ≡ p → option_map f p ≡ Some y → P y
+      of_option None is h = cc
+      of_option (Some x) is h = let same : f x ≡ y = cc in subst P same (changed x is)
+
+  -- what is found where one is gone was there
+  pub each_left : (b : Bool) (y : X) → cond b None o ≡ Some y → o ≡ Some y
+  each_left true y e = cc
+  each_left false y e = e
+
+  -- what is found where one was put is that one, or was there
+  pub each_made : (b : Bool) (new : X) (P : X → Type 0) → (b ≡ true → P new) → (b ≡ false → (x : X) → o ≡ Some x → P x) → (y : X) → cond b (Some new) o ≡ Some y → P y
+  each_made true new P here there y e = let same : new ≡ y = cc in subst P same (here refl)
+  each_made false new P here there y e = there refl y e

@@ -1,0 +1,81 @@
+-- A fresh step keeps the ranges of a world.
+use Rattle.std.proofs.Common.{◌≡◌, ℕ, ◌+◌, ◌≤◌, true, List, [], ◌∷◌, Option, Some, None, refl, sym, ◌∙◌, subst, arith}
+use Rattle.std.specs.Prelude.{is_some}
+use Rattle.coord_types.specs.NodeSet.{contains}
+use Rattle.coord_types.specs.NodeState.{NodeState}
+use Rattle.coord_types.specs.Table.{get, has, insert, len, remove}
+use Rattle.coord_types.specs.declared.steps.Command.TheVariants.{Add, Remove, Join, Drop, Reset, Confirm}
+use Rattle.coord_types.specs.declared.steps.Step.{Step}
+use Rattle.coord_types.specs.declared.steps.Step.TheVariants.{Order, Take, Clear}
+use Rattle.coord_types.proofs.Sets.{contains-empty}
+use Rattle.coord_link.specs.LaneMachine.{new_lane, took}
+use Rattle.coord_node.specs.Rules.{Deed}
+use Rattle.coord_node.specs.Steps.{deeds, deeds_ordered}
+use Rattle.coord_world.specs.Acceptance.{IsFresh}
+use Rattle.coord_world.specs.Laws.{NextKeepsRanges}
+use Rattle.coord_world.specs.Next.{all_do, does, next, on_lane, ordered}
+use Rattle.coord_world.specs.NumberedWorld.{World, is_linked, row, state_or_none, view}
+use Rattle.coord_world.specs.Ranges.{InRange}
+use Rattle.coord_world.proofs.Fresh.{fresh_count}
+use Rattle.coord_world.proofs.Groups.{OneGroup, group_next}
+use Rattle.coord_world.proofs.Incarnations.{inc_next, lane_ranges_next}
+use Rattle.coord_world.proofs.LegalNext.{sound_after}
+use Rattle.coord_world.proofs.Nexts.{view_next}
+use Rattle.coord_world.proofs.NodesNext.{nodes_next}
+use Rattle.coord_world.proofs.Ordered.{fresh_order}
+use Rattle.coord_world.proofs.Pairs.{even_lanes}
+use Rattle.coord_world.proofs.SessionsNext.{sessions_next}
+use Rattle.coord_world.proofs.Sizes.{len-change, len-insert, len-remove}
+use Rattle.coord_world.proofs.Sound.{Sound}
+use Rattle.coord_world.proofs.Structure.{sound_view}
+
+-- where the lanes are as the nodes name them, each has a node to go from
+pub ends_known : (w : World) → Sound (view w) → (u v : ℕ) → is_linked w u v ≡ true → has w.rows u ≡ true
+ends_known w sound u v linked = of_option (get w.rows u) (sym (sound.linked u v) ∙ linked)
+  where
+    of_option : (o : Option NodeState) → contains (state_or_none o).neighbours v ≡ true → is_some o ≡ true
+    of_option None e = grind (arith, contains-empty v)
+    of_option (Some r) e = refl
+
+-- deeds make and drop no lane
+len-all_do : (w : World) (ds : List (ℕ × Deed)) → len (all_do w ds).lanes ≡ len w.lanes
+len-all_do w [] = refl
+len-all_do w (d ∷ ds) = len-all_do (does w d.0 d.1) ds ∙ len-change _ w.lanes
+
+-- a step makes two lanes at most, where there are an even number, below 256
+pub links_next : (w settled : World) (s : Step) → InRange w → IsFresh w settled s → len (next w s).lanes ≤ 256
+links_next w settled (Order c n (Add u g)) range fresh = range.links
+links_next w settled (Order c n (Remove u)) range fresh = range.links
+links_next w settled (Order c n (Join a b)) range fresh =
+    let even = even_lanes w (record { mirrored = range.mirrored; apart = range.apart }) in
+    let room = (fresh_order w settled c n (Join a b) fresh).room in
+    let l = new_lane (w.count + 1) in
+    let one : len (insert w.lanes (a, b) l) ≤ len w.lanes + 1 = grind (arith, len-insert w.lanes (a, b) l) in
+    let two : len (insert (insert w.lanes (a, b) l) (b, a) l) ≤ len (insert w.lanes (a, b) l) + 1 = grind (arith, len-insert (insert w.lanes (a, b) l) (b, a) l) in
+    omega (arith, even.1, room, one, two)
+links_next w settled (Order c n (Drop a b)) range fresh =
+    let fewer : len (ordered w (Drop a b)).lanes ≤ 256 = omega (arith, range.links, len-remove w.lanes (a, b), len-remove (remove w.lanes (a, b)) (b, a)) in
+    subst (λ k. k ≤ 256) (sym (len-all_do (ordered w (Drop a b)) (deeds_ordered (row w) (Drop a b)))) fewer
+links_next w settled (Order c n (Reset u)) range fresh = subst (λ k. k ≤ 256) (sym (len-all_do w (deeds_ordered (row w) (Reset u)))) range.links
+links_next w settled (Order c n (Confirm u e)) range fresh = range.links
+links_next w settled (Take p) range fresh = subst (λ k. k ≤ 256) (sym (len-all_do (on_lane w p.from p.to took) (deeds (row w) (Take p)) ∙ len-change _ w.lanes)) range.links
+links_next w settled (Clear p) range fresh = subst (λ k. k ≤ 256) (sym (len-change _ w.lanes)) range.links
+
+-- all ranges together
+pub ranges_next : NextKeepsRanges
+ranges_next w settled s within range legal fresh =
+    let sound = sound_after w settled s range legal fresh in
+    let groups : OneGroup (view (next w s)) = subst OneGroup (sym (view_next w settled s legal.lanes fresh)) (group_next w settled (sound_view w range legal) range.one_group s fresh) in
+    record {
+      count = fresh_count w settled s fresh;
+      nodes = nodes_next w settled s within range fresh;
+      lanes = lane_ranges_next w s range;
+      sessions = sessions_next w range settled s within fresh;
+      links = links_next w settled s range fresh;
+      linked = sound.linked;
+      mirrored = λ u v. sound.linked u v ∙ sound.mirrored u v ∙ sym (sound.linked v u);
+      apart = λ u. sound.linked u u ∙ sound.apart u;
+      ends = ends_known (next w s) sound;
+      one_group = groups;
+      one_incarnation = inc_next w s range;
+    }

@@ -1,0 +1,79 @@
+-- What a step that a world is ready for asks of the program is there.
+use Rattle.std.proofs.Common.{◌≡◌, ℕ, ◌-◌, ◌^◌, ◌<◌, Bool, true, false, ◌||◌, not, IsSome, ap, ◌∙◌, refl, arith, lit<}
+use Rattle.std.specs.Prelude.{is_some}
+use Rattle.coord_types.specs.Table.{get, has}
+use Rattle.coord_types.specs.declared.packets.DataPacket.{DataPacket}
+use Rattle.coord_types.specs.declared.steps.Command.TheVariants.{Join, Drop, Reset}
+use Rattle.coord_types.specs.declared.steps.Step.TheVariants.{Order, Take}
+use Rattle.coord_link.specs.LaneMachine.{took}
+use Rattle.coord_node.specs.Rules.{request, lost, deed}
+use Rattle.coord_world.specs.NumberedWorld.{World, row}
+use Rattle.coord_world.specs.Next.{on_lane, ordered, does}
+use Rattle.coord_world.specs.Acts.{CanAct}
+use Rattle.coord_world.specs.Ready.{IsReadyFor}
+use Rattle.coord_world.specs.Ranges.{InRange}
+use Rattle.coord_world.proofs.Fresh.{fresh_take, tests_passed}
+use Rattle.coord_world.proofs.Room.{room_take, room_reset, room_drop_first, room_drop_second}
+use Rattle.coord_world.proofs.Structure.{at_each}
+use Rattle.coord_world.proofs.Doing.{room_for}
+
+unless : (b : Bool) → not b ≡ false → b ≡ true
+unless true h = refl
+unless false h = cc
+
+neither : (a b : Bool) → (a || b) ≡ false → (a ≡ false) × (b ≡ false)
+neither false false h = (refl, refl)
+neither false true h = cc
+neither true b h = cc
+
+module _ (w : World) (range : InRange w) where
+  -- an epoch can rise by one
+  pub epoch_room : (u : ℕ) → (row w u).epoch < 2 ^ 64 - 1
+  epoch_room u = at_each w (λ r. r.epoch < 2 ^ 64 - 1) (lit< tt) (λ v r there. let most = (range.nodes v r there).epoch in let count = range.count in omega arith) u
+
+  pub count_room : w.count < 2 ^ 64 - 1
+  count_room = let count = range.count in omega arith
+
+module _ (w : World) (c n : ℕ) where
+  pub reset_there : (u : ℕ) → IsReadyFor w (Order c n (Reset u)) → IsSome (get w.rows u)
+  reset_there u ready = let passed = tests_passed w w (Order c n (Reset u)) ready.fresh in unless (has w.rows u) passed.1.1.0
+
+  pub join_there : (a b : ℕ) → IsReadyFor w (Order c n (Join a b)) → IsSome (get w.rows a) × IsSome (get w.rows b)
+  join_there a b ready =
+      let passed = tests_passed w w (Order c n (Join a b)) ready.fresh in
+      let both = neither _ _ passed.1.1.0 in
+      (unless (has w.rows a) both.0, unless (has w.rows b) both.1)
+
+  pub drop_there : (a b : ℕ) → IsReadyFor w (Order c n (Drop a b)) → IsSome (get w.rows a) × IsSome (get w.rows b)
+  drop_there a b ready =
+      let passed = tests_passed w w (Order c n (Drop a b)) ready.fresh in
+      let both = neither _ _ passed.1.1.0 in
+      (unless (has w.rows a) both.0, unless (has w.rows b) both.1)
+
+  pub can_reset : (u : ℕ) → IsReadyFor w (Order c n (Reset u)) → CanAct w u (request (row w u)) w.lanes
+  can_reset u ready = record {
+    there = reset_there u ready;
+    epoch = epoch_room w ready.ranges u;
+    room = room_for (request (row w u)) u w.lanes (room_reset w w ready.ranges ready.legal c n u ready.fresh);
+  }
+
+  pub can_drop_first : (a b : ℕ) → IsReadyFor w (Order c n (Drop a b)) → CanAct w a (lost (row w a) b) (ordered w (Drop a b)).lanes
+  can_drop_first a b ready = record {
+    there = (drop_there a b ready).0;
+    epoch = epoch_room w ready.ranges a;
+    room = room_for (lost (row w a) b) a _ (room_drop_first w w ready.ranges ready.legal c n a b ready.fresh);
+  }
+
+  pub can_drop_second : (a b : ℕ) → IsReadyFor w (Order c n (Drop a b)) → CanAct w b (lost (row w b) a) (does (ordered w (Drop a b)) a (lost (row w a) b)).lanes
+  can_drop_second a b ready = record {
+    there = (drop_there a b ready).1;
+    epoch = epoch_room w ready.ranges b;
+    room = room_for (lost (row w b) a) b _ (room_drop_second w w ready.ranges ready.legal c n a b ready.fresh);
+  }
+
+pub can_take : (w : World) (p : DataPacket) → IsReadyFor w (Take p) → CanAct w p.to (deed p.msg (row w p.to) p.from) (on_lane w p.from p.to took).lanes
+can_take w p ready = record {
+  there = ready.ranges.ends p.to p.from (ready.ranges.mirrored p.to p.from ∙ ap is_some (fresh_take w w p ready.fresh).there);
+  epoch = epoch_room w ready.ranges p.to;
+  room = room_for (deed p.msg (row w p.to) p.from) p.to _ (room_take w w ready.ranges ready.legal p ready.fresh);
+}

@@ -1,0 +1,18 @@
+use Rattle.std.proofs.Common.{◌≡◌, ap, sym, ◌∙◌, subst}
+use Rattle.std.specs.List.{All}
+use Rattle.coord_types.specs.Table.{entries}
+use Rattle.coord_world.specs.NumberedWorld.{World}
+use Rattle.coord_world.specs.Next.{noted, next}
+use Rattle.coord_world.specs.Fronts.{HasNumber}
+use Rattle.coord_world.proofs.Numbers.{all_numbered}
+use Rattle.coord_world.proofs.RangesNext.{ranges_next}
+use Rattle.coord_world.proofs.draft.Draft.after.Goals as goal
+
+pub push_new_fronts-requires : goal.push_new_fronts-requires
+push_new_fronts-requires c =
+    let before = c.args.self.now in
+    let step = c.args.step.now in
+    let ready = c.requires in
+    let lanes : c.draft-2.inside.lanes ≡ (next before step).lanes =
+    ap (λ (w : World). w.lanes) (c.draft-2.view_is ∙ c.in_ok-note.ensures ∙ (λ i. noted (c.in_ok-carry_out.ensures.world i) (c.reply_to-reply.ensures i) step)) in
+    subst (λ m. All HasNumber (entries m)) (sym lanes) (all_numbered (next before step) (ranges_next before before step ready.named ready.ranges ready.legal ready.fresh))

@@ -1,0 +1,5 @@
+use Rattle.coord_world.proofs.OncePerWave as law
+use Rattle.coord_world.proofs.laws.once_per_wave.Goals as goal
+
+pub returns : goal.returns
+returns c = law.once_per_wave

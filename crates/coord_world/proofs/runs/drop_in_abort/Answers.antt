@@ -1,0 +1,5 @@
+use Rattle.coord_world.proofs.Computes.{abort_computes}
+use Rattle.coord_world.proofs.runs.drop_in_abort.Goals as goal
+
+pub returns : goal.returns
+returns c = abort_computes

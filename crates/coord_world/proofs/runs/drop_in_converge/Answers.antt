@@ -1,0 +1,5 @@
+use Rattle.coord_world.proofs.Computes.{converge_computes}
+use Rattle.coord_world.proofs.runs.drop_in_converge.Goals as goal
+
+pub returns : goal.returns
+returns c = converge_computes

@@ -1,0 +1,5 @@
+use Rattle.coord_world.proofs.Computes.{two_compute}
+use Rattle.coord_world.proofs.runs.two_initiators.Goals as goal
+
+pub returns : goal.returns
+returns c = two_compute

@@ -1,0 +1,11 @@
+use Rattle.std.proofs.Common.{sym, subst}
+use Rattle.coord_world.specs.Legal.{Legal}
+use Rattle.coord_world.specs.Ranges.{InRange}
+use Rattle.coord_world.proofs.Empty.{no_world_in_range, no_world_legal}
+use Rattle.coord_world.proofs.world.World.empty.Goals as goal
+
+pub invariant_of-result : goal.invariant_of-result
+invariant_of-result c = subst InRange (sym c.empty.ensures) no_world_in_range
+
+pub returns-clause-legal : goal.returns-clause-legal
+returns-clause-legal c = subst Legal (sym c.empty.ensures) no_world_legal

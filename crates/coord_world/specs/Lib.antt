@@ -1,0 +1,16 @@
+pub mod NumberedWorld
+pub mod Next
+pub mod Acceptance
+pub mod Turns
+pub mod Outputs
+pub mod Links
+pub mod Legal
+pub mod Ranges
+pub mod Laws
+pub mod Waves
+pub mod Runs
+pub mod Place
+pub mod Sends
+pub mod Acts
+pub mod Fronts
+pub mod Ready

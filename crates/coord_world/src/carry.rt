@@ -1,0 +1,216 @@
+//! How a step is carried out, on a copy of the world as it was before.
+
+ghost use Rattle.std.specs.Prelude.{◌≡◌, ◌<◌, ◌-◌, ◌^◌, ◌∷◌, [], ◌++◌, length, IsSome, OnOk};
+ghost use Rattle.std.specs.Option.{ForSome};
+ghost use Rattle.coord_types.specs.Table as table;
+ghost use Rattle.coord_link.specs.LaneMachine.{took, cleared};
+ghost use Rattle.coord_node.specs.Rules.{request, lost, deed};
+ghost use Rattle.coord_node.specs.Steps.{deeds, deeds_ordered};
+ghost use Rattle.coord_world.specs.NumberedWorld.{row};
+ghost use Rattle.coord_world.specs.Next.{on_lane, on_row, does, all_do, ordered, prepared};
+ghost use Rattle.coord_world.specs.Outputs.{receipts, receipt, signals};
+ghost use Rattle.coord_world.specs.Sends.{HasRoomFor};
+ghost use Rattle.coord_world.specs.Acts.{done, signal_of, CanAct};
+ghost use Rattle.coord_world.specs.Ready.{IsReadyFor};
+
+use crate::act::Act;
+use crate::draft::Draft;
+use coord_link::Lane;
+use coord_node::Node;
+use coord_types::{Client, Command, DataPacket, NodeId, Output, ReceiptPacket, Step};
+use std::alloc::{AllocError, Global};
+
+impl Draft {
+    /// Carries a step out, and adds its receipt and its signals.
+    pub fn carry_out(
+        &mut self,
+        alloc: Global,
+        before: &Draft,
+        step: &Step,
+        outputs: &mut Vec<Output>,
+    ) -> Result<(), AllocError>
+        requires same { self.old ≡ before.now }
+        requires ready { IsReadyFor before.now step.now }
+        ensures world { OnOk result (self.new ≡ all_do (prepared before.now step.now) (deeds (row before.now) step.now)) }
+        ensures outputs { OnOk result (outputs.new.items ≡ outputs.old.items ++ (receipts step.now ++ signals (deeds (row before.now) step.now))) }
+    {
+        match *step {
+            Step::Order(client, number, command) => {
+                self.obey(alloc, before, client, number, &command, outputs)
+            }
+            Step::Take(packet) => self.deliver(before, packet, outputs),
+            Step::Clear(packet) => self.clear_front(packet.from, packet.to),
+        }
+    }
+
+    /// Carries a client's order out.
+    fn obey(
+        &mut self,
+        alloc: Global,
+        before: &Draft,
+        client: Client,
+        number: u64,
+        command: &Command,
+        outputs: &mut Vec<Output>,
+    ) -> Result<(), AllocError>
+        requires same { self.old ≡ before.now }
+        requires ready { IsReadyFor before.now (Step.Order client number command.now) }
+        ensures world { OnOk result (self.new ≡ all_do (ordered before.now command.now) (deeds_ordered (row before.now) command.now)) }
+        ensures outputs { OnOk result (outputs.new.items ≡ outputs.old.items ++ signals (deeds_ordered (row before.now) command.now)) }
+    {
+        match *command {
+            Command::Add(id, group) => self.nodes.insert(id, Node::new(alloc, group)),
+            Command::Remove(id) => {
+                self.nodes.remove(id);
+                Ok(())
+            }
+            Command::Join(a, b) => self.join(before, a, b),
+            Command::Drop(a, b) => self.sever(before, a, b, outputs),
+            Command::Reset(id) => self.reset(before, id, outputs),
+            Command::Confirm(id, epoch) => self.confirm(before, id, epoch),
+        }
+    }
+
+    /// A node takes the data packet that came.
+    fn deliver(
+        &mut self,
+        before: &Draft,
+        packet: DataPacket,
+        outputs: &mut Vec<Output>,
+    ) -> Result<(), AllocError>
+        requires same { self.old ≡ before.now }
+        requires taken { ForSome (table.get self.old.lanes record { 0 = packet.from; 1 = packet.to }) (λ l. l.got < 2 ^ 64 - 1) }
+        requires acts { CanAct before.now packet.to (deed packet.msg (row before.now packet.to) packet.from) (on_lane before.now packet.from packet.to took).lanes }
+        ensures world { OnOk result (self.new ≡ does (on_lane before.now packet.from packet.to took) packet.to (deed packet.msg (row before.now packet.to) packet.from)) }
+        ensures outputs { OnOk result (outputs.new.items ≡ outputs.old.items ++ (Output.Receipted (receipt packet) ∷ signals (record { 0 = packet.to; 1 = deed packet.msg (row before.now packet.to) packet.from } ∷ []))) }
+    {
+        outputs.push(Output::Receipted(ReceiptPacket {
+            from: packet.from,
+            to: packet.to,
+            inc: packet.inc,
+            number: packet.number,
+        }))?;
+        self.take_front(packet.from, packet.to)?;
+        let act = before.delivered(packet)?;
+        self.carry(act, outputs)
+    }
+
+    /// A reset is asked for at a node.
+    fn reset(
+        &mut self,
+        before: &Draft,
+        id: NodeId,
+        outputs: &mut Vec<Output>,
+    ) -> Result<(), AllocError>
+        requires same { self.old ≡ before.now }
+        requires acts { CanAct before.now id (request (row before.now id)) before.now.lanes }
+        ensures world { OnOk result (self.new ≡ does before.now id (request (row before.now id))) }
+        ensures outputs { OnOk result (outputs.new.items ≡ outputs.old.items ++ signals (record { 0 = id; 1 = request (row before.now id) } ∷ [])) }
+    {
+        let act = before.requested(id)?;
+        self.carry(act, outputs)
+    }
+
+    /// The link of two nodes vanishes, first at `a` and then at `b`.
+    fn sever(
+        &mut self,
+        before: &Draft,
+        a: NodeId,
+        b: NodeId,
+        outputs: &mut Vec<Output>,
+    ) -> Result<(), AllocError>
+        requires same { self.old ≡ before.now }
+        requires first { CanAct before.now a (lost (row before.now a) b) (ordered before.now (Command.Drop a b)).lanes }
+        requires second { CanAct before.now b (lost (row before.now b) a) (does (ordered before.now (Command.Drop a b)) a (lost (row before.now a) b)).lanes }
+        ensures world { OnOk result (self.new ≡ does (does (ordered before.now (Command.Drop a b)) a (lost (row before.now a) b)) b (lost (row before.now b) a)) }
+        ensures outputs { OnOk result (outputs.new.items ≡ outputs.old.items ++ signals (record { 0 = a; 1 = lost (row before.now a) b } ∷ record { 0 = b; 1 = lost (row before.now b) a } ∷ [])) }
+    {
+        self.cut(a, b);
+        let first = before.severed(a, b)?;
+        self.carry(first, outputs)?;
+        let second = before.severed(b, a)?;
+        self.carry(second, outputs)
+    }
+
+    /// The lanes of a link vanish, with all that is on them.
+    fn cut(&mut self, a: NodeId, b: NodeId)
+        ensures { self.new ≡ ordered self.old (Command.Drop a b) }
+    {
+        self.lanes.remove(a, b);
+        self.lanes.remove(b, a);
+    }
+
+    /// Two nodes are linked, by two empty lanes.
+    fn join(&mut self, before: &Draft, a: NodeId, b: NodeId) -> Result<(), AllocError>
+        requires same { self.old ≡ before.now }
+        requires one { IsSome (table.get before.now.rows a) }
+        requires other { IsSome (table.get before.now.rows b) }
+        requires room { before.now.count < 2 ^ 64 - 1 }
+        ensures { OnOk result (self.new ≡ ordered before.now (Command.Join a b)) }
+    {
+        let mut one = before.node(a).unwrap().copy()?;
+        one.gained(b)?;
+        let mut other = before.node(b).unwrap().copy()?;
+        other.gained(a)?;
+        self.nodes.insert(a, one)?;
+        self.nodes.insert(b, other)?;
+        let lane = Lane::new(before.count + 1);
+        self.lanes.insert(a, b, lane)?;
+        self.lanes.insert(b, a, lane)
+    }
+
+    /// An epoch of a node is confirmed.
+    fn confirm(&mut self, before: &Draft, id: NodeId, epoch: u64) -> Result<(), AllocError>
+        requires same { self.old ≡ before.now }
+        requires there { IsSome (table.get before.now.rows id) }
+        ensures { OnOk result (self.new ≡ ordered before.now (Command.Confirm id epoch)) }
+    {
+        let mut node = before.node(id).unwrap().copy()?;
+        node.confirm(epoch);
+        self.nodes.insert(id, node)
+    }
+
+    /// Notes on a lane that its front was taken.
+    fn take_front(&mut self, from: NodeId, to: NodeId) -> Result<(), AllocError>
+        requires { ForSome (table.get self.old.lanes record { 0 = from; 1 = to }) (λ l. l.got < 2 ^ 64 - 1) }
+        ensures { OnOk result (self.new ≡ on_lane self.old from to took) }
+    {
+        let Some(lane) = self.lanes.get(from, to) else {
+            return Ok(());
+        };
+        let mut lane = *lane;
+        lane.take();
+        self.lanes.insert(from, to, lane)?;
+        Ok(())
+    }
+
+    /// Clears the front of a lane.
+    fn clear_front(&mut self, from: NodeId, to: NodeId) -> Result<(), AllocError>
+        requires there { ForSome (table.get self.old.lanes record { 0 = from; 1 = to }) (λ l. 0 < length l.queue) }
+        requires room { ForSome (table.get self.old.lanes record { 0 = from; 1 = to }) (λ l. l.base < 2 ^ 64 - 1) }
+        ensures { OnOk result (self.new ≡ on_lane self.old from to cleared) }
+    {
+        let Some(lane) = self.lanes.get(from, to) else {
+            return Ok(());
+        };
+        let mut lane = *lane;
+        lane.clear();
+        self.lanes.insert(from, to, lane)?;
+        Ok(())
+    }
+
+    /// Has a node be as it will be, and puts what it sends into its lanes.
+    fn carry(&mut self, act: Act, outputs: &mut Vec<Output>) -> Result<(), AllocError>
+        requires { HasRoomFor act.deed.sends.items act.id self.old.lanes }
+        ensures world { OnOk result (self.new ≡ done self.old act.id act.node act.deed.sends.items) }
+        ensures signal { OnOk result (outputs.new.items ≡ outputs.old.items ++ signal_of act) }
+    {
+        let Act { id, node, deed } = act;
+        if deed.finished {
+            outputs.push(Output::Signalled(id, node.epoch()))?;
+        }
+        self.nodes.insert(id, node)?;
+        self.lanes.send(id, &deed.sends);
+        Ok(())
+    }
+}

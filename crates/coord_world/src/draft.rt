@@ -1,0 +1,74 @@
+//! The parts of a world, before anything is promised of them.
+
+ghost use Rattle.std.specs.Prelude.{◌≡◌, IfOk, OnOk, OnErr};
+ghost use Rattle.std.specs.Option.{option_copied};
+ghost use Rattle.coord_types.specs.Table as table;
+ghost use Rattle.coord_world.specs.NumberedWorld.{no_world};
+ghost use Rattle.coord_world.specs.Acceptance.{lane};
+
+use crate::lane_table::LaneTable;
+use crate::node_table::NodeTable;
+use crate::session_table::SessionTable;
+use coord_link::Lane;
+use coord_node::Node;
+use coord_types::NodeId;
+use std::alloc::{AllocError, Global};
+use std::marker::Model;
+
+/// The parts of a world. A step is carried out on a copy, which becomes the world only once all
+/// of it is done.
+#[derive(Drop, Debug)]
+pub struct Draft {
+    pub count: u64,
+    pub nodes: NodeTable,
+    pub lanes: LaneTable,
+    pub sessions: SessionTable,
+}
+
+impl Model for Draft {
+    ghost use Rattle.coord_world.specs.NumberedWorld.{World, world_code};
+
+    ghost Value = { World };
+
+    ghost coded = { world_code };
+
+    ghost view = { λ a. record { count = a.count; rows = a.nodes; lanes = a.lanes; sessions = a.sessions } };
+}
+
+impl Draft {
+    pub fn empty(alloc: Global) -> Self
+        ensures { result ≡ no_world }
+    {
+        Draft {
+            count: 0,
+            nodes: NodeTable::new(alloc),
+            lanes: LaneTable::new(alloc),
+            sessions: SessionTable::new(alloc),
+        }
+    }
+
+    pub fn node(&self, id: NodeId) -> Option<&Node>
+        ensures { option_copied result ≡ table.get self.now.rows id }
+    {
+        self.nodes.get(id)
+    }
+
+    /// The lane from one node to another, where it has this incarnation.
+    pub fn lane_of(&self, from: NodeId, to: NodeId, inc: u64) -> Option<&Lane>
+        ensures { option_copied result ≡ lane self.now from to inc }
+    {
+        let lane = self.lanes.get(from, to)?;
+        if lane.inc() == inc { Some(lane) } else { None }
+    }
+
+    pub fn copy(&self) -> Result<Draft, AllocError>
+        ensures { IfOk result (λ copy. copy ≡ self.now) }
+    {
+        Ok(Draft {
+            count: self.count,
+            nodes: self.nodes.copy()?,
+            lanes: self.lanes.copy()?,
+            sessions: self.sessions.copy()?,
+        })
+    }
+}

@@ -1,0 +1,25 @@
+//! The world of nodes, lanes and sessions: which steps it takes, what each makes of it and gives
+//! out, and the laws that every step keeps.
+#![tactic(auto)]
+
+mod act;
+mod carry;
+mod draft;
+mod fronts;
+mod judge;
+mod lane_table;
+pub mod laws;
+mod node_table;
+pub mod runs;
+mod sends;
+mod session_table;
+mod sorted;
+mod successor;
+mod verdicts;
+mod world;
+
+pub use verdicts::Verdict;
+pub use world::{Outcome, World};
+
+#[cfg(test)]
+mod tests;

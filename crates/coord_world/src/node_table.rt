@@ -1,0 +1,84 @@
+//! The nodes of a world.
+
+ghost use Rattle.std.specs.Prelude.{◌≡◌, IfOk, OnOk, OnErr};
+ghost use Rattle.std.specs.Option.{option_copied};
+ghost use Rattle.coord_types.specs.Table as table;
+
+use crate::sorted;
+use coord_node::Node;
+use coord_types::NodeId;
+use std::alloc::{AllocError, Global};
+use std::marker::Model;
+
+/// The nodes by their numbers. Contracts see a table.
+#[derive(Drop, Debug)]
+pub struct NodeTable {
+    nodes: Vec<(NodeId, Node)>,
+}
+
+impl Model for NodeTable {
+    ghost use Rattle.std.specs.Prelude.{◌≡◌, true};
+    ghost use Rattle.std.specs.Ordering.{nat_cmp};
+    ghost use Rattle.std.specs.Cmp.{nat_cmp_total};
+    ghost use Rattle.std.specs.Coded.{coded_ℕ};
+    ghost use Rattle.std.specs.FinMap.Entries.{is_sorted};
+    ghost use Rattle.coord_types.specs.NodeState.{NodeState, state_code};
+    ghost use Rattle.coord_types.specs.Table.{Table, code, from_sorted};
+
+    ghost Value = { Table nat_cmp_total NodeState };
+
+    ghost coded = { code coded_ℕ state_code };
+
+    ghost view = { λ a. from_sorted a.nodes.items };
+
+    ghost invariant = { λ a. is_sorted nat_cmp a.nodes.items ≡ true };
+}
+
+impl NodeTable {
+    pub fn new(alloc: Global) -> Self
+        ensures { result ≡ table.empty }
+    {
+        NodeTable {
+            nodes: Vec::new(alloc),
+        }
+    }
+
+    pub fn get(&self, id: NodeId) -> Option<&Node>
+        ensures { option_copied result ≡ table.get self.now id }
+    {
+        sorted::value_at(&self.nodes, &id)
+    }
+
+    /// Puts a node at its number, in place of one that is there.
+    pub fn insert(&mut self, id: NodeId, node: Node) -> Result<(), AllocError>
+        ensures ok { OnOk result (self.new ≡ table.insert self.old id node) }
+        ensures err { OnErr result (self.new ≡ self.old) }
+    {
+        sorted::put(&mut self.nodes, id, node)?;
+        Ok(())
+    }
+
+    pub fn remove(&mut self, id: NodeId)
+        ensures { self.new ≡ table.remove self.old id }
+    {
+        sorted::take_out(&mut self.nodes, &id);
+    }
+
+    pub fn copy(&self) -> Result<NodeTable, AllocError>
+        ensures { IfOk result (λ copy. copy ≡ self.now) }
+    {
+        Ok(NodeTable {
+            nodes: copies_of(&self.nodes)?,
+        })
+    }
+}
+
+fn copies_of(nodes: &Vec<(NodeId, Node)>) -> Result<Vec<(NodeId, Node)>, AllocError>
+    ensures { IfOk result (λ copies. copies.items ≡ nodes.now.items) }
+{
+    let mut copies = Vec::with_capacity(*nodes.allocator(), nodes.len())?;
+    for entry in nodes {
+        copies.push((entry.0, entry.1.copy()?))?;
+    }
+    Ok(copies)
+}

@@ -1,0 +1,43 @@
+//! Runs from the empty world whose outcomes are known: functions that do nothing, whose contracts
+//! say which steps are taken and what each gives out.
+
+ghost use Rattle.coord_world.specs.Runs.{DropInAbort, DropInConverge, StoredRun, StoredWave, TwoInitiators};
+
+/// Two nodes and one reset.
+pub fn stored_run()
+    ensures { StoredRun }
+{}
+
+/// What follows once these nodes are linked is one wave from the first of them.
+pub fn stored_wave()
+    ensures { StoredWave }
+{}
+
+/// Both ends of a link start a reset.
+pub fn two_initiators()
+    ensures { TwoInitiators }
+{}
+
+/// The first link of a path of three nodes is dropped while the wave goes out.
+pub fn drop_in_abort()
+    ensures { DropInAbort }
+{}
+
+/// The first link of a path of three nodes is dropped after the wave has come back.
+pub fn drop_in_converge()
+    ensures { DropInConverge }
+{}
+
+#[cfg(test)]
+mod tests {
+    use super::*;
+
+    #[test]
+    fn runs_do_nothing() {
+        stored_run();
+        stored_wave();
+        two_initiators();
+        drop_in_abort();
+        drop_in_converge();
+    }
+}

@@ -1,0 +1,138 @@
+//! The world of nodes, lanes and sessions.
+
+ghost use Rattle.std.specs.Prelude.{◌≡◌, Ok, IfOk, OnOk, OnErr};
+ghost use Rattle.std.specs.Option.{option_copied};
+ghost use Rattle.coord_types.specs.Table as table;
+ghost use Rattle.coord_types.specs.declared.steps.Kind.{Kind};
+ghost use Rattle.coord_world.specs.NumberedWorld.{no_world};
+ghost use Rattle.coord_world.specs.Next.{next, reply};
+ghost use Rattle.coord_world.specs.Acceptance.{accepts, IsFresh};
+ghost use Rattle.coord_world.specs.Outputs.{outputs, again};
+ghost use Rattle.coord_world.specs.Legal.{Legal};
+ghost use Rattle.coord_world.specs.Ranges.{InRange, StepInRange};
+
+use crate::draft::Draft;
+use crate::verdicts::Verdict;
+use coord_link::Lane;
+use coord_node::Node;
+use coord_types::{Client, Command, NodeId, Output, Refusal, Reply, Session, Step};
+use std::alloc::{AllocError, Global};
+use std::marker::Model;
+
+/// A step's reply, and what is to be released after it, in order.
+#[derive(Drop, Debug)]
+pub struct Outcome {
+    pub reply: Reply,
+    pub outputs: Vec<Output>,
+}
+
+/// A world. Contracts see the numbered world of `specs/NumberedWorld.antt`; its type keeps the
+/// ranges of `specs/Ranges.antt`.
+#[derive(Drop, Debug)]
+pub struct World {
+    alloc: Global,
+    draft: Draft,
+}
+
+impl Model for World {
+    ghost use Rattle.coord_world.specs.NumberedWorld.{World as Numbered, world_code};
+    ghost use Rattle.coord_world.specs.Ranges.{InRange};
+
+    ghost Value = { Numbered };
+
+    ghost coded = { world_code };
+
+    ghost view = { λ a. a.draft };
+
+    ghost invariant = { λ a. InRange a.draft };
+}
+
+impl World {
+    /// The world before any step.
+    pub fn empty(alloc: Global) -> Self
+        ensures value { result ≡ no_world }
+        ensures legal { Legal result }
+    {
+        World {
+            alloc,
+            draft: Draft::empty(alloc),
+        }
+    }
+
+    /// How many steps were taken, at most 2^40.
+    pub fn count(&self) -> u64
+        ensures value { result ≡ self.now.count }
+
+        // What the type keeps of every world, legal or not.
+        ensures ranges { InRange self.now }
+    {
+        self.draft.count
+    }
+
+    pub fn node(&self, id: NodeId) -> Option<&Node>
+        ensures { option_copied result ≡ table.get self.now.rows id }
+    {
+        self.draft.node(id)
+    }
+
+    /// The lane from one node to another.
+    pub fn lane(&self, from: NodeId, to: NodeId) -> Option<&Lane>
+        ensures { option_copied result ≡ table.get self.now.lanes record { 0 = from; 1 = to } }
+    {
+        self.draft.lanes.get(from, to)
+    }
+
+    /// A client's last order.
+    pub fn last(&self, client: Client) -> Option<Session>
+        ensures { result ≡ table.get self.now.sessions client }
+    {
+        self.draft.sessions.get(client)
+    }
+
+    /// Whether this world, of which `settled` is what is settled, takes a step; the reply to a
+    /// client's last order that comes again; or else the first refusal that applies.
+    pub fn judge(&self, settled: &World, step: &Step) -> Result<Verdict, Refusal>
+        ensures value { result ≡ accepts self.now settled.now step.now }
+        ensures fresh { (k : Kind) → result ≡ Ok (Verdict.Fresh k) → IsFresh self.now self.now step.now }
+    {
+        self.draft.judge(&settled.draft, step)
+    }
+
+    /// Takes a step that was judged fresh. Its outputs are to be released once it is settled.
+    pub fn apply(&mut self, step: &Step) -> Result<Outcome, AllocError>
+        requires legal { Legal self.old }
+        requires fresh { IsFresh self.old self.old step.now }
+        ensures world { OnOk result (self.new ≡ next self.old step.now) }
+        ensures reply { IfOk result (λ outcome. outcome.reply ≡ reply self.old step.now) }
+        ensures outputs { IfOk result (λ outcome. outcome.outputs.items ≡ outputs self.old step.now) }
+        ensures legal { Legal self.new }
+        ensures err { OnErr result (self.new ≡ self.old) }
+    {
+        within_ranges(step);
+        let (draft, outcome) = self.draft.after(self.alloc, step)?;
+        self.draft = draft;
+        Ok(outcome)
+    }
+
+    /// What may have been lost and is sent again: for each lane in ascending order the data packet
+    /// of its front, and then its receipt where the front was taken.
+    pub fn resend(&self) -> Result<Vec<Output>, AllocError>
+        ensures { IfOk result (λ outputs. outputs.items ≡ again self.now) }
+    {
+        self.draft.again(self.alloc)
+    }
+}
+
+/// Says of a step's numbers what their types promise: a contract sees a `NodeId`, a `Group` or a
+/// `Client` as a plain number, and learns its range only from a reading of it.
+fn within_ranges(step: &Step)
+    ensures { StepInRange step.now }
+{
+    if let Step::Order(client, _, command) = *step {
+        client.number();
+        if let Command::Add(id, group) = command {
+            id.number();
+            group.number();
+        }
+    }
+}
