@@ -59,6 +59,22 @@ impl Lane {
         }
     }
 
+    /// The lane that has these numbers, and these messages in its queue, the oldest first.
+    pub fn restore(inc: u64, base: u64, got: u64, queue: &[Msg]) -> Self
+        requires { length queue.now ≤ PLACES }
+        ensures { result ≡ record { inc = inc; base = base; got = got; queue = queue.now } }
+    {
+        let mut lane = Lane {
+            base,
+            got,
+            ..Lane::new(inc)
+        };
+        for msg in queue {
+            lane.send(*msg);
+        }
+        lane
+    }
+
     /// The number of the step that made the link.
     pub fn inc(&self) -> u64
         ensures { result ≡ self.now.inc }
@@ -219,6 +235,16 @@ mod tests {
         assert_eq!(rt; lane.current(), Some((2, Msg::Ready)));
         assert_eq!(rt; (lane.inc(), lane.base(), lane.got()), (3, 1, 1));
         assert_eq!(rt; (before.base(), before.queue().len()), (0, 2));
+    }
+
+    // A lane whose front was taken and not cleared.
+    #[test]
+    fn restored(rt: HostRuntime) {
+        let lane = Lane::restore(3, 6, 7, &[Msg::Ack, Msg::Ready]);
+        assert_eq!(rt; (lane.inc(), lane.base(), lane.got()), (3, 6, 7));
+        assert_eq!(rt; lane.queue(), [Msg::Ack, Msg::Ready].as_slice());
+        assert_eq!(rt; lane.current(), Some((7, Msg::Ack)));
+        assert_eq!(rt; lane.transit(), [Msg::Ready].as_slice());
     }
 
     #[test]

@@ -1,2 +1,3 @@
 pub mod Sorted
 pub mod Acks
+pub mod Bits

@@ -1,5 +1,5 @@
 -- A list of numbers in ascending order, with one more in its place.
-use Rattle.std.proofs.Common.{◌≡◌, ℕ, ◌<◌, true, false, ◌&&◌, ◌||◌, cond, List, [], ◌∷◌, ◌++◌, refl, sym, ap, ◌∙◌, arith}
+use Rattle.std.proofs.Common.{◌≡◌, ℕ, ◌<◌, true, false, ◌&&◌, ◌||◌, cond, List, [], ◌∷◌, ◌++◌, refl, sym, ap, ◌∙◌, subst, arith}
 use Rattle.std.specs.Prelude.{nat_eq, nat_lt}
 use Rattle.std.specs.Ordering.{nat_cmp}
 use Rattle.std.specs.declared.cmp.Ordering.TheVariants.{Less}
@@ -75,3 +75,12 @@ pub from_list-with_item : (k : ℕ) (xs : List ℕ) → set.from_list (with_item
 from_list-with_item k xs =
     same_nodes _ _ (λ q.
     contains-from_list _ q ∙ any-with_item q k xs ∙ ap (λ b. nat_eq q k || b) (sym (contains-from_list xs q)) ∙ sym (contains-insert (set.from_list xs) k q))
+
+-- the list of a new set
+pub sorted_none : (xs : List ℕ) → xs ≡ [] → IsStrictlySortedBy nat_cmp xs
+unfolding IsStrictlySortedBy
+sorted_none xs e = subst (IsStrictlySortedBy nat_cmp) (sym e) tt
+
+pub from_list_none : (xs : List ℕ) → xs ≡ [] → set.from_list xs ≡ set.empty
+unfolding set.from_list
+from_list_none xs e = ap set.from_list e

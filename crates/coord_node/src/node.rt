@@ -61,6 +61,39 @@ impl Node {
         }
     }
 
+    /// The node in this state: `pend` are the neighbours whose acknowledgement is awaited.
+    pub fn restore(
+        alloc: Global,
+        group: Group,
+        mode: Mode,
+        parent: Option<NodeId>,
+        pend: NodeSet,
+        neighbours: NodeSet,
+        epoch: u64,
+        confirmed: u64,
+    ) -> Self
+        ensures { result ≡ record {
+          group = group;
+          mode = mode;
+          parent = parent;
+          pend = pend;
+          neighbours = neighbours;
+          epoch = epoch;
+          confirmed = confirmed;
+        } }
+    {
+        Node {
+            group,
+            mode,
+            parent,
+            pend,
+            neighbours,
+            epoch,
+            confirmed,
+            alloc,
+        }
+    }
+
     pub fn group(&self) -> Group
         ensures { result ≡ self.now.group }
     {

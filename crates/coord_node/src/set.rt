@@ -2,6 +2,7 @@
 
 ghost use Rattle.std.specs.Prelude.{◌≡◌, ◌↔◌, IsTrue, IfOk, map};
 ghost use Rattle.coord_types.specs.NodeSet as set;
+ghost use Rattle.coord_types.specs.NodeMask.{nodes_of, mask_of, IsMaskable};
 
 use crate::list;
 use coord_types::{Msg, NodeId};
@@ -31,12 +32,30 @@ impl Model for NodeSet {
 
 impl NodeSet {
     /// The set without members.
+    #[tactic(auto, using(crate::proofs::Sorted::sorted_none, crate::proofs::Sorted::from_list_none))]
     pub fn new(alloc: Global) -> Self
         ensures { result ≡ set.empty }
     {
         NodeSet {
             ids: Vec::new(alloc),
         }
+    }
+
+    /// The set of a mask: node k is there where bit k - 1 is set.
+    pub fn from_bits(alloc: Global, bits: u64) -> Result<NodeSet, AllocError>
+        ensures { IfOk result (λ set. set ≡ nodes_of bits) }
+    {
+        Ok(NodeSet {
+            ids: list::of_bits(alloc, bits)?,
+        })
+    }
+
+    /// The mask of the set: bit k - 1 is set where node k is there.
+    pub fn bits(&self) -> u64
+        ensures value { result ≡ mask_of self.now }
+        ensures within { IsMaskable self.now }
+    {
+        list::bits_of(&self.ids)
     }
 
     pub fn contains(&self, id: NodeId) -> bool

@@ -51,6 +51,19 @@ fn a_set_loses_a_node(rt: HostRuntime) -> Result<(), Fail> {
 }
 
 #[test]
+fn a_set_is_its_mask(rt: HostRuntime) -> Result<(), Fail> {
+    let [one, two, _] = ids()?;
+    let last = NodeId::new(64).ok_or("64 is in range")?;
+    let single = NodeSet::new(rt.alloc()).with(last)?;
+    let pair = single.with(one)?;
+    let set = pair.with(two)?;
+    assert!(rt; set.bits() == 9_223_372_036_854_775_811);
+    let same = NodeSet::from_bits(rt.alloc(), 9_223_372_036_854_775_811)?;
+    assert!(rt; same.as_slice() == [one, two, last].as_slice());
+    Ok(())
+}
+
+#[test]
 fn a_new_node_is_ready(rt: HostRuntime) -> Result<(), Fail> {
     let [_, two, three] = ids()?;
     let mut node = between(rt.alloc(), three, two)?;
@@ -60,6 +73,30 @@ fn a_new_node_is_ready(rt: HostRuntime) -> Result<(), Fail> {
     assert!(rt; same.parent() == None && same.pend().is_empty());
     assert!(rt; same.neighbours().as_slice() == [two, three].as_slice());
     assert!(rt; same.epoch() == 0 && same.confirmed() == 7);
+    Ok(())
+}
+
+#[test]
+fn a_restored_node_goes_on(rt: HostRuntime) -> Result<(), Fail> {
+    let [_, two, three] = ids()?;
+    let group = Group::new(4).ok_or("4 is in range")?;
+    let awaited = NodeSet::new(rt.alloc()).with(three)?;
+    let neighbours = awaited.with(two)?;
+    let mut node = Node::restore(
+        rt.alloc(),
+        group,
+        Mode::Abort,
+        Some(two),
+        awaited,
+        neighbours,
+        7,
+        5,
+    );
+    assert!(rt; node.group() == group && node.mode() == Mode::Abort);
+    assert!(rt; node.parent() == Some(two) && node.pend().as_slice() == [three].as_slice());
+    assert!(rt; node.neighbours().as_slice() == [two, three].as_slice());
+    assert!(rt; node.epoch() == 7 && node.confirmed() == 5);
+    assert!(rt; is_deed(node.on_ack(three)?, &[(two, Msg::Ack)], false));
     Ok(())
 }
 

@@ -1,15 +1,15 @@
 -- Sets of nodes, and lists in ascending order.
-use Rattle.std.proofs.Common.{◌≡◌, ◌≢◌, ℕ, ◌<◌, Bool, true, false, ◌&&◌, ◌||◌, not, List, [], ◌∷◌, ◌++◌, Option, Some, None, map, refl, sym, ap, ◌∙◌, subst, arith, cond, eqb, length}
-use Rattle.std.specs.Prelude.{nat_eq, is_some}
-use Rattle.std.specs.Ordering.{nat_cmp, eq_by_cmp}
-use Rattle.std.specs.declared.cmp.Ordering.TheVariants.{Less, Greater}
+use Rattle.std.proofs.Common.{◌≡◌, ◌≢◌, ℕ, ◌<◌, Bool, true, false, ◌&&◌, ◌||◌, not, List, [], ◌∷◌, ◌++◌, Option, Some, None, Ordering, map, refl, sym, ap, ◌∙◌, subst, arith, cond, eqb, length}
+use Rattle.std.specs.Prelude.{T, nat_eq, is_some}
+use Rattle.std.specs.Ordering.{nat_cmp, eq_by_cmp, is_lt}
+use Rattle.std.specs.declared.cmp.Ordering.TheVariants.{Less, Equal, Greater}
 use Rattle.std.specs.List.{filter, list_any, AllByRecursion}
 use Rattle.std.specs.List.Sorted.{IsStrictlySortedBy}
 use Rattle.std.specs.FinMap.{nat_cmp-IsAntisymmetric}
 use Rattle.coord_types.specs.Table as table
 use Rattle.coord_types.proofs.Tables as fm
 use Rattle.coord_types.proofs.Tables.{same_table}
-use Rattle.std.specs.FinMap.Entries.{put, by_order}
+use Rattle.std.specs.FinMap.Entries.{put, by_order, below_all, is_sorted}
 use Rattle.std.proofs.lemmas.Bool.Decides.{nat_tests}
 use Rattle.std.proofs.lemmas.Map.Keys.{sorted_head, sorted_tail}
 use Rattle.coord_types.specs.NodeSet.{NodeSet, contains, empty, insert, remove, len, items, from_list}
@@ -153,3 +153,33 @@ len_of_items s = sym (length-keys (table.entries s))
 
 pub len_listed : (xs : List ℕ) → IsStrictlySortedBy nat_cmp xs → len (from_list xs) ≡ length xs
 len_listed xs sorted = len_of_items (from_list xs) ∙ ap length (items-from_list xs sorted)
+
+split_and : (a b : Bool) → T (a && b) → T a × T b
+split_and true b h = (tt, h)
+split_and false b h = absurd h
+
+is_less : (o : Ordering) → T (is_lt o) → o ≡ Less
+is_less Less h = refl
+is_less Equal h = absurd h
+is_less Greater h = absurd h
+
+below_listed : (k : ℕ) (es : List (ℕ × Unit {0})) → T (below_all nat_cmp k es) → AllByRecursion (λ y. nat_cmp k y ≡ Less) (map (λ e. e.0) es)
+below_listed k [] below = tt
+below_listed k (e ∷ es) below =
+    let both = split_and (is_lt (nat_cmp k e.0)) (below_all nat_cmp k es) below in
+    (is_less _ both.0, below_listed k es both.1)
+
+sorted_listed : (es : List (ℕ × Unit {0})) → T (is_sorted nat_cmp es) → IsStrictlySortedBy nat_cmp (map (λ e. e.0) es)
+unfolding IsStrictlySortedBy
+sorted_listed [] sorted = tt
+sorted_listed (e ∷ es) sorted =
+    let both = split_and (below_all nat_cmp e.0 es) (is_sorted nat_cmp es) sorted in
+    (below_listed e.0 es both.0, sorted_listed es both.1)
+
+pub items-sorted : (s : NodeSet) → IsStrictlySortedBy nat_cmp (items s)
+unfolding items
+items-sorted s = sorted_listed (table.entries s) s.sorted
+
+-- a set is the set of its items
+pub from_list-items : (s : NodeSet) → from_list (items s) ≡ s
+from_list-items s = same_nodes _ _ (λ q. contains-from_list (items s) q ∙ sym (contains-items s q))

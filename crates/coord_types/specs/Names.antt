@@ -1,5 +1,6 @@
 -- The words and numbers that are printed.
-use Rattle.std.specs.Prelude.{ℕ, List, codes}
+use Rattle.std.specs.Prelude.{ℕ, List, ◌++◌, codes}
+use Rattle.std.specs.Fmt.{decimal}
 use Rattle.coord_types.specs.declared.messages.Mode.{Mode}
 use Rattle.coord_types.specs.declared.messages.Mode.TheVariants as mode
 use Rattle.coord_types.specs.declared.messages.Msg.{Msg}
@@ -74,3 +75,7 @@ refusal_name NotReleased = codes "NotReleased"
 refusal_name PendingFull = codes "PendingFull"
 refusal_name (Behind settled) = codes "Behind"
 refusal_name Stranger = codes "Stranger"
+
+-- as in "16 Old"
+abbrev pub refusal_text : Refusal → List ℕ
+refusal_text refusal = decimal (refusal_number refusal) ++ codes " " ++ refusal_name refusal

@@ -6,15 +6,19 @@
 //! (`IdealWorld`), over which the laws of the protocol are stated.
 #![tactic(auto)]
 
-mod ids;
+mod client;
+mod group;
 mod messages;
+mod node_id;
 mod outputs;
 mod packets;
 mod refusals;
 mod steps;
 
-pub use ids::{Client, Group, NodeId};
+pub use client::Client;
+pub use group::Group;
 pub use messages::{Mode, Msg};
+pub use node_id::NodeId;
 pub use outputs::Output;
 pub use packets::{DataPacket, Packet, ReceiptPacket};
 pub use refusals::Refusal;

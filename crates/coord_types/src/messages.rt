@@ -1,6 +1,6 @@
 //! What nodes are in, and what they send each other.
 
-ghost use Rattle.std.specs.Prelude.{◌≡◌};
+ghost use Rattle.std.specs.Prelude.{◌≡◌, Some};
 ghost use Rattle.coord_types.specs.Names.{mode_name, msg_name};
 
 use std::fmt;
@@ -30,6 +30,8 @@ impl Mode {
 }
 
 impl fmt::Display for Mode {
+    ghost output = { λ mode. Some (mode_name mode) };
+
     fn fmt<W: fmt::Write>(&self, f: &mut fmt::Formatter<W>) -> fmt::Result {
         f.write_str(self.name())
     }
@@ -60,6 +62,8 @@ impl Msg {
 }
 
 impl fmt::Display for Msg {
+    ghost output = { λ msg. Some (msg_name msg) };
+
     fn fmt<W: fmt::Write>(&self, f: &mut fmt::Formatter<W>) -> fmt::Result {
         f.write_str(self.name())
     }

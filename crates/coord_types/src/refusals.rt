@@ -1,7 +1,7 @@
 //! Why something is refused.
 
-ghost use Rattle.std.specs.Prelude.{◌≡◌};
-ghost use Rattle.coord_types.specs.Names.{refusal_name, refusal_number};
+ghost use Rattle.std.specs.Prelude.{◌≡◌, Some};
+ghost use Rattle.coord_types.specs.Names.{refusal_name, refusal_number, refusal_text};
 
 use std::fmt;
 
@@ -96,6 +96,8 @@ impl Refusal {
 }
 
 impl fmt::Display for Refusal {
+    ghost output = { λ refusal. Some (refusal_text refusal) };
+
     fn fmt<W: fmt::Write>(&self, f: &mut fmt::Formatter<W>) -> fmt::Result {
         let number = self.number();
         let name = self.name();

@@ -1,9 +1,11 @@
 //! What may happen to a world, and what is answered.
 
-ghost use Rattle.std.specs.Prelude.{◌≡◌};
+ghost use Rattle.std.specs.Prelude.{◌≡◌, Some};
 ghost use Rattle.coord_types.specs.Names.{kind_name};
 
-use crate::ids::{Client, Group, NodeId};
+use crate::client::Client;
+use crate::group::Group;
+use crate::node_id::NodeId;
 use crate::packets::{DataPacket, ReceiptPacket};
 use std::fmt;
 
@@ -69,6 +71,8 @@ impl Kind {
 }
 
 impl fmt::Display for Kind {
+    ghost output = { λ kind. Some (kind_name kind) };
+
     fn fmt<W: fmt::Write>(&self, f: &mut fmt::Formatter<W>) -> fmt::Result {
         f.write_str(self.name())
     }

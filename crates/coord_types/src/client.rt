@@ -1,0 +1,45 @@
+//! The numbers of clients, kept within their range by their type.
+
+ghost use Rattle.std.specs.Prelude.{◌≡◌, ◌≤◌, ◌↔◌, IsSome, IfSome};
+
+use std::marker::Model;
+
+/// A client's number, from 1 to 16. Each client numbers its own orders from 1.
+#[derive(Clone, Copy, Debug, PartialEq, Eq, PartialOrd, Ord)]
+pub struct Client {
+    number: u8,
+}
+
+impl Model for Client {
+    ghost use Rattle.std.specs.Prelude.{ℕ, ◌≤◌};
+
+    ghost Value = { ℕ };
+
+    ghost view = { λ a. a.number };
+
+    ghost invariant = { λ a. (1 ≤ a.number) × (a.number ≤ 16) };
+
+    ghost inverse = { λ n. record { number = n } };
+}
+
+impl Client {
+    /// The client with this number; None outside 1 to 16.
+    pub fn new(number: u8) -> Option<Self>
+        ensures within { IsSome result ↔ ((1 ≤ number) × (number ≤ 16)) }
+        ensures value { IfSome result (λ client. client ≡ number) }
+    {
+        if (1..=16).contains(&number) {
+            Some(Client { number })
+        } else {
+            None
+        }
+    }
+
+    pub fn number(self) -> u8
+        ensures value { result ≡ self }
+        ensures least { 1 ≤ self }
+        ensures greatest { self ≤ 16 }
+    {
+        self.number
+    }
+}

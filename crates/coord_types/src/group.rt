@@ -1,0 +1,45 @@
+//! The numbers of groups, kept within their range by their type.
+
+ghost use Rattle.std.specs.Prelude.{◌≡◌, ◌≤◌, ◌↔◌, IsSome, IfSome};
+
+use std::marker::Model;
+
+/// A group's number, from 1 to 16. A link joins two nodes of one group.
+#[derive(Clone, Copy, Debug, PartialEq, Eq, PartialOrd, Ord)]
+pub struct Group {
+    number: u8,
+}
+
+impl Model for Group {
+    ghost use Rattle.std.specs.Prelude.{ℕ, ◌≤◌};
+
+    ghost Value = { ℕ };
+
+    ghost view = { λ a. a.number };
+
+    ghost invariant = { λ a. (1 ≤ a.number) × (a.number ≤ 16) };
+
+    ghost inverse = { λ n. record { number = n } };
+}
+
+impl Group {
+    /// The group with this number; None outside 1 to 16.
+    pub fn new(number: u8) -> Option<Self>
+        ensures within { IsSome result ↔ ((1 ≤ number) × (number ≤ 16)) }
+        ensures value { IfSome result (λ group. group ≡ number) }
+    {
+        if (1..=16).contains(&number) {
+            Some(Group { number })
+        } else {
+            None
+        }
+    }
+
+    pub fn number(self) -> u8
+        ensures value { result ≡ self }
+        ensures least { 1 ≤ self }
+        ensures greatest { self ≤ 16 }
+    {
+        self.number
+    }
+}
