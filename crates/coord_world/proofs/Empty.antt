@@ -33,6 +33,9 @@ no_world_in_range = record {
   count = omega arith;
   nodes = λ u r is. let none = no_row u in cc;
   lanes = λ u v l is. let none = no_lane u v in cc;
+  short = λ u v l is. let none = no_lane u v in cc;
+  awaited = λ u k awaits. let none = ap (λ o. contains (state_or_none o).pend k) (no_row u) ∙ contains-empty k in cc;
+  parents = λ u p is. let none = ap (λ o. (state_or_none o).parent) (no_row u) in cc;
   sessions = λ c s is. let none = no_session c in cc;
   links = omega (arith, len-empty pair_cmp_total Lane);
   linked = λ u v. no_link u v ∙ sym (contains-empty v) ∙ ap (λ o. contains (state_or_none o).neighbours v) (sym (no_row u));

@@ -13,7 +13,11 @@ use Rattle.coord_types.specs.declared.steps.Command.TheVariants.{Join, Drop}
 use Rattle.coord_world.specs.NumberedWorld.{World, pair_cmp}
 use Rattle.coord_world.specs.Next.{on_lane, does, ordered, is_lane}
 
--- pairs that tie are equal
+-- numbers that tie are equal
+pub same_number : (p q : ℕ) → eq_by_cmp nat_cmp p q ≡ true → p ≡ q
+same_number p q h = grind (arith, nat_tests)
+
+-- so are pairs
 pub same_pair : (p q : ℕ × ℕ) → eq_by_cmp pair_cmp p q ≡ true → p ≡ q
 same_pair p q h =
     let a : p.0 ≡ q.0 = grind (arith, nat_tests) in

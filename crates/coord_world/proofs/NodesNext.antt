@@ -58,10 +58,10 @@ new_in_range : (count : ℕ) (s : Step) → StepInRange s → Adds (NodeInRange 
 new_in_range count (Order c n (Add u g)) within =
     let ids = within.2 in
     record {
-      least = ids.0;
-      greatest = ids.1;
-      group_least = ids.2;
-      group_greatest = ids.3;
+      least = ids.0.0;
+      greatest = ids.0.1;
+      group_least = ids.1;
+      group_greatest = ids.2;
       epoch = omega arith;
       confirmed = omega arith;
       degree = omega (arith, len-empty);

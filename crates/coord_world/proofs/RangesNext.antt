@@ -2,6 +2,7 @@
 use Rattle.std.proofs.Common.{◌≡◌, ℕ, ◌+◌, ◌≤◌, true, List, [], ◌∷◌, Option, Some, None, refl, sym, ◌∙◌, subst, arith}
 use Rattle.std.specs.Prelude.{is_some}
 use Rattle.coord_types.specs.NodeSet.{contains}
+use Rattle.std.proofs.lemmas.Bool.Decides.{nat_tests}
 use Rattle.coord_types.specs.NodeState.{NodeState}
 use Rattle.coord_types.specs.Table.{get, has, insert, len, remove}
 use Rattle.coord_types.specs.declared.steps.Command.TheVariants.{Add, Remove, Join, Drop, Reset, Confirm}
@@ -9,13 +10,13 @@ use Rattle.coord_types.specs.declared.steps.Step.{Step}
 use Rattle.coord_types.specs.declared.steps.Step.TheVariants.{Order, Take, Clear}
 use Rattle.coord_types.proofs.Sets.{contains-empty}
 use Rattle.coord_link.specs.LaneMachine.{new_lane, took}
-use Rattle.coord_node.specs.Rules.{Deed}
+use Rattle.coord_node.specs.Rules.{Deed, is_parent}
 use Rattle.coord_node.specs.Steps.{deeds, deeds_ordered}
 use Rattle.coord_world.specs.Acceptance.{IsFresh}
 use Rattle.coord_world.specs.Laws.{NextKeepsRanges}
 use Rattle.coord_world.specs.Next.{all_do, does, next, on_lane, ordered}
 use Rattle.coord_world.specs.NumberedWorld.{World, is_linked, row, state_or_none, view}
-use Rattle.coord_world.specs.Ranges.{InRange}
+use Rattle.coord_world.specs.Ranges.{InRange, IsNode, NodeInRange}
 use Rattle.coord_world.proofs.Fresh.{fresh_count}
 use Rattle.coord_world.proofs.Groups.{OneGroup, group_next}
 use Rattle.coord_world.proofs.Incarnations.{inc_next, lane_ranges_next}
@@ -24,7 +25,9 @@ use Rattle.coord_world.proofs.Nexts.{view_next}
 use Rattle.coord_world.proofs.NodesNext.{nodes_next}
 use Rattle.coord_world.proofs.Ordered.{fresh_order}
 use Rattle.coord_world.proofs.Pairs.{even_lanes}
+use Rattle.coord_world.proofs.RowsNext.{AllRows, there_is}
 use Rattle.coord_world.proofs.SessionsNext.{sessions_next}
+use Rattle.coord_world.proofs.Short.{lane_short}
 use Rattle.coord_world.proofs.Sizes.{len-change, len-insert, len-remove}
 use Rattle.coord_world.proofs.Sound.{Sound}
 use Rattle.coord_world.proofs.Structure.{sound_view}
@@ -36,6 +39,17 @@ ends_known w sound u v linked = of_option (get w.rows u) (sym (sound.linked u v)
     of_option : (o : Option NodeState) → contains (state_or_none o).neighbours v ≡ true → is_some o ≡ true
     of_option None e = grind (arith, contains-empty v)
     of_option (Some r) e = refl
+
+-- the neighbours of a node are nodes
+pub near_known : (w : World) (count : ℕ) → Sound (view w) → AllRows (NodeInRange count) w.rows → (u v : ℕ) → contains (row w u).neighbours v ≡ true → IsNode v
+near_known w count sound nodes u v near =
+    let back : is_linked w v u ≡ true = sound.linked v u ∙ sound.mirrored v u ∙ near in
+    let within = nodes v (row w v) (there_is w v (ends_known w sound v u back)) in
+    (within.least, within.greatest)
+
+-- a parent is a neighbour
+parent_is : (o : Option ℕ) (p : ℕ) → o ≡ Some p → is_parent o p ≡ true
+parent_is o p is = grind (arith, nat_tests, is)
 
 -- deeds make and drop no lane
 len-all_do : (w : World) (ds : List (ℕ × Deed)) → len (all_do w ds).lanes ≡ len w.lanes
@@ -66,10 +80,14 @@ pub ranges_next : NextKeepsRanges
 ranges_next w settled s within range legal fresh =
     let sound = sound_after w settled s range legal fresh in
     let groups : OneGroup (view (next w s)) = subst OneGroup (sym (view_next w settled s legal.lanes fresh)) (group_next w settled (sound_view w range legal) range.one_group s fresh) in
+    let nodes = nodes_next w settled s within range fresh in
     record {
       count = fresh_count w settled s fresh;
-      nodes = nodes_next w settled s within range fresh;
+      nodes = nodes;
       lanes = lane_ranges_next w s range;
+      short = λ u v l is. (lane_short (next w s) u v l sound is).queued;
+      awaited = λ u k awaits. near_known (next w s) (w.count + 1) sound nodes u k ((sound.nodes u).within k awaits);
+      parents = λ u p is. near_known (next w s) (w.count + 1) sound nodes u p ((sound.nodes u).parent_near p (parent_is (row (next w s) u).parent p is));
       sessions = sessions_next w range settled s within fresh;
       links = links_next w settled s range fresh;
       linked = sound.linked;

@@ -53,6 +53,7 @@ module _ (w : World) (range : InRange w) where
       record {
         least = within.least;
         greatest = within.greatest;
+        ordered = within.ordered;
         first = within.first;
         last = omega (arith, within.last);
         replied = within.replied;
@@ -74,6 +75,7 @@ module _ (w : World) (range : InRange w) where
   noted settled c n x within fresh = record {
     least = within.0;
     greatest = within.1;
+    ordered = within.2;
     first = omega (arith, fresh_number w settled c n x fresh);
     last = omega (arith, fresh_number w settled c n x fresh, last_within c);
     replied = omega arith;

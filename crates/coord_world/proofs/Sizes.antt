@@ -41,6 +41,11 @@ pub len-remove_le : (s : NodeSet) (k : ℕ) → set.len (set.remove s k) ≤ set
 unfolding set.len set.remove
 len-remove_le s k = omega (arith, len-remove s k)
 
+-- and one fewer where the node was there
+pub len-remove_one : (s : NodeSet) (k : ℕ) → set.contains s k ≡ true → set.len (set.remove s k) + 1 ≡ set.len s
+unfolding set.len set.remove set.contains
+len-remove_one s k there = omega (arith, len-remove s k, ap (λ t. cond t 1 0 + len (remove s k)) there)
+
 -- a set with one more has one more at most
 pub len-insert_le : (s : NodeSet) (k : ℕ) → set.len (set.insert s k) ≤ set.len s + 1
 unfolding set.len set.insert

@@ -64,7 +64,7 @@ linking = (refl, (refl, (refl, tt)))
 
 -- their numbers are in range
 linking_ranges : AllByRecursion StepInRange two_linked
-linking_ranges = ((omega arith, omega arith, (omega arith, omega arith, omega arith, omega arith)), ((omega arith, omega arith, (omega arith, omega arith, omega arith, omega arith)), ((omega arith, omega arith, tt), tt)))
+linking_ranges = ((omega arith, omega arith, ((omega arith, omega arith), omega arith, omega arith)), ((omega arith, omega arith, ((omega arith, omega arith), omega arith, omega arith)), ((omega arith, omega arith, ((omega arith, omega arith), (omega arith, omega arith))), tt)))
 
 -- and those of the reset
 resetting : AllFresh (fold no_world two_linked) one_reset

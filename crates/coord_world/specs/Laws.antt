@@ -9,6 +9,7 @@ use Rattle.coord_world.specs.Next.{next}
 use Rattle.coord_world.specs.Acceptance.{IsFresh}
 use Rattle.coord_world.specs.Legal.{Legal}
 use Rattle.coord_world.specs.Ranges.{InRange, StepInRange}
+use Rattle.coord_world.specs.Parts.{RowsFit, rows_of}
 
 -- a step that a world takes over some settled world, it takes over itself
 abbrev pub FreshOverItself : Type 0
@@ -33,3 +34,11 @@ pub record IsShort (l : Lane) : Type 0 where
 
 abbrev pub LanesAreShort : Type 0
 LanesAreShort = (w : World) (u v : ℕ) (l : Lane) → InRange w → Legal w → get w.lanes (u, v) ≡ Some l → IsShort l
+
+-- the rows of a world in its ranges fit together
+abbrev pub RowsOfWorldFit : Type 0
+RowsOfWorldFit = (w : World) → InRange w → RowsFit (rows_of w)
+
+-- worlds in their ranges with the same rows are equal
+abbrev pub RowsGiveWorld : Type 0
+RowsGiveWorld = (v w : World) → InRange v → InRange w → rows_of v ≡ rows_of w → v ≡ w

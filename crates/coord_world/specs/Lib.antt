@@ -6,6 +6,8 @@ pub mod Outputs
 pub mod Links
 pub mod Legal
 pub mod Ranges
+pub mod Parts
+pub mod Assembly
 pub mod Laws
 pub mod Waves
 pub mod Runs

@@ -1,11 +1,12 @@
 -- The ranges of a world, which its type keeps: what is true of every world by its form, legal or not.
-use Rattle.std.specs.Prelude.{◌≡◌, ℕ, ◌^◌, ◌≤◌, Bool, true, false, Some}
+use Rattle.std.specs.Prelude.{◌≡◌, ℕ, ◌^◌, ◌≤◌, ◌<◌, Bool, true, false, Some, length}
 use Rattle.coord_types.specs.NodeSet as set
+use Rattle.coord_types.specs.NodeMask.{IsMaskable}
 use Rattle.coord_types.specs.Table.{get, has, len}
 use Rattle.coord_types.specs.NodeState.{NodeState}
 use Rattle.coord_types.specs.declared.steps.Session.{Session}
 use Rattle.coord_types.specs.declared.steps.Command.{Command}
-use Rattle.coord_types.specs.declared.steps.Command.TheVariants.{Add, Reset}
+use Rattle.coord_types.specs.declared.steps.Command.TheVariants.{Add, Remove, Join, Drop, Reset, Confirm}
 use Rattle.coord_types.specs.declared.steps.Step.{Step}
 use Rattle.coord_types.specs.declared.steps.Step.TheVariants.{Order, Take, Clear}
 use Rattle.coord_types.specs.declared.steps.Kind.{Kind}
@@ -14,9 +15,16 @@ use Rattle.coord_link.specs.LaneMachine.{Lane}
 use Rattle.coord_world.specs.NumberedWorld.{World, row, is_linked}
 
 -- the numbers of a command and of a step, which their types keep within these ranges
+abbrev pub IsNode : ℕ → Type 0
+IsNode u = (1 ≤ u) × (u ≤ 64)
+
 abbrev pub CommandInRange : Command → Type 0
-CommandInRange (Add u g) = (1 ≤ u) × (u ≤ 64) × (1 ≤ g) × (g ≤ 16)
-CommandInRange x = Unit {0}
+CommandInRange (Add u g) = IsNode u × (1 ≤ g) × (g ≤ 16)
+CommandInRange (Remove u) = IsNode u
+CommandInRange (Join a b) = IsNode a × IsNode b
+CommandInRange (Drop a b) = IsNode a × IsNode b
+CommandInRange (Reset u) = IsNode u
+CommandInRange (Confirm u e) = IsNode u × (e < 2 ^ 64)
 
 abbrev pub StepInRange : Step → Type 0
 StepInRange (Order c n x) = (1 ≤ c) × (c ≤ 16) × CommandInRange x
@@ -51,6 +59,7 @@ answers x k = false
 pub record SessionInRange (count c : ℕ) (s : Session) : Type 0 where
   pub least : 1 ≤ c
   pub greatest : c ≤ 16
+  pub ordered : CommandInRange s.command
   pub first : 1 ≤ s.number
   pub last : s.number ≤ count
   pub replied : 1 ≤ s.reply.step
@@ -62,6 +71,9 @@ pub record InRange (w : World) : Type 0 where
   pub count : w.count ≤ 2 ^ 40
   pub nodes : (u : ℕ) (r : NodeState) → get w.rows u ≡ Some r → NodeInRange w.count u r
   pub lanes : (u v : ℕ) (l : Lane) → get w.lanes (u, v) ≡ Some l → LaneInRange w.count l
+  pub short : (u v : ℕ) (l : Lane) → get w.lanes (u, v) ≡ Some l → length l.queue ≤ 4
+  pub awaited : (u : ℕ) → IsMaskable (row w u).pend
+  pub parents : (u p : ℕ) → (row w u).parent ≡ Some p → IsNode p
   pub sessions : (c : ℕ) (s : Session) → get w.sessions c ≡ Some s → SessionInRange w.count c s
   pub links : len w.lanes ≤ 256
   pub linked : (u v : ℕ) → is_linked w u v ≡ set.contains (row w u).neighbours v

@@ -3,13 +3,16 @@
 #![tactic(auto)]
 
 mod act;
+mod assembly;
 mod carry;
 mod draft;
 mod fronts;
 mod judge;
 mod lane_table;
 pub mod laws;
+mod listing;
 mod node_table;
+mod parts;
 pub mod runs;
 mod sends;
 mod session_table;
@@ -18,6 +21,7 @@ mod successor;
 mod verdicts;
 mod world;
 
+pub use parts::{ClientRow, LinkRow, NodeRow, Parts};
 pub use verdicts::Verdict;
 pub use world::{Outcome, World};
 

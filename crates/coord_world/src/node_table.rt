@@ -1,7 +1,9 @@
 //! The nodes of a world.
 
-ghost use Rattle.std.specs.Prelude.{◌≡◌, IfOk, OnOk, OnErr};
+ghost use Rattle.std.specs.Prelude.{◌≡◌, true, IfOk, OnOk, OnErr};
 ghost use Rattle.std.specs.Option.{option_copied};
+ghost use Rattle.std.specs.Ordering.{nat_cmp};
+ghost use Rattle.std.specs.FinMap.Entries.{is_sorted};
 ghost use Rattle.coord_types.specs.Table as table;
 
 use crate::sorted;
@@ -41,6 +43,21 @@ impl NodeTable {
         NodeTable {
             nodes: Vec::new(alloc),
         }
+    }
+
+    /// The table of entries in ascending order.
+    pub fn from_sorted(nodes: Vec<(NodeId, Node)>) -> Self
+        requires { is_sorted nat_cmp nodes.items ≡ true }
+        ensures { result ≡ table.from_sorted nodes.items }
+    {
+        NodeTable { nodes }
+    }
+
+    /// The nodes with their numbers, in ascending order.
+    pub fn entries(&self) -> &[(NodeId, Node)]
+        ensures { result.now ≡ table.entries self.now }
+    {
+        &self.nodes
     }
 
     pub fn get(&self, id: NodeId) -> Option<&Node>

@@ -1,6 +1,8 @@
 //! The clients' last orders.
 
-ghost use Rattle.std.specs.Prelude.{◌≡◌, IfOk, OnOk, OnErr};
+ghost use Rattle.std.specs.Prelude.{◌≡◌, true, IfOk, OnOk, OnErr};
+ghost use Rattle.std.specs.Ordering.{nat_cmp};
+ghost use Rattle.std.specs.FinMap.Entries.{is_sorted};
 ghost use Rattle.coord_types.specs.Table as table;
 
 use crate::sorted;
@@ -40,6 +42,21 @@ impl SessionTable {
         SessionTable {
             sessions: Vec::new(alloc),
         }
+    }
+
+    /// The table of entries in ascending order.
+    pub fn from_sorted(sessions: Vec<(Client, Session)>) -> Self
+        requires { is_sorted nat_cmp sessions.items ≡ true }
+        ensures { result ≡ table.from_sorted sessions.items }
+    {
+        SessionTable { sessions }
+    }
+
+    /// The clients' last orders, in ascending order.
+    pub fn entries(&self) -> &[(Client, Session)]
+        ensures { result.now ≡ table.entries self.now }
+    {
+        &self.sessions
     }
 
     pub fn get(&self, client: Client) -> Option<Session>

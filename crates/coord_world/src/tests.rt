@@ -6,7 +6,7 @@ ghost use Rattle.coord_world.specs.Legal.{Legal};
 use super::*;
 use coord_types::{
     Client, Command, DataPacket, Group, Kind, Mode, Msg, NodeId, Output, ReceiptPacket, Refusal,
-    Reply, Step,
+    Reply, Session, Step,
 };
 use std::alloc::Global;
 use std::test::Fail;
@@ -134,6 +134,69 @@ fn a_world_is_read(rt: HostRuntime) -> Result<(), Fail> {
     assert_eq!(rt; node.mode(), Mode::Abort);
     let lane = world.lane(id(1)?, id(2)?).ok_or("the lane is there")?;
     assert_eq!(rt; (lane.inc(), lane.base(), lane.got()), (3, 0, 0));
+    Ok(())
+}
+
+/// The world of `asked`, put together again from its rows.
+fn asked_again(alloc: Global) -> Result<World, Fail> {
+    let world = asked(alloc)?;
+    Ok(World::assemble(alloc, world.parts()?)?)
+}
+
+#[test]
+fn nodes_come_back(rt: HostRuntime) -> Result<(), Fail> {
+    let world = asked_again(rt.alloc())?;
+    assert_eq!(rt; world.count(), 4);
+    let node = world.node(id(1)?).ok_or("node 1 is there")?;
+    assert_eq!(rt; node.mode(), Mode::Abort);
+    assert!(rt; node.pend().contains(id(2)?));
+    assert!(rt; node.neighbours().contains(id(2)?));
+    Ok(())
+}
+
+#[test]
+fn lanes_come_back(rt: HostRuntime) -> Result<(), Fail> {
+    let world = asked_again(rt.alloc())?;
+    let forth = world.lane(id(1)?, id(2)?).ok_or("the lane is there")?;
+    assert_eq!(rt; forth.queue(), [Msg::Abort].as_slice());
+    let back = world.lane(id(2)?, id(1)?).ok_or("so is its way back")?;
+    assert_eq!(rt; (back.inc(), back.queue().len()), (3, 0));
+    Ok(())
+}
+
+#[test]
+fn orders_come_back(rt: HostRuntime) -> Result<(), Fail> {
+    let world = asked_again(rt.alloc())?;
+    let client = Client::new(1).ok_or("a client's number is from 1 to 16")?;
+    let last = Session {
+        number: 4,
+        command: Command::Reset(id(1)?),
+        reply: Reply {
+            step: 4,
+            kind: Kind::Started,
+        },
+    };
+    assert_eq!(rt; world.last(client), Some(last));
+    Ok(())
+}
+
+/// A world without nodes that has taken as many steps as a world can.
+fn worn(alloc: Global) -> Result<World, Fail> {
+    let parts = Parts {
+        count: 1 << 40,
+        nodes: Vec::new(alloc),
+        links: Vec::new(alloc),
+        clients: Vec::new(alloc),
+    };
+    Ok(World::assemble(alloc, parts)?)
+}
+
+#[test]
+fn at_most_2_to_the_40_steps(rt: HostRuntime) -> Result<(), Fail> {
+    let world = worn(rt.alloc())?;
+    let group = Group::new(1).ok_or("a group's number is from 1 to 16")?;
+    let step = order(&world, &Command::Add(id(1)?, group))?;
+    assert_eq!(rt; world.judge(&world, &step), Err(Refusal::Exhausted));
     Ok(())
 }
 

@@ -9,9 +9,11 @@ ghost use Rattle.coord_world.specs.Next.{next, reply};
 ghost use Rattle.coord_world.specs.Acceptance.{accepts, IsFresh};
 ghost use Rattle.coord_world.specs.Outputs.{outputs, again};
 ghost use Rattle.coord_world.specs.Legal.{Legal};
-ghost use Rattle.coord_world.specs.Ranges.{InRange, StepInRange};
+ghost use Rattle.coord_world.specs.Ranges.{CommandInRange, InRange, StepInRange};
+ghost use Rattle.coord_world.specs.Parts.{RowsFit, listed, rows_of};
 
 use crate::draft::Draft;
+use crate::parts::Parts;
 use crate::verdicts::Verdict;
 use coord_link::Lane;
 use coord_node::Node;
@@ -57,6 +59,24 @@ impl World {
             alloc,
             draft: Draft::empty(alloc),
         }
+    }
+
+    /// The world that has these rows.
+    pub fn assemble(alloc: Global, parts: Parts) -> Result<Self, AllocError>
+        requires { RowsFit (listed parts) }
+        ensures rows { IfOk result (λ world. rows_of world ≡ listed parts) }
+        ensures ranges { IfOk result (λ world. InRange world) }
+    {
+        let draft = Draft::assemble(alloc, &parts)?;
+        Ok(World { alloc, draft })
+    }
+
+    /// The rows of the world, each list in ascending order.
+    pub fn parts(&self) -> Result<Parts, AllocError>
+        ensures rows { IfOk result (λ parts. listed parts ≡ rows_of self.now) }
+        ensures fit { IfOk result (λ parts. RowsFit (listed parts)) }
+    {
+        self.draft.list(self.alloc)
     }
 
     /// How many steps were taken, at most 2^40.
@@ -130,9 +150,30 @@ fn within_ranges(step: &Step)
 {
     if let Step::Order(client, _, command) = *step {
         client.number();
-        if let Command::Add(id, group) = command {
+        command_within_ranges(&command);
+    }
+}
+
+fn command_within_ranges(command: &Command)
+    ensures { CommandInRange command.now }
+{
+    match *command {
+        Command::Add(id, group) => {
             id.number();
             group.number();
+        }
+        Command::Remove(id) => {
+            id.number();
+        }
+        Command::Reset(id) => {
+            id.number();
+        }
+        Command::Confirm(id, _epoch) => {
+            id.number();
+        }
+        Command::Join(a, b) | Command::Drop(a, b) => {
+            a.number();
+            b.number();
         }
     }
 }

@@ -1,0 +1,5 @@
+use Rattle.coord_world.proofs.Fitting as law
+use Rattle.coord_world.proofs.laws.rows_of_world_fit.Goals as goal
+
+pub returns : goal.returns
+returns c = law.rows_of_world_fit

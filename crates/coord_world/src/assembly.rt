@@ -1,0 +1,100 @@
+//! How the rows of a world are put together.
+
+ghost use Rattle.std.specs.Prelude.{◌≡◌, IfOk, OnOk, map};
+ghost use Rattle.coord_types.specs.NodeSet as set;
+ghost use Rattle.coord_world.specs.Parts.{RowsFit, listed};
+ghost use Rattle.coord_world.specs.Assembly.{assembled, client_entry, near_with, node_entry, state_of, with_links};
+
+use crate::draft::Draft;
+use crate::lane_table::LaneTable;
+use crate::node_table::NodeTable;
+use crate::parts::{ClientRow, LinkRow, NodeRow, Parts};
+use crate::session_table::SessionTable;
+use coord_node::{Node, NodeSet};
+use coord_types::{Client, NodeId, Session};
+use std::alloc::{AllocError, Global};
+
+impl Draft {
+    /// The world that has these rows.
+    pub fn assemble(alloc: Global, parts: &Parts) -> Result<Draft, AllocError>
+        requires { RowsFit (listed parts.now) }
+        ensures { IfOk result (λ draft. draft ≡ assembled (listed parts.now)) }
+    {
+        let nodes = nodes_of(alloc, &parts.nodes, &parts.links)?;
+        let mut lanes = LaneTable::new(alloc);
+        insert_links(&mut lanes, &parts.links)?;
+        let sessions = sessions_of(alloc, &parts.clients)?;
+        Ok(Draft {
+            count: parts.count,
+            nodes: NodeTable::from_sorted(nodes),
+            lanes,
+            sessions: SessionTable::from_sorted(sessions),
+        })
+    }
+}
+
+/// The nodes of the rows, with the neighbours that the links give them.
+fn nodes_of(
+    alloc: Global,
+    rows: &[NodeRow],
+    links: &[LinkRow],
+) -> Result<Vec<(NodeId, Node)>, AllocError>
+    ensures { IfOk result (λ nodes. nodes.items ≡ map (node_entry links.now) rows.now) }
+{
+    let mut nodes = Vec::with_capacity(alloc, rows.len())?;
+    for row in rows {
+        nodes.push((row.id, node_of(alloc, row, links)?))?;
+    }
+    Ok(nodes)
+}
+
+fn node_of(alloc: Global, row: &NodeRow, links: &[LinkRow]) -> Result<Node, AllocError>
+    ensures { IfOk result (λ node. node ≡ state_of links.now row.now) }
+{
+    let pend = row.pend.copy()?;
+    let neighbours = neighbours_of(alloc, row.id, links)?;
+    Ok(Node::restore(
+        alloc,
+        row.group,
+        row.mode,
+        row.parent,
+        pend,
+        neighbours,
+        row.epoch,
+        row.confirmed,
+    ))
+}
+
+/// The far ends of the links that a node is an end of.
+fn neighbours_of(alloc: Global, id: NodeId, links: &[LinkRow]) -> Result<NodeSet, AllocError>
+    ensures { IfOk result (λ near. near ≡ near_with id set.empty links.now) }
+{
+    let mut near = NodeSet::new(alloc);
+    for link in links {
+        if id == link.a {
+            near = near.with(link.b)?;
+        } else if id == link.b {
+            near = near.with(link.a)?;
+        }
+    }
+    Ok(near)
+}
+
+/// Puts the two lanes of each link into a table.
+fn insert_links(lanes: &mut LaneTable, links: &[LinkRow]) -> Result<(), AllocError>
+    ensures { OnOk result (lanes.new ≡ with_links lanes.old links.now) }
+{
+    for link in links {
+        lanes.insert(link.a, link.b, link.forth)?;
+        lanes.insert(link.b, link.a, link.back)?;
+    }
+    Ok(())
+}
+
+fn sessions_of(alloc: Global, rows: &[ClientRow]) -> Result<Vec<(Client, Session)>, AllocError>
+    ensures { IfOk result (λ sessions. sessions.items ≡ map client_entry rows.now) }
+{
+    rows.iter()
+        .map(|row| (row.client, row.session))
+        .collect(alloc)
+}
