@@ -57,7 +57,7 @@ fn a_read_gives_what_was_written(rt: HostRuntime) -> Result<(), Fail> {
 #[test]
 fn a_fuse_fails_each_call_from_one_on(rt: HostRuntime) -> Result<(), Fail> {
     let mut disk = FuseDisk::new(MemDisk::new(rt.alloc()), 2);
-    assert_eq!(rt; disk.write_at(0, &[1]), Ok(()));
+    disk.write_at(0, &[1])?;
     assert_eq!(rt; disk.len(), Ok(1));
     assert_eq!(rt; disk.write_at(0, &[2]), Err(DiskFault));
     assert_eq!(rt; disk.sync(), Err(DiskFault));
@@ -73,10 +73,10 @@ fn a_fuse_fails_each_call_from_one_on(rt: HostRuntime) -> Result<(), Fail> {
 #[test]
 fn a_blip_fails_one_call(rt: HostRuntime) -> Result<(), Fail> {
     let mut disk = BlipDisk::new(MemDisk::new(rt.alloc()), 1);
-    assert_eq!(rt; disk.write_at(0, &[1]), Ok(()));
+    disk.write_at(0, &[1])?;
     assert_eq!(rt; disk.write_at(0, &[2]), Err(DiskFault));
-    assert_eq!(rt; disk.write_at(1, &[3]), Ok(()));
-    assert_eq!(rt; disk.sync(), Ok(()));
+    disk.write_at(1, &[3])?;
+    disk.sync()?;
     assert_eq!(rt; disk.len(), Ok(2));
     assert_eq!(rt; disk.read(0, &mut []), Ok(()));
     assert_eq!(rt; disk.calls(), 6);

@@ -31,6 +31,28 @@ fn opened<D: Disk + Drop>(alloc: Global, disk: D) -> Result<(Journal<D>, Content
     }
 }
 
+// Why a disk in memory is no journal. Such a disk fails for want of memory alone, and that is an error here.
+fn refusal(alloc: Global, disk: MemDisk) -> Result<Option<JournalFault>, Fail> {
+    match opened(alloc, disk) {
+        Err(JournalFault::OutOfMemory) => Err(JournalFault::OutOfMemory)?,
+        Err(JournalFault::Device) => Err(JournalFault::Device)?,
+        answer => Ok(answer.err()),
+    }
+}
+
+// An answer over a disk that took so many calls and is to fail one of them, counted from 0. Before
+// that one only want of memory is a fault, and it is an error here.
+fn after_calls(
+    answer: Result<(), JournalFault>,
+    calls: u64,
+    fails: u64,
+) -> Result<Result<(), JournalFault>, Fail> {
+    if calls <= fails {
+        answer?;
+    }
+    Ok(answer)
+}
+
 // The device after the first append, with one byte changed.
 fn changed(alloc: Global, place: usize, byte: u8) -> Result<MemDisk, Fail> {
     let mut bytes = COMMITTED;
@@ -134,7 +156,7 @@ fn a_device_that_is_no_journal_is_refused(rt: HostRuntime) -> Result<(), Fail> {
         } else {
             JournalFault::BadRecord
         };
-        assert_eq!(rt; opened(alloc, disk).err(), Some(fault), "at {size}");
+        assert_eq!(rt; refusal(alloc, disk)?, Some(fault), "at {size}");
     }
     // Each byte of the name, and a size that is too small or too large.
     for (place, byte) in [
@@ -151,7 +173,7 @@ fn a_device_that_is_no_journal_is_refused(rt: HostRuntime) -> Result<(), Fail> {
     ] {
         let disk = changed(alloc, place, byte)?;
         assert_eq!(rt;
-            opened(alloc, disk).err(),
+            refusal(alloc, disk)?,
             Some(JournalFault::NoMagic),
             "at {place}"
         );
@@ -160,7 +182,7 @@ fn a_device_that_is_no_journal_is_refused(rt: HostRuntime) -> Result<(), Fail> {
     for (place, byte) in [(0, 1), (20, 0x41), (36, 0x21), (61, 1)] {
         let disk = changed(alloc, place, byte)?;
         assert_eq!(rt;
-            opened(alloc, disk).err(),
+            refusal(alloc, disk)?,
             Some(JournalFault::BadRecord),
             "at {place}"
         );

@@ -8,26 +8,44 @@ use std::io::{Read, Write};
 use std::process::Abort;
 use std::test::Fail;
 
-/// Runs a drill over a text in memory.
-fn assert_prints<R: AllocGlobal + Abort>(rt: &R, input: &str, expected: &str) {
+/// Runs a drill over a reader, which is to end so once it has printed these lines.
+///
+/// Where memory runs out, a first part of the lines is out, and the test fails for that alone.
+fn assert_ends<R: AllocGlobal + Abort, I: Read>(
+    rt: &R,
+    reader: &mut I,
+    expected: &str,
+    end: Result<(), Fault>,
+) -> Result<(), Fail> {
     let mut printed = Vec::new(rt.alloc());
-    let ended = coord_drill(rt.alloc(), &mut input.as_bytes(), &mut printed);
-    assert_eq!(rt; ended, Ok(()));
+    let ended = coord_drill(rt.alloc(), reader, &mut printed);
+    if ended == Err(Fault::OutOfMemory) {
+        assert!(rt; expected.as_bytes().starts_with(&printed));
+        assert!(rt; printed.is_empty() || printed.ends_with(b"\n"));
+        return Err(Fault::OutOfMemory)?;
+    }
+    assert_eq!(rt; ended, end);
     assert_eq!(rt; printed.as_slice(), expected.as_bytes());
+    Ok(())
+}
+
+/// Runs a drill over a text in memory, to its end.
+fn assert_prints<R: AllocGlobal + Abort>(rt: &R, input: &str, expected: &str) -> Result<(), Fail> {
+    assert_ends(rt, &mut input.as_bytes(), expected, Ok(()))
 }
 
 #[test]
-fn lone_reset(rt: HostRuntime) {
+fn lone_reset(rt: HostRuntime) -> Result<(), Fail> {
     let input = "add 1 1\n\
         reset 1\n";
     let expected = "done 1\n\
         finished 2\n\
         signal 1 1\n";
-    assert_prints(&rt, input, expected);
+    assert_prints(&rt, input, expected)
 }
 
 #[test]
-fn stored_run(rt: HostRuntime) {
+fn stored_run(rt: HostRuntime) -> Result<(), Fail> {
     let input = "add 1 1\n\
         add 2 1\n\
         join 1 2\n\
@@ -52,11 +70,11 @@ fn stored_run(rt: HostRuntime) {
         taken 8\n\
         receipt 1 2 2\n\
         signal 2 1\n";
-    assert_prints(&rt, input, expected);
+    assert_prints(&rt, input, expected)
 }
 
 #[test]
-fn repeated_and_early(rt: HostRuntime) {
+fn repeated_and_early(rt: HostRuntime) -> Result<(), Fail> {
     let input = "add 1 1\n\
         add 2 1\n\
         join 1 2\n\
@@ -74,11 +92,11 @@ fn repeated_and_early(rt: HostRuntime) {
         data 2 1 1 ack\n\
         no 16 Old\n\
         no 17 Early\n";
-    assert_prints(&rt, input, expected);
+    assert_prints(&rt, input, expected)
 }
 
 #[test]
-fn two_initiators(rt: HostRuntime) {
+fn two_initiators(rt: HostRuntime) -> Result<(), Fail> {
     let input = "add 1 1\n\
         add 2 1\n\
         join 1 2\n\
@@ -117,11 +135,11 @@ fn two_initiators(rt: HostRuntime) {
         data 1 2 3 ready\n\
         taken 13\n\
         receipt 1 2 3\n";
-    assert_prints(&rt, input, expected);
+    assert_prints(&rt, input, expected)
 }
 
 #[test]
-fn joined_reset(rt: HostRuntime) {
+fn joined_reset(rt: HostRuntime) -> Result<(), Fail> {
     let input = "add 1 1\n\
         add 2 1\n\
         join 1 2\n\
@@ -133,11 +151,11 @@ fn joined_reset(rt: HostRuntime) {
         started 4\n\
         data 1 2 1 abort\n\
         joined 5\n";
-    assert_prints(&rt, input, expected);
+    assert_prints(&rt, input, expected)
 }
 
 #[test]
-fn hostile_packets(rt: HostRuntime) {
+fn hostile_packets(rt: HostRuntime) -> Result<(), Fail> {
     let input = "add 1 1\n\
         add 2 1\n\
         join 1 2\n\
@@ -168,11 +186,11 @@ fn hostile_packets(rt: HostRuntime) {
         receipt 2 1 1\n\
         signal 1 1\n\
         data 1 2 2 ready\n";
-    assert_prints(&rt, input, expected);
+    assert_prints(&rt, input, expected)
 }
 
 #[test]
-fn resend_and_check(rt: HostRuntime) {
+fn resend_and_check(rt: HostRuntime) -> Result<(), Fail> {
     let input = "add 1 1\n\
         add 2 1\n\
         join 1 2\n\
@@ -192,11 +210,11 @@ fn resend_and_check(rt: HostRuntime) {
         receipt 1 2 1\n\
         data 2 1 1 ack\n\
         legal\n";
-    assert_prints(&rt, input, expected);
+    assert_prints(&rt, input, expected)
 }
 
 #[test]
-fn drop_in_abort(rt: HostRuntime) {
+fn drop_in_abort(rt: HostRuntime) -> Result<(), Fail> {
     let input = "add 1 1\n\
         add 2 1\n\
         add 3 1\n\
@@ -232,11 +250,11 @@ fn drop_in_abort(rt: HostRuntime) {
         taken 12\n\
         receipt 2 3 2\n\
         signal 3 1\n";
-    assert_prints(&rt, input, expected);
+    assert_prints(&rt, input, expected)
 }
 
 #[test]
-fn drop_in_converge(rt: HostRuntime) {
+fn drop_in_converge(rt: HostRuntime) -> Result<(), Fail> {
     let input = "add 1 1\n\
         add 2 1\n\
         add 3 1\n\
@@ -266,11 +284,11 @@ fn drop_in_converge(rt: HostRuntime) {
         done 10\n\
         signal 1 1\n\
         signal 2 1\n";
-    assert_prints(&rt, input, expected);
+    assert_prints(&rt, input, expected)
 }
 
 #[test]
-fn new_incarnation(rt: HostRuntime) {
+fn new_incarnation(rt: HostRuntime) -> Result<(), Fail> {
     let input = "add 1 1\n\
         add 2 1\n\
         join 1 2\n\
@@ -291,11 +309,11 @@ fn new_incarnation(rt: HostRuntime) {
         no 12 NoLink\n\
         no 17 Early\n\
         idle\n";
-    assert_prints(&rt, input, expected);
+    assert_prints(&rt, input, expected)
 }
 
 #[test]
-fn confirm(rt: HostRuntime) {
+fn confirm(rt: HostRuntime) -> Result<(), Fail> {
     let input = "add 1 1\n\
         reset 1\n\
         confirm 1 1\n\
@@ -307,11 +325,11 @@ fn confirm(rt: HostRuntime) {
         done 3\n\
         no 15 BadEpoch\n\
         no 15 BadEpoch\n";
-    assert_prints(&rt, input, expected);
+    assert_prints(&rt, input, expected)
 }
 
 #[test]
-fn sessions(rt: HostRuntime) {
+fn sessions(rt: HostRuntime) -> Result<(), Fail> {
     let input = "add 1 1\n\
         order 2 1 add 2 1\n\
         order 2 1 add 2 1\n\
@@ -336,11 +354,11 @@ fn sessions(rt: HostRuntime) {
         done 4\n\
         no 6 UnknownNode\n\
         legal\n";
-    assert_prints(&rt, input, expected);
+    assert_prints(&rt, input, expected)
 }
 
 #[test]
-fn a_repeat_in_a_reset_gives_out_nothing(rt: HostRuntime) {
+fn a_repeat_in_a_reset_gives_out_nothing(rt: HostRuntime) -> Result<(), Fail> {
     let input = "add 1 1\n\
         add 2 1\n\
         join 1 2\n\
@@ -358,47 +376,33 @@ fn a_repeat_in_a_reset_gives_out_nothing(rt: HostRuntime) {
         no 5 NumberReused\n\
         no 4 OutOfTurn\n\
         no 15 BadEpoch\n";
-    assert_prints(&rt, input, expected);
+    assert_prints(&rt, input, expected)
 }
 
 #[test]
-fn refusals(rt: HostRuntime) {
+fn a_node_takes_16_links(rt: HostRuntime) -> Result<(), Fail> {
+    let alloc = rt.alloc();
+    let mut input = String::new(alloc);
+    let mut expected = String::new(alloc);
+    for step in 1..=18u8 {
+        input.push_str(&format!(in alloc; "add {step} 1\n")?)?;
+        expected.push_str(&format!(in alloc; "done {step}\n")?)?;
+    }
+    for step in 19..=34u8 {
+        input.push_str(&format!(in alloc; "join 1 {}\n", step - 17)?)?;
+        expected.push_str(&format!(in alloc; "done {step}\n")?)?;
+    }
+    input.push_str("join 1 18\njoin 1 2\n")?;
+    expected.push_str("no 13 DegreeFull\nno 11 LinkExists\n")?;
+    assert_prints(&rt, &input, &expected)
+}
+
+#[test]
+fn refused_orders(rt: HostRuntime) -> Result<(), Fail> {
     let input = "add 1 1\n\
-        add 2 1\n\
-        add 3 1\n\
-        add 4 1\n\
         add 5 1\n\
-        add 6 1\n\
-        add 7 1\n\
-        add 8 1\n\
-        add 9 1\n\
-        add 10 1\n\
-        add 11 1\n\
-        add 12 1\n\
-        add 13 1\n\
-        add 14 1\n\
-        add 15 1\n\
-        add 16 1\n\
-        add 17 1\n\
-        add 18 1\n\
-        join 1 2\n\
-        join 1 3\n\
-        join 1 4\n\
         join 1 5\n\
-        join 1 6\n\
-        join 1 7\n\
-        join 1 8\n\
-        join 1 9\n\
-        join 1 10\n\
-        join 1 11\n\
-        join 1 12\n\
-        join 1 13\n\
-        join 1 14\n\
-        join 1 15\n\
-        join 1 16\n\
-        join 1 17\n\
-        join 1 18\n\
-        join 1 2\n\
+        join 5 1\n\
         join 5 5\n\
         add 64 16\n\
         join 5 64\n\
@@ -410,121 +414,92 @@ fn refusals(rt: HostRuntime) {
     let expected = "done 1\n\
         done 2\n\
         done 3\n\
-        done 4\n\
-        done 5\n\
-        done 6\n\
-        done 7\n\
-        done 8\n\
-        done 9\n\
-        done 10\n\
-        done 11\n\
-        done 12\n\
-        done 13\n\
-        done 14\n\
-        done 15\n\
-        done 16\n\
-        done 17\n\
-        done 18\n\
-        done 19\n\
-        done 20\n\
-        done 21\n\
-        done 22\n\
-        done 23\n\
-        done 24\n\
-        done 25\n\
-        done 26\n\
-        done 27\n\
-        done 28\n\
-        done 29\n\
-        done 30\n\
-        done 31\n\
-        done 32\n\
-        done 33\n\
-        done 34\n\
-        no 13 DegreeFull\n\
         no 11 LinkExists\n\
         no 9 SameNode\n\
-        done 35\n\
+        done 4\n\
         no 10 OtherGroup\n\
         no 6 UnknownNode\n\
         no 8 HasLinks\n\
         no 7 NodeExists\n\
-        done 36\n\
-        bad line 44\n";
-    assert_prints(&rt, input, expected);
+        done 5\n\
+        bad line 12\n";
+    assert_prints(&rt, input, expected)
 }
 
 #[test]
-fn empty_input(rt: HostRuntime) {
-    assert_prints(&rt, "", "");
+fn empty_input(rt: HostRuntime) -> Result<(), Fail> {
+    assert_prints(&rt, "", "")
 }
 
 #[test]
-fn skips_comments_and_empty_lines(rt: HostRuntime) {
+fn skips_comments_and_empty_lines(rt: HostRuntime) -> Result<(), Fail> {
     let input = "# a drill\n\n#\n  \nadd 1 1\n#add 2 1\nreset 1";
     let expected = "bad line 4\ndone 1\nfinished 2\nsignal 1 1\n";
-    assert_prints(&rt, input, expected);
+    assert_prints(&rt, input, expected)
 }
 
+/// Lines that ask for nothing.
+const BAD_LINES: [&str; 48] = [
+    "fly 1",
+    "add",
+    "add 1",
+    "add 1 1 ",
+    " add 1 1",
+    "add  1 1",
+    "add 1 1\r",
+    "add 1 1 1",
+    "add\t1 1",
+    "Add 1 1",
+    "add 0 1",
+    "add 65 1",
+    "add 1 0",
+    "add 1 17",
+    "add +1 1",
+    "add -1 1",
+    "add 1x 1",
+    "add 257 1",
+    "add 18446744073709551617 1",
+    "remove",
+    "remove 1 1",
+    "join 1",
+    "drop 1 65",
+    "reset 0",
+    "confirm 1",
+    "confirm 1 18446744073709551616",
+    "order 1 1",
+    "order 0 1 add 1 1",
+    "order 17 1 add 1 1",
+    "order 1 1 order 1 1 add 1 1",
+    "order 1 1 take 1 2",
+    "take 1",
+    "take 1 2 3",
+    "clear 65 1",
+    "data 1 2 3 1",
+    "data 1 2 3 1 Abort",
+    "data 1 2 3 1 abort 0",
+    "receipt 1 2 3",
+    "receipt 1 2 3 1 1",
+    "resend ",
+    "resend 1",
+    "hold",
+    "flush",
+    "crash",
+    "show",
+    "check 1",
+    "version 1",
+    "add 1 \u{e9}",
+];
+
 #[test]
-fn refuses_bad_lines(rt: HostRuntime) {
-    let lines = [
-        "fly 1",
-        "add",
-        "add 1",
-        "add 1 1 ",
-        " add 1 1",
-        "add  1 1",
-        "add 1 1\r",
-        "add 1 1 1",
-        "add\t1 1",
-        "Add 1 1",
-        "add 0 1",
-        "add 65 1",
-        "add 1 0",
-        "add 1 17",
-        "add +1 1",
-        "add -1 1",
-        "add 1x 1",
-        "add 257 1",
-        "add 18446744073709551617 1",
-        "remove",
-        "remove 1 1",
-        "join 1",
-        "drop 1 65",
-        "reset 0",
-        "confirm 1",
-        "confirm 1 18446744073709551616",
-        "order 1 1",
-        "order 0 1 add 1 1",
-        "order 17 1 add 1 1",
-        "order 1 1 order 1 1 add 1 1",
-        "order 1 1 take 1 2",
-        "take 1",
-        "take 1 2 3",
-        "clear 65 1",
-        "data 1 2 3 1",
-        "data 1 2 3 1 Abort",
-        "data 1 2 3 1 abort 0",
-        "receipt 1 2 3",
-        "receipt 1 2 3 1 1",
-        "resend ",
-        "resend 1",
-        "hold",
-        "flush",
-        "crash",
-        "show",
-        "check 1",
-        "version 1",
-        "add 1 \u{e9}",
-    ];
-    for line in lines {
-        assert_prints(&rt, line, "bad line 1\n");
+fn refuses_bad_lines(rt: HostRuntime) -> Result<(), Fail> {
+    for line in BAD_LINES {
+        assert_prints(&rt, line, "bad line 1\n")?;
     }
+    Ok(())
 }
 
 #[test]
-fn takes_numbers_as_they_come(rt: HostRuntime) {
+fn takes_numbers_as_they_come(rt: HostRuntime) -> Result<(), Fail> {
     let input = "add 007 0000000000000000000000001\n\
         confirm 7 0\n\
         confirm 7 18446744073709551615\n\
@@ -541,7 +516,7 @@ fn takes_numbers_as_they_come(rt: HostRuntime) {
         no 12 NoLink\n\
         no 12 NoLink\n\
         no 12 NoLink\n";
-    assert_prints(&rt, input, expected);
+    assert_prints(&rt, input, expected)
 }
 
 /// A line of at most 512 bytes is read, and a longer one is bad, be it a comment or not.
@@ -562,21 +537,15 @@ fn keeps_the_limit_of_a_line(rt: HostRuntime) -> Result<(), Fail> {
         }
         input.extend_from_slice(b"1 1\n")?;
     }
-    let mut printed = Vec::new(rt.alloc());
-    let ended = coord_drill(rt.alloc(), &mut input.as_slice(), &mut printed);
-    assert_eq!(rt; ended, Ok(()));
     let expected = "bad line 2\nbad line 3\ndone 1\nbad line 5\n";
-    assert_eq!(rt; printed.as_slice(), expected.as_bytes());
-    Ok(())
+    assert_ends(&rt, &mut input.as_slice(), expected, Ok(()))
 }
 
 #[test]
-fn refuses_what_is_no_text(rt: HostRuntime) {
-    let mut printed = Vec::new(rt.alloc());
+fn refuses_what_is_no_text(rt: HostRuntime) -> Result<(), Fail> {
     let input = [0xff, b'\n', b'#', 0xff, b'\n', b'\n', 0xff];
-    let ended = coord_drill(rt.alloc(), &mut input.as_slice(), &mut printed);
-    assert_eq!(rt; ended, Ok(()));
-    assert_eq!(rt; printed.as_slice(), b"bad line 1\nbad line 4\n".as_slice());
+    let expected = "bad line 1\nbad line 4\n";
+    assert_ends(&rt, &mut input.as_slice(), expected, Ok(()))
 }
 
 /// Gives its bytes one by one, and counts the reads.
@@ -602,17 +571,15 @@ impl Read for OneByOne<'_> {
 }
 
 #[test]
-fn reads_in_pieces(rt: HostRuntime) {
+fn reads_in_pieces(rt: HostRuntime) -> Result<(), Fail> {
     let mut reader = OneByOne {
         left: b"add 1 1\nreset 1\nadd 2",
         reads: 0,
     };
-    let mut printed = Vec::new(rt.alloc());
-    let ended = coord_drill(rt.alloc(), &mut reader, &mut printed);
-    assert_eq!(rt; ended, Ok(()));
     let expected = "done 1\nfinished 2\nsignal 1 1\nbad line 3\n";
-    assert_eq!(rt; printed.as_slice(), expected.as_bytes());
+    assert_ends(&rt, &mut reader, expected, Ok(()))?;
     assert_eq!(rt; reader.reads, 22);
+    Ok(())
 }
 
 /// Gives a byte at each read, and never ends.
@@ -635,17 +602,15 @@ impl Read for Endless {
 }
 
 #[test]
-fn gives_up_on_an_endless_input(rt: HostRuntime) {
+fn gives_up_on_an_endless_input(rt: HostRuntime) -> Result<(), Fail> {
     let mut reader = Endless {
         reads: 0,
         longest: 0,
     };
-    let mut printed = Vec::new(rt.alloc());
-    let ended = coord_drill(rt.alloc(), &mut reader, &mut printed);
-    assert_eq!(rt; ended, Err(Fault::Turns));
+    assert_ends(&rt, &mut reader, "", Err(Fault::Turns))?;
     assert_eq!(rt; reader.reads, 1_048_576);
     assert_eq!(rt; reader.longest, 512);
-    assert_eq!(rt; printed.len(), 0);
+    Ok(())
 }
 
 /// Gives a line, and fails at the next read.
@@ -666,11 +631,9 @@ impl Read for Broken {
 }
 
 #[test]
-fn ends_with_a_failed_read(rt: HostRuntime) {
-    let mut printed = Vec::new(rt.alloc());
-    let ended = coord_drill(rt.alloc(), &mut Broken { reads: 0 }, &mut printed);
-    assert_eq!(rt; ended, Err(Fault::Read));
-    assert_eq!(rt; printed.as_slice(), b"done 1\n".as_slice());
+fn ends_with_a_failed_read(rt: HostRuntime) -> Result<(), Fail> {
+    let mut reader = Broken { reads: 0 };
+    assert_ends(&rt, &mut reader, "done 1\n", Err(Fault::Read))
 }
 
 /// Has room for seven bytes.
@@ -695,14 +658,18 @@ impl Write for Full {
 }
 
 #[test]
-fn ends_with_a_failed_write(rt: HostRuntime) {
+fn ends_with_a_failed_write(rt: HostRuntime) -> Result<(), Fail> {
     let mut writer = Full { taken: 0 };
     let mut input = b"add 1 1\nadd 2 1\n".as_slice();
-    assert_eq!(rt;
-        coord_drill(rt.alloc(), &mut input, &mut writer),
-        Err(Fault::Write)
-    );
+    let ended = coord_drill(rt.alloc(), &mut input, &mut writer);
+    if ended == Err(Fault::OutOfMemory) {
+        // Whole lines are out, if any.
+        assert!(rt; writer.taken == 0 || writer.taken == 7);
+        return Err(Fault::OutOfMemory)?;
+    }
+    assert_eq!(rt; ended, Err(Fault::Write));
     assert_eq!(rt; writer.taken, 7);
+    Ok(())
 }
 
 #[test]
@@ -723,7 +690,11 @@ fn reads_words(rt: HostRuntime) -> Result<(), Fail> {
         for word in line.split(' ') {
             words.push(String::from_str(rt.alloc(), word)?)?;
         }
-        assert_eq!(rt; read(rt.alloc(), words.as_slice()), task, "{line}");
+        let asked = read(rt.alloc(), words.as_slice());
+        if asked == Err(Fault::OutOfMemory) {
+            return Err(Fault::OutOfMemory)?;
+        }
+        assert_eq!(rt; asked, task, "{line}");
     }
     Ok(())
 }

@@ -49,13 +49,16 @@ fn a_crash_leaves_the_batch_or_not(rt: HostRuntime) -> Result<(), Fail> {
         for (which, want) in row.iter().enumerate() {
             let disk = FuseDisk::new(formatted(alloc, which)?, calls);
             let (mut journal, _contents) = opened(alloc, disk)?;
-            let answer = if passed == 4 {
+            let answer = journal.append(&BODY);
+            let disk = journal.into_disk();
+            let answer = after_calls(answer, disk.calls(), calls)?;
+            let ended = if passed == 4 {
                 Ok(())
             } else {
                 Err(JournalFault::Device)
             };
-            assert_eq!(rt; journal.append(&BODY), answer, "{passed} passed");
-            let left = batches_after(alloc, journal.into_disk().into_inner())?;
+            assert_eq!(rt; answer, ended, "{passed} passed");
+            let left = batches_after(alloc, disk.into_inner())?;
             assert_eq!(rt; left, *want, "{passed} passed, choice {which}");
         }
     }
@@ -71,9 +74,16 @@ fn a_call_that_fails_once_stops_the_journal(rt: HostRuntime) -> Result<(), Fail>
         for (which, want) in row.iter().enumerate() {
             let disk = BlipDisk::new(formatted(alloc, which)?, call);
             let (mut journal, _contents) = opened(alloc, disk)?;
-            assert_eq!(rt; journal.append(&BODY), Err(JournalFault::Device));
-            assert_eq!(rt; journal.append(&BODY), Err(JournalFault::Stopped));
+            let answer = journal.append(&BODY);
+            if answer == Err(JournalFault::OutOfMemory) {
+                // It took no call of the disk, and the journal goes on.
+                answer?;
+            }
+            let stopped = journal.append(&BODY);
             let disk = journal.into_disk();
+            let answer = after_calls(answer, disk.calls(), call)?;
+            assert_eq!(rt; answer, Err(JournalFault::Device));
+            assert_eq!(rt; stopped, Err(JournalFault::Stopped));
             assert_eq!(rt; disk.calls(), call.saturating_add(1));
             let left = batches_after(alloc, disk.into_inner())?;
             assert_eq!(rt; left, *want, "call {failed}, choice {which}");

@@ -9,13 +9,20 @@ fn each_call_of_an_opening_may_fail(rt: HostRuntime) -> Result<(), Fail> {
         match open(alloc, disk) {
             Ok(_) => panic!(rt; "opened though call {call} failed"),
             Err((fault, disk)) => {
-                assert_eq!(rt; fault, JournalFault::Device);
+                let answer = after_calls(Err(fault), disk.calls(), call)?;
+                assert_eq!(rt; answer, Err(JournalFault::Device));
                 let (_journal, contents) = opened(alloc, disk)?;
                 assert_eq!(rt; contents.batches.len(), 1);
             }
         }
         let disk = FuseDisk::new(MemDisk::from_bytes(alloc, &COMMITTED)?, call);
-        assert_eq!(rt; opened(alloc, disk).err(), Some(JournalFault::Device));
+        match open(alloc, disk) {
+            Ok(_) => panic!(rt; "opened though call {call} failed"),
+            Err((fault, disk)) => {
+                let answer = after_calls(Err(fault), disk.calls(), call)?;
+                assert_eq!(rt; answer, Err(JournalFault::Device));
+            }
+        }
     }
     Ok(())
 }
@@ -27,9 +34,11 @@ fn each_call_of_a_format_may_fail(rt: HostRuntime) -> Result<(), Fail> {
     for call in 0..3 {
         let mut blip = BlipDisk::new(MemDisk::new(alloc), call);
         let refused = format(alloc, &mut blip, 32_768, 1, &[]);
+        let refused = after_calls(refused, blip.calls(), call)?;
         assert_eq!(rt; refused, Err(JournalFault::Device), "call {call}");
         let mut fuse = FuseDisk::new(MemDisk::new(alloc), call);
         let refused = format(alloc, &mut fuse, 32_768, 1, &[]);
+        let refused = after_calls(refused, fuse.calls(), call)?;
         assert_eq!(rt; refused, Err(JournalFault::Device), "call {call}");
     }
     Ok(())
