@@ -1,0 +1,43 @@
+-- What spells a world is read as that world.
+use Rattle.std.proofs.Common.{◌≡◌, ℕ, List, Result, Ok, Err, ap}
+use Rattle.std.specs.Prelude.{IfOk}
+use Rattle.coord_world.specs.NumberedWorld.{World}
+use Rattle.coord_world.specs.Parts.{rows_of}
+use Rattle.coord_world.specs.Ranges.{InRange}
+use Rattle.coord_world.proofs.Fitting.{rows_of_world_fit}
+use Rattle.coord_world.proofs.OneWorld.{rows_give_world}
+use Rattle.coord_codec.specs.declared.fault.CodecFault.{CodecFault}
+use Rattle.coord_codec.specs.declared.fault.FaultKind.{FaultKind}
+use Rattle.coord_codec.specs.declared.fault.FaultKind.TheVariants.{OutOfMemory, Short, BadByte, Extra, BadVersion}
+use Rattle.coord_codec.specs.Decoding.{Answers, Unless, decoded}
+use Rattle.coord_codec.specs.Worlds.{world}
+use Rattle.coord_codec.proofs.Decoded.{answers_found, answers_only}
+use Rattle.coord_codec.proofs.Grammars.{IsBytes}
+use Rattle.coord_codec.proofs.WorldGrammars.{world_grammar}
+use Rattle.coord_codec.proofs.WorldRows.{rows_fit}
+
+-- what is read is spelled so
+pub world_found : (version : ℕ) (bytes : List ℕ) (result : Result World CodecFault) → IsBytes bytes → Answers rows_of result (decoded world version bytes) → IfOk result (λ v. (version ≡ 1) × (bytes ≡ world.text (rows_of v)))
+world_found version bytes result fits answers = of_result result (answers_found world world_grammar version rows_of bytes result fits answers)
+  where
+    of_result : (r : Result World CodecFault) → IfOk r (λ v. (version ≡ 1) × world.Fits (rows_of v) × (bytes ≡ world.text (rows_of v))) → IfOk r (λ v. (version ≡ 1) × (bytes ≡ world.text (rows_of v)))
+    of_result (Ok v) found = (found.0, found.2)
+    of_result (Err e) found = tt
+
+-- what is said of every fault but want of memory, in other words
+weaker : (k : FaultKind) (P Q : Type 0) → (P → Q) → Unless k P → Unless k Q
+weaker OutOfMemory P Q to said = tt
+weaker Short P Q to said = to said
+weaker BadByte P Q to said = to said
+weaker Extra P Q to said = to said
+weaker BadVersion P Q to said = to said
+
+-- an answer with these rows is this world
+same_world : (w : World) (result : Result World CodecFault) → InRange w → IfOk result InRange → Answers rows_of result (Ok (rows_of w)) → Answers (λ v. v) result (Ok w)
+same_world w (Ok v) range ranges answers = let rows : rows_of w ≡ rows_of v = cc in ap Ok (rows_give_world w v range ranges rows)
+same_world w (Err e) range ranges answers = weaker e.kind _ _ (λ is. absurd cc) answers
+
+-- what spells a world is read as that world, unless memory runs out
+pub world_only : (version : ℕ) (bytes : List ℕ) (result : Result World CodecFault) (w : World) → IfOk result InRange → version ≡ 1 → InRange w → bytes ≡ world.text (rows_of w) → Answers rows_of result (decoded world version bytes) → Answers (λ v. v) result (Ok w)
+world_only version bytes result w ranges known range spelled answers =
+    same_world w result range ranges (answers_only world world_grammar version rows_of bytes result (rows_of w) known (rows_fit (rows_of w) (rows_of_world_fit w range)) spelled answers)

@@ -1,0 +1,473 @@
+-- Which rows the world's format can spell: those that fit together.
+use Rattle.std.proofs.Common.{◌≡◌, ℕ, zero, suc, ◌+◌, ◌<◌, ◌≤◌, ◌^◌, true, false, ltb, eqb, List, [], ◌∷◌, ◌++◌, Option, Some, None, length, cond, refl, sym, ap, subst, ◌∙◌, arith, append_assoc, append-nil}
+use Rattle.std.specs.Ordering.{eq_by_cmp, is_lt, nat_cmp}
+use Rattle.std.specs.Cmp.{nat_cmp_total}
+use Rattle.std.specs.List.{AllByRecursion}
+use Rattle.std.specs.FinMap.Entries.{below_all, find}
+use Rattle.std.proofs.lemmas.Bool.Decides.{nat_tests}
+use Rattle.coord_types.specs.NodeSet.{NodeSet}
+use Rattle.coord_types.specs.NodeMask.{IsMaskable, mask_of}
+use Rattle.coord_types.specs.declared.messages.Mode.{Mode}
+use Rattle.coord_types.specs.declared.messages.Mode.TheVariants as modes
+use Rattle.coord_types.specs.declared.messages.Msg.{Msg}
+use Rattle.coord_types.specs.declared.steps.Command.{Command}
+use Rattle.coord_types.specs.declared.steps.Command.TheVariants.{Add, Remove, Join, Drop, Reset, Confirm}
+use Rattle.coord_types.specs.declared.steps.Kind.{Kind}
+use Rattle.coord_types.specs.declared.steps.Kind.TheVariants as kinds
+use Rattle.coord_types.proofs.Masks.{maskable_nodes, mask_below, nodes_back}
+use Rattle.coord_link.specs.LaneMachine.{Lane}
+use Rattle.coord_world.specs.NumberedWorld.{pair_cmp, pair_cmp_total}
+use Rattle.coord_world.specs.Ranges.{IsNode, LaneInRange, SessionInRange, answers}
+use Rattle.coord_world.specs.Parts.{LinkRowFits, NodeRowFits, Rows, RowsFit, by_client, by_ends, by_id, degree, group_in, group_of, is_end}
+use Rattle.coord_world.specs.declared.parts.NodeRow.{NodeRow}
+use Rattle.coord_world.specs.declared.parts.LinkRow.{LinkRow}
+use Rattle.coord_world.specs.declared.parts.ClientRow.{ClientRow}
+use Rattle.coord_codec.specs.Fields.{message}
+use Rattle.coord_codec.specs.Format.{FitBehind}
+use Rattle.coord_codec.specs.Worlds.{at_most, client_row, clients, ends, from_one_to, how_many, kind, lane, last_by, last_ends, link_row, links, mask, mode, node_row, nodes, parent, queue, same_group, world}
+use Rattle.coord_codec.proofs.Batched.{client_fits, client_in_range, command_fits, command_in_range, group_fits, group_in_range, message_fits, node_fits, node_in_range}
+use Rattle.coord_codec.proofs.Rising.{RiseFrom, above_zero, both, few_keys, last_push, rise_of_sorted, sorted_of_rise}
+
+-- ---- fields
+
+within : (most n : ℕ) → (at_most most).Fits n → n ≤ most
+unfolding at_most
+within most n fits = grind (arith, nat_tests, fits.1)
+
+fit_within : (most n : ℕ) → most < 2 ^ 64 → n ≤ most → (at_most most).Fits n
+unfolding at_most
+fit_within most n small few = (omega (arith, small, few), grind (arith, nat_tests, few))
+
+counted_on : (most n : ℕ) → (from_one_to most).Fits n → (1 ≤ n) × (n ≤ most)
+unfolding from_one_to
+counted_on most n fits = (grind (arith, nat_tests, fits.1), grind (arith, nat_tests, fits.1))
+
+fit_counted : (most n : ℕ) → most < 2 ^ 64 → 1 ≤ n → n ≤ most → (from_one_to most).Fits n
+unfolding from_one_to
+fit_counted most n small least few = (omega (arith, small, few), grind (arith, nat_tests, least, few))
+
+no_more : (most n : ℕ) → (how_many most).Fits n → n ≤ most
+unfolding how_many
+no_more most n fits = grind (arith, nat_tests, fits.1)
+
+fit_many : (most n : ℕ) → most < 256 → n ≤ most → (how_many most).Fits n
+unfolding how_many
+fit_many most n small few = (omega (arith, small, few), grind (arith, nat_tests, few))
+
+mode_fits : (m : Mode) → mode.Fits m
+unfolding mode
+mode_fits modes.Ready = (0, (omega arith, refl), refl)
+mode_fits modes.Abort = (1, (omega arith, refl), refl)
+mode_fits modes.Converge = (2, (omega arith, refl), refl)
+
+parent_in_range : (o : Option ℕ) → parent.Fits o → (p : ℕ) → o ≡ Some p → IsNode p
+unfolding parent
+parent_in_range o (zero, range, is) p some = let none = sym is ∙ some in cc
+parent_in_range o (suc n, range, is) p some =
+    let same : suc n ≡ p = let both_are = sym is ∙ some in cc in
+    (omega (arith, same), grind (arith, nat_tests, range.1, same))
+
+parent_fits : (o : Option ℕ) → ((p : ℕ) → o ≡ Some p → IsNode p) → parent.Fits o
+unfolding parent
+parent_fits None each = (0, (omega arith, refl), refl)
+parent_fits (Some zero) each = absurd (omega (arith, (each 0 refl).0))
+parent_fits (Some (suc n)) each = let range = each (suc n) refl in (suc n, (omega (arith, range.1), grind (arith, nat_tests, range.1)), refl)
+
+mask_in_range : (s : NodeSet) → mask.Fits s → IsMaskable s
+unfolding mask
+mask_in_range s fits = subst IsMaskable (sym fits.2) (maskable_nodes fits.0)
+
+mask_fits : (s : NodeSet) → IsMaskable s → mask.Fits s
+unfolding mask
+mask_fits s range = (mask_of s, mask_below s, sym (nodes_back s range))
+
+kind_in_range : (x : Command) (k : Kind) → (kind x).Fits k → answers x k ≡ true
+unfolding kind
+kind_in_range x k fits = fits.1
+
+-- ---- nodes
+
+abbrev node_key : NodeRow → ℕ
+node_key r = r.id
+
+module _ (count : ℕ) where
+  node_row_in : (front : List NodeRow) (r : NodeRow) → (node_row count front).Fits r → NodeRowFits count r × (is_lt (nat_cmp (last_by node_key 0 front) r.id) ≡ true)
+  unfolding node_row
+  node_row_in front r fits =
+      let p = fits.0 in
+      let f = fits.1 in
+      subst (λ s. NodeRowFits count s × (is_lt (nat_cmp (last_by node_key 0 front) s.id) ≡ true)) (sym fits.2) (
+        record {
+          least = (node_in_range p.0 f.0.0).0;
+          greatest = (node_in_range p.0 f.0.0).1;
+          group_least = (group_in_range p.1.0 f.1.0).0;
+          group_greatest = (group_in_range p.1.0 f.1.0).1;
+          parent = parent_in_range p.1.1.1.0 f.1.1.1.0;
+          pend = mask_in_range p.1.1.1.1.0 f.1.1.1.1.0;
+          epoch = within count p.1.1.1.1.1.0 f.1.1.1.1.1.0;
+          confirmed = within count p.1.1.1.1.1.1 f.1.1.1.1.1.1;
+        },
+        grind (arith, nat_tests, f.0.1),
+      )
+
+  node_row_fits : count < 2 ^ 64 → (front : List NodeRow) (r : NodeRow) → NodeRowFits count r → is_lt (nat_cmp (last_by node_key 0 front) r.id) ≡ true → (node_row count front).Fits r
+  unfolding node_row
+  node_row_fits small front r range above = (
+    (r.id, (r.group, (r.mode, (r.parent, (r.pend, (r.epoch, r.confirmed)))))),
+    (
+      (node_fits r.id (range.least, range.greatest), grind (arith, nat_tests, above)),
+      (group_fits r.group range.group_least range.group_greatest, (mode_fits r.mode, (parent_fits r.parent range.parent, (mask_fits r.pend range.pend, (fit_within count r.epoch small range.epoch, fit_within count r.confirmed small range.confirmed))))),
+    ),
+    refl,
+  )
+
+  nodes_in : (front rs : List NodeRow) → FitBehind (node_row count) front rs → AllByRecursion (NodeRowFits count) rs × RiseFrom node_key nat_cmp_total (last_by node_key 0 front) rs
+  unfolding FitBehind
+  nodes_in front [] fits = (tt, tt)
+  nodes_in front (r ∷ rs) fits =
+      let one = node_row_in front r fits.0 in
+      let rest = nodes_in (front ++ r ∷ []) rs fits.1 in
+      ((one.0, rest.0), (one.1, subst (λ last. RiseFrom node_key nat_cmp_total last rs) (last_push node_key 0 front r) rest.1))
+
+  nodes_fit : count < 2 ^ 64 → (front rs : List NodeRow) → AllByRecursion (NodeRowFits count) rs → RiseFrom node_key nat_cmp_total (last_by node_key 0 front) rs → FitBehind (node_row count) front rs
+  unfolding FitBehind
+  nodes_fit small front [] all rise = tt
+  nodes_fit small front (r ∷ rs) all rise = (
+    node_row_fits small front r all.0 rise.0,
+    nodes_fit small (front ++ r ∷ []) rs all.1 (subst (λ last. RiseFrom node_key nat_cmp_total last rs) (sym (last_push node_key 0 front r)) rise.1),
+  )
+
+-- ---- degrees
+
+degree-push : (u : ℕ) (front : List LinkRow) (r : LinkRow) → degree u (front ++ r ∷ []) ≡ cond (is_end u r) (degree u front + 1) (degree u front)
+degree-push u [] r = grind (arith, nat_tests)
+degree-push u (f ∷ fs) r = grind (arith, nat_tests, degree-push u fs r)
+
+degree-append : (u : ℕ) (front rs : List LinkRow) → degree u (front ++ rs) ≡ degree u front + degree u rs
+degree-append u [] rs = omega arith
+degree-append u (f ∷ fs) rs = grind (arith, nat_tests, degree-append u fs rs)
+
+-- ---- links
+
+abbrev link_key : LinkRow → ℕ × ℕ
+link_key r = (r.a, r.b)
+
+one_group : (p q : Option ℕ) → same_group p q ≡ true → (g : ℕ) × (p ≡ Some g) × (q ≡ Some g)
+one_group None q is = cc
+one_group (Some g) None is = cc
+one_group (Some g) (Some h) is = (g, refl, grind (arith, nat_tests))
+
+in_one_group : (p q : Option ℕ) (g : ℕ) → p ≡ Some g → q ≡ Some g → same_group p q ≡ true
+in_one_group p q g first second = (λ i. same_group (first i) (second i)) ∙ grind (arith, nat_tests)
+
+-- what a link's row says of its ends
+record Linked (listed : List NodeRow) (front : List LinkRow) (a b : ℕ) : Type 0 where
+  pub first : IsNode a
+  pub second : IsNode b
+  pub turned : a < b
+  pub rises : is_lt (pair_cmp (last_ends front) (a, b)) ≡ true
+  pub group : (g : ℕ) × (group_of listed a ≡ Some g) × (group_of listed b ≡ Some g)
+  pub first_room : degree a front < 16
+  pub second_room : degree b front < 16
+
+ends_in : (listed : List NodeRow) (front : List LinkRow) (a b : ℕ) → (ends listed front).Fits (a, b) → Linked listed front a b
+unfolding ends
+ends_in listed front a b fits =
+    let room = both (same_group (group_of listed a) (group_of listed b)) _ fits.1 in
+    let rooms = both (ltb (degree a front) 16) (ltb (degree b front) 16) room.1 in
+    record {
+      first = node_in_range a fits.0.0.0;
+      second = node_in_range b fits.0.1.0;
+      turned = grind (arith, nat_tests, fits.0.1.1);
+      rises = grind (arith, nat_tests, fits.0.0.1, fits.0.1.1);
+      group = one_group (group_of listed a) (group_of listed b) room.0;
+      first_room = grind (arith, nat_tests, rooms.0);
+      second_room = grind (arith, nat_tests, rooms.1);
+    }
+
+ends_fit : (listed : List NodeRow) (front : List LinkRow) (a b : ℕ) → Linked listed front a b → (ends listed front).Fits (a, b)
+unfolding ends
+ends_fit listed front a b linked =
+    let groups = in_one_group (group_of listed a) (group_of listed b) linked.group.0 linked.group.1 linked.group.2 in (
+      ((node_fits a linked.first, grind (arith, nat_tests, linked.rises)), (node_fits b linked.second, grind (arith, nat_tests, linked.rises, linked.turned))),
+      grind (arith, nat_tests, groups, linked.first_room, linked.second_room),
+    )
+
+-- a node that has a group is listed
+listed_node : (count : ℕ) (listed : List NodeRow) (u g : ℕ) → AllByRecursion (NodeRowFits count) listed → group_of listed u ≡ Some g → IsNode u
+listed_node count [] u g all is = cc
+listed_node count (r ∷ rs) u g all is = elim (eqb u r.id) as (λ t. eqb u r.id ≡ t → IsNode u) [
+  | true ↦ λ t. let same : u ≡ r.id = grind (arith, nat_tests) in subst IsNode (sym same) (all.0.least, all.0.greatest)
+  | false ↦ λ t. listed_node count rs u g all.1 (let other : eq_by_cmp nat_cmp u r.id ≡ false = grind (arith, nat_tests) in ap (λ b. group_in (cond b (Some r) (find nat_cmp u (by_id rs)))) (sym other) ∙ is)
+] refl
+
+queue_in : (ms : List Msg) → queue.Fits ms → length ms ≤ 4
+unfolding queue
+queue_in ms fits = no_more 4 (length ms) fits.0
+
+each_message : (front ms : List Msg) → FitBehind (λ _. message) front ms
+unfolding FitBehind
+each_message front [] = tt
+each_message front (m ∷ ms) = (message_fits m, each_message (front ++ m ∷ []) ms)
+
+queue_fits : (ms : List Msg) → length ms ≤ 4 → queue.Fits ms
+unfolding queue
+queue_fits ms few = (fit_many 4 (length ms) (omega arith) few, each_message [] ms)
+
+module _ (count : ℕ) (listed : List NodeRow) where
+  -- what a link's row says, and what it says of those before it
+  record LinkedRow (front : List LinkRow) (r : LinkRow) : Type 0 where
+    pub range : LinkRowFits count listed r
+    pub rises : is_lt (pair_cmp (last_ends front) (r.a, r.b)) ≡ true
+    pub first_room : degree r.a front < 16
+    pub second_room : degree r.b front < 16
+
+  lane_in : (inc base got : ℕ) (ms : List Msg) → (1 ≤ inc) × (inc ≤ count) → (lane count).Fits (base, (got, ms)) → LaneInRange count (record { inc = inc; base = base; got = got; queue = ms }) × (length ms ≤ 4)
+  unfolding lane
+  lane_in inc base got ms made fits = (record { made = made.0; inc = made.1; base = within count base fits.0; got = within count got fits.1.0 }, queue_in ms fits.1.1)
+
+  link_row_in : (front : List LinkRow) (r : LinkRow) → (link_row count listed front).Fits r → LinkedRow front r
+  unfolding link_row
+  link_row_in front r fits =
+      let p = fits.0 in
+      let f = fits.1 in
+      let linked = ends_in listed front p.0.0 p.0.1 f.0 in
+      let made = counted_on count p.1.0 f.1.0 in
+      let forth = lane_in p.1.0 p.1.1.0.0 p.1.1.0.1.0 p.1.1.0.1.1 made f.1.1.0 in
+      let back = lane_in p.1.0 p.1.1.1.0 p.1.1.1.1.0 p.1.1.1.1.1 made f.1.1.1 in
+      subst (LinkedRow front) (sym fits.2) (record {
+        range = record {
+          turned = linked.turned;
+          ends = record { group = linked.group.0; first = linked.group.1; second = linked.group.2 };
+          forth = forth.0;
+          back = back.0;
+          forth_short = forth.1;
+          back_short = back.1;
+          one_incarnation = refl;
+        };
+        rises = linked.rises;
+        first_room = linked.first_room;
+        second_room = linked.second_room;
+      })
+
+  module _ (small : count < 2 ^ 64) (all : AllByRecursion (NodeRowFits count) listed) where
+    lane_fits : (l : Lane) → LaneInRange count l → length l.queue ≤ 4 → (lane count).Fits (l.base, (l.got, l.queue))
+    unfolding lane
+    lane_fits l range few = (fit_within count l.base small range.base, (fit_within count l.got small range.got, queue_fits l.queue few))
+
+    link_row_fits : (front : List LinkRow) (r : LinkRow) → LinkedRow front r → (link_row count listed front).Fits r
+    unfolding link_row
+    link_row_fits front r row =
+        let range = row.range in
+        let ends = range.ends in (
+          ((r.a, r.b), (r.forth.inc, ((r.forth.base, (r.forth.got, r.forth.queue)), (r.back.base, (r.back.got, r.back.queue))))),
+          (
+            ends_fit listed front r.a r.b (record {
+              first = listed_node count listed r.a ends.group all ends.first;
+              second = listed_node count listed r.b ends.group all ends.second;
+              turned = range.turned;
+              rises = row.rises;
+              group = (ends.group, ends.first, ends.second);
+              first_room = row.first_room;
+              second_room = row.second_room;
+            }),
+            (fit_counted count r.forth.inc small range.forth.made range.forth.inc, (lane_fits r.forth range.forth range.forth_short, lane_fits r.back range.back range.back_short)),
+          ),
+          (λ i. record { a = r.a; b = r.b; forth = r.forth; back = record { inc = sym range.one_incarnation i; base = r.back.base; got = r.back.got; queue = r.back.queue } }),
+        )
+
+  -- a node of the last link has room for one more
+  room_more : (front : List LinkRow) (r : LinkRow) → LinkedRow front r → ((u : ℕ) → degree u front ≤ 16) → (u : ℕ) → degree u (front ++ r ∷ []) ≤ 16
+  room_more front r row few u =
+      let at_first : eqb u r.a ≡ true → degree u front < 16 = λ t. let same : u ≡ r.a = grind (arith, nat_tests) in subst (λ z. degree z front < 16) (sym same) row.first_room in
+      let at_second : eqb u r.b ≡ true → degree u front < 16 = λ t. let same : u ≡ r.b = grind (arith, nat_tests) in subst (λ z. degree z front < 16) (sym same) row.second_room in
+      grind (arith, nat_tests, degree-push u front r, few u, at_first, at_second)
+
+  record LinkedRows (front rs : List LinkRow) : Type 0 where
+    pub ranges : AllByRecursion (LinkRowFits count listed) rs
+    pub rise : RiseFrom link_key pair_cmp_total (last_ends front) rs
+    pub degrees : (u : ℕ) → degree u (front ++ rs) ≤ 16
+
+  links_in : (front rs : List LinkRow) → ((u : ℕ) → degree u front ≤ 16) → FitBehind (link_row count listed) front rs → LinkedRows front rs
+  unfolding FitBehind
+  links_in front [] few fits = record { ranges = tt; rise = tt; degrees = λ u. subst (λ l. degree u l ≤ 16) (sym (append-nil front)) (few u) }
+  links_in front (r ∷ rs) few fits =
+      let row = link_row_in front r fits.0 in
+      let rest = links_in (front ++ r ∷ []) rs (room_more front r row few) fits.1 in
+      record {
+        ranges = (row.range, rest.ranges);
+        rise = (row.rises, subst (λ last. RiseFrom link_key pair_cmp_total last rs) (last_push link_key (0, 0) front r) rest.rise);
+        degrees = λ u. subst (λ l. degree u l ≤ 16) (append_assoc front (r ∷ []) rs) (rest.degrees u);
+      }
+
+  module _ (small : count < 2 ^ 64) (all : AllByRecursion (NodeRowFits count) listed) where
+    -- an end of a link behind has one link fewer before it
+    room_before : (front rs : List LinkRow) (r : LinkRow) (u : ℕ) → is_end u r ≡ true → degree u (front ++ r ∷ rs) ≤ 16 → degree u front < 16
+    room_before front rs r u is few = grind (arith, nat_tests, is, degree-append u front (r ∷ rs), few)
+
+    links_fit : (front rs : List LinkRow) → LinkedRows front rs → FitBehind (link_row count listed) front rs
+    unfolding FitBehind
+    links_fit front [] rows = tt
+    links_fit front (r ∷ rs) rows = (
+      link_row_fits small all front r (record {
+        range = rows.ranges.0;
+        rises = rows.rise.0;
+        first_room = room_before front rs r r.a (grind (arith, nat_tests)) (rows.degrees r.a);
+        second_room = room_before front rs r r.b (grind (arith, nat_tests)) (rows.degrees r.b);
+      }),
+      links_fit (front ++ r ∷ []) rs (record {
+        ranges = rows.ranges.1;
+        rise = subst (λ last. RiseFrom link_key pair_cmp_total last rs) (sym (last_push link_key (0, 0) front r)) rows.rise.1;
+        degrees = λ u. subst (λ l. degree u l ≤ 16) (sym (append_assoc front (r ∷ []) rs)) (rows.degrees u);
+      }),
+    )
+
+-- ---- clients
+
+abbrev client_key : ClientRow → ℕ
+client_key r = r.client
+
+abbrev ClientRowFits : ℕ → ClientRow → Type 0
+ClientRowFits count r = SessionInRange count r.client r.session
+
+kind_fits : (x : Command) (k : Kind) → answers x k ≡ true → (kind x).Fits k
+unfolding kind
+kind_fits x kinds.Done is = ((0, (omega arith, refl), refl), is)
+kind_fits x kinds.Started is = ((1, (omega arith, refl), refl), is)
+kind_fits x kinds.Finished is = ((2, (omega arith, refl), refl), is)
+kind_fits x kinds.Joined is = ((3, (omega arith, refl), refl), is)
+kind_fits (Add u g) kinds.Taken is = cc
+kind_fits (Remove u) kinds.Taken is = cc
+kind_fits (Join a b) kinds.Taken is = cc
+kind_fits (Drop a b) kinds.Taken is = cc
+kind_fits (Reset u) kinds.Taken is = cc
+kind_fits (Confirm u e) kinds.Taken is = cc
+kind_fits (Add u g) kinds.Cleared is = cc
+kind_fits (Remove u) kinds.Cleared is = cc
+kind_fits (Join a b) kinds.Cleared is = cc
+kind_fits (Drop a b) kinds.Cleared is = cc
+kind_fits (Reset u) kinds.Cleared is = cc
+kind_fits (Confirm u e) kinds.Cleared is = cc
+
+module _ (count : ℕ) where
+  client_row_in : (front : List ClientRow) (r : ClientRow) → (client_row count front).Fits r → ClientRowFits count r × (is_lt (nat_cmp (last_by client_key 0 front) r.client) ≡ true)
+  unfolding client_row
+  client_row_in front r fits =
+      let p = fits.0 in
+      let f = fits.1 in
+      let id = client_in_range p.0 f.0.0 in
+      let number = counted_on count p.1.0 f.1.0 in
+      let step = counted_on count p.1.1.1.0 f.1.1.1.0 in
+      subst (λ s. ClientRowFits count s × (is_lt (nat_cmp (last_by client_key 0 front) s.client) ≡ true)) (sym fits.2) (
+        record {
+          least = id.0;
+          greatest = id.1;
+          ordered = command_in_range p.1.1.0 f.1.1.0;
+          first = number.0;
+          last = number.1;
+          replied = step.0;
+          replied_by = step.1;
+          answered = kind_in_range p.1.1.0 p.1.1.1.1 f.1.1.1.1;
+        },
+        grind (arith, nat_tests, f.0.1),
+      )
+
+  client_row_fits : count < 2 ^ 64 → (front : List ClientRow) (r : ClientRow) → ClientRowFits count r → is_lt (nat_cmp (last_by client_key 0 front) r.client) ≡ true → (client_row count front).Fits r
+  unfolding client_row
+  client_row_fits small front r range above = (
+    (r.client, (r.session.number, (r.session.command, (r.session.reply.step, r.session.reply.kind)))),
+    (
+      (client_fits r.client range.least range.greatest, grind (arith, nat_tests, above)),
+      (fit_counted count r.session.number small range.first range.last, (command_fits r.session.command range.ordered, (fit_counted count r.session.reply.step small range.replied range.replied_by, kind_fits r.session.command r.session.reply.kind range.answered))),
+    ),
+    refl,
+  )
+
+  clients_in : (front rs : List ClientRow) → FitBehind (client_row count) front rs → AllByRecursion (ClientRowFits count) rs × RiseFrom client_key nat_cmp_total (last_by client_key 0 front) rs
+  unfolding FitBehind
+  clients_in front [] fits = (tt, tt)
+  clients_in front (r ∷ rs) fits =
+      let one = client_row_in front r fits.0 in
+      let rest = clients_in (front ++ r ∷ []) rs fits.1 in
+      ((one.0, rest.0), (one.1, subst (λ last. RiseFrom client_key nat_cmp_total last rs) (last_push client_key 0 front r) rest.1))
+
+  clients_fit : count < 2 ^ 64 → (front rs : List ClientRow) → AllByRecursion (ClientRowFits count) rs → RiseFrom client_key nat_cmp_total (last_by client_key 0 front) rs → FitBehind (client_row count) front rs
+  unfolding FitBehind
+  clients_fit small front [] all rise = tt
+  clients_fit small front (r ∷ rs) all rise = (
+    client_row_fits small front r all.0 rise.0,
+    clients_fit small (front ++ r ∷ []) rs all.1 (subst (λ last. RiseFrom client_key nat_cmp_total last rs) (sym (last_push client_key 0 front r)) rise.1),
+  )
+
+-- ---- worlds
+
+all_of : {A : Type 0} (P Q : A → Type 0) → ((x : A) → P x → Q x) → (xs : List A) → AllByRecursion P xs → AllByRecursion Q xs
+all_of P Q weaker [] all = tt
+all_of P Q weaker (x ∷ xs) all = (weaker x all.0, all_of P Q weaker xs all.1)
+
+-- the ends of a link are numbered from 1
+above_none : (count : ℕ) (listed : List NodeRow) (rs : List LinkRow) → AllByRecursion (NodeRowFits count) listed → AllByRecursion (LinkRowFits count listed) rs → below_all pair_cmp (0, 0) (by_ends rs) ≡ true
+above_none count listed [] known all = refl
+above_none count listed (r ∷ rs) known all =
+    let end = listed_node count listed r.a all.0.ends.group known all.0.ends.first in
+    let rest = above_none count listed rs known all.1 in
+    let least = end.0 in
+    grind (arith, nat_tests, rest, least)
+
+pub rows_in : (r : Rows) → world.Fits r → RowsFit r
+unfolding world nodes links clients
+rows_in r fits =
+    let p = fits.0 in
+    let f = fits.1 in
+    let listed = nodes_in p.0 [] p.1.0 f.1.0.1 in
+    let linked = links_in p.0 p.1.0 [] p.1.1.0 (λ u. omega arith) f.1.1.0.1 in
+    let known = clients_in p.0 [] p.1.1.1 f.1.1.1.1 in
+    subst RowsFit (sym fits.2) (record {
+      count = within (2 ^ 40) p.0 f.0;
+      nodes_rise = (sorted_of_rise node_key nat_cmp_total 0 p.1.0 listed.1).1;
+      nodes = listed.0;
+      links_rise = (sorted_of_rise link_key pair_cmp_total (0, 0) p.1.1.0 linked.rise).1;
+      links = linked.ranges;
+      degrees = linked.degrees;
+      most_links = no_more 128 (length p.1.1.0) f.1.1.0.0;
+      clients_rise = (sorted_of_rise client_key nat_cmp_total 0 p.1.1.1 known.1).1;
+      clients = known.0;
+    })
+
+module _ (r : Rows) (fit : RowsFit r) where
+  nodes_above : below_all nat_cmp 0 (by_id r.nodes) ≡ true
+  nodes_above = above_zero node_key r.nodes (all_of (NodeRowFits r.count) (λ x. 1 ≤ x.id) (λ x range. range.least) r.nodes fit.nodes)
+
+  clients_above : below_all nat_cmp 0 (by_client r.clients) ≡ true
+  clients_above = above_zero client_key r.clients (all_of (ClientRowFits r.count) (λ x. 1 ≤ x.client) (λ x range. range.least) r.clients fit.clients)
+
+  -- 64 nodes at most
+  pub few_nodes : length r.nodes ≤ 64
+  few_nodes = omega (arith, few_keys node_key 0 64 r.nodes (omega arith) nodes_above fit.nodes_rise (all_of (NodeRowFits r.count) (λ x. x.id ≤ 64) (λ x range. range.greatest) r.nodes fit.nodes))
+
+  -- 16 clients at most
+  pub few_clients : length r.clients ≤ 16
+  few_clients = omega (arith, few_keys client_key 0 16 r.clients (omega arith) clients_above fit.clients_rise (all_of (ClientRowFits r.count) (λ x. x.client ≤ 16) (λ x range. range.greatest) r.clients fit.clients))
+
+  pub rows_fit : world.Fits r
+  unfolding world nodes links clients
+  rows_fit =
+      let small : r.count < 2 ^ 64 = omega (arith, fit.count) in
+      let linked : LinkedRows r.count r.nodes [] r.links = record {
+        ranges = fit.links;
+        rise = rise_of_sorted link_key pair_cmp_total (0, 0) r.links (above_none r.count r.nodes r.links fit.nodes fit.links) fit.links_rise;
+        degrees = fit.degrees;
+      } in (
+        (r.count, (r.nodes, (r.links, r.clients))),
+        (
+          fit_within (2 ^ 40) r.count (omega arith) fit.count,
+          (
+            (fit_many 64 (length r.nodes) (omega arith) few_nodes, nodes_fit r.count small [] r.nodes fit.nodes (rise_of_sorted node_key nat_cmp_total 0 r.nodes nodes_above fit.nodes_rise)),
+            (
+              (fit_many 128 (length r.links) (omega arith) fit.most_links, links_fit r.count r.nodes small fit.nodes [] r.links linked),
+              (fit_many 16 (length r.clients) (omega arith) few_clients, clients_fit r.count small [] r.clients fit.clients (rise_of_sorted client_key nat_cmp_total 0 r.clients clients_above fit.clients_rise)),
+            ),
+          ),
+        ),
+        refl,
+      )

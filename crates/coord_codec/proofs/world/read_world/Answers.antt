@@ -1,0 +1,9 @@
+use Rattle.std.proofs.Common.{arith}
+use Rattle.coord_codec.proofs.WorldDecoded.{world_found, world_only}
+use Rattle.coord_codec.proofs.world.read_world.Goals as goal
+
+pub returns-clause-found : goal.returns-clause-found
+returns-clause-found c = world_found c.args.version c.args.bytes.now c.assembled.result (λ i. omega (arith, c.type_inv.bytes i)) c.assembled.ensures.exact
+
+pub returns-clause-only : goal.returns-clause-only
+returns-clause-only c = λ w known range spelled. world_only c.args.version c.args.bytes.now c.assembled.result w c.assembled.ensures.ranges known range spelled c.assembled.ensures.exact

@@ -1,0 +1,7 @@
+use Rattle.std.proofs.Common.{◌≡◌, ◌++◌, [], ◌∷◌, length, take}
+use Rattle.std.specs.List.{flat_map}
+use Rattle.coord_codec.specs.Worlds.{link_row}
+use Rattle.coord_codec.proofs.world_writing.put_links.Given as goal
+
+abbrev pub invariant-loop-row : goal.invariant-loop-row
+invariant-loop-row l = l.out.items ≡ (l.fn.out.items ++ length l.rows ∷ []) ++ flat_map (link_row 0 [] []).text (take l.row-index l.rows)

@@ -1,0 +1,7 @@
+use Rattle.std.proofs.Common.{◌≡◌, ◌++◌, take}
+use Rattle.std.specs.List.{flat_map}
+use Rattle.coord_codec.specs.Fields.{message}
+use Rattle.coord_codec.proofs.world_writing.put_messages.Given as goal
+
+abbrev pub invariant-loop-msg : goal.invariant-loop-msg
+invariant-loop-msg l = l.out.items ≡ l.fn.out.items ++ flat_map message.text (take l.msg-index l.queue)

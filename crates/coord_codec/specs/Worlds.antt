@@ -1,0 +1,155 @@
+-- The grammar of worlds, version 1.
+use Rattle.std.specs.Prelude.{ℕ, zero, suc, ◌^◌, ◌==◌, ◌&&◌, ◌||◌, not, nat_le, nat_lt, Bool, false, List, [], ◌∷◌, Option, Some, None}
+use Rattle.coord_types.specs.NodeSet.{NodeSet}
+use Rattle.coord_types.specs.NodeMask.{nodes_of, mask_of}
+use Rattle.coord_types.specs.NodeState.{mode_from, mode_number}
+use Rattle.coord_types.specs.declared.messages.Mode.{Mode}
+use Rattle.coord_types.specs.declared.messages.Msg.{Msg}
+use Rattle.coord_types.specs.declared.steps.Command.{Command}
+use Rattle.coord_types.specs.declared.steps.Kind.{Kind}
+use Rattle.coord_types.specs.declared.steps.Kind.TheVariants as kinds
+use Rattle.coord_link.specs.LaneMachine.{Lane}
+use Rattle.coord_world.specs.Ranges.{answers}
+use Rattle.coord_world.specs.Parts.{Rows, group_of, degree}
+use Rattle.coord_world.specs.declared.parts.NodeRow.{NodeRow}
+use Rattle.coord_world.specs.declared.parts.LinkRow.{LinkRow}
+use Rattle.coord_world.specs.declared.parts.ClientRow.{ClientRow}
+use Rattle.coord_codec.specs.Format.{Format, byte, u64, such_that, followed, ◌&◌, made, counted}
+use Rattle.coord_codec.specs.Fields.{node, group, client, message}
+use Rattle.coord_codec.specs.Steps.{command}
+
+-- ---- fields
+
+unfoldable pub at_most : ℕ → Format ℕ
+at_most most = such_that (λ n. nat_le n most) u64
+
+unfoldable pub from_one_to : ℕ → Format ℕ
+from_one_to most = such_that (λ n. nat_le 1 n && nat_le n most) u64
+
+-- how many items there are, in a byte
+unfoldable pub how_many : ℕ → Format ℕ
+how_many most = such_that (λ n. nat_le n most) byte
+
+-- 0 Ready, 1 Abort, 2 Converge
+unfoldable pub mode : Format Mode
+mode = made mode_from mode_number (such_that (λ n. nat_lt n 3) byte)
+
+abbrev pub parent_from : ℕ → Option ℕ
+parent_from zero = None
+parent_from (suc n) = Some (suc n)
+
+abbrev pub parent_number : Option ℕ → ℕ
+parent_number None = 0
+parent_number (Some p) = p
+
+-- 0 for none, else the node
+unfoldable pub parent : Format (Option ℕ)
+parent = made parent_from parent_number (such_that (λ n. nat_le n 64) byte)
+
+-- node k is bit k - 1
+unfoldable pub mask : Format NodeSet
+mask = made nodes_of mask_of u64
+
+abbrev pub kind_from : ℕ → Kind
+kind_from zero = kinds.Done
+kind_from (suc zero) = kinds.Started
+kind_from (suc (suc zero)) = kinds.Finished
+kind_from (suc (suc (suc n))) = kinds.Joined
+
+abbrev pub kind_number : Kind → ℕ
+kind_number kinds.Done = 0
+kind_number kinds.Started = 1
+kind_number kinds.Finished = 2
+kind_number kinds.Joined = 3
+kind_number k = 4
+
+-- 0 Done, 1 Started, 2 Finished, 3 Joined, as the command may be answered
+unfoldable pub kind : Command → Format Kind
+kind x = such_that (answers x) (made kind_from kind_number (such_that (λ n. nat_lt n 4) byte))
+
+-- ---- nodes
+
+-- the key of the last row, or what stands for it where there is none
+abbrev pub last_by : {A K : Type 0} → (A → K) → K → List A → K
+last_by key last [] = last
+last_by key last (x ∷ xs) = last_by key (key x) xs
+
+unfoldable pub node_row : ℕ → List NodeRow → Format NodeRow
+node_row count front =
+    made (λ p. record { id = p.0; group = p.1.0; mode = p.1.1.0; parent = p.1.1.1.0; pend = p.1.1.1.1.0; epoch = p.1.1.1.1.1.0; confirmed = p.1.1.1.1.1.1 })
+    (λ r. (r.id, (r.group, (r.mode, (r.parent, (r.pend, (r.epoch, r.confirmed)))))))
+    (such_that (nat_lt (last_by (λ r. r.id) 0 front)) node & (group & (mode & (parent & (mask & (at_most count & at_most count))))))
+
+unfoldable pub nodes : ℕ → Format (List NodeRow)
+nodes count = counted (how_many 64) (node_row count)
+
+-- ---- links
+
+abbrev pub same_group : Option ℕ → Option ℕ → Bool
+same_group None o = false
+same_group (Some g) None = false
+same_group (Some g) (Some h) = g == h
+
+-- both are nodes, of one group, with room for a link
+abbrev pub can_link : List NodeRow → List LinkRow → ℕ × ℕ → Bool
+can_link nodes front e = same_group (group_of nodes e.0) (group_of nodes e.1) && (nat_lt (degree e.0 front) 16 && nat_lt (degree e.1 front) 16)
+
+abbrev pub last_ends : List LinkRow → ℕ × ℕ
+last_ends front = last_by (λ r. (r.a, r.b)) (0, 0) front
+
+-- not below the last link's lesser end
+abbrev pub first_rises : List LinkRow → ℕ → Bool
+first_rises front a = nat_le (last_ends front).0 a
+
+-- above its lesser end, and above the last link
+abbrev pub second_rises : List LinkRow → ℕ → ℕ → Bool
+second_rises front a b = nat_lt a b && (not (a == (last_ends front).0) || nat_lt (last_ends front).1 b)
+
+unfoldable pub ends : List NodeRow → List LinkRow → Format (ℕ × ℕ)
+ends nodes front =
+    such_that (can_link nodes front)
+    (followed (such_that (first_rises front) node) (λ a. such_that (second_rises front a) node))
+
+-- oldest first
+unfoldable pub queue : Format (List Msg)
+queue = counted (how_many 4) (λ _. message)
+
+-- what a lane has beside its link's incarnation: base, got and queue
+abbrev pub content_of_lane : Lane → ℕ × (ℕ × List Msg)
+content_of_lane l = (l.base, (l.got, l.queue))
+
+unfoldable pub lane : ℕ → Format (ℕ × (ℕ × List Msg))
+lane count = at_most count & (at_most count & queue)
+
+unfoldable pub link_row : ℕ → List NodeRow → List LinkRow → Format LinkRow
+link_row count nodes front =
+    made
+    (λ p. record {
+      a = p.0.0;
+      b = p.0.1;
+      forth = record { inc = p.1.0; base = p.1.1.0.0; got = p.1.1.0.1.0; queue = p.1.1.0.1.1 };
+      back = record { inc = p.1.0; base = p.1.1.1.0; got = p.1.1.1.1.0; queue = p.1.1.1.1.1 };
+    })
+    (λ r. ((r.a, r.b), (r.forth.inc, ((r.forth.base, (r.forth.got, r.forth.queue)), (r.back.base, (r.back.got, r.back.queue))))))
+    (ends nodes front & (from_one_to count & (lane count & lane count)))
+
+unfoldable pub links : ℕ → List NodeRow → Format (List LinkRow)
+links count nodes = counted (how_many 128) (link_row count nodes)
+
+-- ---- clients
+
+unfoldable pub client_row : ℕ → List ClientRow → Format ClientRow
+client_row count front =
+    made (λ p. record { client = p.0; session = record { number = p.1.0; command = p.1.1.0; reply = record { step = p.1.1.1.0; kind = p.1.1.1.1 } } })
+    (λ r. (r.client, (r.session.number, (r.session.command, (r.session.reply.step, r.session.reply.kind)))))
+    (such_that (nat_lt (last_by (λ r. r.client) 0 front)) client & (from_one_to count & followed command (λ x. from_one_to count & kind x)))
+
+unfoldable pub clients : ℕ → Format (List ClientRow)
+clients count = counted (how_many 16) (client_row count)
+
+-- ---- worlds
+
+unfoldable pub world : Format Rows
+world =
+    made (λ p. record { count = p.0; nodes = p.1.0; links = p.1.1.0; clients = p.1.1.1 }) (λ r. (r.count, (r.nodes, (r.links, r.clients))))
+    (followed (at_most (2 ^ 40)) (λ count. followed (nodes count) (λ nodes. links count nodes & clients count)))

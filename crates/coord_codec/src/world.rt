@@ -1,0 +1,79 @@
+//! Worlds as bytes.
+
+ghost use Rattle.std.specs.Prelude.{◌≡◌, ◌++◌, Ok, IfOk, OnOk};
+ghost use Rattle.coord_world.specs.NumberedWorld.{World as Numbered};
+ghost use Rattle.coord_world.specs.Parts.{RowsFit, listed, rows_of};
+ghost use Rattle.coord_world.specs.Ranges.{InRange};
+ghost use Rattle.coord_codec.specs.Decoding.{Answers, decoded};
+ghost use Rattle.coord_codec.specs.Worlds.{world};
+
+use crate::fault::{CodecFault, ReadError};
+use crate::input::Input;
+use crate::world_writing::{put_clients, put_links, put_nodes};
+use coord_world::{Parts, World};
+use std::alloc::{AllocError, Global};
+
+/// The rows that all of the bytes spell.
+fn decode(alloc: Global, version: u8, bytes: &[u8]) -> Result<Parts, CodecFault>
+    ensures exact { Answers (λ p. listed p) result (decoded world version bytes.now) }
+    ensures fit { IfOk result (λ p. RowsFit (listed p)) }
+{
+    if version != 1 {
+        return Err(CodecFault::bad_version());
+    }
+    let mut input = Input::new(bytes);
+    match input.world(alloc) {
+        Err(error) => Err(error.placed(bytes.len())),
+        Ok(_) if input.left() > 0 => Err(ReadError::extra(input.left()).placed(bytes.len())),
+        Ok(parts) => Ok(parts),
+    }
+}
+
+/// The world that has the rows that are read.
+fn assembled(alloc: Global, version: u8, bytes: &[u8]) -> Result<World, CodecFault>
+    ensures exact { Answers rows_of result (decoded world version bytes.now) }
+    ensures ranges { IfOk result (λ w. InRange w) }
+{
+    match decode(alloc, version, bytes) {
+        Err(fault) => Err(fault),
+        Ok(parts) => match World::assemble(alloc, parts) {
+            Err(_) => Err(ReadError::Memory.placed(0)),
+            Ok(read) => Ok(read),
+        },
+    }
+}
+
+/// The world that all of the bytes spell in a version of the grammar, of which there is one, 1
+/// (docs/FORMATS.md, "Worlds"). It need not be legal.
+pub fn read_world(alloc: Global, version: u8, bytes: &[u8]) -> Result<World, CodecFault>
+    // What is read is spelled so.
+    ensures found { IfOk result (λ w. (version ≡ 1) × (bytes.now ≡ world.text (rows_of w))) }
+    // What spells a world is read as that world, unless memory runs out.
+    ensures only { (w : Numbered) → version ≡ 1 → InRange w → bytes.now ≡ world.text (rows_of w)
+        → Answers (λ v. v) result (Ok w) }
+    // Which fault it is, and where.
+    ensures exact { Answers rows_of result (decoded world version bytes.now) }
+{
+    assembled(alloc, version, bytes)
+}
+
+/// The one spelling of a world, in version 1.
+pub fn write_world(alloc: Global, written: &World) -> Result<Vec<u8>, AllocError>
+    ensures { IfOk result (λ v. v.items ≡ world.text (rows_of written.now)) }
+{
+    let parts = written.parts()?;
+    let mut out = Vec::new(alloc);
+    put_world(&mut out, &parts)?;
+    Ok(out)
+}
+
+fn put_world(out: &mut Vec<u8>, parts: &Parts) -> Result<(), AllocError>
+    requires { RowsFit (listed parts.now) }
+    ensures { OnOk result (out.new.items ≡ out.old.items ++ world.text (listed parts.now)) }
+{
+    out.extend_from_slice(&parts.count.to_be_bytes())?;
+    put_nodes(out, &parts.nodes)?;
+    put_links(out, &parts.links)?;
+    put_clients(out, &parts.clients)?;
+    Ok(())
+}
