@@ -4,7 +4,7 @@
 # bytes in the same run. The program of bench/codec is proved and built in a scratch repository over
 # copies of the crates with what rt keeps in their out/, and runs ROUNDS times; the least time of each
 # part counts. Its files end in .txt, since the gate refuses a source file that belongs to no crate.
-set -eu
+set -euo pipefail
 rounds=${1:-5}
 here=$(cd "$(dirname "$0")/.." && pwd)
 scratch=$(mktemp -d)
