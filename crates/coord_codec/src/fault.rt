@@ -1,7 +1,7 @@
 //! What can be wrong with bytes.
 
-ghost use Rattle.std.specs.Prelude.{◌≡◌};
-ghost use Rattle.coord_codec.specs.Faults.{kind_name, kind_number};
+ghost use Rattle.std.specs.Prelude.{◌≡◌, Some};
+ghost use Rattle.coord_codec.specs.Faults.{fault_text, kind_name, kind_number};
 ghost use Rattle.coord_codec.specs.Decoding.{Places};
 ghost use Rattle.coord_codec.specs.declared.fault.ReadError.TheVariants.{Memory};
 
@@ -71,6 +71,8 @@ impl CodecFault {
 }
 
 impl fmt::Display for CodecFault {
+    ghost output = { λ fault. Some (fault_text fault) };
+
     fn fmt<W: fmt::Write>(&self, f: &mut fmt::Formatter<W>) -> fmt::Result {
         let name = self.kind.name();
         let at = self.at;
