@@ -22,6 +22,7 @@ use Rattle.coord_world.specs.Parts.{LinkRowFits, NodeRowFits, Rows, RowsFit, by_
 use Rattle.coord_world.specs.declared.parts.NodeRow.{NodeRow}
 use Rattle.coord_world.specs.declared.parts.LinkRow.{LinkRow}
 use Rattle.coord_world.specs.declared.parts.ClientRow.{ClientRow}
+use Rattle.coord_world.proofs.Keyed.{all_weaker}
 use Rattle.coord_codec.specs.Fields.{message}
 use Rattle.coord_codec.specs.Format.{FitBehind}
 use Rattle.coord_codec.specs.Worlds.{at_most, client_row, clients, ends, from_one_to, how_many, kind, lane, last_by, last_ends, link_row, links, mask, mode, node_row, nodes, parent, queue, same_group, world}
@@ -401,10 +402,6 @@ module _ (count : ℕ) where
 
 -- ---- worlds
 
-all_of : {A : Type 0} (P Q : A → Type 0) → ((x : A) → P x → Q x) → (xs : List A) → AllByRecursion P xs → AllByRecursion Q xs
-all_of P Q weaker [] all = tt
-all_of P Q weaker (x ∷ xs) all = (weaker x all.0, all_of P Q weaker xs all.1)
-
 -- the ends of a link are numbered from 1
 above_none : (count : ℕ) (listed : List NodeRow) (rs : List LinkRow) → AllByRecursion (NodeRowFits count) listed → AllByRecursion (LinkRowFits count listed) rs → below_all pair_cmp (0, 0) (by_ends rs) ≡ true
 above_none count listed [] known all = refl
@@ -436,18 +433,18 @@ rows_in r fits =
 
 module _ (r : Rows) (fit : RowsFit r) where
   nodes_above : below_all nat_cmp 0 (by_id r.nodes) ≡ true
-  nodes_above = above_zero node_key r.nodes (all_of (NodeRowFits r.count) (λ x. 1 ≤ x.id) (λ x range. range.least) r.nodes fit.nodes)
+  nodes_above = above_zero node_key r.nodes (all_weaker (NodeRowFits r.count) (λ x. 1 ≤ x.id) (λ x range. range.least) r.nodes fit.nodes)
 
   clients_above : below_all nat_cmp 0 (by_client r.clients) ≡ true
-  clients_above = above_zero client_key r.clients (all_of (ClientRowFits r.count) (λ x. 1 ≤ x.client) (λ x range. range.least) r.clients fit.clients)
+  clients_above = above_zero client_key r.clients (all_weaker (ClientRowFits r.count) (λ x. 1 ≤ x.client) (λ x range. range.least) r.clients fit.clients)
 
   -- 64 nodes at most
   pub few_nodes : length r.nodes ≤ 64
-  few_nodes = omega (arith, few_keys node_key 0 64 r.nodes (omega arith) nodes_above fit.nodes_rise (all_of (NodeRowFits r.count) (λ x. x.id ≤ 64) (λ x range. range.greatest) r.nodes fit.nodes))
+  few_nodes = omega (arith, few_keys node_key 0 64 r.nodes (omega arith) nodes_above fit.nodes_rise (all_weaker (NodeRowFits r.count) (λ x. x.id ≤ 64) (λ x range. range.greatest) r.nodes fit.nodes))
 
   -- 16 clients at most
   pub few_clients : length r.clients ≤ 16
-  few_clients = omega (arith, few_keys client_key 0 16 r.clients (omega arith) clients_above fit.clients_rise (all_of (ClientRowFits r.count) (λ x. x.client ≤ 16) (λ x range. range.greatest) r.clients fit.clients))
+  few_clients = omega (arith, few_keys client_key 0 16 r.clients (omega arith) clients_above fit.clients_rise (all_weaker (ClientRowFits r.count) (λ x. x.client ≤ 16) (λ x range. range.greatest) r.clients fit.clients))
 
   pub rows_fit : world.Fits r
   unfolding world nodes links clients
