@@ -1,0 +1,2 @@
+//! Formats, and batches of steps as bytes.
+#![tactic(auto)]

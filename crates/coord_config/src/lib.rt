@@ -1,0 +1,2 @@
+//! The topology file.
+#![tactic(auto)]

@@ -1,0 +1,2 @@
+//! The drill: requests read line by line, and what becomes of each.
+#![tactic(auto)]

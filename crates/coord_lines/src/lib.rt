@@ -1,0 +1,2 @@
+//! A text cut into lines, as it comes in.
+#![tactic(auto)]

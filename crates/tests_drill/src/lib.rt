@@ -1,0 +1,5 @@
+//! Tests of the drill and of the program's commands, as texts read and printed.
+#![tactic(auto)]
+
+#[cfg(test)]
+mod drill;

@@ -1,0 +1,14 @@
+//! Tests of the lowest layer: types, lanes, nodes, disks and journals. Each is of something that no
+//! contract says.
+#![tactic(auto)]
+
+#[cfg(test)]
+mod disk;
+#[cfg(test)]
+mod journal;
+#[cfg(test)]
+mod link;
+#[cfg(test)]
+mod node;
+#[cfg(test)]
+mod types;
