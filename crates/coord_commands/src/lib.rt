@@ -1,0 +1,2 @@
+//! The program's commands: each a function of its words that answers an exit status.
+#![tactic(auto)]
