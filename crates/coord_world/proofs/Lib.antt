@@ -72,3 +72,4 @@ pub mod Viewed
 pub mod WaveBegins
 pub mod WaveRuns
 pub mod Ways
+pub mod release

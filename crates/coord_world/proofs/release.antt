@@ -1,0 +1,12 @@
+pub mod Membership
+pub mod Trails
+pub mod LaneAfterStep
+pub mod LaneFronts
+pub mod TakeablePackets
+pub mod ResendList
+pub mod StepOutputs
+pub mod ReleaseLaw
+pub mod ReleaseStays
+pub mod ReleasedGrows
+pub mod KeptReplies
+pub mod ReleasedRun
