@@ -34,6 +34,7 @@ pub fn check(world: &World) -> Option<Violation>
     ensures first { result ≡ first (faults world.now) }
     ensures legal { IsNone result ↔ Legal world.now }
 {
+    world.ranges();
     let count = world.count();
     if let Some(fault) = first_of_nodes(world, count) {
         return Some(fault);

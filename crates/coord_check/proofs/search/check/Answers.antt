@@ -8,10 +8,10 @@ use Rattle.coord_check.proofs.search.check.Goals as goal
 
 pub returns-in-Some-clause-legal : goal.returns-in-Some-clause-legal
 returns-in-Some-clause-legal c =
-    clear_or_not c.args.world.now c.count-count.ensures.ranges (Some c.in-Some.fault)
+    clear_or_not c.args.world.now c.ranges-2.ensures (Some c.in-Some.fault)
     (sym (first_here (flat_map (node_faults c.args.world.now) (nodes_from 1)) (flat_map (faults_from c.args.world.now) (nodes_from 1)) c.in-Some.fault (sym c.in-Some.ensures)))
 
 pub returns-clause-legal : goal.returns-clause-legal
 returns-clause-legal c =
-    clear_or_not c.args.world.now c.count-count.ensures.ranges c.first_of_links.result
+    clear_or_not c.args.world.now c.ranges-2.ensures c.first_of_links.result
     (c.first_of_links.ensures ∙ sym (first_further (flat_map (node_faults c.args.world.now) (nodes_from 1)) (flat_map (faults_from c.args.world.now) (nodes_from 1)) (sym c.first_of_nodes.ensures ∙ c.in_default.is)))
