@@ -1,6 +1,6 @@
 use Rattle.std.proofs.Common.{◌≡◌, ◌≤◌, ◌^◌, [], refl, sym, subst, arith}
 use Rattle.coord_world.specs.Parts.{listed, Rows, RowsFit}
-use Rattle.coord_world.proofs.tests.worn.Goals as goal
+use Rattle.tests_world.proofs.world.is_exhausted.Goals as goal
 
 -- no rows fit together
 no_rows_fit : (rows : Rows) → rows.count ≤ 2 ^ 40 → rows.nodes ≡ [] → rows.links ≡ [] → rows.clients ≡ [] → RowsFit rows
