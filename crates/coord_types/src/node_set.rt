@@ -108,3 +108,30 @@ impl NodeSet {
         }
     }
 }
+
+/// Equal sets have the same members.
+impl PartialEq for NodeSet {
+    ghost use Rattle.std.specs.Cmp.{partial_equiv_from_equiv};
+    ghost use Rattle.std.specs.Cmp.Lexicographic.{on_texts_equal, pointwise};
+    ghost use Rattle.std.specs.Prelude.{nat_eq};
+    ghost use Rattle.coord_types.specs.NodeSet as set;
+
+    ghost eq = { λ s t. pointwise nat_eq (set.items s) (set.items t) };
+
+    ghost laws = { partial_equiv_from_equiv (on_texts_equal set.items) };
+
+    #[tactic(auto, using(crate::proofs::Masks::masks))]
+    fn eq(&self, other: &NodeSet) -> bool
+        ensures value { result ≡ pointwise nat_eq (set.items self.now) (set.items other.now) }
+        ensures same { IsTrue result ↔ (self.now ≡ other.now) }
+    {
+        self.bits == other.bits
+    }
+}
+
+impl Eq for NodeSet {
+    ghost use Rattle.std.specs.Cmp.Lexicographic.{on_texts_equal};
+    ghost use Rattle.coord_types.specs.NodeSet as set;
+
+    ghost laws = { on_texts_equal set.items };
+}
