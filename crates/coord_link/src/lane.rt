@@ -1,7 +1,7 @@
 //! One direction of a link.
 
 ghost use Rattle.std.specs.Prelude.{◌≡◌, ◌<◌, ◌≤◌, ◌-◌, ◌^◌, ◌↔◌, [], ◌∷◌, length, IsTrue};
-ghost use Rattle.coord_link.specs.LaneMachine.{new_lane, sent, took, cleared, transit, front_of, judged_take, judged_clear};
+ghost use Rattle.coord_link.specs.LaneMachine.{new_lane, sent, took, cleared, is_front_taken, transit, front_of, judged_take, judged_clear};
 
 use coord_types::{Msg, Refusal};
 use std::marker::Model;
@@ -184,15 +184,22 @@ impl Lane {
         self.len -= 1;
     }
 
+    /// Whether the front was taken at the other end: one more message was taken than is receipted.
+    pub fn is_front_taken(&self) -> bool
+        ensures { result ≡ is_front_taken self.now }
+    {
+        self.got > self.base && self.got - self.base == 1
+    }
+
     /// The messages on the way: those of the queue, without a front that was taken.
     pub fn transit(&self) -> &[Msg]
         ensures { result.now ≡ transit self.now }
     {
         let on_the_way = &self.queue[..self.len];
-        if self.got == self.base || self.len == 0 {
-            on_the_way
-        } else {
+        if self.is_front_taken() && self.len != 0 {
             &on_the_way[1..]
+        } else {
+            on_the_way
         }
     }
 }

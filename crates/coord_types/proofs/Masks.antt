@@ -171,9 +171,10 @@ pub nodes_of-zero : nodes_of 0 ≡ empty
 nodes_of-zero = same_nodes _ _ (λ q. grind (arith, nat_tests, contains-nodes_of 0 q, contains-empty q, bit_at-zero (q - 1)))
 
 pub len-nodes_of-zero : (bits : ℕ) → bits < 2 ^ 64 → (bits ≡ 0) ↔ (len (nodes_of bits) ≡ 0)
-len-nodes_of-zero bits fits =
-    (λ none. ap (λ b. len (nodes_of b)) none ∙ ap len nodes_of-zero ∙ len-empty,
-      λ none. sym (mask_back bits fits) ∙ ap mask_of (empty_of_len (nodes_of bits) none ∙ sym nodes_of-zero) ∙ mask_back 0 (lit< tt))
+len-nodes_of-zero bits fits = (
+  λ none. ap (λ b. len (nodes_of b)) none ∙ ap len nodes_of-zero ∙ len-empty,
+  λ none. sym (mask_back bits fits) ∙ ap mask_of (empty_of_len (nodes_of bits) none ∙ sym nodes_of-zero) ∙ mask_back 0 (lit< tt),
+)
 
 -- a set has as many members as its mask has ones
 len-nodes_where : (test : ℕ → Bool) (n : ℕ) → len (nodes_where test n) ≡ ones (bits_where test n)

@@ -231,13 +231,6 @@ items-first s k e = behind_first s k (items s) refl (items-sorted s) e
 pub len-first : (s : NodeSet) (k : ℕ) → first s ≡ Some k → len s ≡ len (remove s k) + 1
 len-first s k e = grind (arith, len_of_items s, len_of_items (remove s k), ap length (items-first s k e))
 
-pub items-no_first : (s : NodeSet) → first s ≡ None → items s ≡ []
-items-no_first s e = none (items s) e
-  where
-    none : (xs : List ℕ) → first_of xs ≡ None → xs ≡ []
-    none [] h = refl
-    none (x ∷ xs) h = cc
-
 -- a subset, member by member
 both : (a b : Bool) → (a && b) ≡ true → (a ≡ true) × (b ≡ true)
 both true b e = (refl, e)
