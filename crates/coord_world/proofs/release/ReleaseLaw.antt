@@ -67,7 +67,7 @@ module _ (base : World) (ss : List Step) (sound : IsSound base) (each : EachFres
   released_front p gone = elim gone [ inl given ↦ outputs_of_front ss base p sound each given | inr before ↦ front_fold ss base p sound each (again_front base p before) ]
 
   released_receipt : (p : ReceiptPacket) → IsReleased base ss (Receipted p) → IsFrontReceipt (fold base ss) p ⊎ IsPast (fold base ss) p.from p.to p.inc p.number
-  released_receipt p gone = elim gone [ inl given ↦ outputs_of_receipt ss base p sound each given | inr before ↦ receipt_fold ss base p sound each (again_receipt base p sound before) ]
+  released_receipt p gone = elim gone [ inl given ↦ outputs_of_receipt ss base p sound each given | inr before ↦ receipt_fold ss base p sound each (again_receipt base p before) ]
 
   -- and a front at the end is released
   front_released : (p : DataPacket) → IsFront (fold base ss) p → IsReleased base ss (Sent p)
@@ -78,7 +78,7 @@ module _ (base : World) (ss : List Step) (sound : IsSound base) (each : EachFres
 
   -- what the end sends again is released
   pub again_released : (o : Output) → Contains (again (fold base ss)) o → IsReleased base ss o
-  again_released (Receipted p) h = receipt_released p (again_receipt (fold base ss) p (sound_fold ss base sound each) h)
+  again_released (Receipted p) h = receipt_released p (again_receipt (fold base ss) p h)
   again_released (Signalled u e) h = again_no_signal (fold base ss) u e h
   again_released (Sent p) h = front_released p (again_front (fold base ss) p h)
 
