@@ -14,7 +14,7 @@ const BEHIND: Msg = Msg::Abort;
 
 /// The messages from one node to its neighbour, numbered from 1 since the link was made. Contracts
 /// see it as a lane of `specs/LaneMachine.antt`.
-#[derive(Clone, Copy, Debug)]
+#[derive(Clone, Copy, PartialEq, Eq, Debug)]
 pub struct Lane {
     inc: u64,
     base: u64,
