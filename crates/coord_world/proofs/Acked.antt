@@ -19,7 +19,7 @@ use Rattle.coord_world.proofs.Ends.{LegalBoth, acked, acked_last, finishes, conv
 use Rattle.coord_world.proofs.Sets.{empty_has, has_remove, has_only}
 use Rattle.coord_world.proofs.Sound.{Sound}
 use Rattle.coord_world.proofs.Taken.{take_kept, both_before}
-use Rattle.coord_world.specs.Legal.{LegalNode}
+use Rattle.coord_world.proofs.SoundNode.{SoundNode}
 use Rattle.coord_world.specs.Links.{link, end_of, is_abort, is_ready, is_converge, acks}
 
 -- the neighbours without the parent
@@ -28,7 +28,7 @@ has_without s None y = refl
 has_without s (Some p) y = grind (arith, nat_tests, has_remove s p y)
 
 -- a row whose node has finished is sound
-finished_row : (r : NodeState) → LegalNode r → is_empty r.pend ≡ true → LegalNode (finish r).row
+finished_row : (r : NodeState) → SoundNode r → is_empty r.pend ≡ true → SoundNode (finish r).row
 finished_row r node none = record {
   awaits = λ e. cc;
   quiet = λ e. none;

@@ -15,7 +15,7 @@ use Rattle.coord_world.proofs.Ends.{LegalBoth, wave_goes_on}
 use Rattle.coord_world.proofs.Sets.{empty_has}
 use Rattle.coord_world.proofs.Sound.{Sound}
 use Rattle.coord_world.proofs.Taken.{both_before, not_self}
-use Rattle.coord_world.specs.Legal.{LegalNode}
+use Rattle.coord_world.proofs.SoundNode.{SoundNode}
 use Rattle.coord_world.specs.Links.{Link, link, end_of, turned, is_abort}
 
 -- the links alone, whatever the nodes say
@@ -33,7 +33,7 @@ links_of w sound = record {
 }
 
 -- legal links and nodes that name them make a world sound
-pub sound_of : (w : Ideal) → LegalLinks w → ((x : ℕ) → LegalNode (w.row x)) → ((x y : ℕ) → w.linked x y ≡ contains (w.row x).neighbours y) → Sound w
+pub sound_of : (w : Ideal) → LegalLinks w → ((x : ℕ) → SoundNode (w.row x)) → ((x y : ℕ) → w.linked x y ≡ contains (w.row x).neighbours y) → Sound w
 sound_of w ok nodes linked = record {
   links = λ x y neighbours. (ok.links x y (linked x y ∙ neighbours)).from;
   nodes = nodes;
@@ -95,13 +95,13 @@ module _ (w : Ideal) (u : ℕ) (d : Deed) where
     links_kept = record { links = each_legal; mirrored = ok.mirrored; apart = ok.apart }
 
     -- of one node, whose neighbours stay
-    pub deed_kept : Sound w → d.row.neighbours ≡ (w.row u).neighbours → LegalNode d.row → Sound (acts w u d)
+    pub deed_kept : Sound w → d.row.neighbours ≡ (w.row u).neighbours → SoundNode d.row → Sound (acts w u d)
     deed_kept sound neighbours node = sound_of (acts w u d) links_kept nodes_kept (λ x y. sound.linked x y ∙ ap (λ s. contains s y) (sym (nears x)))
       where
-        nodes_kept : (x : ℕ) → LegalNode ((acts w u d).row x)
+        nodes_kept : (x : ℕ) → SoundNode ((acts w u d).row x)
         nodes_kept x = elim (same_or_apart x u) [
-          | inl same ↦ subst (λ z. LegalNode ((acts w u d).row z)) (sym same) (subst LegalNode (sym row_here) node)
-          | inr far ↦ subst LegalNode (sym (row_there x far)) (sound.nodes x)
+          | inl same ↦ subst (λ z. SoundNode ((acts w u d).row z)) (sym same) (subst SoundNode (sym row_here) node)
+          | inr far ↦ subst SoundNode (sym (row_there x far)) (sound.nodes x)
         ]
 
         nears : (x : ℕ) → ((acts w u d).row x).neighbours ≡ (w.row x).neighbours

@@ -11,7 +11,7 @@ use Rattle.coord_world.specs.Next.{does, on_lane, ordered, is_lane}
 use Rattle.coord_world.specs.NumberedWorld.{World}
 use Rattle.coord_world.proofs.Cases.{by_test}
 use Rattle.coord_world.proofs.Looked.{lane_done, lane_on, lane_left, lane_made, each_changed, each_left, each_made}
-use Rattle.coord_world.proofs.Transits.{counts-sent, counts-took}
+use Rattle.coord_world.proofs.Transits.{counts_cases, counts_from, counts-sent, counts-took}
 
 -- the numbers of every lane fit its queue
 abbrev pub AllCount : World → Type 0
@@ -27,7 +27,7 @@ it_is w u v x y k l there e t =
 
 -- more was taken than is receipted: the front was
 pub was_taken : (l : Lane) → Counts l → l.base + 1 ≤ l.got → (l.got ≡ l.base + 1) × (l.queue ≢ [])
-was_taken l counts more = elim counts [
+was_taken l counts more = elim (counts_cases l counts) [
   | inl same ↦ absurd (omega arith)
   | inr taken ↦ taken
 ]
@@ -45,7 +45,7 @@ module _ (w : World) (counts : AllCount w) where
 
   -- after a link is made
   pub counts_made : (a b : ℕ) → AllCount (ordered w (Join a b))
-  counts_made a b x y m e = each_made (get w.lanes (x, y)) (is_link a b x y) (new_lane (w.count + 1)) Counts (λ _. inl refl) (λ _ l is. counts x y l is)
+  counts_made a b x y m e = each_made (get w.lanes (x, y)) (is_link a b x y) (new_lane (w.count + 1)) Counts (λ _. counts_from (new_lane (w.count + 1)) (inl refl)) (λ _ l is. counts x y l is)
       m (sym (lane_made w a b x y) ∙ e)
 
   -- the front that is taken is there, and isn't taken yet
@@ -60,5 +60,5 @@ module _ (w : World) (counts : AllCount w) where
   pub counts_cleared : (u v : ℕ) (k : Lane) → get w.lanes (u, v) ≡ Some k → k.base + 1 ≤ k.got → AllCount (on_lane w u v cleared)
   counts_cleared u v k there more x y m e = each_changed (get w.lanes (x, y)) (λ l. cond (is_lane (x, y) u v) (cleared l) l) Counts
       (λ l is. by_test (is_lane (x, y) u v) (λ b. Counts (cond b (cleared l) l))
-      (λ t. subst (λ z. Counts (cleared z)) (sym (it_is w u v x y k l there is t)) (inl (was_taken k (counts u v k there) more).0)) (λ _. counts x y l is))
+      (λ t. subst (λ z. Counts (cleared z)) (sym (it_is w u v x y k l there is t)) (counts_from (cleared k) (inl (was_taken k (counts u v k there) more).0))) (λ _. counts x y l is))
       m (sym (lane_on w u v cleared x y) ∙ e)

@@ -18,7 +18,7 @@ use Rattle.coord_world.proofs.Cases.{by_test, same_or_apart}
 use Rattle.coord_world.proofs.Ends.{LegalBoth, finishes, converges_up, converges_far}
 use Rattle.coord_world.proofs.Sets.{empty_has, has_remove, has_only}
 use Rattle.coord_world.proofs.Sound.{Sound}
-use Rattle.coord_world.specs.Legal.{LegalNode}
+use Rattle.coord_world.proofs.SoundNode.{SoundNode}
 use Rattle.coord_world.specs.Links.{Link, link, end_of, is_abort, is_ready}
 
 -- a link vanishes, and both its ends act on that
@@ -42,11 +42,11 @@ parent_stays (Some p) b e = grind (arith, nat_tests)
 
 -- one end r that loses its link to b: its new state, and its other links
 pub record Loses (r : NodeState) (b : ℕ) (d : Deed) : Type 0 where
-  pub node : LegalNode d.row
+  pub node : SoundNode d.row
   pub neighbours : d.row.neighbours ≡ set.remove r.neighbours b
   pub elsewhere : (l : Link) (y : ℕ) → y ≢ b → contains r.neighbours y ≡ true → l.here ≡ end_of r y → LegalBoth l → LegalBoth (record l { here = end_of d.row y; out = l.out ++ added d y })
 
-module _ (r : NodeState) (b : ℕ) (node : LegalNode r) where
+module _ (r : NodeState) (b : ℕ) (node : SoundNode r) where
   -- the state without the link
   abbrev s : NodeState
   s = record r { parent = without r.parent b; pend = set.remove r.pend b; neighbours = set.remove r.neighbours b }
@@ -225,12 +225,12 @@ module _ (w : Ideal) (a b : ℕ) (with_b : w.linked a b ≡ true) (sound : Sound
   row_is x = refl
 
   -- each node is legal
-  nodes_ok : (x : ℕ) → LegalNode ((dropped w a b).row x)
+  nodes_ok : (x : ℕ) → SoundNode ((dropped w a b).row x)
   nodes_ok x = elim (same_or_apart x b) [
-    | inl same ↦ subst (λ z. LegalNode ((dropped w a b).row z)) (sym same) (subst LegalNode (sym (row_here one_end b db)) second.node)
-    | inr far ↦ subst LegalNode (sym (row_there one_end b db x far)) (elim (same_or_apart x a) [
-      | inl same ↦ subst (λ z. LegalNode (one_end.row z)) (sym same) (subst LegalNode (sym (row_here (cut w a b) a da)) first.node)
-      | inr other ↦ subst LegalNode (sym (row_there (cut w a b) a da x other)) (sound.nodes x)
+    | inl same ↦ subst (λ z. SoundNode ((dropped w a b).row z)) (sym same) (subst SoundNode (sym (row_here one_end b db)) second.node)
+    | inr far ↦ subst SoundNode (sym (row_there one_end b db x far)) (elim (same_or_apart x a) [
+      | inl same ↦ subst (λ z. SoundNode (one_end.row z)) (sym same) (subst SoundNode (sym (row_here (cut w a b) a da)) first.node)
+      | inr other ↦ subst SoundNode (sym (row_there (cut w a b) a da x other)) (sound.nodes x)
     ])
   ]
 

@@ -3,7 +3,8 @@ use Rattle.std.proofs.Common.{◌≡◌, true, false, ◌&&◌, [], ◌∷◌, �
 use Rattle.coord_types.specs.declared.messages.Mode.TheVariants.{Ready, Abort, Converge}
 use Rattle.coord_types.specs.declared.messages.Msg.TheVariants as msg
 use Rattle.coord_world.proofs.Ways.{ways}
-use Rattle.coord_world.specs.Links.{End, Link, LegalLink, turned, is_abort, is_converge, is_ready}
+use Rattle.coord_world.specs.Links.{End, Link, turned, is_abort, is_converge, is_ready}
+use Rattle.coord_world.proofs.SoundLink.{SoundLink}
 
 -- what a node's own rules say of one end
 pub record LegalEnd (e : End) : Type 0 where
@@ -15,8 +16,8 @@ pub record LegalEnd (e : End) : Type 0 where
 pub record LegalBoth (l : Link) : Type 0 where
   pub here : LegalEnd l.here
   pub there : LegalEnd l.there
-  pub from : LegalLink l
-  pub to : LegalLink (turned l)
+  pub from : SoundLink l
+  pub to : SoundLink (turned l)
 
 -- a Ready node sends an Abort to a neighbour that isn't its new parent
 pub wave_goes_on : (l k : Link) → l.here.mode ≡ Ready → k.here.mode ≡ Abort → k.here.awaits ≡ true → k.here.child ≡ false → k.there ≡ l.there → k.out ≡ l.out ++ msg.Abort ∷ [] → k.back ≡ l.back → LegalBoth l → LegalBoth k
@@ -67,5 +68,5 @@ pub passed_by : (l k : Link) → (is_converge l.here.mode && l.here.child) ≡ f
 passed_by l k e0 e1 e2 e3 e4 legal = grind (arith, ways, legal)
 
 -- a link that was just made
-pub joined : (l : Link) → l.here.child ≡ false → l.there.child ≡ false → l.here.awaits ≡ false → l.there.awaits ≡ false → l.out ≡ [] → l.back ≡ [] → LegalLink l
+pub joined : (l : Link) → l.here.child ≡ false → l.there.child ≡ false → l.here.awaits ≡ false → l.there.awaits ≡ false → l.out ≡ [] → l.back ≡ [] → SoundLink l
 joined l h t a b e f = grind (arith, ways)

@@ -9,12 +9,8 @@ use Rattle.coord_world.specs.Legal.{Legal}
 use Rattle.coord_world.specs.Next.{next}
 use Rattle.coord_world.specs.NumberedWorld.{World}
 use Rattle.coord_world.specs.Ranges.{InRange}
+use Rattle.coord_world.proofs.SoundNode.{EpochsFit, epochs_fit}
 use Rattle.coord_world.proofs.RowsNext.{Adds, AllRows, Carries, rows_next}
-
--- what is kept of the epochs of a node
-pub record EpochsFit (count : ℕ) (r : NodeState) : Type 0 where
-  pub confirmed : r.confirmed ≤ r.epoch
-  pub entered : r.epoch ≤ count
 
 -- each change of a node keeps it
 carries_epochs : (count : ℕ) → Carries (λ x r. EpochsFit count r) (λ x r. EpochsFit (count + 1) r)
@@ -37,5 +33,5 @@ new_fits count s = tt
 pub epochs_next : (w settled : World) (s : Step) → InRange w → Legal w → IsFresh w settled s → AllRows (λ x r. EpochsFit (w.count + 1) r) (next w s).rows
 epochs_next w settled s range legal fresh =
     rows_next (λ x r. EpochsFit w.count r) (λ x r. EpochsFit (w.count + 1) r) w (carries_epochs w.count)
-    (λ x r is. let node = legal.nodes x r is in record { confirmed = node.confirmed; entered = node.entered })
+    (λ x r is. epochs_fit w.count r (legal.nodes x r is))
     settled s range (new_fits (w.count + 1) s) fresh

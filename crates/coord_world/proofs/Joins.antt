@@ -7,7 +7,7 @@ use Rattle.coord_types.specs.NodeState.{NodeState}
 use Rattle.coord_types.proofs.Sets.{contains-insert}
 use Rattle.coord_node.specs.IdealRules.{is_link, linked_up}
 use Rattle.coord_node.specs.Rules.{is_parent, with_neighbour}
-use Rattle.coord_world.specs.Legal.{LegalNode}
+use Rattle.coord_world.proofs.SoundNode.{SoundNode}
 use Rattle.coord_world.specs.Links.{end_of}
 use Rattle.coord_world.proofs.Acts.{LegalLinks, links_of, sound_of}
 use Rattle.coord_world.proofs.Cases.{by_test}
@@ -16,7 +16,7 @@ use Rattle.coord_world.proofs.Sound.{Sound}
 use Rattle.coord_world.proofs.Taken.{legal_end}
 
 -- a node with one more neighbour
-wider : (r : NodeState) (b : ℕ) → LegalNode r → LegalNode (with_neighbour r b)
+wider : (r : NodeState) (b : ℕ) → SoundNode r → SoundNode (with_neighbour r b)
 wider r b node = record {
   awaits = node.awaits;
   quiet = node.quiet;
@@ -72,10 +72,10 @@ module _ (w : Ideal) (a b : ℕ) (apart : a ≢ b) (free : w.linked a b ≡ fals
           both_ways false false e f = (links_of w sound).links x y (grind (arith, nat_tests))
 
   -- each node is legal
-  up_nodes : (x : ℕ) → LegalNode ((linked_up w a b).row x)
-  up_nodes x = by_test (eqb x b) (λ t. LegalNode (cond t (with_neighbour (w.row b) a) (cond (eqb x a) (with_neighbour (w.row a) b) (w.row x))))
+  up_nodes : (x : ℕ) → SoundNode ((linked_up w a b).row x)
+  up_nodes x = by_test (eqb x b) (λ t. SoundNode (cond t (with_neighbour (w.row b) a) (cond (eqb x a) (with_neighbour (w.row a) b) (w.row x))))
       (λ _. wider (w.row b) a (sound.nodes b))
-      (λ _. by_test (eqb x a) (λ t. LegalNode (cond t (with_neighbour (w.row a) b) (w.row x)))
+      (λ _. by_test (eqb x a) (λ t. SoundNode (cond t (with_neighbour (w.row a) b) (w.row x)))
       (λ _. wider (w.row a) b (sound.nodes a)) (λ _. sound.nodes x))
 
   -- each node names its links

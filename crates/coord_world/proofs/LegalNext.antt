@@ -1,9 +1,12 @@
 -- A fresh step keeps a world legal.
-use Rattle.std.proofs.Common.{sym, ◌∙◌, subst}
+use Rattle.std.proofs.Common.{◌+◌, sym, ◌∙◌, subst}
 use Rattle.coord_types.specs.declared.steps.Step.{Step}
 use Rattle.coord_world.specs.Acceptance.{IsFresh}
 use Rattle.coord_world.specs.Laws.{NextKeepsLegal}
-use Rattle.coord_world.specs.Legal.{Legal, LegalNode}
+use Rattle.coord_world.specs.Legal.{Legal}
+use Rattle.coord_world.specs.Links.{link}
+use Rattle.coord_world.proofs.SoundLink.{legal_link}
+use Rattle.coord_world.proofs.SoundNode.{SoundNode, legal_node}
 use Rattle.coord_world.specs.Next.{next}
 use Rattle.coord_world.specs.NumberedWorld.{World, view, state_or_none}
 use Rattle.coord_world.specs.Ranges.{InRange}
@@ -22,9 +25,7 @@ pub legal_next : NextKeepsLegal
 legal_next w settled s range legal fresh =
     let sound = sound_after w settled s range legal fresh in
     record {
-      nodes = λ u r is.
-          let fit = epochs_next w settled s range legal fresh u r is in
-          record { node = subst (λ o. LegalNode (state_or_none o)) is (sound.nodes u); confirmed = fit.confirmed; entered = fit.entered };
+      nodes = λ u r is. legal_node (w.count + 1) r (subst (λ o. SoundNode (state_or_none o)) is (sound.nodes u)) (epochs_next w settled s range legal fresh u r is);
       lanes = counts_next w settled s legal.lanes fresh;
-      links = λ u v linked. sound.links u v (sym (sound.linked u v) ∙ linked);
+      links = λ u v linked. legal_link (link (view (next w s)) u v) (sound.links u v (sym (sound.linked u v) ∙ linked));
     }

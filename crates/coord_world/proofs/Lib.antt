@@ -62,6 +62,8 @@ pub mod Short
 pub mod SignalCounts
 pub mod Sizes
 pub mod Sound
+pub mod SoundLink
+pub mod SoundNode
 pub mod StepEffect
 pub mod StoredWave
 pub mod Structure

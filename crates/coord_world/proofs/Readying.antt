@@ -1,11 +1,11 @@
 -- What a step that a world is ready for asks of the program is there.
-use Rattle.std.proofs.Common.{◌≡◌, ℕ, ◌-◌, ◌^◌, ◌<◌, Bool, true, false, ◌||◌, not, IsSome, ap, ◌∙◌, refl, arith, lit<}
+use Rattle.std.proofs.Common.{◌≡◌, ℕ, ◌-◌, ◌^◌, ◌<◌, Bool, true, false, ◌||◌, not, Some, IsSome, ap, ◌∙◌, refl, arith, lit<}
 use Rattle.std.specs.Prelude.{is_some}
 use Rattle.coord_types.specs.Table.{get, has}
 use Rattle.coord_types.specs.declared.packets.DataPacket.{DataPacket}
 use Rattle.coord_types.specs.declared.steps.Command.TheVariants.{Join, Drop, Reset}
 use Rattle.coord_types.specs.declared.steps.Step.TheVariants.{Order, Take}
-use Rattle.coord_link.specs.LaneMachine.{took}
+use Rattle.coord_link.specs.LaneMachine.{Lane, took}
 use Rattle.coord_node.specs.Rules.{request, lost, deed}
 use Rattle.coord_world.specs.NumberedWorld.{World, row}
 use Rattle.coord_world.specs.Next.{on_lane, ordered, does}
@@ -33,6 +33,13 @@ module _ (w : World) (range : InRange w) where
 
   pub count_room : w.count < 2 ^ 64 - 1
   count_room = let count = range.count in omega arith
+
+  -- and so can a lane's numbers
+  pub got_room : (u v : ℕ) (l : Lane) → get w.lanes (u, v) ≡ Some l → l.got < 2 ^ 64 - 1
+  got_room u v l there = let most = (range.lanes u v l there).got in let count = range.count in omega arith
+
+  pub base_room : (u v : ℕ) (l : Lane) → get w.lanes (u, v) ≡ Some l → l.base < 2 ^ 64 - 1
+  base_room u v l there = let most = (range.lanes u v l there).base in let count = range.count in omega arith
 
 module _ (w : World) (c n : ℕ) where
   pub reset_there : (u : ℕ) → IsReadyFor w (Order c n (Reset u)) → IsSome (get w.rows u)

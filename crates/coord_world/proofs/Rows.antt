@@ -7,7 +7,7 @@ use Rattle.coord_types.specs.NodeState.{NodeState, new_node}
 use Rattle.coord_types.proofs.Sets.{contains-empty, empty_of_len, len-empty}
 use Rattle.coord_node.specs.IdealRules.{acts, added, set_row}
 use Rattle.coord_node.specs.Rules.{idle, is_empty}
-use Rattle.coord_world.specs.Legal.{LegalNode}
+use Rattle.coord_world.proofs.SoundNode.{SoundNode}
 use Rattle.coord_world.specs.Links.{end_of}
 use Rattle.coord_world.proofs.Acts.{links_of, deed_kept}
 use Rattle.coord_world.proofs.Ends.{LegalBoth}
@@ -15,9 +15,9 @@ use Rattle.coord_world.proofs.Sets.{empty_has}
 use Rattle.coord_world.proofs.Sound.{Sound}
 
 -- a node's law looks at four fields
-pub same_node : (r s : NodeState) → r.mode ≡ s.mode → r.parent ≡ s.parent → r.pend ≡ s.pend → r.neighbours ≡ s.neighbours → LegalNode r → LegalNode s
+pub same_node : (r s : NodeState) → r.mode ≡ s.mode → r.parent ≡ s.parent → r.pend ≡ s.pend → r.neighbours ≡ s.neighbours → SoundNode r → SoundNode s
 same_node r s mode parent pend neighbours node =
-    subst LegalNode (λ i. record s { mode = mode i; parent = parent i; pend = pend i; neighbours = neighbours i })
+    subst SoundNode (λ i. record s { mode = mode i; parent = parent i; pend = pend i; neighbours = neighbours i })
     (record {
       awaits = node.awaits;
       quiet = node.quiet;
@@ -37,7 +37,7 @@ module _ (w : Ideal) (u : ℕ) (r : NodeState) (sound : Sound w) where
       same x y = grind (arith, nat_tests, contains-empty y, append-nil (w.way x y))
 
   -- it keeps a world sound where the neighbours and the ends of the links stay
-  pub row_kept : r.neighbours ≡ (w.row u).neighbours → LegalNode r → ((y : ℕ) → w.linked u y ≡ true → end_of r y ≡ end_of (w.row u) y) → Sound (set_row w u r)
+  pub row_kept : r.neighbours ≡ (w.row u).neighbours → SoundNode r → ((y : ℕ) → w.linked u y ≡ true → end_of r y ≡ end_of (w.row u) y) → Sound (set_row w u r)
   row_kept neighbours node ends = subst Sound (sym set_acts) (deed_kept w u (idle r) (links_of w sound)
       (λ y with_y. subst LegalBoth (λ i. record { here = sym (ends y with_y) i; there = end_of (w.row y) u; out = sym (nothing y) i; back = w.way y u }) ((links_of w sound).links u y with_y))
       sound neighbours node)
@@ -46,7 +46,7 @@ module _ (w : Ideal) (u : ℕ) (r : NodeState) (sound : Sound w) where
       nothing y = grind (arith, contains-empty y, append-nil (w.way u y))
 
 -- a node as it is added
-pub new_legal : (g : ℕ) → LegalNode (new_node g)
+pub new_legal : (g : ℕ) → SoundNode (new_node g)
 new_legal g = record {
   awaits = λ e. cc;
   quiet = λ e. grind (arith, nat_tests, len-empty);

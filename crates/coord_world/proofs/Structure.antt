@@ -2,7 +2,10 @@
 use Rattle.std.proofs.Common.{◌≡◌, ℕ, Option, Some, None, refl, sym, ◌∙◌}
 use Rattle.coord_types.specs.NodeState.{NodeState}
 use Rattle.coord_types.specs.Table.{get}
-use Rattle.coord_world.specs.Legal.{Legal, LegalNode}
+use Rattle.coord_world.specs.Legal.{Legal}
+use Rattle.coord_world.specs.Links.{link}
+use Rattle.coord_world.proofs.SoundLink.{sound_link}
+use Rattle.coord_world.proofs.SoundNode.{SoundNode, sound_node}
 use Rattle.coord_world.specs.NumberedWorld.{World, view, row, state_or_none}
 use Rattle.coord_world.specs.Ranges.{InRange}
 use Rattle.coord_world.proofs.Rows.{new_legal}
@@ -19,8 +22,8 @@ at_each w P none some u = of_option (get w.rows u) refl
 -- the structure by the ranges, the predicates by legality
 pub sound_view : (w : World) → InRange w → Legal w → Sound (view w)
 sound_view w range legal = record {
-  links = λ x y near. legal.links x y (range.linked x y ∙ near);
-  nodes = at_each w LegalNode (new_legal 0) (λ u r is. (legal.nodes u r is).node);
+  links = λ x y near. sound_link (link (view w) x y) (legal.links x y (range.linked x y ∙ near));
+  nodes = at_each w SoundNode (new_legal 0) (λ u r is. sound_node w.count r (legal.nodes u r is));
   linked = range.linked;
   mirrored = λ x y. sym (range.linked x y) ∙ range.mirrored x y ∙ range.linked y x;
   apart = λ x. sym (range.linked x x) ∙ range.apart x;

@@ -11,11 +11,12 @@ use Rattle.coord_world.proofs.After.{after_take, row_here, row_there, way_out, w
 use Rattle.coord_world.proofs.Ends.{LegalEnd, LegalBoth}
 use Rattle.coord_world.proofs.Sets.{empty_has}
 use Rattle.coord_world.proofs.Sound.{Sound}
-use Rattle.coord_world.specs.Legal.{LegalNode}
-use Rattle.coord_world.specs.Links.{Link, link, end_of, LegalLink}
+use Rattle.coord_world.proofs.SoundNode.{SoundNode}
+use Rattle.coord_world.specs.Links.{Link, link, end_of}
+use Rattle.coord_world.proofs.SoundLink.{SoundLink}
 
 -- what a node's own rules say at each of its ends
-pub legal_end : (r : NodeState) (v : ℕ) → LegalNode r → LegalEnd (end_of r v)
+pub legal_end : (r : NodeState) (v : ℕ) → SoundNode r → LegalEnd (end_of r v)
 legal_end r v node = grind (arith, node, empty_has r.pend v, node.parent_outside v)
 
 module _ (w : Ideal) (u : ℕ) (sound : Sound w) where
@@ -52,7 +53,7 @@ module _ (w : Ideal) (v u : ℕ) (m : Msg) (rest : List Msg) (front : w.way v u 
   apart_is : (x y : ℕ) → x ≢ u → y ≢ u → link (after_take w v u d) x y ≡ link w x y
   apart_is x y p q i = record { here = end_of (row_there w v u d x p i) y; there = end_of (row_there w v u d y q i) x; out = way_apart w v u d x y p q i; back = way_apart w v u d y x q p i }
 
-  module _ (near_kept : d.row.neighbours ≡ (w.row u).neighbours) (node : LegalNode d.row) (at_sender : LegalBoth near_after) (elsewhere : (y : ℕ) → y ≢ v → contains (w.row u).neighbours y ≡ true → LegalBoth (far_after y)) where
+  module _ (near_kept : d.row.neighbours ≡ (w.row u).neighbours) (node : SoundNode d.row) (at_sender : LegalBoth near_after) (elsewhere : (y : ℕ) → y ≢ v → contains (w.row u).neighbours y ≡ true → LegalBoth (far_after y)) where
     -- the neighbours stay
     nears : (x : ℕ) → ((after_take w v u d).row x).neighbours ≡ (w.row x).neighbours
     nears x = elim (same_or_apart x u) [
@@ -68,20 +69,20 @@ module _ (w : Ideal) (v u : ℕ) (m : Msg) (rest : List Msg) (front : w.way v u 
     ]
 
     -- each link is legal
-    links_kept : (x y : ℕ) → contains (w.row x).neighbours y ≡ true → LegalLink (link (after_take w v u d) x y)
+    links_kept : (x y : ℕ) → contains (w.row x).neighbours y ≡ true → SoundLink (link (after_take w v u d) x y)
     links_kept x y with_y = elim (same_or_apart x u) [
-      | inl same ↦ subst (λ z. LegalLink (link (after_take w v u d) z y)) (sym same) (here_legal y (subst (λ z. contains (w.row z).neighbours y ≡ true) same with_y)).from
+      | inl same ↦ subst (λ z. SoundLink (link (after_take w v u d) z y)) (sym same) (here_legal y (subst (λ z. contains (w.row z).neighbours y ≡ true) same with_y)).from
       | inr apart ↦ elim (same_or_apart y u) [
-        | inl same ↦ subst (λ z. LegalLink (link (after_take w v u d) x z)) (sym same) (here_legal x (sym (sound.mirrored x u) ∙ subst (λ z. contains (w.row x).neighbours z ≡ true) same with_y)).to
-        | inr far ↦ subst LegalLink (sym (apart_is x y apart far)) (sound.links x y with_y)
+        | inl same ↦ subst (λ z. SoundLink (link (after_take w v u d) x z)) (sym same) (here_legal x (sym (sound.mirrored x u) ∙ subst (λ z. contains (w.row x).neighbours z ≡ true) same with_y)).to
+        | inr far ↦ subst SoundLink (sym (apart_is x y apart far)) (sound.links x y with_y)
       ]
     ]
 
     -- each node is legal
-    nodes_kept : (x : ℕ) → LegalNode ((after_take w v u d).row x)
+    nodes_kept : (x : ℕ) → SoundNode ((after_take w v u d).row x)
     nodes_kept x = elim (same_or_apart x u) [
-      | inl same ↦ subst (λ z. LegalNode ((after_take w v u d).row z)) (sym same) (subst LegalNode (sym (row_here w v u d)) node)
-      | inr apart ↦ subst LegalNode (sym (row_there w v u d x apart)) (sound.nodes x)
+      | inl same ↦ subst (λ z. SoundNode ((after_take w v u d).row z)) (sym same) (subst SoundNode (sym (row_here w v u d)) node)
+      | inr apart ↦ subst SoundNode (sym (row_there w v u d x apart)) (sound.nodes x)
     ]
 
     -- so the world is sound
