@@ -1,18 +1,18 @@
 -- When nothing is told.
 use Rattle.std.proofs.Common.{◌≡◌, ℕ, zero, suc, ◌+◌, ◌-◌, ◌<◌, ◌≤◌, Bool, true, false, List, [], ◌∷◌, ◌++◌, refl, sym, ap, ◌∙◌, ◌⊎◌, inl, inr, arith}
-use Rattle.std.specs.List.{flat_map, range_with_len}
+use Rattle.std.specs.List.{AllByRecursion, flat_map, range_with_len}
 use Rattle.coord_check.specs.declared.violation.Letter.{Letter}
 use Rattle.coord_check.specs.declared.violation.Letter.TheVariants as letter
 use Rattle.coord_check.specs.declared.violation.Violation.{Violation}
 use Rattle.coord_check.specs.Faults.{nodes_from, told, link_letters}
 
-pub untold : (b : Bool) (v : Violation) → told b v ≡ [] → b ≡ false
-untold true v is = cc
-untold false v is = refl
+pub untold : (b : Bool) (v : Violation) → told b v ≡ [] → b ≡ true
+untold true v is = refl
+untold false v is = cc
 
-pub not_told : (b : Bool) (v : Violation) → b ≡ false → told b v ≡ []
-not_told true v is = cc
-not_told false v is = refl
+pub not_told : (b : Bool) (v : Violation) → b ≡ true → told b v ≡ []
+not_told true v is = refl
+not_told false v is = cc
 
 pub both_empty : {X : Type 0} (xs ys : List X) → xs ++ ys ≡ [] → (xs ≡ []) × (ys ≡ [])
 both_empty [] ys is = (refl, is)
@@ -44,16 +44,21 @@ module _ {X : Type 0} (f : ℕ → List X) where
   tell_none u all = empty_range u (65 - u) (λ v le lt. all v le (omega arith))
 
 module _ {X : Type 0} (f : Letter → List X) where
+  each_empty : (xs : List Letter) → flat_map f xs ≡ [] → AllByRecursion (λ x. f x ≡ []) xs
+  each_empty [] is = tt
+  each_empty (x ∷ xs) is = let parts = both_empty (f x) (flat_map f xs) is in (parts.0, each_empty xs parts.1)
+
+  -- what no letter tells, each letter of a link doesn't
   pub no_letter : f letter.N ≡ [] → flat_map f link_letters ≡ [] → (x : Letter) → f x ≡ []
   unfolding link_letters
   no_letter none is letter.N = none
-  no_letter none is letter.A = (both_empty (f letter.A) _ is).0
-  no_letter none is letter.B = (both_empty (f letter.B) _ (both_empty (f letter.A) _ is).1).0
-  no_letter none is letter.C = (both_empty (f letter.C) _ (both_empty (f letter.B) _ (both_empty (f letter.A) _ is).1).1).0
-  no_letter none is letter.D = (both_empty (f letter.D) _ (both_empty (f letter.C) _ (both_empty (f letter.B) _ (both_empty (f letter.A) _ is).1).1).1).0
-  no_letter none is letter.E = (both_empty (f letter.E) _ (both_empty (f letter.D) _ (both_empty (f letter.C) _ (both_empty (f letter.B) _ (both_empty (f letter.A) _ is).1).1).1).1).0
-  no_letter none is letter.F = (both_empty (f letter.F) _ (both_empty (f letter.E) _ (both_empty (f letter.D) _ (both_empty (f letter.C) _ (both_empty (f letter.B) _ (both_empty (f letter.A) _ is).1).1).1).1).1).0
-  no_letter none is letter.G = (both_empty (f letter.G) _ (both_empty (f letter.F) _ (both_empty (f letter.E) _ (both_empty (f letter.D) _ (both_empty (f letter.C) _ (both_empty (f letter.B) _ (both_empty (f letter.A) _ is).1).1).1).1).1).1).0
+  no_letter none is letter.A = (each_empty link_letters is).0
+  no_letter none is letter.B = (each_empty link_letters is).1.0
+  no_letter none is letter.C = (each_empty link_letters is).1.1.0
+  no_letter none is letter.D = (each_empty link_letters is).1.1.1.0
+  no_letter none is letter.E = (each_empty link_letters is).1.1.1.1.0
+  no_letter none is letter.F = (each_empty link_letters is).1.1.1.1.1.0
+  no_letter none is letter.G = (each_empty link_letters is).1.1.1.1.1.1.0
 
   flat_nothing : (xs : List Letter) → ((x : Letter) → f x ≡ []) → flat_map f xs ≡ []
   flat_nothing [] all = refl

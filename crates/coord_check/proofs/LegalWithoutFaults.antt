@@ -1,23 +1,20 @@
 -- A world has no fault exactly where it is legal.
-use Rattle.std.proofs.Common.{◌≡◌, ℕ, ◌+◌, ◌≤◌, ◌<◌, ◌⊎◌, inl, inr, Bool, true, false, ◌&&◌, [], Option, Some, None, refl, sym, ap, ◌∙◌, arith}
+use Rattle.std.proofs.Common.{◌≡◌, ℕ, ◌+◌, ◌≤◌, ◌<◌, ◌⊎◌, inl, inr, Bool, true, false, List, [], Option, Some, None, refl, sym, ap, ◌∙◌, arith}
 use Rattle.std.specs.Prelude.{is_some, IsNone, if◌then◌else◌}
 use Rattle.std.specs.List.{flat_map}
 use Rattle.coord_types.specs.NodeState.{NodeState}
-use Rattle.coord_types.specs.Table.{get, has}
-use Rattle.coord_link.specs.LaneMachine.{Lane}
-use Rattle.coord_world.specs.Legal.{Legal, LegalAt}
-use Rattle.coord_world.specs.Links.{link}
-use Rattle.coord_world.specs.NumberedWorld.{World, view, row, is_linked, state_or_none}
+use Rattle.coord_types.specs.Table.{get}
+use Rattle.coord_world.specs.Parts.{lane_or_none}
+use Rattle.coord_link.specs.LaneMachine.{Lane, has_front_taken_at_most}
+use Rattle.coord_world.specs.Legal.{Legal, is_legal_node}
+use Rattle.coord_world.specs.NumberedWorld.{World, is_linked, state_or_none}
 use Rattle.coord_world.specs.Ranges.{InRange}
 use Rattle.coord_check.specs.declared.violation.Letter.{Letter}
 use Rattle.coord_check.specs.declared.violation.Letter.TheVariants as letter
 use Rattle.coord_check.specs.declared.violation.Violation.{Violation}
-use Rattle.coord_check.specs.Letters.{is_unsound, miscounts}
-use Rattle.coord_check.specs.Faults.{first, breaks, node_faults, end_faults, letter_faults, link_letters, link_faults, faults_from, nodes_from, faults}
-use Rattle.coord_check.proofs.Empties.{untold, not_told, both_empty, empty_both, none_told, tell_none, no_letter, letters_none}
-use Rattle.coord_check.proofs.Firsts.{no_first, there}
-use Rattle.coord_check.proofs.Links.{counts_from, counts_to, legal_link, accounted, at_most_one, none_late, waits_not, circles_not, early_not}
-use Rattle.coord_check.proofs.Nodes.{legal_node, node_legal}
+use Rattle.coord_check.specs.Faults.{first, told, link_holds, node_faults, end_faults, letter_faults, link_letters, link_faults, faults_from, nodes_from, faults}
+use Rattle.coord_check.proofs.NoFaults.{untold, not_told, both_empty, empty_both, none_told, tell_none, no_letter, letters_none}
+use Rattle.coord_check.proofs.FirstFault.{no_first, there}
 
 order : (u v : ℕ) → (u < v) ⊎ ((v < u) ⊎ (u ≡ v))
 order u v = grind arith
@@ -27,14 +24,18 @@ has_one None is = cc
 has_one (Some x) is = (x, refl)
 
 module _ (w : World) (range : InRange w) where
+  -- what is told of a node, there or not
+  abbrev node_told : ℕ → Option NodeState → List Violation
+  node_told u o = if is_some o then told (is_legal_node w.count (state_or_none o)) (record { a = u; b = u; letter = letter.N }) else []
+
   is_node : (u v : ℕ) → is_linked w u v ≡ true → (1 ≤ u) × (u ≤ 64)
   is_node u v is =
       let found : (r : NodeState) × (get w.rows u ≡ Some r) = has_one (get w.rows u) (range.ends u v is) in
       let named = range.nodes u found.0 found.1 in
       (named.least, named.greatest)
 
-  -- where nothing is told of a link, neither end sees a letter broken
-  clean_link : (a b : ℕ) → is_linked w a b ≡ true → link_faults w a b ≡ [] → (x : Letter) → (breaks w a b x ≡ false) × (breaks w b a x ≡ false)
+  -- where nothing is told of a link, each letter holds as both ends see it
+  clean_link : (a b : ℕ) → is_linked w a b ≡ true → link_faults w a b ≡ [] → (x : Letter) → (link_holds w a b x ≡ true) × (link_holds w b a x ≡ true)
   clean_link a b is none x =
       let each : letter_faults w a b x ≡ [] = no_letter (letter_faults w a b) refl (sym (there w a b is) ∙ none) x in
       let ends = both_empty (end_faults w a b x) (end_faults w b a x) each in
@@ -48,8 +49,8 @@ module _ (w : World) (range : InRange w) where
         let other = is_node b a (sym (range.mirrored a b) ∙ is) in
         none_told (link_faults w a) (a + 1) (none_told (faults_from w) 1 parts.1 a node.0 node.1) b (omega arith) other.1
 
-    unbroken : (u v : ℕ) → is_linked w u v ≡ true → (x : Letter) → breaks w u v x ≡ false
-    unbroken u v is x =
+    each_holds : (u v : ℕ) → is_linked w u v ≡ true → (x : Letter) → link_holds w u v x ≡ true
+    each_holds u v is x =
         let back : is_linked w v u ≡ true = sym (range.mirrored u v) ∙ is in
         elim (order u v) [
           | inl less ↦ (clean_link u v is (lesser_first u v less is) x).0
@@ -57,32 +58,39 @@ module _ (w : World) (range : InRange w) where
           | inr (inr same) ↦ let e : is_linked w u u ≡ true = ap (is_linked w u) same ∙ is in let none = range.apart u in cc
         ]
 
-    sound_at : (u : ℕ) (r : NodeState) → get w.rows u ≡ Some r → LegalAt w.count r
-    sound_at u r is =
+    node_holds : (u : ℕ) (r : NodeState) → get w.rows u ≡ Some r → is_legal_node w.count r ≡ true
+    node_holds u r is =
         let parts = both_empty (flat_map (node_faults w) (nodes_from 1)) (flat_map (faults_from w) (nodes_from 1)) clear in
         let named = range.nodes u r is in
-        let test : (has w.rows u && is_unsound w.count (row w u)) ≡ false = untold _ _ (none_told (node_faults w) 1 parts.0 u named.least named.greatest) in
-        legal_node w.count r (ap (λ o. is_some o && is_unsound w.count (state_or_none o)) (sym is) ∙ test)
+        let none : node_faults w u ≡ [] = none_told (node_faults w) 1 parts.0 u named.least named.greatest in
+        untold _ (record { a = u; b = u; letter = letter.N }) (ap (node_told u) (sym is) ∙ none)
 
     pub legal_where_clear : Legal w
     legal_where_clear = record {
-      nodes = sound_at;
-      lanes = λ u v l is. counts_from l (ap miscounts (sym is) ∙ unbroken u v (ap is_some is) letter.A);
-      links = λ u v is. legal_link (link (view w) u v) (unbroken u v is letter.B) (unbroken u v is letter.C) (unbroken u v is letter.D) (unbroken u v is letter.E) (unbroken u v is letter.F) (unbroken u v is letter.G);
+      nodes = node_holds;
+      lanes = λ u v l is. ap (λ o. has_front_taken_at_most (lane_or_none o)) (sym is) ∙ each_holds u v (ap is_some is) letter.A;
+      links = λ u v is. record {
+        ack_in_one_place = each_holds u v is letter.B;
+        one_ready_at_most = each_holds u v is letter.C;
+        readies_first = each_holds u v is letter.D;
+        ready_for_child = each_holds u v is letter.E;
+        one_parent_at_most = each_holds u v is letter.F;
+        no_early_ready = each_holds u v is letter.G;
+      };
     }
 
   module _ (legal : Legal w) where
-    holds : (u v : ℕ) → is_linked w u v ≡ true → (x : Letter) → breaks w u v x ≡ false
+    holds : (u v : ℕ) → is_linked w u v ≡ true → (x : Letter) → link_holds w u v x ≡ true
     holds u v is letter.N = refl
     holds u v is letter.A =
         let found : (l : Lane) × (get w.lanes (u, v) ≡ Some l) = has_one (get w.lanes (u, v)) is in
-        ap miscounts found.1 ∙ counts_to found.0 (legal.lanes u v found.0 found.1)
-    holds u v is letter.B = accounted (link (view w) u v) (legal.links u v is).counted
-    holds u v is letter.C = at_most_one (link (view w) u v) (legal.links u v is).one_ready
-    holds u v is letter.D = none_late (link (view w) u v) (legal.links u v is).ready_first
-    holds u v is letter.E = waits_not (link (view w) u v) (legal.links u v is)
-    holds u v is letter.F = circles_not (link (view w) u v) (legal.links u v is)
-    holds u v is letter.G = early_not (link (view w) u v) (legal.links u v is)
+        ap (λ o. has_front_taken_at_most (lane_or_none o)) found.1 ∙ legal.lanes u v found.0 found.1
+    holds u v is letter.B = (legal.links u v is).ack_in_one_place
+    holds u v is letter.C = (legal.links u v is).one_ready_at_most
+    holds u v is letter.D = (legal.links u v is).readies_first
+    holds u v is letter.E = (legal.links u v is).ready_for_child
+    holds u v is letter.F = (legal.links u v is).one_parent_at_most
+    holds u v is letter.G = (legal.links u v is).no_early_ready
 
     no_link_fault : (a b : ℕ) → link_faults w a b ≡ []
     no_link_fault a b = of_test (is_linked w a b) refl
@@ -94,11 +102,11 @@ module _ (w : World) (range : InRange w) where
         of_test false is = ap (λ t. if t then flat_map (letter_faults w a b) link_letters else []) is
 
     no_node_fault : (u : ℕ) → node_faults w u ≡ []
-    no_node_fault u = not_told _ _ (of_option (get w.rows u) refl)
+    no_node_fault u = of_option (get w.rows u) refl
       where
-        of_option : (o : Option NodeState) → get w.rows u ≡ o → (is_some o && is_unsound w.count (state_or_none o)) ≡ false
+        of_option : (o : Option NodeState) → get w.rows u ≡ o → node_told u o ≡ []
         of_option None is = refl
-        of_option (Some r) is = node_legal w.count r (legal.nodes u r is)
+        of_option (Some r) is = not_told _ _ (legal.nodes u r is)
 
     pub clear_where_legal : faults w ≡ []
     clear_where_legal =

@@ -1,13 +1,17 @@
 -- The first fault of many places in turn.
-use Rattle.std.proofs.Common.{◌≡◌, ℕ, zero, suc, ◌+◌, ◌-◌, ◌<◌, ◌≤◌, Bool, true, false, Some, None, List, [], ◌∷◌, ◌++◌, length, get_or, drop, refl, sym, ap, ◌∙◌, arith}
+use Rattle.std.proofs.Common.{◌≡◌, ℕ, zero, suc, ◌+◌, ◌-◌, ◌<◌, ◌≤◌, Bool, true, false, Option, Some, None, List, [], ◌∷◌, ◌++◌, length, get_or, drop, refl, sym, ap, ◌∙◌, arith}
 use Rattle.std.specs.List.{flat_map, range_with_len}
 use Rattle.std.proofs.lemmas.List.{drop_more}
-use Rattle.coord_world.specs.NumberedWorld.{World, is_linked}
+use Rattle.coord_types.specs.Table.{get}
+use Rattle.coord_link.specs.LaneMachine.{Lane, transit}
+use Rattle.coord_world.specs.Links.{link}
+use Rattle.coord_world.specs.NumberedWorld.{World, view, is_linked, transit_or_none}
+use Rattle.coord_world.specs.Parts.{lane_or_none}
 use Rattle.coord_check.specs.declared.violation.Letter.{Letter}
 use Rattle.coord_check.specs.declared.violation.Letter.TheVariants as letter
 use Rattle.coord_check.specs.declared.violation.Violation.{Violation}
-use Rattle.coord_check.specs.Faults.{first, nodes_from, breaks, told, end_faults, letter_faults, link_letters, link_faults}
-use Rattle.coord_check.specs.Sides.{breaks_at, side}
+use Rattle.coord_check.specs.Faults.{first, nodes_from, holds_of, link_holds, told, end_faults, letter_faults, link_letters, link_faults}
+use Rattle.coord_check.specs.Sides.{side, end_at, seen}
 use Rattle.coord_check.specs.declared.side.Side.{Side}
 use Rattle.std.specs.Prelude.{if◌then◌else◌}
 
@@ -58,22 +62,20 @@ module _ {K X : Type 0} (f : K → List X) (ks : List K) (i : ℕ) (d : K) where
   pub met_at : (x : X) → i < length ks → first (f (get_or ks i d)) ≡ Some x → first (flat_map f (drop i ks)) ≡ Some x
   met_at x lt is = at_place lt ∙ first_here (f (get_or ks i d)) (flat_map f (drop (i + 1) ks)) x is
 
--- the code's reading of two ends
-breaks_is : (w : World) (u v : ℕ) (x : Letter) → breaks w u v x ≡ breaks_at x (side w u v) (side w v u)
-breaks_is w u v letter.N = refl
-breaks_is w u v letter.A = refl
-breaks_is w u v letter.B = refl
-breaks_is w u v letter.C = refl
-breaks_is w u v letter.D = refl
-breaks_is w u v letter.E = refl
-breaks_is w u v letter.F = refl
-breaks_is w u v letter.G = refl
+-- what is on the way on a lane, there or not
+way_is : (o : Option Lane) → transit_or_none o ≡ transit (lane_or_none o)
+way_is None = refl
+way_is (Some l) = refl
 
-told_true : (b : Bool) (v : Violation) → b ≡ true → told b v ≡ v ∷ []
+-- the code's reading of two ends
+link_is : (w : World) (u v : ℕ) → link (view w) u v ≡ seen (side w u v) (side w v u)
+link_is w u v i = record { here = end_at (side w u v); there = end_at (side w v u); out = way_is (get w.lanes (u, v)) i; back = way_is (get w.lanes (v, u)) i }
+
+told_true : (b : Bool) (v : Violation) → b ≡ true → told b v ≡ []
 told_true true v is = refl
 told_true false v is = cc
 
-told_false : (b : Bool) (v : Violation) → b ≡ false → told b v ≡ []
+told_false : (b : Bool) (v : Violation) → b ≡ false → told b v ≡ v ∷ []
 told_false true v is = cc
 told_false false v is = refl
 
@@ -101,26 +103,26 @@ module _ (w : World) (a b : ℕ) where
   none_left i le ge = let e : i ≡ 7 = omega arith in sym (left_is i) ∙ ap (λ k. first (flat_map (letter_faults w a b) (drop k tried))) e
 
   module _ (i : ℕ) (lt : i < 7) (x : Letter) (at : get_or tried i letter.N ≡ x) (near far : Side) (n : near ≡ side w a b) (f : far ≡ side w b a) where
-    here : (t s : Bool) → t ≡ breaks_at x near far → t ≡ s → breaks w a b x ≡ s
-    here t s e is = breaks_is w a b x ∙ sym (λ j. breaks_at x (n j) (f j)) ∙ sym e ∙ is
+    here : (t s : Bool) → t ≡ holds_of x near.lane (seen near far) → t ≡ s → link_holds w a b x ≡ s
+    here t s e is = ap (holds_of x (side w a b).lane) (link_is w a b) ∙ sym (λ j. holds_of x (n j).lane (seen (n j) (f j))) ∙ sym e ∙ is
 
-    back : (t s : Bool) → t ≡ breaks_at x far near → t ≡ s → breaks w b a x ≡ s
-    back t s e is = breaks_is w b a x ∙ sym (λ j. breaks_at x (f j) (n j)) ∙ sym e ∙ is
+    back : (t s : Bool) → t ≡ holds_of x far.lane (seen far near) → t ≡ s → link_holds w b a x ≡ s
+    back t s e is = ap (holds_of x (side w b a).lane) (link_is w b a) ∙ sym (λ j. holds_of x (f j).lane (seen (f j) (n j))) ∙ sym e ∙ is
 
     met_letter : (v : Violation) → first (letter_faults w a b x) ≡ Some v → first (flat_map (letter_faults w a b) (drop i link_letters)) ≡ Some v
     met_letter v is = sym (left_is i) ∙ met_at (letter_faults w a b) tried i letter.N v lt (ap (λ y. first (letter_faults w a b y)) at ∙ is)
 
     -- this end sees the letter broken
-    pub broken_here : (t : Bool) → t ≡ breaks_at x near far → t ≡ true → first (flat_map (letter_faults w a b) (drop i link_letters)) ≡ Some (record { a = a; b = b; letter = x })
-    broken_here t e is = met_letter _ (ap (λ l. first (l ++ end_faults w b a x)) (told_true _ _ (here t true e is)))
+    pub broken_here : (t : Bool) → t ≡ holds_of x near.lane (seen near far) → t ≡ false → first (flat_map (letter_faults w a b) (drop i link_letters)) ≡ Some (record { a = a; b = b; letter = x })
+    broken_here t e is = met_letter _ (ap (λ l. first (l ++ end_faults w b a x)) (told_false _ _ (here t false e is)))
 
     -- the other end alone does
-    pub broken_back : (t s : Bool) → t ≡ breaks_at x near far → t ≡ false → s ≡ breaks_at x far near → s ≡ true → first (flat_map (letter_faults w a b) (drop i link_letters)) ≡ Some (record { a = b; b = a; letter = x })
+    pub broken_back : (t s : Bool) → t ≡ holds_of x near.lane (seen near far) → t ≡ true → s ≡ holds_of x far.lane (seen far near) → s ≡ false → first (flat_map (letter_faults w a b) (drop i link_letters)) ≡ Some (record { a = b; b = a; letter = x })
     broken_back t s e not_here d is =
-        met_letter _ (ap (λ l. first (l ++ end_faults w b a x)) (told_false _ _ (here t false e not_here)) ∙ ap first (told_true _ _ (back s true d is)))
+        met_letter _ (ap (λ l. first (l ++ end_faults w b a x)) (told_true _ _ (here t true e not_here)) ∙ ap first (told_false _ _ (back s false d is)))
 
     -- neither does
-    pub unbroken_letter : (t s : Bool) → t ≡ breaks_at x near far → t ≡ false → s ≡ breaks_at x far near → s ≡ false → first (flat_map (letter_faults w a b) (drop (i + 1) link_letters)) ≡ first (flat_map (letter_faults w a b) (drop i link_letters))
+    pub unbroken_letter : (t s : Bool) → t ≡ holds_of x near.lane (seen near far) → t ≡ true → s ≡ holds_of x far.lane (seen far near) → s ≡ true → first (flat_map (letter_faults w a b) (drop (i + 1) link_letters)) ≡ first (flat_map (letter_faults w a b) (drop i link_letters))
     unbroken_letter t s e not_here d not_back =
-        let none : first (letter_faults w a b x) ≡ None = ap (λ l. first (l ++ end_faults w b a x)) (told_false _ _ (here t false e not_here)) ∙ ap first (told_false _ _ (back s false d not_back)) in
+        let none : first (letter_faults w a b x) ≡ None = ap (λ l. first (l ++ end_faults w b a x)) (told_true _ _ (here t true e not_here)) ∙ ap first (told_true _ _ (back s true d not_back)) in
         sym (left_is (i + 1)) ∙ passed_at (letter_faults w a b) tried i letter.N lt (ap (λ y. first (letter_faults w a b y)) at ∙ none) ∙ left_is i
