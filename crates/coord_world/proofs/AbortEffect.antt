@@ -1,28 +1,27 @@
 -- What an Abort that is taken does to a wave.
-use Rattle.std.proofs.Common.{◌≡◌, ◌≢◌, ℕ, ◌≤◌, true, false, List, [], ◌∷◌, Some, refl, sym, ap, ◌∙◌, arith, cond}
+use Rattle.std.proofs.Common.{◌≡◌, ◌≢◌, ℕ, ◌≤◌, true, false, List, [], ◌∷◌, ◌++◌, Some, refl, sym, ap, ◌∙◌, arith}
 use Rattle.std.specs.Prelude.{count_by}
 use Rattle.std.proofs.lemmas.Bool.Decides.{nat_tests}
 use Rattle.coord_types.specs.IdealWorld.{Ideal}
 use Rattle.coord_types.specs.NodeSet as set
 use Rattle.coord_types.specs.NodeSet.{NodeSet, contains}
 use Rattle.coord_types.specs.NodeState.{NodeState}
-use Rattle.coord_types.specs.declared.messages.Mode.{Mode}
-use Rattle.coord_types.specs.declared.messages.Mode.TheVariants.{Ready, Abort, Converge}
+use Rattle.coord_types.specs.declared.messages.Mode.TheVariants.{Ready}
 use Rattle.coord_types.specs.declared.messages.Msg.{Msg}
 use Rattle.coord_types.specs.declared.messages.Msg.TheVariants as msg
 use Rattle.coord_types.specs.declared.steps.Kind.TheVariants.{Taken}
 use Rattle.coord_node.specs.IdealRules.{added, headed}
-use Rattle.coord_node.specs.Rules.{Deed, is_empty, on_abort, on_abort_in, wave_on, wave_back, answer}
+use Rattle.coord_node.specs.Rules.{Deed, is_empty, on_abort, wave_on, wave_back, answer}
 use Rattle.coord_world.specs.Links.{aborts, is_ready}
 use Rattle.coord_world.specs.Outputs.{signals}
 use Rattle.coord_world.specs.Waves.{is_signal_of}
-use Rattle.coord_world.proofs.After.{after_take, row_here, row_there, way_out, way_back, way_apart}
+use Rattle.coord_world.proofs.Acts.{not_self, row_here, row_there}
 use Rattle.coord_world.proofs.Calms.{calm_take, same_places}
-use Rattle.coord_world.proofs.Cases.{by_test}
 use Rattle.coord_world.proofs.Effects.{Effect, Reaches}
 use Rattle.coord_world.proofs.Sets.{empty_has, has_remove, has_only}
 use Rattle.coord_world.proofs.Sound.{Sound}
-use Rattle.coord_world.proofs.Taken.{not_self}
+use Rattle.coord_world.proofs.RuleCases.{abort_cases}
+use Rattle.coord_world.proofs.Taken.{after_take}
 use Rattle.coord_world.proofs.Ways.{aborts-append}
 
 -- what a deed at t does to a wave, after a message from v
@@ -44,18 +43,26 @@ module _ (z : Ideal) (v t : ℕ) (rest : List Msg) (front : z.way v t ≡ msg.Ab
     was = ready;
     near = near;
     came = grind (arith, ap aborts front);
-    busy = ap (λ (r : NodeState). is_ready r.mode) (row_here z v t d) ∙ busy;
-    parent = ap (λ (r : NodeState). r.parent) (row_here z v t d) ∙ parent;
-    elsewhere = row_there z v t d;
-    left = ap aborts (way_back z v t d msg.Abort rest apart front) ∙ alone;
+    busy = ap (λ (r : NodeState). is_ready r.mode) (row_here (headed z v t) t d) ∙ busy;
+    parent = ap (λ (r : NodeState). r.parent) (row_here (headed z v t) t d) ∙ parent;
+    elsewhere = row_there (headed z v t) t d;
+    left = ap aborts way_back ∙ alone;
     sent = λ x near_x far.
         let more = sends x near_x far in
         let both = aborts-append (z.way t x) (added d x) in
-        let out = ap aborts (way_out z v t d x (not_self z t sound x near_x) (sound.linked t x ∙ near_x)) in
+        let out = ap aborts (sends_out x (not_self z t sound x near_x) (sound.linked t x ∙ near_x)) in
         omega arith;
-    apart = way_apart z v t d;
+    apart = λ x y p q. grind (arith, nat_tests, p, q);
   }
     where
+      -- what it sends is behind what was on the way
+      sends_out : (x : ℕ) → x ≢ t → z.linked t x ≡ true → (after_take z v t d).way t x ≡ z.way t x ++ added d x
+      sends_out x far linked = grind (arith, nat_tests)
+
+      -- the message has left the way
+      way_back : (after_take z v t d).way v t ≡ rest
+      way_back = grind (arith, nat_tests, front)
+
       -- no second Abort was behind it
       alone : aborts rest ≡ 0
       alone = let count = (sound.links v t (sym (sound.mirrored t v) ∙ near)).counted in grind (arith, count, ap aborts front)
@@ -82,12 +89,6 @@ module _ (z : Ideal) (v t : ℕ) (rest : List Msg) (front : z.way v t ≡ msg.Ab
         calm = calm_take z v t d (λ y. grind (arith, nat_tests, has_only v y)) (λ ready. cc);
       }) (λ x. refl) refl
 
-  -- by the mode of the node
-  in_mode : (m : Mode) → (z.row t).mode ≡ m → TakeEffect z v t (on_abort_in m (z.row t) v)
-  in_mode Ready e = by_test (is_empty others) (λ b. TakeEffect z v t (cond b (wave_back (z.row t) v) (wave_on (z.row t) (Some v) others))) (acknowledges e) (waits e)
-  in_mode Abort e = answers (ap is_ready e)
-  in_mode Converge e = answers (ap is_ready e)
-
   -- an Abort that is taken
   pub abort_effect : TakeEffect z v t (on_abort (z.row t) v)
-  abort_effect = in_mode (z.row t).mode refl
+  abort_effect = abort_cases (z.row t) v (TakeEffect z v t) acknowledges waits answers

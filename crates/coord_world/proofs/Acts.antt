@@ -1,22 +1,35 @@
--- A deed at a node that takes nothing.
-use Rattle.std.proofs.Common.{◌≡◌, ◌≢◌, ℕ, true, false, ◌++◌, None, cond, refl, sym, ap, ◌∙◌, subst, inl, inr, arith}
+-- A deed at one node of a world keeps it sound, where it keeps the node's own links legal: the others stay.
+use Rattle.std.proofs.Common.{◌≡◌, ◌≢◌, ℕ, true, false, ◌++◌, refl, sym, ap, ◌∙◌, subst, inl, inr, arith}
 use Rattle.std.proofs.lemmas.Bool.Decides.{nat_tests}
-use Rattle.std.proofs.lemmas.List.{append-nil}
-use Rattle.coord_types.specs.NodeState.{NodeState}
-use Rattle.coord_types.specs.NodeSet.{contains}
-use Rattle.coord_types.proofs.Sets.{contains-empty}
-use Rattle.coord_types.specs.declared.messages.Mode.{Mode}
-use Rattle.coord_types.specs.declared.messages.Mode.TheVariants.{Ready, Abort, Converge}
-use Rattle.coord_node.specs.IdealRules.{acts, added}
-use Rattle.coord_node.specs.Rules.{Deed, is_empty, request, request_in, wave_on, finish, idle}
 use Rattle.coord_types.specs.IdealWorld.{Ideal}
+use Rattle.coord_types.specs.NodeSet.{contains}
+use Rattle.coord_types.specs.NodeState.{NodeState}
+use Rattle.coord_node.specs.IdealRules.{acts, added}
+use Rattle.coord_node.specs.Rules.{Deed}
+use Rattle.coord_world.specs.Links.{Link, link, end_of, turned}
 use Rattle.coord_world.proofs.Cases.{by_test, same_or_apart}
-use Rattle.coord_world.proofs.Ends.{LegalBoth, wave_goes_on}
+use Rattle.coord_world.proofs.Ends.{LegalBoth, LegalEnd}
 use Rattle.coord_world.proofs.Sets.{empty_has}
 use Rattle.coord_world.proofs.Sound.{Sound}
-use Rattle.coord_world.proofs.Taken.{both_before, not_self}
 use Rattle.coord_world.proofs.SoundNode.{SoundNode}
-use Rattle.coord_world.specs.Links.{Link, link, end_of, turned, is_abort}
+
+-- what a node's own rules say at each of its ends
+pub legal_end : (r : NodeState) (v : ℕ) → SoundNode r → LegalEnd (end_of r v)
+legal_end r v node = grind (arith, node, empty_has r.pend v, node.parent_outside v)
+
+module _ (w : Ideal) (u : ℕ) (sound : Sound w) where
+  -- no node is its own neighbour
+  pub not_self : (y : ℕ) → contains (w.row u).neighbours y ≡ true → y ≢ u
+  not_self y with_y same = let none = sound.apart u in let some = subst (λ z. contains (w.row u).neighbours z ≡ true) same with_y in cc
+
+  -- before the deed
+  pub both_before : (y : ℕ) → contains (w.row u).neighbours y ≡ true → LegalBoth (link w u y)
+  both_before y with_y = record {
+    here = legal_end _ y (sound.nodes u);
+    there = legal_end _ u (sound.nodes y);
+    from = sound.links u y with_y;
+    to = sound.links y u (sym (sound.mirrored u y) ∙ with_y);
+  }
 
 -- the links alone, whatever the nodes say
 pub record LegalLinks (w : Ideal) : Type 0 where
@@ -45,6 +58,19 @@ sound_of w ok nodes linked = record {
 -- what both ends see is seen from the other end too
 flip : (l : Link) → LegalBoth l → LegalBoth (turned l)
 flip l both = record { here = both.there; there = both.here; from = both.to; to = both.from }
+
+-- a world that is sound but for the links of u
+pub record SoundBut (w : Ideal) (u : ℕ) : Type 0 where
+  pub links : (x y : ℕ) → x ≢ u → y ≢ u → w.linked x y ≡ true → LegalBoth (link w x y)
+  pub nodes : (x : ℕ) → SoundNode (w.row x)
+  pub linked : (x y : ℕ) → w.linked x y ≡ contains (w.row x).neighbours y
+  pub mirrored : (x y : ℕ) → w.linked x y ≡ w.linked y x
+  pub apart : (x y : ℕ) → w.linked x y ≡ true → y ≢ x
+
+pub but_of : (w : Ideal) (u : ℕ) → Sound w → SoundBut w u
+but_of w u sound =
+    let ok = links_of w sound in
+    record { links = λ x y p q with_y. ok.links x y with_y; nodes = sound.nodes; linked = sound.linked; mirrored = ok.mirrored; apart = ok.apart }
 
 module _ (w : Ideal) (u : ℕ) (d : Deed) where
   -- the node has the state of the deed
@@ -75,97 +101,38 @@ module _ (w : Ideal) (u : ℕ) (d : Deed) where
   apart_is : (x y : ℕ) → x ≢ u → y ≢ u → link (acts w u d) x y ≡ link w x y
   apart_is x y p q i = record { here = end_of (row_there x p i) y; there = end_of (row_there y q i) x; out = way_apart x y p i; back = way_apart y x q i }
 
-  module _ (ok : LegalLinks w) (elsewhere : (y : ℕ) → w.linked u y ≡ true → LegalBoth (far_after y)) where
+  module _ (mirrored : (x y : ℕ) → w.linked x y ≡ w.linked y x) (apart : (x y : ℕ) → w.linked x y ≡ true → y ≢ x)
+      (others : (x y : ℕ) → x ≢ u → y ≢ u → w.linked x y ≡ true → LegalBoth (link w x y)) (elsewhere : (y : ℕ) → w.linked u y ≡ true → LegalBoth (far_after y)) where
     -- the links of the node
     here_legal : (y : ℕ) → w.linked u y ≡ true → LegalBoth (link (acts w u d) u y)
-    here_legal y with_y = subst LegalBoth (sym (far_is y (ok.apart u y with_y) with_y)) (elsewhere y with_y)
+    here_legal y with_y = subst LegalBoth (sym (far_is y (apart u y with_y) with_y)) (elsewhere y with_y)
 
     -- each link
     each_legal : (x y : ℕ) → w.linked x y ≡ true → LegalBoth (link (acts w u d) x y)
     each_legal x y with_y = elim (same_or_apart x u) [
       | inl same ↦ subst (λ z. LegalBoth (link (acts w u d) z y)) (sym same) (here_legal y (subst (λ z. w.linked z y ≡ true) same with_y))
       | inr far ↦ elim (same_or_apart y u) [
-        | inl same ↦ subst (λ z. LegalBoth (link (acts w u d) x z)) (sym same) (flip (link (acts w u d) u x) (here_legal x (ok.mirrored u x ∙ subst (λ z. w.linked x z ≡ true) same with_y)))
-        | inr other ↦ subst LegalBoth (sym (apart_is x y far other)) (ok.links x y with_y)
+        | inl same ↦ subst (λ z. LegalBoth (link (acts w u d) x z)) (sym same) (flip (link (acts w u d) u x) (here_legal x (mirrored u x ∙ subst (λ z. w.linked x z ≡ true) same with_y)))
+        | inr other ↦ subst LegalBoth (sym (apart_is x y far other)) (others x y far other with_y)
       ]
     ]
 
     -- links stay legal where those of the node do
     pub links_kept : LegalLinks (acts w u d)
-    links_kept = record { links = each_legal; mirrored = ok.mirrored; apart = ok.apart }
+    links_kept = record { links = each_legal; mirrored = mirrored; apart = apart }
 
-    -- of one node, whose neighbours stay
-    pub deed_kept : Sound w → d.row.neighbours ≡ (w.row u).neighbours → SoundNode d.row → Sound (acts w u d)
-    deed_kept sound neighbours node = sound_of (acts w u d) links_kept nodes_kept (λ x y. sound.linked x y ∙ ap (λ s. contains s y) (sym (nears x)))
-      where
-        nodes_kept : (x : ℕ) → SoundNode ((acts w u d).row x)
-        nodes_kept x = elim (same_or_apart x u) [
-          | inl same ↦ subst (λ z. SoundNode ((acts w u d).row z)) (sym same) (subst SoundNode (sym row_here) node)
-          | inr far ↦ subst SoundNode (sym (row_there x far)) (sound.nodes x)
-        ]
-
-        nears : (x : ℕ) → ((acts w u d).row x).neighbours ≡ (w.row x).neighbours
-        nears x = elim (same_or_apart x u) [
-          | inl same ↦ ap (λ (r : NodeState). r.neighbours) (ap (acts w u d).row same ∙ row_here) ∙ neighbours ∙ ap (λ z. (w.row z).neighbours) (sym same)
-          | inr far ↦ ap (λ (r : NodeState). r.neighbours) (row_there x far)
-        ]
-
-module _ (w : Ideal) (u : ℕ) (sound : Sound w) where
-  -- the node that acts
-  abbrev r : NodeState
-  r = w.row u
-
-  -- its links go to its neighbours
-  in_near : (y : ℕ) → w.linked u y ≡ true → contains r.neighbours y ≡ true
-  in_near y with_y = sym (sound.linked u y) ∙ with_y
-
-  -- a node without neighbours finishes at once
-  alone : r.mode ≡ Ready → is_empty r.neighbours ≡ true → Sound (acts w u (finish r))
-  alone ready none =
-      let node = sound.nodes u in
-      deed_kept w u (finish r) (links_of w sound) (λ y with_y. absurd (grind (arith, in_near y with_y, empty_has r.neighbours y none))) sound refl
-      (record {
-        awaits = λ e. cc;
-        quiet = λ e. node.quiet (ap is_abort ready);
-        no_parent = λ e. refl;
-        has_parent = λ e n. cc;
-        parent_outside = λ y e. cc;
-        parent_near = λ y e. cc;
-        within = node.within;
-      })
-
-  -- a node with neighbours sends its wave
-  starts : r.mode ≡ Ready → is_empty r.neighbours ≡ false → Sound (acts w u (wave_on r None r.neighbours))
-  starts ready some =
-      let d = wave_on r None r.neighbours in
-      let node = sound.nodes u in
-      deed_kept w u d (links_of w sound)
-      (λ y with_y. wave_goes_on (link w u y) _ ready refl (in_near y with_y) refl refl (grind (arith, nat_tests, in_near y with_y)) refl (both_before w u sound y (in_near y with_y))) sound refl
-      (record {
-        awaits = λ _. some;
-        quiet = λ e. cc;
-        no_parent = λ e. cc;
-        has_parent = λ e. cc;
-        parent_outside = λ y e. cc;
-        parent_near = λ y e. cc;
-        within = λ y e. e;
-      })
-
-  -- a node in a reset goes on with it
-  pub idles : Sound (acts w u (idle r))
-  idles = deed_kept w u (idle r) (links_of w sound)
-      (λ y with_y. subst LegalBoth (λ i. record { here = end_of r y; there = end_of (w.row y) u; out = sym (nothing y) i; back = w.way y u }) (both_before w u sound y (in_near y with_y)))
-      sound refl (sound.nodes u)
+  -- a node's deed keeps a world sound, where its neighbours stay
+  pub deed_kept : SoundBut w u → ((y : ℕ) → w.linked u y ≡ true → LegalBoth (far_after y)) → d.row.neighbours ≡ (w.row u).neighbours → SoundNode d.row → Sound (acts w u d)
+  deed_kept but elsewhere neighbours node = sound_of (acts w u d) (links_kept but.mirrored but.apart but.links elsewhere) nodes_kept (λ x y. but.linked x y ∙ ap (λ s. contains s y) (sym (nears x)))
     where
-      nothing : (y : ℕ) → w.way u y ++ added (idle r) y ≡ w.way u y
-      nothing y = grind (arith, contains-empty y, append-nil (w.way u y))
+      nodes_kept : (x : ℕ) → SoundNode ((acts w u d).row x)
+      nodes_kept x = elim (same_or_apart x u) [
+        | inl same ↦ subst (λ z. SoundNode ((acts w u d).row z)) (sym same) (subst SoundNode (sym row_here) node)
+        | inr far ↦ subst SoundNode (sym (row_there x far)) (but.nodes x)
+      ]
 
-  -- by the mode of the node
-  in_mode : (m : Mode) → r.mode ≡ m → Sound (acts w u (request_in m r))
-  in_mode Ready e = by_test (is_empty r.neighbours) (λ b. Sound (acts w u (cond b (finish r) (wave_on r None r.neighbours)))) (alone e) (starts e)
-  in_mode Abort e = idles
-  in_mode Converge e = idles
-
-  -- a reset that is asked for
-  pub reset_kept : Sound (acts w u (request r))
-  reset_kept = in_mode r.mode refl
+      nears : (x : ℕ) → ((acts w u d).row x).neighbours ≡ (w.row x).neighbours
+      nears x = elim (same_or_apart x u) [
+        | inl same ↦ ap (λ (r : NodeState). r.neighbours) (ap (acts w u d).row same ∙ row_here) ∙ neighbours ∙ ap (λ z. (w.row z).neighbours) (sym same)
+        | inr far ↦ ap (λ (r : NodeState). r.neighbours) (row_there x far)
+      ]

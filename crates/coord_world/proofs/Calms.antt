@@ -8,7 +8,7 @@ use Rattle.coord_types.specs.declared.messages.Msg.TheVariants as msg
 use Rattle.coord_node.specs.IdealRules.{acts, added, headed}
 use Rattle.coord_node.specs.Rules.{Deed}
 use Rattle.coord_world.specs.Links.{aborts, is_ready}
-use Rattle.coord_world.proofs.After.{after_take}
+use Rattle.coord_world.proofs.Taken.{after_take}
 use Rattle.coord_world.proofs.Cases.{same_or_apart}
 use Rattle.coord_world.proofs.Effects.{SamePlace, Calm}
 use Rattle.coord_world.proofs.Ways.{aborts-append}

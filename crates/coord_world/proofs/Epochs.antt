@@ -1,6 +1,5 @@
 -- The epochs of a node through a step: each confirmed one was entered, and no more are entered than steps are taken.
-use Rattle.std.proofs.Common.{ℕ, ◌+◌, ◌≤◌, arith}
-use Rattle.coord_types.specs.NodeState.{NodeState}
+use Rattle.std.proofs.Common.{ℕ, ◌+◌, arith}
 use Rattle.coord_types.specs.declared.steps.Command.TheVariants.{Add}
 use Rattle.coord_types.specs.declared.steps.Step.{Step}
 use Rattle.coord_types.specs.declared.steps.Step.TheVariants.{Order}

@@ -9,11 +9,10 @@ use Rattle.coord_node.specs.IdealRules.{is_link, linked_up}
 use Rattle.coord_node.specs.Rules.{is_parent, with_neighbour}
 use Rattle.coord_world.proofs.SoundNode.{SoundNode}
 use Rattle.coord_world.specs.Links.{end_of}
-use Rattle.coord_world.proofs.Acts.{LegalLinks, links_of, sound_of}
+use Rattle.coord_world.proofs.Acts.{LegalLinks, legal_end, links_of, sound_of}
 use Rattle.coord_world.proofs.Cases.{by_test}
 use Rattle.coord_world.proofs.Ends.{LegalBoth, joined}
 use Rattle.coord_world.proofs.Sound.{Sound}
-use Rattle.coord_world.proofs.Taken.{legal_end}
 
 -- a node with one more neighbour
 wider : (r : NodeState) (b : ℕ) → SoundNode r → SoundNode (with_neighbour r b)

@@ -1,12 +1,9 @@
 -- A fresh step keeps the view sound.
-use Rattle.std.proofs.Common.{◌≡◌, ℕ, true, List, ◌∷◌, sym, ◌∙◌, ap, subst, arith}
+use Rattle.std.proofs.Common.{◌≡◌, ℕ, true, ◌∷◌, sym, ◌∙◌, ap, subst, arith}
 use Rattle.std.specs.Prelude.{is_some}
 use Rattle.std.proofs.lemmas.Bool.Decides.{nat_tests}
-use Rattle.coord_types.specs.IdealWorld.{Ideal}
 use Rattle.coord_types.specs.NodeSet.{contains}
 use Rattle.coord_types.specs.Table.{get}
-use Rattle.coord_types.specs.declared.messages.Msg.{Msg}
-use Rattle.coord_types.specs.declared.messages.Msg.TheVariants as msg
 use Rattle.coord_types.specs.declared.steps.Command.{Command}
 use Rattle.coord_types.specs.declared.steps.Command.TheVariants.{Add, Remove, Join, Drop, Reset, Confirm}
 use Rattle.coord_types.specs.declared.steps.Step.{Step}
@@ -14,28 +11,19 @@ use Rattle.coord_types.specs.declared.steps.Step.TheVariants.{Order, Take, Clear
 use Rattle.coord_types.specs.NodeState.{no_node}
 use Rattle.coord_types.proofs.Sets.{len-empty}
 use Rattle.coord_node.specs.IdealRules.{ideal_next}
-use Rattle.coord_node.specs.Rules.{deed, is_empty}
+use Rattle.coord_node.specs.Rules.{is_empty}
 use Rattle.coord_world.specs.Acceptance.{IsFresh}
 use Rattle.coord_world.specs.Next.{next}
 use Rattle.coord_world.specs.NumberedWorld.{World, view, row, state_or_none, transit_or_none}
-use Rattle.coord_world.proofs.Acked.{ack_taken, ready_taken}
-use Rattle.coord_world.proofs.Acts.{reset_kept}
-use Rattle.coord_world.proofs.After.{after_take}
 use Rattle.coord_world.proofs.Counted.{AllCount}
 use Rattle.coord_world.proofs.Drops.{drop_kept}
 use Rattle.coord_world.proofs.Fresh.{fresh_take}
 use Rattle.coord_world.proofs.Joins.{join_kept}
 use Rattle.coord_world.proofs.Nexts.{view_next}
 use Rattle.coord_world.proofs.Ordered.{Passes, fresh_order}
-use Rattle.coord_world.proofs.Reached.{abort_taken}
 use Rattle.coord_world.proofs.Rows.{confirm_kept, new_kept}
+use Rattle.coord_world.proofs.RulesKept.{reset_kept, taken_kept}
 use Rattle.coord_world.proofs.Sound.{Sound}
-
--- by the message
-taken : (w : Ideal) (v u : ℕ) (m : Msg) (rest : List Msg) → w.way v u ≡ m ∷ rest → contains (w.row u).neighbours v ≡ true → Sound w → Sound (after_take w v u (deed m (w.row u) v))
-taken w v u msg.Abort rest front near sound = abort_taken w v u rest front near sound
-taken w v u msg.Ack rest front near sound = ack_taken w v u rest near sound front
-taken w v u msg.Ready rest front near sound = ready_taken w v u rest near sound front
 
 -- a new node has no neighbours
 pub new_alone : is_empty no_node.neighbours ≡ true
@@ -57,7 +45,7 @@ ideal_kept w settled (Take p) sound fresh =
     let take = fresh_take w settled p fresh in
     let out : contains (row w p.from).neighbours p.to ≡ true = sym (sound.linked p.from p.to) ∙ ap is_some take.there in
     let front : transit_or_none (get w.lanes (p.from, p.to)) ≡ p.msg ∷ take.rest = ap transit_or_none take.there ∙ grind (arith, nat_tests, take.idle) ∙ take.front in
-    taken (view w) p.from p.to p.msg take.rest front (sym (sound.mirrored p.from p.to) ∙ out) sound
+    taken_kept (view w) p.from p.to p.msg take.rest front (sym (sound.mirrored p.from p.to) ∙ out) sound
 ideal_kept w settled (Clear p) sound fresh = sound
 
 -- and so the step itself

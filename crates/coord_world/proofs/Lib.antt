@@ -1,8 +1,6 @@
 pub mod AbortEffect
 pub mod AckEffect
-pub mod Acked
 pub mod Acts
-pub mod After
 pub mod Assembled
 pub mod Calms
 pub mod Cases
@@ -28,6 +26,7 @@ pub mod Incarnations
 pub mod Itself
 pub mod Joins
 pub mod Judged
+pub mod Keeps
 pub mod Kept
 pub mod Keyed
 pub mod LaneChanges
@@ -45,7 +44,8 @@ pub mod Pairs
 pub mod Paths
 pub mod Places
 pub mod RangesNext
-pub mod Reached
+pub mod RuleCases
+pub mod RulesKept
 pub mod ReadyEffect
 pub mod Readying
 pub mod Refused

@@ -1,22 +1,22 @@
 -- What a Ready that is taken does to a wave.
-use Rattle.std.proofs.Common.{◌≡◌, ℕ, true, List, ◌∷◌, Option, Some, None, refl, ap, arith, cond, inr}
+use Rattle.std.proofs.Common.{◌≡◌, ℕ, true, List, ◌∷◌, Option, Some, None, refl, ap, arith, inr}
 use Rattle.std.proofs.lemmas.Bool.Decides.{nat_tests}
 use Rattle.coord_types.specs.IdealWorld.{Ideal}
 use Rattle.coord_types.specs.NodeSet.{contains}
 use Rattle.coord_types.specs.NodeState.{NodeState}
-use Rattle.coord_types.specs.declared.messages.Mode.{Mode}
-use Rattle.coord_types.specs.declared.messages.Mode.TheVariants.{Ready, Abort, Converge}
+use Rattle.coord_types.specs.declared.messages.Mode.TheVariants.{Converge}
 use Rattle.coord_types.specs.declared.messages.Msg.{Msg}
 use Rattle.coord_types.specs.declared.messages.Msg.TheVariants as msg
 use Rattle.coord_types.proofs.Sets.{contains-empty}
 use Rattle.coord_node.specs.IdealRules.{headed}
-use Rattle.coord_node.specs.Rules.{Deed, on_ready, on_ready_in, finish, idle, is_parent}
+use Rattle.coord_node.specs.Rules.{Deed, on_ready, finish, idle, is_parent}
 use Rattle.coord_world.specs.Links.{readies, is_ready}
 use Rattle.coord_world.proofs.AbortEffect.{TakeEffect}
-use Rattle.coord_world.proofs.After.{after_take, row_here, row_there}
+use Rattle.coord_world.proofs.Acts.{row_here, row_there}
 use Rattle.coord_world.proofs.Calms.{IsQuiet, calm_take, same_places}
-use Rattle.coord_world.proofs.Cases.{by_test}
 use Rattle.coord_world.proofs.Effects.{Calm, Effect}
+use Rattle.coord_world.proofs.RuleCases.{ready_cases}
+use Rattle.coord_world.proofs.Taken.{after_take}
 
 -- a node's parent is the one that it names
 named : (p : Option ℕ) (v : ℕ) → is_parent p v ≡ true → p ≡ Some v
@@ -42,17 +42,11 @@ module _ (z : Ideal) (v t : ℕ) (rest : List Msg) (front : z.way v t ≡ msg.Re
       (record {
         was = ap is_ready mode;
         cause = inr (v, record { was = mode; near = near; parent = named r.parent v child; came = grind (arith, ap readies front) });
-        now = ap (λ (q : NodeState). q.mode) (row_here z v t (finish r));
-        elsewhere = row_there z v t (finish r);
+        now = ap (λ (q : NodeState). q.mode) (row_here (headed z v t) t (finish r));
+        elsewhere = row_there (headed z v t) t (finish r);
         calm = calm (finish r) (λ y. grind arith);
       }) (λ x. omega arith) refl
 
-  -- by the mode of the node
-  in_mode : (m : Mode) → r.mode ≡ m → TakeEffect z v t (on_ready_in m r v)
-  in_mode Ready e = ignored
-  in_mode Abort e = ignored
-  in_mode Converge e = by_test (is_parent r.parent v) (λ b. TakeEffect z v t (cond b (finish r) (idle r))) (heard e) (λ _. ignored)
-
   -- a Ready that is taken
   pub ready_effect : TakeEffect z v t (on_ready r v)
-  ready_effect = in_mode r.mode refl
+  ready_effect = ready_cases r v (TakeEffect z v t) (λ _. ignored) heard

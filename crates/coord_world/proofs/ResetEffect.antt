@@ -1,25 +1,24 @@
 -- What an order to reset does to a wave.
-use Rattle.std.proofs.Common.{◌≡◌, ℕ, true, false, [], ◌∷◌, None, refl, sym, ap, ◌∙◌, arith, cond}
+use Rattle.std.proofs.Common.{◌≡◌, ℕ, true, false, [], ◌∷◌, None, refl, sym, ap, ◌∙◌, arith}
 use Rattle.std.specs.Prelude.{count_by}
 use Rattle.std.proofs.lemmas.Bool.Decides.{nat_tests}
 use Rattle.coord_types.specs.IdealWorld.{Ideal}
 use Rattle.coord_types.specs.NodeState.{NodeState}
-use Rattle.coord_types.specs.declared.messages.Mode.{Mode}
-use Rattle.coord_types.specs.declared.messages.Mode.TheVariants.{Ready, Abort, Converge}
+use Rattle.coord_types.specs.declared.messages.Mode.TheVariants.{Ready}
 use Rattle.coord_types.specs.declared.steps.Command.TheVariants.{Reset}
 use Rattle.coord_types.specs.declared.steps.Kind.{Kind}
 use Rattle.coord_types.specs.declared.steps.Kind.TheVariants.{Started, Finished, Joined}
 use Rattle.coord_types.specs.declared.steps.Step.TheVariants.{Order}
 use Rattle.coord_types.proofs.Sets.{contains-empty}
 use Rattle.coord_node.specs.IdealRules.{acts, added}
-use Rattle.coord_node.specs.Rules.{Deed, is_empty, request_in, wave_on, finish, idle}
+use Rattle.coord_node.specs.Rules.{Deed, is_empty, request, wave_on, finish, idle}
 use Rattle.coord_node.specs.Steps.{kind_of_request}
 use Rattle.coord_world.specs.Outputs.{signals}
 use Rattle.coord_world.specs.Waves.{is_signal_of, started_by}
 use Rattle.coord_world.proofs.Acts.{row_here, row_there}
 use Rattle.coord_world.proofs.Calms.{calm_deed, same_places}
-use Rattle.coord_world.proofs.Cases.{by_test}
 use Rattle.coord_world.proofs.Effects.{Effect}
+use Rattle.coord_world.proofs.RuleCases.{request_cases}
 use Rattle.coord_world.proofs.Sound.{Sound}
 use Rattle.coord_world.proofs.Ways.{aborts-append}
 
@@ -62,12 +61,6 @@ module _ (z : Ideal) (c n t : ℕ) (sound : Sound z) where
         calm = calm_deed z t (idle r) (λ y. grind (arith, contains-empty y));
       }) (λ x. refl) refl
 
-  -- by the mode of the node
-  in_mode : (m : Mode) → r.mode ≡ m → ResetEffect (request_in m r) (kind_of_request m r)
-  in_mode Ready e = by_test (is_empty r.neighbours) (λ b. ResetEffect (cond b (finish r) (wave_on r None r.neighbours)) (cond b Finished Started)) (finishes_alone e) (starts e)
-  in_mode Abort e = joins
-  in_mode Converge e = joins
-
   -- an order to reset
-  pub reset_effect : ResetEffect (request_in r.mode r) (kind_of_request r.mode r)
-  reset_effect = in_mode r.mode refl
+  pub reset_effect : ResetEffect (request r) (kind_of_request r.mode r)
+  reset_effect = request_cases r ResetEffect finishes_alone starts joins

@@ -9,7 +9,7 @@ use Rattle.coord_node.specs.IdealRules.{acts, added, set_row}
 use Rattle.coord_node.specs.Rules.{idle, is_empty}
 use Rattle.coord_world.proofs.SoundNode.{SoundNode}
 use Rattle.coord_world.specs.Links.{end_of}
-use Rattle.coord_world.proofs.Acts.{links_of, deed_kept}
+use Rattle.coord_world.proofs.Acts.{but_of, links_of, deed_kept}
 use Rattle.coord_world.proofs.Ends.{LegalBoth}
 use Rattle.coord_world.proofs.Sets.{empty_has}
 use Rattle.coord_world.proofs.Sound.{Sound}
@@ -38,9 +38,9 @@ module _ (w : Ideal) (u : ℕ) (r : NodeState) (sound : Sound w) where
 
   -- it keeps a world sound where the neighbours and the ends of the links stay
   pub row_kept : r.neighbours ≡ (w.row u).neighbours → SoundNode r → ((y : ℕ) → w.linked u y ≡ true → end_of r y ≡ end_of (w.row u) y) → Sound (set_row w u r)
-  row_kept neighbours node ends = subst Sound (sym set_acts) (deed_kept w u (idle r) (links_of w sound)
+  row_kept neighbours node ends = subst Sound (sym set_acts) (deed_kept w u (idle r) (but_of w u sound)
       (λ y with_y. subst LegalBoth (λ i. record { here = sym (ends y with_y) i; there = end_of (w.row y) u; out = sym (nothing y) i; back = w.way y u }) ((links_of w sound).links u y with_y))
-      sound neighbours node)
+      neighbours node)
     where
       nothing : (y : ℕ) → w.way u y ++ added (idle r) y ≡ w.way u y
       nothing y = grind (arith, contains-empty y, append-nil (w.way u y))

@@ -10,7 +10,7 @@ use Rattle.coord_world.specs.Links.{aborts, is_abort, is_ready, one}
 use Rattle.coord_world.proofs.Cases.{same_or_apart}
 use Rattle.coord_world.proofs.Effects.{Effect, Passes, Finishes, Signals}
 use Rattle.coord_world.proofs.Sound.{Sound}
-use Rattle.coord_world.proofs.Taken.{both_before}
+use Rattle.coord_world.proofs.Acts.{both_before}
 
 -- no node is Abort
 abbrev pub Settled : Ideal → Type 0
