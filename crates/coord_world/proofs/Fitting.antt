@@ -19,7 +19,7 @@ use Rattle.coord_world.specs.NumberedWorld.{World, is_linked, pair_cmp, pair_cmp
 use Rattle.coord_world.specs.Parts.{by_ends, client_row, degree, goes_up, group_in, group_of, lane_or_none, link_row, node_row, LinkRowFits, NodeRowFits}
 use Rattle.coord_world.specs.Ranges.{InRange, LaneInRange, SessionInRange}
 use Rattle.coord_world.specs.declared.parts.LinkRow.{LinkRow}
-use Rattle.coord_world.proofs.Cases.{by_test}
+use Rattle.coord_world.proofs.Cases.{by_test, some_value}
 use Rattle.coord_world.proofs.Degrees.{HasBoth, IsNear, degree_within, links_within}
 use Rattle.coord_world.proofs.Keyed.{all_mapped, all_weaker, each_entry, sorted-keys}
 use Rattle.coord_world.proofs.Linking.{Turned, find-ups, ups}
@@ -44,11 +44,6 @@ module _ {K X A : Type 0} (R : K → K → Ordering) (made : K × X → A) (key 
   -- rows with their keys rise as the entries do that they were made of
   sorted_rows : (es : List (K × X)) → is_sorted R (map with_key (map made es)) ≡ is_sorted R es
   sorted_rows es = ap (is_sorted R) (through es) ∙ sorted-keys R (λ e. with_key (made e)) (λ e. e) same es ∙ ap (is_sorted R) (itself es)
-
--- a lane that is there
-some_lane : (o : Option Lane) → is_some o ≡ true → (l : Lane) × (o ≡ Some l)
-some_lane None there = cc
-some_lane (Some l) there = (l, refl)
 
 -- what is found where a test holds
 passes : (t : Bool) (o : Option Lane) (l : Lane) → cond t o None ≡ Some l → (t ≡ true) × (o ≡ Some l)
@@ -99,7 +94,7 @@ module _ (w : World) (range : InRange w) where
   link_fits : (a b : ℕ) (l : Lane) → goes_up (a, b) ≡ true → get w.lanes (a, b) ≡ Some l → LinkRowFits w.count (map node_row (entries w.rows)) (link_row w ((a, b), l))
   link_fits a b l up there =
       let linked : is_linked w a b ≡ true = ap is_some there in
-      let back = some_lane (get w.lanes (b, a)) (way_back a b l there) in
+      let back = some_value (get w.lanes (b, a)) (way_back a b l there) in
       let it : lane_or_none (get w.lanes (b, a)) ≡ back.0 = ap lane_or_none back.1 in
       record {
         turned = grind (arith, nat_tests);

@@ -6,7 +6,7 @@ use Rattle.std.specs.declared.cmp.Ordering.TheVariants.{Less, Equal, Greater}
 use Rattle.std.specs.List.{AllByRecursion}
 use Rattle.std.specs.FinMap.Entries.{below_all, find, is_sorted}
 use Rattle.coord_types.proofs.Tables.{option_map}
-use Rattle.coord_world.proofs.Cases.{by_test}
+use Rattle.coord_world.proofs.Cases.{both, by_test}
 
 -- what holds of each element holds of each in a weaker form
 pub all_weaker : {A : Type 0} (P Q : A → Type 0) → ((x : A) → P x → Q x) → (xs : List A) → AllByRecursion P xs → AllByRecursion Q xs
@@ -59,13 +59,8 @@ pub all_mapped : {A X : Type 0} (f : A → X) (P : X → Type 0) (xs : List A) �
 all_mapped f P [] all = tt
 all_mapped f P (x ∷ xs) all = (all.0, all_mapped f P xs all.1)
 
--- each of two tests that hold
-both : (a b : Bool) → (a && b) ≡ true → (a ≡ true) × (b ≡ true)
-both true b is = (refl, is)
-both false b is = cc
-
 -- what is below another doesn't tie with it
-not_tied : (r : Ordering) → is_lt r ≡ true → is_eq r ≡ false
+pub not_tied : (r : Ordering) → is_lt r ≡ true → is_eq r ≡ false
 not_tied Less is = refl
 not_tied Equal is = cc
 not_tied Greater is = cc

@@ -15,7 +15,7 @@ use Rattle.coord_world.specs.Laws.{RowsGiveWorld}
 use Rattle.coord_world.specs.NumberedWorld.{World, pair_cmp, row, state_or_none}
 use Rattle.coord_world.specs.Parts.{by_id, client_row, goes_up, lane_or_none, link_row, node_row, rows_of}
 use Rattle.coord_world.specs.Ranges.{InRange}
-use Rattle.coord_world.proofs.Cases.{by_test}
+use Rattle.coord_world.proofs.Cases.{by_test, some_value}
 use Rattle.coord_world.proofs.Linking.{find-ups, tied_pair, ups}
 use Rattle.coord_world.proofs.Looked.{same_number, same_pair}
 
@@ -82,13 +82,9 @@ module _ (v w : World) (in_v : InRange v) (in_w : InRange w) (same : rows_of v �
   -- and those back
   back : (x y : ℕ) → goes_up (x, y) ≡ true → get v.lanes (y, x) ≡ get w.lanes (y, x)
   back x y up = same_lane _ _ (in_v.mirrored y x ∙ ap is_some (forth (x, y) up) ∙ in_w.mirrored x y) (λ there.
-      let lane = some_lane (get v.lanes (x, y)) (sym (in_v.mirrored y x) ∙ there) in
+      let lane = some_value (get v.lanes (x, y)) (sym (in_v.mirrored y x) ∙ there) in
       ap (λ r. r.back) (alike_at (link_row v) (link_row w) (x, y) (ups v) lane.0 (ap (λ rows. rows.links) same ∙ ap (map (link_row w)) (sym same_ups))
       (find-ups v (x, y) ∙ ap (λ t. cond t (get v.lanes (x, y)) None) up ∙ lane.1)))
-    where
-      some_lane : (o : Option Lane) → is_some o ≡ true → (l : Lane) × (o ≡ Some l)
-      some_lane None there = cc
-      some_lane (Some l) there = (l, refl)
 
   -- every lane
   each_lane : (x y : ℕ) → get v.lanes (x, y) ≡ get w.lanes (x, y)

@@ -12,19 +12,11 @@ use Rattle.coord_world.specs.Next.{on_lane, ordered, does}
 use Rattle.coord_world.specs.Acts.{CanAct}
 use Rattle.coord_world.specs.Ready.{IsReadyFor}
 use Rattle.coord_world.specs.Ranges.{InRange}
-use Rattle.coord_world.proofs.Fresh.{fresh_take, tests_passed}
+use Rattle.coord_world.proofs.Fresh.{fresh_take}
+use Rattle.coord_world.proofs.Ordered.{fresh_order}
 use Rattle.coord_world.proofs.Room.{room_take, room_reset, room_drop_first, room_drop_second}
 use Rattle.coord_world.proofs.Structure.{at_each}
 use Rattle.coord_world.proofs.Doing.{room_for}
-
-unless : (b : Bool) → not b ≡ false → b ≡ true
-unless true h = refl
-unless false h = cc
-
-neither : (a b : Bool) → (a || b) ≡ false → (a ≡ false) × (b ≡ false)
-neither false false h = (refl, refl)
-neither false true h = cc
-neither true b h = cc
 
 module _ (w : World) (range : InRange w) where
   -- an epoch can rise by one
@@ -43,19 +35,13 @@ module _ (w : World) (range : InRange w) where
 
 module _ (w : World) (c n : ℕ) where
   pub reset_there : (u : ℕ) → IsReadyFor w (Order c n (Reset u)) → IsSome (get w.rows u)
-  reset_there u ready = let passed = tests_passed w w (Order c n (Reset u)) ready.fresh in unless (has w.rows u) passed.1.1.0
+  reset_there u ready = fresh_order w w c n (Reset u) ready.fresh
 
   pub join_there : (a b : ℕ) → IsReadyFor w (Order c n (Join a b)) → IsSome (get w.rows a) × IsSome (get w.rows b)
-  join_there a b ready =
-      let passed = tests_passed w w (Order c n (Join a b)) ready.fresh in
-      let both = neither _ _ passed.1.1.0 in
-      (unless (has w.rows a) both.0, unless (has w.rows b) both.1)
+  join_there a b ready = let joinable = fresh_order w w c n (Join a b) ready.fresh in (joinable.first, joinable.second)
 
   pub drop_there : (a b : ℕ) → IsReadyFor w (Order c n (Drop a b)) → IsSome (get w.rows a) × IsSome (get w.rows b)
-  drop_there a b ready =
-      let passed = tests_passed w w (Order c n (Drop a b)) ready.fresh in
-      let both = neither _ _ passed.1.1.0 in
-      (unless (has w.rows a) both.0, unless (has w.rows b) both.1)
+  drop_there a b ready = let droppable = fresh_order w w c n (Drop a b) ready.fresh in (droppable.first, droppable.second)
 
   pub can_reset : (u : ℕ) → IsReadyFor w (Order c n (Reset u)) → CanAct w u (request (row w u)) w.lanes
   can_reset u ready = record {

@@ -11,17 +11,9 @@ use Rattle.coord_types.proofs.Tables.{get-from_sorted}
 use Rattle.coord_types.specs.declared.messages.Msg.{Msg}
 use Rattle.coord_link.specs.LaneMachine.{Lane}
 use Rattle.coord_world.specs.NumberedWorld.{pair_cmp, pair_cmp_total}
+use Rattle.coord_world.proofs.Keyed.{not_tied}
 use Rattle.coord_world.specs.Sends.{HasPlaceFor, HasRoomFor}
-
-both : (a b : Bool) → (a && b) ≡ true → (a ≡ true) × (b ≡ true)
-both true true e = (refl, refl)
-both true false e = cc
-both false b e = cc
-
-less_untied : (o : Ordering) → is_lt o ≡ true → is_eq o ≡ false
-less_untied Less e = refl
-less_untied Equal e = cc
-less_untied Greater e = cc
+use Rattle.coord_world.proofs.Cases.{both}
 
 module _ {K X : Type 0} (R : K → K → Ordering) (o : IsTotalOrder R) where
   below_each : (x : K) (es : List (K × X)) (i : ℕ) (e : K × X) → below_all R x es ≡ true → slice_get es i ≡ Some e → is_lt (R x e.0) ≡ true
@@ -36,7 +28,7 @@ module _ {K X : Type 0} (R : K → K → Ordering) (o : IsTotalOrder R) where
       let is : x ≡ e = cc in
       ap (λ b. cond b (Some x.1) (find R e.0 es)) (ap (λ (z : K × X). eq_by_cmp R e.0 z.0) is ∙ ap is_eq (tied_itself o e.0)) ∙ ap (λ (z : K × X). Some z.1) is
   found (x ∷ es) (suc i) e sorted here =
-      let apart : eq_by_cmp R e.0 x.0 ≡ false = (eq_by_cmp_equiv o).symm e.0 x.0 ∙ less_untied _ (below_each x.0 es i e (both _ _ sorted).0 here) in
+      let apart : eq_by_cmp R e.0 x.0 ≡ false = (eq_by_cmp_equiv o).symm e.0 x.0 ∙ not_tied _ (below_each x.0 es i e (both _ _ sorted).0 here) in
       ap (λ b. cond b (Some x.1) (find R e.0 es)) apart ∙ found es i e (both _ _ sorted).1 here
 
 pub all_have_place : (sends : List (ℕ × Msg)) (u : ℕ) (es : List ((ℕ × ℕ) × Lane)) → is_sorted pair_cmp es ≡ true → HasRoomFor sends u (from_sorted es) → All (HasPlaceFor sends u) es

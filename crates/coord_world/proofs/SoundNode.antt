@@ -12,6 +12,7 @@ use Rattle.coord_types.proofs.Sets.{contains-items}
 use Rattle.coord_node.specs.Rules.{is_empty, is_parent}
 use Rattle.coord_world.specs.Links.{is_abort}
 use Rattle.coord_world.specs.Legal.{awaits_rightly, has_right_parent, is_parent_near, is_within, is_legal_node}
+use Rattle.coord_world.proofs.Cases.{both}
 
 -- N by itself: what the rules keep of a node
 pub record SoundNode (r : NodeState) : Type 0 where
@@ -31,10 +32,6 @@ pub record SoundNode (r : NodeState) : Type 0 where
 pub record EpochsFit (count : ℕ) (r : NodeState) : Type 0 where
   pub confirmed : r.confirmed ≤ r.epoch
   pub entered : r.epoch ≤ count
-
-both : (a b : Bool) → (a && b) ≡ true → (a ≡ true) × (b ≡ true)
-both true b is = (refl, is)
-both false b is = cc
 
 both_true : (a b : Bool) → a ≡ true → b ≡ true → (a && b) ≡ true
 both_true a b p q = ap (λ c. c && b) p ∙ q
