@@ -3,7 +3,7 @@ use Rattle.std.proofs.Common.{ap, sym, ◌∙◌, subst}
 use Rattle.coord_types.specs.Table.{get}
 use Rattle.coord_world.specs.NumberedWorld.{World}
 use Rattle.coord_world.specs.Ready.{IsReadyFor}
-use Rattle.coord_world.proofs.Readying.{base_room, can_take, got_room}
+use Rattle.coord_world.proofs.deeds.CanAct.{base_room, can_take, got_room}
 use Rattle.coord_world.proofs.draft.Draft.carry_out.Goals as goal
 
 pub deliver-requires-clause-acts : goal.deliver-requires-clause-acts

@@ -1,6 +1,6 @@
 use Rattle.std.proofs.Common.{sym, ◌∙◌, subst}
 use Rattle.coord_world.specs.Acceptance.{IsFresh}
-use Rattle.coord_world.proofs.Judged.{fresh_of}
+use Rattle.coord_world.proofs.acceptance.FreshVerdict.{fresh_of}
 use Rattle.coord_world.proofs.world.World.judge.Goals as goal
 
 pub returns-clause-fresh : goal.returns-clause-fresh
