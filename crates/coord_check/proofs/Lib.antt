@@ -1,5 +1,4 @@
-pub mod Firsts
-pub mod Empties
-pub mod Nodes
-pub mod Links
-pub mod Verdict
+pub mod FirstFault
+pub mod NoFaults
+pub mod LegalWithoutFaults
+pub mod FaultsFail

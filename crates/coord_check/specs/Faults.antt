@@ -1,13 +1,38 @@
 -- All faults of a world, in the order in which they are told.
-use Rattle.std.specs.Prelude.{ℕ, ◌+◌, ◌-◌, Bool, false, ◌&&◌, List, [], ◌∷◌, ◌++◌, Option, Some, None, if◌then◌else◌}
+use Rattle.std.specs.Prelude.{◌≡◌, ℕ, ◌+◌, ◌-◌, Bool, true, false, List, [], ◌∷◌, ◌++◌, Option, Some, None, if◌then◌else◌}
 use Rattle.std.specs.List.{flat_map, range_with_len}
 use Rattle.coord_types.specs.Table.{get, has}
-use Rattle.coord_world.specs.Links.{link}
+use Rattle.coord_link.specs.LaneMachine.{Lane, has_front_taken_at_most}
+use Rattle.coord_world.specs.Legal.{is_legal_node}
+use Rattle.coord_world.specs.Links.{Link, link, has_ack_in_one_place, has_one_ready_at_most, has_readies_first, has_ready_for_child, has_one_parent_at_most, has_no_early_ready}
 use Rattle.coord_world.specs.NumberedWorld.{World, view, row, is_linked}
-use Rattle.coord_check.specs.Letters.{is_unsound, miscounts, is_unaccounted, has_several_readies, has_late_ready, is_left_waiting, is_circle, has_early_ready}
+use Rattle.coord_world.specs.Parts.{lane_or_none}
 use Rattle.coord_check.specs.declared.violation.Letter.{Letter}
 use Rattle.coord_check.specs.declared.violation.Letter.TheVariants as letter
 use Rattle.coord_check.specs.declared.violation.Violation.{Violation}
+
+-- whether a letter holds of a link, as the end sees it from which the lane goes; N is a node's own
+abbrev pub holds_of : Letter → Lane → Link → Bool
+holds_of letter.N lane l = true
+holds_of letter.A lane l = has_front_taken_at_most lane
+holds_of letter.B lane l = has_ack_in_one_place l
+holds_of letter.C lane l = has_one_ready_at_most l
+holds_of letter.D lane l = has_readies_first l
+holds_of letter.E lane l = has_ready_for_child l
+holds_of letter.F lane l = has_one_parent_at_most l
+holds_of letter.G lane l = has_no_early_ready l
+
+-- of the link of u and v, as u sees it
+abbrev pub link_holds : World → ℕ → ℕ → Letter → Bool
+link_holds w u v x = holds_of x (lane_or_none (get w.lanes (u, v))) (link (view w) u v)
+
+-- the letter that a violation names fails: N at a node that is there, any other letter at a link that is there
+abbrev pub FailsAt : World → ℕ → ℕ → Letter → Type 0
+FailsAt w u v letter.N = (u ≡ v) × (has w.rows u ≡ true) × (is_legal_node w.count (row w u) ≡ false)
+FailsAt w u v x = (is_linked w u v ≡ true) × (link_holds w u v x ≡ false)
+
+abbrev pub Fails : World → Violation → Type 0
+Fails w v = FailsAt w v.a v.b v.letter
 
 abbrev pub first : {X : Type 0} → List X → Option X
 first [] = None
@@ -17,27 +42,16 @@ first (x ∷ xs) = Some x
 unfoldable pub nodes_from : ℕ → List ℕ
 nodes_from u = range_with_len u (65 - u)
 
--- whether the link of u and v breaks a letter, as u sees it; N is a node's own
-abbrev pub breaks : World → ℕ → ℕ → Letter → Bool
-breaks w u v letter.N = false
-breaks w u v letter.A = miscounts (get w.lanes (u, v))
-breaks w u v letter.B = is_unaccounted (link (view w) u v)
-breaks w u v letter.C = has_several_readies (link (view w) u v)
-breaks w u v letter.D = has_late_ready (link (view w) u v)
-breaks w u v letter.E = is_left_waiting (link (view w) u v)
-breaks w u v letter.F = is_circle (link (view w) u v)
-breaks w u v letter.G = has_early_ready (link (view w) u v)
-
--- told where it holds
+-- told where the test fails
 abbrev pub told : Bool → Violation → List Violation
-told b v = if b then v ∷ [] else []
+told b v = if b then [] else v ∷ []
 
 -- a node is named twice
 abbrev pub node_faults : World → ℕ → List Violation
-node_faults w u = told (has w.rows u && is_unsound w.count (row w u)) (record { a = u; b = u; letter = letter.N })
+node_faults w u = if has w.rows u then told (is_legal_node w.count (row w u)) (record { a = u; b = u; letter = letter.N }) else []
 
 abbrev pub end_faults : World → ℕ → ℕ → Letter → List Violation
-end_faults w u v x = told (breaks w u v x) (record { a = u; b = v; letter = x })
+end_faults w u v x = told (link_holds w u v x) (record { a = u; b = v; letter = x })
 
 -- one letter, as each end of a link sees it
 abbrev pub letter_faults : World → ℕ → ℕ → Letter → List Violation

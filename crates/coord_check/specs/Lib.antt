@@ -1,4 +1,3 @@
 pub mod Names
-pub mod Letters
 pub mod Sides
 pub mod Faults

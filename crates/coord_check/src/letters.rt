@@ -1,56 +1,71 @@
 //! The predicates over a link, one function each, as one of its ends sees it.
 
 ghost use Rattle.std.specs.Prelude.{◌≡◌};
-ghost use Rattle.coord_check.specs.Sides.{breaks_at, has_early_ready_at};
+ghost use Rattle.coord_link.specs.LaneMachine.{has_front_taken_at_most};
+ghost use Rattle.coord_world.specs.Links.{has_ack_in_one_place, has_no_early_ready, has_ready_for_child};
+ghost use Rattle.coord_check.specs.Faults.{holds_of};
+ghost use Rattle.coord_check.specs.Sides.{seen};
 
 use crate::side::Side;
 use crate::violation::Letter;
-use coord_types::Mode;
+use crate::way::{count_of, late_readies};
+use coord_link::Lane;
+use coord_types::{Mode, Msg};
 
-/// Whether the link with these ends breaks a letter, as `here` sees it.
-pub(crate) fn is_broken(letter: Letter, here: Side, there: Side) -> bool
-    ensures { result ≡ breaks_at letter here there }
+/// Whether a letter holds of the link with these ends, as `here` sees it.
+pub(crate) fn holds(letter: Letter, here: &Side, there: &Side) -> bool
+    ensures { result ≡ holds_of letter here.now.lane (seen here.now there.now) }
 {
     match letter {
         // a node's alone
-        Letter::N => false,
-        Letter::A => here.miscounts,
-        Letter::B => is_unaccounted(here, there),
-        Letter::C => here.way.readies > 1,
-        Letter::D => here.way.late_readies > 0,
-        Letter::E => is_left_waiting(here, there),
-        Letter::F => here.child && there.child,
-        Letter::G => has_early_ready(here),
+        Letter::N => true,
+        Letter::A => has_front_taken_at_most(&here.lane),
+        Letter::B => has_ack_in_one_place(here, there),
+        Letter::C => count_of(here.lane.transit(), Msg::Ready) <= 1,
+        Letter::D => late_readies(here.lane.transit()) == 0,
+        Letter::E => has_ready_for_child(here, there),
+        Letter::F => !(here.child && there.child),
+        Letter::G => has_no_early_ready(here),
     }
 }
 
-/// Whether an acknowledgement that `here` awaits stands nowhere, or one stands in several places or
-/// isn't awaited. It stands in an Abort on the way there, in the other end that owes it, or in an
-/// Ack on the way back.
-fn is_unaccounted(here: Side, there: Side) -> bool
-    ensures { result ≡ breaks_at Letter.B here there }
+fn has_front_taken_at_most(lane: &Lane) -> bool
+    ensures { result ≡ has_front_taken_at_most lane.now }
 {
+    let (got, base) = (lane.got(), lane.base());
+    got == base || (got > base && got - base == 1 && !lane.queue().is_empty())
+}
+
+fn has_ack_in_one_place(here: &Side, there: &Side) -> bool
+    ensures { result ≡ has_ack_in_one_place (seen here.now there.now) }
+{
+    let aborts = count_of(here.lane.transit(), Msg::Abort);
     let is_owed = there.mode == Mode::Abort && there.child;
-    let places = (here.way.aborts, is_owed, there.way.acks);
+    let acks = count_of(there.lane.transit(), Msg::Ack);
     if here.awaits {
-        !matches!(places, (1, false, 0) | (0, true, 0) | (0, false, 1))
+        matches!(
+            (aborts, is_owed, acks),
+            (1, false, 0) | (0, true, 0) | (0, false, 1)
+        )
     } else {
-        !matches!(places, (0, false, 0))
+        matches!((aborts, is_owed, acks), (0, false, 0))
     }
 }
 
-/// Whether the other end waits for a Ready of `here`, which is Ready again and has none on the way.
-fn is_left_waiting(here: Side, there: Side) -> bool
-    ensures { result ≡ breaks_at Letter.E here there }
+fn has_ready_for_child(here: &Side, there: &Side) -> bool
+    ensures { result ≡ has_ready_for_child (seen here.now there.now) }
 {
     let is_child_waiting = there.mode == Mode::Converge && there.child;
-    is_child_waiting && here.mode == Mode::Ready && here.way.readies != 1
+    let readies = count_of(here.lane.transit(), Msg::Ready);
+    !is_child_waiting || readies != 0 || here.mode != Mode::Ready
 }
 
-/// Whether `here`, in a reset, has a Ready on the way to another node than its parent, with no Abort.
-fn has_early_ready(here: Side) -> bool
-    ensures { result ≡ has_early_ready_at here }
+fn has_no_early_ready(here: &Side) -> bool
+    ensures { result ≡ has_no_early_ready (seen here.now here.now) }
 {
-    let is_in_reset = here.mode != Mode::Ready && !here.child;
-    is_in_reset && here.way.aborts == 0 && here.way.readies > 0
+    let messages = here.lane.transit();
+    here.mode == Mode::Ready
+        || here.child
+        || count_of(messages, Msg::Abort) != 0
+        || count_of(messages, Msg::Ready) == 0
 }

@@ -1,23 +1,22 @@
 //! The predicate over one node.
 
 ghost use Rattle.std.specs.Prelude.{◌≡◌};
-ghost use Rattle.coord_check.specs.Letters.{awaits_rightly, has_right_parent, is_parent_near, is_within, is_unsound};
+ghost use Rattle.coord_world.specs.Legal.{awaits_rightly, has_right_parent, is_parent_near, is_within, is_legal_node};
 
 use coord_node::{Node, NodeSet};
 use coord_types::{Mode, NodeId};
 
-/// Whether a node breaks what the rules keep of each node, in a world of so many steps.
-pub(crate) fn is_unsound(node: &Node, count: u64) -> bool
-    ensures { result ≡ is_unsound count node.now }
+/// Whether a node is as the rules keep each node, in a world of so many steps.
+pub(crate) fn is_legal_node(node: &Node, count: u64) -> bool
+    ensures { result ≡ is_legal_node count node.now }
 {
     let (pend, neighbours) = (node.pend(), node.neighbours());
-    let is_sound = awaits_rightly(node.mode(), pend)
+    awaits_rightly(node.mode(), pend)
         && has_right_parent(node.mode(), node.parent())
         && is_parent_near(node.parent(), pend, neighbours)
         && is_within(pend, neighbours)
         && node.confirmed() <= node.epoch()
-        && node.epoch() <= count;
-    !is_sound
+        && node.epoch() <= count
 }
 
 /// Whether a node awaits somebody exactly where it is Abort.

@@ -1,13 +1,13 @@
 //! The search for the first fault.
 
-ghost use Rattle.std.specs.Prelude.{◌≡◌, ◌↔◌, IsNone};
+ghost use Rattle.std.specs.Prelude.{◌≡◌, ◌↔◌, IsNone, IfSome};
 ghost use Rattle.std.specs.List.{flat_map};
 ghost use Rattle.coord_world.specs.Legal.{Legal};
 ghost use Rattle.coord_world.specs.Ranges.{InRange};
-ghost use Rattle.coord_check.specs.Faults.{faults, first, link_faults, faults_from, node_faults, nodes_from};
+ghost use Rattle.coord_check.specs.Faults.{Fails, faults, first, link_faults, faults_from, node_faults, nodes_from};
 
-use crate::letters::is_broken;
-use crate::node_check::is_unsound;
+use crate::letters::holds;
+use crate::node_check::is_legal_node;
 use crate::side::Side;
 use crate::violation::{Letter, Violation};
 use coord_types::NodeId;
@@ -33,6 +33,7 @@ const LINK_LETTERS: [Letter; 7] = [
 pub fn check(world: &World) -> Option<Violation>
     ensures first { result ≡ first (faults world.now) }
     ensures legal { IsNone result ↔ Legal world.now }
+    ensures named { IfSome result (Fails world.now) }
 {
     world.ranges();
     let count = world.count();
@@ -60,7 +61,7 @@ fn fault_of_node(world: &World, count: u64, id: NodeId) -> Option<Violation>
     ensures { result ≡ first (node_faults world.now id) }
 {
     let node = world.node(id)?;
-    is_unsound(node, count).then_some(Violation {
+    (!is_legal_node(node, count)).then_some(Violation {
         a: id,
         b: id,
         letter: Letter::N,
@@ -101,10 +102,10 @@ fn first_of_link(world: &World, a: NodeId, b: NodeId) -> Option<Violation>
     let near = Side::of(world, a, b)?;
     let far = Side::of(world, b, a)?;
     for letter in LINK_LETTERS {
-        if is_broken(letter, near, far) {
+        if !holds(letter, &near, &far) {
             return Some(Violation { a, b, letter });
         }
-        if is_broken(letter, far, near) {
+        if !holds(letter, &far, &near) {
             return Some(Violation { a: b, b: a, letter });
         }
     }

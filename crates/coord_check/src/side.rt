@@ -3,25 +3,21 @@
 ghost use Rattle.std.specs.Prelude.{◌≡◌, IfSome, is_some};
 ghost use Rattle.coord_world.specs.NumberedWorld.{is_linked};
 ghost use Rattle.coord_world.specs.Ranges.{InRange};
-ghost use Rattle.coord_check.specs.Letters.{miscounts};
 ghost use Rattle.coord_check.specs.Sides.{side};
 
-use crate::way::Way;
 use coord_link::Lane;
 use coord_types::{Mode, NodeId};
 use coord_world::World;
 
 /// One end of a link: what its node says of the other end, and the lane from it.
-#[derive(Clone, Copy)]
+#[derive(Drop)]
 pub(crate) struct Side {
     pub mode: Mode,
     /// Whether it awaits the other end.
     pub awaits: bool,
     /// Whether the other end is its parent.
     pub child: bool,
-    /// Whether more than the front was taken, or more is receipted than was taken.
-    pub miscounts: bool,
-    pub way: Way,
+    pub lane: Lane,
 }
 
 impl Side {
@@ -37,16 +33,7 @@ impl Side {
             mode: node.mode(),
             awaits: node.pend().contains(to),
             child: node.parent() == Some(to),
-            miscounts: lane_miscounts(lane),
-            way: Way::of(lane.transit()),
+            lane: *lane,
         })
     }
-}
-
-fn lane_miscounts(lane: &Lane) -> bool
-    ensures { result ≡ miscounts (Some lane.now) }
-{
-    let (got, base) = (lane.got(), lane.base());
-    let is_front_taken = got > base && got - base == 1 && !lane.queue().is_empty();
-    got != base && !is_front_taken
 }

@@ -2,34 +2,12 @@
 
 ghost use Rattle.std.specs.Prelude.{◌≡◌};
 ghost use Rattle.coord_world.specs.Links.{readies_behind};
-ghost use Rattle.coord_check.specs.Sides.{count, way_of};
+ghost use Rattle.coord_check.specs.Sides.{count};
 
 use coord_types::Msg;
 
-/// How many messages of each kind are on the way.
-#[derive(Clone, Copy)]
-pub(crate) struct Way {
-    pub aborts: usize,
-    pub acks: usize,
-    pub readies: usize,
-    /// The Readies behind the first Abort.
-    pub late_readies: usize,
-}
-
-impl Way {
-    pub fn of(messages: &[Msg]) -> Way
-        ensures { result ≡ way_of messages.now }
-    {
-        Way {
-            aborts: count_of(messages, Msg::Abort),
-            acks: count_of(messages, Msg::Ack),
-            readies: count_of(messages, Msg::Ready),
-            late_readies: late_readies(messages),
-        }
-    }
-}
-
-fn count_of(messages: &[Msg], kind: Msg) -> usize
+/// How many messages of a kind are on the way.
+pub(crate) fn count_of(messages: &[Msg], kind: Msg) -> usize
     ensures { result ≡ count kind messages.now }
 {
     let mut many = 0;
@@ -41,7 +19,8 @@ fn count_of(messages: &[Msg], kind: Msg) -> usize
     many
 }
 
-fn late_readies(messages: &[Msg]) -> usize
+/// How many Readies stand behind the first Abort.
+pub(crate) fn late_readies(messages: &[Msg]) -> usize
     ensures { result ≡ readies_behind messages.now }
 {
     for (i, msg) in messages.iter().enumerate() {

@@ -1,7 +1,7 @@
 -- No spelling begins another one: what follows a spelling doesn't change what is read of it.
 use Rattle.coord_world.specs.Parts.{rows_of}
-use Rattle.coord_world.proofs.Fitting.{rows_of_world_fit}
-use Rattle.coord_world.proofs.OneWorld.{rows_give_world}
+use Rattle.coord_world.proofs.Facade.{rows_of_world_fit}
+use Rattle.coord_world.proofs.Facade.{rows_give_world}
 use Rattle.coord_codec.specs.Batches.{pair}
 use Rattle.coord_codec.specs.Laws.{BatchesArePrefixFree, StepsArePrefixFree, WorldsArePrefixFree}
 use Rattle.coord_codec.specs.Steps.{batch, step}

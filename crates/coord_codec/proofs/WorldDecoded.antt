@@ -4,8 +4,8 @@ use Rattle.std.specs.Prelude.{IfOk}
 use Rattle.coord_world.specs.NumberedWorld.{World}
 use Rattle.coord_world.specs.Parts.{rows_of}
 use Rattle.coord_world.specs.Ranges.{InRange}
-use Rattle.coord_world.proofs.Fitting.{rows_of_world_fit}
-use Rattle.coord_world.proofs.OneWorld.{rows_give_world}
+use Rattle.coord_world.proofs.Facade.{rows_of_world_fit}
+use Rattle.coord_world.proofs.Facade.{rows_give_world}
 use Rattle.coord_codec.specs.declared.fault.CodecFault.{CodecFault}
 use Rattle.coord_codec.specs.declared.fault.FaultKind.{FaultKind}
 use Rattle.coord_codec.specs.declared.fault.FaultKind.TheVariants.{OutOfMemory, Short, BadByte, Extra, BadVersion}

@@ -22,7 +22,7 @@ use Rattle.coord_world.specs.Parts.{LinkRowFits, NodeRowFits, Rows, RowsFit, by_
 use Rattle.coord_world.specs.declared.parts.NodeRow.{NodeRow}
 use Rattle.coord_world.specs.declared.parts.LinkRow.{LinkRow}
 use Rattle.coord_world.specs.declared.parts.ClientRow.{ClientRow}
-use Rattle.coord_world.proofs.Keyed.{all_weaker}
+use Rattle.coord_world.proofs.Facade.{all_weaker}
 use Rattle.coord_codec.specs.Fields.{message}
 use Rattle.coord_codec.specs.Format.{FitBehind}
 use Rattle.coord_codec.specs.Worlds.{at_most, client_row, clients, ends, from_one_to, how_many, kind, lane, last_by, last_ends, link_row, links, mask, mode, node_row, nodes, parent, queue, same_group, world}

@@ -1,5 +1,5 @@
 -- The lane machine: one direction of a link, stop and wait, its messages numbered from 1.
-use Rattle.std.specs.Prelude.{◌≡◌, ◌⊎◌, ◌≢◌, ℕ, ◌+◌, ◌==◌, ◌||◌, not, nat_le, nat_lt, Bool, List, [], ◌∷◌, ◌++◌, Option, Some, None, Result, Ok, Err, if◌then◌else◌}
+use Rattle.std.specs.Prelude.{◌≡◌, ℕ, ◌+◌, ◌==◌, ◌&&◌, ◌||◌, not, nat_le, nat_lt, Bool, true, List, [], ◌∷◌, ◌++◌, Option, Some, None, Result, Ok, Err, if◌then◌else◌}
 use Rattle.std.proofs.Common.{refl}
 use Rattle.std.specs.Coded.{Coded, code_by, coded×, coded_ℕ, coded_list}
 use Rattle.coord_types.specs.Messages.{is_nil, behind_front, begins_with, msg_code}
@@ -71,9 +71,13 @@ against_clear l number =
 abbrev pub judged_clear : Lane → ℕ → Result (Unit {0}) Refusal
 judged_clear l number = refused_or tt (against_clear l number)
 
--- the front is not yet taken, or it is; no more than the front is ever taken
+-- predicate A: nothing that is in the queue was taken at the other end, or just the front was
+abbrev pub has_front_taken_at_most : Lane → Bool
+has_front_taken_at_most l = (l.got == l.base) || ((l.got == l.base + 1) && not (is_nil l.queue))
+
+-- the numbers of a lane fit its queue
 abbrev pub Counts : Lane → Type 0
-Counts l = (l.got ≡ l.base) ⊎ ((l.got ≡ l.base + 1) × (l.queue ≢ []))
+Counts l = has_front_taken_at_most l ≡ true
 
 -- a lane is stored as the tuple of its fields
 abbrev pub lane_code : Coded Lane

@@ -1,5 +1,6 @@
 -- Proofs by cases.
-use Rattle.std.proofs.Common.{◌≡◌, ◌≢◌, ◌⊎◌, ℕ, Bool, true, false, refl, inl, inr}
+use Rattle.std.proofs.Common.{◌≡◌, ◌≢◌, ◌⊎◌, ℕ, Bool, true, false, ◌&&◌, Option, Some, None, refl, inl, inr}
+use Rattle.std.specs.Prelude.{is_some}
 use Rattle.std.proofs.lemmas.Bool.Decides.{eqb_tells}
 
 -- on a test, with its answer
@@ -10,3 +11,13 @@ by_test false P t f = f refl
 -- each number is u or it isn't
 pub same_or_apart : (x u : ℕ) → (x ≡ u) ⊎ (x ≢ u)
 same_or_apart x u = elim (eqb_tells x u) [ inl h ↦ inl h.1 | inr h ↦ inr h.1 ]
+
+-- two tests that hold
+pub both : (a b : Bool) → (a && b) ≡ true → (a ≡ true) × (b ≡ true)
+both true b e = (refl, e)
+both false b e = cc
+
+-- what is there
+pub some_value : {X : Type 0} (o : Option X) → is_some o ≡ true → (x : X) × (o ≡ Some x)
+some_value None e = cc
+some_value (Some x) e = (x, refl)

@@ -1,75 +1,13 @@
-pub mod AbortEffect
-pub mod AckEffect
-pub mod Acked
-pub mod Acts
-pub mod After
-pub mod Assembled
-pub mod Calms
-pub mod Cases
-pub mod Computes
-pub mod Counted
-pub mod Deeds
-pub mod Degrees
-pub mod Doing
-pub mod Drops
-pub mod Effects
-pub mod Empty
-pub mod Ends
-pub mod Epochs
-pub mod Explained
-pub mod Fitting
-pub mod Fresh
-pub mod Front
-pub mod FrontEnds
-pub mod FrontGoesOn
-pub mod FrontGrows
-pub mod Groups
-pub mod Incarnations
-pub mod Itself
-pub mod Joins
-pub mod Judged
-pub mod Kept
-pub mod Keyed
-pub mod LaneChanges
-pub mod LanesNext
-pub mod LegalNext
-pub mod Linking
-pub mod Looked
-pub mod Nexts
-pub mod NodesNext
-pub mod Numbers
-pub mod OncePerWave
-pub mod OneWorld
-pub mod Ordered
-pub mod Pairs
-pub mod Paths
-pub mod Places
-pub mod RangesNext
-pub mod Reached
-pub mod ReadyEffect
-pub mod Readying
-pub mod Refused
-pub mod ResetEffect
-pub mod Room
-pub mod Rooms
-pub mod Rows
-pub mod RowsNext
-pub mod Running
-pub mod SessionsNext
-pub mod Sets
-pub mod Settled
-pub mod Short
-pub mod SignalCounts
-pub mod Sizes
-pub mod Sound
-pub mod StepEffect
-pub mod StoredWave
-pub mod Structure
-pub mod TableLists
-pub mod Taken
-pub mod Transits
-pub mod Viewed
-pub mod WaveBegins
-pub mod WaveRuns
-pub mod Ways
-pub mod release
+mod Cases
+mod acceptance
+mod deeds
+mod lanes
+mod legal
+mod listings
+mod lists
+mod ranges
+mod release
+mod view
+mod waves
+mod WorkedRuns
+pub mod Facade

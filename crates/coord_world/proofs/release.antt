@@ -1,3 +1,4 @@
+-- What is released, that it stays so, what is sent again, and which reply is kept.
 pub mod Membership
 pub mod Trails
 pub mod LaneAfterStep

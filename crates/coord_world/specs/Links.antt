@@ -1,5 +1,5 @@
--- The predicates over the two ends of a link and what is on the way between them.
-use Rattle.std.specs.Prelude.{◌≡◌, ℕ, ◌+◌, ◌≤◌, Bool, true, false, ◌&&◌, List, [], ◌∷◌, if◌then◌else◌}
+-- The predicates B to G over the two ends of a link and what is on the way between them, each a test. Predicate A, over a lane, stands in the lane machine.
+use Rattle.std.specs.Prelude.{◌≡◌, ℕ, ◌+◌, ◌==◌, nat_le, Bool, true, false, ◌&&◌, ◌||◌, not, List, [], ◌∷◌, if◌then◌else◌}
 use Rattle.coord_types.specs.NodeSet as set
 use Rattle.coord_types.specs.NodeState.{NodeState}
 use Rattle.coord_types.specs.NodeSet.{NodeSet}
@@ -75,17 +75,43 @@ is_ready Ready = true
 is_ready Abort = false
 is_ready Converge = false
 
--- the link predicates B to G, as the sender of `out` sees them
+-- an end that owes the other one an acknowledgement
+abbrev pub owes_ack : End → Bool
+owes_ack e = is_abort e.mode && e.child
+
+-- an end that waits for the other one's Ready
+abbrev pub waits_for_ready : End → Bool
+waits_for_ready e = is_converge e.mode && e.child
+
+-- B: an acknowledgement that is awaited stands in one place, and no other does: in the Abort on the way, at the end that owes it, or in the Ack on the way back
+abbrev pub has_ack_in_one_place : Link → Bool
+has_ack_in_one_place l = (aborts l.out + one (owes_ack l.there) + acks l.back) == one l.here.awaits
+
+-- C: at most one Ready is on the way
+abbrev pub has_one_ready_at_most : Link → Bool
+has_one_ready_at_most l = nat_le (readies l.out) 1
+
+-- D: no Ready stands behind an Abort
+abbrev pub has_readies_first : Link → Bool
+has_readies_first l = readies_behind l.out == 0
+
+-- E: where the other end waits for this one's Ready, it is on the way, or this end isn't Ready
+abbrev pub has_ready_for_child : Link → Bool
+has_ready_for_child l = not (waits_for_ready l.there) || not (readies l.out == 0) || not (is_ready l.here.mode)
+
+-- F: the two ends are not each other's parent
+abbrev pub has_one_parent_at_most : Link → Bool
+has_one_parent_at_most l = not (l.here.child && l.there.child)
+
+-- G: where this end isn't Ready, the other isn't its parent and no Abort is on the way, no Ready is
+abbrev pub has_no_early_ready : Link → Bool
+has_no_early_ready l = is_ready l.here.mode || l.here.child || not (aborts l.out == 0) || (readies l.out == 0)
+
+-- B to G, as the sender of `out` sees them
 pub record LegalLink (l : Link) : Type 0 where
-  -- B: each acknowledgement that is awaited stands in one place
-  pub counted : aborts l.out + one (is_abort l.there.mode && l.there.child) + acks l.back ≡ one l.here.awaits
-  -- C: at most one Ready is on the way
-  pub one_ready : readies l.out ≤ 1
-  -- D: it stands before an Abort
-  pub ready_first : readies_behind l.out ≡ 0
-  -- E: a Converge node whose parent is Ready again has its Ready on the way
-  pub converged : is_converge l.there.mode ≡ true → l.there.child ≡ true → is_ready l.here.mode ≡ true → readies l.out ≡ 1
-  -- F: no two nodes are each other's parent
-  pub one_parent : l.here.child ≡ true → l.there.child ≡ false
-  -- G: a node in a reset has no Ready on the way but to its parent, or before an Abort
-  pub no_ready : is_ready l.here.mode ≡ false → l.here.child ≡ false → aborts l.out ≡ 0 → readies l.out ≡ 0
+  pub ack_in_one_place : has_ack_in_one_place l ≡ true
+  pub one_ready_at_most : has_one_ready_at_most l ≡ true
+  pub readies_first : has_readies_first l ≡ true
+  pub ready_for_child : has_ready_for_child l ≡ true
+  pub one_parent_at_most : has_one_parent_at_most l ≡ true
+  pub no_early_ready : has_no_early_ready l ≡ true

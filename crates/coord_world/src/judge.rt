@@ -62,7 +62,7 @@ impl Draft {
     }
 
     /// What a command in its turn is answered, or why it is refused.
-    #[tactic(auto, using(crate::proofs::Refused::passes, crate::proofs::Refused::refuses))]
+    #[tactic(auto, using(crate::proofs::acceptance::RefusedOr::passes, crate::proofs::acceptance::RefusedOr::refuses))]
     fn judge_fresh(&self, command: &Command) -> Result<Verdict, Refusal>
         ensures { result ≡ refused_or (Verdict.Fresh (kind_ordered (row self.now) command.now)) (against_command self.now command.now) }
     {

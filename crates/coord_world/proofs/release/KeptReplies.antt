@@ -13,8 +13,8 @@ use Rattle.coord_world.specs.NumberedWorld.{World}
 use Rattle.coord_world.specs.Outputs.{outputs}
 use Rattle.coord_world.specs.KeptReplies.{IsLastOrder, IsNotBy, KeptReplyLaw}
 use Rattle.coord_world.proofs.Cases.{same_or_apart}
-use Rattle.coord_world.proofs.Looked.{get-set}
-use Rattle.coord_world.proofs.SessionsNext.{sessions_noted}
+use Rattle.coord_world.proofs.lists.GetAfter.{get-set}
+use Rattle.coord_world.proofs.ranges.SessionInRange.{sessions_noted}
 
 -- what is kept for client c after these steps
 abbrev Keeps : World → List Step → ℕ → Type 0

@@ -15,7 +15,7 @@ use Rattle.coord_node.specs.Rules.{Deed}
 use Rattle.coord_node.specs.Steps.{deeds, deeds_ordered}
 use Rattle.coord_world.specs.Next.{all_do, does, is_lane, next, on_lane, ordered}
 use Rattle.coord_world.specs.NumberedWorld.{World, row}
-use Rattle.coord_world.proofs.Looked.{lane_done, lane_on, lane_left, lane_made}
+use Rattle.coord_world.proofs.lists.GetAfter.{lane_done, lane_on, lane_left, lane_made}
 
 -- the lane from x to y after a step
 pub data LaneStep (w : World) (s : Step) (x y : ℕ) (after : Option Lane) : Type 0 where

@@ -10,7 +10,7 @@ use Rattle.coord_world.specs.Acceptance.{IsFresh}
 use Rattle.coord_world.specs.Next.{fold, next}
 use Rattle.coord_world.specs.NumberedWorld.{World}
 use Rattle.coord_world.specs.Trails.{IsSound}
-use Rattle.coord_world.proofs.Fresh.{fresh_take}
+use Rattle.coord_world.proofs.acceptance.IsFresh.{fresh_take}
 use Rattle.coord_world.proofs.release.LaneAfterStep.{LaneStep, lane_step}
 use Rattle.coord_world.proofs.release.Trails.{EachFresh, sound_next}
 

@@ -3,7 +3,7 @@ use Rattle.std.proofs.Common.{refl}
 use Rattle.coord_types.specs.Table as table
 use Rattle.coord_types.specs.NodeSet as set
 use Rattle.coord_world.specs.ReleasedRun.{ReleasedRun}
-use Rattle.coord_world.proofs.StoredWave.{reset_is_trail}
+use Rattle.coord_world.proofs.waves.StoredWave.{reset_is_trail}
 
 pub released_run : ReleasedRun
 unfolding table.empty table.get table.insert table.remove table.change table.len set.contains set.empty set.insert set.remove set.len

@@ -14,11 +14,11 @@ use Rattle.coord_world.specs.NumberedWorld.{World, pair_cmp, pair_cmp_total}
 use Rattle.coord_world.specs.Outputs.{again, again_by, all_again, all_sent, front_packet, receipt, sent_by}
 use Rattle.coord_world.specs.Trails.{IsSound}
 use Rattle.coord_world.proofs.Cases.{by_test}
-use Rattle.coord_world.proofs.Keyed.{each_entry}
-use Rattle.coord_world.proofs.Looked.{same_pair}
+use Rattle.coord_world.proofs.lists.KeyedLists.{each_entry}
+use Rattle.coord_world.proofs.lists.GetAfter.{same_pair}
 use Rattle.coord_world.proofs.release.Membership.{Contains-cons_cases, Contains-head, not_in_nil, Contains-one, Contains-flat_map_found, Contains-flat_map_entry, Contains-tail}
 use Rattle.coord_world.proofs.release.LaneFronts.{IsFront, IsFrontReceipt}
-use Rattle.coord_world.proofs.TableLists.{is_true}
+use Rattle.coord_world.proofs.lists.TableEntries.{is_true}
 
 -- both lists are made of the entries of the lanes
 all_again-flat_map : (es : List ((ℕ × ℕ) × Lane)) → all_again es ≡ flat_map (λ e. again_by e.0 e.1 e.1.queue) es

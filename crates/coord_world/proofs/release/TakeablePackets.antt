@@ -12,7 +12,7 @@ use Rattle.coord_world.specs.Acceptance.{IsFresh, against_data, lane, of_incarna
 use Rattle.coord_world.specs.NumberedWorld.{World}
 use Rattle.coord_world.specs.Release.{IsClearable, IsTakeable}
 use Rattle.coord_world.proofs.Cases.{by_test}
-use Rattle.coord_world.proofs.Fresh.{NoneHolds, begins_is, tests_passed, with_incarnation}
+use Rattle.coord_world.proofs.acceptance.IsFresh.{NoneHolds, begins_is, tests_passed, with_incarnation}
 use Rattle.coord_world.proofs.release.LaneFronts.{IsNumbered, IsFront}
 
 -- where no test refuses, none holds

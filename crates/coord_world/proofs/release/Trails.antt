@@ -10,10 +10,10 @@ use Rattle.coord_world.specs.Outputs.{outputs, outs}
 use Rattle.coord_world.specs.Ranges.{StepInRange}
 use Rattle.coord_world.specs.Trails.{IsTrail, IsSound, FoldCounts, TrailKeepsWorlds, TrailIsCut, TrailGoesOn}
 use Rattle.coord_world.specs.Turns.{InTurn}
-use Rattle.coord_world.proofs.Itself.{itself}
-use Rattle.coord_world.proofs.LegalNext.{legal_next}
-use Rattle.coord_world.proofs.RangesNext.{ranges_next}
-use Rattle.coord_world.proofs.Running.{IsTaken, taken_in_turn}
+use Rattle.coord_world.proofs.acceptance.FreshOverItself.{itself}
+use Rattle.coord_world.proofs.legal.NextKeepsLegal.{legal_next}
+use Rattle.coord_world.proofs.ranges.NextKeepsRanges.{ranges_next}
+use Rattle.coord_world.proofs.waves.StepsInTurn.{IsTaken, taken_in_turn}
 
 -- each step is fresh over the world before it, and in its ranges
 abbrev pub EachFresh : World → List Step → Type 0

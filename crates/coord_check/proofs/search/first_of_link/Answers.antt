@@ -1,22 +1,22 @@
 -- Letter by letter.
 use Rattle.std.proofs.Common.{sym, refl, ap, ◌∙◌, arith}
 use Rattle.coord_check.specs.Faults.{first}
-use Rattle.coord_check.proofs.Firsts.{there, none_left, broken_here, broken_back, unbroken_letter}
+use Rattle.coord_check.proofs.FirstFault.{there, none_left, broken_here, broken_back, unbroken_letter}
 use Rattle.coord_check.proofs.search.first_of_link.Goals as goal
 
-pub returns-then-is_broken : goal.returns-then-is_broken
-returns-then-is_broken c =
-    sym (broken_here c.args.world.now c.args.a c.args.b c.loop-letter.letter-index c.loop-letter-test.true _ refl c.in_ok-near.near c.in_ok-far.far c.in_ok-near.ensures.value c.in_ok-far.ensures.value c.is_broken.result c.is_broken.ensures c.if-is_broken.true)
+pub returns-then-not-holds : goal.returns-then-not-holds
+returns-then-not-holds c =
+    sym (broken_here c.args.world.now c.args.a c.args.b c.loop-letter.letter-index c.loop-letter-test.true _ refl c.in_ok-near.near c.in_ok-far.far c.in_ok-near.ensures.value c.in_ok-far.ensures.value c.holds.result c.holds.ensures c.if-not-holds.true)
     ∙ c.loop-letter.invariant ∙ sym (ap first (there c.args.world.now c.args.a c.args.b c.in_ok-near.ensures.linked))
 
-pub returns-then-is_broken-2 : goal.returns-then-is_broken-2
-returns-then-is_broken-2 c =
-    sym (broken_back c.args.world.now c.args.a c.args.b c.loop-letter.letter-index c.loop-letter-test.true _ refl c.in_ok-near.near c.in_ok-far.far c.in_ok-near.ensures.value c.in_ok-far.ensures.value c.is_broken.result c.is_broken-in-loop-letter.result c.is_broken.ensures c.if-is_broken.false c.is_broken-in-loop-letter.ensures c.if-is_broken-2.true)
+pub returns-then-not-holds-2 : goal.returns-then-not-holds-2
+returns-then-not-holds-2 c =
+    sym (broken_back c.args.world.now c.args.a c.args.b c.loop-letter.letter-index c.loop-letter-test.true _ refl c.in_ok-near.near c.in_ok-far.far c.in_ok-near.ensures.value c.in_ok-far.ensures.value c.holds.result c.holds-in-loop-letter.result c.holds.ensures c.if-not-holds.false c.holds-in-loop-letter.ensures c.if-not-holds-2.true)
     ∙ c.loop-letter.invariant ∙ sym (ap first (there c.args.world.now c.args.a c.args.b c.in_ok-near.ensures.linked))
 
 pub loop-letter-preserved : goal.loop-letter-preserved
 loop-letter-preserved c =
-    unbroken_letter c.args.world.now c.args.a c.args.b c.loop-letter.letter-index c.loop-letter-test.true _ refl c.in_ok-near.near c.in_ok-far.far c.in_ok-near.ensures.value c.in_ok-far.ensures.value c.is_broken.result c.is_broken-in-loop-letter.result c.is_broken.ensures c.if-is_broken.false c.is_broken-in-loop-letter.ensures c.if-is_broken-2.false
+    unbroken_letter c.args.world.now c.args.a c.args.b c.loop-letter.letter-index c.loop-letter-test.true _ refl c.in_ok-near.near c.in_ok-far.far c.in_ok-near.ensures.value c.in_ok-far.ensures.value c.holds.result c.holds-in-loop-letter.result c.holds.ensures c.if-not-holds.false c.holds-in-loop-letter.ensures c.if-not-holds-2.false
     ∙ c.loop-letter.invariant
 
 pub returns : goal.returns

@@ -1,4 +1,4 @@
-use Rattle.coord_world.proofs.Itself.{itself}
+use Rattle.coord_world.proofs.acceptance.FreshOverItself.{itself}
 use Rattle.coord_world.proofs.laws.fresh_over_itself.Goals as goal
 
 pub returns : goal.returns

@@ -1,5 +1,5 @@
-use Rattle.coord_world.proofs.Short.{lane_short}
-use Rattle.coord_world.proofs.Structure.{sound_view}
+use Rattle.coord_world.proofs.lanes.IsShort.{lane_short}
+use Rattle.coord_world.proofs.legal.SoundView.{sound_view}
 use Rattle.coord_world.proofs.laws.lanes_are_short.Goals as goal
 
 pub returns : goal.returns

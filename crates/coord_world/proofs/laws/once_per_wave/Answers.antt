@@ -1,4 +1,4 @@
-use Rattle.coord_world.proofs.OncePerWave as law
+use Rattle.coord_world.proofs.waves.OncePerWave as law
 use Rattle.coord_world.proofs.laws.once_per_wave.Goals as goal
 
 pub returns : goal.returns

@@ -1,4 +1,4 @@
-use Rattle.coord_world.proofs.Fitting as law
+use Rattle.coord_world.proofs.listings.RowsOfWorldFit as law
 use Rattle.coord_world.proofs.laws.rows_of_world_fit.Goals as goal
 
 pub returns : goal.returns

@@ -1,4 +1,4 @@
-use Rattle.coord_world.proofs.Nexts.{view_next}
+use Rattle.coord_world.proofs.view.ViewOfNext.{view_next}
 use Rattle.coord_world.proofs.laws.view_of_next.Goals as goal
 
 pub returns : goal.returns

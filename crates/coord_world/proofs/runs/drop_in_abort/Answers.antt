@@ -1,4 +1,4 @@
-use Rattle.coord_world.proofs.Computes.{abort_computes}
+use Rattle.coord_world.proofs.WorkedRuns.{abort_computes}
 use Rattle.coord_world.proofs.runs.drop_in_abort.Goals as goal
 
 pub returns : goal.returns

@@ -1,4 +1,4 @@
-use Rattle.coord_world.proofs.Computes.{converge_computes}
+use Rattle.coord_world.proofs.WorkedRuns.{converge_computes}
 use Rattle.coord_world.proofs.runs.drop_in_converge.Goals as goal
 
 pub returns : goal.returns

@@ -1,4 +1,4 @@
-use Rattle.coord_world.proofs.Computes.{stored_computes}
+use Rattle.coord_world.proofs.WorkedRuns.{stored_computes}
 use Rattle.coord_world.proofs.runs.stored_run.Goals as goal
 
 pub returns : goal.returns

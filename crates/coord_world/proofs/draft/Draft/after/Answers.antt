@@ -4,8 +4,8 @@ use Rattle.coord_types.specs.Table.{entries}
 use Rattle.coord_world.specs.NumberedWorld.{World}
 use Rattle.coord_world.specs.Next.{noted, next}
 use Rattle.coord_world.specs.Fronts.{HasNumber}
-use Rattle.coord_world.proofs.Numbers.{all_numbered}
-use Rattle.coord_world.proofs.RangesNext.{ranges_next}
+use Rattle.coord_world.proofs.lanes.HasNumber.{all_numbered}
+use Rattle.coord_world.proofs.ranges.NextKeepsRanges.{ranges_next}
 use Rattle.coord_world.proofs.draft.Draft.after.Goals as goal
 
 pub push_new_fronts-requires : goal.push_new_fronts-requires

@@ -3,7 +3,7 @@ use Rattle.std.specs.List.{All}
 use Rattle.coord_types.specs.Table.{entries}
 use Rattle.coord_world.specs.NumberedWorld.{World}
 use Rattle.coord_world.specs.Fronts.{HasNumber}
-use Rattle.coord_world.proofs.Numbers.{all_numbered}
+use Rattle.coord_world.proofs.lanes.HasNumber.{all_numbered}
 use Rattle.coord_world.proofs.draft.Draft.again.Goals as goal
 
 pub push_all_again-requires : goal.push_all_again-requires

@@ -3,7 +3,7 @@ use Rattle.std.specs.Ordering.{nat_cmp}
 use Rattle.std.specs.FinMap.Entries.{is_sorted}
 use Rattle.coord_world.specs.Assembly.{client_entry, node_entry}
 use Rattle.coord_world.specs.Parts.{listed}
-use Rattle.coord_world.proofs.Assembled.{clients_sorted, nodes_sorted}
+use Rattle.coord_world.proofs.listings.Assembled.{clients_sorted, nodes_sorted}
 use Rattle.coord_world.proofs.draft.Draft.assemble.Goals as goal
 
 pub from_sorted-requires : goal.from_sorted-requires

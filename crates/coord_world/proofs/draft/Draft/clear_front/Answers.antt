@@ -4,7 +4,7 @@ use Rattle.coord_types.specs.Table.{get, insert}
 use Rattle.coord_link.specs.LaneMachine.{cleared}
 use Rattle.coord_world.specs.NumberedWorld.{World}
 use Rattle.coord_world.specs.Next.{on_lane}
-use Rattle.coord_world.proofs.LaneChanges.{on_lane_absent, on_lane_there}
+use Rattle.coord_world.proofs.lanes.OnLane.{on_lane_absent, on_lane_there}
 use Rattle.coord_world.proofs.draft.Draft.clear_front.Goals as goal
 
 pub returns-in_default : goal.returns-in_default

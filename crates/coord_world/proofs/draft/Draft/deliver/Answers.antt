@@ -3,7 +3,7 @@ use Rattle.coord_link.specs.LaneMachine.{took}
 use Rattle.coord_node.specs.Rules.{deed}
 use Rattle.coord_world.specs.NumberedWorld.{row}
 use Rattle.coord_world.specs.Next.{does, on_lane}
-use Rattle.coord_world.proofs.Doing.{on_ok, act_done}
+use Rattle.coord_world.proofs.deeds.IsActOf.{on_ok, act_done}
 use Rattle.coord_world.proofs.draft.Draft.deliver.Goals as goal
 
 pub returns-clause-world : goal.returns-clause-world

@@ -3,7 +3,7 @@ use Rattle.coord_node.specs.Steps.{kind_ordered}
 use Rattle.coord_world.specs.declared.verdicts.Verdict.TheVariants.{Fresh}
 use Rattle.coord_world.specs.NumberedWorld.{row}
 use Rattle.coord_world.specs.Acceptance.{against_command}
-use Rattle.coord_world.proofs.Refused.{refuses}
+use Rattle.coord_world.proofs.acceptance.RefusedOr.{refuses}
 use Rattle.coord_world.proofs.draft.Draft.judge_fresh.Goals as goal
 
 pub returns-in-Err : goal.returns-in-Err

@@ -2,7 +2,7 @@
 use Rattle.std.proofs.Common.{subst}
 use Rattle.coord_types.specs.declared.steps.Step.TheVariants.{Order}
 use Rattle.coord_world.specs.Ready.{IsReadyFor}
-use Rattle.coord_world.proofs.Readying.{can_reset, can_drop_first, can_drop_second, join_there}
+use Rattle.coord_world.proofs.deeds.CanAct.{can_reset, can_drop_first, can_drop_second, join_there}
 use Rattle.coord_world.proofs.draft.Draft.obey.Goals as goal
 
 pub join-requires-clause-other : goal.join-requires-clause-other

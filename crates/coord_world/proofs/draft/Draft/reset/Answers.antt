@@ -2,7 +2,7 @@ use Rattle.std.proofs.Common.{ap, ◌∙◌}
 use Rattle.coord_node.specs.Rules.{request}
 use Rattle.coord_world.specs.NumberedWorld.{row}
 use Rattle.coord_world.specs.Next.{does}
-use Rattle.coord_world.proofs.Doing.{on_ok, act_done}
+use Rattle.coord_world.proofs.deeds.IsActOf.{on_ok, act_done}
 use Rattle.coord_world.proofs.draft.Draft.reset.Goals as goal
 
 pub returns-clause-world : goal.returns-clause-world

@@ -4,7 +4,7 @@ use Rattle.coord_node.specs.Rules.{Deed, lost, sends_of}
 use Rattle.coord_world.specs.NumberedWorld.{World, row}
 use Rattle.coord_world.specs.Next.{does, ordered}
 use Rattle.coord_world.specs.Sends.{HasRoomFor}
-use Rattle.coord_world.proofs.Doing.{on_ok, act_done, act_room}
+use Rattle.coord_world.proofs.deeds.IsActOf.{on_ok, act_done, act_room}
 use Rattle.coord_world.proofs.draft.Draft.sever.Goals as goal
 
 pub carry-requires : goal.carry-requires

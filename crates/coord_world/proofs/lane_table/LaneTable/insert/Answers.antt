@@ -2,7 +2,7 @@ use Rattle.std.proofs.Common.{ap, ◌∙◌}
 use Rattle.coord_world.specs.NumberedWorld.{pair_cmp, pair_cmp_total}
 use Rattle.std.specs.FinMap.Entries.{is_sorted}
 use Rattle.coord_types.specs.Table as table
-use Rattle.coord_world.proofs.TableLists.{sorted-put, from_sorted-put}
+use Rattle.coord_world.proofs.lists.TableEntries.{sorted-put, from_sorted-put}
 use Rattle.coord_world.proofs.lane_table.LaneTable.insert.Goals as goal
 
 pub invariant_of-self-2 : goal.invariant_of-self-2

@@ -4,8 +4,8 @@ use Rattle.coord_types.specs.Table as table
 use Rattle.coord_link.specs.LaneMachine.{Lane, sent}
 use Rattle.coord_world.specs.NumberedWorld.{pair_cmp, pair_cmp_total}
 use Rattle.coord_world.specs.Sends.{sent_to, HasRoomFor}
-use Rattle.coord_world.proofs.TableLists.{from_sorted-changed, changed_sorted}
-use Rattle.coord_world.proofs.Rooms.{all_have_place}
+use Rattle.coord_world.proofs.lists.TableEntries.{from_sorted-changed, changed_sorted}
+use Rattle.coord_world.proofs.lanes.HasRoomFor.{all_have_place}
 use Rattle.coord_world.proofs.lane_table.LaneTable.send.Goals as goal
 
 pub send_all-requires : goal.send_all-requires

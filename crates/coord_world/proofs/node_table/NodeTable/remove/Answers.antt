@@ -3,7 +3,7 @@ use Rattle.std.specs.Cmp.{nat_cmp_total}
 use Rattle.std.specs.Ordering.{nat_cmp}
 use Rattle.std.specs.FinMap.Entries.{is_sorted}
 use Rattle.coord_types.specs.Table as table
-use Rattle.coord_world.proofs.TableLists.{sorted-out, from_sorted-out}
+use Rattle.coord_world.proofs.lists.TableEntries.{sorted-out, from_sorted-out}
 use Rattle.coord_world.proofs.node_table.NodeTable.remove.Goals as goal
 
 pub invariant_of-self : goal.invariant_of-self

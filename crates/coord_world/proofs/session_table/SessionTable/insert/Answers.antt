@@ -4,7 +4,7 @@ use Rattle.std.specs.Ordering.{nat_cmp}
 use Rattle.std.specs.FinMap.Entries.{is_sorted}
 use Rattle.coord_types.specs.Table as table
 use Rattle.coord_types.specs.declared.steps.Session.{Session}
-use Rattle.coord_world.proofs.TableLists.{sorted-put, from_sorted-put}
+use Rattle.coord_world.proofs.lists.TableEntries.{sorted-put, from_sorted-put}
 use Rattle.coord_world.proofs.session_table.SessionTable.insert.Goals as goal
 
 pub invariant_of-self-2 : goal.invariant_of-self-2

@@ -1,5 +1,5 @@
 use Rattle.std.specs.Cmp.{nat_cmp_total}
-use Rattle.coord_world.proofs.TableLists.{from_sorted-none}
+use Rattle.coord_world.proofs.lists.TableEntries.{from_sorted-none}
 use Rattle.coord_world.proofs.session_table.SessionTable.new.Goals as goal
 
 pub returns : goal.returns

@@ -2,8 +2,8 @@ use Rattle.std.proofs.Common.{sym, subst}
 use Rattle.coord_world.specs.Acceptance.{IsFresh}
 use Rattle.coord_world.specs.Legal.{Legal}
 use Rattle.coord_world.specs.Ranges.{InRange}
-use Rattle.coord_world.proofs.LegalNext.{legal_next}
-use Rattle.coord_world.proofs.RangesNext.{ranges_next}
+use Rattle.coord_world.proofs.legal.NextKeepsLegal.{legal_next}
+use Rattle.coord_world.proofs.ranges.NextKeepsRanges.{ranges_next}
 use Rattle.coord_world.proofs.world.World.apply.Goals as goal
 
 pub invariant_of-self : goal.invariant_of-self

@@ -1,7 +1,7 @@
 use Rattle.std.proofs.Common.{ap, sym, ◌∙◌, subst}
 use Rattle.coord_world.specs.Parts.{listed, rows_of}
 use Rattle.coord_world.specs.Ranges.{InRange}
-use Rattle.coord_world.proofs.Assembled.{assembled_in_range, rows_assembled}
+use Rattle.coord_world.proofs.listings.Assembled.{assembled_in_range, rows_assembled}
 use Rattle.coord_world.proofs.world.World.assemble.Goals as goal
 
 pub invariant_of-result : goal.invariant_of-result

@@ -1,7 +1,7 @@
 use Rattle.std.proofs.Common.{sym, subst}
 use Rattle.coord_world.specs.Legal.{Legal}
 use Rattle.coord_world.specs.Ranges.{InRange}
-use Rattle.coord_world.proofs.Empty.{no_world_in_range, no_world_legal}
+use Rattle.coord_world.proofs.legal.EmptyWorld.{no_world_in_range, no_world_legal}
 use Rattle.coord_world.proofs.world.World.empty.Goals as goal
 
 pub invariant_of-result : goal.invariant_of-result

@@ -2,7 +2,7 @@ use Rattle.std.proofs.Common.{◌≡◌, sym, ◌∙◌, subst}
 use Rattle.coord_node.specs.Steps.{kind}
 use Rattle.coord_world.specs.Acceptance.{IsFresh}
 use Rattle.coord_world.specs.NumberedWorld.{row}
-use Rattle.coord_world.proofs.Judged.{verdict_fresh, verdict_fresh_itself, verdict_kind}
+use Rattle.coord_world.proofs.acceptance.FreshVerdict.{verdict_fresh, verdict_fresh_itself, verdict_kind}
 use Rattle.coord_world.proofs.world.World.judge.Goals as goal
 
 pub returns-clause-fresh : goal.returns-clause-fresh

@@ -1,7 +1,7 @@
 use Rattle.std.proofs.Common.{◌≡◌, sym, subst}
 use Rattle.std.proofs.lemmas.Result.{IfOk-weaker}
 use Rattle.coord_world.specs.Parts.{listed, rows_of, RowsFit}
-use Rattle.coord_world.proofs.Fitting.{rows_of_world_fit}
+use Rattle.coord_world.proofs.listings.RowsOfWorldFit.{rows_of_world_fit}
 use Rattle.coord_world.proofs.world.World.parts.Goals as goal
 
 pub returns-clause-fit : goal.returns-clause-fit

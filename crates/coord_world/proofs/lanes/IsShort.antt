@@ -1,0 +1,49 @@
+-- Lanes of sound worlds are short.
+use Rattle.std.proofs.Common.{◌≡◌, ℕ, ◌+◌, ◌≤◌, Bool, true, List, [], ◌∷◌, Some, length, sym, ap, ◌∙◌, subst, arith}
+use Rattle.std.specs.Prelude.{is_some}
+use Rattle.std.proofs.lemmas.Bool.Decides.{nat_tests}
+use Rattle.coord_types.specs.IdealWorld.{Ideal}
+use Rattle.coord_types.specs.Messages.{behind_front}
+use Rattle.coord_types.specs.NodeSet.{contains}
+use Rattle.coord_types.specs.Table.{get}
+use Rattle.coord_types.specs.declared.messages.Msg.{Msg}
+use Rattle.coord_types.specs.declared.messages.Msg.TheVariants.{Abort, Ack, Ready}
+use Rattle.coord_link.specs.LaneMachine.{Lane, transit}
+use Rattle.coord_world.specs.Laws.{IsShort}
+use Rattle.coord_world.specs.Links.{aborts, acks, readies, one}
+use Rattle.coord_world.specs.NumberedWorld.{World, view, transit_or_none}
+use Rattle.coord_world.proofs.legal.Sound.{Sound}
+
+-- each message is of one of three kinds
+counted : (ms : List Msg) → length ms ≡ aborts ms + acks ms + readies ms
+counted [] = omega arith
+counted (Abort ∷ ms) = omega (arith, counted ms)
+counted (Ack ∷ ms) = omega (arith, counted ms)
+counted (Ready ∷ ms) = omega (arith, counted ms)
+
+-- one or none
+at_most_one : (b : Bool) → one b ≤ 1
+at_most_one b = grind arith
+
+-- one Abort and one Ack by the two ends' counts, and one Ready
+pub way_short : (w : Ideal) (u v : ℕ) → Sound w → w.linked u v ≡ true → length (w.way u v) ≤ 3
+way_short w u v sound linked =
+    let near : contains (w.row u).neighbours v ≡ true = sym (sound.linked u v) ∙ linked in
+    let out = sound.links u v near in
+    let back = sound.links v u (sym (sound.mirrored u v) ∙ near) in
+    omega (arith, counted (w.way u v), out.counted, back.counted, out.one_ready, at_most_one (contains (w.row u).pend v), at_most_one (contains (w.row v).pend u))
+
+-- only the front is left out
+length-behind : (q : List Msg) → length q ≤ length (behind_front q) + 1
+length-behind [] = omega arith
+length-behind (m ∷ q) = omega arith
+
+-- at most the front isn't on the way
+length-queue : (l : Lane) → length l.queue ≤ length (transit l) + 1
+length-queue l = grind (arith, nat_tests, length-behind l.queue)
+
+-- a lane of a sound world is short
+pub lane_short : (w : World) (u v : ℕ) (l : Lane) → Sound (view w) → get w.lanes (u, v) ≡ Some l → IsShort l
+lane_short w u v l sound there =
+    let way : length (transit l) ≤ 3 = subst (λ o. length (transit_or_none o) ≤ 3) there (way_short (view w) u v sound (ap is_some there)) in
+    record { on_way = way; queued = omega (arith, length-queue l) }

@@ -1,0 +1,15 @@
+-- A fresh step keeps a world legal.
+pub mod DeedKept
+pub mod DropKept
+pub mod EmptyWorld
+pub mod EpochsFit
+pub mod JoinKept
+pub mod NextKeepsLegal
+pub mod RowKept
+pub mod RulesKept
+pub mod Sound
+pub mod SoundLink
+pub mod SoundNext
+pub mod SoundNode
+pub mod SoundView
+pub mod TakeKept

@@ -1,0 +1,138 @@
+-- A deed at one node of a world keeps it sound, where it keeps the node's own links legal: the others stay.
+use Rattle.std.proofs.Common.{◌≡◌, ◌≢◌, ℕ, true, false, ◌++◌, refl, sym, ap, ◌∙◌, subst, inl, inr, arith}
+use Rattle.std.proofs.lemmas.Bool.Decides.{nat_tests}
+use Rattle.coord_types.specs.IdealWorld.{Ideal}
+use Rattle.coord_types.specs.NodeSet.{contains}
+use Rattle.coord_types.specs.NodeState.{NodeState}
+use Rattle.coord_node.specs.IdealRules.{acts, added}
+use Rattle.coord_node.specs.Rules.{Deed}
+use Rattle.coord_world.specs.Links.{Link, link, end_of, turned}
+use Rattle.coord_world.proofs.Cases.{by_test, same_or_apart}
+use Rattle.coord_world.proofs.deeds.LegalBoth.{LegalBoth, LegalEnd}
+use Rattle.coord_world.proofs.lists.NodeSets.{empty_has}
+use Rattle.coord_world.proofs.legal.Sound.{Sound}
+use Rattle.coord_world.proofs.legal.SoundNode.{SoundNode}
+
+-- what a node's own rules say at each of its ends
+pub legal_end : (r : NodeState) (v : ℕ) → SoundNode r → LegalEnd (end_of r v)
+legal_end r v node = grind (arith, node, empty_has r.pend v, node.parent_outside v)
+
+module _ (w : Ideal) (u : ℕ) (sound : Sound w) where
+  -- no node is its own neighbour
+  pub not_self : (y : ℕ) → contains (w.row u).neighbours y ≡ true → y ≢ u
+  not_self y with_y same = let none = sound.apart u in let some = subst (λ z. contains (w.row u).neighbours z ≡ true) same with_y in cc
+
+  -- before the deed
+  pub both_before : (y : ℕ) → contains (w.row u).neighbours y ≡ true → LegalBoth (link w u y)
+  both_before y with_y = record {
+    here = legal_end _ y (sound.nodes u);
+    there = legal_end _ u (sound.nodes y);
+    from = sound.links u y with_y;
+    to = sound.links y u (sym (sound.mirrored u y) ∙ with_y);
+  }
+
+-- the links alone, whatever the nodes say
+pub record LegalLinks (w : Ideal) : Type 0 where
+  pub links : (x y : ℕ) → w.linked x y ≡ true → LegalBoth (link w x y)
+  pub mirrored : (x y : ℕ) → w.linked x y ≡ w.linked y x
+  pub apart : (x y : ℕ) → w.linked x y ≡ true → y ≢ x
+
+-- the links of a sound world
+pub links_of : (w : Ideal) → Sound w → LegalLinks w
+links_of w sound = record {
+  links = λ x y with_y. both_before w x sound y (sym (sound.linked x y) ∙ with_y);
+  mirrored = λ x y. sound.linked x y ∙ sound.mirrored x y ∙ sym (sound.linked y x);
+  apart = λ x y with_y. not_self w x sound y (sym (sound.linked x y) ∙ with_y);
+}
+
+-- legal links and nodes that name them make a world sound
+pub sound_of : (w : Ideal) → LegalLinks w → ((x : ℕ) → SoundNode (w.row x)) → ((x y : ℕ) → w.linked x y ≡ contains (w.row x).neighbours y) → Sound w
+sound_of w ok nodes linked = record {
+  links = λ x y neighbours. (ok.links x y (linked x y ∙ neighbours)).from;
+  nodes = nodes;
+  linked = linked;
+  mirrored = λ x y. sym (linked x y) ∙ ok.mirrored x y ∙ linked y x;
+  apart = λ x. by_test (contains (w.row x).neighbours x) (λ b. b ≡ false) (λ has. absurd (ok.apart x x (linked x x ∙ has) refl)) (λ _. refl);
+}
+
+-- what both ends see is seen from the other end too
+flip : (l : Link) → LegalBoth l → LegalBoth (turned l)
+flip l both = record { here = both.there; there = both.here; from = both.to; to = both.from }
+
+-- a world that is sound but for the links of u
+pub record SoundBut (w : Ideal) (u : ℕ) : Type 0 where
+  pub links : (x y : ℕ) → x ≢ u → y ≢ u → w.linked x y ≡ true → LegalBoth (link w x y)
+  pub nodes : (x : ℕ) → SoundNode (w.row x)
+  pub linked : (x y : ℕ) → w.linked x y ≡ contains (w.row x).neighbours y
+  pub mirrored : (x y : ℕ) → w.linked x y ≡ w.linked y x
+  pub apart : (x y : ℕ) → w.linked x y ≡ true → y ≢ x
+
+pub but_of : (w : Ideal) (u : ℕ) → Sound w → SoundBut w u
+but_of w u sound =
+    let ok = links_of w sound in
+    record { links = λ x y p q with_y. ok.links x y with_y; nodes = sound.nodes; linked = sound.linked; mirrored = ok.mirrored; apart = ok.apart }
+
+module _ (w : Ideal) (u : ℕ) (d : Deed) where
+  -- the node has the state of the deed
+  pub row_here : (acts w u d).row u ≡ d.row
+  row_here = grind (arith, nat_tests)
+
+  -- no other node changes
+  pub row_there : (x : ℕ) → x ≢ u → (acts w u d).row x ≡ w.row x
+  row_there x apart = grind (arith, nat_tests)
+
+  -- the messages are behind those on the way
+  way_out : (y : ℕ) → w.linked u y ≡ true → (acts w u d).way u y ≡ w.way u y ++ added d y
+  way_out y with_y = grind (arith, nat_tests)
+
+  -- nothing else changes on the way
+  way_apart : (x y : ℕ) → x ≢ u → (acts w u d).way x y ≡ w.way x y
+  way_apart x y apart = grind (arith, nat_tests)
+
+  -- the link to y after the deed
+  abbrev pub far_after : ℕ → Link
+  far_after y = record { here = end_of d.row y; there = end_of (w.row y) u; out = w.way u y ++ added d y; back = w.way y u }
+
+  -- that link is what the deed leaves
+  far_is : (y : ℕ) → y ≢ u → w.linked u y ≡ true → link (acts w u d) u y ≡ far_after y
+  far_is y apart with_y i = record { here = end_of (row_here i) y; there = end_of (row_there y apart i) u; out = way_out y with_y i; back = way_apart y u apart i }
+
+  -- a link of two other nodes stays
+  apart_is : (x y : ℕ) → x ≢ u → y ≢ u → link (acts w u d) x y ≡ link w x y
+  apart_is x y p q i = record { here = end_of (row_there x p i) y; there = end_of (row_there y q i) x; out = way_apart x y p i; back = way_apart y x q i }
+
+  module _ (mirrored : (x y : ℕ) → w.linked x y ≡ w.linked y x) (apart : (x y : ℕ) → w.linked x y ≡ true → y ≢ x)
+      (others : (x y : ℕ) → x ≢ u → y ≢ u → w.linked x y ≡ true → LegalBoth (link w x y)) (elsewhere : (y : ℕ) → w.linked u y ≡ true → LegalBoth (far_after y)) where
+    -- the links of the node
+    here_legal : (y : ℕ) → w.linked u y ≡ true → LegalBoth (link (acts w u d) u y)
+    here_legal y with_y = subst LegalBoth (sym (far_is y (apart u y with_y) with_y)) (elsewhere y with_y)
+
+    -- each link
+    each_legal : (x y : ℕ) → w.linked x y ≡ true → LegalBoth (link (acts w u d) x y)
+    each_legal x y with_y = elim (same_or_apart x u) [
+      | inl same ↦ subst (λ z. LegalBoth (link (acts w u d) z y)) (sym same) (here_legal y (subst (λ z. w.linked z y ≡ true) same with_y))
+      | inr far ↦ elim (same_or_apart y u) [
+        | inl same ↦ subst (λ z. LegalBoth (link (acts w u d) x z)) (sym same) (flip (link (acts w u d) u x) (here_legal x (mirrored u x ∙ subst (λ z. w.linked x z ≡ true) same with_y)))
+        | inr other ↦ subst LegalBoth (sym (apart_is x y far other)) (others x y far other with_y)
+      ]
+    ]
+
+    -- links stay legal where those of the node do
+    pub links_kept : LegalLinks (acts w u d)
+    links_kept = record { links = each_legal; mirrored = mirrored; apart = apart }
+
+  -- a node's deed keeps a world sound, where its neighbours stay
+  pub deed_kept : SoundBut w u → ((y : ℕ) → w.linked u y ≡ true → LegalBoth (far_after y)) → d.row.neighbours ≡ (w.row u).neighbours → SoundNode d.row → Sound (acts w u d)
+  deed_kept but elsewhere neighbours node = sound_of (acts w u d) (links_kept but.mirrored but.apart but.links elsewhere) nodes_kept (λ x y. but.linked x y ∙ ap (λ s. contains s y) (sym (nears x)))
+    where
+      nodes_kept : (x : ℕ) → SoundNode ((acts w u d).row x)
+      nodes_kept x = elim (same_or_apart x u) [
+        | inl same ↦ subst (λ z. SoundNode ((acts w u d).row z)) (sym same) (subst SoundNode (sym row_here) node)
+        | inr far ↦ subst SoundNode (sym (row_there x far)) (but.nodes x)
+      ]
+
+      nears : (x : ℕ) → ((acts w u d).row x).neighbours ≡ (w.row x).neighbours
+      nears x = elim (same_or_apart x u) [
+        | inl same ↦ ap (λ (r : NodeState). r.neighbours) (ap (acts w u d).row same ∙ row_here) ∙ neighbours ∙ ap (λ z. (w.row z).neighbours) (sym same)
+        | inr far ↦ ap (λ (r : NodeState). r.neighbours) (row_there x far)
+      ]

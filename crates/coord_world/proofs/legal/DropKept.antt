@@ -1,0 +1,167 @@
+-- A link that is dropped keeps a world sound.
+use Rattle.std.proofs.Common.{◌≡◌, ◌≢◌, ℕ, true, false, ◌&&◌, Option, Some, None, cond, eqb, refl, sym, ap, ◌∙◌, subst, inl, inr, arith}
+use Rattle.std.proofs.lemmas.Bool.Decides.{nat_tests}
+use Rattle.coord_types.specs.NodeState.{NodeState}
+use Rattle.coord_types.specs.NodeSet as set
+use Rattle.coord_types.specs.NodeSet.{contains}
+use Rattle.coord_types.proofs.Sets.{len_zero}
+use Rattle.coord_types.specs.declared.messages.Mode.TheVariants.{Abort, Converge}
+use Rattle.coord_node.specs.IdealRules.{acts, cut}
+use Rattle.coord_node.specs.Rules.{Deed, is_empty, is_parent, without, lost, idle}
+use Rattle.coord_types.specs.IdealWorld.{Ideal}
+use Rattle.coord_world.proofs.legal.DeedKept.{LegalLinks, links_of, sound_of, links_kept, row_here, row_there}
+use Rattle.coord_world.proofs.Cases.{by_test, same_or_apart}
+use Rattle.coord_world.proofs.deeds.NodeGoesOn.{goes_lost}
+use Rattle.coord_world.proofs.deeds.LegalBoth.{LegalBoth}
+use Rattle.coord_world.proofs.deeds.KeepsLinks.{Aside, Keeps, aside_lost, keeps_converge, keeps_finish, keeps_idle}
+use Rattle.coord_world.proofs.deeds.RuleCases.{cut_from, lost_cases}
+use Rattle.coord_world.proofs.lists.NodeSets.{empty_has, has_remove}
+use Rattle.coord_world.proofs.legal.Sound.{Sound}
+use Rattle.coord_world.proofs.legal.SoundNode.{SoundNode}
+use Rattle.coord_world.specs.Links.{link, end_of, is_abort, is_ready}
+
+-- a link vanishes, and both its ends act on that
+abbrev pub dropped : Ideal → ℕ → ℕ → Ideal
+dropped w a b = acts (acts (cut w a b) a (lost (w.row a) b)) b (lost (w.row b) a)
+
+-- a node whose parent is lost has none
+no_parent_left : (p : Option ℕ) (b : ℕ) → is_parent p b ≡ true → without p b ≡ None
+no_parent_left None b e = refl
+no_parent_left (Some p) b e = grind (arith, nat_tests)
+
+-- any other parent stays
+parent_stays : (p : Option ℕ) (b : ℕ) → is_parent p b ≡ false → without p b ≡ p
+parent_stays None b e = refl
+parent_stays (Some p) b e = grind (arith, nat_tests)
+
+module _ (r : NodeState) (b : ℕ) (node : SoundNode r) where
+  -- the state without the link, and what it keeps
+  abbrev s : NodeState
+  s = cut_from r b
+
+  aside : Aside r s b
+  aside = aside_lost r b node
+
+  -- a node that goes on as before
+  stays : (is_abort r.mode ≡ true → is_empty s.pend ≡ false) → (is_abort r.mode ≡ false → is_empty s.pend ≡ true) → (r.mode ≡ Converge → is_parent r.parent b ≡ false) → Keeps r b (idle s)
+  stays awaits quiet child = keeps_idle r s b aside (record {
+    awaits = awaits;
+    quiet = quiet;
+    no_parent = λ e. ap (λ p. without p b) (node.no_parent e);
+    has_parent = λ e n. node.has_parent e (sym (parent_stays r.parent b (child e)) ∙ n);
+    parent_outside = aside.parent_outside;
+    parent_near = aside.parent_near;
+    within = aside.within;
+  })
+
+  -- a node that isn't Abort awaits nobody
+  quiet_left : is_abort r.mode ≡ false → is_empty s.pend ≡ true
+  quiet_left e =
+      let zero : set.len s.pend ≡ 0 = len_zero s.pend (λ q. grind (arith, has_remove r.pend b q, empty_has r.pend q (node.quiet e))) in
+      grind (arith, nat_tests)
+
+  -- somebody else is still awaited
+  waits : r.mode ≡ Abort → (contains r.pend b && is_empty s.pend) ≡ false → is_empty s.pend ≡ false
+  waits mode more = by_test (is_empty s.pend) (λ t. t ≡ false) (λ none.
+      let zero : set.len r.pend ≡ 0 = len_zero r.pend (λ q. grind (arith, nat_tests, has_remove r.pend b q, empty_has s.pend q none)) in
+      absurd (grind (arith, nat_tests, node.awaits (ap is_abort mode)))) (λ some. refl)
+
+  -- one end that loses its link to b
+  pub loses : Keeps r b (lost r b)
+  loses = lost_cases r b (Keeps r b)
+      (λ e. stays (λ h. cc (ap is_abort e, h)) quiet_left (λ h. cc (e, h)))
+      (λ e more. stays (λ _. waits e more) quiet_left (λ h. cc (e, h)))
+      (λ e other. stays (λ h. cc (ap is_abort e, h)) quiet_left (λ _. other))
+      (λ e child. keeps_finish r s b aside (ap is_ready e) (quiet_left (ap is_abort e)) (λ y far. ap (λ p. is_parent p y) (no_parent_left r.parent b child)))
+      (λ e last top. keeps_finish r s b aside (ap is_ready e) (grind (arith, last)) (λ y far. ap (λ p. is_parent p y) top))
+      (λ e last p up. keeps_converge r s b aside p e (grind (arith, last)) up)
+
+module _ (w : Ideal) (a b : ℕ) where
+  -- the links that are left are legal
+  pub cut_links : LegalLinks w → LegalLinks (cut w a b)
+  cut_links ok = record {
+    links = λ x y with_y. subst LegalBoth (λ i. record { here = end_of (w.row x) y; there = end_of (w.row y) x; out = sym (way_stays x y with_y) i; back = sym (way_back_stays x y with_y) i }) (ok.links x y (grind (arith, nat_tests)));
+    mirrored = λ x y. grind (arith, nat_tests, ok.mirrored x y);
+    apart = λ x y with_y. ok.apart x y (grind (arith, nat_tests));
+  }
+    where
+      way_stays : (x y : ℕ) → (cut w a b).linked x y ≡ true → (cut w a b).way x y ≡ w.way x y
+      way_stays x y with_y = grind (arith, nat_tests)
+
+      way_back_stays : (x y : ℕ) → (cut w a b).linked x y ≡ true → (cut w a b).way y x ≡ w.way y x
+      way_back_stays x y with_y = grind (arith, nat_tests)
+
+module _ (w : Ideal) (a b : ℕ) (with_b : w.linked a b ≡ true) (sound : Sound w) where
+  -- what the first end does
+  abbrev da : Deed
+  da = lost (w.row a) b
+
+  -- what the second end does
+  abbrev db : Deed
+  db = lost (w.row b) a
+
+  -- the world when the first end has acted
+  abbrev one_end : Ideal
+  one_end = acts (cut w a b) a da
+
+  -- the ends are two nodes
+  apart : b ≢ a
+  apart = (links_of w sound).apart a b with_b
+
+  -- the first end is legal then
+  first : Keeps (w.row a) b da
+  first = loses (w.row a) b (sound.nodes a)
+
+  -- and so is the second
+  second : Keeps (w.row b) a db
+  second = loses (w.row b) a (sound.nodes b)
+
+  -- links that are left go to neighbours
+  in_near : (x y : ℕ) → (cut w a b).linked x y ≡ true → contains (w.row x).neighbours y ≡ true
+  in_near x y with_y = sym (sound.linked x y) ∙ grind (arith, nat_tests)
+
+  -- the links are legal when one is cut
+  cut_ok : LegalLinks (cut w a b)
+  cut_ok = cut_links w a b (links_of w sound)
+
+  -- when the first end has acted
+  one_ok : LegalLinks one_end
+  one_ok = links_kept (cut w a b) a da cut_ok.mirrored cut_ok.apart (λ x y p q with_y. cut_ok.links x y with_y)
+      (λ y with_y. first.elsewhere (link (cut w a b) a y) y (λ same. absurd (grind (arith, nat_tests))) (in_near a y with_y) refl (cut_ok.links a y with_y))
+
+  -- which the second end does not see
+  row_b : one_end.row b ≡ w.row b
+  row_b = row_there (cut w a b) a da b apart
+
+  -- and when the second end has too
+  both_ok : LegalLinks (dropped w a b)
+  both_ok = links_kept one_end b db one_ok.mirrored one_ok.apart (λ x y p q with_y. one_ok.links x y with_y)
+      (λ y with_y. second.elsewhere (link one_end b y) y (λ same. absurd (grind (arith, nat_tests))) (in_near b y with_y) (ap (λ r. end_of r y) row_b) (one_ok.links b y with_y))
+
+  -- the states at the end
+  row_is : (x : ℕ) → (dropped w a b).row x ≡ cond (eqb x b) db.row (cond (eqb x a) da.row (w.row x))
+  row_is x = refl
+
+  -- each node is legal
+  nodes_ok : (x : ℕ) → SoundNode ((dropped w a b).row x)
+  nodes_ok x = elim (same_or_apart x b) [
+    | inl same ↦ subst (λ z. SoundNode ((dropped w a b).row z)) (sym same) (subst SoundNode (sym (row_here one_end b db)) second.node)
+    | inr far ↦ subst SoundNode (sym (row_there one_end b db x far)) (elim (same_or_apart x a) [
+      | inl same ↦ subst (λ z. SoundNode (one_end.row z)) (sym same) (subst SoundNode (sym (row_here (cut w a b) a da)) first.node)
+      | inr other ↦ subst SoundNode (sym (row_there (cut w a b) a da x other)) (sound.nodes x)
+    ])
+  ]
+
+  -- each node names its links
+  near_ok : (x y : ℕ) → (dropped w a b).linked x y ≡ contains ((dropped w a b).row x).neighbours y
+  near_ok x y = elim (same_or_apart x b) [
+    | inl same ↦ grind (arith, nat_tests, sound.linked x y, has_remove (w.row b).neighbours a y) ∙ ap (λ s. contains s y) (sym (goes_lost (w.row b) a).neighbours) ∙ ap (λ r. contains r.neighbours y) (sym (row_here one_end b db)) ∙ ap (λ z. contains ((dropped w a b).row z).neighbours y) (sym same)
+    | inr far ↦ elim (same_or_apart x a) [
+      | inl same ↦ grind (arith, nat_tests, sound.linked x y, has_remove (w.row a).neighbours b y) ∙ ap (λ s. contains s y) (sym (goes_lost (w.row a) b).neighbours) ∙ ap (λ r. contains r.neighbours y) (sym (row_here (cut w a b) a da)) ∙ ap (λ z. contains (one_end.row z).neighbours y) (sym same) ∙ ap (λ r. contains r.neighbours y) (sym (row_there one_end b db x far))
+      | inr other ↦ grind (arith, nat_tests, sound.linked x y) ∙ ap (λ r. contains r.neighbours y) (sym (row_there (cut w a b) a da x other)) ∙ ap (λ r. contains r.neighbours y) (sym (row_there one_end b db x far))
+    ]
+  ]
+
+  -- a link that is dropped
+  pub drop_kept : Sound (dropped w a b)
+  drop_kept = sound_of (dropped w a b) both_ok nodes_ok near_ok

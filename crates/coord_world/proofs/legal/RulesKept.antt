@@ -1,0 +1,133 @@
+-- Each rule keeps a world sound: a reset that is asked for, and an Abort, an Ack and a Ready that are taken.
+use Rattle.std.proofs.Common.{◌≡◌, ◌≢◌, ℕ, true, false, List, ◌∷◌, ◌++◌, Option, Some, None, refl, ap, ◌∙◌, sym, arith, eqb}
+use Rattle.std.proofs.lemmas.List.{append-nil}
+use Rattle.std.proofs.lemmas.Bool.Decides.{nat_tests}
+use Rattle.coord_types.specs.IdealWorld.{Ideal}
+use Rattle.coord_types.specs.NodeSet as set
+use Rattle.coord_types.specs.NodeSet.{contains}
+use Rattle.coord_types.specs.NodeState.{NodeState}
+use Rattle.coord_types.specs.declared.messages.Mode.TheVariants.{Abort, Converge}
+use Rattle.coord_types.specs.declared.messages.Msg.{Msg}
+use Rattle.coord_types.specs.declared.messages.Msg.TheVariants as msg
+use Rattle.coord_types.proofs.Sets.{contains-empty}
+use Rattle.coord_node.specs.IdealRules.{acts, added}
+use Rattle.coord_node.specs.Rules.{Deed, answer, deed, finish, idle, is_empty, is_parent, on_abort, on_ack, on_ready, request, wave_back, wave_on}
+use Rattle.coord_world.specs.Links.{link, acks, is_abort, is_ready}
+use Rattle.coord_world.proofs.legal.DeedKept.{both_before, but_of, deed_kept, not_self}
+use Rattle.coord_world.proofs.deeds.LegalBoth.{LegalBoth, acked, acked_last, converges_near, passed_by, released, wave_ends, wave_meets, wave_reaches}
+use Rattle.coord_world.proofs.deeds.KeepsLinks.{Aside, Keeps, aside_acked, aside_self, has_without, keeps_alone, keeps_answer, keeps_converge, keeps_finish, keeps_idle, keeps_wave_back, keeps_wave_on}
+use Rattle.coord_world.proofs.deeds.RuleCases.{abort_cases, ack_cases, acked_by, ready_cases, request_cases}
+use Rattle.coord_world.proofs.lists.NodeSets.{empty_has, has_remove, has_only}
+use Rattle.coord_world.proofs.legal.Sound.{Sound}
+use Rattle.coord_world.proofs.legal.SoundNode.{SoundNode}
+use Rattle.coord_world.proofs.legal.TakeKept.{after_take, take_kept}
+
+-- a parent is one node
+pub one_parent : (p : Option ℕ) (x y : ℕ) → is_parent p x ≡ true → y ≢ x → is_parent p y ≡ false
+one_parent None x y h far = refl
+one_parent (Some p) x y h far = grind (arith, nat_tests)
+
+-- what a deed that sends nothing adds
+nothing : (xs : List Msg) (r : NodeState) (y : ℕ) → xs ++ added (idle r) y ≡ xs
+nothing xs r y = grind (arith, contains-empty y, append-nil xs)
+
+module _ (w : Ideal) (u : ℕ) (sound : Sound w) where
+  -- the node that acts
+  abbrev r : NodeState
+  r = w.row u
+
+  -- a deed whose cause is the node itself
+  own : (d : Deed) → d.row.neighbours ≡ r.neighbours → Keeps r u d → Sound (acts w u d)
+  own d same keeps = deed_kept w u d (but_of w u sound) (λ y with_y.
+      let near : contains r.neighbours y ≡ true = sym (sound.linked u y) ∙ with_y in
+      keeps.elsewhere (link w u y) y (not_self w u sound y near) near refl (both_before w u sound y near)) same keeps.node
+
+  -- a reset that is asked for
+  pub reset_kept : Sound (acts w u (request r))
+  reset_kept = request_cases r (λ d k. Sound (acts w u d))
+      (λ ready none. own (finish r) refl (keeps_alone r u (sound.nodes u) ready none))
+      (λ ready some. own (wave_on r None r.neighbours) refl (keeps_wave_on r u (sound.nodes u) None r.neighbours ready some (λ y e. cc) (λ y. refl) (λ e. cc)))
+      (own (idle r) refl (keeps_idle r r u (aside_self r u (sound.nodes u)) (sound.nodes u)))
+
+module _ (w : Ideal) (v u : ℕ) (rest : List Msg) (near : contains (w.row u).neighbours v ≡ true) (sound : Sound w) where
+  -- the node that takes the message, and its link to the sender before
+  abbrev taker : NodeState
+  taker = w.row u
+
+  before : LegalBoth (link w u v)
+  before = both_before w u sound v near
+
+  -- an Abort that is taken
+  abort_taken : w.way v u ≡ msg.Abort ∷ rest → Sound (after_take w v u (on_abort taker v))
+  abort_taken front = abort_cases taker v (λ d. Sound (after_take w v u d))
+      (λ ready none. take_kept w v u msg.Abort rest front near sound (wave_back taker v) refl (keeps_wave_back taker v (sound.nodes u) ready none near)
+      (wave_ends (link w u v) _ ready refl (empty_has taker.pend v ((sound.nodes u).quiet (ap is_abort ready))) (grind (arith, nat_tests)) refl (grind (arith, nat_tests, has_only v v)) front before))
+      (λ ready some. take_kept w v u msg.Abort rest front near sound (wave_on taker (Some v) (set.remove taker.neighbours v)) refl
+      (keeps_wave_on taker v (sound.nodes u) (Some v) (set.remove taker.neighbours v) ready some (λ y e. grind (arith, nat_tests)) (λ y. grind (arith, nat_tests, has_remove taker.neighbours v y)) (λ _. near))
+      (wave_reaches (link w u v) _ ready refl (grind (arith, nat_tests, has_remove taker.neighbours v v)) (grind (arith, nat_tests)) refl
+      (grind (arith, nat_tests, has_remove taker.neighbours v v, append-nil (w.way u v))) front before))
+      (λ busy. take_kept w v u msg.Abort rest front near sound (answer taker v) refl (keeps_answer taker v (sound.nodes u))
+      (wave_meets (link w u v) _ busy refl refl (grind (arith, nat_tests, has_only v v)) front before))
+
+  module _ (front : w.way v u ≡ msg.Ack ∷ rest) where
+    -- the sender was awaited
+    pub awaited : contains taker.pend v ≡ true
+    awaited = let count = (sound.links u v near).counted in grind (arith, ap acks front)
+
+    -- so somebody was
+    pub some_awaited : is_empty taker.pend ≡ false
+    some_awaited = grind (arith, awaited, empty_has taker.pend v)
+
+    -- and the node is in its wave
+    pub waiting : taker.mode ≡ Abort
+    waiting = grind (arith, (sound.nodes u).quiet, some_awaited)
+
+    -- the state without the sender
+    aside : Aside taker (acked_by taker v) v
+    aside = aside_acked taker v (sound.nodes u)
+
+    -- others are still awaited
+    still_waits : is_empty (set.remove taker.pend v) ≡ false → SoundNode (acked_by taker v)
+    still_waits more = record {
+      awaits = λ e. more;
+      quiet = λ e. cc (ap is_abort waiting);
+      no_parent = (sound.nodes u).no_parent;
+      has_parent = (sound.nodes u).has_parent;
+      parent_outside = aside.parent_outside;
+      parent_near = aside.parent_near;
+      within = aside.within;
+    }
+
+    -- an Ack that is taken
+    ack_taken : Sound (after_take w v u (on_ack taker v))
+    ack_taken = ack_cases taker v (λ d. Sound (after_take w v u d))
+        (λ none. absurd (grind (arith, none, some_awaited)))
+        (λ more. take_kept w v u msg.Ack rest front near sound (idle (acked_by taker v)) refl (keeps_idle taker (acked_by taker v) v aside (still_waits more))
+        (acked (link w u v) _ waiting waiting (grind (arith, nat_tests, has_remove taker.pend v v)) refl refl (nothing _ (acked_by taker v) v) front before))
+        (λ none top. take_kept w v u msg.Ack rest front near sound (finish (acked_by taker v)) refl (keeps_finish taker (acked_by taker v) v aside (ap is_ready waiting) none (λ y far. ap (λ o. is_parent o y) top))
+        (acked_last (link w u v) _ waiting (ap (λ o. is_parent o v) top) refl (empty_has (set.remove taker.pend v) v none) refl refl
+        (grind (arith, nat_tests, has_without taker.neighbours taker.parent v, top)) front before))
+        (λ none p up.
+        let outside : is_parent taker.parent v ≡ false = grind (arith, (sound.nodes u).parent_outside v, awaited) in
+        let not_v : eqb v p ≡ false = grind (arith, nat_tests, up, outside) in
+        take_kept w v u msg.Ack rest front near sound (answer (record (acked_by taker v) { mode = Converge }) p) refl (keeps_converge taker (acked_by taker v) v aside p waiting none up)
+        (converges_near (link w u v) _ waiting outside refl (empty_has (set.remove taker.pend v) v none) outside refl
+        (grind (arith, nat_tests, has_only p v, not_v, append-nil (w.way u v))) front before))
+
+  -- a Ready that is taken
+  ready_taken : w.way v u ≡ msg.Ready ∷ rest → Sound (after_take w v u (on_ready taker v))
+  ready_taken front = ready_cases taker v (λ d. Sound (after_take w v u d))
+      (λ deaf. take_kept w v u msg.Ready rest front near sound (idle taker) refl (keeps_idle taker taker v (aside_self taker v (sound.nodes u)) (sound.nodes u))
+      (passed_by (link w u v) _ deaf refl refl (nothing _ taker v) front before))
+      (λ mode child.
+      let none = (sound.nodes u).quiet (ap is_abort mode) in
+      take_kept w v u msg.Ready rest front near sound (finish taker) refl
+      (keeps_finish taker taker v (aside_self taker v (sound.nodes u)) (ap is_ready mode) none (λ y far. one_parent taker.parent v y child far))
+      (released (link w u v) _ mode child refl (empty_has taker.pend v none) refl refl
+      (grind (arith, nat_tests, has_without taker.neighbours taker.parent v, child, append-nil (w.way u v))) front before))
+
+-- any message that is taken
+pub taken_kept : (w : Ideal) (v u : ℕ) (m : Msg) (rest : List Msg) → w.way v u ≡ m ∷ rest → contains (w.row u).neighbours v ≡ true → Sound w → Sound (after_take w v u (deed m (w.row u) v))
+taken_kept w v u msg.Abort rest front near sound = abort_taken w v u rest near sound front
+taken_kept w v u msg.Ack rest front near sound = ack_taken w v u rest near sound front
+taken_kept w v u msg.Ready rest front near sound = ready_taken w v u rest near sound front

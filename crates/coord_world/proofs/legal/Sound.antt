@@ -1,0 +1,15 @@
+-- What legal worlds have in their views: legal nodes and links, and links as the nodes name them.
+use Rattle.std.proofs.Common.{◌≡◌, ℕ, true, false}
+use Rattle.coord_types.specs.IdealWorld.{Ideal}
+use Rattle.coord_types.specs.NodeSet.{contains}
+use Rattle.coord_world.proofs.legal.SoundNode.{SoundNode}
+use Rattle.coord_world.specs.Links.{link}
+use Rattle.coord_world.proofs.legal.SoundLink.{SoundLink}
+
+-- the structure and the predicates of an ideal world, which the rules keep together
+pub record Sound (w : Ideal) : Type 0 where
+  pub links : (x y : ℕ) → contains (w.row x).neighbours y ≡ true → SoundLink (link w x y)
+  pub nodes : (x : ℕ) → SoundNode (w.row x)
+  pub linked : (x y : ℕ) → w.linked x y ≡ contains (w.row x).neighbours y
+  pub mirrored : (x y : ℕ) → contains (w.row x).neighbours y ≡ contains (w.row y).neighbours x
+  pub apart : (x : ℕ) → contains (w.row x).neighbours x ≡ false

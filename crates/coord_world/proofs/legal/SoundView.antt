@@ -1,0 +1,30 @@
+-- A legal world in its ranges has a sound view.
+use Rattle.std.proofs.Common.{◌≡◌, ℕ, Option, Some, None, refl, sym, ◌∙◌}
+use Rattle.coord_types.specs.NodeState.{NodeState}
+use Rattle.coord_types.specs.Table.{get}
+use Rattle.coord_world.specs.Legal.{Legal}
+use Rattle.coord_world.specs.Links.{link}
+use Rattle.coord_world.proofs.legal.SoundLink.{sound_link}
+use Rattle.coord_world.proofs.legal.SoundNode.{SoundNode, sound_node}
+use Rattle.coord_world.specs.NumberedWorld.{World, view, row, state_or_none}
+use Rattle.coord_world.specs.Ranges.{InRange}
+use Rattle.coord_world.proofs.legal.RowKept.{new_legal}
+use Rattle.coord_world.proofs.legal.Sound.{Sound}
+
+-- what holds of a new node and of each node that is there holds at every number
+pub at_each : (w : World) (P : NodeState → Type 0) → P (state_or_none None) → ((u : ℕ) (r : NodeState) → get w.rows u ≡ Some r → P r) → (u : ℕ) → P (row w u)
+at_each w P none some u = of_option (get w.rows u) refl
+  where
+    of_option : (o : Option NodeState) → get w.rows u ≡ o → P (state_or_none o)
+    of_option None is = none
+    of_option (Some r) is = some u r is
+
+-- the structure by the ranges, the predicates by legality
+pub sound_view : (w : World) → InRange w → Legal w → Sound (view w)
+sound_view w range legal = record {
+  links = λ x y near. sound_link (link (view w) x y) (legal.links x y (range.linked x y ∙ near));
+  nodes = at_each w SoundNode (new_legal 0) (λ u r is. sound_node w.count r (legal.nodes u r is));
+  linked = range.linked;
+  mirrored = λ x y. sym (range.linked x y) ∙ range.mirrored x y ∙ range.linked y x;
+  apart = λ x. sym (range.linked x x) ∙ range.apart x;
+}

@@ -1,0 +1,6 @@
+-- The rows of a world fit together, and tell it from any other.
+pub mod Assembled
+pub mod Degree
+pub mod RowsGiveWorld
+pub mod RowsOfWorldFit
+pub mod WithLinks

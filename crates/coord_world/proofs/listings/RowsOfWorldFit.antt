@@ -1,0 +1,153 @@
+-- The rows of a world in its ranges fit together.
+use Rattle.std.proofs.Common.{◌≡◌, ℕ, ◌≤◌, Bool, true, false, List, [], ◌∷◌, Option, Some, None, map, cond, eqb, length, refl, sym, ap, ◌∙◌, subst, arith, Ordering}
+use Rattle.std.specs.Prelude.{is_some}
+use Rattle.std.specs.Cmp.{nat_cmp_total}
+use Rattle.std.specs.List.{AllByRecursion}
+use Rattle.std.specs.Ordering.{nat_cmp}
+use Rattle.std.specs.FinMap.Entries.{find, is_sorted, is_sorted-where_key}
+use Rattle.std.proofs.lemmas.Bool.Decides.{nat_tests}
+use Rattle.coord_types.specs.NodeMask.{IsMaskable}
+use Rattle.coord_types.specs.NodeSet as set
+use Rattle.coord_types.specs.NodeSet.{contains}
+use Rattle.coord_types.specs.NodeState.{NodeState}
+use Rattle.coord_types.specs.Table.{entries, get, has}
+use Rattle.coord_types.proofs.Sets.{len-empty}
+use Rattle.coord_types.proofs.Tables.{get-entries, option_map}
+use Rattle.coord_link.specs.LaneMachine.{Lane}
+use Rattle.coord_world.specs.Laws.{RowsOfWorldFit}
+use Rattle.coord_world.specs.NumberedWorld.{World, is_linked, pair_cmp, pair_cmp_total, row, state_or_none}
+use Rattle.coord_world.specs.Parts.{by_ends, client_row, degree, goes_up, group_in, group_of, lane_or_none, link_row, node_row, LinkRowFits, NodeRowFits}
+use Rattle.coord_world.specs.Ranges.{InRange, LaneInRange, SessionInRange}
+use Rattle.coord_world.specs.declared.parts.LinkRow.{LinkRow}
+use Rattle.coord_world.proofs.Cases.{by_test, some_value}
+use Rattle.coord_world.proofs.listings.Degree.{HasBoth, IsNear, degree_within, links_within}
+use Rattle.coord_world.proofs.lists.KeyedLists.{all_mapped, all_weaker, each_entry, sorted-keys}
+use Rattle.coord_world.proofs.listings.WithLinks.{Turned, find-ups, ups}
+use Rattle.coord_world.proofs.lists.GetAfter.{same_number, same_pair}
+use Rattle.coord_world.proofs.listings.RowsGiveWorld.{row_listed}
+use Rattle.coord_world.proofs.ranges.EveryNode.{there_is}
+use Rattle.coord_world.proofs.legal.SoundView.{at_each}
+use Rattle.coord_world.proofs.lists.TableEntries.{is_true}
+
+module _ {K X A : Type 0} (R : K → K → Ordering) (made : K × X → A) (key : A → K) (same : (e : K × X) → key (made e) ≡ e.0) where
+  abbrev with_key : A → K × A
+  with_key x = (key x, x)
+
+  through : (es : List (K × X)) → map with_key (map made es) ≡ map (λ e. with_key (made e)) es
+  through [] = refl
+  through (e ∷ es) = ap (λ l. with_key (made e) ∷ l) (through es)
+
+  itself : (es : List (K × X)) → map (λ e. e) es ≡ es
+  itself [] = refl
+  itself (e ∷ es) = ap (λ l. e ∷ l) (itself es)
+
+  -- rows with their keys rise as the entries do that they were made of
+  sorted_rows : (es : List (K × X)) → is_sorted R (map with_key (map made es)) ≡ is_sorted R es
+  sorted_rows es = ap (is_sorted R) (through es) ∙ sorted-keys R (λ e. with_key (made e)) (λ e. e) same es ∙ ap (is_sorted R) (itself es)
+
+-- what is found where a test holds
+passes : (t : Bool) (o : Option Lane) (l : Lane) → cond t o None ≡ Some l → (t ≡ true) × (o ≡ Some l)
+passes true o l is = (refl, is)
+passes false o l is = cc
+
+module _ (w : World) (range : InRange w) where
+  node_fits : (u : ℕ) (r : NodeState) → find nat_cmp u (entries w.rows) ≡ Some r → NodeRowFits w.count (node_row (u, r))
+  node_fits u r found =
+      let there : get w.rows u ≡ Some r = get-entries w.rows u ∙ found in
+      let within = range.nodes u r there in
+      record {
+        least = within.least;
+        greatest = within.greatest;
+        group_least = within.group_least;
+        group_greatest = within.group_greatest;
+        parent = λ p is. range.parents u p (ap (λ o. (state_or_none o).parent) there ∙ is);
+        pend = subst (λ o. IsMaskable (state_or_none o).pend) there (range.awaited u);
+        epoch = within.epoch;
+        confirmed = within.confirmed;
+      }
+
+  pub nodes_fit : AllByRecursion (NodeRowFits w.count) (map node_row (entries w.rows))
+  nodes_fit = all_mapped node_row (NodeRowFits w.count) (entries w.rows)
+      (each_entry nat_cmp_total same_number (λ e. NodeRowFits w.count (node_row e)) (entries w.rows) (is_true _ w.rows.sorted) node_fits)
+
+  pub clients_fit : AllByRecursion (λ r. SessionInRange w.count r.client r.session) (map client_row (entries w.sessions))
+  clients_fit = all_mapped client_row (λ r. SessionInRange w.count r.client r.session) (entries w.sessions)
+      (each_entry nat_cmp_total same_number (λ e. SessionInRange w.count e.0 e.1) (entries w.sessions) (is_true _ w.sessions.sorted) (λ c s found. range.sessions c s (get-entries w.sessions c ∙ found)))
+
+  ups_sorted : is_sorted pair_cmp (ups w) ≡ true
+  ups_sorted = is_true _ (is_sorted-where_key pair_cmp goes_up (entries w.lanes) w.lanes.sorted)
+
+  -- what holds of the rows of all lanes that go up holds of each link
+  each_link : (P : LinkRow → Type 0) → ((a b : ℕ) (l : Lane) → goes_up (a, b) ≡ true → get w.lanes (a, b) ≡ Some l → P (link_row w ((a, b), l))) → AllByRecursion P (map (link_row w) (ups w))
+  each_link P each = all_mapped (link_row w) P (ups w) (each_entry pair_cmp_total same_pair (λ e. P (link_row w e)) (ups w) ups_sorted (λ q l found.
+      let both = passes (goes_up q) (get w.lanes q) l (sym (find-ups w q) ∙ found) in
+      each q.0 q.1 l both.0 both.1))
+
+  -- a lane's way back
+  way_back : (a b : ℕ) (l : Lane) → get w.lanes (a, b) ≡ Some l → is_linked w b a ≡ true
+  way_back a b l there = range.mirrored b a ∙ ap is_some there
+
+  -- the group of a node that is there is listed
+  group_listed : (u : ℕ) → has w.rows u ≡ true → group_of (map node_row (entries w.rows)) u ≡ Some (row w u).group
+  group_listed u known = ap group_in (row_listed w u ∙ ap (λ o. option_map (λ r. node_row (u, r)) o) (there_is w u known))
+
+  link_fits : (a b : ℕ) (l : Lane) → goes_up (a, b) ≡ true → get w.lanes (a, b) ≡ Some l → LinkRowFits w.count (map node_row (entries w.rows)) (link_row w ((a, b), l))
+  link_fits a b l up there =
+      let linked : is_linked w a b ≡ true = ap is_some there in
+      let back = some_value (get w.lanes (b, a)) (way_back a b l there) in
+      let it : lane_or_none (get w.lanes (b, a)) ≡ back.0 = ap lane_or_none back.1 in
+      record {
+        turned = grind (arith, nat_tests);
+        ends = record {
+          group = (row w a).group;
+          first = group_listed a (range.ends a b linked);
+          second = group_listed b (range.ends b a (way_back a b l there)) ∙ ap Some (sym (range.one_group a b linked));
+        };
+        forth = range.lanes a b l there;
+        back = subst (LaneInRange w.count) (sym it) (range.lanes b a back.0 back.1);
+        forth_short = range.short a b l there;
+        back_short = subst (λ k. length k.queue ≤ 4) (sym it) (range.short b a back.0 back.1);
+        one_incarnation = range.one_incarnation a b l back.0 there back.1 ∙ ap (λ k. k.inc) (sym it);
+      }
+
+  pub links_fit : AllByRecursion (LinkRowFits w.count (map node_row (entries w.rows))) (map (link_row w) (ups w))
+  links_fit = each_link (LinkRowFits w.count (map node_row (entries w.rows))) link_fits
+
+  links_turned : AllByRecursion Turned (map (link_row w) (ups w))
+  links_turned = all_weaker (LinkRowFits w.count (map node_row (entries w.rows))) Turned (λ r fits. fits.turned) (map (link_row w) (ups w)) links_fit
+
+  pub links_rise : is_sorted pair_cmp (by_ends (map (link_row w) (ups w))) ≡ true
+  links_rise = sorted_rows pair_cmp (link_row w) (λ r. (r.a, r.b)) (λ e. refl) (ups w) ∙ ups_sorted
+
+  -- the far ends of a node's links are neighbours
+  near : (u a b : ℕ) (l : Lane) → get w.lanes (a, b) ≡ Some l → IsNear u (row w u).neighbours (link_row w ((a, b), l))
+  near u a b l there end = by_test (eqb u a) (λ t. contains (row w u).neighbours (cond t b a) ≡ true)
+      (λ is. let same : u ≡ a = grind (arith, nat_tests) in sym (range.linked u b) ∙ ap (λ z. is_linked w z b) same ∙ ap is_some there)
+      (λ not_a. let same : u ≡ b = grind (arith, nat_tests) in sym (range.linked u a) ∙ ap (λ z. is_linked w z a) same ∙ way_back a b l there)
+
+  pub degrees_fit : (u : ℕ) → degree u (map (link_row w) (ups w)) ≤ 16
+  degrees_fit u =
+      let most = at_each w (λ r. set.len r.neighbours ≤ 16) (omega (arith, len-empty)) (λ v r is. (range.nodes v r is).degree) u in
+      omega (arith, most, degree_within u (row w u).neighbours (map (link_row w) (ups w)) links_turned links_rise (each_link (IsNear u (row w u).neighbours) (λ a b l _ there. near u a b l there)))
+
+  pub most_fit : length (map (link_row w) (ups w)) ≤ 128
+  most_fit = omega (
+    arith,
+    range.links,
+    links_within w.lanes (map (link_row w) (ups w)) links_turned links_rise
+        (each_link (HasBoth w.lanes) (λ a b l _ there. record { forth = ap is_some there; back = way_back a b l there })),
+  )
+
+-- all together
+pub rows_of_world_fit : RowsOfWorldFit
+rows_of_world_fit w range = record {
+  count = range.count;
+  nodes_rise = sorted_rows nat_cmp node_row (λ r. r.id) (λ e. refl) (entries w.rows) ∙ is_true _ w.rows.sorted;
+  nodes = nodes_fit w range;
+  links_rise = links_rise w range;
+  links = links_fit w range;
+  degrees = degrees_fit w range;
+  most_links = most_fit w range;
+  clients_rise = sorted_rows nat_cmp client_row (λ r. r.client) (λ e. refl) (entries w.sessions) ∙ is_true _ w.sessions.sorted;
+  clients = clients_fit w range;
+}

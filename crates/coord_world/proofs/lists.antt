@@ -1,0 +1,7 @@
+-- Lists with keys, tables and sets of nodes.
+pub mod GetAfter
+pub mod KeyedLists
+pub mod NodeSets
+pub mod PutAtPlace
+pub mod TableEntries
+pub mod TableLen

@@ -1,0 +1,94 @@
+-- What every node keeps through a step, it keeps through each change of a node.
+use Rattle.std.proofs.Common.{◌≡◌, ℕ, ◌≤◌, true, Option, Some, None, refl, sym, ◌∙◌, ap, eqb, arith, subst}
+use Rattle.std.specs.Prelude.{is_some}
+use Rattle.std.specs.Cmp.{nat_cmp_total}
+use Rattle.std.proofs.lemmas.Bool.Decides.{nat_tests}
+use Rattle.coord_types.specs.NodeSet as set
+use Rattle.coord_types.specs.NodeSet.{NodeSet}
+use Rattle.coord_types.specs.NodeState.{NodeState, new_node}
+use Rattle.coord_types.specs.Table.{Table, get, has, insert, remove}
+use Rattle.coord_types.specs.declared.steps.Command.{Command}
+use Rattle.coord_types.specs.declared.steps.Command.TheVariants.{Add, Remove, Join, Drop, Reset, Confirm}
+use Rattle.coord_types.specs.declared.steps.Step.{Step}
+use Rattle.coord_types.specs.declared.steps.Step.TheVariants.{Order, Take, Clear}
+use Rattle.coord_node.specs.Rules.{with_neighbour}
+use Rattle.coord_world.specs.Acceptance.{IsFresh}
+use Rattle.coord_world.specs.Next.{next}
+use Rattle.coord_world.specs.NumberedWorld.{World, row, state_or_none}
+use Rattle.coord_world.specs.Ranges.{InRange}
+use Rattle.coord_world.proofs.deeds.NodeGoesOn.{Goes, goes_deed, goes_lost, goes_request}
+use Rattle.coord_world.proofs.acceptance.IsFresh.{fresh_take}
+use Rattle.coord_world.proofs.lists.GetAfter.{get-set, get-unset, each_left, each_made}
+use Rattle.coord_world.proofs.acceptance.FreshOrder.{Passes, fresh_order}
+use Rattle.coord_world.proofs.lists.TableLen.{len-remove_le}
+
+-- where P holds of a node before a step, Q holds of what the step makes of the node
+pub record Carries (P Q : ℕ → NodeState → Type 0) : Type 0 where
+  pub weaken : (x : ℕ) (r : NodeState) → P x r → Q x r
+  pub goes : (x : ℕ) (r s : NodeState) (near : NodeSet) → P x r → set.len near ≤ set.len r.neighbours → Goes r near s → Q x s
+  pub confirm : (x : ℕ) (r : NodeState) (e : ℕ) → P x r → e ≤ r.epoch → Q x (record r { confirmed = e })
+  pub widen : (x : ℕ) (r : NodeState) (v : ℕ) → P x r → set.len r.neighbours ≤ 15 → Q x (with_neighbour r v)
+
+-- what holds of every node, with its number
+abbrev pub AllRows : (ℕ → NodeState → Type 0) → Table nat_cmp_total NodeState → Type 0
+AllRows P rows = (x : ℕ) (r : NodeState) → get rows x ≡ Some r → P x r
+
+-- a node that a step adds has it too
+abbrev pub Adds : (ℕ → NodeState → Type 0) → Step → Type 0
+Adds Q (Order c n (Add u g)) = Q u (new_node g)
+Adds Q s = Unit {0}
+
+-- a node is put
+all_set : (Q : ℕ → NodeState → Type 0) (rows : Table nat_cmp_total NodeState) (u : ℕ) (s : NodeState) → AllRows Q rows → Q u s → AllRows Q (insert rows u s)
+all_set Q rows u s all here x r e = each_made (get rows x) (eqb x u) s (Q x) (λ t. let same : x ≡ u = grind (arith, nat_tests) in subst (λ z. Q z s) (sym same) here) (λ _ r is. all x r is)
+    r (sym (get-set rows u s x) ∙ e)
+
+-- a node is removed
+all_unset : (Q : ℕ → NodeState → Type 0) (rows : Table nat_cmp_total NodeState) (u : ℕ) → AllRows Q rows → AllRows Q (remove rows u)
+all_unset Q rows u all x r e = all x r (each_left (get rows x) (eqb x u) r (sym (get-unset rows u x) ∙ e))
+
+-- a node that is there has its state
+pub there_is : (w : World) (u : ℕ) → has w.rows u ≡ true → get w.rows u ≡ Some (row w u)
+there_is w u known = of_option (get w.rows u) known
+  where
+    of_option : (o : Option NodeState) → is_some o ≡ true → o ≡ Some (state_or_none o)
+    of_option None e = cc
+    of_option (Some r) e = refl
+
+module _ (P Q : ℕ → NodeState → Type 0) (w : World) (carries : Carries P Q) (before : AllRows P w.rows) where
+  -- nodes stay
+  later : AllRows Q w.rows
+  later x r is = carries.weaken x r (before x r is)
+
+  module _ (u : ℕ) (known : has w.rows u ≡ true) where
+    -- of a node that is there
+    here : P u (row w u)
+    here = before u (row w u) (there_is w u known)
+
+    -- a deed of it that keeps its neighbours
+    same_near : (s : NodeState) → Goes (row w u) (row w u).neighbours s → Q u s
+    same_near s goes = carries.goes u (row w u) s (row w u).neighbours here (omega arith) goes
+
+    -- or that leaves one out
+    less_near : (v : ℕ) (s : NodeState) → Goes (row w u) (set.remove (row w u).neighbours v) s → Q u s
+    less_near v s goes = carries.goes u (row w u) s (set.remove (row w u).neighbours v) here (len-remove_le (row w u).neighbours v) goes
+
+  -- by the command
+  ordered_rows : (c n : ℕ) (x : Command) → Passes w x → Adds Q (Order c n x) → AllRows Q (next w (Order c n x)).rows
+  ordered_rows c n (Add u g) new adds = all_set Q w.rows u (new_node g) later adds
+  ordered_rows c n (Remove u) removable adds = all_unset Q w.rows u later
+  ordered_rows c n (Join a b) joinable adds = all_set Q _ b _ (all_set Q w.rows a _ later (carries.widen a (row w a) b (here a joinable.first) joinable.first_room))
+      (carries.widen b (row w b) a (here b joinable.second) joinable.second_room)
+  ordered_rows c n (Drop a b) droppable adds = all_set Q _ b _ (all_set Q w.rows a _ later (less_near a droppable.first b _ (goes_lost (row w a) b)))
+      (less_near b droppable.second a _ (goes_lost (row w b) a))
+  ordered_rows c n (Reset u) known adds = all_set Q w.rows u _ later (same_near u known _ (goes_request (row w u)))
+  ordered_rows c n (Confirm u e) confirmable adds = all_set Q w.rows u _ later (carries.confirm u (row w u) e (here u confirmable.there) confirmable.entered)
+
+  -- every node after a fresh step
+  pub rows_next : (settled : World) (s : Step) → InRange w → Adds Q s → IsFresh w settled s → AllRows Q (next w s).rows
+  rows_next settled (Order c n x) range adds fresh = ordered_rows c n x (fresh_order w settled c n x fresh) adds
+  rows_next settled (Take p) range adds fresh =
+      let take = fresh_take w settled p fresh in
+      let known = range.ends p.to p.from (sym (range.mirrored p.from p.to) ∙ ap is_some take.there) in
+      all_set Q w.rows p.to _ later (same_near p.to known _ (goes_deed (row w p.to) p.from p.msg))
+  rows_next settled (Clear p) range adds fresh = later

@@ -1,0 +1,95 @@
+-- Sessions stay in their ranges through a step.
+use Rattle.std.proofs.Common.{◌≡◌, ℕ, ◌+◌, ◌≤◌, true, Option, Some, None, cond, eqb, refl, sym, ◌∙◌, ap, subst, arith}
+use Rattle.std.proofs.lemmas.Bool.Decides.{nat_tests}
+use Rattle.coord_types.specs.NodeState.{NodeState}
+use Rattle.coord_types.specs.Table.{get, insert}
+use Rattle.coord_types.specs.declared.messages.Mode.{Mode}
+use Rattle.coord_types.specs.declared.messages.Mode.TheVariants.{Ready, Abort, Converge}
+use Rattle.coord_types.specs.declared.steps.Command.{Command}
+use Rattle.coord_types.specs.declared.steps.Command.TheVariants.{Add, Remove, Join, Drop, Reset, Confirm}
+use Rattle.coord_types.specs.declared.steps.Kind.TheVariants.{Started, Finished}
+use Rattle.coord_types.specs.declared.steps.Session.{Session}
+use Rattle.coord_types.specs.declared.steps.Step.{Step}
+use Rattle.coord_types.specs.declared.steps.Step.TheVariants.{Order, Take, Clear}
+use Rattle.coord_node.specs.Rules.{is_empty}
+use Rattle.coord_node.specs.Steps.{kind_of_request, kind_ordered}
+use Rattle.coord_world.specs.Acceptance.{IsFresh, last_number}
+use Rattle.coord_world.specs.Next.{next, reply}
+use Rattle.coord_world.specs.NumberedWorld.{World, row}
+use Rattle.coord_world.specs.Ranges.{InRange, SessionInRange, StepInRange, answers}
+use Rattle.coord_world.proofs.Cases.{by_test}
+use Rattle.coord_world.proofs.lists.GetAfter.{each_made, get-set}
+use Rattle.coord_world.proofs.acceptance.FreshOrder.{fresh_number}
+
+-- a request is answered with one of its three kinds
+request_answered : (u : ℕ) (m : Mode) (r : NodeState) → answers (Reset u) (kind_of_request m r) ≡ true
+request_answered u Ready r = by_test (is_empty r.neighbours) (λ b. answers (Reset u) (cond b Finished Started) ≡ true) (λ _. refl) (λ _. refl)
+request_answered u Abort r = refl
+request_answered u Converge r = refl
+
+-- a command is answered with one of its kinds
+pub kind_answers : (rows : ℕ → NodeState) (x : Command) → answers x (kind_ordered rows x) ≡ true
+kind_answers rows (Add u g) = refl
+kind_answers rows (Remove u) = refl
+kind_answers rows (Join a b) = refl
+kind_answers rows (Drop a b) = refl
+kind_answers rows (Reset u) = request_answered u (rows u).mode (rows u)
+kind_answers rows (Confirm u e) = refl
+
+-- an order alone becomes its client's last one
+pub sessions_noted : (w : World) (c n : ℕ) (x : Command) → (next w (Order c n x)).sessions ≡ insert w.sessions c (record { number = n; command = x; reply = reply w (Order c n x) })
+sessions_noted w c n (Add u g) = refl
+sessions_noted w c n (Remove u) = refl
+sessions_noted w c n (Join a b) = refl
+sessions_noted w c n (Drop a b) = refl
+sessions_noted w c n (Reset u) = refl
+sessions_noted w c n (Confirm u e) = refl
+
+module _ (w : World) (range : InRange w) where
+  -- sessions stay
+  later : (c : ℕ) (o : Session) → get w.sessions c ≡ Some o → SessionInRange (w.count + 1) c o
+  later c o is =
+      let within = range.sessions c o is in
+      record {
+        least = within.least;
+        greatest = within.greatest;
+        ordered = within.ordered;
+        first = within.first;
+        last = omega (arith, within.last);
+        replied = within.replied;
+        replied_by = omega (arith, within.replied_by);
+        answered = within.answered;
+      }
+
+  -- the last number of a client is within the count
+  last_within : (c : ℕ) → last_number (get w.sessions c) ≤ w.count
+  last_within c = of_option (get w.sessions c) refl
+    where
+      of_option : (o : Option Session) → get w.sessions c ≡ o → last_number o ≤ w.count
+      of_option None is = omega arith
+      of_option (Some o) is = (range.sessions c o is).last
+
+  -- the session of an order that is taken
+  noted : (settled : World) (c n : ℕ) (x : Command) → StepInRange (Order c n x) → IsFresh w settled (Order c n x) →
+      SessionInRange (w.count + 1) c (record { number = n; command = x; reply = reply w (Order c n x) })
+  noted settled c n x within fresh = record {
+    least = within.0;
+    greatest = within.1;
+    ordered = within.2;
+    first = omega (arith, fresh_number w settled c n x fresh);
+    last = omega (arith, fresh_number w settled c n x fresh, last_within c);
+    replied = omega arith;
+    replied_by = omega arith;
+    answered = kind_answers (row w) x;
+  }
+
+  -- each session after a fresh step
+  pub sessions_next : (settled : World) (s : Step) → StepInRange s → IsFresh w settled s → (c : ℕ) (o : Session) → get (next w s).sessions c ≡ Some o → SessionInRange (w.count + 1) c o
+  sessions_next settled (Order c n x) within fresh d o e =
+      each_made (get w.sessions d) (eqb d c) (record { number = n; command = x; reply = reply w (Order c n x) }) (SessionInRange (w.count + 1) d)
+      (λ t. let same : d ≡ c = grind (arith, nat_tests) in
+      subst (λ z. SessionInRange (w.count + 1) z (record { number = n; command = x; reply = reply w (Order c n x) })) (sym same) (noted settled c n x within fresh))
+      (λ _ p is. later d p is)
+      o (sym (get-set w.sessions c (record { number = n; command = x; reply = reply w (Order c n x) }) d) ∙ ap (λ m. get m d) (sym (sessions_noted w c n x)) ∙ e)
+  sessions_next settled (Take p) within fresh d o e = later d o e
+  sessions_next settled (Clear p) within fresh d o e = later d o e

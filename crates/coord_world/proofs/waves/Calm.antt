@@ -1,0 +1,63 @@
+-- Deeds that send no Abort, and what they leave on the way.
+use Rattle.std.proofs.Common.{◌≡◌, ℕ, ◌≤◌, true, List, [], ◌∷◌, sym, subst, inl, inr, arith}
+use Rattle.std.proofs.lemmas.Bool.Decides.{nat_tests}
+use Rattle.coord_types.specs.IdealWorld.{Ideal}
+use Rattle.coord_types.specs.Messages.{behind_front}
+use Rattle.coord_types.specs.declared.messages.Msg.{Msg}
+use Rattle.coord_types.specs.declared.messages.Msg.TheVariants as msg
+use Rattle.coord_node.specs.IdealRules.{acts, added, headed}
+use Rattle.coord_node.specs.Rules.{Deed}
+use Rattle.coord_world.specs.Links.{aborts, is_ready}
+use Rattle.coord_world.proofs.legal.TakeKept.{after_take}
+use Rattle.coord_world.proofs.Cases.{same_or_apart}
+use Rattle.coord_world.proofs.waves.Effect.{SamePlace, Calm}
+use Rattle.coord_world.proofs.lanes.MessageCounts.{aborts-append}
+
+-- to take a message leaves no more
+fewer_behind : (xs : List Msg) → aborts (behind_front xs) ≤ aborts xs
+fewer_behind [] = omega arith
+fewer_behind (msg.Abort ∷ xs) = omega arith
+fewer_behind (msg.Ack ∷ xs) = omega arith
+fewer_behind (msg.Ready ∷ xs) = omega arith
+
+-- a deed sends no Abort
+abbrev pub IsQuiet : Deed → Type 0
+IsQuiet d = (y : ℕ) → aborts (added d y) ≡ 0
+
+module _ (z : Ideal) (v t : ℕ) where
+  -- a message that is taken is on no other way
+  headed_fewer : (a b : ℕ) → aborts ((headed z v t).way a b) ≤ aborts (z.way a b)
+  headed_fewer a b = grind (arith, nat_tests, fewer_behind (z.way a b))
+
+  -- it was no Abort, or its receiver wasn't Ready
+  headed_kept : (is_ready (z.row t).mode ≡ true → aborts (z.way v t) ≤ aborts (behind_front (z.way v t))) → (a b : ℕ) → is_ready (z.row b).mode ≡ true → aborts (z.way a b) ≤ aborts ((headed z v t).way a b)
+  headed_kept same a b ready = elim (same_or_apart b t) [
+    | inl here ↦ elim (same_or_apart a v) [
+      | inl from ↦ subst (λ q. aborts (z.way q b) ≤ aborts ((headed z v t).way q b)) (sym from) (subst (λ q. aborts (z.way v q) ≤ aborts ((headed z v t).way v q)) (sym here) (let more = same (subst (λ q. is_ready (z.row q).mode ≡ true) here ready) in grind (arith, nat_tests, more)))
+      | inr far ↦ grind (arith, nat_tests)
+    ]
+    | inr apart ↦ grind (arith, nat_tests)
+  ]
+
+module _ (z : Ideal) (t : ℕ) (d : Deed) (quiet : IsQuiet d) where
+  -- a quiet deed leaves all Aborts on the way
+  same_aborts : (a b : ℕ) → aborts ((acts z t d).way a b) ≡ aborts (z.way a b)
+  same_aborts a b = grind (arith, nat_tests, aborts-append (z.way a b) (added d b), quiet b)
+
+  -- a quiet deed that takes nothing
+  pub calm_deed : Calm z (acts z t d)
+  calm_deed = record { fewer = λ a b. omega (arith, same_aborts a b); kept = λ a b ready. omega (arith, same_aborts a b) }
+
+-- a quiet deed that takes a message
+pub calm_take : (z : Ideal) (v t : ℕ) (d : Deed) → IsQuiet d → (is_ready (z.row t).mode ≡ true → aborts (z.way v t) ≤ aborts (behind_front (z.way v t))) → Calm z (after_take z v t d)
+calm_take z v t d quiet same = record {
+  fewer = λ a b. omega (arith, same_aborts (headed z v t) t d quiet a b, headed_fewer z v t a b);
+  kept = λ a b ready. omega (arith, same_aborts (headed z v t) t d quiet a b, headed_kept z v t same a b ready);
+}
+
+-- a deed at a node that stays in its place leaves each one in its place
+pub same_places : (z : Ideal) (t : ℕ) (d : Deed) → SamePlace (z.row t) d.row → (x : ℕ) → SamePlace (z.row x) ((acts z t d).row x)
+same_places z t d same x = elim (same_or_apart x t) [
+  | inl here ↦ subst (λ q. SamePlace (z.row q) ((acts z t d).row q)) (sym here) (record { mode = grind (arith, nat_tests, same.mode); parent = grind (arith, nat_tests, same.parent) })
+  | inr apart ↦ record { mode = grind (arith, nat_tests); parent = grind (arith, nat_tests) }
+]

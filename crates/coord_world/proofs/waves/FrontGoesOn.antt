@@ -1,0 +1,83 @@
+-- The first phase of a wave begins, and goes on where no node is reached.
+use Rattle.std.proofs.Common.{◌≡◌, ◌≢◌, ℕ, ◌≤◌, true, List, [], ◌∷◌, Some, None, refl, sym, ap, ◌∙◌, subst, inl, inr, arith}
+use Rattle.std.proofs.lemmas.Bool.Decides.{nat_tests}
+use Rattle.coord_types.specs.IdealWorld.{Ideal}
+use Rattle.coord_types.specs.NodeSet.{contains}
+use Rattle.coord_types.specs.NodeState.{NodeState}
+use Rattle.coord_types.specs.declared.messages.Mode.TheVariants.{Ready, Abort, Converge}
+use Rattle.coord_world.specs.Links.{aborts, is_ready}
+use Rattle.coord_world.proofs.Cases.{same_or_apart}
+use Rattle.coord_world.proofs.waves.Effect.{Calm, Passes, Turns, Starts}
+use Rattle.coord_world.proofs.waves.Front.{Front, reached_same}
+
+-- the neighbours stay
+abbrev pub SameNear : Ideal → Ideal → Type 0
+SameNear z y = (a b : ℕ) → contains (y.row a).neighbours b ≡ contains (z.row a).neighbours b
+
+-- a start at t, where every node is Ready
+pub begins : (z y : Ideal) (t : ℕ) → SameNear z y → ((x : ℕ) → (z.row x).mode ≡ Ready) → Starts z y t → Front y t (t ∷ [])
+begins z y t near ready starts = record {
+  top = starts.now;
+  no_parent = starts.parent;
+  reached = (inl refl, tt);
+  others = λ x h. calm x (λ same. grind (arith, nat_tests, h, same));
+  held = λ x p mode up. elim (same_or_apart x t) [
+    | inl here ↦ absurd (let is_abort = subst (λ q. (y.row q).mode ≡ Abort) (sym here) starts.now in cc)
+    | inr far ↦ absurd (let is_ready = calm x far in cc)
+  ];
+  sent = λ a b with_b busy is_ready. elim (same_or_apart a t) [
+    | inl here ↦ subst (λ q. 1 ≤ aborts (y.way q b)) (sym here) (starts.sent b (sym (near t b) ∙ subst (λ q. contains (y.row q).neighbours b ≡ true) here with_b))
+    | inr far ↦ absurd (let calm_a = calm a far in cc)
+  ];
+}
+  where
+    calm : (x : ℕ) → x ≢ t → is_ready (y.row x).mode ≡ true
+    calm x far = ap (λ (r : NodeState). is_ready r.mode) (starts.elsewhere x far) ∙ ap is_ready (ready x)
+
+module _ (z y : Ideal) (u : ℕ) (xs : List ℕ) (near : SameNear z y) (front : Front z u xs) where
+  -- where nobody is reached and nobody gets Ready
+  goes_on : Calm z y → ((x : ℕ) → (y.row x).parent ≡ (z.row x).parent) → ((x : ℕ) → is_ready (y.row x).mode ≡ is_ready (z.row x).mode) →
+      (y.row u).mode ≡ Abort → ((x p : ℕ) → (y.row x).mode ≡ Converge → (z.row x).parent ≡ Some p → aborts (z.way p x) ≡ 0) → Front y u xs
+  goes_on calm parent ready top none = record {
+    top = top;
+    no_parent = parent u ∙ front.no_parent;
+    reached = reached_same z y u xs (λ x h far. parent x) front.reached;
+    others = λ x h. ready x ∙ front.others x h;
+    held = λ x p mode up. let before = none x p mode (sym (parent x) ∙ up) in omega (arith, calm.fewer p x);
+    sent = λ a b with_b busy is_ready.
+        let before = front.sent a b (sym (near a b) ∙ with_b) (sym (ready a) ∙ busy) (sym (ready b) ∙ is_ready) in
+        omega (arith, calm.kept a b (sym (ready b) ∙ is_ready));
+  }
+
+  -- each node stays in its place
+  pub passed_by : Passes z y → Front y u xs
+  passed_by passes = goes_on passes.calm (λ x. (passes.same x).parent) (λ x. ap is_ready (passes.same x).mode) ((passes.same u).mode ∙ front.top) (λ x p mode up. front.held x p (sym (passes.same x).mode ∙ mode) up)
+
+  -- a node acknowledges to its parent
+  pub turned : (t p : ℕ) → Turns z y t p → Front y u xs
+  turned t p turns = goes_on turns.calm parent ready top none
+    where
+      parent : (x : ℕ) → (y.row x).parent ≡ (z.row x).parent
+      parent x = elim (same_or_apart x t) [
+        | inl here ↦ subst (λ q. (y.row q).parent ≡ (z.row q).parent) (sym here) (turns.same_parent ∙ sym turns.parent)
+        | inr far ↦ ap (λ (r : NodeState). r.parent) (turns.elsewhere x far)
+      ]
+
+      ready : (x : ℕ) → is_ready (y.row x).mode ≡ is_ready (z.row x).mode
+      ready x = elim (same_or_apart x t) [
+        | inl here ↦ subst (λ q. is_ready (y.row q).mode ≡ is_ready (z.row q).mode) (sym here) (ap is_ready turns.now ∙ sym (ap is_ready turns.was))
+        | inr far ↦ ap (λ (r : NodeState). is_ready r.mode) (turns.elsewhere x far)
+      ]
+
+      apart : u ≢ t
+      apart same = let none = subst (λ q. (z.row q).parent ≡ None) same front.no_parent in let some = turns.parent in cc
+
+      top : (y.row u).mode ≡ Abort
+      top = ap (λ (r : NodeState). r.mode) (turns.elsewhere u apart) ∙ front.top
+
+      none : (x q : ℕ) → (y.row x).mode ≡ Converge → (z.row x).parent ≡ Some q → aborts (z.way q x) ≡ 0
+      none x q mode up = elim (same_or_apart x t) [
+        | inl here ↦ subst (λ n. aborts (z.way q n) ≡ 0) (sym here)
+            (let up_t = subst (λ n. (z.row n).parent ≡ Some q) here up in let same : p ≡ q = cc (up_t, turns.parent) in subst (λ n. aborts (z.way n t) ≡ 0) same turns.none)
+        | inr far ↦ front.held x q (ap (λ (r : NodeState). r.mode) (sym (turns.elsewhere x far)) ∙ mode) up
+      ]

@@ -1,0 +1,75 @@
+-- The last phase of a wave: once no node is Abort, each node that isn't Ready signals once more.
+use Rattle.std.proofs.Common.{◌≡◌, ℕ, ◌+◌, ◌≤◌, true, false, not, List, [], sym, ap, ◌∙◌, subst, inl, inr, arith}
+use Rattle.std.proofs.lemmas.Bool.Decides.{nat_tests}
+use Rattle.coord_types.specs.IdealWorld.{Ideal}
+use Rattle.coord_types.specs.NodeSet.{contains}
+use Rattle.coord_types.specs.NodeState.{NodeState}
+use Rattle.coord_types.specs.declared.steps.Kind.{Kind}
+use Rattle.coord_node.specs.Rules.{is_empty}
+use Rattle.coord_world.specs.Links.{aborts, is_abort, is_ready, one}
+use Rattle.coord_world.proofs.Cases.{same_or_apart}
+use Rattle.coord_world.proofs.waves.Effect.{Effect, Passes, Finishes, Signals}
+use Rattle.coord_world.proofs.legal.Sound.{Sound}
+use Rattle.coord_world.proofs.legal.DeedKept.{both_before}
+
+-- no node is Abort
+abbrev pub Settled : Ideal → Type 0
+Settled z = (x : ℕ) → is_abort (z.row x).mode ≡ false
+
+-- 1 for a node that isn't Ready
+abbrev pub busy : NodeState → ℕ
+busy r = one (not (is_ready r.mode))
+
+-- what a step keeps in this phase, where nobody starts
+pub record Settles (z y : Ideal) (signals : ℕ → ℕ) : Type 0 where
+  pub settled : Settled y
+  pub ready : (x : ℕ) → is_ready (z.row x).mode ≡ true → is_ready (y.row x).mode ≡ true
+  pub once : (x : ℕ) → is_empty (z.row x).neighbours ≡ false → signals x + busy (y.row x) ≡ busy (z.row x)
+
+-- who has an Abort on the way is Abort
+pub sender_aborts : (z : Ideal) → Sound z → (v t : ℕ) → contains (z.row t).neighbours v ≡ true → 1 ≤ aborts (z.way v t) → is_abort (z.row v).mode ≡ true
+sender_aborts z sound v t near came =
+    let near_t = sym (sound.mirrored t v) ∙ near in
+    let both = both_before z v sound t near_t in
+    grind (arith, both.from.counted, both.here.waiting)
+
+module _ (z y : Ideal) (signals : ℕ → ℕ) (settled : Settled z) where
+  -- each node stays in its place
+  passing : Passes z y → ((x : ℕ) → is_empty (z.row x).neighbours ≡ false → signals x ≡ 0) → Settles z y signals
+  passing passes silent = record {
+    settled = λ x. ap is_abort (passes.same x).mode ∙ settled x;
+    ready = λ x h. ap is_ready (passes.same x).mode ∙ h;
+    once = λ x some. let none = silent x some in let same = ap is_ready (passes.same x).mode in grind (arith, none, same);
+  }
+
+  -- a node finishes
+  finishing : (t : ℕ) → Finishes z y t → Signals signals t → Settles z y signals
+  finishing t finishes signal = record {
+    settled = λ x. elim (same_or_apart x t) [
+      | inl here ↦ subst (λ q. is_abort (y.row q).mode ≡ false) (sym here) (ap is_abort finishes.now)
+      | inr apart ↦ ap (λ (r : NodeState). is_abort r.mode) (finishes.elsewhere x apart) ∙ settled x
+    ];
+    ready = λ x h. elim (same_or_apart x t) [
+      | inl here ↦ subst (λ q. is_ready (y.row q).mode ≡ true) (sym here) (ap is_ready finishes.now)
+      | inr apart ↦ ap (λ (r : NodeState). is_ready r.mode) (finishes.elsewhere x apart) ∙ h
+    ];
+    once = λ x some. elim (same_or_apart x t) [
+      | inl here ↦ subst (λ q. signals q + busy (y.row q) ≡ busy (z.row q)) (sym here) (let one_more = signal t in let now = ap is_ready finishes.now in let was = finishes.was in grind (arith, nat_tests, one_more, now, was))
+      | inr apart ↦ let none = signal x in let same = ap busy (finishes.elsewhere x apart) in grind (arith, nat_tests, none, same)
+    ];
+  }
+
+-- by what the step does
+pub settles : (z y : Ideal) (signals : ℕ → ℕ) (starts : List ℕ) (k : Kind) → Sound z → Settled z → starts ≡ [] → Effect z y signals starts k → Settles z y signals
+settles z y signals starts k sound settled none (Effect.passes passes silent e) = passing z y signals settled passes (λ x some. silent x)
+settles z y signals starts k sound settled none (Effect.alone t passes lone signal kind e) =
+    passing z y signals settled passes (λ x some. signal x ∙ elim (same_or_apart x t) [
+      | inl here ↦ absurd (let more = subst (λ q. is_empty (z.row q).neighbours ≡ false) here some in cc)
+      | inr apart ↦ grind (arith, nat_tests)
+    ])
+settles z y signals starts k sound settled none (Effect.reaches t v reaches silent e) =
+    absurd (let calm = settled v in let abort = sender_aborts z sound v t reaches.near reaches.came in cc)
+settles z y signals starts k sound settled none (Effect.turns t p turns silent e) =
+    absurd (let calm = settled t in let abort = ap is_abort turns.was in cc)
+settles z y signals starts k sound settled none (Effect.finishes t finishes signal e) = finishing z y signals settled t finishes signal
+settles z y signals starts k sound settled none (Effect.starts_at t start silent e) = absurd (cc)

@@ -1,0 +1,6 @@
+-- The world stays legal.
+use Rattle.coord_world.specs.Legal.{Legal}
+use Rattle.tests_world.proofs.check.reset_has_no_fault.Given as goal
+
+abbrev pub invariant-loop-step : goal.invariant-loop-step
+invariant-loop-step l = Legal l.world
