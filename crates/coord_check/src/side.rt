@@ -46,7 +46,6 @@ impl Side {
 fn lane_miscounts(lane: &Lane) -> bool
     ensures { result ≡ miscounts (Some lane.now) }
 {
-    let (got, base) = (lane.got(), lane.base());
-    let is_front_taken = got > base && got - base == 1 && !lane.queue().is_empty();
-    got != base && !is_front_taken
+    let is_ahead = lane.is_front_taken() && !lane.queue().is_empty();
+    lane.got() != lane.base() && !is_ahead
 }

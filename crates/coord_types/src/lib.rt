@@ -8,6 +8,7 @@
 
 mod client;
 mod group;
+mod limits;
 mod messages;
 mod node_id;
 mod node_set;
@@ -18,6 +19,10 @@ mod steps;
 
 pub use client::Client;
 pub use group::Group;
+pub use limits::{
+    MAX_BATCH_BYTES, MAX_BATCH_STEPS, MAX_CLIENTS, MAX_DEGREE, MAX_GROUPS, MAX_LINE_BYTES,
+    MAX_LINKS, MAX_NODES, MAX_PENDING, MAX_SNAPSHOT_BYTES, MAX_STEPS,
+};
 pub use messages::{Mode, Msg};
 pub use node_id::NodeId;
 pub use node_set::NodeSet;

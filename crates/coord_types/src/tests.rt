@@ -24,7 +24,7 @@ fn texts_are_printed(rt: HostRuntime) -> Result<(), Fail> {
     assert_eq!(rt; words.as_str(), "converge ack joined");
     let refused = format!(in rt.alloc(); "{}", Refusal::PendingFull)?;
     assert_eq!(rt; refused.as_str(), "20 PendingFull");
-    let behind = Refusal::Behind(7);
+    let behind = Refusal::Behind { settled: 7 };
     assert_eq!(rt; behind.number(), 21);
     assert_eq!(rt; behind.name(), "Behind");
     assert_eq!(rt; Refusal::Stranger.number(), 22);
