@@ -1,5 +1,5 @@
 -- Proofs by cases.
-use Rattle.std.proofs.Common.{◌≡◌, ◌≢◌, ◌⊎◌, ℕ, Bool, true, false, ◌&&◌, Option, Some, None, refl, inl, inr}
+use Rattle.std.proofs.Common.{◌≡◌, ◌≢◌, ◌⊎◌, ℕ, Bool, true, false, ◌&&◌, Option, Some, None, refl, sym, subst, inl, inr}
 use Rattle.std.specs.Prelude.{is_some}
 use Rattle.std.proofs.lemmas.Bool.Decides.{eqb_tells}
 
@@ -11,6 +11,10 @@ by_test false P t f = f refl
 -- each number is u or it isn't
 pub same_or_apart : (x u : ℕ) → (x ≡ u) ⊎ (x ≢ u)
 same_or_apart x u = elim (eqb_tells x u) [ inl h ↦ inl h.1 | inr h ↦ inr h.1 ]
+
+-- what holds at u and of each other number holds of every one
+pub everywhere : (P : ℕ → Type 0) (u : ℕ) → P u → ((x : ℕ) → x ≢ u → P x) → (x : ℕ) → P x
+everywhere P u here apart x = elim (same_or_apart x u) [ inl same ↦ subst P (sym same) here | inr far ↦ apart x far ]
 
 -- two tests that hold
 pub both : (a b : Bool) → (a && b) ≡ true → (a ≡ true) × (b ≡ true)

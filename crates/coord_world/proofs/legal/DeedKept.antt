@@ -1,5 +1,5 @@
 -- A deed at one node of a world keeps it sound, where it keeps the node's own links legal: the others stay.
-use Rattle.std.proofs.Common.{◌≡◌, ◌≢◌, ℕ, true, false, ◌++◌, refl, sym, ap, ◌∙◌, subst, inl, inr, arith}
+use Rattle.std.proofs.Common.{◌≡◌, ◌≢◌, ℕ, true, false, ◌++◌, refl, sym, ap, ◌∙◌, subst, arith}
 use Rattle.std.proofs.lemmas.Bool.Decides.{nat_tests}
 use Rattle.coord_types.specs.IdealWorld.{Ideal}
 use Rattle.coord_types.specs.NodeSet.{contains}
@@ -7,7 +7,7 @@ use Rattle.coord_types.specs.NodeState.{NodeState}
 use Rattle.coord_node.specs.IdealRules.{acts, added}
 use Rattle.coord_node.specs.Rules.{Deed}
 use Rattle.coord_world.specs.Links.{Link, link, end_of, turned}
-use Rattle.coord_world.proofs.Cases.{by_test, same_or_apart}
+use Rattle.coord_world.proofs.Cases.{by_test, everywhere}
 use Rattle.coord_world.proofs.deeds.LegalBoth.{LegalBoth, LegalEnd}
 use Rattle.coord_world.proofs.lists.NodeSets.{empty_has}
 use Rattle.coord_world.proofs.legal.Sound.{Sound}
@@ -109,13 +109,10 @@ module _ (w : Ideal) (u : ℕ) (d : Deed) where
 
     -- each link
     each_legal : (x y : ℕ) → w.linked x y ≡ true → LegalBoth (link (acts w u d) x y)
-    each_legal x y with_y = elim (same_or_apart x u) [
-      | inl same ↦ subst (λ z. LegalBoth (link (acts w u d) z y)) (sym same) (here_legal y (subst (λ z. w.linked z y ≡ true) same with_y))
-      | inr far ↦ elim (same_or_apart y u) [
-        | inl same ↦ subst (λ z. LegalBoth (link (acts w u d) x z)) (sym same) (flip (link (acts w u d) u x) (here_legal x (mirrored u x ∙ subst (λ z. w.linked x z ≡ true) same with_y)))
-        | inr other ↦ subst LegalBoth (sym (apart_is x y far other)) (others x y far other with_y)
-      ]
-    ]
+    each_legal x y = everywhere (λ z. w.linked z y ≡ true → LegalBoth (link (acts w u d) z y)) u (here_legal y)
+        (λ z far. everywhere (λ v. w.linked z v ≡ true → LegalBoth (link (acts w u d) z v)) u
+        (λ with_u. flip (link (acts w u d) u z) (here_legal z (mirrored u z ∙ with_u)))
+        (λ v other with_v. subst LegalBoth (sym (apart_is z v far other)) (others z v far other with_v)) y) x
 
     -- links stay legal where those of the node do
     pub links_kept : LegalLinks (acts w u d)
@@ -126,13 +123,7 @@ module _ (w : Ideal) (u : ℕ) (d : Deed) where
   deed_kept but elsewhere neighbours node = sound_of (acts w u d) (links_kept but.mirrored but.apart but.links elsewhere) nodes_kept (λ x y. but.linked x y ∙ ap (λ s. contains s y) (sym (nears x)))
     where
       nodes_kept : (x : ℕ) → SoundNode ((acts w u d).row x)
-      nodes_kept x = elim (same_or_apart x u) [
-        | inl same ↦ subst (λ z. SoundNode ((acts w u d).row z)) (sym same) (subst SoundNode (sym row_here) node)
-        | inr far ↦ subst SoundNode (sym (row_there x far)) (but.nodes x)
-      ]
+      nodes_kept = everywhere (λ x. SoundNode ((acts w u d).row x)) u (subst SoundNode (sym row_here) node) (λ x far. subst SoundNode (sym (row_there x far)) (but.nodes x))
 
       nears : (x : ℕ) → ((acts w u d).row x).neighbours ≡ (w.row x).neighbours
-      nears x = elim (same_or_apart x u) [
-        | inl same ↦ ap (λ (r : NodeState). r.neighbours) (ap (acts w u d).row same ∙ row_here) ∙ neighbours ∙ ap (λ z. (w.row z).neighbours) (sym same)
-        | inr far ↦ ap (λ (r : NodeState). r.neighbours) (row_there x far)
-      ]
+      nears = everywhere (λ x. ((acts w u d).row x).neighbours ≡ (w.row x).neighbours) u (ap (λ (r : NodeState). r.neighbours) row_here ∙ neighbours) (λ x far. ap (λ (r : NodeState). r.neighbours) (row_there x far))

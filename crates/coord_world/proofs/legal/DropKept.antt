@@ -1,5 +1,5 @@
 -- A link that is dropped keeps a world sound.
-use Rattle.std.proofs.Common.{◌≡◌, ◌≢◌, ℕ, true, false, ◌&&◌, Option, Some, None, cond, eqb, refl, sym, ap, ◌∙◌, subst, inl, inr, arith}
+use Rattle.std.proofs.Common.{◌≡◌, ◌≢◌, ℕ, true, false, ◌&&◌, Option, Some, None, cond, eqb, refl, sym, ap, ◌∙◌, subst, arith}
 use Rattle.std.proofs.lemmas.Bool.Decides.{nat_tests}
 use Rattle.coord_types.specs.NodeState.{NodeState}
 use Rattle.coord_types.specs.NodeSet as set
@@ -10,7 +10,7 @@ use Rattle.coord_node.specs.IdealRules.{acts, cut}
 use Rattle.coord_node.specs.Rules.{Deed, is_empty, is_parent, without, lost, idle}
 use Rattle.coord_types.specs.IdealWorld.{Ideal}
 use Rattle.coord_world.proofs.legal.DeedKept.{LegalLinks, links_of, sound_of, links_kept, row_here, row_there}
-use Rattle.coord_world.proofs.Cases.{by_test, same_or_apart}
+use Rattle.coord_world.proofs.Cases.{by_test, everywhere}
 use Rattle.coord_world.proofs.deeds.NodeGoesOn.{goes_lost}
 use Rattle.coord_world.proofs.deeds.LegalBoth.{LegalBoth}
 use Rattle.coord_world.proofs.deeds.KeepsLinks.{Aside, Keeps, aside_lost, keeps_converge, keeps_finish, keeps_idle}
@@ -144,23 +144,20 @@ module _ (w : Ideal) (a b : ℕ) (with_b : w.linked a b ≡ true) (sound : Sound
 
   -- each node is legal
   nodes_ok : (x : ℕ) → SoundNode ((dropped w a b).row x)
-  nodes_ok x = elim (same_or_apart x b) [
-    | inl same ↦ subst (λ z. SoundNode ((dropped w a b).row z)) (sym same) (subst SoundNode (sym (row_here one_end b db)) second.node)
-    | inr far ↦ subst SoundNode (sym (row_there one_end b db x far)) (elim (same_or_apart x a) [
-      | inl same ↦ subst (λ z. SoundNode (one_end.row z)) (sym same) (subst SoundNode (sym (row_here (cut w a b) a da)) first.node)
-      | inr other ↦ subst SoundNode (sym (row_there (cut w a b) a da x other)) (sound.nodes x)
-    ])
-  ]
+  nodes_ok = everywhere (λ x. SoundNode ((dropped w a b).row x)) b (subst SoundNode (sym (row_here one_end b db)) second.node)
+      (λ x far. subst SoundNode (sym (row_there one_end b db x far))
+      (everywhere (λ z. SoundNode (one_end.row z)) a (subst SoundNode (sym (row_here (cut w a b) a da)) first.node) (λ z other. subst SoundNode (sym (row_there (cut w a b) a da z other)) (sound.nodes z)) x))
 
   -- each node names its links
   near_ok : (x y : ℕ) → (dropped w a b).linked x y ≡ contains ((dropped w a b).row x).neighbours y
-  near_ok x y = elim (same_or_apart x b) [
-    | inl same ↦ grind (arith, nat_tests, sound.linked x y, has_remove (w.row b).neighbours a y) ∙ ap (λ s. contains s y) (sym (goes_lost (w.row b) a).neighbours) ∙ ap (λ r. contains r.neighbours y) (sym (row_here one_end b db)) ∙ ap (λ z. contains ((dropped w a b).row z).neighbours y) (sym same)
-    | inr far ↦ elim (same_or_apart x a) [
-      | inl same ↦ grind (arith, nat_tests, sound.linked x y, has_remove (w.row a).neighbours b y) ∙ ap (λ s. contains s y) (sym (goes_lost (w.row a) b).neighbours) ∙ ap (λ r. contains r.neighbours y) (sym (row_here (cut w a b) a da)) ∙ ap (λ z. contains (one_end.row z).neighbours y) (sym same) ∙ ap (λ r. contains r.neighbours y) (sym (row_there one_end b db x far))
-      | inr other ↦ grind (arith, nat_tests, sound.linked x y) ∙ ap (λ r. contains r.neighbours y) (sym (row_there (cut w a b) a da x other)) ∙ ap (λ r. contains r.neighbours y) (sym (row_there one_end b db x far))
-    ]
-  ]
+  near_ok x y = everywhere (λ z. (dropped w a b).linked z y ≡ contains ((dropped w a b).row z).neighbours y) b
+      (grind (arith, nat_tests, sound.linked b y, has_remove (w.row b).neighbours a y) ∙ ap (λ s. contains s y) (sym (goes_lost (w.row b) a).neighbours) ∙ ap (λ r. contains r.neighbours y) (sym (row_here one_end b db)))
+      (λ z far. near_one z far ∙ ap (λ r. contains r.neighbours y) (sym (row_there one_end b db z far))) x
+    where
+      near_one : (z : ℕ) → z ≢ b → (dropped w a b).linked z y ≡ contains (one_end.row z).neighbours y
+      near_one = everywhere (λ z. z ≢ b → (dropped w a b).linked z y ≡ contains (one_end.row z).neighbours y) a
+          (λ far. grind (arith, nat_tests, far, sound.linked a y, has_remove (w.row a).neighbours b y) ∙ ap (λ s. contains s y) (sym (goes_lost (w.row a) b).neighbours) ∙ ap (λ r. contains r.neighbours y) (sym (row_here (cut w a b) a da)))
+          (λ z other far. grind (arith, nat_tests, far, other, sound.linked z y) ∙ ap (λ r. contains r.neighbours y) (sym (row_there (cut w a b) a da z other)))
 
   -- a link that is dropped
   pub drop_kept : Sound (dropped w a b)

@@ -1,5 +1,5 @@
 -- Deeds that send no Abort, and what they leave on the way.
-use Rattle.std.proofs.Common.{◌≡◌, ℕ, ◌≤◌, true, List, [], ◌∷◌, sym, subst, inl, inr, arith}
+use Rattle.std.proofs.Common.{◌≡◌, ℕ, ◌≤◌, true, List, [], ◌∷◌, arith}
 use Rattle.std.proofs.lemmas.Bool.Decides.{nat_tests}
 use Rattle.coord_types.specs.IdealWorld.{Ideal}
 use Rattle.coord_types.specs.Messages.{behind_front}
@@ -9,7 +9,7 @@ use Rattle.coord_node.specs.IdealRules.{acts, added, headed}
 use Rattle.coord_node.specs.Rules.{Deed}
 use Rattle.coord_world.specs.Links.{aborts, is_ready}
 use Rattle.coord_world.proofs.legal.TakeKept.{after_take}
-use Rattle.coord_world.proofs.Cases.{same_or_apart}
+use Rattle.coord_world.proofs.Cases.{everywhere}
 use Rattle.coord_world.proofs.waves.Effect.{SamePlace, Calm}
 use Rattle.coord_world.proofs.lanes.MessageCounts.{aborts-append}
 
@@ -31,13 +31,10 @@ module _ (z : Ideal) (v t : ℕ) where
 
   -- it was no Abort, or its receiver wasn't Ready
   headed_kept : (is_ready (z.row t).mode ≡ true → aborts (z.way v t) ≤ aborts (behind_front (z.way v t))) → (a b : ℕ) → is_ready (z.row b).mode ≡ true → aborts (z.way a b) ≤ aborts ((headed z v t).way a b)
-  headed_kept same a b ready = elim (same_or_apart b t) [
-    | inl here ↦ elim (same_or_apart a v) [
-      | inl from ↦ subst (λ q. aborts (z.way q b) ≤ aborts ((headed z v t).way q b)) (sym from) (subst (λ q. aborts (z.way v q) ≤ aborts ((headed z v t).way v q)) (sym here) (let more = same (subst (λ q. is_ready (z.row q).mode ≡ true) here ready) in grind (arith, nat_tests, more)))
-      | inr far ↦ grind (arith, nat_tests)
-    ]
-    | inr apart ↦ grind (arith, nat_tests)
-  ]
+  headed_kept same a b = everywhere (λ q. is_ready (z.row q).mode ≡ true → aborts (z.way a q) ≤ aborts ((headed z v t).way a q)) t
+      (everywhere (λ p. is_ready (z.row t).mode ≡ true → aborts (z.way p t) ≤ aborts ((headed z v t).way p t)) v
+      (λ ready. let more = same ready in grind (arith, nat_tests, more)) (λ p far ready. grind (arith, nat_tests)) a)
+      (λ q apart ready. grind (arith, nat_tests)) b
 
 module _ (z : Ideal) (t : ℕ) (d : Deed) (quiet : IsQuiet d) where
   -- a quiet deed leaves all Aborts on the way
@@ -57,7 +54,6 @@ calm_take z v t d quiet same = record {
 
 -- a deed at a node that stays in its place leaves each one in its place
 pub same_places : (z : Ideal) (t : ℕ) (d : Deed) → SamePlace (z.row t) d.row → (x : ℕ) → SamePlace (z.row x) ((acts z t d).row x)
-same_places z t d same x = elim (same_or_apart x t) [
-  | inl here ↦ subst (λ q. SamePlace (z.row q) ((acts z t d).row q)) (sym here) (record { mode = grind (arith, nat_tests, same.mode); parent = grind (arith, nat_tests, same.parent) })
-  | inr apart ↦ record { mode = grind (arith, nat_tests); parent = grind (arith, nat_tests) }
-]
+same_places z t d same = everywhere (λ x. SamePlace (z.row x) ((acts z t d).row x)) t
+    (record { mode = grind (arith, nat_tests, same.mode); parent = grind (arith, nat_tests, same.parent) })
+    (λ x apart. record { mode = grind (arith, nat_tests); parent = grind (arith, nat_tests) })

@@ -10,7 +10,7 @@ use Rattle.coord_node.specs.Rules.{is_empty, is_parent}
 use Rattle.coord_world.specs.Links.{is_abort, is_ready}
 use Rattle.coord_world.specs.NumberedWorld.{World, is_linked}
 use Rattle.coord_world.specs.Waves.{Connected}
-use Rattle.coord_world.proofs.Cases.{by_test, same_or_apart}
+use Rattle.coord_world.proofs.Cases.{by_test, everywhere, same_or_apart}
 use Rattle.coord_world.proofs.waves.Effect.{Finishes, Hears, Signals}
 use Rattle.coord_world.proofs.waves.Front.{Front, Reached, among, under, reached_same, busy_reached, parent_busy}
 use Rattle.coord_world.proofs.waves.FrontGoesOn.{SameNear}
@@ -87,10 +87,8 @@ module _ (z y : Ideal) (u t : ℕ) (xs : List ℕ) (before : Sound z) (after : S
       listed h = by_test (is_abort (y.row x).mode) (λ b. b ≡ false) (λ abort. absurd (let some = (after.nodes x).awaits abort in let none = quiet y u after top_quiet xs reached x h in cc)) (λ _. refl)
 
       others : among xs x ≡ false → is_abort (y.row x).mode ≡ false
-      others h = elim (same_or_apart x u) [
-        | inl here ↦ subst (λ q. is_abort (y.row q).mode ≡ false) (sym here) (ap is_abort top_ready)
-        | inr far ↦ ap (λ (r : NodeState). is_abort r.mode) (elsewhere x far) ∙ ready_calm (z.row x).mode (front.others x h)
-      ]
+      others = everywhere (λ q. among xs q ≡ false → is_abort (y.row q).mode ≡ false) u (λ h. ap is_abort top_ready)
+          (λ q far h. ap (λ (r : NodeState). is_abort r.mode) (elsewhere q far) ∙ ready_calm (z.row q).mode (front.others q h)) x
 
   -- a neighbour of a node that was reached was reached
   onward : (a b : ℕ) → is_ready (z.row a).mode ≡ false → contains (z.row a).neighbours b ≡ true → is_ready (z.row b).mode ≡ false

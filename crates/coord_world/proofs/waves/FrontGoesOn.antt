@@ -1,12 +1,12 @@
 -- The first phase of a wave begins, and goes on where no node is reached.
-use Rattle.std.proofs.Common.{◌≡◌, ◌≢◌, ℕ, ◌≤◌, true, List, [], ◌∷◌, Some, None, refl, sym, ap, ◌∙◌, subst, inl, inr, arith}
+use Rattle.std.proofs.Common.{◌≡◌, ◌≢◌, ℕ, ◌≤◌, true, false, List, [], ◌∷◌, Some, None, refl, sym, ap, ◌∙◌, subst, inl, arith}
 use Rattle.std.proofs.lemmas.Bool.Decides.{nat_tests}
 use Rattle.coord_types.specs.IdealWorld.{Ideal}
 use Rattle.coord_types.specs.NodeSet.{contains}
 use Rattle.coord_types.specs.NodeState.{NodeState}
 use Rattle.coord_types.specs.declared.messages.Mode.TheVariants.{Ready, Abort, Converge}
 use Rattle.coord_world.specs.Links.{aborts, is_ready}
-use Rattle.coord_world.proofs.Cases.{same_or_apart}
+use Rattle.coord_world.proofs.Cases.{everywhere}
 use Rattle.coord_world.proofs.waves.Effect.{Calm, Passes, Turns, Starts}
 use Rattle.coord_world.proofs.waves.Front.{Front, reached_same}
 
@@ -21,14 +21,10 @@ begins z y t near ready starts = record {
   no_parent = starts.parent;
   reached = (inl refl, tt);
   others = λ x h. calm x (λ same. grind (arith, nat_tests, h, same));
-  held = λ x p mode up. elim (same_or_apart x t) [
-    | inl here ↦ absurd (let is_abort = subst (λ q. (y.row q).mode ≡ Abort) (sym here) starts.now in cc)
-    | inr far ↦ absurd (let is_ready = calm x far in cc)
-  ];
-  sent = λ a b with_b busy is_ready. elim (same_or_apart a t) [
-    | inl here ↦ subst (λ q. 1 ≤ aborts (y.way q b)) (sym here) (starts.sent b (sym (near t b) ∙ subst (λ q. contains (y.row q).neighbours b ≡ true) here with_b))
-    | inr far ↦ absurd (let calm_a = calm a far in cc)
-  ];
+  held = λ x p. everywhere (λ q. (y.row q).mode ≡ Converge → (y.row q).parent ≡ Some p → aborts (y.way p q) ≡ 0) t
+      (λ mode up. absurd (let is_abort = starts.now in cc)) (λ q far mode up. absurd (let is_ready = calm q far in cc)) x;
+  sent = λ a b. everywhere (λ q. contains (y.row q).neighbours b ≡ true → is_ready (y.row q).mode ≡ false → is_ready (y.row b).mode ≡ true → 1 ≤ aborts (y.way q b)) t
+      (λ with_b busy ready_b. starts.sent b (sym (near t b) ∙ with_b)) (λ q far with_b busy ready_b. absurd (let calm_q = calm q far in cc)) a;
 }
   where
     calm : (x : ℕ) → x ≢ t → is_ready (y.row x).mode ≡ true
@@ -58,16 +54,10 @@ module _ (z y : Ideal) (u : ℕ) (xs : List ℕ) (near : SameNear z y) (front : 
   turned t p turns = goes_on turns.calm parent ready top none
     where
       parent : (x : ℕ) → (y.row x).parent ≡ (z.row x).parent
-      parent x = elim (same_or_apart x t) [
-        | inl here ↦ subst (λ q. (y.row q).parent ≡ (z.row q).parent) (sym here) (turns.same_parent ∙ sym turns.parent)
-        | inr far ↦ ap (λ (r : NodeState). r.parent) (turns.elsewhere x far)
-      ]
+      parent = everywhere (λ x. (y.row x).parent ≡ (z.row x).parent) t (turns.same_parent ∙ sym turns.parent) (λ x far. ap (λ (r : NodeState). r.parent) (turns.elsewhere x far))
 
       ready : (x : ℕ) → is_ready (y.row x).mode ≡ is_ready (z.row x).mode
-      ready x = elim (same_or_apart x t) [
-        | inl here ↦ subst (λ q. is_ready (y.row q).mode ≡ is_ready (z.row q).mode) (sym here) (ap is_ready turns.now ∙ sym (ap is_ready turns.was))
-        | inr far ↦ ap (λ (r : NodeState). is_ready r.mode) (turns.elsewhere x far)
-      ]
+      ready = everywhere (λ x. is_ready (y.row x).mode ≡ is_ready (z.row x).mode) t (ap is_ready turns.now ∙ sym (ap is_ready turns.was)) (λ x far. ap (λ (r : NodeState). is_ready r.mode) (turns.elsewhere x far))
 
       apart : u ≢ t
       apart same = let none = subst (λ q. (z.row q).parent ≡ None) same front.no_parent in let some = turns.parent in cc
@@ -76,8 +66,6 @@ module _ (z y : Ideal) (u : ℕ) (xs : List ℕ) (near : SameNear z y) (front : 
       top = ap (λ (r : NodeState). r.mode) (turns.elsewhere u apart) ∙ front.top
 
       none : (x q : ℕ) → (y.row x).mode ≡ Converge → (z.row x).parent ≡ Some q → aborts (z.way q x) ≡ 0
-      none x q mode up = elim (same_or_apart x t) [
-        | inl here ↦ subst (λ n. aborts (z.way q n) ≡ 0) (sym here)
-            (let up_t = subst (λ n. (z.row n).parent ≡ Some q) here up in let same : p ≡ q = cc (up_t, turns.parent) in subst (λ n. aborts (z.way n t) ≡ 0) same turns.none)
-        | inr far ↦ front.held x q (ap (λ (r : NodeState). r.mode) (sym (turns.elsewhere x far)) ∙ mode) up
-      ]
+      none x q = everywhere (λ n. (y.row n).mode ≡ Converge → (z.row n).parent ≡ Some q → aborts (z.way q n) ≡ 0) t
+          (λ mode up. let same : p ≡ q = cc (up, turns.parent) in subst (λ n. aborts (z.way n t) ≡ 0) same turns.none)
+          (λ n far mode up. front.held n q (ap (λ (r : NodeState). r.mode) (sym (turns.elsewhere n far)) ∙ mode) up) x

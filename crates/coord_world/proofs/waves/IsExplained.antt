@@ -15,7 +15,7 @@ use Rattle.coord_world.specs.Next.{next, reply}
 use Rattle.coord_world.specs.NumberedWorld.{World, view, row, is_linked}
 use Rattle.coord_world.specs.Outputs.{Released, outs, outputs}
 use Rattle.coord_world.specs.Waves.{Connected, IsExplained, started, started_by}
-use Rattle.coord_world.proofs.Cases.{same_or_apart}
+use Rattle.coord_world.proofs.Cases.{everywhere, same_or_apart}
 use Rattle.coord_world.proofs.waves.Effect.{Effect, SamePlace}
 use Rattle.coord_world.proofs.waves.Front.{among}
 use Rattle.coord_world.proofs.waves.FrontGrows.{abort_busy}
@@ -38,10 +38,8 @@ record Explains (base : World) (u : ℕ) (y : Ideal) (signals : ℕ → ℕ) (k 
 module _ (base : World) (u : ℕ) (z y : Ideal) (signals : ℕ → ℕ) (k : Kind) (inside : Inside base u z) where
   -- where one node alone changes, and is connected
   one_changes : (t : ℕ) → ((x : ℕ) → x ≢ t → y.row x ≡ z.row x) → Connected base u t → Inside base u y
-  one_changes t elsewhere known x busy = elim (same_or_apart x t) [
-    | inl here ↦ subst (Connected base u) (sym here) known
-    | inr far ↦ inside x (ap (λ (r : NodeState). is_ready r.mode) (sym (elsewhere x far)) ∙ busy)
-  ]
+  one_changes t elsewhere known = everywhere (λ x. is_ready (y.row x).mode ≡ false → Connected base u x) t (λ busy. known)
+      (λ x far busy. inside x (ap (λ (r : NodeState). is_ready r.mode) (sym (elsewhere x far)) ∙ busy))
 
   -- where each stays in its place
   same_inside : ((x : ℕ) → SamePlace (z.row x) (y.row x)) → Inside base u y

@@ -7,7 +7,7 @@ use Rattle.coord_types.specs.NodeState.{NodeState}
 use Rattle.coord_types.specs.declared.steps.Kind.{Kind}
 use Rattle.coord_node.specs.Rules.{is_empty}
 use Rattle.coord_world.specs.Links.{aborts, is_abort, is_ready, one}
-use Rattle.coord_world.proofs.Cases.{same_or_apart}
+use Rattle.coord_world.proofs.Cases.{everywhere, same_or_apart}
 use Rattle.coord_world.proofs.waves.Effect.{Effect, Passes, Finishes, Signals}
 use Rattle.coord_world.proofs.legal.Sound.{Sound}
 use Rattle.coord_world.proofs.legal.DeedKept.{both_before}
@@ -45,18 +45,11 @@ module _ (z y : Ideal) (signals : ℕ → ℕ) (settled : Settled z) where
   -- a node finishes
   finishing : (t : ℕ) → Finishes z y t → Signals signals t → Settles z y signals
   finishing t finishes signal = record {
-    settled = λ x. elim (same_or_apart x t) [
-      | inl here ↦ subst (λ q. is_abort (y.row q).mode ≡ false) (sym here) (ap is_abort finishes.now)
-      | inr apart ↦ ap (λ (r : NodeState). is_abort r.mode) (finishes.elsewhere x apart) ∙ settled x
-    ];
-    ready = λ x h. elim (same_or_apart x t) [
-      | inl here ↦ subst (λ q. is_ready (y.row q).mode ≡ true) (sym here) (ap is_ready finishes.now)
-      | inr apart ↦ ap (λ (r : NodeState). is_ready r.mode) (finishes.elsewhere x apart) ∙ h
-    ];
-    once = λ x some. elim (same_or_apart x t) [
-      | inl here ↦ subst (λ q. signals q + busy (y.row q) ≡ busy (z.row q)) (sym here) (let one_more = signal t in let now = ap is_ready finishes.now in let was = finishes.was in grind (arith, nat_tests, one_more, now, was))
-      | inr apart ↦ let none = signal x in let same = ap busy (finishes.elsewhere x apart) in grind (arith, nat_tests, none, same)
-    ];
+    settled = everywhere (λ x. is_abort (y.row x).mode ≡ false) t (ap is_abort finishes.now) (λ x apart. ap (λ (r : NodeState). is_abort r.mode) (finishes.elsewhere x apart) ∙ settled x);
+    ready = everywhere (λ x. is_ready (z.row x).mode ≡ true → is_ready (y.row x).mode ≡ true) t (λ h. ap is_ready finishes.now) (λ x apart h. ap (λ (r : NodeState). is_ready r.mode) (finishes.elsewhere x apart) ∙ h);
+    once = λ x some. everywhere (λ q. signals q + busy (y.row q) ≡ busy (z.row q)) t
+        (let one_more = signal t in let now = ap is_ready finishes.now in let was = finishes.was in grind (arith, nat_tests, one_more, now, was))
+        (λ q apart. let none = signal q in let same = ap busy (finishes.elsewhere q apart) in grind (arith, nat_tests, none, same)) x;
   }
 
 -- by what the step does

@@ -1,5 +1,5 @@
 -- What a fresh step that keeps all nodes and links does to a wave.
-use Rattle.std.proofs.Common.{◌≡◌, ℕ, true, false, List, [], ◌∷◌, refl, sym, ◌∙◌, ap, subst, inl, inr, arith}
+use Rattle.std.proofs.Common.{◌≡◌, ℕ, true, false, List, [], ◌∷◌, refl, sym, ◌∙◌, ap, subst, arith}
 use Rattle.std.specs.Prelude.{count_by, is_some}
 use Rattle.std.proofs.lemmas.Bool.Decides.{nat_tests}
 use Rattle.coord_types.specs.IdealWorld.{Ideal}
@@ -21,7 +21,7 @@ use Rattle.coord_world.specs.Outputs.{signals}
 use Rattle.coord_world.specs.Waves.{changes_topology, is_signal_of, started_by}
 use Rattle.coord_world.proofs.waves.AbortEffect.{TakeEffect, abort_effect}
 use Rattle.coord_world.proofs.waves.AckEffect.{ack_effect}
-use Rattle.coord_world.proofs.Cases.{same_or_apart}
+use Rattle.coord_world.proofs.Cases.{everywhere}
 use Rattle.coord_world.proofs.lanes.Counts.{AllCount}
 use Rattle.coord_world.proofs.waves.Effect.{Effect, SamePlace}
 use Rattle.coord_world.proofs.acceptance.IsFresh.{fresh_take}
@@ -49,10 +49,8 @@ confirmed : (z : Ideal) (c n u e : ℕ) → StepEffect z (ideal_next z (Order c 
 confirmed z c n u e = Effect.passes (record { same = same; calm = record { fewer = λ a b. omega arith; kept = λ a b ready. omega arith } }) (λ x. refl) refl
   where
     same : (x : ℕ) → SamePlace (z.row x) ((set_row z u (record (z.row u) { confirmed = e })).row x)
-    same x = elim (same_or_apart x u) [
-      | inl here ↦ subst (λ q. SamePlace (z.row q) ((set_row z u (record (z.row u) { confirmed = e })).row q)) (sym here) (record { mode = grind (arith, nat_tests); parent = grind (arith, nat_tests) })
-      | inr apart ↦ record { mode = grind (arith, nat_tests); parent = grind (arith, nat_tests) }
-    ]
+    same = everywhere (λ x. SamePlace (z.row x) ((set_row z u (record (z.row u) { confirmed = e })).row x)) u
+        (record { mode = grind (arith, nat_tests); parent = grind (arith, nat_tests) }) (λ x apart. record { mode = grind (arith, nat_tests); parent = grind (arith, nat_tests) })
 
 -- a step that leaves the view
 unchanged : (z : Ideal) (s : Step) → ((v : ℕ) → signals_in z.row s v ≡ 0) → started_by (kind z.row s) s ≡ [] → StepEffect z z s
