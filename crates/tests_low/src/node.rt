@@ -2,16 +2,8 @@
 
 use coord_node::{Deed, Node, NodeFields, NodeSet};
 use coord_types::{Group, Mode, Msg, NodeId};
-use std::alloc::{AllocError, Global};
+use std::alloc::Global;
 use std::test::Fail;
-
-/// A call at a node.
-#[derive(Clone, Copy)]
-enum Call {
-    Request,
-    Message(Msg, NodeId),
-    Lost(NodeId),
-}
 
 /// The nodes 1, 2 and 3.
 fn ids() -> Result<[NodeId; 3], Fail> {
@@ -29,42 +21,44 @@ fn between(alloc: Global, near: NodeId, far: NodeId) -> Result<Node, Fail> {
     Ok(node)
 }
 
-fn deed_of(alloc: Global, node: &mut Node, call: Call) -> Result<Deed, Fail> {
+/// A reset is asked for.
+fn asked(alloc: Global, node: &mut Node) -> Result<Deed, Fail> {
     if node.epoch() > 1000 {
         return Err("the node was in few resets".into());
     }
-    let deed = match call {
-        Call::Request => node.request(alloc)?,
-        Call::Message(Msg::Abort, from) => node.on_abort(alloc, from)?,
-        Call::Message(Msg::Ack, from) => node.on_ack(alloc, from)?,
-        Call::Message(Msg::Ready, from) => node.on_ready(alloc, from)?,
-        Call::Lost(other) => node.lost(alloc, other)?,
+    Ok(node.request(alloc)?)
+}
+
+/// A message comes from a neighbour.
+fn heard(alloc: Global, node: &mut Node, msg: Msg, from: NodeId) -> Result<Deed, Fail> {
+    if node.epoch() > 1000 {
+        return Err("the node was in few resets".into());
+    }
+    let deed = match msg {
+        Msg::Abort => node.on_abort(alloc, from)?,
+        Msg::Ack => node.on_ack(alloc, from)?,
+        Msg::Ready => node.on_ready(alloc, from)?,
     };
     Ok(deed)
 }
 
-/// Whether a call has the node send this, and not finish.
-fn sends(
-    alloc: Global,
-    node: &mut Node,
-    call: Call,
-    sends: &[(NodeId, Msg)],
-) -> Result<bool, Fail> {
-    let epoch = node.epoch();
-    let deed = deed_of(alloc, node, call)?;
-    Ok(deed.sends.as_slice() == sends && !deed.finished && node.epoch() == epoch)
+/// The link to a neighbour is dropped.
+fn lost(alloc: Global, node: &mut Node, other: NodeId) -> Result<Deed, Fail> {
+    if node.epoch() > 1000 {
+        return Err("the node was in few resets".into());
+    }
+    Ok(node.lost(alloc, other)?)
 }
 
-/// Whether a call has the node send this, and finish its first reset.
-fn finishes(
-    alloc: Global,
-    node: &mut Node,
-    call: Call,
-    sends: &[(NodeId, Msg)],
-) -> Result<bool, Fail> {
-    let deed = deed_of(alloc, node, call)?;
-    let is_ready = node.mode() == Mode::Ready && node.parent().is_none();
-    Ok(deed.sends.as_slice() == sends && deed.finished && node.epoch() == 1 && is_ready)
+/// Whether this is what was to be sent, and the node did not finish.
+fn sends(deed: Deed, sends: &[(NodeId, Msg)]) -> bool {
+    deed.sends.as_slice() == sends && !deed.finished
+}
+
+/// Whether this is what was to be sent, and the node finished its first reset.
+fn finishes(node: &Node, deed: Deed, sends: &[(NodeId, Msg)]) -> bool {
+    let is_ready = node.mode() == Mode::Ready && node.parent().is_none() && node.epoch() == 1;
+    deed.sends.as_slice() == sends && deed.finished && is_ready
 }
 
 #[test]
@@ -105,9 +99,8 @@ fn a_restored_node_goes_on(rt: HostRuntime) -> Result<(), Fail> {
         && node.pend() == awaited
         && node.neighbours() == awaited.with(two)
         && (node.epoch(), node.confirmed()) == (7, 5);
-    let ack = Call::Message(Msg::Ack, three);
-    let answers = sends(rt.alloc(), &mut node, ack, &[(two, Msg::Ack)])?;
-    assert!(rt; is_restored && answers);
+    let deed = heard(rt.alloc(), &mut node, Msg::Ack, three)?;
+    assert!(rt; is_restored && sends(deed, &[(two, Msg::Ack)]));
     Ok(())
 }
 
@@ -117,10 +110,10 @@ fn an_initiator_awaits_all(rt: HostRuntime) -> Result<(), Fail> {
     let [_, two, three] = ids()?;
     let mut node = between(alloc, two, three)?;
     let aborts = [(two, Msg::Abort), (three, Msg::Abort)];
-    let begins = sends(alloc, &mut node, Call::Request, &aborts)?;
-    let waits = sends(alloc, &mut node, Call::Message(Msg::Ack, three), &[])?;
-    let readies = [(two, Msg::Ready), (three, Msg::Ready)];
-    let ends = finishes(alloc, &mut node, Call::Message(Msg::Ack, two), &readies)?;
+    let begins = sends(asked(alloc, &mut node)?, &aborts) && node.epoch() == 0;
+    let waits = sends(heard(alloc, &mut node, Msg::Ack, three)?, &[]) && node.epoch() == 0;
+    let last = heard(alloc, &mut node, Msg::Ack, two)?;
+    let ends = finishes(&node, last, &[(two, Msg::Ready), (three, Msg::Ready)]);
     assert!(rt; begins && waits && ends);
     Ok(())
 }
@@ -130,15 +123,19 @@ fn a_child_waits_for_its_parent(rt: HostRuntime) -> Result<(), Fail> {
     let alloc = rt.alloc();
     let [one, _, three] = ids()?;
     let mut node = between(alloc, one, three)?;
-    let abort = Call::Message(Msg::Abort, one);
-    let passes_on = sends(alloc, &mut node, abort, &[(three, Msg::Abort)])?;
-    let has_parent = node.parent() == Some(one);
-    let ack = Call::Message(Msg::Ack, three);
-    let answers = sends(alloc, &mut node, ack, &[(one, Msg::Ack)])?;
-    let converges = node.mode() == Mode::Converge;
-    let ready = Call::Message(Msg::Ready, one);
-    let ends = finishes(alloc, &mut node, ready, &[(three, Msg::Ready)])?;
-    assert!(rt; passes_on && has_parent && answers && converges && ends);
+    let passes_on = sends(
+        heard(alloc, &mut node, Msg::Abort, one)?,
+        &[(three, Msg::Abort)],
+    ) && node.parent() == Some(one)
+        && node.epoch() == 0;
+    let answers = sends(
+        heard(alloc, &mut node, Msg::Ack, three)?,
+        &[(one, Msg::Ack)],
+    ) && node.mode() == Mode::Converge
+        && node.epoch() == 0;
+    let last = heard(alloc, &mut node, Msg::Ready, one)?;
+    let ends = finishes(&node, last, &[(three, Msg::Ready)]);
+    assert!(rt; passes_on && answers && ends);
     Ok(())
 }
 
@@ -147,10 +144,13 @@ fn a_lost_child_is_acknowledged(rt: HostRuntime) -> Result<(), Fail> {
     let alloc = rt.alloc();
     let [one, _, three] = ids()?;
     let mut node = between(alloc, one, three)?;
-    let abort = Call::Message(Msg::Abort, one);
-    let passes_on = sends(alloc, &mut node, abort, &[(three, Msg::Abort)])?;
-    let answers = sends(alloc, &mut node, Call::Lost(three), &[(one, Msg::Ack)])?;
-    let ends = finishes(alloc, &mut node, Call::Lost(one), &[])?;
+    let passes_on = sends(
+        heard(alloc, &mut node, Msg::Abort, one)?,
+        &[(three, Msg::Abort)],
+    ) && node.epoch() == 0;
+    let answers = sends(lost(alloc, &mut node, three)?, &[(one, Msg::Ack)]) && node.epoch() == 0;
+    let last = lost(alloc, &mut node, one)?;
+    let ends = finishes(&node, last, &[]);
     assert!(rt; passes_on && answers && ends);
     Ok(())
 }
