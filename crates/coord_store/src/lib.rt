@@ -1,0 +1,2 @@
+//! A world that outlives the program.
+#![tactic(auto)]
