@@ -21,8 +21,8 @@ pub const MAX_BATCH_STEPS: usize = 256;
 /// No batch is spelled in more bytes.
 pub const MAX_BATCH_BYTES: usize = 8192;
 
-/// The greatest number of a step.
-const MAX_FIRST: u64 = 1 << 40;
+/// The most steps that a world takes, and so the greatest number of a step.
+pub const MAX_STEPS: u64 = 1 << 40;
 
 /// Steps that were committed together, 1 to 256 of them, of which the first has this number, from
 /// 1 to 2^40.
@@ -37,7 +37,7 @@ impl<'a> Input<'a> {
     fn batch(&mut self, alloc: Global) -> Result<Batch, ReadError>
         ensures { Reads content result (batch.read self.old) self.new }
     {
-        let first = self.from_one_to(MAX_FIRST)?;
+        let first = self.from_one_to(MAX_STEPS)?;
         let steps = self.steps(alloc)?;
         Ok(Batch { first, steps })
     }
