@@ -18,7 +18,7 @@ use std::alloc::{AllocError, Global};
 /// The most steps of a batch.
 pub const MAX_BATCH_STEPS: usize = 256;
 
-/// No batch is spelled in more bytes.
+/// The most bytes that a batch may have on a disk. Those of version 1 have at most 5,130.
 pub const MAX_BATCH_BYTES: usize = 8192;
 
 /// The most steps that a world takes, and so the greatest number of a step.
@@ -68,6 +68,7 @@ pub fn read_batch(alloc: Global, version: u8, bytes: &[u8]) -> Result<Batch, Cod
     // What is spelled so is read, unless memory runs out.
     ensures only { (first : ℕ) (taken : List Taken) → version ≡ 1 → IsBatch first taken → bytes.now ≡ batch.text (pair first taken)
         → Answers content result (Ok (pair first taken)) }
+    // Another version is told also where memory is short.
     ensures version { (result ≡ Err bad_version) ↔ ¬ (version ≡ 1) }
     // Which fault it is, and where.
     ensures exact { Answers content result (decoded batch version bytes.now) }

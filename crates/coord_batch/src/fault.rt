@@ -103,6 +103,7 @@ pub enum Flaw {
 /// Why a reader stopped.
 #[derive(Debug, Drop)]
 pub enum ReadError {
+    /// Memory ran out.
     Memory,
     Flaw(Flaw),
 }

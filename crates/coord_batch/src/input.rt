@@ -9,7 +9,9 @@ use crate::fault::{Flaw, ReadError};
 use coord_types::{Client, Group, Msg, NodeId};
 use std::marker::Model;
 
-/// The bytes that are not yet read. Each method reads one field, as the format of its name does.
+/// The bytes that are not yet read. Each method reads one field, as the format of its name does:
+/// it fails as `Short` where the bytes end inside the field, and as `BadByte` where the field's
+/// value is out of its range. After an error the bytes that are left are unspecified.
 #[derive(Drop)]
 pub struct Input<'a> {
     rest: &'a [u8],
@@ -27,6 +29,7 @@ impl<'a> Model for Input<'a> {
 }
 
 impl<'a> Input<'a> {
+    /// All of these bytes.
     pub fn new(bytes: &'a [u8]) -> Self
         ensures { result ≡ bytes.now }
     {
@@ -40,6 +43,7 @@ impl<'a> Input<'a> {
         self.rest.len()
     }
 
+    /// The next byte.
     pub fn byte(&mut self) -> Result<u8, ReadError>
         ensures { Reads (λ x. x) result (byte.read self.old) self.new }
     {
@@ -52,6 +56,7 @@ impl<'a> Input<'a> {
         }
     }
 
+    /// A number of two bytes, the greatest first.
     pub fn u16(&mut self) -> Result<u16, ReadError>
         ensures { Reads (λ x. x) result (u16.read self.old) self.new }
     {
@@ -63,6 +68,7 @@ impl<'a> Input<'a> {
         Ok(u16::from_be_bytes([front[0], front[1]]))
     }
 
+    /// A number of eight bytes, the greatest first.
     pub fn u64(&mut self) -> Result<u64, ReadError>
         ensures { Reads (λ x. x) result (u64.read self.old) self.new }
     {
@@ -76,6 +82,7 @@ impl<'a> Input<'a> {
         ]))
     }
 
+    /// A node, in a byte from 1 to 64.
     #[tactic(auto, unfolding(crate::specs::Fields::node))]
     pub fn node(&mut self) -> Result<NodeId, ReadError>
         ensures { Reads (λ x. x) result (node.read self.old) self.new }
@@ -85,6 +92,7 @@ impl<'a> Input<'a> {
         NodeId::new(number).ok_or(ReadError::bad_byte(left))
     }
 
+    /// A group, in a byte from 1 to 16.
     #[tactic(auto, unfolding(crate::specs::Fields::group))]
     pub fn group(&mut self) -> Result<Group, ReadError>
         ensures { Reads (λ x. x) result (group.read self.old) self.new }
@@ -94,6 +102,7 @@ impl<'a> Input<'a> {
         Group::new(number).ok_or(ReadError::bad_byte(left))
     }
 
+    /// A client, in a byte from 1 to 16.
     #[tactic(auto, unfolding(crate::specs::Fields::client))]
     pub fn client(&mut self) -> Result<Client, ReadError>
         ensures { Reads (λ x. x) result (client.read self.old) self.new }
@@ -103,6 +112,7 @@ impl<'a> Input<'a> {
         Client::new(number).ok_or(ReadError::bad_byte(left))
     }
 
+    /// A message: 0 Abort, 1 Ack, 2 Ready.
     #[tactic(auto, unfolding(crate::specs::Fields::message))]
     pub fn message(&mut self) -> Result<Msg, ReadError>
         ensures { Reads (λ x. x) result (message.read self.old) self.new }
@@ -116,6 +126,7 @@ impl<'a> Input<'a> {
         }
     }
 
+    /// A number of eight bytes, from 1.
     #[tactic(auto, unfolding(crate::specs::Fields::from_one))]
     pub fn from_one(&mut self) -> Result<u64, ReadError>
         ensures { Reads (λ x. x) result (from_one.read self.old) self.new }
@@ -128,6 +139,7 @@ impl<'a> Input<'a> {
         Ok(number)
     }
 
+    /// A number of eight bytes, up to this one.
     #[tactic(auto, unfolding(crate::specs::Fields::at_most))]
     pub fn at_most(&mut self, most: u64) -> Result<u64, ReadError>
         ensures { Reads (λ x. x) result ((at_most most).read self.old) self.new }
@@ -140,6 +152,7 @@ impl<'a> Input<'a> {
         Ok(number)
     }
 
+    /// A number of eight bytes, from 1 up to this one.
     #[tactic(auto, unfolding(crate::specs::Fields::from_one_to))]
     pub fn from_one_to(&mut self, most: u64) -> Result<u64, ReadError>
         ensures { Reads (λ x. x) result ((from_one_to most).read self.old) self.new }
@@ -152,6 +165,7 @@ impl<'a> Input<'a> {
         Ok(number)
     }
 
+    /// How many items there are, in a byte up to this number.
     #[tactic(auto, unfolding(crate::specs::Fields::how_many))]
     pub fn how_many(&mut self, most: u8) -> Result<u8, ReadError>
         ensures read { Reads (λ x. x) result ((how_many most).read self.old) self.new }

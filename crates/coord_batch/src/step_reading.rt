@@ -11,6 +11,7 @@ use coord_types::{Command, DataPacket, ReceiptPacket, Step};
 use std::alloc::Global;
 
 impl<'a> Input<'a> {
+    /// A command: the byte of its form, and the nodes and numbers that it names.
     #[tactic(auto, unfolding(crate::specs::Steps::command, crate::specs::Steps::command_case))]
     pub fn command(&mut self) -> Result<Command, ReadError>
         ensures { Reads (λ x. x) result (command.read self.old) self.new }
@@ -53,7 +54,7 @@ impl<'a> Input<'a> {
     }
 
     #[tactic(auto, unfolding(crate::specs::Steps::step, crate::specs::Steps::step_case, crate::specs::Steps::order))]
-    pub fn step(&mut self) -> Result<Step, ReadError>
+    fn step(&mut self) -> Result<Step, ReadError>
         ensures { Reads (λ x. x) result (step.read self.old) self.new }
     {
         let left = self.left();
@@ -77,8 +78,9 @@ impl<'a> Input<'a> {
         Ok(list)
     }
 
+    /// Their number, from 1 to 256, and the steps.
     #[tactic(auto, unfolding(crate::specs::Steps::steps, crate::specs::Steps::how_many_steps))]
-    pub fn steps(&mut self, alloc: Global) -> Result<Vec<Step>, ReadError>
+    pub(crate) fn steps(&mut self, alloc: Global) -> Result<Vec<Step>, ReadError>
         ensures { Reads (λ v. v.items) result (steps.read self.old) self.new }
     {
         let left = self.left();

@@ -10,6 +10,7 @@ ghost use Rattle.coord_batch.specs.Batches.{StepFits, IsNumbered};
 use coord_types::{Command, DataPacket, Msg, NodeId, ReceiptPacket, Step};
 use std::alloc::AllocError;
 
+/// The byte of a command's form, and the node that it names first.
 fn put_form(out: &mut Vec<u8>, form: u8, id: NodeId) -> Result<(), AllocError>
     ensures ok { OnOk result (out.new.items ≡ out.old.items ++ form ∷ id ∷ []) }
     ensures fits { OnOk result (IsNode id) }
@@ -19,6 +20,7 @@ fn put_form(out: &mut Vec<u8>, form: u8, id: NodeId) -> Result<(), AllocError>
     Ok(())
 }
 
+/// Puts a command's spelling at the end.
 #[tactic(auto, unfolding(crate::specs::Steps::command, crate::specs::Steps::command_case, crate::specs::Fields::node, crate::specs::Fields::group))]
 pub fn put_command(out: &mut Vec<u8>, order: &Command) -> Result<(), AllocError>
     ensures spelled { OnOk result (out.new.items ≡ out.old.items ++ command.text order.now) }
@@ -66,7 +68,7 @@ fn put_address(
     Ok(())
 }
 
-/// The byte of a message.
+/// The byte of a message: 0 Abort, 1 Ack, 2 Ready.
 pub fn message_byte(msg: Msg) -> u8
     ensures { result ≡ msg_number msg }
 {
@@ -96,7 +98,7 @@ fn put_receipt_packet(out: &mut Vec<u8>, packet: ReceiptPacket) -> Result<(), Al
 }
 
 #[tactic(auto, unfolding(crate::specs::Steps::step, crate::specs::Steps::step_case, crate::specs::Steps::order, crate::specs::Fields::client, crate::specs::Fields::from_one))]
-pub fn put_step(out: &mut Vec<u8>, taken: &Step) -> Result<(), AllocError>
+pub(crate) fn put_step(out: &mut Vec<u8>, taken: &Step) -> Result<(), AllocError>
     requires { IsNumbered taken.now }
     ensures spelled { OnOk result (out.new.items ≡ out.old.items ++ step.text taken.now) }
     ensures fits { OnOk result (StepFits taken.now) }

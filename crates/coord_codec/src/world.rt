@@ -13,7 +13,7 @@ use coord_batch::{CodecFault, Input, ReadError};
 use coord_world::{Parts, World};
 use std::alloc::{AllocError, Global};
 
-/// No world is spelled in more bytes.
+/// The most bytes that a world may have on a disk. Those of version 1 have at most 8,907.
 pub const MAX_WORLD_BYTES: usize = 16384;
 
 /// The rows that all of the bytes spell.
@@ -56,6 +56,7 @@ pub fn read_world(alloc: Global, version: u8, bytes: &[u8]) -> Result<World, Cod
     // What spells a world is read as that world, unless memory runs out.
     ensures only { (w : Numbered) → version ≡ 1 → InRange w → bytes.now ≡ world.text (rows_of w)
         → Answers (λ v. v) result (Ok w) }
+    // Another version is told also where memory is short.
     ensures version { (result ≡ Err bad_version) ↔ ¬ (version ≡ 1) }
     // Which fault it is, and where.
     ensures exact { Answers rows_of result (decoded world version bytes.now) }
