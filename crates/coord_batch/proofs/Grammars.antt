@@ -1,4 +1,4 @@
--- What is read of a format is spelled so, and what is spelled so is read: a law of each way of making formats.
+-- What is read of a format is spelled so, what is spelled so is read, and what is cut is Short: laws of each way of making formats.
 use Rattle.std.proofs.Common.{◌≡◌, ◌⊎◌, ℕ, zero, suc, ◌+◌, ◌^◌, ◌<◌, ◌≤◌, Bool, true, false, cond, ltb, eqb, List, [], ◌∷◌, ◌++◌, length, get_or, take, drop, Result, Ok, Err, refl, sym, ap, subst, ◌∙◌, append_assoc, arith, inl, inr}
 use Rattle.std.specs.List.{flat_map}
 use Rattle.std.specs.Int.{Width, w16, w64, byte_len, from_be_bytes, to_be_bytes}
@@ -19,6 +19,7 @@ pub record Takes {A : Type 0} (f : Format A) (bytes : List ℕ) (x : A) (rest : 
   pub left : IsBytes rest
   pub fits : f.Fits x
 
+-- what is read is spelled so, what is spelled is read whatever stands behind it, and what is cut is Short
 pub record IsGrammar {A : Type 0} (f : Format A) : Type 0 where
   pub takes : (bytes : List ℕ) (x : A) (rest : List ℕ) → IsBytes bytes → f.read bytes ≡ Ok (x, rest) → Takes f bytes x rest
   pub again : (x : A) (rest : List ℕ) → f.Fits x → f.read (f.text x ++ rest) ≡ Ok (x, rest)

@@ -1,5 +1,5 @@
 -- How long spellings are.
-use Rattle.std.proofs.Common.{◌≡◌, ℕ, ◌+◌, ◌*◌, ◌≤◌, List, [], ◌∷◌, ◌++◌, length, ap, length-append, arith}
+use Rattle.std.proofs.Common.{◌≡◌, ℕ, ◌*◌, ◌≤◌, List, [], ◌∷◌, ◌++◌, length, ap, length-append, arith}
 use Rattle.std.specs.Int.{w16, w64, to_be_bytes}
 use Rattle.std.specs.List.{AllByRecursion, flat_map}
 use Rattle.std.proofs.lemmas.List.Concat.{flat_map-cons}
@@ -19,10 +19,12 @@ length-flat_map_most P text most each (x ∷ xs) all =
     let rest = length-flat_map_most P text most each xs all.1 in
     rw flat_map-cons (omega (arith, length-append (text x) (flat_map text xs), each x all.0, rest))
 
+-- a message is a byte
 pub length-message : (m : Msg) → length (message.text m) ≡ 1
 unfolding message
 length-message m = omega arith
 
+-- a Confirm is the longest command: its form, a node and an epoch
 pub length-command : (x : Command) → length (command.text x) ≤ 10
 unfolding command command_case node group
 length-command (Add u g) = omega arith
@@ -32,6 +34,7 @@ length-command (Drop a b) = omega arith
 length-command (Reset u) = omega arith
 length-command (Confirm u e) = omega arith
 
+-- a client's Confirm and a data packet are the longest steps
 length-step : (s : Step) → length (step.text s) ≤ 20
 unfolding step step_case order client from_one data_packet receipt_packet node message
 length-step (Order c n x) = omega (arith, length-command x)

@@ -1,7 +1,6 @@
 -- What stands behind a spelling doesn't change what is read of it, and a spelling that is cut is Short.
-use Rattle.std.proofs.Common.{◌≡◌, ℕ, ◌+◌, ◌-◌, false, eqb, List, ◌∷◌, ◌++◌, length, Result, Err, refl, ap, ◌∙◌, length-append, arith}
+use Rattle.std.proofs.Common.{◌≡◌, ℕ, ◌-◌, false, eqb, List, ◌∷◌, ◌++◌, length, Err, refl, ap, ◌∙◌, length-append, arith}
 use Rattle.std.proofs.lemmas.Bool.Decides.{nat_tests}
-use Rattle.coord_batch.specs.declared.fault.CodecFault.{CodecFault}
 use Rattle.coord_batch.specs.declared.fault.FaultKind.TheVariants.{Short, Extra}
 use Rattle.coord_batch.specs.Batches.{pair}
 use Rattle.coord_batch.specs.Decoding.{decoded, fault_at, or_fault}
@@ -15,9 +14,11 @@ use Rattle.coord_batch.proofs.StepGrammars.{batch_grammar, step_grammar}
 -- ---- of any grammar
 
 module _ {A : Type 0} (f : Format A) (grammar : IsGrammar f) where
+  -- the front of a spelling is Short
   pub cut_short : (x : A) (front rest : List ℕ) (b : ℕ) → f.Fits x → f.text x ≡ front ++ b ∷ rest → decoded f 1 front ≡ Err (fault_at Short (length front))
   cut_short x front rest b fits is = ap (λ r. or_fault (length front) (r >>= ended)) (grammar.cut x front rest b fits is)
 
+  -- what stands behind a spelling is Extra
   pub more_extra : (x : A) (rest : List ℕ) (b : ℕ) → f.Fits x → decoded f 1 (f.text x ++ b ∷ rest) ≡ Err (fault_at Extra (length (f.text x)))
   more_extra x rest b fits =
       let bytes = f.text x ++ b ∷ rest in

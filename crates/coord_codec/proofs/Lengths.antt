@@ -1,7 +1,7 @@
 -- How long spellings are.
-use Rattle.std.proofs.Common.{◌≡◌, ℕ, ◌+◌, ◌*◌, ◌≤◌, List, [], ◌∷◌, ◌++◌, length, ap, length-append, arith}
+use Rattle.std.proofs.Common.{◌≡◌, ℕ, ◌+◌, ◌≤◌, List, [], ◌∷◌, ◌++◌, length, length-append, arith}
 use Rattle.std.specs.Int.{w64, to_be_bytes}
-use Rattle.std.specs.List.{AllByRecursion, flat_map}
+use Rattle.std.specs.List.{flat_map}
 use Rattle.std.proofs.lemmas.List.Concat.{flat_map-cons}
 use Rattle.coord_types.specs.declared.messages.Msg.{Msg}
 use Rattle.coord_world.specs.Parts.{LinkRowFits, NodeRowFits, Rows, RowsFit}
@@ -16,18 +16,22 @@ use Rattle.coord_codec.specs.Worlds.{client_row, clients, ends, kind, lane, link
 use Rattle.coord_codec.proofs.WorldRows.{few_clients, few_nodes}
 use Rattle.coord_codec.proofs.WorldTexts.{world_text}
 
+-- a message is a byte
 length-messages : (ms : List Msg) → length (flat_map message.text ms) ≡ length ms
 length-messages [] = omega arith
 length-messages (m ∷ ms) = rw flat_map-cons (omega (arith, length-append (message.text m) (flat_map message.text ms), length-message m, length-messages ms))
 
+-- a queue is its length and its messages
 length-queue : (ms : List Msg) → length (queue.text ms) ≡ 1 + length ms
 unfolding queue how_many
 length-queue ms = omega (arith, length-messages ms)
 
+-- a node is four bytes and three numbers
 length-node_row : (r : NodeRow) → length ((node_row 0 []).text r) ≤ 28
 unfolding node_row node group mode parent mask at_most
 length-node_row r = omega arith
 
+-- a link is its ends, its incarnation, and two lanes of two numbers and at most five bytes
 length-link_row : (count : ℕ) (listed : List NodeRow) (r : LinkRow) → LinkRowFits count listed r → length ((link_row 0 [] []).text r) ≤ 52
 unfolding link_row ends node from_one_to lane at_most
 length-link_row count listed r fits =
@@ -35,6 +39,7 @@ length-link_row count listed r fits =
     let other = queue.text r.back.queue in
     omega (arith, length-append one (to_be_bytes w64 r.back.base ++ (to_be_bytes w64 r.back.got ++ other)), length-queue r.forth.queue, length-queue r.back.queue, fits.forth_short, fits.back_short)
 
+-- a client is itself, two numbers, a command and a kind
 length-client_row : (r : ClientRow) → length ((client_row 0 []).text r) ≤ 28
 unfolding client_row client from_one_to kind
 length-client_row r =

@@ -11,7 +11,8 @@ use Rattle.coord_codec.specs.Worlds.{world}
 use Rattle.coord_codec.proofs.WorldGrammars.{world_grammar}
 use Rattle.coord_codec.proofs.WorldRows.{rows_fit}
 
-pub world_fits : (w : World) → InRange w → world.Fits (rows_of w)
+-- a world in its ranges has a spelling
+world_fits : (w : World) → InRange w → world.Fits (rows_of w)
 world_fits w range = rows_fit (rows_of w) (rows_of_world_fit w range)
 
 pub worlds_prefix_free : WorldsArePrefixFree
