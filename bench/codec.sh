@@ -12,11 +12,11 @@ trap 'rm -rf "$scratch"' EXIT
 
 crate=$scratch/crates/codec_bench
 mkdir -p "$crate/src" "$crate/proofs/are_numbered"
-for name in coord_types coord_link coord_node coord_world coord_codec; do
+for name in coord_types coord_link coord_node coord_world coord_batch coord_codec; do
   cp -r "$here/crates/$name" "$scratch/crates/$name"
   grep "^$name:" "$here/crates.txt" >> "$scratch/crates.txt"
 done
-echo 'codec_bench: coord_types coord_codec coord_world' >> "$scratch/crates.txt"
+echo 'codec_bench: coord_types coord_world coord_batch coord_codec' >> "$scratch/crates.txt"
 for name in main fault samples; do
   cp "$here/bench/codec/$name.rt.txt" "$crate/src/$name.rt"
 done

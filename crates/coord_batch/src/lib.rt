@@ -1,2 +1,24 @@
-//! Formats, and batches of steps as bytes.
+//! Batches of steps as bytes, and the language of formats that they and worlds are described in.
+//!
+//! A `Format` (`specs/Format.antt`) says at once how a value is spelled, how it is read from the
+//! left, and which values have a spelling. `specs/Fields.antt` and `specs/Steps.antt` are the
+//! grammar of steps and batches in that language; `specs/Decoding.antt` says which fault is
+//! answered, and where; `specs/Batches.antt` says in plain ranges which batches have a spelling.
+//!
+//! `write_batch` gives the one spelling of a batch, and `read_batch` reads exactly the spellings.
+//! The laws stand on the functions of `laws` (`specs/Laws.antt`): no spelling begins another one,
+//! a spelling that is cut is `Short` at its length, and one with more behind it is `Extra` there.
+//! `Input`, `ReadError` and `put_command` are for crates that read and write other formats.
 #![tactic(auto)]
+
+mod batch;
+mod fault;
+mod input;
+pub mod laws;
+mod step_reading;
+mod step_writing;
+
+pub use batch::{Batch, MAX_BATCH_BYTES, MAX_BATCH_STEPS, MAX_STEPS, read_batch, write_batch};
+pub use fault::{CodecFault, FaultKind, Flaw, ReadError};
+pub use input::Input;
+pub use step_writing::{message_byte, put_command};

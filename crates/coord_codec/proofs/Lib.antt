@@ -1,12 +1,7 @@
-pub mod Grammars
-pub mod StepGrammars
-pub mod Loops
-pub mod Batched
-pub mod Decoded
 pub mod WorldGrammars
 pub mod Rising
 pub mod WorldTexts
 pub mod WorldRows
+pub mod Lengths
 pub mod WorldDecoded
-pub mod PrefixFree
-pub mod Worked
+pub mod SpellingLaws

@@ -4,25 +4,24 @@ use Rattle.std.specs.Prelude.{IfOk}
 use Rattle.coord_world.specs.NumberedWorld.{World}
 use Rattle.coord_world.specs.Parts.{rows_of}
 use Rattle.coord_world.specs.Ranges.{InRange}
-use Rattle.coord_world.proofs.Facade.{rows_of_world_fit}
-use Rattle.coord_world.proofs.Facade.{rows_give_world}
-use Rattle.coord_codec.specs.declared.fault.CodecFault.{CodecFault}
-use Rattle.coord_codec.specs.declared.fault.FaultKind.{FaultKind}
-use Rattle.coord_codec.specs.declared.fault.FaultKind.TheVariants.{OutOfMemory, Short, BadByte, Extra, BadVersion}
-use Rattle.coord_codec.specs.Decoding.{Answers, Unless, decoded}
+use Rattle.coord_world.proofs.Facade.{rows_give_world, rows_of_world_fit}
+use Rattle.coord_batch.specs.declared.fault.CodecFault.{CodecFault}
+use Rattle.coord_batch.specs.declared.fault.FaultKind.{FaultKind}
+use Rattle.coord_batch.specs.declared.fault.FaultKind.TheVariants.{OutOfMemory, Short, BadByte, Extra, BadVersion}
+use Rattle.coord_batch.specs.Decoding.{Answers, Unless, decoded}
 use Rattle.coord_codec.specs.Worlds.{world}
-use Rattle.coord_codec.proofs.Decoded.{answers_found, answers_only}
-use Rattle.coord_codec.proofs.Grammars.{IsBytes}
+use Rattle.coord_batch.proofs.Decoded.{answers_found, answers_only}
+use Rattle.coord_batch.proofs.Grammars.{IsBytes}
 use Rattle.coord_codec.proofs.WorldGrammars.{world_grammar}
 use Rattle.coord_codec.proofs.WorldRows.{rows_fit}
 
--- what is read is spelled so
-pub world_found : (version : ℕ) (bytes : List ℕ) (result : Result World CodecFault) → IsBytes bytes → Answers rows_of result (decoded world version bytes) → IfOk result (λ v. (version ≡ 1) × (bytes ≡ world.text (rows_of v)))
-world_found version bytes result fits answers = of_result result (answers_found world world_grammar version rows_of bytes result fits answers)
+-- what is read is in its ranges, and is spelled so
+pub world_found : (version : ℕ) (bytes : List ℕ) (result : Result World CodecFault) → IsBytes bytes → IfOk result InRange → Answers rows_of result (decoded world version bytes) → IfOk result (λ v. (version ≡ 1) × InRange v × (bytes ≡ world.text (rows_of v)))
+world_found version bytes result fits ranges answers = of_result result ranges (answers_found world world_grammar version rows_of bytes result fits answers)
   where
-    of_result : (r : Result World CodecFault) → IfOk r (λ v. (version ≡ 1) × world.Fits (rows_of v) × (bytes ≡ world.text (rows_of v))) → IfOk r (λ v. (version ≡ 1) × (bytes ≡ world.text (rows_of v)))
-    of_result (Ok v) found = (found.0, found.2)
-    of_result (Err e) found = tt
+    of_result : (r : Result World CodecFault) → IfOk r InRange → IfOk r (λ v. (version ≡ 1) × world.Fits (rows_of v) × (bytes ≡ world.text (rows_of v))) → IfOk r (λ v. (version ≡ 1) × InRange v × (bytes ≡ world.text (rows_of v)))
+    of_result (Ok v) range found = (found.0, range, found.2)
+    of_result (Err e) range found = tt
 
 -- what is said of every fault but want of memory, in other words
 weaker : (k : FaultKind) (P Q : Type 0) → (P → Q) → Unless k P → Unless k Q

@@ -1,5 +1,5 @@
 -- The formats of worlds are grammars.
-use Rattle.std.proofs.Common.{◌≡◌, ℕ, zero, suc, ◌<◌, ◌^◌, ◌&&◌, leb, ltb, List, [], refl, arith}
+use Rattle.std.proofs.Common.{◌≡◌, ℕ, zero, suc, ◌<◌, ◌^◌, leb, ltb, List, [], refl, arith}
 use Rattle.coord_types.specs.NodeMask.{nodes_of, mask_of}
 use Rattle.coord_types.specs.NodeState.{mode_from, mode_number}
 use Rattle.coord_types.specs.declared.steps.Command.{Command}
@@ -8,25 +8,13 @@ use Rattle.coord_world.specs.Ranges.{answers}
 use Rattle.coord_world.specs.declared.parts.NodeRow.{NodeRow}
 use Rattle.coord_world.specs.declared.parts.LinkRow.{LinkRow}
 use Rattle.coord_world.specs.declared.parts.ClientRow.{ClientRow}
-use Rattle.coord_codec.specs.Format.{byte, u64, such_that}
-use Rattle.coord_codec.specs.Fields.{node, client, message}
-use Rattle.coord_codec.specs.Worlds.{at_most, can_link, client_row, clients, ends, first_rises, from_one_to, how_many, kind, kind_from, kind_number, lane, last_by, link_row, links, mask, mode, node_row, nodes, parent, parent_from, parent_number, queue, second_rises, world}
-use Rattle.coord_codec.proofs.Grammars.{IsGrammar, byte_grammar, u64_grammar, such_grammar, followed_grammar, made_grammar, counted_grammar}
-use Rattle.coord_codec.proofs.StepGrammars.{and_grammar, client_grammar, command_grammar, group_grammar, message_grammar, node_grammar}
+use Rattle.coord_batch.specs.Format.{byte, u64, such_that}
+use Rattle.coord_batch.specs.Fields.{node, client, message}
+use Rattle.coord_codec.specs.Worlds.{can_link, client_row, clients, ends, first_rises, kind, kind_from, kind_number, lane, last_by, link_row, links, mask, mode, node_row, nodes, parent, parent_from, parent_number, queue, second_rises, world}
+use Rattle.coord_batch.proofs.Grammars.{IsGrammar, byte_grammar, u64_grammar, such_grammar, followed_grammar, made_grammar, counted_grammar}
+use Rattle.coord_batch.proofs.StepGrammars.{and_grammar, at_most_grammar, client_grammar, command_grammar, from_one_to_grammar, group_grammar, how_many_grammar, message_grammar, node_grammar}
 
 -- ---- fields
-
-pub at_most_grammar : (most : ℕ) → IsGrammar (at_most most)
-unfolding at_most
-at_most_grammar most = such_grammar (λ n. leb n most) u64 u64_grammar
-
-from_one_to_grammar : (most : ℕ) → IsGrammar (from_one_to most)
-unfolding from_one_to
-from_one_to_grammar most = such_grammar (λ n. leb 1 n && leb n most) u64 u64_grammar
-
-how_many_grammar : (most : ℕ) → IsGrammar (how_many most)
-unfolding how_many
-how_many_grammar most = such_grammar (λ n. leb n most) byte byte_grammar
 
 mode_again : (n : ℕ) → n < 3 → mode_number (mode_from n) ≡ n
 mode_again zero below = refl

@@ -23,37 +23,14 @@ use Rattle.coord_world.specs.declared.parts.NodeRow.{NodeRow}
 use Rattle.coord_world.specs.declared.parts.LinkRow.{LinkRow}
 use Rattle.coord_world.specs.declared.parts.ClientRow.{ClientRow}
 use Rattle.coord_world.proofs.Facade.{all_weaker}
-use Rattle.coord_codec.specs.Fields.{message}
-use Rattle.coord_codec.specs.Format.{FitBehind}
-use Rattle.coord_codec.specs.Worlds.{at_most, client_row, clients, ends, from_one_to, how_many, kind, lane, last_by, last_ends, link_row, links, mask, mode, node_row, nodes, parent, queue, same_group, world}
-use Rattle.coord_codec.proofs.Batched.{client_fits, client_in_range, command_fits, command_in_range, group_fits, group_in_range, message_fits, node_fits, node_in_range}
+use Rattle.coord_batch.specs.Fields.{message}
+use Rattle.coord_batch.specs.Format.{FitBehind}
+use Rattle.coord_codec.specs.Worlds.{client_row, clients, ends, kind, lane, last_by, last_ends, link_row, links, mask, mode, node_row, nodes, parent, queue, same_group, world}
+use Rattle.coord_batch.proofs.Batched.{command_fits, command_in_range}
+use Rattle.coord_batch.proofs.FieldRanges.{at_most_fits, at_most_in_range, client_fits, client_in_range, from_one_to_fits, from_one_to_in_range, group_fits, group_in_range, how_many_fits, how_many_in_range, message_fits, node_fits, node_in_range}
 use Rattle.coord_codec.proofs.Rising.{RiseFrom, above_zero, both, few_keys, last_push, rise_of_sorted, sorted_of_rise}
 
 -- ---- fields
-
-within : (most n : ℕ) → (at_most most).Fits n → n ≤ most
-unfolding at_most
-within most n fits = grind (arith, nat_tests, fits.1)
-
-fit_within : (most n : ℕ) → most < 2 ^ 64 → n ≤ most → (at_most most).Fits n
-unfolding at_most
-fit_within most n small few = (omega (arith, small, few), grind (arith, nat_tests, few))
-
-counted_on : (most n : ℕ) → (from_one_to most).Fits n → (1 ≤ n) × (n ≤ most)
-unfolding from_one_to
-counted_on most n fits = (grind (arith, nat_tests, fits.1), grind (arith, nat_tests, fits.1))
-
-fit_counted : (most n : ℕ) → most < 2 ^ 64 → 1 ≤ n → n ≤ most → (from_one_to most).Fits n
-unfolding from_one_to
-fit_counted most n small least few = (omega (arith, small, few), grind (arith, nat_tests, least, few))
-
-no_more : (most n : ℕ) → (how_many most).Fits n → n ≤ most
-unfolding how_many
-no_more most n fits = grind (arith, nat_tests, fits.1)
-
-fit_many : (most n : ℕ) → most < 256 → n ≤ most → (how_many most).Fits n
-unfolding how_many
-fit_many most n small few = (omega (arith, small, few), grind (arith, nat_tests, few))
 
 mode_fits : (m : Mode) → mode.Fits m
 unfolding mode
@@ -105,8 +82,8 @@ module _ (count : ℕ) where
           group_greatest = (group_in_range p.1.0 f.1.0).1;
           parent = parent_in_range p.1.1.1.0 f.1.1.1.0;
           pend = mask_in_range p.1.1.1.1.0 f.1.1.1.1.0;
-          epoch = within count p.1.1.1.1.1.0 f.1.1.1.1.1.0;
-          confirmed = within count p.1.1.1.1.1.1 f.1.1.1.1.1.1;
+          epoch = at_most_in_range count p.1.1.1.1.1.0 f.1.1.1.1.1.0;
+          confirmed = at_most_in_range count p.1.1.1.1.1.1 f.1.1.1.1.1.1;
         },
         grind (arith, nat_tests, f.0.1),
       )
@@ -117,7 +94,7 @@ module _ (count : ℕ) where
     (r.id, (r.group, (r.mode, (r.parent, (r.pend, (r.epoch, r.confirmed)))))),
     (
       (node_fits r.id (range.least, range.greatest), grind (arith, nat_tests, above)),
-      (group_fits r.group range.group_least range.group_greatest, (mode_fits r.mode, (parent_fits r.parent range.parent, (mask_fits r.pend range.pend, (fit_within count r.epoch small range.epoch, fit_within count r.confirmed small range.confirmed))))),
+      (group_fits r.group range.group_least range.group_greatest, (mode_fits r.mode, (parent_fits r.parent range.parent, (mask_fits r.pend range.pend, (at_most_fits count r.epoch small range.epoch, at_most_fits count r.confirmed small range.confirmed))))),
     ),
     refl,
   )
@@ -204,7 +181,7 @@ listed_node count (r ∷ rs) u g all is = elim (eqb u r.id) as (λ t. eqb u r.id
 
 queue_in : (ms : List Msg) → queue.Fits ms → length ms ≤ 4
 unfolding queue
-queue_in ms fits = no_more 4 (length ms) fits.0
+queue_in ms fits = how_many_in_range 4 (length ms) fits.0
 
 each_message : (front ms : List Msg) → FitBehind (λ _. message) front ms
 unfolding FitBehind
@@ -213,7 +190,7 @@ each_message front (m ∷ ms) = (message_fits m, each_message (front ++ m ∷ []
 
 queue_fits : (ms : List Msg) → length ms ≤ 4 → queue.Fits ms
 unfolding queue
-queue_fits ms few = (fit_many 4 (length ms) (omega arith) few, each_message [] ms)
+queue_fits ms few = (how_many_fits 4 (length ms) (omega arith) few, each_message [] ms)
 
 module _ (count : ℕ) (listed : List NodeRow) where
   -- what a link's row says, and what it says of those before it
@@ -225,7 +202,7 @@ module _ (count : ℕ) (listed : List NodeRow) where
 
   lane_in : (inc base got : ℕ) (ms : List Msg) → (1 ≤ inc) × (inc ≤ count) → (lane count).Fits (base, (got, ms)) → LaneInRange count (record { inc = inc; base = base; got = got; queue = ms }) × (length ms ≤ 4)
   unfolding lane
-  lane_in inc base got ms made fits = (record { made = made.0; inc = made.1; base = within count base fits.0; got = within count got fits.1.0 }, queue_in ms fits.1.1)
+  lane_in inc base got ms made fits = (record { made = made.0; inc = made.1; base = at_most_in_range count base fits.0; got = at_most_in_range count got fits.1.0 }, queue_in ms fits.1.1)
 
   link_row_in : (front : List LinkRow) (r : LinkRow) → (link_row count listed front).Fits r → LinkedRow front r
   unfolding link_row
@@ -233,7 +210,7 @@ module _ (count : ℕ) (listed : List NodeRow) where
       let p = fits.0 in
       let f = fits.1 in
       let linked = ends_in listed front p.0.0 p.0.1 f.0 in
-      let made = counted_on count p.1.0 f.1.0 in
+      let made = from_one_to_in_range count p.1.0 f.1.0 in
       let forth = lane_in p.1.0 p.1.1.0.0 p.1.1.0.1.0 p.1.1.0.1.1 made f.1.1.0 in
       let back = lane_in p.1.0 p.1.1.1.0 p.1.1.1.1.0 p.1.1.1.1.1 made f.1.1.1 in
       subst (LinkedRow front) (sym fits.2) (record {
@@ -254,7 +231,7 @@ module _ (count : ℕ) (listed : List NodeRow) where
   module _ (small : count < 2 ^ 64) (all : AllByRecursion (NodeRowFits count) listed) where
     lane_fits : (l : Lane) → LaneInRange count l → length l.queue ≤ 4 → (lane count).Fits (l.base, (l.got, l.queue))
     unfolding lane
-    lane_fits l range few = (fit_within count l.base small range.base, (fit_within count l.got small range.got, queue_fits l.queue few))
+    lane_fits l range few = (at_most_fits count l.base small range.base, (at_most_fits count l.got small range.got, queue_fits l.queue few))
 
     link_row_fits : (front : List LinkRow) (r : LinkRow) → LinkedRow front r → (link_row count listed front).Fits r
     unfolding link_row
@@ -272,7 +249,7 @@ module _ (count : ℕ) (listed : List NodeRow) where
               first_room = row.first_room;
               second_room = row.second_room;
             }),
-            (fit_counted count r.forth.inc small range.forth.made range.forth.inc, (lane_fits r.forth range.forth range.forth_short, lane_fits r.back range.back range.back_short)),
+            (from_one_to_fits count r.forth.inc small range.forth.made range.forth.inc, (lane_fits r.forth range.forth range.forth_short, lane_fits r.back range.back range.back_short)),
           ),
           (λ i. record { a = r.a; b = r.b; forth = r.forth; back = record { inc = sym range.one_incarnation i; base = r.back.base; got = r.back.got; queue = r.back.queue } }),
         )
@@ -357,8 +334,8 @@ module _ (count : ℕ) where
       let p = fits.0 in
       let f = fits.1 in
       let id = client_in_range p.0 f.0.0 in
-      let number = counted_on count p.1.0 f.1.0 in
-      let step = counted_on count p.1.1.1.0 f.1.1.1.0 in
+      let number = from_one_to_in_range count p.1.0 f.1.0 in
+      let step = from_one_to_in_range count p.1.1.1.0 f.1.1.1.0 in
       subst (λ s. ClientRowFits count s × (is_lt (nat_cmp (last_by client_key 0 front) s.client) ≡ true)) (sym fits.2) (
         record {
           least = id.0;
@@ -379,7 +356,7 @@ module _ (count : ℕ) where
     (r.client, (r.session.number, (r.session.command, (r.session.reply.step, r.session.reply.kind)))),
     (
       (client_fits r.client range.least range.greatest, grind (arith, nat_tests, above)),
-      (fit_counted count r.session.number small range.first range.last, (command_fits r.session.command range.ordered, (fit_counted count r.session.reply.step small range.replied range.replied_by, kind_fits r.session.command r.session.reply.kind range.answered))),
+      (from_one_to_fits count r.session.number small range.first range.last, (command_fits r.session.command range.ordered, (from_one_to_fits count r.session.reply.step small range.replied range.replied_by, kind_fits r.session.command r.session.reply.kind range.answered))),
     ),
     refl,
   )
@@ -420,13 +397,13 @@ rows_in r fits =
     let linked = links_in p.0 p.1.0 [] p.1.1.0 (λ u. omega arith) f.1.1.0.1 in
     let known = clients_in p.0 [] p.1.1.1 f.1.1.1.1 in
     subst RowsFit (sym fits.2) (record {
-      count = within (2 ^ 40) p.0 f.0;
+      count = at_most_in_range (2 ^ 40) p.0 f.0;
       nodes_rise = (sorted_of_rise node_key nat_cmp_total 0 p.1.0 listed.1).1;
       nodes = listed.0;
       links_rise = (sorted_of_rise link_key pair_cmp_total (0, 0) p.1.1.0 linked.rise).1;
       links = linked.ranges;
       degrees = linked.degrees;
-      most_links = no_more 128 (length p.1.1.0) f.1.1.0.0;
+      most_links = how_many_in_range 128 (length p.1.1.0) f.1.1.0.0;
       clients_rise = (sorted_of_rise client_key nat_cmp_total 0 p.1.1.1 known.1).1;
       clients = known.0;
     })
@@ -457,12 +434,12 @@ module _ (r : Rows) (fit : RowsFit r) where
       } in (
         (r.count, (r.nodes, (r.links, r.clients))),
         (
-          fit_within (2 ^ 40) r.count (omega arith) fit.count,
+          at_most_fits (2 ^ 40) r.count (omega arith) fit.count,
           (
-            (fit_many 64 (length r.nodes) (omega arith) few_nodes, nodes_fit r.count small [] r.nodes fit.nodes (rise_of_sorted node_key nat_cmp_total 0 r.nodes nodes_above fit.nodes_rise)),
+            (how_many_fits 64 (length r.nodes) (omega arith) few_nodes, nodes_fit r.count small [] r.nodes fit.nodes (rise_of_sorted node_key nat_cmp_total 0 r.nodes nodes_above fit.nodes_rise)),
             (
-              (fit_many 128 (length r.links) (omega arith) fit.most_links, links_fit r.count r.nodes small fit.nodes [] r.links linked),
-              (fit_many 16 (length r.clients) (omega arith) few_clients, clients_fit r.count small [] r.clients fit.clients (rise_of_sorted client_key nat_cmp_total 0 r.clients clients_above fit.clients_rise)),
+              (how_many_fits 128 (length r.links) (omega arith) fit.most_links, links_fit r.count r.nodes small fit.nodes [] r.links linked),
+              (how_many_fits 16 (length r.clients) (omega arith) few_clients, clients_fit r.count small [] r.clients fit.clients (rise_of_sorted client_key nat_cmp_total 0 r.clients clients_above fit.clients_rise)),
             ),
           ),
         ),

@@ -1,19 +1,21 @@
--- The laws of spellings.
-use Rattle.std.specs.Prelude.{◌≡◌, ℕ, List, ◌++◌}
-use Rattle.coord_types.specs.declared.steps.Step.{Step}
+-- The laws of the spellings of worlds.
+use Rattle.std.specs.Prelude.{◌≡◌, ℕ, List, ◌∷◌, ◌++◌, length, Err}
 use Rattle.coord_world.specs.NumberedWorld.{World}
 use Rattle.coord_world.specs.Parts.{rows_of}
 use Rattle.coord_world.specs.Ranges.{InRange}
-use Rattle.coord_codec.specs.Batches.{IsBatch, StepFits, pair}
-use Rattle.coord_codec.specs.Steps.{batch, step}
+use Rattle.coord_batch.specs.Decoding.{decoded, fault_at}
+use Rattle.coord_batch.specs.declared.fault.FaultKind.TheVariants.{Short, Extra}
 use Rattle.coord_codec.specs.Worlds.{world}
 
--- no spelling begins another one, whatever stands behind them: of steps, of batches, and of worlds
-abbrev pub StepsArePrefixFree : Type 0
-StepsArePrefixFree = (s t : Step) (rest more : List ℕ) → StepFits s → StepFits t → step.text s ++ rest ≡ step.text t ++ more → (s ≡ t) × (rest ≡ more)
-
-abbrev pub BatchesArePrefixFree : Type 0
-BatchesArePrefixFree = (m n : ℕ) (ss ts : List Step) (rest more : List ℕ) → IsBatch m ss → IsBatch n ts → batch.text (pair m ss) ++ rest ≡ batch.text (pair n ts) ++ more → (pair m ss ≡ pair n ts) × (rest ≡ more)
-
+-- no spelling begins another one, whatever stands behind them
 abbrev pub WorldsArePrefixFree : Type 0
 WorldsArePrefixFree = (v w : World) (rest more : List ℕ) → InRange v → InRange w → world.text (rows_of v) ++ rest ≡ world.text (rows_of w) ++ more → (v ≡ w) × (rest ≡ more)
+
+-- the front of a spelling, where at least a byte is missing, is Short at its own length
+abbrev pub CutWorldsAreShort : Type 0
+CutWorldsAreShort = (w : World) (front rest : List ℕ) (b : ℕ) → InRange w → world.text (rows_of w) ≡ front ++ b ∷ rest → decoded world 1 front ≡ Err (fault_at Short (length front))
+
+-- a spelling with at least a byte behind it is Extra at the length of the spelling
+abbrev pub BytesBehindWorldsAreExtra : Type 0
+BytesBehindWorldsAreExtra = (w : World) (rest : List ℕ) (b : ℕ) → InRange w →
+    decoded world 1 (world.text (rows_of w) ++ b ∷ rest) ≡ Err (fault_at Extra (length (world.text (rows_of w))))

@@ -1,10 +1,2 @@
-pub mod Faults
-pub mod Format
-pub mod Reading
-pub mod Decoding
-pub mod Fields
-pub mod Steps
-pub mod Batches
 pub mod Worlds
 pub mod Laws
-pub mod WorkedBytes

@@ -14,21 +14,11 @@ use Rattle.coord_world.specs.Parts.{Rows, group_of, degree}
 use Rattle.coord_world.specs.declared.parts.NodeRow.{NodeRow}
 use Rattle.coord_world.specs.declared.parts.LinkRow.{LinkRow}
 use Rattle.coord_world.specs.declared.parts.ClientRow.{ClientRow}
-use Rattle.coord_codec.specs.Format.{Format, byte, u64, such_that, followed, ◌&◌, made, counted}
-use Rattle.coord_codec.specs.Fields.{node, group, client, message}
-use Rattle.coord_codec.specs.Steps.{command}
+use Rattle.coord_batch.specs.Format.{Format, byte, u64, such_that, followed, ◌&◌, made, counted}
+use Rattle.coord_batch.specs.Fields.{node, group, client, message, at_most, from_one_to, how_many}
+use Rattle.coord_batch.specs.Steps.{command}
 
 -- ---- fields
-
-unfoldable pub at_most : ℕ → Format ℕ
-at_most most = such_that (λ n. nat_le n most) u64
-
-unfoldable pub from_one_to : ℕ → Format ℕ
-from_one_to most = such_that (λ n. nat_le 1 n && nat_le n most) u64
-
--- how many items there are, in a byte
-unfoldable pub how_many : ℕ → Format ℕ
-how_many most = such_that (λ n. nat_le n most) byte
 
 -- 0 Ready, 1 Abort, 2 Converge
 unfoldable pub mode : Format Mode

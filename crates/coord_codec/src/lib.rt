@@ -1,20 +1,23 @@
-//! The bytes of batches of steps and of worlds: what goes to the disk, and what is read from it.
+//! Worlds as bytes: what a snapshot holds, and what is read from it. Batches come from coord_batch.
+//!
+//! `specs/Worlds.antt` is the grammar of worlds, in the language of formats of coord_batch, over
+//! the rows of a world (`Rows` of coord_world). Each row's format depends on the rows before it,
+//! so that order, ends, groups and degrees are judged where they are read.
+//!
+//! `write_world` gives the one spelling of a world, and `read_world` reads exactly the spellings:
+//! its world is in its ranges, and need not be legal. The laws stand on the functions of `laws`
+//! (`specs/Laws.antt`): no spelling begins another one, a spelling that is cut is `Short` at its
+//! length, and one with more behind it is `Extra` there.
 #![tactic(auto)]
 
-mod batch;
-mod fault;
-mod input;
 pub mod laws;
 mod row_search;
-mod step_reading;
-mod step_writing;
 mod world;
 mod world_reading;
 mod world_writing;
 
-pub use batch::{Batch, MOST_STEPS, read_batch, write_batch};
-pub use fault::{CodecFault, FaultKind};
-pub use world::{read_world, write_world};
-
-#[cfg(test)]
-mod tests;
+pub use coord_batch::{
+    Batch, CodecFault, FaultKind, MAX_BATCH_BYTES, MAX_BATCH_STEPS, MAX_STEPS, read_batch,
+    write_batch,
+};
+pub use world::{MAX_WORLD_BYTES, read_world, write_world};

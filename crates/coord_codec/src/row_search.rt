@@ -9,7 +9,7 @@ use coord_types::{Group, NodeId};
 use coord_world::{ClientRow, LinkRow, NodeRow};
 
 /// The most links of a node.
-const MOST_DEGREE: usize = 16;
+const MAX_DEGREE: usize = 16;
 
 /// The number of the last node, or 0.
 pub fn last_node(rows: &[NodeRow]) -> u8
@@ -94,5 +94,5 @@ pub fn can_link(nodes: &[NodeRow], front: &[LinkRow], a: NodeId, b: NodeId) -> b
         (Some(first), Some(second)) => first == second,
         _ => false,
     };
-    one_group && degree(front, a) < MOST_DEGREE && degree(front, b) < MOST_DEGREE
+    one_group && degree(front, a) < MAX_DEGREE && degree(front, b) < MAX_DEGREE
 }

@@ -1,28 +1,32 @@
 //! Worlds as bytes.
 
-ghost use Rattle.std.specs.Prelude.{◌≡◌, ◌++◌, Ok, IfOk, OnOk};
+ghost use Rattle.std.specs.Prelude.{◌≡◌, ◌↔◌, ◌≤◌, ◌++◌, length, Ok, Err, IfOk, OnOk};
 ghost use Rattle.coord_world.specs.NumberedWorld.{World as Numbered};
 ghost use Rattle.coord_world.specs.Parts.{RowsFit, listed, rows_of};
 ghost use Rattle.coord_world.specs.Ranges.{InRange};
-ghost use Rattle.coord_codec.specs.Decoding.{Answers, decoded};
+ghost use Rattle.coord_batch.specs.Decoding.{Answers, bad_version, decoded};
 ghost use Rattle.coord_codec.specs.Worlds.{world};
 
-use crate::fault::{CodecFault, ReadError};
-use crate::input::Input;
+use crate::world_reading::read_parts;
 use crate::world_writing::{put_clients, put_links, put_nodes};
+use coord_batch::{CodecFault, Input, ReadError};
 use coord_world::{Parts, World};
 use std::alloc::{AllocError, Global};
+
+/// The most bytes that a world may have on a disk. Those of version 1 have at most 8,907.
+pub const MAX_WORLD_BYTES: usize = 16384;
 
 /// The rows that all of the bytes spell.
 fn decode(alloc: Global, version: u8, bytes: &[u8]) -> Result<Parts, CodecFault>
     ensures exact { Answers (λ p. listed p) result (decoded world version bytes.now) }
+    ensures version { ¬ (version ≡ 1) → result ≡ Err bad_version }
     ensures fit { IfOk result (λ p. RowsFit (listed p)) }
 {
     if version != 1 {
         return Err(CodecFault::bad_version());
     }
     let mut input = Input::new(bytes);
-    match input.world(alloc) {
+    match read_parts(&mut input, alloc) {
         Err(error) => Err(error.placed(bytes.len())),
         Ok(_) if input.left() > 0 => Err(ReadError::extra(input.left()).placed(bytes.len())),
         Ok(parts) => Ok(parts),
@@ -32,6 +36,7 @@ fn decode(alloc: Global, version: u8, bytes: &[u8]) -> Result<Parts, CodecFault>
 /// The world that has the rows that are read.
 fn assembled(alloc: Global, version: u8, bytes: &[u8]) -> Result<World, CodecFault>
     ensures exact { Answers rows_of result (decoded world version bytes.now) }
+    ensures version { ¬ (version ≡ 1) → result ≡ Err bad_version }
     ensures ranges { IfOk result (λ w. InRange w) }
 {
     match decode(alloc, version, bytes) {
@@ -47,10 +52,12 @@ fn assembled(alloc: Global, version: u8, bytes: &[u8]) -> Result<World, CodecFau
 /// (docs/FORMATS.md, "Worlds"). It need not be legal.
 pub fn read_world(alloc: Global, version: u8, bytes: &[u8]) -> Result<World, CodecFault>
     // What is read is spelled so.
-    ensures found { IfOk result (λ w. (version ≡ 1) × (bytes.now ≡ world.text (rows_of w))) }
+    ensures found { IfOk result (λ w. (version ≡ 1) × InRange w × (bytes.now ≡ world.text (rows_of w))) }
     // What spells a world is read as that world, unless memory runs out.
     ensures only { (w : Numbered) → version ≡ 1 → InRange w → bytes.now ≡ world.text (rows_of w)
         → Answers (λ v. v) result (Ok w) }
+    // Another version is told also where memory is short.
+    ensures version { (result ≡ Err bad_version) ↔ ¬ (version ≡ 1) }
     // Which fault it is, and where.
     ensures exact { Answers rows_of result (decoded world version bytes.now) }
 {
@@ -59,7 +66,8 @@ pub fn read_world(alloc: Global, version: u8, bytes: &[u8]) -> Result<World, Cod
 
 /// The one spelling of a world, in version 1.
 pub fn write_world(alloc: Global, written: &World) -> Result<Vec<u8>, AllocError>
-    ensures { IfOk result (λ v. v.items ≡ world.text (rows_of written.now)) }
+    ensures spelled { IfOk result (λ v. v.items ≡ world.text (rows_of written.now)) }
+    ensures len { IfOk result (λ v. length v.items ≤ MAX_WORLD_BYTES) }
 {
     let parts = written.parts()?;
     let mut out = Vec::new(alloc);

@@ -3,11 +3,11 @@
 ghost use Rattle.std.specs.Prelude.{◌≡◌, ◌≤◌, ◌++◌, [], ◌∷◌, length, OnOk};
 ghost use Rattle.std.specs.List.{flat_map};
 ghost use Rattle.std.specs.Int.{w64, to_be_bytes};
-ghost use Rattle.coord_codec.specs.Fields.{message};
+ghost use Rattle.coord_batch.specs.Fields.{message};
 ghost use Rattle.coord_codec.specs.Worlds.{client_row, clients, content_of_lane, kind_number, lane, link_row, links, node_row, nodes, parent_number, queue};
 ghost use Rattle.coord_types.specs.NodeState.{mode_number};
 
-use crate::step_writing::{message_byte, put_command};
+use coord_batch::{message_byte, put_command};
 use coord_link::Lane;
 use coord_types::{Kind, Mode, Msg, NodeId};
 use coord_world::{ClientRow, LinkRow, NodeRow};
@@ -58,7 +58,7 @@ fn put_node_bytes(out: &mut Vec<u8>, row: &NodeRow) -> Result<(), AllocError>
     Ok(())
 }
 
-#[tactic(auto, using(std::proofs::Common::append_assoc), unfolding(crate::specs::Worlds::node_row, crate::specs::Worlds::mode, crate::specs::Worlds::parent, crate::specs::Worlds::mask, crate::specs::Worlds::at_most, crate::specs::Fields::node, crate::specs::Fields::group))]
+#[tactic(auto, using(std::proofs::Common::append_assoc), unfolding(crate::specs::Worlds::node_row, crate::specs::Worlds::mode, crate::specs::Worlds::parent, crate::specs::Worlds::mask, coord_batch::specs::Fields::at_most, coord_batch::specs::Fields::node, coord_batch::specs::Fields::group))]
 fn put_node_row(out: &mut Vec<u8>, row: &NodeRow) -> Result<(), AllocError>
     ensures { OnOk result (out.new.items ≡ out.old.items ++ (node_row 0 []).text row.now) }
 {
@@ -67,7 +67,7 @@ fn put_node_row(out: &mut Vec<u8>, row: &NodeRow) -> Result<(), AllocError>
     put_numbers(out, row.epoch, row.confirmed)
 }
 
-#[tactic(auto, unfolding(crate::specs::Fields::message))]
+#[tactic(auto, unfolding(coord_batch::specs::Fields::message))]
 fn put_messages(out: &mut Vec<u8>, queue: &[Msg]) -> Result<(), AllocError>
     ensures { OnOk result (out.new.items ≡ out.old.items ++ flat_map message.text queue.now) }
 {
@@ -77,7 +77,7 @@ fn put_messages(out: &mut Vec<u8>, queue: &[Msg]) -> Result<(), AllocError>
     Ok(())
 }
 
-#[tactic(auto, using(std::proofs::Common::append_assoc), unfolding(crate::specs::Worlds::queue, crate::specs::Worlds::how_many))]
+#[tactic(auto, using(std::proofs::Common::append_assoc), unfolding(crate::specs::Worlds::queue, coord_batch::specs::Fields::how_many))]
 fn put_queue(out: &mut Vec<u8>, messages: &[Msg]) -> Result<(), AllocError>
     requires { length messages.now ≤ 4 }
     ensures { OnOk result (out.new.items ≡ out.old.items ++ queue.text messages.now) }
@@ -103,7 +103,7 @@ fn put_lane(out: &mut Vec<u8>, put: &Lane) -> Result<(), AllocError>
     Ok(())
 }
 
-#[tactic(auto, using(std::proofs::Common::append_assoc), unfolding(crate::specs::Worlds::link_row, crate::specs::Worlds::ends, crate::specs::Worlds::from_one_to, crate::specs::Fields::node))]
+#[tactic(auto, using(std::proofs::Common::append_assoc), unfolding(crate::specs::Worlds::link_row, crate::specs::Worlds::ends, coord_batch::specs::Fields::from_one_to, coord_batch::specs::Fields::node))]
 fn put_link_row(out: &mut Vec<u8>, row: &LinkRow) -> Result<(), AllocError>
     ensures { OnOk result (out.new.items ≡ out.old.items ++ (link_row 0 [] []).text row.now) }
 {
@@ -114,7 +114,7 @@ fn put_link_row(out: &mut Vec<u8>, row: &LinkRow) -> Result<(), AllocError>
     put_lane(out, &row.back)
 }
 
-#[tactic(auto, using(std::proofs::Common::append_assoc), unfolding(crate::specs::Worlds::client_row, crate::specs::Worlds::kind, crate::specs::Worlds::from_one_to, crate::specs::Fields::client))]
+#[tactic(auto, using(std::proofs::Common::append_assoc), unfolding(crate::specs::Worlds::client_row, crate::specs::Worlds::kind, coord_batch::specs::Fields::from_one_to, coord_batch::specs::Fields::client))]
 fn put_client_row(out: &mut Vec<u8>, row: &ClientRow) -> Result<(), AllocError>
     ensures { OnOk result (out.new.items ≡ out.old.items ++ (client_row 0 []).text row.now) }
 {
@@ -127,7 +127,7 @@ fn put_client_row(out: &mut Vec<u8>, row: &ClientRow) -> Result<(), AllocError>
     Ok(())
 }
 
-#[tactic(auto, using(std::proofs::Common::append_assoc), unfolding(crate::specs::Worlds::nodes, crate::specs::Worlds::how_many))]
+#[tactic(auto, using(std::proofs::Common::append_assoc), unfolding(crate::specs::Worlds::nodes, coord_batch::specs::Fields::how_many))]
 pub fn put_nodes(out: &mut Vec<u8>, rows: &[NodeRow]) -> Result<(), AllocError>
     requires { length rows.now ≤ 255 }
     ensures { OnOk result (out.new.items ≡ out.old.items ++ (nodes 0).text rows.now) }
@@ -139,7 +139,7 @@ pub fn put_nodes(out: &mut Vec<u8>, rows: &[NodeRow]) -> Result<(), AllocError>
     Ok(())
 }
 
-#[tactic(auto, using(std::proofs::Common::append_assoc), unfolding(crate::specs::Worlds::links, crate::specs::Worlds::how_many))]
+#[tactic(auto, using(std::proofs::Common::append_assoc), unfolding(crate::specs::Worlds::links, coord_batch::specs::Fields::how_many))]
 pub fn put_links(out: &mut Vec<u8>, rows: &[LinkRow]) -> Result<(), AllocError>
     requires { length rows.now ≤ 255 }
     ensures { OnOk result (out.new.items ≡ out.old.items ++ (links 0 []).text rows.now) }
@@ -151,7 +151,7 @@ pub fn put_links(out: &mut Vec<u8>, rows: &[LinkRow]) -> Result<(), AllocError>
     Ok(())
 }
 
-#[tactic(auto, using(std::proofs::Common::append_assoc), unfolding(crate::specs::Worlds::clients, crate::specs::Worlds::how_many))]
+#[tactic(auto, using(std::proofs::Common::append_assoc), unfolding(crate::specs::Worlds::clients, coord_batch::specs::Fields::how_many))]
 pub fn put_clients(out: &mut Vec<u8>, rows: &[ClientRow]) -> Result<(), AllocError>
     requires { length rows.now ≤ 255 }
     ensures { OnOk result (out.new.items ≡ out.old.items ++ (clients 0).text rows.now) }

@@ -5,4 +5,5 @@ pub mod NodeSet
 pub mod NodeMask
 pub mod Messages
 pub mod NodeState
+pub mod StepRanges
 pub mod IdealWorld

@@ -2,6 +2,7 @@
 
 ghost use Rattle.std.specs.Prelude.{◌≡◌, Some};
 ghost use Rattle.coord_types.specs.Names.{kind_name};
+ghost use Rattle.coord_types.specs.StepRanges.{CommandInRange, StepInRange};
 
 use crate::client::Client;
 use crate::group::Group;
@@ -26,6 +27,31 @@ pub enum Command {
     Confirm(NodeId, u64),
 }
 
+impl Command {
+    /// Says of a command's numbers what their types promise, and computes nothing: a contract sees
+    /// a `NodeId` or a `Group` as a plain number, and learns its range only from a reading of it.
+    pub fn within_ranges(&self)
+        ensures { CommandInRange self.now }
+    {
+        match *self {
+            Command::Add(id, group) => {
+                id.number();
+                group.number();
+            }
+            Command::Remove(id) | Command::Reset(id) => {
+                id.number();
+            }
+            Command::Confirm(id, _epoch) => {
+                id.number();
+            }
+            Command::Join(a, b) | Command::Drop(a, b) => {
+                a.number();
+                b.number();
+            }
+        }
+    }
+}
+
 /// One step of a world.
 #[derive(Clone, Copy, Debug, PartialEq, Eq)]
 pub enum Step {
@@ -35,6 +61,18 @@ pub enum Step {
     Take(DataPacket),
     /// A sender clears the message that this receipt names.
     Clear(ReceiptPacket),
+}
+
+impl Step {
+    /// Says of a step's numbers what their types promise, and computes nothing.
+    pub fn within_ranges(&self)
+        ensures { StepInRange self.now }
+    {
+        if let Step::Order(client, _, command) = *self {
+            client.number();
+            command.within_ranges();
+        }
+    }
 }
 
 /// What became of a step.

@@ -1,4 +1,5 @@
 mod Cases
+mod release
 mod acceptance
 mod deeds
 mod lanes
@@ -6,7 +7,6 @@ mod legal
 mod listings
 mod lists
 mod ranges
-mod release
 mod view
 mod waves
 mod WorkedRuns

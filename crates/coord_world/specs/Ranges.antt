@@ -1,35 +1,17 @@
 -- The ranges of a world, which its type keeps: what is true of every world by its form, legal or not.
-use Rattle.std.specs.Prelude.{◌≡◌, ℕ, ◌^◌, ◌≤◌, ◌<◌, Bool, true, false, Some, length}
+use Rattle.std.specs.Prelude.{◌≡◌, ℕ, ◌^◌, ◌≤◌, Bool, true, false, Some, length}
 use Rattle.coord_types.specs.NodeSet as set
 use Rattle.coord_types.specs.NodeMask.{IsMaskable}
 use Rattle.coord_types.specs.Table.{get, has, len}
 use Rattle.coord_types.specs.NodeState.{NodeState}
+pub use Rattle.coord_types.specs.StepRanges.{IsNode, CommandInRange, StepInRange}
 use Rattle.coord_types.specs.declared.steps.Session.{Session}
 use Rattle.coord_types.specs.declared.steps.Command.{Command}
-use Rattle.coord_types.specs.declared.steps.Command.TheVariants.{Add, Remove, Join, Drop, Reset, Confirm}
-use Rattle.coord_types.specs.declared.steps.Step.{Step}
-use Rattle.coord_types.specs.declared.steps.Step.TheVariants.{Order, Take, Clear}
+use Rattle.coord_types.specs.declared.steps.Command.TheVariants.{Reset}
 use Rattle.coord_types.specs.declared.steps.Kind.{Kind}
 use Rattle.coord_types.specs.declared.steps.Kind.TheVariants.{Done, Started, Finished, Joined}
 use Rattle.coord_link.specs.LaneMachine.{Lane}
 use Rattle.coord_world.specs.NumberedWorld.{World, row, is_linked}
-
--- the numbers of a command and of a step, which their types keep within these ranges
-abbrev pub IsNode : ℕ → Type 0
-IsNode u = (1 ≤ u) × (u ≤ 64)
-
-abbrev pub CommandInRange : Command → Type 0
-CommandInRange (Add u g) = IsNode u × (1 ≤ g) × (g ≤ 16)
-CommandInRange (Remove u) = IsNode u
-CommandInRange (Join a b) = IsNode a × IsNode b
-CommandInRange (Drop a b) = IsNode a × IsNode b
-CommandInRange (Reset u) = IsNode u
-CommandInRange (Confirm u e) = IsNode u × (e < 2 ^ 64)
-
-abbrev pub StepInRange : Step → Type 0
-StepInRange (Order c n x) = (1 ≤ c) × (c ≤ 16) × CommandInRange x
-StepInRange (Take p) = Unit {0}
-StepInRange (Clear p) = Unit {0}
 
 pub record NodeInRange (count u : ℕ) (r : NodeState) : Type 0 where
   pub least : 1 ≤ u

@@ -10,7 +10,7 @@ ghost use Rattle.coord_world.specs.Next.{next, reply};
 ghost use Rattle.coord_world.specs.Acceptance.{accepts, IsFresh};
 ghost use Rattle.coord_world.specs.Outputs.{outputs, again};
 ghost use Rattle.coord_world.specs.Legal.{Legal};
-ghost use Rattle.coord_world.specs.Ranges.{CommandInRange, InRange, StepInRange};
+ghost use Rattle.coord_world.specs.Ranges.{InRange};
 ghost use Rattle.coord_world.specs.Parts.{RowsFit, listed, rows_of};
 
 use crate::draft::Draft;
@@ -18,7 +18,7 @@ use crate::parts::Parts;
 use crate::verdicts::Verdict;
 use coord_link::Lane;
 use coord_node::Node;
-use coord_types::{Client, Command, NodeId, Output, Refusal, Reply, Session, Step};
+use coord_types::{Client, NodeId, Output, Refusal, Reply, Session, Step};
 use std::alloc::{AllocError, Global};
 use std::marker::Model;
 
@@ -147,7 +147,7 @@ impl World {
         ensures legal { Legal self.new }
         ensures err { OnErr result (self.new ≡ self.old) }
     {
-        within_ranges(step);
+        step.within_ranges();
         let (draft, outcome) = self.draft.after(self.alloc, step)?;
         self.draft = draft;
         Ok(outcome)
@@ -159,40 +159,5 @@ impl World {
         ensures { IfOk result (λ outputs. outputs.items ≡ again self.now) }
     {
         self.draft.again(self.alloc)
-    }
-}
-
-/// Says of a step's numbers what their types promise: a contract sees a `NodeId`, a `Group` or a
-/// `Client` as a plain number, and learns its range only from a reading of it.
-fn within_ranges(step: &Step)
-    ensures { StepInRange step.now }
-{
-    if let Step::Order(client, _, command) = *step {
-        client.number();
-        command_within_ranges(&command);
-    }
-}
-
-fn command_within_ranges(command: &Command)
-    ensures { CommandInRange command.now }
-{
-    match *command {
-        Command::Add(id, group) => {
-            id.number();
-            group.number();
-        }
-        Command::Remove(id) => {
-            id.number();
-        }
-        Command::Reset(id) => {
-            id.number();
-        }
-        Command::Confirm(id, _epoch) => {
-            id.number();
-        }
-        Command::Join(a, b) | Command::Drop(a, b) => {
-            a.number();
-            b.number();
-        }
     }
 }

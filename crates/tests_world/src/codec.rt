@@ -1,1 +1,137 @@
-//! Tests of coord_codec.
+//! Tests of coord_batch and coord_codec: given bytes, each form once, and the greatest batch and world.
+
+use coord_codec::{CodecFault, FaultKind, read_batch, read_world, write_world};
+use std::alloc::Global;
+use std::test::Fail;
+
+mod batches;
+mod greatest_world;
+mod worlds;
+
+// What bytes may spell.
+#[derive(Clone, Copy)]
+enum Form {
+    Batch,
+    World,
+}
+
+// A byte that is put at a place, and the fault that is found then.
+#[derive(Clone, Copy)]
+struct Change(usize, u8, FaultKind, usize);
+
+// Why nothing was read, if so. Want of memory is an error here.
+fn fault_of<T: Drop>(answer: Result<T, CodecFault>) -> Result<Option<CodecFault>, Fail> {
+    match answer.err() {
+        Some(fault) if fault.kind == FaultKind::OutOfMemory => Err(fault.kind)?,
+        fault => Ok(fault),
+    }
+}
+
+// Whether reading these bytes finds this fault.
+fn finds(
+    alloc: Global,
+    form: Form,
+    version: u8,
+    bytes: &[u8],
+    fault: CodecFault,
+) -> Result<bool, Fail> {
+    let found = match form {
+        Form::Batch => fault_of(read_batch(alloc, version, bytes))?,
+        Form::World => fault_of(read_world(alloc, version, bytes))?,
+    };
+    Ok(found == Some(fault))
+}
+
+// Whether the change of these bytes is found.
+fn is_found(alloc: Global, form: Form, bytes: &[u8], change: &Change) -> Result<bool, Fail> {
+    let Change(place, byte, kind, at) = *change;
+    let mut bytes = bytes.to_vec(alloc)?;
+    if let Some(old) = bytes.get_mut(place) {
+        *old = byte;
+    }
+    finds(alloc, form, 1, &bytes, CodecFault { kind, at })
+}
+
+// The place of the first change that is not found, if there is one.
+fn missed(
+    alloc: Global,
+    form: Form,
+    bytes: &[u8],
+    changes: &[Change],
+) -> Result<Option<usize>, Fail> {
+    for change in changes {
+        if !is_found(alloc, form, bytes, change)? {
+            return Ok(Some(change.0));
+        }
+    }
+    Ok(None)
+}
+
+// Whether these bytes are found to be too short wherever they are cut.
+fn are_short_when_cut(alloc: Global, form: Form, bytes: &[u8]) -> Result<bool, Fail> {
+    for at in 0..bytes.len() {
+        let kind = FaultKind::Short;
+        if !finds(alloc, form, 1, &bytes[..at], CodecFault { kind, at })? {
+            return Ok(false);
+        }
+    }
+    Ok(true)
+}
+
+// Whether these bytes are found to be too long with one behind them.
+fn are_long_with_one_more(alloc: Global, form: Form, bytes: &[u8]) -> Result<bool, Fail> {
+    let fault = CodecFault {
+        kind: FaultKind::Extra,
+        at: bytes.len(),
+    };
+    let mut bytes = bytes.to_vec(alloc)?;
+    bytes.push(0)?;
+    finds(alloc, form, 1, &bytes, fault)
+}
+
+// Whether these bytes are read in version 1 alone.
+fn have_one_version(alloc: Global, form: Form, bytes: &[u8]) -> Result<bool, Fail> {
+    let fault = CodecFault {
+        kind: FaultKind::BadVersion,
+        at: 0,
+    };
+    for version in [0, 2, 3, 255] {
+        if !finds(alloc, form, version, bytes, fault)? {
+            return Ok(false);
+        }
+    }
+    Ok(true)
+}
+
+// Whether these bytes spell a world, and it is written as these bytes.
+fn spells_world(alloc: Global, bytes: &[u8]) -> Result<bool, Fail> {
+    let world = read_world(alloc, 1, bytes).map_err(|fault| fault.kind)?;
+    Ok(write_world(alloc, &world)?.as_slice() == bytes)
+}
+
+// Whether a kind of fault has this number and is printed so.
+fn is_printed(alloc: Global, kind: FaultKind, number: u8, name: &str) -> Result<bool, Fail> {
+    let text = format!(in alloc; "{kind}")?;
+    Ok(kind.number() == number && text.as_str() == name)
+}
+
+#[test]
+fn a_fault_has_its_number_and_name(rt: HostRuntime) -> Result<(), Fail> {
+    let faults = [
+        (FaultKind::OutOfMemory, 1, "OutOfMemory"),
+        (FaultKind::Short, 2, "Short"),
+        (FaultKind::BadByte, 3, "BadByte"),
+        (FaultKind::Extra, 4, "Extra"),
+        (FaultKind::BadVersion, 5, "BadVersion"),
+    ];
+    for (kind, number, name) in faults {
+        assert!(rt; is_printed(rt.alloc(), kind, number, name)?);
+    }
+    let fault = CodecFault {
+        kind: FaultKind::BadByte,
+        at: 66,
+    };
+    let text = format!(in rt.alloc(); "{fault}")?;
+    assert_eq!(rt; text.as_str(), "BadByte at 66");
+    Ok(())
+}

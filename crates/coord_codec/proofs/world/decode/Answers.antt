@@ -6,4 +6,4 @@ use Rattle.coord_codec.proofs.world.decode.Goals as goal
 
 pub returns-in-Ok-2-clause-fit : goal.returns-in-Ok-2-clause-fit
 returns-in-Ok-2-clause-fit c =
-    rows_in (listed c.in-Ok.field-0) (world_grammar.takes c.args.bytes.now (listed c.in-Ok.field-0) c.world.new.self (λ i. omega (arith, c.type_inv.bytes i)) (rw (← c.new-input.ensures) c.in-Ok.ensures)).fits
+    rows_in (listed c.in-Ok.field-0) (world_grammar.takes c.args.bytes.now (listed c.in-Ok.field-0) c.read_parts.new.input (λ i. omega (arith, c.type_inv.bytes i)) (rw (← c.new-input.ensures) c.in-Ok.ensures)).fits

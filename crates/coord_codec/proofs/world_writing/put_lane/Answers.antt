@@ -1,6 +1,7 @@
 use Rattle.std.proofs.Common.{◌++◌, ◌∙◌, append_assoc}
 use Rattle.std.specs.Int.{w64, to_be_bytes}
-use Rattle.coord_codec.specs.Worlds.{at_most, lane, queue}
+use Rattle.coord_batch.specs.Fields.{at_most}
+use Rattle.coord_codec.specs.Worlds.{lane, queue}
 use Rattle.coord_codec.proofs.world_writing.put_lane.Goals as goal
 
 pub returns : goal.returns

@@ -1,6 +1,6 @@
 use Rattle.std.proofs.Common.{◌≡◌, ◌++◌, take}
 use Rattle.std.specs.List.{flat_map}
-use Rattle.coord_codec.specs.Fields.{message}
+use Rattle.coord_batch.specs.Fields.{message}
 use Rattle.coord_codec.proofs.world_writing.put_messages.Given as goal
 
 abbrev pub invariant-loop-msg : goal.invariant-loop-msg

@@ -1,0 +1,34 @@
+-- What a loop over items keeps: the rest of the reading gives what all of it gives.
+use Rattle.std.proofs.Common.{◌≡◌, ℕ, suc, ◌+◌, ◌-◌, ◌<◌, ◌≤◌, List, [], ◌∷◌, ◌++◌, length, Ok, sym, ap, ◌∙◌, arith}
+use Rattle.std.proofs.lemmas.List.{length-append}
+use Rattle.coord_batch.specs.declared.fault.ReadError.{ReadError}
+use Rattle.coord_batch.specs.declared.fault.ReadError.TheVariants as errors
+use Rattle.coord_batch.specs.Format.{Format, Read, ◌>>=◌, items_at}
+use Rattle.coord_batch.specs.Reading.{Fails}
+
+module _ {A : Type 0} (item : List A → Format A) (total : Read (List A)) (front : List A) (count i : ℕ) (bytes : List ℕ) where
+  -- an item is read
+  pub one_more : (x : A) (left : List ℕ) → i < count → (item front).read bytes ≡ Ok (x, left) → items_at item (count - i) front bytes ≡ total → items_at item (count - (i + 1)) (front ++ x ∷ []) left ≡ total
+  unfolding items_at
+  one_more x left below read so_far =
+      let k : count - i ≡ suc (count - (i + 1)) = omega arith in
+      sym (ap (λ r. r >>= λ y. items_at item (count - (i + 1)) (front ++ y.0 ∷ []) y.1) read) ∙ sym (ap (λ n. items_at item n front bytes) k) ∙ so_far
+
+  -- an item isn't read
+  pub cut_short : (e : ReadError) → i < count → Fails e ((item front).read bytes) → items_at item (count - i) front bytes ≡ total → Fails e total
+  unfolding items_at
+  cut_short errors.Memory below fails so_far = tt
+  cut_short (errors.Flaw f) below fails so_far =
+      let k : count - i ≡ suc (count - (i + 1)) = omega arith in
+      sym so_far ∙ ap (λ n. items_at item n front bytes) k ∙ ap (λ r. r >>= λ y. items_at item (count - (i + 1)) (front ++ y.0 ∷ []) y.1) fails
+
+  -- all are read
+  pub all_read : count ≤ i → items_at item (count - i) front bytes ≡ total → total ≡ Ok (front, bytes)
+  unfolding items_at
+  all_read done so_far =
+      let k : count - i ≡ 0 = omega arith in
+      sym so_far ∙ ap (λ n. items_at item n front bytes) k
+
+-- an item more at the end
+pub len_more : {A : Type 0} (xs : List A) (x : A) (most : ℕ) → length xs ≤ most → length (xs ++ x ∷ []) ≤ most + 1
+len_more xs x most few = omega (arith, length-append xs (x ∷ []))

@@ -1,0 +1,21 @@
+-- The worked spellings compute.
+use Rattle.std.proofs.Common.{refl}
+use Rattle.coord_batch.specs.Fields.{client, from_one, from_one_to, group, message, node}
+use Rattle.coord_batch.specs.Format.{items_at}
+use Rattle.coord_batch.specs.Steps.{batch, command, command_case, data_packet, how_many_steps, order, receipt_packet, step, step_case, steps}
+use Rattle.coord_batch.specs.WorkedBytes.{WorkedBytes}
+
+pub worked_bytes : WorkedBytes
+unfolding client from_one from_one_to group message node items_at batch command command_case data_packet how_many_steps order receipt_packet step step_case steps
+worked_bytes = record {
+  spelled = refl;
+  packet = refl;
+  read = refl;
+  first_zero = refl;
+  no_steps = refl;
+  two_steps = refl;
+  client_17 = refl;
+  number_zero = refl;
+  one_more = refl;
+  version_3 = refl;
+}

@@ -1,0 +1,24 @@
+use Rattle.std.proofs.Common.{◌≡◌, Result, Ok, Err, arith}
+use Rattle.std.specs.Prelude.{IfOk}
+use Rattle.coord_batch.specs.Batches.{IsBatch, content, pair}
+use Rattle.coord_batch.specs.Steps.{batch}
+use Rattle.coord_batch.specs.declared.batch.Batch.{Batch}
+use Rattle.coord_batch.specs.declared.fault.CodecFault.{CodecFault}
+use Rattle.coord_batch.proofs.Batched.{batch_fits, batch_in_range}
+use Rattle.coord_batch.proofs.Decoded.{answers_found, answers_only, version_told}
+use Rattle.coord_batch.proofs.StepGrammars.{batch_grammar}
+use Rattle.coord_batch.proofs.batch.read_batch.Goals as goal
+
+pub returns-clause-found : goal.returns-clause-found
+returns-clause-found c = of_result c.decode.result (answers_found batch batch_grammar c.args.version content c.args.bytes.now c.decode.result (λ i. omega (arith, c.type_inv.bytes i)) c.decode.ensures.exact)
+  where
+    of_result : (r : Result Batch CodecFault) → IfOk r (λ b. (c.args.version ≡ 1) × batch.Fits (content b) × (c.args.bytes.now ≡ batch.text (content b))) → IfOk r (λ b. (c.args.version ≡ 1) × IsBatch b.first b.steps.items × (c.args.bytes.now ≡ batch.text (content b)))
+    of_result (Ok b) found = (found.0, batch_in_range b.first b.steps.items found.1, found.2)
+    of_result (Err e) found = tt
+
+pub returns-clause-only : goal.returns-clause-only
+returns-clause-only c = λ first taken known range spelled.
+    answers_only batch batch_grammar c.args.version content c.args.bytes.now c.decode.result (pair first taken) known (batch_fits first taken range) spelled c.decode.ensures.exact
+
+pub returns-clause-version : goal.returns-clause-version
+returns-clause-version c = version_told batch batch_grammar c.args.version content c.args.bytes.now c.decode.result c.decode.ensures.version c.decode.ensures.exact

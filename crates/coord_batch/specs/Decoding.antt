@@ -1,0 +1,45 @@
+-- What reading all of the bytes answers: the value, or the first fault from the left and its place.
+use Rattle.std.specs.Prelude.{◌≡◌, ℕ, ◌-◌, ◌==◌, List, length, Result, Ok, Err, if◌then◌else◌}
+use Rattle.coord_batch.specs.declared.fault.CodecFault.{CodecFault}
+use Rattle.coord_batch.specs.declared.fault.FaultKind.{FaultKind}
+use Rattle.coord_batch.specs.declared.fault.FaultKind.TheVariants as kind
+use Rattle.coord_batch.specs.declared.fault.Flaw.{Flaw}
+use Rattle.coord_batch.specs.declared.fault.Flaw.TheVariants as flaw
+use Rattle.coord_batch.specs.declared.fault.ReadError.{ReadError}
+use Rattle.coord_batch.specs.declared.fault.ReadError.TheVariants as errors
+use Rattle.coord_batch.specs.Format.{Format, whole}
+
+abbrev pub fault_at : FaultKind → ℕ → CodecFault
+fault_at k n = record { kind = k; at = n }
+
+-- a flaw tells how many bytes are left, a fault how many come before
+abbrev pub placed : ℕ → Flaw → CodecFault
+placed n flaw.Short = fault_at kind.Short n
+placed n (flaw.BadByte left) = fault_at kind.BadByte (n - left)
+placed n (flaw.Extra left) = fault_at kind.Extra (n - left)
+
+-- what the program makes of a reader's error
+abbrev pub Places : ReadError → ℕ → CodecFault → Type 0
+Places errors.Memory n fault = fault.kind ≡ kind.OutOfMemory
+Places (errors.Flaw f) n fault = fault ≡ placed n f
+
+abbrev pub or_fault : {A : Type 0} → ℕ → Result A Flaw → Result A CodecFault
+or_fault n (Ok x) = Ok x
+or_fault n (Err f) = Err (placed n f)
+
+abbrev pub bad_version : CodecFault
+bad_version = fault_at kind.BadVersion 0
+
+-- there is one version
+abbrev pub decoded : {A : Type 0} → Format A → ℕ → List ℕ → Result A CodecFault
+decoded f version bytes = if version == 1 then or_fault (length bytes) (whole f bytes) else Err bad_version
+
+-- said of every fault but want of memory
+abbrev pub Unless : FaultKind → Type 0 → Type 0
+Unless kind.OutOfMemory P = Unit {0}
+Unless k P = P
+
+-- what is answered, seen by view, is this, unless memory ran out
+abbrev pub Answers : {X Y : Type 0} → (X → Y) → Result X CodecFault → Result Y CodecFault → Type 0
+Answers view (Ok x) read = read ≡ Ok (view x)
+Answers view (Err e) read = Unless e.kind (read ≡ Err e)

@@ -1,0 +1,16 @@
+-- What the program's readers answer.
+use Rattle.std.specs.Prelude.{◌≡◌, ℕ, List, Result, Ok, Err}
+use Rattle.coord_batch.specs.declared.fault.Flaw.{Flaw}
+use Rattle.coord_batch.specs.Format.{Read}
+use Rattle.coord_batch.specs.declared.fault.ReadError.{ReadError}
+use Rattle.coord_batch.specs.declared.fault.ReadError.TheVariants as errors
+
+-- an error is want of memory, or the flaw that reading meets
+abbrev pub Fails : {Y : Type 0} → ReadError → Result Y Flaw → Type 0
+Fails errors.Memory read = Unit {0}
+Fails (errors.Flaw f) read = read ≡ Err f
+
+-- what a reader answers, seen by view, and the bytes that it leaves, are what reading gives, unless memory ran out
+abbrev pub Reads : {X Y : Type 0} → (X → Y) → Result X ReadError → Read Y → List ℕ → Type 0
+Reads view (Ok x) read left = read ≡ Ok (view x, left)
+Reads view (Err e) read left = Fails e read

@@ -1,0 +1,97 @@
+//! Batches of steps as bytes.
+
+ghost use Rattle.std.specs.Prelude.{◌≡◌, ◌↔◌, ◌≤◌, ◌^◌, ℕ, List, length, Ok, Err, IfOk};
+ghost use Rattle.std.specs.List.{AllByRecursion};
+ghost use Rattle.coord_types.specs.declared.steps.Step.{Step as Taken};
+ghost use Rattle.coord_batch.specs.Format.{whole};
+ghost use Rattle.coord_batch.specs.Reading.{Reads};
+ghost use Rattle.coord_batch.specs.Decoding.{Answers, bad_version, decoded};
+ghost use Rattle.coord_batch.specs.Steps.{batch};
+ghost use Rattle.coord_batch.specs.Batches.{IsBatch, IsNumbered, content, pair};
+
+use crate::fault::{CodecFault, FaultKind, ReadError};
+use crate::input::Input;
+use crate::step_writing::put_step;
+use coord_types::Step;
+use std::alloc::{AllocError, Global};
+
+/// The most steps of a batch.
+pub const MAX_BATCH_STEPS: usize = 256;
+
+/// The most bytes that a batch may have on a disk. Those of version 1 have at most 5,130.
+pub const MAX_BATCH_BYTES: usize = 8192;
+
+/// The most steps that a world takes, and so the greatest number of a step.
+pub const MAX_STEPS: u64 = 1 << 40;
+
+/// Steps that were committed together, 1 to 256 of them, of which the first has this number, from
+/// 1 to 2^40.
+#[derive(Drop, Debug)]
+pub struct Batch {
+    pub first: u64,
+    pub steps: Vec<Step>,
+}
+
+impl<'a> Input<'a> {
+    #[tactic(auto, unfolding(crate::specs::Steps::batch))]
+    fn batch(&mut self, alloc: Global) -> Result<Batch, ReadError>
+        ensures { Reads content result (batch.read self.old) self.new }
+    {
+        let first = self.from_one_to(MAX_STEPS)?;
+        let steps = self.steps(alloc)?;
+        Ok(Batch { first, steps })
+    }
+}
+
+/// The batch that all of the bytes spell.
+fn decode(alloc: Global, version: u8, bytes: &[u8]) -> Result<Batch, CodecFault>
+    ensures exact { Answers content result (decoded batch version bytes.now) }
+    ensures version { ¬ (version ≡ 1) → result ≡ Err bad_version }
+{
+    if version != 1 {
+        return Err(CodecFault::bad_version());
+    }
+    let mut input = Input::new(bytes);
+    match input.batch(alloc) {
+        Err(error) => Err(error.placed(bytes.len())),
+        Ok(_) if input.left() > 0 => Err(ReadError::extra(input.left()).placed(bytes.len())),
+        Ok(batch) => Ok(batch),
+    }
+}
+
+/// The batch that all of the bytes spell in a version of the grammar, of which there is one, 1
+/// (docs/FORMATS.md, "Batches").
+pub fn read_batch(alloc: Global, version: u8, bytes: &[u8]) -> Result<Batch, CodecFault>
+    // What is read is spelled so.
+    ensures found { IfOk result (λ b.
+        (version ≡ 1) × IsBatch b.first b.steps.items × (bytes.now ≡ batch.text (content b))) }
+    // What is spelled so is read, unless memory runs out.
+    ensures only { (first : ℕ) (taken : List Taken) → version ≡ 1 → IsBatch first taken → bytes.now ≡ batch.text (pair first taken)
+        → Answers content result (Ok (pair first taken)) }
+    // Another version is told also where memory is short.
+    ensures version { (result ≡ Err bad_version) ↔ ¬ (version ≡ 1) }
+    // Which fault it is, and where.
+    ensures exact { Answers content result (decoded batch version bytes.now) }
+{
+    decode(alloc, version, bytes)
+}
+
+/// The one spelling, in version 1, of a batch of 1 to 256 steps, of which the first has this
+/// number, from 1 to 2^40.
+#[tactic(auto, using(std::proofs::Common::append_assoc), unfolding(crate::specs::Steps::batch, crate::specs::Steps::steps, crate::specs::Fields::from_one_to, crate::specs::Steps::how_many_steps))]
+pub fn write_batch(alloc: Global, first: u64, steps: &[Step]) -> Result<Vec<u8>, AllocError>
+    requires first { (1 ≤ first) × (first ≤ 2 ^ 40) }
+    requires count { (1 ≤ length steps.now) × (length steps.now ≤ MAX_BATCH_STEPS) }
+    requires numbered { AllByRecursion IsNumbered steps.now }
+    ensures spelled { IfOk result (λ v. v.items ≡ batch.text (pair first steps.now)) }
+    ensures len { IfOk result (λ v. length v.items ≤ MAX_BATCH_BYTES) }
+    ensures fits { IfOk result (λ v. IsBatch first steps.now) }
+{
+    let mut out = Vec::new(alloc);
+    out.extend_from_slice(&first.to_be_bytes())?;
+    out.extend_from_slice(&(steps.len() as u16).to_be_bytes())?;
+    for step in steps {
+        put_step(&mut out, step)?;
+    }
+    Ok(out)
+}

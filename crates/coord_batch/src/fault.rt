@@ -1,0 +1,155 @@
+//! What can be wrong with bytes.
+
+ghost use Rattle.std.specs.Prelude.{◌≡◌, Some};
+ghost use Rattle.coord_batch.specs.Faults.{fault_text, fault_name, fault_number};
+ghost use Rattle.coord_batch.specs.Decoding.{Places, bad_version};
+ghost use Rattle.coord_batch.specs.declared.fault.ReadError.TheVariants.{Memory};
+
+use std::alloc::{AllocError, AllocFailed};
+use std::fmt;
+
+/// Why bytes were not read.
+#[derive(Clone, Copy, Debug, PartialEq, Eq)]
+pub enum FaultKind {
+    OutOfMemory,
+    /// The bytes end inside a field.
+    Short,
+    /// A field is out of its range or order.
+    BadByte,
+    /// Bytes stand behind the whole.
+    Extra,
+    /// No version of the grammar has this number.
+    BadVersion,
+}
+
+impl FaultKind {
+    /// Its number, from 1 to 5.
+    pub fn number(self) -> u8
+        ensures { result ≡ fault_number self }
+    {
+        match self {
+            FaultKind::OutOfMemory => 1,
+            FaultKind::Short => 2,
+            FaultKind::BadByte => 3,
+            FaultKind::Extra => 4,
+            FaultKind::BadVersion => 5,
+        }
+    }
+
+    fn name(self) -> &'static str
+        ensures { result.now ≡ fault_name self }
+    {
+        match self {
+            FaultKind::OutOfMemory => "OutOfMemory",
+            FaultKind::Short => "Short",
+            FaultKind::BadByte => "BadByte",
+            FaultKind::Extra => "Extra",
+            FaultKind::BadVersion => "BadVersion",
+        }
+    }
+}
+
+impl fmt::Display for FaultKind {
+    ghost output = { λ kind. Some (fault_name kind) };
+
+    fn fmt<W: fmt::Write>(&self, f: &mut fmt::Formatter<W>) -> fmt::Result {
+        f.write_str(self.name())
+    }
+}
+
+/// The first fault from the left, and at which byte it is: for `Short` the number of bytes, for
+/// `BadByte` the first byte of the field, for `Extra` the first byte behind the whole, for
+/// `BadVersion` 0. Of `OutOfMemory` the place says nothing.
+#[derive(Clone, Copy, Debug, PartialEq, Eq)]
+pub struct CodecFault {
+    pub kind: FaultKind,
+    pub at: usize,
+}
+
+impl CodecFault {
+    /// There is no such version.
+    pub fn bad_version() -> Self
+        ensures { result ≡ bad_version }
+    {
+        CodecFault {
+            kind: FaultKind::BadVersion,
+            at: 0,
+        }
+    }
+}
+
+impl fmt::Display for CodecFault {
+    ghost output = { λ fault. Some (fault_text fault) };
+
+    fn fmt<W: fmt::Write>(&self, f: &mut fmt::Formatter<W>) -> fmt::Result {
+        let kind = self.kind;
+        let at = self.at;
+        write!(f, "{kind} at {at}")
+    }
+}
+
+/// What is wrong with bytes that are read from the left. A place is told by how many bytes are
+/// left from there on.
+#[derive(Clone, Copy, Debug, PartialEq, Eq)]
+pub enum Flaw {
+    /// The bytes end inside a field.
+    Short,
+    /// A field that begins here is out of its range or order.
+    BadByte(usize),
+    /// These bytes are behind the whole.
+    Extra(usize),
+}
+
+/// Why a reader stopped.
+#[derive(Debug, Drop)]
+pub enum ReadError {
+    /// Memory ran out.
+    Memory,
+    Flaw(Flaw),
+}
+
+impl ReadError {
+    /// A field that began where this many bytes were left is out of its range or order.
+    pub fn bad_byte(left: usize) -> Self
+        ensures { result ≡ ReadError.Flaw (Flaw.BadByte left) }
+    {
+        ReadError::Flaw(Flaw::BadByte(left))
+    }
+
+    /// This many bytes are behind the whole.
+    pub fn extra(left: usize) -> Self
+        ensures { result ≡ ReadError.Flaw (Flaw.Extra left) }
+    {
+        ReadError::Flaw(Flaw::Extra(left))
+    }
+
+    /// The fault with its place, where there were this many bytes in all. No more are left than
+    /// there were, so that nothing saturates.
+    pub fn placed(self, len: usize) -> CodecFault
+        ensures { Places self len result }
+    {
+        let (kind, at) = match self {
+            ReadError::Memory => (FaultKind::OutOfMemory, 0),
+            ReadError::Flaw(Flaw::Short) => (FaultKind::Short, len),
+            ReadError::Flaw(Flaw::BadByte(left)) => (FaultKind::BadByte, len.saturating_sub(left)),
+            ReadError::Flaw(Flaw::Extra(left)) => (FaultKind::Extra, len.saturating_sub(left)),
+        };
+        CodecFault { kind, at }
+    }
+}
+
+impl From<AllocError> for ReadError {
+    ghost from_gives = { λ _ e. e ≡ Memory };
+
+    fn from(_e: AllocError) -> ReadError {
+        ReadError::Memory
+    }
+}
+
+impl<T: Drop> From<AllocFailed<T>> for ReadError {
+    ghost from_gives = { λ _ e. e ≡ Memory };
+
+    fn from(_e: AllocFailed<T>) -> ReadError {
+        ReadError::Memory
+    }
+}

@@ -1,0 +1,181 @@
+//! Bytes that are read from the left.
+
+ghost use Rattle.std.specs.Prelude.{◌≡◌, ◌≤◌, length, IfOk};
+ghost use Rattle.coord_batch.specs.Reading.{Reads};
+ghost use Rattle.coord_batch.specs.Format.{byte, u16, u64};
+ghost use Rattle.coord_batch.specs.Fields.{at_most, client, from_one, from_one_to, group, how_many, message, node};
+
+use crate::fault::{Flaw, ReadError};
+use coord_types::{Client, Group, Msg, NodeId};
+use std::marker::Model;
+
+/// The bytes that are not yet read. Each method reads one field, as the format of its name does:
+/// it fails as `Short` where the bytes end inside the field, and as `BadByte` where the field's
+/// value is out of its range. After an error the bytes that are left are unspecified.
+#[derive(Drop)]
+pub struct Input<'a> {
+    rest: &'a [u8],
+}
+
+impl<'a> Model for Input<'a> {
+    ghost use Rattle.std.specs.Prelude.{ℕ, List};
+    ghost use Rattle.std.specs.Coded.{coded_ℕ, coded_list};
+
+    ghost Value = { List ℕ };
+
+    ghost coded = { coded_list coded_ℕ };
+
+    ghost view = { λ a. a.rest.now };
+}
+
+impl<'a> Input<'a> {
+    /// All of these bytes.
+    pub fn new(bytes: &'a [u8]) -> Self
+        ensures { result ≡ bytes.now }
+    {
+        Input { rest: bytes }
+    }
+
+    /// How many bytes are left.
+    pub fn left(&self) -> usize
+        ensures { result ≡ length self.now }
+    {
+        self.rest.len()
+    }
+
+    /// The next byte.
+    pub fn byte(&mut self) -> Result<u8, ReadError>
+        ensures { Reads (λ x. x) result (byte.read self.old) self.new }
+    {
+        match self.rest {
+            [] => Err(ReadError::Flaw(Flaw::Short)),
+            [byte, rest @ ..] => {
+                self.rest = rest;
+                Ok(*byte)
+            }
+        }
+    }
+
+    /// A number of two bytes, the greatest first.
+    pub fn u16(&mut self) -> Result<u16, ReadError>
+        ensures { Reads (λ x. x) result (u16.read self.old) self.new }
+    {
+        if self.rest.len() < 2 {
+            return Err(ReadError::Flaw(Flaw::Short));
+        }
+        let (front, rest) = self.rest.split_at(2);
+        self.rest = rest;
+        Ok(u16::from_be_bytes([front[0], front[1]]))
+    }
+
+    /// A number of eight bytes, the greatest first.
+    pub fn u64(&mut self) -> Result<u64, ReadError>
+        ensures { Reads (λ x. x) result (u64.read self.old) self.new }
+    {
+        if self.rest.len() < 8 {
+            return Err(ReadError::Flaw(Flaw::Short));
+        }
+        let (front, rest) = self.rest.split_at(8);
+        self.rest = rest;
+        Ok(u64::from_be_bytes([
+            front[0], front[1], front[2], front[3], front[4], front[5], front[6], front[7],
+        ]))
+    }
+
+    /// A node, in a byte from 1 to 64.
+    #[tactic(auto, unfolding(crate::specs::Fields::node))]
+    pub fn node(&mut self) -> Result<NodeId, ReadError>
+        ensures { Reads (λ x. x) result (node.read self.old) self.new }
+    {
+        let left = self.left();
+        let number = self.byte()?;
+        NodeId::new(number).ok_or(ReadError::bad_byte(left))
+    }
+
+    /// A group, in a byte from 1 to 16.
+    #[tactic(auto, unfolding(crate::specs::Fields::group))]
+    pub fn group(&mut self) -> Result<Group, ReadError>
+        ensures { Reads (λ x. x) result (group.read self.old) self.new }
+    {
+        let left = self.left();
+        let number = self.byte()?;
+        Group::new(number).ok_or(ReadError::bad_byte(left))
+    }
+
+    /// A client, in a byte from 1 to 16.
+    #[tactic(auto, unfolding(crate::specs::Fields::client))]
+    pub fn client(&mut self) -> Result<Client, ReadError>
+        ensures { Reads (λ x. x) result (client.read self.old) self.new }
+    {
+        let left = self.left();
+        let number = self.byte()?;
+        Client::new(number).ok_or(ReadError::bad_byte(left))
+    }
+
+    /// A message: 0 Abort, 1 Ack, 2 Ready.
+    #[tactic(auto, unfolding(crate::specs::Fields::message))]
+    pub fn message(&mut self) -> Result<Msg, ReadError>
+        ensures { Reads (λ x. x) result (message.read self.old) self.new }
+    {
+        let left = self.left();
+        match self.byte()? {
+            0 => Ok(Msg::Abort),
+            1 => Ok(Msg::Ack),
+            2 => Ok(Msg::Ready),
+            _ => Err(ReadError::bad_byte(left)),
+        }
+    }
+
+    /// A number of eight bytes, from 1.
+    #[tactic(auto, unfolding(crate::specs::Fields::from_one))]
+    pub fn from_one(&mut self) -> Result<u64, ReadError>
+        ensures { Reads (λ x. x) result (from_one.read self.old) self.new }
+    {
+        let left = self.left();
+        let number = self.u64()?;
+        if number < 1 {
+            return Err(ReadError::bad_byte(left));
+        }
+        Ok(number)
+    }
+
+    /// A number of eight bytes, up to this one.
+    #[tactic(auto, unfolding(crate::specs::Fields::at_most))]
+    pub fn at_most(&mut self, most: u64) -> Result<u64, ReadError>
+        ensures { Reads (λ x. x) result ((at_most most).read self.old) self.new }
+    {
+        let left = self.left();
+        let number = self.u64()?;
+        if number > most {
+            return Err(ReadError::bad_byte(left));
+        }
+        Ok(number)
+    }
+
+    /// A number of eight bytes, from 1 up to this one.
+    #[tactic(auto, unfolding(crate::specs::Fields::from_one_to))]
+    pub fn from_one_to(&mut self, most: u64) -> Result<u64, ReadError>
+        ensures { Reads (λ x. x) result ((from_one_to most).read self.old) self.new }
+    {
+        let left = self.left();
+        let number = self.u64()?;
+        if number < 1 || number > most {
+            return Err(ReadError::bad_byte(left));
+        }
+        Ok(number)
+    }
+
+    /// How many items there are, in a byte up to this number.
+    #[tactic(auto, unfolding(crate::specs::Fields::how_many))]
+    pub fn how_many(&mut self, most: u8) -> Result<u8, ReadError>
+        ensures read { Reads (λ x. x) result ((how_many most).read self.old) self.new }
+        ensures most { IfOk result (λ n. n ≤ most) }
+    {
+        let left = self.left();
+        let number = self.byte()?;
+        if number > most {
+            return Err(ReadError::bad_byte(left));
+        }
+        Ok(number)
+    }
+}

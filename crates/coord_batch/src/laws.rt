@@ -1,0 +1,30 @@
+//! Laws of the spellings, over the definitions alone: functions that do nothing, whose contracts are the laws.
+
+ghost use Rattle.coord_batch.specs.WorkedBytes.{WorkedBytes};
+ghost use Rattle.coord_batch.specs.Laws.{BatchesArePrefixFree, BytesBehindBatchesAreExtra, CutBatchesAreShort, StepsArePrefixFree};
+
+/// No spelling of a step begins that of another one.
+pub fn steps_are_prefix_free()
+    ensures { StepsArePrefixFree }
+{}
+
+/// No spelling of a batch begins that of another one.
+pub fn batches_are_prefix_free()
+    ensures { BatchesArePrefixFree }
+{}
+
+/// A spelling of a batch without its last bytes is `Short`, at the number of bytes that are there.
+pub fn cut_batches_are_short()
+    ensures { CutBatchesAreShort }
+{}
+
+/// A spelling of a batch with more bytes behind it is `Extra`, at the first of these.
+pub fn bytes_behind_batches_are_extra()
+    ensures { BytesBehindBatchesAreExtra }
+{}
+
+/// A batch of one order, and a packet, are spelled as given bytes; changes of these are the faults
+/// that they should be.
+pub fn worked_bytes()
+    ensures { WorkedBytes }
+{}

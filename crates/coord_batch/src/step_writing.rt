@@ -1,0 +1,122 @@
+//! Writing of commands, packets and steps.
+
+ghost use Rattle.std.specs.Prelude.{◌≡◌, ◌≤◌, ◌++◌, [], ◌∷◌, OnOk};
+ghost use Rattle.std.specs.Int.{w64, to_be_bytes};
+ghost use Rattle.coord_types.specs.Messages.{msg_number};
+ghost use Rattle.coord_types.specs.StepRanges.{CommandInRange, IsNode};
+ghost use Rattle.coord_batch.specs.Steps.{command, data_packet, receipt_packet, step};
+ghost use Rattle.coord_batch.specs.Batches.{StepFits, IsNumbered};
+
+use coord_types::{Command, DataPacket, Msg, NodeId, ReceiptPacket, Step};
+use std::alloc::AllocError;
+
+/// The byte of a command's form, and the node that it names first.
+fn put_form(out: &mut Vec<u8>, form: u8, id: NodeId) -> Result<(), AllocError>
+    ensures ok { OnOk result (out.new.items ≡ out.old.items ++ form ∷ id ∷ []) }
+    ensures fits { OnOk result (IsNode id) }
+{
+    out.push(form)?;
+    out.push(id.number())?;
+    Ok(())
+}
+
+/// Puts a command's spelling at the end.
+#[tactic(auto, unfolding(crate::specs::Steps::command, crate::specs::Steps::command_case, crate::specs::Fields::node, crate::specs::Fields::group))]
+pub fn put_command(out: &mut Vec<u8>, order: &Command) -> Result<(), AllocError>
+    ensures spelled { OnOk result (out.new.items ≡ out.old.items ++ command.text order.now) }
+    ensures fits { OnOk result (CommandInRange order.now) }
+{
+    match *order {
+        Command::Add(id, group) => {
+            put_form(out, 0, id)?;
+            out.push(group.number())?;
+        }
+        Command::Remove(id) => put_form(out, 1, id)?,
+        Command::Join(a, b) => {
+            put_form(out, 2, a)?;
+            out.push(b.number())?;
+        }
+        Command::Drop(a, b) => {
+            put_form(out, 3, a)?;
+            out.push(b.number())?;
+        }
+        Command::Reset(id) => put_form(out, 4, id)?,
+        Command::Confirm(id, epoch) => {
+            put_form(out, 5, id)?;
+            out.extend_from_slice(&epoch.to_be_bytes())?;
+        }
+    }
+    Ok(())
+}
+
+/// What packets of both forms begin with: the ends of the lane, its incarnation, and a number.
+fn put_address(
+    out: &mut Vec<u8>,
+    from: NodeId,
+    to: NodeId,
+    inc: u64,
+    number: u64,
+) -> Result<(), AllocError>
+    ensures spelled { OnOk result
+        (out.new.items ≡ out.old.items ++ from ∷ to ∷ to_be_bytes w64 inc ++ to_be_bytes w64 number) }
+    ensures fits { OnOk result (IsNode from × IsNode to) }
+{
+    out.push(from.number())?;
+    out.push(to.number())?;
+    out.extend_from_slice(&inc.to_be_bytes())?;
+    out.extend_from_slice(&number.to_be_bytes())?;
+    Ok(())
+}
+
+/// The byte of a message: 0 Abort, 1 Ack, 2 Ready.
+pub fn message_byte(msg: Msg) -> u8
+    ensures { result ≡ msg_number msg }
+{
+    match msg {
+        Msg::Abort => 0,
+        Msg::Ack => 1,
+        Msg::Ready => 2,
+    }
+}
+
+#[tactic(auto, using(std::proofs::Common::append_assoc), unfolding(crate::specs::Steps::data_packet, crate::specs::Fields::node, crate::specs::Fields::message))]
+fn put_data_packet(out: &mut Vec<u8>, packet: DataPacket) -> Result<(), AllocError>
+    ensures spelled { OnOk result (out.new.items ≡ out.old.items ++ data_packet.text packet) }
+    ensures fits { OnOk result (StepFits (Step.Take packet)) }
+{
+    put_address(out, packet.from, packet.to, packet.inc, packet.number)?;
+    out.push(message_byte(packet.msg))?;
+    Ok(())
+}
+
+#[tactic(auto, unfolding(crate::specs::Steps::receipt_packet, crate::specs::Fields::node))]
+fn put_receipt_packet(out: &mut Vec<u8>, packet: ReceiptPacket) -> Result<(), AllocError>
+    ensures spelled { OnOk result (out.new.items ≡ out.old.items ++ receipt_packet.text packet) }
+    ensures fits { OnOk result (StepFits (Step.Clear packet)) }
+{
+    put_address(out, packet.from, packet.to, packet.inc, packet.number)
+}
+
+#[tactic(auto, unfolding(crate::specs::Steps::step, crate::specs::Steps::step_case, crate::specs::Steps::order, crate::specs::Fields::client, crate::specs::Fields::from_one))]
+pub(crate) fn put_step(out: &mut Vec<u8>, taken: &Step) -> Result<(), AllocError>
+    requires { IsNumbered taken.now }
+    ensures spelled { OnOk result (out.new.items ≡ out.old.items ++ step.text taken.now) }
+    ensures fits { OnOk result (StepFits taken.now) }
+{
+    match *taken {
+        Step::Order(client, number, command) => {
+            out.push(0)?;
+            out.push(client.number())?;
+            out.extend_from_slice(&number.to_be_bytes())?;
+            put_command(out, &command)
+        }
+        Step::Take(packet) => {
+            out.push(1)?;
+            put_data_packet(out, packet)
+        }
+        Step::Clear(packet) => {
+            out.push(2)?;
+            put_receipt_packet(out, packet)
+        }
+    }
+}

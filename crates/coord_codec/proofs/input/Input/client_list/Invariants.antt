@@ -1,7 +1,0 @@
-use Rattle.std.proofs.Common.{◌≡◌, ◌-◌, []}
-use Rattle.coord_codec.specs.Format.{items_at}
-use Rattle.coord_codec.specs.Worlds.{client_row}
-use Rattle.coord_codec.proofs.input.Input.client_list.Given as goal
-
-abbrev pub invariant-loop : goal.invariant-loop
-invariant-loop l = items_at (client_row l.count) (l.rows - l.counter) l.list.items l.self ≡ items_at (client_row l.count) l.rows [] l.fn.self

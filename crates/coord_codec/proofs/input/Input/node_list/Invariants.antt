@@ -1,7 +1,0 @@
-use Rattle.std.proofs.Common.{◌≡◌, ◌-◌, []}
-use Rattle.coord_codec.specs.Format.{items_at}
-use Rattle.coord_codec.specs.Worlds.{node_row}
-use Rattle.coord_codec.proofs.input.Input.node_list.Given as goal
-
-abbrev pub invariant-loop : goal.invariant-loop
-invariant-loop l = items_at (node_row l.count) (l.rows - l.counter) l.list.items l.self ≡ items_at (node_row l.count) l.rows [] l.fn.self

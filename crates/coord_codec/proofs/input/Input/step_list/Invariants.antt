@@ -1,7 +1,0 @@
-use Rattle.std.proofs.Common.{◌≡◌, ◌-◌, []}
-use Rattle.coord_codec.specs.Format.{items_at}
-use Rattle.coord_codec.specs.Steps.{step}
-use Rattle.coord_codec.proofs.input.Input.step_list.Given as goal
-
-abbrev pub invariant-loop : goal.invariant-loop
-invariant-loop l = items_at (λ _. step) (l.count - l.counter) l.list.items l.self ≡ items_at (λ _. step) l.count [] l.fn.self

@@ -1,5 +1,0 @@
-use Rattle.coord_codec.proofs.Worked as worked
-use Rattle.coord_codec.proofs.laws.worked_bytes.Goals as goal
-
-pub returns : goal.returns
-returns c = worked.worked_bytes

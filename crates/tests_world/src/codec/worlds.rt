@@ -1,0 +1,113 @@
+use super::*;
+use coord_types::{Msg, NodeId};
+use coord_world::World;
+
+// After three steps: nodes 1 and 2 of group 1, the link that the third step made, and an Ack from 2 to 1.
+const WORLD: [u8; 112] = [
+    0, 0, 0, 0, 0, 0, 0, 3, 2, //
+    1, 1, 0, 0, 0, 0, 0, 0, 0, 0, 0, 0, 0, 0, 0, 0, 0, 0, 0, 0, 0, 0, 0, 0, 0, 0, 0, 0, //
+    2, 1, 0, 0, 0, 0, 0, 0, 0, 0, 0, 0, 0, 0, 0, 0, 0, 0, 0, 0, 0, 0, 0, 0, 0, 0, 0, 0, //
+    1, 1, 2, 0, 0, 0, 0, 0, 0, 0, 3, //
+    0, 0, 0, 0, 0, 0, 0, 0, 0, 0, 0, 0, 0, 0, 0, 0, 0, //
+    0, 0, 0, 0, 0, 0, 0, 0, 0, 0, 0, 0, 0, 0, 0, 0, 1, 1, //
+    0,
+];
+
+// After one step: client 1's order 1, to add node 1 to group 1, was answered Done by step 1.
+const ANSWERED: [u8; 32] = [
+    0, 0, 0, 0, 0, 0, 0, 1, 0, 0, 1, //
+    1, 0, 0, 0, 0, 0, 0, 0, 1, 0, 1, 1, 0, 0, 0, 0, 0, 0, 0, 1, 0,
+];
+
+// Whether three steps were taken, of which the third made the link, and this alone is sent, from 2 to 1.
+fn is_the_world(world: &World, sent: Msg) -> Result<bool, Fail> {
+    let one = NodeId::new(1).ok_or("1 is in range")?;
+    let two = NodeId::new(2).ok_or("2 is in range")?;
+    let forth = world.lane(one, two).ok_or("the lane is there")?;
+    let back = world.lane(two, one).ok_or("its way back is there")?;
+    Ok(
+        world.count() == 3
+            && forth.inc() == 3
+            && back.inc() == 3
+            && forth.queue().is_empty()
+            && back.queue() == [sent].as_slice(),
+    )
+}
+
+#[test]
+fn a_world_is_read(rt: HostRuntime) -> Result<(), Fail> {
+    let world = read_world(rt.alloc(), 1, &WORLD).map_err(|fault| fault.kind)?;
+    assert!(rt; is_the_world(&world, Msg::Ack)?);
+    Ok(())
+}
+
+#[test]
+fn a_world_is_written(rt: HostRuntime) -> Result<(), Fail> {
+    assert!(rt; spells_world(rt.alloc(), &WORLD)?);
+    assert!(rt; spells_world(rt.alloc(), &ANSWERED)?);
+    assert!(rt; spells_world(rt.alloc(), &[0; 11])?);
+    Ok(())
+}
+
+#[test]
+fn a_wrong_byte_is_found(rt: HostRuntime) -> Result<(), Fail> {
+    let changes = [
+        Change(2, 1, FaultKind::BadByte, 0),
+        Change(8, 0x41, FaultKind::BadByte, 8),
+        Change(9, 0, FaultKind::BadByte, 9),
+        Change(9, 0x41, FaultKind::BadByte, 9),
+        Change(10, 0, FaultKind::BadByte, 10),
+        Change(10, 0x11, FaultKind::BadByte, 10),
+        Change(11, 3, FaultKind::BadByte, 11),
+        Change(12, 0x41, FaultKind::BadByte, 12),
+        Change(28, 4, FaultKind::BadByte, 21),
+        Change(36, 4, FaultKind::BadByte, 29),
+        Change(37, 1, FaultKind::BadByte, 37),
+        Change(38, 2, FaultKind::BadByte, 66),
+        Change(65, 0x81, FaultKind::BadByte, 65),
+        Change(67, 1, FaultKind::BadByte, 67),
+        Change(67, 3, FaultKind::BadByte, 66),
+        Change(67, 0x41, FaultKind::BadByte, 67),
+        Change(75, 0, FaultKind::BadByte, 68),
+        Change(75, 4, FaultKind::BadByte, 68),
+        Change(83, 4, FaultKind::BadByte, 76),
+        Change(91, 4, FaultKind::BadByte, 84),
+        Change(109, 5, FaultKind::BadByte, 109),
+        Change(110, 3, FaultKind::BadByte, 110),
+        Change(111, 0x11, FaultKind::BadByte, 111),
+    ];
+    assert_eq!(rt; missed(rt.alloc(), Form::World, &WORLD, &changes)?, None);
+    Ok(())
+}
+
+#[test]
+fn a_wrong_byte_of_a_client_is_found(rt: HostRuntime) -> Result<(), Fail> {
+    let changes = [
+        Change(11, 0, FaultKind::BadByte, 11),
+        Change(11, 0x11, FaultKind::BadByte, 11),
+        Change(19, 0, FaultKind::BadByte, 12),
+        Change(19, 2, FaultKind::BadByte, 12),
+        Change(20, 6, FaultKind::BadByte, 20),
+        Change(22, 0x11, FaultKind::BadByte, 22),
+        Change(30, 0, FaultKind::BadByte, 23),
+        Change(30, 2, FaultKind::BadByte, 23),
+        Change(31, 1, FaultKind::BadByte, 31),
+        Change(31, 2, FaultKind::BadByte, 31),
+        Change(31, 4, FaultKind::BadByte, 31),
+    ];
+    assert_eq!(rt; missed(rt.alloc(), Form::World, &ANSWERED, &changes)?, None);
+    Ok(())
+}
+
+#[test]
+fn a_wrong_length_is_found(rt: HostRuntime) -> Result<(), Fail> {
+    assert!(rt; are_short_when_cut(rt.alloc(), Form::World, &WORLD)?);
+    assert!(rt; are_long_with_one_more(rt.alloc(), Form::World, &WORLD)?);
+    Ok(())
+}
+
+#[test]
+fn there_is_one_version(rt: HostRuntime) -> Result<(), Fail> {
+    assert!(rt; have_one_version(rt.alloc(), Form::World, &WORLD)?);
+    Ok(())
+}
