@@ -1,6 +1,6 @@
 -- How a run of disk calls goes on.
 use Rattle.std.proofs.Common.{inl, inr, ⊎_elim, ℕ, List, arith}
-use Rattle.coord_disk.specs.Moments.{Elapses, LeavesOnly}
+use Rattle.coord_disk.specs.Model.Moments.{Elapses, LeavesOnly}
 
 module _ {D : Type 0} (clock : D → ℕ) (left_since : D → ℕ → List ℕ → Type 0) where
   -- before the first call

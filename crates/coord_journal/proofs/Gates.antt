@@ -4,7 +4,7 @@ use Rattle.std.specs.Prelude.{slice_get, replicate, unwrap_or}
 use Rattle.std.proofs.lemmas.List.{take_at, append-nil}
 use Rattle.std.proofs.Math.Seq.{drop-append-add}
 use Rattle.std.proofs.lemmas.Bool.Decides.{nat_tests}
-use Rattle.coord_disk.specs.Present.{Present, Torn, IsImage, whole, overwritten}
+use Rattle.coord_disk.specs.Model.Present.{Present, Torn, IsImage, whole, overwritten}
 use Rattle.coord_journal.specs.Gate.{IsClosedAt, IsClosedOrOpenAt}
 
 same_some : (x y : ℕ) → Some x ≡ Some y → x ≡ y

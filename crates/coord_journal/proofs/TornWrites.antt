@@ -1,7 +1,7 @@
 -- What one write leaves where all was synced before it.
 use Rattle.std.proofs.Common.{◌≡◌, ℕ, List, length, refl, ◌∙◌, ap, subst, arith}
 use Rattle.std.specs.Prelude.{slice_get}
-use Rattle.coord_disk.specs.Present.{Present, IsImage, Writes, Torn, whole}
+use Rattle.coord_disk.specs.Model.Present.{Present, IsImage, Writes, Torn, whole}
 use Rattle.coord_disk.proofs.Overwritten.{no_shorter}
 
 pub torn : (bytes new : List ℕ) (at : ℕ) (p q : Present) → p ≡ whole bytes → Writes at new p q → (c : List ℕ) → IsImage q c → Torn bytes at new c

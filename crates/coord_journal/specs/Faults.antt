@@ -36,3 +36,7 @@ IsReadFault fault = (fault ≡ OutOfMemory) ⊎ (fault ≡ BadRecord)
 -- the faults of an append
 abbrev pub IsAppendFault : JournalFault → Type 0
 IsAppendFault fault = (fault ≡ Stopped) ⊎ ((fault ≡ JournalFull) ⊎ ((fault ≡ OutOfMemory) ⊎ (fault ≡ Device)))
+
+-- the faults of an opening
+abbrev pub IsOpenFault : JournalFault → Type 0
+IsOpenFault fault = (fault ≡ OutOfMemory) ⊎ ((fault ≡ Device) ⊎ ((fault ≡ NoMagic) ⊎ (fault ≡ BadRecord)))

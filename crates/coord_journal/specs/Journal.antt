@@ -1,6 +1,6 @@
 -- An open journal.
 use Rattle.std.specs.Prelude.{◌≡◌, ℕ, Bool, false}
-use Rattle.coord_disk.specs.Present.{Present, whole}
+use Rattle.coord_disk.specs.Model.Present.{Present, whole}
 use Rattle.coord_journal.specs.Text.{Content, IsTextAt, used_by}
 use Rattle.coord_journal.specs.declared.journal.Journal.{Journal}
 

@@ -1,8 +1,8 @@
 //! How an opening reads a disk: it first makes durable whatever an earlier fault left undecided.
 
-ghost use Rattle.std.specs.Prelude.{◌≡◌, ◌≢◌, ◌⊎◌, ◌<◌, true, IfOk, IfErr, OnOk, IsErrOf};
-ghost use Rattle.coord_disk.specs.Present.{whole, IsImage};
-ghost use Rattle.coord_disk.specs.Moments.{LeavesOnly};
+ghost use Rattle.std.specs.Prelude.{◌≡◌, ◌≢◌, ◌⊎◌, ◌<◌, ◌≤◌, true, IfOk, IfErr, OnOk, IsErrOf};
+ghost use Rattle.coord_disk.specs.Model.Present.{whole, IsImage};
+ghost use Rattle.coord_disk.specs.Model.Moments.{LeavesOnly};
 ghost use Rattle.coord_journal.specs.declared.fault.JournalFault.TheVariants.{OutOfMemory, Device};
 
 use crate::JournalFault;
@@ -18,6 +18,7 @@ pub fn read_settled<D: Disk>(alloc: Global, disk: &mut D) -> Result<Vec<u8>, Jou
     ensures fault { IfErr result (λ fault. (fault ≡ OutOfMemory) ⊎ (fault ≡ Device)) }
     ensures model { D.keeps_model disk.new ≡ D.keeps_model disk.old }
     ensures device { IsErrOf result JournalFault.Device → D.failures disk.old < D.failures disk.new }
+    ensures failures { D.failures disk.old ≤ D.failures disk.new }
 {
     disk.sync()?;
     let size = disk.len()?;

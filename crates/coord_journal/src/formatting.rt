@@ -1,8 +1,8 @@
 //! Makes a journal.
 
 ghost use Rattle.std.specs.Prelude.{◌≡◌, ◌≢◌, ◌<◌, ◌≤◌, true, List, ℕ, length, IfOk, IfErr, OnOk, IsErrOf};
-ghost use Rattle.coord_disk.specs.Present.{IsImage, whole};
-ghost use Rattle.coord_disk.specs.Moments.{LeavesOnly};
+ghost use Rattle.coord_disk.specs.Model.Present.{IsImage, whole};
+ghost use Rattle.coord_disk.specs.Model.Moments.{LeavesOnly};
 ghost use Rattle.coord_journal.specs.Faults.{RefusesFormat};
 ghost use Rattle.coord_journal.specs.declared.layout.TheConstants.{MAX_SNAPSHOT};
 ghost use Rattle.coord_journal.specs.Text.{IsText, IsHalfSize, formatted, without_batch};
@@ -55,6 +55,7 @@ pub fn format<D: Disk>(
     ensures any_moment { D.keeps_model disk.old ≡ true → IfErr result (λ fault. fault ≢ Device → LeavesOnly D.clock D.left_since disk.old disk.new (IsImage (D.present disk.old))) }
     ensures model { D.keeps_model disk.new ≡ D.keeps_model disk.old }
     ensures device { IsErrOf result JournalFault.Device → D.failures disk.old < D.failures disk.new }
+    ensures failures { D.failures disk.old ≤ D.failures disk.new }
 {
     if disk.len()? != 0 {
         return Err(JournalFault::NotEmpty);

@@ -1,8 +1,8 @@
 //! A block is put behind a closed gate, which is opened once the block is on the disk.
 
-ghost use Rattle.std.specs.Prelude.{◌≡◌, ◌+◌, ◌<◌, ◌^◌, true, List, ℕ, [], ◌∷◌, ◌++◌, length, drop, OnOk};
-ghost use Rattle.coord_disk.specs.Present.{whole};
-ghost use Rattle.coord_disk.specs.Moments.{LeavesOnly, HasCause};
+ghost use Rattle.std.specs.Prelude.{◌≡◌, ◌+◌, ◌<◌, ◌≤◌, ◌^◌, true, List, ℕ, [], ◌∷◌, ◌++◌, length, drop, OnOk};
+ghost use Rattle.coord_disk.specs.Model.Present.{whole};
+ghost use Rattle.coord_disk.specs.Model.Moments.{LeavesOnly, HasCause};
 ghost use Rattle.coord_journal.specs.Gate.{IsClosedOrOpenAt};
 
 use crate::synced::write_synced;
@@ -20,6 +20,7 @@ pub fn open_behind<D: Disk>(disk: &mut D, gate: u64, block: &[u8]) -> Result<(),
     ensures done { (lead after : List ℕ) → D.keeps_model disk.old ≡ true → D.present disk.old ≡ whole (lead ++ 0 ∷ after) → length lead ≡ gate
         → OnOk result (D.present disk.new ≡ whole (lead ++ 1 ∷ (block.now ++ drop (length block.now) after))) }
     ensures model { D.keeps_model disk.new ≡ D.keeps_model disk.old }
+    ensures calls { D.keeps_model disk.old ≡ true → D.clock disk.new ≤ D.clock disk.old + 4 }
     ensures cause { HasCause (D.failures disk.old) (D.failures disk.new) result }
 {
     write_synced(disk, gate + 1, block)?;

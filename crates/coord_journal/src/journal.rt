@@ -1,7 +1,7 @@
 //! A journal: a version, a snapshot and the batches that were appended since.
 
 ghost use Rattle.std.specs.Prelude.{◌≡◌, ◌≢◌, ◌⊎◌, ◌↔◌, ◌+◌, ◌-◌, ◌<◌, ◌≤◌, true, false, List, ℕ, [], ◌∷◌, ◌++◌, length, IfOk, IfErr, is_ok, OnOk, IsErrOf, if◌then◌else◌};
-ghost use Rattle.coord_disk.specs.Moments.{LeavesOnly};
+ghost use Rattle.coord_disk.specs.Model.Moments.{LeavesOnly};
 ghost use Rattle.coord_journal.specs.declared.layout.TheConstants.{MAX_BODY, MAX_HALF};
 ghost use Rattle.coord_journal.specs.Text.{Content, IsBeforeOrAfter, with_batch, sized};
 
@@ -98,6 +98,8 @@ impl<D: Disk> Journal<D> {
         ensures full { IsErrOf result JournalFault.JournalFull ↔ ((has_stopped self.old ≡ false) × (half_size_of self.old < used_of self.old + 5 + length body.now)) }
         ensures device { IsErrOf result JournalFault.Device → (D.failures (disk_of self.old) < D.failures (disk_of self.new)) × (has_stopped self.new ≡ true) }
         ensures fault { IfErr result IsAppendFault }
+        ensures calls { D.keeps_model (disk_of self.old) ≡ true → D.clock (disk_of self.new) ≤ D.clock (disk_of self.old) + 4 }
+        ensures failures { D.failures (disk_of self.old) ≤ D.failures (disk_of self.new) }
         ensures going { OnOk result (has_stopped self.new ≡ false) }
         ensures unchanged { IfErr result (λ fault. fault ≢ Device → self.new ≡ self.old) }
         ensures model { D.keeps_model (disk_of self.new) ≡ D.keeps_model (disk_of self.old) }

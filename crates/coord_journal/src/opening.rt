@@ -1,10 +1,10 @@
 //! Opens a journal.
 
 ghost use Rattle.std.specs.Prelude.{◌≡◌, ◌≢◌, ◌+◌, ◌<◌, ◌≤◌, true, false, List, ℕ, MatchResult, IfOk, IfErr, OnOk, OnErr, IsErrOf};
-ghost use Rattle.coord_disk.specs.Moments.{LeavesOnly};
-ghost use Rattle.coord_disk.specs.Present.{IsImage, whole};
+ghost use Rattle.coord_disk.specs.Model.Moments.{LeavesOnly};
+ghost use Rattle.coord_disk.specs.Model.Present.{IsImage, whole};
 ghost use Rattle.coord_journal.specs.Contents.{content_of};
-ghost use Rattle.coord_journal.specs.Faults.{RefusesOpen};
+ghost use Rattle.coord_journal.specs.Faults.{RefusesOpen, IsOpenFault};
 ghost use Rattle.coord_journal.specs.Journal.{IsReady, disk_of, has_stopped};
 ghost use Rattle.coord_journal.specs.declared.layout.TheConstants.{MAX_HALF};
 ghost use Rattle.coord_journal.specs.Text.{Content, IsText, IsTextAt, half_start, used_by};
@@ -88,6 +88,8 @@ pub fn open<D: Disk>(
 
     ensures model { MatchResult result (λ opened. D.keeps_model (disk_of opened.0) ≡ D.keeps_model disk) (λ refused. D.keeps_model refused.1 ≡ D.keeps_model disk) }
     ensures device { IfErr result (λ refused. refused.0 ≡ Device → D.failures disk < D.failures refused.1) }
+    ensures failures { MatchResult result (λ opened. D.failures disk ≤ D.failures (disk_of opened.0)) (λ refused. D.failures disk ≤ D.failures refused.1) }
+    ensures named { IfErr result (λ refused. IsOpenFault refused.0) }
 {
     let bytes = match read_settled(alloc, &mut disk) {
         Ok(bytes) => bytes,

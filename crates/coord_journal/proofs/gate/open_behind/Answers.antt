@@ -1,5 +1,5 @@
 use Rattle.std.proofs.Common.{◌+◌, [], ◌∷◌, ◌++◌, ◌∙◌, length, drop, ap}
-use Rattle.coord_disk.specs.Present.{whole, overwritten, Torn}
+use Rattle.coord_disk.specs.Model.Present.{whole, overwritten, Torn}
 use Rattle.coord_journal.specs.Gate.{IsClosedOrOpenAt}
 use Rattle.coord_disk.proofs.MomentLemmas.{weaker, and_then}
 use Rattle.coord_journal.proofs.Gates.{torn_behind, staged, torn_gate, opened}

@@ -1,5 +1,5 @@
 use Rattle.std.proofs.Common.{◌∙◌, ap}
-use Rattle.coord_disk.specs.Present.{Torn, whole}
+use Rattle.coord_disk.specs.Model.Present.{Torn, whole}
 use Rattle.coord_disk.proofs.MomentLemmas.{started, goes_on}
 use Rattle.coord_journal.proofs.TornWrites.{torn, untouched}
 use Rattle.coord_journal.proofs.synced.write_synced.Goals as goal

@@ -1,5 +1,5 @@
 use Rattle.std.proofs.Common.{◌+◌, ◌≤◌, List, ℕ, ◌∷◌, ◌++◌, length, drop, inl, sym, ◌∙◌, ap, subst, arith}
-use Rattle.coord_disk.specs.Present.{whole}
+use Rattle.coord_disk.specs.Model.Present.{whole}
 use Rattle.coord_disk.proofs.MomentLemmas.{started, weaker}
 use Rattle.coord_journal.specs.Text.{IsText, IsBeforeOrAfter}
 use Rattle.coord_journal.proofs.Gates.{whole_image}
