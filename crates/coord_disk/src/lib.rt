@@ -10,8 +10,6 @@ mod fault;
 mod fuse;
 mod history;
 mod memory;
-#[cfg(test)]
-mod tests;
 
 pub use blip::{Blip, BlipDisk};
 pub use choice::Choice;

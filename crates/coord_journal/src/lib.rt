@@ -14,8 +14,6 @@ mod opening;
 mod read;
 mod spelling;
 mod synced;
-#[cfg(test)]
-mod tests;
 
 pub use contents::Contents;
 pub use fault::JournalFault;
