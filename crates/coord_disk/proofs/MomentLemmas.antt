@@ -1,6 +1,6 @@
 -- How a run of disk calls goes on.
-use Rattle.std.proofs.Common.{inl, inr, ⊎_elim, ℕ, List, arith}
-use Rattle.coord_disk.specs.Moments.{Elapses, LeavesOnly}
+use Rattle.std.proofs.Common.{◌⊎◌, inl, inr, ⊎_elim, ℕ, List, arith}
+use Rattle.coord_disk.specs.Model.Moments.{Elapses, LeavesOnly}
 
 module _ {D : Type 0} (clock : D → ℕ) (left_since : D → ℕ → List ℕ → Type 0) where
   -- before the first call
@@ -25,9 +25,9 @@ module _ {D : Type 0} (clock : D → ℕ) (left_since : D → ℕ → List ℕ �
   }
 
   -- one run of calls, and then another
-  pub and_then : (old mid new : D) (P Q : List ℕ → Type 0) → LeavesOnly clock left_since old mid P → LeavesOnly clock left_since mid new Q → ((c : List ℕ) → Q c → P c) → LeavesOnly clock left_since old new P
-  and_then old mid new P Q one other implies = record {
+  pub and_then : (old mid new : D) (P Q : List ℕ → Type 0) → LeavesOnly clock left_since old mid P → LeavesOnly clock left_since mid new Q → LeavesOnly clock left_since old new (λ c. P c ⊎ Q c)
+  and_then old mid new P Q one other = record {
     later = omega (arith, one.later, other.later);
-    each = λ c left. ⊎_elim (one.each c) (λ has. implies c has) (other.before (clock old) c one.later left);
-    before = λ t c le left. ⊎_elim (one.before t c le) (λ has. inr (implies c has)) (other.before t c (omega (arith, le, one.later)) left);
+    each = λ c left. ⊎_elim (λ was. inl (one.each c was)) (λ has. inr has) (other.before (clock old) c one.later left);
+    before = λ t c le left. ⊎_elim (λ was. ⊎_elim (λ first. inl first) (λ has. inr (inl has)) (one.before t c le was)) (λ has. inr (inr has)) (other.before t c (omega (arith, le, one.later)) left);
   }

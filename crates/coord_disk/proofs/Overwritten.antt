@@ -3,7 +3,7 @@ use Rattle.std.proofs.Common.{◌≡◌, ◌⊎◌, inl, inr, ℕ, zero, suc, �
 use Rattle.std.specs.Prelude.{slice_get, replicate, nat_le, nat_lt, ◌&&◌, ◌||◌, Bool, true}
 use Rattle.std.proofs.lemmas.List.{take_all, take_rest}
 use Rattle.std.proofs.lemmas.Bool.Decides.{nat_tests}
-use Rattle.coord_disk.specs.Present.{Present, Range, IsImage, Writes, is_within, overwritten, range_of, written_at}
+use Rattle.coord_disk.specs.Model.Present.{Present, Range, IsImage, Writes, is_within, overwritten, range_of, written_at}
 
 get_left : (xs ys : List ℕ) (i : ℕ) → i < length xs → slice_get (xs ++ ys) i ≡ slice_get xs i
 get_left [] ys i lt = absurd (omega (arith, lt))
@@ -27,7 +27,7 @@ get_drop [] (suc n) i k is = refl
 get_drop (x ∷ xs) (suc n) i zero is = absurd (omega (arith, is))
 get_drop (x ∷ xs) (suc n) i (suc k) is = get_drop xs n i k (omega (arith, is))
 
-length_zeros : (n : ℕ) → length {A = ℕ} (replicate n 0) ≡ n
+pub length_zeros : (n : ℕ) → length {A = ℕ} (replicate n 0) ≡ n
 length_zeros zero = refl
 length_zeros (suc n) = omega (arith, length_zeros n)
 

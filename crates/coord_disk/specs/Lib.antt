@@ -1,9 +1,4 @@
-pub mod Blip
-pub mod Filled
-pub mod Fuse
-pub mod History
-pub mod Left
-pub mod Memory
-pub mod MemoryLaws
-pub mod Moments
-pub mod Present
+-- What a disk is to whoever uses one.
+pub mod Model
+-- What the disks of this crate are, and why each of them keeps the model.
+pub mod Disks

@@ -1,15 +1,15 @@
 //! A disk as its users see it: what a read gives, and what a crash may leave.
 
 ghost use Rattle.std.specs.Prelude.{◌≡◌, ◌+◌, ◌<◌, ◌≤◌, ◌^◌, true, Bool, List, ℕ, length, take, drop, IfOk, OnOk};
-ghost use Rattle.coord_disk.specs.Present.{Present, IsImage, Writes, FitsNoMore, whole, written_at};
-ghost use Rattle.coord_disk.specs.Moments.{Elapses, HasCause};
+ghost use Rattle.coord_disk.specs.Model.Present.{Present, IsImage, Writes, FitsNoMore, whole, written_at};
+ghost use Rattle.coord_disk.specs.Model.Moments.{Elapses, HasCause};
 
 use crate::DiskFault;
 
-/// A list of bytes that a crash may strike between two calls, or inside one.
+/// A list of bytes that a crash may meet between two calls, or inside one.
 ///
 /// Everything but the count of failures is promised where the disk keeps the model.
-pub trait Disk {
+pub trait Disk: Drop {
     /// What is synced, what a read gives, and where was written since.
     ghost present: { Self → Present };
 
@@ -73,10 +73,14 @@ pub trait Disk {
 
 /// A disk that can be crashed.
 pub trait CrashDisk: Disk {
+    /// What a crash may make of it.
+    ghost crashes: { Self → Self → Type 0 };
+
     /// It becomes one of its images, all of it synced.
     fn crash(self) -> Self
+        ensures crashes { crashes self result }
         ensures image { Self.keeps_model self ≡ true → IsImage (Self.present self) (Self.present result).read }
         ensures synced { Self.keeps_model self ≡ true → Self.present result ≡ whole (Self.present result).read }
         ensures model { Self.keeps_model result ≡ Self.keeps_model self }
-        ensures failures { Self.failures self ≤ Self.failures result };
+        ensures failures { Self.failures result ≡ Self.failures self };
 }

@@ -1,14 +1,14 @@
 //! What was done to a disk in memory.
 
 ghost use Rattle.std.specs.Prelude.{◌≡◌, ◌+◌, ◌<◌, ◌^◌, length, Some, IfOk, OnOk, OnErr};
-ghost use Rattle.coord_disk.specs.Present.{overwritten, whole, written_at};
-ghost use Rattle.coord_disk.specs.History.{LedTo, Adds, past_with, present_after};
+ghost use Rattle.coord_disk.specs.Model.Present.{overwritten, whole, written_at};
+ghost use Rattle.coord_disk.specs.Disks.History.{LedTo, Adds, past_with, present_after};
 
 use std::alloc::{AllocError, Global};
 
 /// A write or a sync.
 #[derive(Drop)]
-pub enum Deed {
+pub enum Entry {
     Wrote { at: u64, bytes: Vec<u8> },
     Synced,
 }
@@ -18,7 +18,7 @@ pub enum Deed {
 pub struct History {
     pub first: Vec<u8>,
     pub synced: Vec<u8>,
-    pub deeds: Vec<Deed>,
+    pub entries: Vec<Entry>,
 }
 
 // The bytes after a write.
@@ -54,7 +54,7 @@ pub fn write(
 {
     let next = overwrite(alloc, read, at as usize, bytes)?;
     let bytes = bytes.to_vec(alloc)?;
-    history.deeds.push(Deed::Wrote { at, bytes })?;
+    history.entries.push(Entry::Wrote { at, bytes })?;
     *read = next;
     Ok(())
 }
@@ -67,7 +67,7 @@ pub fn settle(alloc: Global, read: &Vec<u8>, history: &mut History) -> Result<()
     ensures err { OnErr result (past_with read.now.items (Some history.new) ≡ past_with read.now.items (Some history.old)) }
 {
     let synced = read.to_vec(alloc)?;
-    history.deeds.push(Deed::Synced)?;
+    history.entries.push(Entry::Synced)?;
     history.synced = synced;
     Ok(())
 }

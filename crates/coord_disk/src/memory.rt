@@ -2,11 +2,11 @@
 
 ghost use Rattle.std.specs.Prelude.{◌≡◌, ◌+◌, ◌<◌, ◌≤◌, ◌^◌, [], true, List, ℕ, length, Some, None, IfOk, OnOk, OnErr, IsSome};
 ghost use Rattle.std.specs.Option.{ForSome};
-ghost use Rattle.coord_disk.specs.Present.{IsImage, overwritten, whole, written_at};
-ghost use Rattle.coord_disk.specs.History.{Past, LedTo, Adds, LeftSince, past_with, present_after};
+ghost use Rattle.coord_disk.specs.Model.Present.{IsImage, overwritten, whole, written_at};
+ghost use Rattle.coord_disk.specs.Disks.History.{Past, LedTo, Adds, LeftSince, past_with, present_after};
 
+use crate::crash::crash_bytes;
 use crate::history::{History, settle, write};
-use crate::strike::strike;
 use crate::{Choice, CrashDisk, Disk, DiskFault};
 use http_server::Log;
 use std::alloc::{AllocError, Global};
@@ -23,8 +23,8 @@ pub struct MemDisk {
 }
 
 impl MemDisk {
-    ghost use Rattle.coord_disk.specs.Memory.{past_of, present_of, choice_of, failures_of};
-    ghost use Rattle.coord_disk.specs.Left.{IsLeft};
+    ghost use Rattle.coord_disk.specs.Disks.Memory.{past_of, present_of, choice_of, failures_of};
+    ghost use Rattle.coord_disk.specs.Disks.Left.{IsLeft};
     ghost use Rattle.coord_disk.specs.declared.choice.Choice.TheVariants.{Lost};
 
     /// A disk with nothing on it, that loses what is not synced.
@@ -85,7 +85,7 @@ impl MemDisk {
             self.history = Some(History {
                 first: self.read.to_vec(self.alloc)?,
                 synced: self.read.to_vec(self.alloc)?,
-                deeds: Vec::new(self.alloc),
+                entries: Vec::new(self.alloc),
             });
         }
         Ok(())
@@ -125,7 +125,7 @@ impl MemDisk {
         DiskFault
     }
 
-    fn struck(&mut self)
+    fn crash_in_place(&mut self)
         ensures present { present_of self.new ≡ whole (present_of self.new).read }
         ensures left { IsLeft (choice_of self.old) (present_of self.old) (present_of self.new).read }
         ensures image { IsImage (present_of self.old) (present_of self.new).read }
@@ -133,18 +133,18 @@ impl MemDisk {
         ensures failures { failures_of self.new ≡ failures_of self.old }
     {
         if let Some(history) = self.history.take() {
-            strike(&mut self.read, history, &self.choice);
+            crash_bytes(&mut self.read, history, &self.choice);
         }
     }
 }
 
 impl Disk for MemDisk {
-    ghost use Rattle.std.specs.Prelude.{◌≡◌, ◌+◌, ◌<◌, ◌^◌, true, length, OnOk, OnErr};
-    ghost use Rattle.coord_disk.specs.History.{Adds, LeftSince};
-    ghost use Rattle.coord_disk.specs.Memory.{past_of, present_of, clock_of, failures_of};
-    ghost use Rattle.coord_disk.specs.Moments.{Elapses, HasCause};
-    ghost use Rattle.coord_disk.specs.Present.{FitsNoMore, IsImage, Writes, whole, written_at};
-    ghost use Rattle.coord_disk.specs.MemoryLaws.{counts_now, only_now, reads_image};
+    ghost use Rattle.std.specs.Prelude.{◌≡◌, ◌+◌, ◌<◌, ◌≤◌, ◌^◌, true, length, take, drop, Ok, IsOk, OnOk, OnErr};
+    ghost use Rattle.coord_disk.specs.Disks.History.{Adds, LeftSince};
+    ghost use Rattle.coord_disk.specs.Disks.Memory.{past_of, present_of, clock_of, failures_of};
+    ghost use Rattle.coord_disk.specs.Model.Moments.{Elapses, HasCause};
+    ghost use Rattle.coord_disk.specs.Model.Present.{FitsNoMore, IsImage, Writes, whole, written_at};
+    ghost use Rattle.coord_disk.specs.Disks.MemoryLaws.{counts_now, only_now, reads_image};
 
     ghost present = { present_of };
 
@@ -162,11 +162,19 @@ impl Disk for MemDisk {
 
     ghost reads_image = { λ d _. reads_image d.read.items d.history d.led };
 
-    fn len(&mut self) -> Result<u64, DiskFault> {
+    fn len(&mut self) -> Result<u64, DiskFault>
+        ensures value { result ≡ Ok (length (present_of self.old).read) }
+        ensures untouched { self.new ≡ self.old }
+    {
         Ok(self.read.len() as u64)
     }
 
-    fn read(&mut self, at: u64, buf: &mut [u8]) -> Result<(), DiskFault> {
+    fn read(&mut self, at: u64, buf: &mut [u8]) -> Result<(), DiskFault>
+        requires { at + length buf.old ≤ length (present_of self.old).read }
+        ensures ok { IsOk result }
+        ensures value { buf.new ≡ take (length buf.old) (drop at (present_of self.old).read) }
+        ensures untouched { self.new ≡ self.old }
+    {
         let at = at as usize;
         buf.copy_from_slice(&self.read[at..at + buf.len()]);
         Ok(())
@@ -206,19 +214,19 @@ impl Disk for MemDisk {
 
 impl CrashDisk for MemDisk {
     ghost use Rattle.std.specs.Prelude.{◌≡◌};
-    ghost use Rattle.coord_disk.specs.Left.{IsLeft};
-    ghost use Rattle.coord_disk.specs.Memory.{present_of, choice_of, failures_of};
-    ghost use Rattle.coord_disk.specs.Present.{IsImage, whole};
+    ghost use Rattle.coord_disk.specs.Disks.Memory.{CrashesByChoice, present_of, failures_of};
+    ghost use Rattle.coord_disk.specs.Model.Present.{IsImage, whole};
+
+    ghost crashes = { CrashesByChoice };
 
     /// It leaves what was chosen.
     fn crash(mut self) -> Self
-        ensures left { IsLeft (choice_of self) (present_of self) (present_of result).read }
+        ensures crashes { CrashesByChoice self result }
         ensures image { IsImage (present_of self) (present_of result).read }
         ensures synced { present_of result ≡ whole (present_of result).read }
-        ensures choice { choice_of result ≡ choice_of self }
         ensures failures { failures_of result ≡ failures_of self }
     {
-        self.struck();
+        self.crash_in_place();
         self
     }
 }

@@ -1,10 +1,14 @@
 -- A gate that is opened adds its batch to the text.
-use Rattle.std.proofs.Common.{◌≡◌, ◌≢◌, inl, inr, ℕ, ◌+◌, ◌≤◌, List, [], ◌∷◌, ◌++◌, length, refl, sym, ◌∙◌, ap, arith, append_assoc, length-append}
+use Rattle.std.proofs.Common.{◌≡◌, ◌≢◌, ◌⊎◌, inl, inr, ℕ, zero, suc, ◌+◌, ◌<◌, ◌≤◌, List, [], ◌∷◌, ◌++◌, length, drop, subst, refl, sym, ◌∙◌, ap, arith, append_assoc, length-append}
 use Rattle.std.specs.Int.{w32, w64, to_be_bytes}
 use Rattle.std.proofs.lemmas.List.{append-nil}
-use Rattle.coord_journal.specs.Gate.{IsClosedOrOpenAt}
+use Rattle.std.specs.Prelude.{slice_get}
+use Rattle.std.proofs.lemmas.Bool.Decides.{nat_tests}
+use Rattle.coord_disk.specs.Model.Present.{Torn, overwritten}
+use Rattle.coord_disk.proofs.TornWrites.{begins, begins_but_hole, overwritten_behind}
+use Rattle.coord_journal.specs.Turns.{TornInTurn}
 use Rattle.coord_journal.specs.declared.layout.TheConstants.{MAX_BODY}
-use Rattle.coord_journal.specs.Text.{Content, IsOpened, IsTextAt, IsBeforeOrAfter, sized, lead, half_front, magic, size_of, with_batch}
+use Rattle.coord_journal.specs.Text.{Content, IsOpened, IsTextAt, IsEitherText, gate_place, sized, lead, half_front, magic, size_of, with_batch}
 
 pub opened_push : (batches : List (List ℕ)) (batch opened : List ℕ) (gate : ℕ) → IsOpened batches opened → gate ≢ 0 → length batch ≤ MAX_BODY → IsOpened (batches ++ batch ∷ []) (opened ++ gate ∷ (sized batch ++ []))
 opened_push [] batch opened gate none is_open short = (gate, [], is_open, (short, ap (λ (l : List ℕ). l ++ gate ∷ (sized batch ++ [])) none), refl)
@@ -36,11 +40,25 @@ lead_push selector half_size skipped front more =
 pub length_sized : (batch : List ℕ) → length (sized batch) ≡ 4 + length batch
 length_sized batch = length-append (to_be_bytes w32 (length batch)) batch
 
-module _ (bytes batch : List ℕ) (content : Content) (half_size gate used : ℕ) (text : IsTextAt bytes content half_size gate used) (short : length batch ≤ MAX_BODY) (room : used + 5 + length batch ≤ half_size) where
+-- the closed gate stands where the used bytes end
+pub lead_length : (bytes : List ℕ) (content : Content) (half_size half used : ℕ) (text : IsTextAt bytes content half_size half used)
+    → length (lead text.selector half_size text.skipped (half_front content.version content.snapshot text.opened)) ≡ gate_place half_size half used
+lead_length bytes content half_size half used text =
+    let front : List ℕ = half_front content.version content.snapshot text.opened in
+    omega (arith, text.used_is, text.skips, length-append (text.selector ∷ magic) (to_be_bytes w64 half_size ++ (text.skipped ++ front)), length-append (to_be_bytes w64 half_size) (text.skipped ++ front), length-append text.skipped front)
+
+pub length_block : (batch : List ℕ) → length (sized batch ++ 0 ∷ []) ≡ 5 + length batch
+length_block batch = omega (arith, length-append (sized batch) (0 ∷ []), length_sized batch)
+
+module _ (bytes : List ℕ) (content : Content) (half_size half used : ℕ) (text : IsTextAt bytes content half_size half used) where
   abbrev pub before : List ℕ
   before = lead text.selector half_size text.skipped (half_front content.version content.snapshot text.opened)
 
-  closed : (c rest : List ℕ) → c ≡ before ++ 0 ∷ rest → IsTextAt c content half_size gate used
+  pub gate : length before ≡ gate_place half_size half used
+  gate = lead_length bytes content half_size half used text
+
+  -- what stands behind the closed gate is not read
+  pub closed : (c rest : List ℕ) → c ≡ before ++ 0 ∷ rest → IsTextAt c content half_size half used
   closed c rest is = record {
     selector = text.selector;
     skipped = text.skipped;
@@ -48,13 +66,31 @@ module _ (bytes batch : List ℕ) (content : Content) (half_size gate used : ℕ
     behind = rest;
     spelled = is;
     size = text.size;
+    selected = text.selected;
     skips = text.skips;
     snapshot = text.snapshot;
     batches = text.batches;
     used_is = text.used_is;
     fits = text.fits;
-    gate_is = text.gate_is;
   }
+
+  -- so a write behind it leaves the text, however it is torn
+  pub torn_behind : (new : List ℕ) (at : ℕ) → gate_place half_size half used < at → (c : List ℕ) → Torn bytes at new c → IsTextAt c content half_size half used
+  torn_behind new at is c image =
+      let place : length (before ++ 0 ∷ []) ≤ at = omega (arith, is, gate, length-append before (0 ∷ [])) in
+      let split : bytes ≡ (before ++ 0 ∷ []) ++ text.behind = text.spelled ∙ sym (append_assoc before (0 ∷ []) text.behind) in
+      let long : length (before ++ 0 ∷ []) ≤ length bytes = omega (arith, ap length split, length-append (before ++ 0 ∷ []) text.behind) in
+      let rest = begins (before ++ 0 ∷ []) text.behind c (λ i lt. image.kept i (omega (arith, lt, long)) (let low : i < at = omega (arith, lt, place) in grind (arith, nat_tests)) ∙ ap (λ (l : List ℕ). slice_get l i) split) in
+      closed c rest.0 (rest.1 ∙ append_assoc before (0 ∷ []) rest.0)
+
+pub single : (l : List ℕ) → length l ≡ 1 → (x : ℕ) × (l ≡ x ∷ [])
+single [] one = absurd (omega (arith, one))
+single (x ∷ []) one = (x, refl)
+single (x ∷ (y ∷ l)) one = absurd (omega (arith, one))
+
+module _ (bytes batch : List ℕ) (content : Content) (half_size half used : ℕ) (text : IsTextAt bytes content half_size half used) (short : length batch ≤ MAX_BODY) (room : used + 5 + length batch ≤ half_size) where
+  abbrev lead_of : List ℕ
+  lead_of = before bytes content half_size half used text
 
   abbrev more : ℕ → List ℕ
   more open_gate = open_gate ∷ (sized batch ++ [])
@@ -62,7 +98,7 @@ module _ (bytes batch : List ℕ) (content : Content) (half_size gate used : ℕ
   abbrev front : List ℕ
   front = half_front content.version content.snapshot text.opened
 
-  pushed : (open_gate : ℕ) → lead text.selector half_size text.skipped (half_front content.version content.snapshot (text.opened ++ more open_gate)) ≡ before ++ more open_gate
+  pushed : (open_gate : ℕ) → lead text.selector half_size text.skipped (half_front content.version content.snapshot (text.opened ++ more open_gate)) ≡ lead_of ++ more open_gate
   pushed open_gate =
       ap (λ (l : List ℕ). lead text.selector half_size text.skipped l) (front_push content.version content.snapshot text.opened (more open_gate))
       ∙ lead_push text.selector half_size text.skipped front (more open_gate)
@@ -70,25 +106,67 @@ module _ (bytes batch : List ℕ) (content : Content) (half_size gate used : ℕ
   length_more : (open_gate : ℕ) → length (more open_gate) ≡ 5 + length batch
   length_more open_gate = omega (arith, length_sized batch, ap length (append-nil (sized batch)))
 
-  pub opens : (c rest : List ℕ) (open_gate : ℕ) → open_gate ≢ 0 → c ≡ before ++ open_gate ∷ ((sized batch ++ 0 ∷ []) ++ rest) → IsTextAt c (with_batch content batch) half_size (gate + (length batch + 5)) (used + (length batch + 5))
-  opens c rest open_gate is_open is = record {
+  -- behind an open gate the block adds the batch
+  pub opens : (c rest : List ℕ) (open_gate total : ℕ) → open_gate ≢ 0 → total ≡ used + 5 + length batch → c ≡ lead_of ++ open_gate ∷ ((sized batch ++ 0 ∷ []) ++ rest) → IsTextAt c (with_batch content batch) half_size half total
+  opens c rest open_gate total is_open total_is is = record {
     selector = text.selector;
     skipped = text.skipped;
     opened = text.opened ++ more open_gate;
     behind = rest;
-    spelled = is ∙ ap (λ (l : List ℕ). before ++ open_gate ∷ l) (append_assoc (sized batch) (0 ∷ []) rest ∙ ap (λ (l : List ℕ). l ++ 0 ∷ rest) (sym (append-nil (sized batch))))
-        ∙ sym (append_assoc before (more open_gate) (0 ∷ rest)) ∙ ap (λ (l : List ℕ). l ++ 0 ∷ rest) (sym (pushed open_gate));
+    spelled = is ∙ ap (λ (l : List ℕ). lead_of ++ open_gate ∷ l) (append_assoc (sized batch) (0 ∷ []) rest ∙ ap (λ (l : List ℕ). l ++ 0 ∷ rest) (sym (append-nil (sized batch))))
+        ∙ sym (append_assoc lead_of (more open_gate) (0 ∷ rest)) ∙ ap (λ (l : List ℕ). l ++ 0 ∷ rest) (sym (pushed open_gate));
     size = text.size;
+    selected = text.selected;
     skips = text.skips;
     snapshot = text.snapshot;
     batches = opened_push content.batches batch text.opened open_gate text.batches is_open short;
-    used_is = omega (arith, text.used_is, ap length (front_push content.version content.snapshot text.opened (more open_gate)), length-append front (more open_gate), length_more open_gate);
-    fits = omega (arith, room);
-    gate_is = omega (arith, text.gate_is, ap length (pushed open_gate), length-append before (more open_gate), length_more open_gate);
+    used_is = omega (arith, total_is, text.used_is, ap length (front_push content.version content.snapshot text.opened (more open_gate)), length-append front (more open_gate), length_more open_gate);
+    fits = omega (arith, room, total_is);
   }
 
-  -- what the gate says, the text says
-  pub stands : (block c : List ℕ) → block ≡ sized batch ++ 0 ∷ [] → IsClosedOrOpenAt before block c → IsBeforeOrAfter content batch c
-  stands block c is (inl shut) = inl (half_size, gate, used, closed c shut.0 shut.1)
-  stands block c is (inr opened) =
-      inr (half_size, gate + (length batch + 5), used + (length batch + 5), opens c opened.1 opened.0 opened.2 (opened.3 ∙ ap (λ (b : List ℕ). before ++ opened.0 ∷ (b ++ opened.1)) is))
+  abbrev pub block : List ℕ
+  block = sized batch ++ 0 ∷ []
+
+  abbrev rest : List ℕ
+  rest = drop (length block) text.behind
+
+  place_is : length lead_of ≡ gate_place half_size half used
+  place_is = gate bytes content half_size half used text
+
+  module _ (at place : ℕ) (at_is : at ≡ gate_place half_size half used + 1) (gate_is : place ≡ gate_place half_size half used) where
+    -- the block is put behind the gate
+    staged : overwritten bytes at block ≡ lead_of ++ 0 ∷ (block ++ rest)
+    staged =
+        ap (λ (l : List ℕ). overwritten l at block) (text.spelled ∙ sym (append_assoc lead_of (0 ∷ []) text.behind))
+        ∙ overwritten_behind (lead_of ++ 0 ∷ []) text.behind block at (omega (arith, at_is, place_is, length-append lead_of (0 ∷ []))) (omega (arith, length-append (sized batch) (0 ∷ [])))
+        ∙ append_assoc lead_of (0 ∷ []) (block ++ rest)
+
+    either : (c : List ℕ) (x : ℕ) (behind : List ℕ) → c ≡ lead_of ++ x ∷ (block ++ behind) → IsEitherText content (with_batch content batch) c
+    either c zero behind is = inl (half_size, half, used, closed bytes content half_size half used text c (block ++ behind) is)
+    either c (suc x) behind is = inr (half_size, half, used + 5 + length batch, opens c behind (suc x) (used + 5 + length batch) (omega arith) refl is)
+
+    but : (i : ℕ) → (i < length lead_of) ⊎ (length lead_of + 1 ≤ i) → i ≢ place
+    but i (inl lt) = omega (arith, lt, place_is, gate_is)
+    but i (inr le) = omega (arith, le, place_is, gate_is)
+
+    -- in each outcome of the second write the block stands whole, whatever the gate is
+    torn_gate : (c : List ℕ) → Torn (overwritten bytes at block) place (1 ∷ []) c → IsEitherText content (with_batch content batch) c
+    torn_gate c torn =
+        let image = subst (λ (l : List ℕ). Torn l place (1 ∷ []) c) staged torn in
+        let long : length (lead_of ++ 0 ∷ (block ++ rest)) ≡ place + 1 + length block + length rest = omega (arith, gate_is, place_is, length-append lead_of (0 ∷ (block ++ rest)), length-append block rest) in
+        let found = begins_but_hole lead_of (0 ∷ []) block rest c
+        (λ i lt out. image.kept i (omega (arith, lt, gate_is, place_is, long)) (let other : i ≢ place = but i out in grind (arith, nat_tests)))
+        (omega (arith, gate_is, place_is, long, image.no_shorter)) in
+        let one = single found.0 found.2 in
+        either c one.0 found.1 (found.3 ∙ ap (λ (l : List ℕ). lead_of ++ (l ++ (block ++ found.1))) one.1)
+
+    -- what a crash leaves of an append
+    pub append_torn : (c : List ℕ) → TornInTurn bytes at block place (1 ∷ []) c → IsEitherText content (with_batch content batch) c
+    append_torn c (inl one) = inl (half_size, half, used, torn_behind bytes content half_size half used text block at (omega (arith, at_is)) c one)
+    append_torn c (inr other) = torn_gate c other
+
+    -- what stands there once it is done
+    pub appended : (c : List ℕ) (total : ℕ) → total ≡ used + 5 + length batch → c ≡ overwritten (overwritten bytes at block) place (1 ∷ []) → IsTextAt c (with_batch content batch) half_size half total
+    appended c total total_is is =
+        opens c rest 1 total (omega arith) total_is
+        (is ∙ ap (λ (l : List ℕ). overwritten l place (1 ∷ [])) staged ∙ overwritten_behind lead_of (0 ∷ (block ++ rest)) (1 ∷ []) place (omega (arith, gate_is, place_is)) (omega arith))

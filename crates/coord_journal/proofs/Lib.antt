@@ -1,6 +1,5 @@
 pub mod Appended
-pub mod Gates
 pub mod Halves
 pub mod Reading
+pub mod Replaced
 pub mod Texts
-pub mod TornWrites

@@ -1,11 +1,11 @@
 -- A text is a header and a half.
-use Rattle.std.proofs.Common.{◌≡◌, inl, inr, ℕ, ◌+◌, ◌*◌, ◌<◌, ◌≤◌, ◌^◌, List, [], ◌∷◌, ◌++◌, length, take, drop, get_or, refl, sym, ◌∙◌, ap, subst, arith, length-append, length-take, length-drop}
+use Rattle.std.proofs.Common.{◌≡◌, inl, inr, ℕ, ◌+◌, ◌<◌, ◌≤◌, ◌^◌, List, [], ◌∷◌, ◌++◌, length, take, drop, get_or, refl, sym, ◌∙◌, ap, subst, arith, length-append, length-take, length-drop}
 use Rattle.std.specs.Prelude.{◌%◌, min}
 use Rattle.std.specs.Int.{w64, to_be_bytes, from_be_bytes}
 use Rattle.std.proofs.lemmas.Nat.{from_be_bytes-to_be_bytes_8}
 use Rattle.std.proofs.lemmas.List.{take_at, drop_at, drop-drop, take-append-drop}
 use Rattle.coord_journal.specs.Half.{IsHalf}
-use Rattle.coord_journal.specs.Text.{Content, HasHeader, IsHalfSize, IsText, IsTextAt, formatted, half_front, half_start, lead, magic, sized, without_batch}
+use Rattle.coord_journal.specs.Text.{Content, HasHeader, IsHalfSize, IsText, IsTextAt, formatted, half_front, half_start, magic, sized, without_batch}
 use Rattle.coord_journal.specs.declared.layout.TheConstants.{MAX_SNAPSHOT}
 use Rattle.coord_journal.specs.Faults.{BeginsWithHeader, IsReadFault, RefusesOpen}
 use Rattle.coord_journal.specs.declared.fault.JournalFault.{JournalFault}
@@ -36,7 +36,7 @@ same_selector bytes s t m n rest other here there = sym (selector_read bytes s m
 same_rest : (bytes : List ℕ) (s t m n : ℕ) (rest other : List ℕ) → HasHeader bytes s m rest → HasHeader bytes t n other → rest ≡ other
 same_rest bytes s t m n rest other here there = sym (rest_read bytes s m rest here.spelled) ∙ rest_read bytes t n other there.spelled
 
-module _ (bytes : List ℕ) (content : Content) (half_size gate used : ℕ) (text : IsTextAt bytes content half_size gate used) where
+module _ (bytes : List ℕ) (content : Content) (half_size half used : ℕ) (text : IsTextAt bytes content half_size half used) where
   abbrev front : List ℕ
   front = half_front content.version content.snapshot text.opened
 
@@ -46,24 +46,25 @@ module _ (bytes : List ℕ) (content : Content) (half_size gate used : ℕ) (tex
   pub text_header : HasHeader bytes text.selector half_size behind_header
   text_header = record { spelled = text.spelled ∙ sym (lead_push text.selector half_size text.skipped front (0 ∷ text.behind)); size = text.size }
 
-  pub text_half : IsHalf (drop (half_start text.selector half_size) behind_header) content used
+  pub text_half : IsHalf (drop (half_start half half_size) behind_header) content used
   text_half = record {
     opened = text.opened;
     behind = text.behind;
-    spelled = drop_at text.skipped (front ++ 0 ∷ text.behind) (half_start text.selector half_size) text.skips;
+    spelled = drop_at text.skipped (front ++ 0 ∷ text.behind) (half_start half half_size) text.skips;
     snapshot = text.snapshot;
     batches = text.batches;
     used_is = text.used_is;
   }
 
   -- whatever header was read, it is that of the text
-  pub half_in : (selector size : ℕ) (rest : List ℕ) → HasHeader bytes selector size rest → IsHalf (drop (half_start selector size) rest) content used
-  half_in selector size rest header =
+  pub half_in : (selector size other : ℕ) (rest : List ℕ) → selector % 2 ≡ other → HasHeader bytes selector size rest → IsHalf (drop (half_start other size) rest) content used
+  half_in selector size other rest named header =
       let same = same_rest bytes text.selector selector half_size size behind_header rest text_header header in
-      let start : half_start text.selector half_size ≡ half_start selector size =
-      ap (λ (s : ℕ). half_start s half_size) (same_selector bytes text.selector selector half_size size behind_header rest text_header header)
-      ∙ ap (λ (n : ℕ). half_start selector n) (same_half_size bytes text.selector selector half_size size behind_header rest text_header header) in
-      subst (λ (l : List ℕ). IsHalf l content used) (ap (λ (l : List ℕ). drop (half_start text.selector half_size) l) same ∙ ap (λ (n : ℕ). drop n rest) start) text_half
+      let selected : half ≡ other = sym text.selected ∙ ap (λ (s : ℕ). s % 2) (same_selector bytes text.selector selector half_size size behind_header rest text_header header) ∙ named in
+      let start : half_start half half_size ≡ half_start other size =
+      ap (λ (h : ℕ). half_start h half_size) selected
+      ∙ ap (λ (n : ℕ). half_start other n) (same_half_size bytes text.selector selector half_size size behind_header rest text_header header) in
+      subst (λ (l : List ℕ). IsHalf l content used) (ap (λ (l : List ℕ). drop (half_start half half_size) l) same ∙ ap (λ (n : ℕ). drop n rest) start) text_half
 
   pub fits_in : (selector size : ℕ) (rest : List ℕ) → HasHeader bytes selector size rest → used ≤ size
   fits_in selector size rest header = omega (arith, text.fits, same_half_size bytes text.selector selector half_size size behind_header rest text_header header)
@@ -72,37 +73,34 @@ module _ (bytes : List ℕ) (content : Content) (half_size gate used : ℕ) (tex
 pub text_same : (bytes : List ℕ) (c d : Content) → IsText c bytes → IsText d bytes → c ≡ d
 text_same bytes c d one other =
     let t = other.3 in
-    half_same (drop (half_start t.selector other.0) (behind_header bytes d other.0 other.1 other.2 t)) c d one.2 other.2
-    (half_in bytes c one.0 one.1 one.2 one.3 t.selector other.0 (behind_header bytes d other.0 other.1 other.2 t) (text_header bytes d other.0 other.1 other.2 t))
+    half_same (drop (half_start other.1 other.0) (behind_header bytes d other.0 other.1 other.2 t)) c d one.2 other.2
+    (half_in bytes c one.0 one.1 one.2 one.3 t.selector other.0 other.1 (behind_header bytes d other.0 other.1 other.2 t) t.selected (text_header bytes d other.0 other.1 other.2 t))
     (text_half bytes d other.0 other.1 other.2 t)
 
-module _ (bytes : List ℕ) (selector half_size : ℕ) (rest : List ℕ) (header : HasHeader bytes selector half_size rest) (start : ℕ) (starts : start ≡ half_start selector half_size) where
-  abbrev half : List ℕ
-  half = drop start rest
+module _ (bytes : List ℕ) (selector half_size half : ℕ) (rest : List ℕ) (header : HasHeader bytes selector half_size rest) (named : selector % 2 ≡ half) (start : ℕ) (starts : start ≡ half_start half half_size) where
+  abbrev half_bytes : List ℕ
+  half_bytes = drop start rest
 
-  in_text : (content : Content) (text : IsText content bytes) → IsHalf half content text.2
+  in_text : (content : Content) (text : IsText content bytes) → IsHalf half_bytes content text.2
   in_text content text =
-      subst (λ (n : ℕ). IsHalf (drop n rest) content text.2) (sym starts) (half_in bytes content text.0 text.1 text.2 text.3 selector half_size rest header)
+      subst (λ (n : ℕ). IsHalf (drop n rest) content text.2) (sym starts) (half_in bytes content text.0 text.1 text.2 text.3 selector half_size half rest named header)
 
   -- there is no text where the half does not begin, or is refused
   pub cut_short : length rest < start → (content : Content) → IsText content bytes → ⊥
   cut_short short content text =
       let h = in_text content text in
-      omega (arith, short, h.used_is, half_long half content text.2 h, length-drop start rest)
+      omega (arith, short, h.used_is, half_long half_bytes content text.2 h, length-drop start rest)
 
-  pub refused : (n : ℕ) → n ≡ min half_size (length half) → ((content : Content) (used : ℕ) → IsHalf (take n half) content used → ⊥) → (content : Content) → IsText content bytes → ⊥
+  pub refused : (n : ℕ) → n ≡ min half_size (length half_bytes) → ((content : Content) (used : ℕ) → IsHalf (take n half_bytes) content used → ⊥) → (content : Content) → IsText content bytes → ⊥
   refused n n_is bad content text =
       let h = in_text content text in
-      let fits : text.2 ≤ n = omega (arith, n_is, half_long half content text.2 h, fits_in bytes content text.0 text.1 text.2 text.3 selector half_size rest header) in
-      bad content text.2 (half_cut half content text.2 n h fits)
+      let fits : text.2 ≤ n = omega (arith, n_is, half_long half_bytes content text.2 h, fits_in bytes content text.0 text.1 text.2 text.3 selector half_size rest header) in
+      bad content text.2 (half_cut half_bytes content text.2 n h fits)
 
   -- a half that was read makes a text
-  module _ (n used gate : ℕ) (content : Content) (within : start ≤ length rest) (few : n ≤ half_size) (read : IsHalf (take n half) content used) (gate_is : gate ≡ 16 + start + used) where
-    whole : IsHalf half content used
-    whole = half_whole half content used n read
-
-    pub used_within : used ≤ half_size
-    used_within = omega (arith, few, half_long (take n half) content used read, length-take n half)
+  module _ (n used : ℕ) (content : Content) (within : start ≤ length rest) (few : n ≤ half_size) (read : IsHalf (take n half_bytes) content used) where
+    whole : IsHalf half_bytes content used
+    whole = half_whole half_bytes content used n read
 
     abbrev front_of : List ℕ
     front_of = half_front content.version content.snapshot whole.opened
@@ -110,7 +108,7 @@ module _ (bytes : List ℕ) (selector half_size : ℕ) (rest : List ℕ) (header
     long : length (take start rest) ≡ start
     long = omega (arith, within, length-take start rest)
 
-    pub made : IsTextAt bytes content half_size gate used
+    pub made : IsTextAt bytes content half_size half used
     made = record {
       selector = selector;
       skipped = take start rest;
@@ -120,12 +118,12 @@ module _ (bytes : List ℕ) (selector half_size : ℕ) (rest : List ℕ) (header
           ∙ ap (λ (l : List ℕ). (selector ∷ magic) ++ (to_be_bytes w64 half_size ++ l)) (sym (take-append-drop start rest) ∙ ap (λ (l : List ℕ). take start rest ++ l) whole.spelled)
           ∙ lead_push selector half_size (take start rest) front_of (0 ∷ whole.behind);
       size = header.size;
+      selected = named;
       skips = long ∙ starts;
       snapshot = whole.snapshot;
       batches = whole.batches;
       used_is = whole.used_is;
-      fits = used_within;
-      gate_is = omega (arith, gate_is, whole.used_is, long, length-append (selector ∷ magic) (to_be_bytes w64 half_size ++ (take start rest ++ front_of)), length-append (to_be_bytes w64 half_size) (take start rest ++ front_of), length-append (take start rest) front_of);
+      fits = omega (arith, few, half_long (take n half_bytes) content used read, length-take n half_bytes);
     }
 
 -- a new journal
@@ -133,7 +131,7 @@ pub formatted_text : (half_size version : ℕ) (snapshot bytes : List ℕ) → I
 formatted_text half_size version snapshot bytes size short is =
     let front : List ℕ = half_front version snapshot [] in (
       half_size,
-      length (lead 0 half_size [] front),
+      0,
       length front + 1,
       record {
         selector = 0;
@@ -142,12 +140,12 @@ formatted_text half_size version snapshot bytes size short is =
         behind = [];
         spelled = is;
         size = size;
+        selected = refl;
         skips = omega arith;
         snapshot = short;
         batches = refl;
         used_is = refl;
         fits = omega (arith, size.smallest, short, length-append (sized snapshot) [], length_sized snapshot);
-        gate_is = refl;
       },
     )
 
@@ -157,16 +155,6 @@ header_parts [] long = absurd (omega (arith, long))
 header_parts (b ∷ bytes) long =
     ap (λ (l : List ℕ). b ∷ l)
     (sym (take-append-drop 8 bytes) ∙ ap (λ (l : List ℕ). take 8 bytes ++ l) (sym (take-append-drop 8 (drop 8 bytes)) ∙ ap (λ (l : List ℕ). take 8 (drop 8 bytes) ++ l) (drop-drop 8 8 bytes)))
-
--- the first half and the second
-pub start_even : (selector half_size : ℕ) → selector % 2 ≡ 0 → 0 ≡ half_start selector half_size
-start_even selector half_size even = let none : 0 ≡ 0 * half_size = omega arith in none ∙ ap (λ (n : ℕ). n * half_size) (sym even)
-
-pub start_odd : (selector half_size : ℕ) → (selector % 2 ≡ 0 → ⊥) → half_size ≡ half_start selector half_size
-start_odd selector half_size odd =
-    let one : 1 ≡ selector % 2 = omega (arith, odd) in
-    let all : half_size ≡ 1 * half_size = omega arith in
-    all ∙ ap (λ (n : ℕ). n * half_size) one
 
 -- a fault of reading says why
 pub refuses : (bytes : List ℕ) (fault : JournalFault) → IsReadFault fault → (fault ≡ BadRecord → BeginsWithHeader bytes × ((content : Content) → IsText content bytes → ⊥)) → RefusesOpen bytes fault

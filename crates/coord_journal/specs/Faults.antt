@@ -1,5 +1,5 @@
 -- When each refusal comes, the device's own faults aside.
-use Rattle.std.specs.Prelude.{◌≡◌, ◌⊎◌, ℕ, ◌<◌, List, length}
+use Rattle.std.specs.Prelude.{◌≡◌, ◌⊎◌, ℕ, ◌<◌, List, length, Result, Ok, Err}
 use Rattle.coord_journal.specs.Text.{Content, HasHeader, IsHalfSize, IsText}
 use Rattle.coord_journal.specs.declared.fault.JournalFault.{JournalFault}
 use Rattle.coord_journal.specs.declared.fault.JournalFault.TheVariants.{OutOfMemory, Device, NotEmpty, HalfSize, NoMagic, BadRecord, JournalFull, Stopped}
@@ -33,6 +33,24 @@ RefusesOpen bytes Stopped = ⊥
 abbrev pub IsReadFault : JournalFault → Type 0
 IsReadFault fault = (fault ≡ OutOfMemory) ⊎ (fault ≡ BadRecord)
 
--- the faults of an append
-abbrev pub IsAppendFault : JournalFault → Type 0
-IsAppendFault fault = (fault ≡ Stopped) ⊎ ((fault ≡ JournalFull) ⊎ ((fault ≡ OutOfMemory) ⊎ (fault ≡ Device)))
+-- the faults of a format
+abbrev pub IsFormatFault : JournalFault → Type 0
+IsFormatFault fault = (fault ≡ NotEmpty) ⊎ ((fault ≡ HalfSize) ⊎ ((fault ≡ OutOfMemory) ⊎ (fault ≡ Device)))
+
+-- the faults of an opening
+abbrev pub IsOpenFault : JournalFault → Type 0
+IsOpenFault fault = (fault ≡ OutOfMemory) ⊎ ((fault ≡ Device) ⊎ ((fault ≡ NoMagic) ⊎ (fault ≡ BadRecord)))
+
+-- the faults of an append or a replace
+abbrev pub IsWriteFault : JournalFault → Type 0
+IsWriteFault fault = (fault ≡ Stopped) ⊎ ((fault ≡ OutOfMemory) ⊎ (fault ≡ Device))
+
+-- how often the device has failed in a call that is refused so
+abbrev pub failed_in : JournalFault → ℕ
+failed_in Device = 1
+failed_in _ = 0
+
+-- how often it has failed in a call with this answer
+abbrev pub failures_in : {T : Type 0} → Result T JournalFault → ℕ
+failures_in (Ok value) = 0
+failures_in (Err fault) = failed_in fault

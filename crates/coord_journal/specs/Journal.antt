@@ -1,6 +1,7 @@
 -- An open journal.
-use Rattle.std.specs.Prelude.{◌≡◌, ℕ, Bool, false}
-use Rattle.coord_disk.specs.Present.{Present, whole}
+use Rattle.std.specs.Prelude.{◌≡◌, ℕ, ◌+◌, ◌≤◌, Bool, false}
+use Rattle.coord_disk.specs.Model.Present.{Present, whole}
+use Rattle.coord_journal.specs.Half.{half_number}
 use Rattle.coord_journal.specs.Text.{Content, IsTextAt, used_by}
 use Rattle.coord_journal.specs.declared.journal.Journal.{Journal}
 
@@ -11,17 +12,25 @@ disk_of journal = journal.disk
 abbrev pub half_size_of : {D : Type 0} → Journal D → ℕ
 half_size_of journal = journal.half_size
 
--- how many bytes of the selected half are used, its closed gate included
+-- the selected half, 0 or 1
+abbrev pub half_of : {D : Type 0} → Journal D → ℕ
+half_of journal = half_number journal.half
+
+-- how many bytes of it are used, its closed gate included
 abbrev pub used_of : {D : Type 0} → Journal D → ℕ
 used_of journal = journal.used
 
--- whether the device has failed in an append
+-- whether the device has failed in an append or a replace
 abbrev pub has_stopped : {D : Type 0} → Journal D → Bool
 has_stopped journal = journal.stopped
 
--- its disk holds the text of this content, all of it synced, and it may be added to
+-- a body of so many bytes fits behind what is used
+abbrev pub Fits : {D : Type 0} → Journal D → ℕ → Type 0
+Fits journal len = used_of journal + 5 + len ≤ half_size_of journal
+
+-- its disk holds the text of this content, all of it synced, and it may be written to
 pub record IsReady {D : Type 0} (present : D → Present) (journal : Journal D) (content : Content) : Type 0 where
   pub synced : present (disk_of journal) ≡ whole (present (disk_of journal)).read
-  pub text : IsTextAt (present (disk_of journal)).read content (half_size_of journal) journal.gate (used_of journal)
+  pub text : IsTextAt (present (disk_of journal)).read content (half_size_of journal) (half_of journal) (used_of journal)
   pub used : used_of journal ≡ used_by content
   pub going : has_stopped journal ≡ false

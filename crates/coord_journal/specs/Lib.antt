@@ -1,7 +1,7 @@
 pub mod Contents
 pub mod Fault
 pub mod Faults
-pub mod Gate
 pub mod Half
 pub mod Journal
 pub mod Text
+pub mod Turns

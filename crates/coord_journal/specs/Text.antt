@@ -43,31 +43,35 @@ pub record HasHeader (bytes : List ℕ) (selector half_size : ℕ) (rest : List 
   pub spelled : bytes ≡ (selector ∷ magic) ++ (to_be_bytes w64 half_size ++ rest)
   pub size : IsHalfSize half_size
 
--- where the selected half begins behind the header: an even selector names the first, an odd one the second
+-- where a half begins behind the header: the first half is 0, the second 1
 abbrev pub half_start : ℕ → ℕ → ℕ
-half_start selector half_size = (selector % 2) * half_size
+half_start half half_size = half * half_size
 
 -- all in front of the first closed gate of the selected half; `skipped` is what stands before the half
 abbrev pub lead : ℕ → ℕ → List ℕ → List ℕ → List ℕ
 lead selector half_size skipped front = (selector ∷ magic) ++ (to_be_bytes w64 half_size ++ (skipped ++ front))
 
--- These bytes are such a text, with its closed gate at this place, and this many bytes of the half used, that gate included. What stands behind the gate is not read.
-pub record IsTextAt (bytes : List ℕ) (content : Content) (half_size gate used : ℕ) : Type 0 where
+-- These bytes are such a text: this half is selected, by an even or an odd selector, and so many bytes of it are used, its closed gate included. What stands behind the gate is not read.
+pub record IsTextAt (bytes : List ℕ) (content : Content) (half_size half used : ℕ) : Type 0 where
   pub selector : ℕ
   pub skipped : List ℕ
   pub opened : List ℕ
   pub behind : List ℕ
   pub spelled : bytes ≡ lead selector half_size skipped (half_front content.version content.snapshot opened) ++ 0 ∷ behind
   pub size : IsHalfSize half_size
-  pub skips : length skipped ≡ half_start selector half_size
+  pub selected : selector % 2 ≡ half
+  pub skips : length skipped ≡ half_start half half_size
   pub snapshot : length content.snapshot ≤ MAX_SNAPSHOT
   pub batches : IsOpened content.batches opened
   pub used_is : length (half_front content.version content.snapshot opened) + 1 ≡ used
   pub fits : used ≤ half_size
-  pub gate_is : length (lead selector half_size skipped (half_front content.version content.snapshot opened)) ≡ gate
+
+-- the place of the closed gate
+abbrev pub gate_place : ℕ → ℕ → ℕ → ℕ
+gate_place half_size half used = 16 + half_start half half_size + used
 
 abbrev pub IsText : Content → List ℕ → Type 0
-IsText content bytes = (half_size gate used : ℕ) × IsTextAt bytes content half_size gate used
+IsText content bytes = (half_size half used : ℕ) × IsTextAt bytes content half_size half used
 
 -- with nothing behind the snapshot
 abbrev pub without_batch : ℕ → List ℕ → Content
@@ -76,9 +80,9 @@ without_batch version snapshot = record { version = version; snapshot = snapshot
 abbrev pub with_batch : Content → List ℕ → Content
 with_batch content batch = record { version = content.version; snapshot = content.snapshot; batches = content.batches ++ batch ∷ [] }
 
--- the text of the content, or of this and one batch more
-abbrev pub IsBeforeOrAfter : Content → List ℕ → List ℕ → Type 0
-IsBeforeOrAfter content batch bytes = IsText content bytes ⊎ IsText (with_batch content batch) bytes
+-- the text of one of two contents
+abbrev pub IsEitherText : Content → Content → List ℕ → Type 0
+IsEitherText one other bytes = IsText one bytes ⊎ IsText other bytes
 
 -- a journal that was just made: half 0 is selected, and its gate is the last byte
 abbrev pub formatted : ℕ → ℕ → List ℕ → List ℕ

@@ -1,39 +1,19 @@
 //! Makes a journal.
 
-ghost use Rattle.std.specs.Prelude.{◌≡◌, ◌≢◌, ◌<◌, ◌≤◌, true, List, ℕ, length, IfOk, IfErr, OnOk, IsErrOf};
-ghost use Rattle.coord_disk.specs.Present.{IsImage, whole};
-ghost use Rattle.coord_disk.specs.Moments.{LeavesOnly};
-ghost use Rattle.coord_journal.specs.Faults.{RefusesFormat};
+ghost use Rattle.std.specs.Prelude.{◌≡◌, ◌≢◌, ◌+◌, ◌<◌, ◌≤◌, true, length, IfErr, OnOk};
+ghost use Rattle.coord_disk.specs.Model.Present.{IsImage, whole};
+ghost use Rattle.coord_disk.specs.Model.Moments.{LeavesOnly};
+ghost use Rattle.coord_journal.specs.Faults.{IsFormatFault, RefusesFormat, failures_in};
 ghost use Rattle.coord_journal.specs.declared.layout.TheConstants.{MAX_SNAPSHOT};
 ghost use Rattle.coord_journal.specs.Text.{IsText, IsHalfSize, formatted, without_batch};
 ghost use Rattle.coord_journal.specs.declared.fault.JournalFault.TheVariants.{Device};
 
 use crate::JournalFault;
-use crate::layout::{MAGIC, MAX_HALF, MIN_HALF};
+use crate::layout::{MAX_HALF, MIN_HALF};
+use crate::spelling::spell_device;
 use crate::synced::write_synced;
 use coord_disk::Disk;
-use std::alloc::{AllocError, Global};
-
-// The bytes of a journal with no batch.
-fn spelled(
-    alloc: Global,
-    half_size: u64,
-    version: u8,
-    snapshot: &[u8],
-) -> Result<Vec<u8>, AllocError>
-    requires { length snapshot.now ≤ MAX_SNAPSHOT }
-    ensures { IfOk result (λ bytes. bytes.items ≡ formatted half_size version snapshot.now) }
-{
-    let mut bytes = Vec::new(alloc);
-    bytes.push(0)?;
-    bytes.extend_from_slice(&MAGIC)?;
-    bytes.extend_from_slice(&half_size.to_be_bytes())?;
-    bytes.push(version)?;
-    bytes.extend_from_slice(&(snapshot.len() as u32).to_be_bytes())?;
-    bytes.extend_from_slice(snapshot)?;
-    bytes.push(0)?;
-    Ok(bytes)
-}
+use std::alloc::Global;
 
 /// Makes a journal of this version and snapshot, with no batch, on an empty device.
 ///
@@ -54,7 +34,9 @@ pub fn format<D: Disk>(
     ensures unchanged { D.keeps_model disk.old ≡ true → IfErr result (λ fault. fault ≢ Device → D.present disk.new ≡ D.present disk.old) }
     ensures any_moment { D.keeps_model disk.old ≡ true → IfErr result (λ fault. fault ≢ Device → LeavesOnly D.clock D.left_since disk.old disk.new (IsImage (D.present disk.old))) }
     ensures model { D.keeps_model disk.new ≡ D.keeps_model disk.old }
-    ensures device { IsErrOf result JournalFault.Device → D.failures disk.old < D.failures disk.new }
+    ensures named { IfErr result IsFormatFault }
+    ensures failures { D.failures disk.new ≡ D.failures disk.old + failures_in result }
+    ensures calls { D.keeps_model disk.old ≡ true → D.clock disk.new ≤ D.clock disk.old + 3 }
 {
     if disk.len()? != 0 {
         return Err(JournalFault::NotEmpty);
@@ -62,7 +44,7 @@ pub fn format<D: Disk>(
     if half_size < MIN_HALF || MAX_HALF < half_size {
         return Err(JournalFault::HalfSize);
     }
-    let bytes = spelled(alloc, half_size, version, snapshot)?;
+    let bytes = spell_device(alloc, half_size, version, snapshot)?;
     write_synced(disk, 0, &bytes)?;
     Ok(())
 }

@@ -1,14 +1,17 @@
 //! A journal: a version, a snapshot and the batches that were appended since.
 
-ghost use Rattle.std.specs.Prelude.{◌≡◌, ◌≢◌, ◌⊎◌, ◌↔◌, ◌+◌, ◌-◌, ◌<◌, ◌≤◌, true, false, List, ℕ, [], ◌∷◌, ◌++◌, length, IfOk, IfErr, is_ok, OnOk, IsErrOf, if◌then◌else◌};
-ghost use Rattle.coord_disk.specs.Moments.{LeavesOnly};
-ghost use Rattle.coord_journal.specs.declared.layout.TheConstants.{MAX_BODY, MAX_HALF};
-ghost use Rattle.coord_journal.specs.Text.{Content, IsBeforeOrAfter, with_batch, sized};
+ghost use Rattle.std.specs.Prelude.{◌≡◌, ◌≢◌, ◌↔◌, ◌+◌, ◌-◌, ◌*◌, ◌≤◌, true, false, length, IsTrue, IfErr, is_ok, OnOk, IsErrOf, if◌then◌else◌};
+ghost use Rattle.coord_disk.specs.Model.Moments.{LeavesOnly};
+ghost use Rattle.coord_journal.specs.declared.layout.TheConstants.{MAX_BODY, MAX_HALF, MAX_SNAPSHOT, MIN_HALF};
+ghost use Rattle.coord_journal.specs.Text.{Content, IsEitherText, gate_place, with_batch, without_batch};
 
 use crate::JournalFault;
-use crate::gate::open_behind;
+use crate::half::Half;
+use crate::layout::HEADER;
+use crate::spelling::{spell_block, spell_half};
+use crate::synced::write_in_turn;
 use coord_disk::Disk;
-use std::alloc::{AllocError, Global};
+use std::alloc::Global;
 
 /// An open journal.
 #[derive(Drop)]
@@ -16,40 +19,29 @@ pub struct Journal<D> {
     alloc: Global,
     disk: D,
     half_size: u64,
-    // The place of the closed gate, and how much of the half ends with it.
-    gate: u64,
+    // The selected half, and how much of it is used, its closed gate included.
+    half: Half,
     used: u64,
     stopped: bool,
-    ghost small: { half_size ≤ MAX_HALF },
+    ghost smallest: { MIN_HALF ≤ half_size },
+    ghost greatest: { half_size ≤ MAX_HALF },
     ghost within: { used ≤ half_size },
-    ghost near: { gate < 17 + half_size + used },
-}
-
-// A length, the body and a closed gate.
-fn block_of(alloc: Global, body: &[u8]) -> Result<Vec<u8>, AllocError>
-    requires { length body.now ≤ MAX_BODY }
-    ensures { IfOk result (λ block. block.items ≡ sized body.now ++ 0 ∷ []) }
-{
-    let mut block = Vec::new(alloc);
-    block.extend_from_slice(&(body.len() as u32).to_be_bytes())?;
-    block.extend_from_slice(body)?;
-    block.push(0)?;
-    Ok(block)
 }
 
 impl<D: Disk> Journal<D> {
-    ghost use Rattle.coord_journal.specs.Journal.{IsReady, disk_of, half_size_of, used_of, has_stopped};
-    ghost use Rattle.coord_journal.specs.Faults.{IsAppendFault};
+    ghost use Rattle.coord_journal.specs.Journal.{Fits, IsReady, disk_of, half_of, half_size_of, used_of, has_stopped};
+    ghost use Rattle.coord_journal.specs.Half.{half_number};
+    ghost use Rattle.coord_journal.specs.Faults.{IsWriteFault, failures_in};
     ghost use Rattle.coord_journal.specs.declared.fault.JournalFault.TheVariants.{Device};
 
-    // A journal whose text ends at this gate.
-    pub(crate) fn at(alloc: Global, disk: D, half_size: u64, gate: u64, used: u64) -> Self
-        requires small { half_size ≤ MAX_HALF }
+    // A journal with so many bytes of this half used.
+    pub(crate) fn at(alloc: Global, disk: D, half_size: u64, half: Half, used: u64) -> Self
+        requires smallest { MIN_HALF ≤ half_size }
+        requires greatest { half_size ≤ MAX_HALF }
         requires within { used ≤ half_size }
-        requires near { gate < 17 + half_size + used }
         ensures disk { disk_of result ≡ disk }
         ensures half_size { half_size_of result ≡ half_size }
-        ensures gate { result.gate ≡ gate }
+        ensures half { half_of result ≡ half_number half }
         ensures used { used_of result ≡ used }
         ensures going { has_stopped result ≡ false }
     {
@@ -57,17 +49,25 @@ impl<D: Disk> Journal<D> {
             alloc,
             disk,
             half_size,
-            gate,
+            half,
             used,
             stopped: false,
         }
     }
 
-    /// The greatest body that still fits, in bytes. 0 is given also where not even an empty one does.
+    /// The greatest body that still fits, in bytes. 0 is given also where not even an empty one does: ask `fits`.
     pub fn room(&self) -> u64
         ensures { result ≡ half_size_of self.now - used_of self.now - 5 }
     {
         (self.half_size - self.used).saturating_sub(5)
+    }
+
+    /// Whether a body of so many bytes still fits.
+    pub fn fits(&self, len: usize) -> bool
+        ensures { IsTrue result ↔ Fits self.now len }
+    {
+        let free = self.half_size - self.used;
+        5 <= free && len as u64 <= free - 5
     }
 
     /// Gives the disk back.
@@ -77,27 +77,38 @@ impl<D: Disk> Journal<D> {
         self.disk
     }
 
-    /// Adds a batch with this body, of at most 8,192 bytes. It takes four calls of the device.
+    // Where the closed gate of the selected half stands.
+    fn gate(&self) -> u64
+        ensures place { result ≡ gate_place (half_size_of self.now) (half_of self.now) (used_of self.now) }
+        ensures near { result ≤ 16 + 2 * MAX_HALF }
+    {
+        (HEADER as u64 - 1) + self.half.start(self.half_size) + self.used
+    }
+
+    /// Adds a batch with this body, which has at most 8,192 bytes and fits. It takes four calls of the device.
     ///
     /// After `Device` each later call answers `Stopped`, and opening the device tells whether the batch is there.
     pub fn append(&mut self, body: &[u8]) -> Result<(), JournalFault>
-        requires { length body.now ≤ MAX_BODY }
+        requires short { length body.now ≤ MAX_BODY }
+        requires fits { Fits self.old (length body.now) }
 
         // A crash at any moment of the call leaves the text of the content from before it, with the batch or without.
         ensures any_moment { (content : Content) → D.keeps_model (disk_of self.old) ≡ true → IsReady D.present self.old content
-            → LeavesOnly D.clock D.left_since (disk_of self.old) (disk_of self.new) (IsBeforeOrAfter content body.now) }
+            → LeavesOnly D.clock D.left_since (disk_of self.old) (disk_of self.new) (IsEitherText content (with_batch content body.now)) }
 
         // Once it has returned Ok, with it.
         ensures done { (content : Content) → D.keeps_model (disk_of self.old) ≡ true → IsReady D.present self.old content
             → OnOk result (IsReady D.present self.new (with_batch content body.now)) }
         ensures used { used_of self.new ≡ (if is_ok result then used_of self.old + 5 + length body.now else used_of self.old) }
+        ensures half { half_of self.new ≡ half_of self.old }
         ensures half_size { half_size_of self.new ≡ half_size_of self.old }
+        ensures calls { D.keeps_model (disk_of self.old) ≡ true → D.clock (disk_of self.new) ≤ D.clock (disk_of self.old) + 4 }
 
         // When it is refused, and what it is then.
         ensures stopped { IsErrOf result JournalFault.Stopped ↔ (has_stopped self.old ≡ true) }
-        ensures full { IsErrOf result JournalFault.JournalFull ↔ ((has_stopped self.old ≡ false) × (half_size_of self.old < used_of self.old + 5 + length body.now)) }
-        ensures device { IsErrOf result JournalFault.Device → (D.failures (disk_of self.old) < D.failures (disk_of self.new)) × (has_stopped self.new ≡ true) }
-        ensures fault { IfErr result IsAppendFault }
+        ensures fault { IfErr result IsWriteFault }
+        ensures failures { D.failures (disk_of self.new) ≡ D.failures (disk_of self.old) + failures_in result }
+        ensures device { IsErrOf result JournalFault.Device → has_stopped self.new ≡ true }
         ensures going { OnOk result (has_stopped self.new ≡ false) }
         ensures unchanged { IfErr result (λ fault. fault ≢ Device → self.new ≡ self.old) }
         ensures model { D.keeps_model (disk_of self.new) ≡ D.keeps_model (disk_of self.old) }
@@ -105,21 +116,55 @@ impl<D: Disk> Journal<D> {
         if self.stopped {
             return Err(JournalFault::Stopped);
         }
-        let size = body.len() as u64 + 5;
-        if self.half_size - self.used < size {
-            return Err(JournalFault::JournalFull);
+        let block = spell_block(self.alloc, body)?;
+        let gate = self.gate();
+        let written = write_in_turn(&mut self.disk, gate + 1, &block, gate, &[1]);
+        self.stopped = written.is_err();
+        written?;
+        self.used += block.len() as u64;
+        Ok(())
+    }
+
+    /// Puts a version and a snapshot of at most 16,384 bytes in place of all that the journal holds. It takes four calls of the device.
+    ///
+    /// They are written to the half that is not selected, which is selected once they are on the disk. After `Device`
+    /// each later call answers `Stopped`, and opening the device tells which of both it holds.
+    pub fn replace(&mut self, version: u8, snapshot: &[u8]) -> Result<(), JournalFault>
+        requires { length snapshot.now ≤ MAX_SNAPSHOT }
+
+        // A crash at any moment of the call leaves the text of the content from before it, or of the new one.
+        ensures any_moment { (content : Content) → D.keeps_model (disk_of self.old) ≡ true → IsReady D.present self.old content
+            → LeavesOnly D.clock D.left_since (disk_of self.old) (disk_of self.new) (IsEitherText content (without_batch version snapshot.now)) }
+
+        // Once it has returned Ok, of the new one, and a body of any size fits.
+        ensures done { (content : Content) → D.keeps_model (disk_of self.old) ≡ true → IsReady D.present self.old content
+            → OnOk result (IsReady D.present self.new (without_batch version snapshot.now)) }
+        ensures fits { OnOk result (Fits self.new MAX_BODY) }
+        ensures used { used_of self.new ≡ (if is_ok result then 6 + length snapshot.now else used_of self.old) }
+        ensures half { half_of self.new ≡ (if is_ok result then 1 - half_of self.old else half_of self.old) }
+        ensures half_size { half_size_of self.new ≡ half_size_of self.old }
+        ensures calls { D.keeps_model (disk_of self.old) ≡ true → D.clock (disk_of self.new) ≤ D.clock (disk_of self.old) + 4 }
+
+        // When it is refused, and what it is then.
+        ensures stopped { IsErrOf result JournalFault.Stopped ↔ (has_stopped self.old ≡ true) }
+        ensures fault { IfErr result IsWriteFault }
+        ensures failures { D.failures (disk_of self.new) ≡ D.failures (disk_of self.old) + failures_in result }
+        ensures device { IsErrOf result JournalFault.Device → has_stopped self.new ≡ true }
+        ensures going { OnOk result (has_stopped self.new ≡ false) }
+        ensures unchanged { IfErr result (λ fault. fault ≢ Device → self.new ≡ self.old) }
+        ensures model { D.keeps_model (disk_of self.new) ≡ D.keeps_model (disk_of self.old) }
+    {
+        if self.stopped {
+            return Err(JournalFault::Stopped);
         }
-        let block = block_of(self.alloc, body)?;
-        match open_behind(&mut self.disk, self.gate, &block) {
-            Ok(()) => {
-                self.gate += size;
-                self.used += size;
-                Ok(())
-            }
-            Err(_) => {
-                self.stopped = true;
-                Err(JournalFault::Device)
-            }
-        }
+        let bytes = spell_half(self.alloc, version, snapshot)?;
+        let half = self.half.other();
+        let start = HEADER as u64 + half.start(self.half_size);
+        let written = write_in_turn(&mut self.disk, start, &bytes, 0, &[half.selector()]);
+        self.stopped = written.is_err();
+        written?;
+        self.half = half;
+        self.used = bytes.len() as u64;
+        Ok(())
     }
 }

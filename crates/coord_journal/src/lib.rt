@@ -5,16 +5,15 @@ mod barrier;
 mod contents;
 mod fault;
 mod formatting;
-mod gate;
+mod half;
 mod header;
 mod journal;
 pub mod laws;
 mod layout;
 mod opening;
 mod read;
+mod spelling;
 mod synced;
-#[cfg(test)]
-mod tests;
 
 pub use contents::Contents;
 pub use fault::JournalFault;

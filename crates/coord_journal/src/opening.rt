@@ -1,45 +1,36 @@
 //! Opens a journal.
 
-ghost use Rattle.std.specs.Prelude.{◌≡◌, ◌≢◌, ◌+◌, ◌<◌, ◌≤◌, true, false, List, ℕ, MatchResult, IfOk, IfErr, OnOk, OnErr, IsErrOf};
-ghost use Rattle.coord_disk.specs.Moments.{LeavesOnly};
-ghost use Rattle.coord_disk.specs.Present.{IsImage, whole};
+ghost use Rattle.std.specs.Prelude.{◌≡◌, ◌≢◌, ◌+◌, ◌≤◌, true, false, MatchResult, IfOk, IfErr};
+ghost use Rattle.coord_disk.specs.Model.Moments.{LeavesOnly};
+ghost use Rattle.coord_disk.specs.Model.Present.{IsImage, whole};
 ghost use Rattle.coord_journal.specs.Contents.{content_of};
-ghost use Rattle.coord_journal.specs.Faults.{RefusesOpen};
+ghost use Rattle.coord_journal.specs.Faults.{RefusesOpen, IsOpenFault, failed_in};
 ghost use Rattle.coord_journal.specs.Journal.{IsReady, disk_of, has_stopped};
-ghost use Rattle.coord_journal.specs.declared.layout.TheConstants.{MAX_HALF};
-ghost use Rattle.coord_journal.specs.Text.{Content, IsText, IsTextAt, half_start, used_by};
+ghost use Rattle.coord_journal.specs.Half.{half_number};
+ghost use Rattle.coord_journal.specs.Text.{Content, IsText, IsTextAt, used_by};
 ghost use Rattle.coord_journal.specs.declared.fault.JournalFault.TheVariants.{Device};
 
 use crate::barrier::read_settled;
+use crate::half::Half;
 use crate::header::read_header;
-use crate::layout::HEADER;
 use crate::read::read_half;
 use crate::{Contents, Journal, JournalFault};
 use coord_disk::Disk;
 use std::alloc::Global;
 
-/// Where a text ends on its device: the size of a half, the place of the closed gate, and how much of the half ends with it.
+/// Where a text ends on its device: the size of a half, the selected one, and how much of it is used.
 #[derive(Clone, Copy)]
 struct Place {
     half_size: u64,
-    gate: u64,
+    half: Half,
     used: u64,
-}
-
-// Where the selected half begins behind the header.
-fn start_of(selector: u8, half_size: usize) -> usize
-    ensures start { result ≡ half_start selector half_size }
-    ensures low { result ≤ half_size }
-{
-    if selector % 2 == 0 { 0 } else { half_size }
 }
 
 // What the bytes of a device say.
 fn read_text(alloc: Global, bytes: &[u8]) -> Result<(Place, Contents), JournalFault>
-    ensures text { IfOk result (λ read. IsTextAt bytes.now (content_of read.1) read.0.half_size read.0.gate read.0.used) }
+    ensures text { IfOk result (λ read. IsTextAt bytes.now (content_of read.1) read.0.half_size (half_number read.0.half) read.0.used) }
     ensures only { (content : Content) → IsText content bytes.now → IfOk result (λ read. content_of read.1 ≡ content) }
     ensures used { IfOk result (λ read. read.0.used ≡ used_by (content_of read.1)) }
-    ensures near { IfOk result (λ read. (read.0.half_size ≤ MAX_HALF) × (read.0.used ≤ read.0.half_size) × (read.0.gate < 17 + read.0.half_size + read.0.used)) }
     ensures fault { IfErr result (RefusesOpen bytes.now) }
     ensures not_device { IfErr result (λ fault. fault ≢ Device) }
 {
@@ -47,7 +38,8 @@ fn read_text(alloc: Global, bytes: &[u8]) -> Result<(Place, Contents), JournalFa
         return Err(JournalFault::NoMagic);
     };
     let size = header.half_size as usize;
-    let start = start_of(header.selector, size);
+    let half = Half::named_by(header.selector);
+    let start = half.start(header.half_size) as usize;
     if header.rest.len() < start {
         return Err(JournalFault::BadRecord);
     }
@@ -58,7 +50,7 @@ fn read_text(alloc: Global, bytes: &[u8]) -> Result<(Place, Contents), JournalFa
     };
     let place = Place {
         half_size: header.half_size,
-        gate: (HEADER + start + used - 1) as u64,
+        half,
         used: used as u64,
     };
     Ok((place, contents))
@@ -87,7 +79,9 @@ pub fn open<D: Disk>(
     ensures any_moment_refused { D.keeps_model disk ≡ true → IfErr result (λ refused. LeavesOnly D.clock D.left_since disk refused.1 (IsImage (D.present disk))) }
 
     ensures model { MatchResult result (λ opened. D.keeps_model (disk_of opened.0) ≡ D.keeps_model disk) (λ refused. D.keeps_model refused.1 ≡ D.keeps_model disk) }
-    ensures device { IfErr result (λ refused. refused.0 ≡ Device → D.failures disk < D.failures refused.1) }
+    ensures failures { MatchResult result (λ opened. D.failures (disk_of opened.0) ≡ D.failures disk) (λ refused. D.failures refused.1 ≡ D.failures disk + failed_in refused.0) }
+    ensures calls { MatchResult result (λ opened. D.keeps_model disk ≡ true → D.clock (disk_of opened.0) ≤ D.clock disk + 3) (λ refused. D.keeps_model disk ≡ true → D.clock refused.1 ≤ D.clock disk + 3) }
+    ensures named { IfErr result (λ refused. IsOpenFault refused.0) }
 {
     let bytes = match read_settled(alloc, &mut disk) {
         Ok(bytes) => bytes,
@@ -95,7 +89,7 @@ pub fn open<D: Disk>(
     };
     match read_text(alloc, &bytes) {
         Ok((place, contents)) => {
-            let journal = Journal::at(alloc, disk, place.half_size, place.gate, place.used);
+            let journal = Journal::at(alloc, disk, place.half_size, place.half, place.used);
             Ok((journal, contents))
         }
         Err(fault) => Err((fault, disk)),

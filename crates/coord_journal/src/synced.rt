@@ -1,8 +1,9 @@
-//! One write, made durable.
+//! Writes that are made durable one after the other.
 
-ghost use Rattle.std.specs.Prelude.{◌≡◌, ◌+◌, ◌<◌, ◌^◌, true, List, ℕ, length, OnOk};
-ghost use Rattle.coord_disk.specs.Present.{whole, overwritten, Torn};
-ghost use Rattle.coord_disk.specs.Moments.{LeavesOnly, HasCause};
+ghost use Rattle.std.specs.Prelude.{◌≡◌, ◌+◌, ◌<◌, ◌≤◌, ◌^◌, true, List, ℕ, length, OnOk};
+ghost use Rattle.coord_disk.specs.Model.Present.{whole, overwritten, Torn};
+ghost use Rattle.coord_disk.specs.Model.Moments.{LeavesOnly, HasCause};
+ghost use Rattle.coord_journal.specs.Turns.{TornInTurn};
 
 use coord_disk::{Disk, DiskFault};
 
@@ -11,10 +12,33 @@ pub fn write_synced<D: Disk>(disk: &mut D, at: u64, new: &[u8]) -> Result<(), Di
     requires { at + length new.now < 2 ^ 64 }
     ensures any_moment { (bytes : List ℕ) → D.keeps_model disk.old ≡ true → D.present disk.old ≡ whole bytes → LeavesOnly D.clock D.left_since disk.old disk.new (Torn bytes at new.now) }
     ensures done { D.keeps_model disk.old ≡ true → OnOk result (D.present disk.new ≡ whole (overwritten (D.present disk.old).read at new.now)) }
+    ensures calls { D.keeps_model disk.old ≡ true → D.clock disk.new ≤ D.clock disk.old + 2 }
     ensures model { D.keeps_model disk.new ≡ D.keeps_model disk.old }
     ensures cause { HasCause (D.failures disk.old) (D.failures disk.new) result }
 {
     disk.write_at(at, new)?;
-    disk.sync()?;
-    Ok(())
+    disk.sync()
+}
+
+/// Writes and syncs the first bytes, and then the second ones.
+pub fn write_in_turn<D: Disk>(
+    disk: &mut D,
+    at: u64,
+    first: &[u8],
+    next: u64,
+    second: &[u8],
+) -> Result<(), DiskFault>
+    requires first_in_range { at + length first.now < 2 ^ 64 }
+    requires second_in_range { next + length second.now < 2 ^ 64 }
+
+    // The second write begins when the first one is on the disk.
+    ensures any_moment { (bytes : List ℕ) → D.keeps_model disk.old ≡ true → D.present disk.old ≡ whole bytes
+        → LeavesOnly D.clock D.left_since disk.old disk.new (TornInTurn bytes at first.now next second.now) }
+    ensures done { D.keeps_model disk.old ≡ true → OnOk result (D.present disk.new ≡ whole (overwritten (overwritten (D.present disk.old).read at first.now) next second.now)) }
+    ensures calls { D.keeps_model disk.old ≡ true → D.clock disk.new ≤ D.clock disk.old + 4 }
+    ensures model { D.keeps_model disk.new ≡ D.keeps_model disk.old }
+    ensures cause { HasCause (D.failures disk.old) (D.failures disk.new) result }
+{
+    write_synced(disk, at, first)?;
+    write_synced(disk, next, second)
 }

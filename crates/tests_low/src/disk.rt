@@ -1,1 +1,101 @@
 //! Tests of coord_disk.
+
+use coord_disk::{BlipDisk, Choice, CrashDisk, Disk, DiskFault, FuseDisk, MemDisk};
+use std::alloc::Global;
+use std::test::Fail;
+
+// Whether a crash by this choice leaves these bytes of three synced ones and, behind a gap of two places, two that are not.
+fn leaves(alloc: Global, choice: Choice, want: &[u8]) -> Result<bool, Fail> {
+    let mut disk = MemDisk::from_bytes(alloc, &[1, 2, 3])?;
+    disk.write_at(5, &[9, 8])?;
+    disk.choose(choice);
+    Ok(disk.crash().bytes() == want)
+}
+
+#[test]
+fn a_crash_leaves_what_was_chosen(rt: HostRuntime) -> Result<(), Fail> {
+    let alloc = rt.alloc();
+    let lost = leaves(alloc, Choice::Lost, &[1, 2, 3])?;
+    let kept = leaves(alloc, Choice::Kept, &[1, 2, 3, 0, 0, 9, 8])?;
+    // The zeros between are not synced either, so they are filled first.
+    let filler = [4, 5, 6].to_vec(alloc)?;
+    let filled = leaves(alloc, Choice::Filled(filler), &[1, 2, 3, 4, 5, 6, 4])?;
+    let none = Choice::Filled(Vec::new(alloc));
+    let zeros = leaves(alloc, none, &[1, 2, 3, 0, 0, 0, 0])?;
+    assert!(rt; lost && kept && filled && zeros);
+    Ok(())
+}
+
+// Whether a write that was synced is there after a crash, and all of it after another.
+fn outlives(alloc: Global) -> Result<bool, Fail> {
+    let mut disk = MemDisk::new(alloc);
+    disk.choose(Choice::Filled([7].to_vec(alloc)?));
+    disk.write_at(0, &[1, 2, 3, 4])?;
+    disk.sync()?;
+    disk.write_at(1, &[5])?;
+    disk.write_at(9, &[])?;
+    let read = disk.bytes() == [1, 5, 3, 4].as_slice();
+    let disk = disk.crash();
+    let once = disk.bytes() == [1, 7, 3, 4].as_slice();
+    Ok(read && once && disk.crash().bytes() == [1, 7, 3, 4].as_slice())
+}
+
+#[test]
+fn a_synced_write_outlives_a_crash(rt: HostRuntime) -> Result<(), Fail> {
+    assert!(rt; outlives(rt.alloc())?);
+    Ok(())
+}
+
+#[test]
+fn a_read_gives_what_was_written(rt: HostRuntime) -> Result<(), Fail> {
+    let mut disk = MemDisk::from_bytes(rt.alloc(), &[1, 2, 3])?;
+    let mut buf = [0u8; 2];
+    disk.read(1, &mut buf)?;
+    assert!(rt; disk.len() == Ok(3) && buf == [2, 3]);
+    Ok(())
+}
+
+// Whether two calls pass, and each one after them fails and changes nothing.
+fn fuse_blows(alloc: Global) -> Result<bool, Fail> {
+    let mut disk = FuseDisk::new(MemDisk::new(alloc), 2);
+    disk.write_at(0, &[1])?;
+    let passed = disk.len() == Ok(1);
+    let failed = disk.write_at(0, &[2]) == Err(DiskFault)
+        && disk.sync() == Err(DiskFault)
+        && disk.len() == Err(DiskFault)
+        && disk.read(0, &mut []) == Err(DiskFault);
+    let counted = disk.calls() == 6;
+    let inner = disk.crash().into_inner();
+    Ok(passed && failed && counted && inner.bytes().is_empty())
+}
+
+#[test]
+fn a_fuse_fails_each_call_from_one_on(rt: HostRuntime) -> Result<(), Fail> {
+    assert!(rt; fuse_blows(rt.alloc())?);
+    Ok(())
+}
+
+// Whether one call fails and changes nothing, and the others pass.
+fn blip_fails(alloc: Global) -> Result<bool, Fail> {
+    let mut disk = BlipDisk::new(MemDisk::new(alloc), 1);
+    disk.write_at(0, &[1])?;
+    let failed = disk.write_at(0, &[2]) == Err(DiskFault);
+    disk.write_at(1, &[3])?;
+    disk.sync()?;
+    let passed = disk.len() == Ok(2) && disk.read(0, &mut []) == Ok(());
+    let counted = disk.calls() == 6;
+    Ok(failed && passed && counted && disk.crash().into_inner().bytes() == [1, 3].as_slice())
+}
+
+#[test]
+fn a_blip_fails_one_call(rt: HostRuntime) -> Result<(), Fail> {
+    assert!(rt; blip_fails(rt.alloc())?);
+    Ok(())
+}
+
+#[test]
+fn a_fault_says_so(rt: HostRuntime) -> Result<(), Fail> {
+    let text = format!(in rt.alloc(); "{DiskFault}")?;
+    assert!(rt; text.as_str() == "the device failed");
+    Ok(())
+}

@@ -1,6 +1,6 @@
 use Rattle.std.proofs.Common.{◌≡◌, ap, arith}
 use Rattle.std.proofs.lemmas.Grind.{common_steps}
-use Rattle.coord_disk.specs.Present.{whole}
+use Rattle.coord_disk.specs.Model.Present.{whole}
 use Rattle.coord_journal.specs.Text.{formatted}
 use Rattle.coord_journal.proofs.Texts.{formatted_text}
 use Rattle.coord_journal.proofs.formatting.format.Goals as goal

@@ -1,7 +1,8 @@
 -- A disk in memory.
-use Rattle.std.specs.Prelude.{ℕ, length}
-use Rattle.coord_disk.specs.History.{Past, present_after, past_with}
-use Rattle.coord_disk.specs.Present.{Present}
+use Rattle.std.specs.Prelude.{◌≡◌, ℕ, length}
+use Rattle.coord_disk.specs.Disks.Left.{IsLeft}
+use Rattle.coord_disk.specs.Disks.History.{Past, present_after, past_with}
+use Rattle.coord_disk.specs.Model.Present.{Present}
 use Rattle.coord_disk.specs.declared.choice.Choice.{Choice}
 use Rattle.coord_disk.specs.declared.memory.MemDisk.{MemDisk}
 
@@ -14,7 +15,7 @@ present_of disk = present_after (past_of disk)
 
 -- how much was done since then
 abbrev pub clock_of : MemDisk → ℕ
-clock_of disk = length (past_of disk).deeds
+clock_of disk = length (past_of disk).entries
 
 -- what the next crash leaves
 abbrev pub choice_of : MemDisk → Choice
@@ -22,3 +23,8 @@ choice_of disk = disk.choice
 
 abbrev pub failures_of : MemDisk → ℕ
 failures_of disk = length disk.failed.items
+
+-- what was chosen is left
+pub record CrashesByChoice (old new : MemDisk) : Type 0 where
+  pub left : IsLeft (choice_of old) (present_of old) (present_of new).read
+  pub choice : choice_of new ≡ choice_of old

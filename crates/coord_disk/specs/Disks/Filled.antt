@@ -1,6 +1,6 @@
 -- What a crash leaves that fills the places that are not synced with given bytes.
 use Rattle.std.specs.Prelude.{◌≡◌, ℕ, zero, suc, ◌+◌, ◌<◌, ◌%◌, Bool, ◌||◌, nat_le, if◌then◌else◌, List, [], ◌∷◌, length, Some, slice_get, slice_index}
-use Rattle.coord_disk.specs.Present.{Present, is_within}
+use Rattle.coord_disk.specs.Model.Present.{Present, is_within}
 
 -- a crash may leave any byte at this place
 abbrev pub is_loose : Present → ℕ → Bool

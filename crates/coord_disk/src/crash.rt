@@ -1,13 +1,13 @@
 //! What a crash leaves of a disk in memory.
 
 ghost use Rattle.std.specs.Prelude.{◌≡◌, ◌+◌, ◌&&◌, nat_le, nat_lt, List, ℕ, length, Some};
-ghost use Rattle.coord_disk.specs.Present.{IsImage, is_within, whole};
-ghost use Rattle.coord_disk.specs.Filled.{IsFilled, repeated};
-ghost use Rattle.coord_disk.specs.History.{LedTo, past_with, present_after, replayed};
-ghost use Rattle.coord_disk.specs.Left.{IsLeft};
+ghost use Rattle.coord_disk.specs.Model.Present.{IsImage, is_within, whole};
+ghost use Rattle.coord_disk.specs.Disks.Filled.{IsFilled, repeated};
+ghost use Rattle.coord_disk.specs.Disks.History.{LedTo, past_with, present_after, replayed};
+ghost use Rattle.coord_disk.specs.Disks.Left.{IsLeft};
 
 use crate::Choice;
-use crate::history::{Deed, History};
+use crate::history::{Entry, History};
 
 // Whether so many bytes from `at` on cover the place.
 fn covers(at: u64, len: u64, place: u64) -> bool
@@ -17,15 +17,15 @@ fn covers(at: u64, len: u64, place: u64) -> bool
 }
 
 // Whether the place was written since the last sync.
-fn is_written(deeds: &[Deed], place: u64) -> bool
-    ensures { (first : List ℕ) → result ≡ is_within (replayed (whole first) deeds.now).written place }
+fn is_written(entries: &[Entry], place: u64) -> bool
+    ensures { (first : List ℕ) → result ≡ is_within (replayed (whole first) entries.now).written place }
 {
-    let mut n = deeds.len();
+    let mut n = entries.len();
     while n > 0 {
         n -= 1;
-        match &deeds[n] {
-            Deed::Synced => return false,
-            Deed::Wrote { at, bytes } => {
+        match &entries[n] {
+            Entry::Synced => return false,
+            Entry::Wrote { at, bytes } => {
                 if covers(*at, bytes.len() as u64, place) {
                     return true;
                 }
@@ -52,7 +52,7 @@ fn fill(read: &mut [u8], history: &History, filler: &[u8])
 {
     let mut filled = 0;
     for place in 0..read.len() {
-        if history.synced.len() <= place || is_written(&history.deeds, place as u64) {
+        if history.synced.len() <= place || is_written(&history.entries, place as u64) {
             read[place] = filling(filler, filled);
             filled += 1;
         }
@@ -60,7 +60,7 @@ fn fill(read: &mut [u8], history: &History, filler: &[u8])
 }
 
 /// Leaves in place of what is read what a crash leaves.
-pub fn strike(read: &mut Vec<u8>, history: History, choice: &Choice)
+pub fn crash_bytes(read: &mut Vec<u8>, history: History, choice: &Choice)
     requires { LedTo history read.old.items }
     ensures { IsLeft choice.now (present_after (past_with read.old.items (Some history))) read.new.items }
 {

@@ -1,7 +1,7 @@
 -- What a crash leaves.
 use Rattle.std.specs.Prelude.{◌≡◌, ℕ, List}
-use Rattle.coord_disk.specs.Filled.{IsFilled}
-use Rattle.coord_disk.specs.Present.{Present}
+use Rattle.coord_disk.specs.Disks.Filled.{IsFilled}
+use Rattle.coord_disk.specs.Model.Present.{Present}
 use Rattle.coord_disk.specs.declared.choice.Choice.{Choice}
 use Rattle.coord_disk.specs.declared.choice.Choice.TheVariants.{Lost, Kept, Filled}
 

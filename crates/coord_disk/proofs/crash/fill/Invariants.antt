@@ -1,8 +1,8 @@
 use Rattle.std.proofs.Common.{◌≡◌, ◌<◌, ◌≤◌, ℕ, length}
 use Rattle.std.specs.Prelude.{slice_get, if◌then◌else◌, Some}
-use Rattle.coord_disk.specs.Filled.{is_loose, loose_below, repeated}
-use Rattle.coord_disk.specs.History.{past_with, present_after}
-use Rattle.coord_disk.proofs.strike.fill.Given as goal
+use Rattle.coord_disk.specs.Disks.Filled.{is_loose, loose_below, repeated}
+use Rattle.coord_disk.specs.Disks.History.{past_with, present_after}
+use Rattle.coord_disk.proofs.crash.fill.Given as goal
 
 -- the places below this one are filled where they are loose, and the others stay
 abbrev pub invariant-loop-place : goal.invariant-loop-place

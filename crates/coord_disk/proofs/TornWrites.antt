@@ -1,0 +1,100 @@
+-- What one write leaves where all was synced before it.
+use Rattle.std.proofs.Common.{◌≡◌, ◌⊎◌, inl, inr, ℕ, suc, ◌+◌, ◌-◌, ◌<◌, ◌≤◌, List, [], ◌∷◌, ◌++◌, length, take, drop, Some, refl, sym, ◌∙◌, ap, subst, arith, append_assoc, length-append, length-take}
+use Rattle.std.specs.Prelude.{slice_get, replicate, unwrap_or}
+use Rattle.std.proofs.lemmas.List.{take_at, append-nil}
+use Rattle.std.proofs.Math.Seq.{drop-append-add, take-append-add}
+use Rattle.coord_disk.specs.Model.Present.{Present, IsImage, Writes, Torn, overwritten, whole}
+use Rattle.coord_disk.proofs.Overwritten.{length_zeros, no_shorter, wrote_reads}
+
+-- a write that may have failed leaves the torn bytes
+pub torn : (bytes new : List ℕ) (at : ℕ) (p q : Present) → p ≡ whole bytes → Writes at new p q → (c : List ℕ) → IsImage q c → Torn bytes at new c
+torn bytes new at p q is wrote c image =
+    let writes = subst (λ p. Writes at new p q) is wrote in
+    record {
+      no_shorter = omega (arith, image.no_shorter, ap length writes.synced);
+      no_longer = omega (arith, image.no_longer, writes.no_longer);
+      kept = λ i lt out. image.kept i (omega (arith, lt, ap length writes.synced)) (writes.written i out) ∙ ap (λ (l : List ℕ). slice_get l i) writes.synced;
+    }
+
+-- it may also have left nothing
+pub untouched : (bytes new : List ℕ) (at : ℕ) (p : Present) → p ≡ whole bytes → (c : List ℕ) → IsImage p c → Torn bytes at new c
+untouched bytes new at p is c image =
+    let there = subst (λ q. IsImage q c) is image in
+    record { no_shorter = there.no_shorter; no_longer = omega (arith, there.no_longer, no_shorter bytes new at); kept = λ i lt out. there.kept i lt refl }
+
+-- or all of it
+pub overwritten_torn : (bytes new : List ℕ) (at : ℕ) → Torn bytes at new (overwritten bytes at new)
+overwritten_torn bytes new at = wrote_reads at new (whole bytes) (record { no_shorter = omega arith; no_longer = omega arith; kept = λ i lt out. refl })
+
+same_some : (x y : ℕ) → Some x ≡ Some y → x ≡ y
+same_some x y e = ap (λ o. unwrap_or o 0) e
+
+-- bytes that agree with a front begin with it
+pub begins : (front behind c : List ℕ) → ((i : ℕ) → i < length front → slice_get c i ≡ slice_get (front ++ behind) i) → (rest : List ℕ) × (c ≡ front ++ rest)
+begins [] behind c agree = (c, refl)
+begins (f ∷ front) behind [] agree = absurd (cc (agree 0 (omega arith)))
+begins (f ∷ front) behind (x ∷ c) agree =
+    let rest = begins front behind c (λ i lt. agree (suc i) (omega (arith, lt))) in
+    (rest.0, ap (λ (k : ℕ). k ∷ c) (same_some x f (agree 0 (omega arith))) ∙ ap (λ (l : List ℕ). f ∷ l) rest.1)
+
+-- bytes that agree with others but in a hole begin so, whatever they have in the hole
+pub begins_but_hole : (front hole block after c : List ℕ)
+    → ((i : ℕ) → i < length front + length hole + length block → (i < length front) ⊎ (length front + length hole ≤ i) → slice_get c i ≡ slice_get (front ++ (hole ++ (block ++ after))) i)
+    → length front + length hole ≤ length c → (other : List ℕ) × (rest : List ℕ) × (length other ≡ length hole) × (c ≡ front ++ (other ++ (block ++ rest)))
+begins_but_hole [] [] block after c agree long =
+    let rest = begins block after c (λ i lt. agree i (omega (arith, lt)) (inr (omega arith))) in
+    ([], rest.0, refl, rest.1)
+begins_but_hole [] (h ∷ hole) block after [] agree long = absurd (omega (arith, long))
+begins_but_hole [] (h ∷ hole) block after (x ∷ c) agree long =
+    let rest = begins_but_hole [] hole block after c (λ i lt out. agree (suc i) (omega (arith, lt)) (inr (omega (arith, out)))) (omega (arith, long)) in
+    (x ∷ rest.0, rest.1, omega (arith, rest.2), ap (λ (l : List ℕ). x ∷ l) rest.3)
+begins_but_hole (f ∷ front) hole block after [] agree long = absurd (omega (arith, long))
+begins_but_hole (f ∷ front) hole block after (x ∷ c) agree long =
+    let rest = begins_but_hole front hole block after c (λ i lt out. agree (suc i) (omega (arith, lt)) (one_on i out)) (omega (arith, long)) in
+    (rest.0, rest.1, rest.2, ap (λ (k : ℕ). k ∷ c) (same_some x f (agree 0 (omega arith) (inl (omega arith)))) ∙ ap (λ (l : List ℕ). f ∷ l) rest.3)
+  where
+    one_on : (i : ℕ) → (i < length front) ⊎ (length front + length hole ≤ i) → (suc i < suc (length front)) ⊎ (suc (length front) + length hole ≤ suc i)
+    one_on i (inl lt) = inl (omega (arith, lt))
+    one_on i (inr le) = inr (omega (arith, le))
+
+-- written over what stands behind a front
+pub overwritten_behind : (front behind new : List ℕ) (at : ℕ) → at ≡ length front → 0 < length new → overwritten (front ++ behind) at new ≡ front ++ (new ++ drop (length new) behind)
+overwritten_behind front behind [] at is some = absurd (omega (arith, some))
+overwritten_behind front behind (b ∷ bs) at is some =
+    let none : at - length (front ++ behind) ≡ 0 = omega (arith, is, length-append front behind) in
+    ap (λ (l : List ℕ). l ++ (replicate (at - length (front ++ behind)) 0 ++ (b ∷ bs ++ drop (at + length (b ∷ bs)) (front ++ behind)))) (take_at front behind at (sym is))
+    ∙ ap (λ (n : ℕ). front ++ (replicate n 0 ++ (b ∷ bs ++ drop (at + length (b ∷ bs)) (front ++ behind)))) none
+    ∙ ap (λ (n : ℕ). front ++ (b ∷ bs ++ drop (n + length (b ∷ bs)) (front ++ behind))) is
+    ∙ ap (λ (l : List ℕ). front ++ (b ∷ bs ++ l)) (drop-append-add front behind (length (b ∷ bs)))
+
+-- the bytes in front of a place, with zeros where there are too few
+abbrev pub padded : ℕ → List ℕ → List ℕ
+padded n bytes = take n bytes ++ replicate (n - length bytes) 0
+
+pub length_padded : (n : ℕ) (bytes : List ℕ) → length (padded n bytes) ≡ n
+length_padded n bytes = omega (arith, length-append (take n bytes) (replicate (n - length bytes) 0), length-take n bytes, length_zeros (n - length bytes))
+
+-- written behind a front, at a place of the rest
+pub overwritten_inside : (front behind new : List ℕ) (at n : ℕ) → at ≡ length front + n → 0 < length new → overwritten (front ++ behind) at new ≡ front ++ (padded n behind ++ (new ++ drop (n + length new) behind))
+overwritten_inside front behind [] at n is some = absurd (omega (arith, some))
+overwritten_inside front behind (b ∷ bs) at n is some =
+    let gap : at - length (front ++ behind) ≡ n - length behind = omega (arith, is, length-append front behind) in
+    let tail : at + length (b ∷ bs) ≡ length front + (n + length (b ∷ bs)) = omega (arith, is) in
+    ap (λ (k : ℕ). take k (front ++ behind) ++ (replicate (at - length (front ++ behind)) 0 ++ (b ∷ bs ++ drop (at + length (b ∷ bs)) (front ++ behind)))) is
+    ∙ ap (λ (l : List ℕ). l ++ (replicate (at - length (front ++ behind)) 0 ++ (b ∷ bs ++ drop (at + length (b ∷ bs)) (front ++ behind)))) (take-append-add front behind n)
+    ∙ ap (λ (k : ℕ). (front ++ take n behind) ++ (replicate k 0 ++ (b ∷ bs ++ drop (at + length (b ∷ bs)) (front ++ behind)))) gap
+    ∙ ap (λ (k : ℕ). (front ++ take n behind) ++ (replicate (n - length behind) 0 ++ (b ∷ bs ++ drop k (front ++ behind)))) tail
+    ∙ ap (λ (l : List ℕ). (front ++ take n behind) ++ (replicate (n - length behind) 0 ++ (b ∷ bs ++ l))) (drop-append-add front behind (n + length (b ∷ bs)))
+    ∙ append_assoc front (take n behind) (replicate (n - length behind) 0 ++ (b ∷ bs ++ drop (n + length (b ∷ bs)) behind))
+    ∙ ap (λ (l : List ℕ). front ++ l) (sym (append_assoc (take n behind) (replicate (n - length behind) 0) (b ∷ bs ++ drop (n + length (b ∷ bs)) behind)))
+
+empty : (l : List ℕ) → length l ≤ 0 → l ≡ []
+empty [] le = refl
+empty (x ∷ l) le = absurd (omega (arith, le))
+
+-- where all is synced, a crash leaves it
+pub whole_image : (bytes : List ℕ) (p : Present) → p ≡ whole bytes → (c : List ℕ) → IsImage p c → c ≡ bytes
+whole_image bytes p is c image =
+    let there = subst (λ q. IsImage q c) is image in
+    let rest = begins bytes [] c (λ i lt. there.kept i lt refl ∙ ap (λ (l : List ℕ). slice_get l i) (sym (append-nil bytes))) in
+    rest.1 ∙ ap (λ (l : List ℕ). bytes ++ l) (empty rest.0 (omega (arith, there.no_longer, ap length rest.1, length-append bytes rest.0))) ∙ append-nil bytes

@@ -1,0 +1,158 @@
+//! What a crash leaves inside an append and a replace, and what a device that fails once leaves.
+
+use super::{BODY, CREATED, opened};
+use coord_disk::{BlipDisk, Choice, CrashDisk, Disk, FuseDisk, MemDisk};
+use coord_journal::{Journal, JournalFault};
+use std::alloc::Global;
+use std::test::Fail;
+
+const CHOICES: usize = 5;
+
+fn choice(alloc: Global, which: usize) -> Result<Choice, Fail> {
+    Ok(match which {
+        0 => Choice::Lost,
+        1 => Choice::Kept,
+        2 => Choice::Filled([7].to_vec(alloc)?),
+        3 => Choice::Filled([0].to_vec(alloc)?),
+        _ => Choice::Filled([1, 0, 0, 0, 1, 7].to_vec(alloc)?),
+    })
+}
+
+/// What is done to a journal.
+#[derive(Clone, Copy, Debug)]
+enum Act {
+    Append,
+    /// Into the second half.
+    Replace,
+    /// Into the first half, after a replace.
+    ReplaceAgain,
+}
+
+const ACTS: [Act; 3] = [Act::Append, Act::Replace, Act::ReplaceAgain];
+
+fn done<D: Disk>(journal: &mut Journal<D>, act: Act) -> Result<(), JournalFault> {
+    match act {
+        Act::Append if journal.fits(BODY.len()) => journal.append(&BODY),
+        Act::Append => Ok(()),
+        Act::Replace | Act::ReplaceAgain => journal.replace(3, &[]),
+    }
+}
+
+// The device before the act: version 1 in the first half, or version 2 in the second.
+fn before(alloc: Global, act: Act, which: usize) -> Result<MemDisk, Fail> {
+    let (mut journal, _contents) = opened(alloc, MemDisk::from_bytes(alloc, &CREATED)?)?;
+    if let Act::ReplaceAgain = act {
+        journal.replace(2, &[])?;
+    }
+    let mut disk = journal.into_disk();
+    disk.choose(choice(alloc, which)?);
+    Ok(disk)
+}
+
+// The version and the number of batches once the act is done, or while it is not.
+fn want(act: Act, is_done: bool) -> (u8, usize) {
+    match (act, is_done) {
+        (Act::ReplaceAgain, false) => (2, 0),
+        (_, false) => (1, 0),
+        (Act::Append, true) => (1, 1),
+        (_, true) => (3, 0),
+    }
+}
+
+// Those that are read once the disk has crashed.
+fn left(alloc: Global, disk: MemDisk) -> Result<(u8, usize), Fail> {
+    let (_journal, contents) = opened(alloc, disk.crash())?;
+    Ok((contents.version, contents.batches.len()))
+}
+
+// How many calls of the device an opening takes.
+fn calls_to_open(alloc: Global) -> Result<u64, Fail> {
+    let disk = FuseDisk::new(MemDisk::from_bytes(alloc, &CREATED)?, u64::MAX);
+    let (journal, _contents) = opened(alloc, disk)?;
+    Ok(journal.into_disk().calls())
+}
+
+// Whether a crash by a choice leaves the act done, for each number of its calls that were passed and each choice.
+// A gate that is not 0 is open, and a selector names a half by its parity: the first act makes a 1 of a 0, the last a 0 of a 1.
+fn is_left(act: Act, passed: u64, which: usize) -> bool {
+    let is_written = match act {
+        Act::ReplaceAgain => [false, true, false, true, false],
+        _ => [false, true, true, false, true],
+    };
+    match passed {
+        0..3 => false,
+        3 => is_written.get(which) == Some(&true),
+        _ => true,
+    }
+}
+
+// Whether it is so where all calls behind some fail.
+fn fuse_leaves(alloc: Global, act: Act, passed: u64, which: usize) -> Result<bool, Fail> {
+    let calls = calls_to_open(alloc)?.saturating_add(passed);
+    let disk = FuseDisk::new(before(alloc, act, which)?, calls);
+    let (mut journal, _contents) = opened(alloc, disk)?;
+    let answer = done(&mut journal, act);
+    let disk = journal.into_disk();
+    if disk.calls() <= calls {
+        // Only want of memory is a fault here.
+        answer?;
+    }
+    let is_answered = match answer {
+        Ok(()) => 4 <= passed,
+        Err(fault) => passed < 4 && fault == JournalFault::Device,
+    };
+    Ok(is_answered && left(alloc, disk.into_inner())? == want(act, is_left(act, passed, which)))
+}
+
+#[test]
+fn a_crash_leaves_it_done_or_not(rt: HostRuntime) -> Result<(), Fail> {
+    let alloc = rt.alloc();
+    for act in ACTS {
+        for passed in 0..5 {
+            for which in 0..CHOICES {
+                assert!(rt;
+                    fuse_leaves(alloc, act, passed, which)?,
+                    "{act:?}, {passed} passed, choice {which}"
+                );
+            }
+        }
+    }
+    Ok(())
+}
+
+// Whether it is so where one call fails, and the journal has stopped then.
+fn blip_leaves(alloc: Global, act: Act, failed: u64, which: usize) -> Result<bool, Fail> {
+    let call = calls_to_open(alloc)?.saturating_add(failed);
+    let disk = BlipDisk::new(before(alloc, act, which)?, call);
+    let (mut journal, _contents) = opened(alloc, disk)?;
+    let answer = done(&mut journal, act);
+    if answer == Err(JournalFault::OutOfMemory) {
+        answer?;
+    }
+    let stopped = done(&mut journal, Act::Append) == Err(JournalFault::Stopped)
+        && done(&mut journal, Act::Replace) == Err(JournalFault::Stopped);
+    let disk = journal.into_disk();
+    if disk.calls() <= call {
+        answer?;
+    }
+    let is_answered = answer == Err(JournalFault::Device)
+        && stopped
+        && disk.calls() == call.saturating_add(1);
+    Ok(is_answered && left(alloc, disk.into_inner())? == want(act, is_left(act, failed, which)))
+}
+
+#[test]
+fn a_call_that_fails_once_stops_the_journal(rt: HostRuntime) -> Result<(), Fail> {
+    let alloc = rt.alloc();
+    for act in ACTS {
+        for failed in 0..4 {
+            for which in 0..CHOICES {
+                assert!(rt;
+                    blip_leaves(alloc, act, failed, which)?,
+                    "{act:?}, call {failed}, choice {which}"
+                );
+            }
+        }
+    }
+    Ok(())
+}
