@@ -1,0 +1,4 @@
+pub mod Faults
+pub mod Keys
+pub mod Topology
+pub mod Reading
