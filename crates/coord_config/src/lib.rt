@@ -17,5 +17,6 @@ mod topology;
 mod values;
 
 pub use fault::ConfigFault;
+pub use reading::read_topology;
 pub use topology::{LinkEntry, NodeEntry, Topology};
 
