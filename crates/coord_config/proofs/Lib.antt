@@ -1,1 +1,2 @@
 pub mod BlankTexts
+pub mod Computes

@@ -2,3 +2,4 @@ pub mod Faults
 pub mod Keys
 pub mod Topology
 pub mod Reading
+pub mod WorkedTexts

@@ -19,4 +19,3 @@ mod values;
 pub use fault::ConfigFault;
 pub use reading::read_topology;
 pub use topology::{LinkEntry, NodeEntry, Topology};
-

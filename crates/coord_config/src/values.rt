@@ -101,11 +101,7 @@ fn each<E: Entry>(alloc: Global, array: &Array) -> Result<Vec<E>, ConfigFault>
 }
 
 /// The entries of the array at a key, in order; none where the key is absent.
-fn entries_at<E: Entry>(
-    alloc: Global,
-    table: &Table,
-    key: &str,
-) -> Result<Vec<E>, ConfigFault>
+fn entries_at<E: Entry>(alloc: Global, table: &Table, key: &str) -> Result<Vec<E>, ConfigFault>
     ensures ok { IfOk result (λ entries.
         entries_of E.reads (get_member key.now (table_view table.now)) ≡ Some entries.items) }
     ensures bad { IfErr result (λ fault. fault ≢ OutOfMemory →
