@@ -19,3 +19,6 @@ mod values;
 pub use fault::ConfigFault;
 pub use reading::read_topology;
 pub use topology::{LinkEntry, NodeEntry, Topology};
+
+#[cfg(test)]
+mod tests;
