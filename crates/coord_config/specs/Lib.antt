@@ -3,3 +3,4 @@ pub mod Keys
 pub mod Topology
 pub mod Reading
 pub mod WorkedTexts
+pub mod Written

@@ -11,6 +11,7 @@
 
 mod fault;
 mod keys;
+pub mod laws;
 mod reading;
 pub mod runs;
 mod topology;
