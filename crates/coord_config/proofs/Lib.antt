@@ -1,0 +1,3 @@
+pub mod BlankTexts
+pub mod Computes
+pub mod ReadBack

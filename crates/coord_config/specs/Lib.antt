@@ -1,0 +1,6 @@
+pub mod Faults
+pub mod Keys
+pub mod Topology
+pub mod Reading
+pub mod WorkedTexts
+pub mod Written

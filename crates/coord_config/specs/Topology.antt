@@ -1,0 +1,78 @@
+-- The topology of a TOML table.
+use Rattle.std.specs.Prelude.{ℕ, ℤ, pos, ◌&&◌, nat_le, if◌then◌else◌, List, [], ◌∷◌, codes, Option, Some, None, option_and_then, Result, Ok, Err}
+use Rattle.toml.specs.Data.{Data, integer, array, table, Items, no_items, item, Members, get_member}
+use Rattle.coord_config.specs.declared.fault.ConfigFault.{ConfigFault}
+use Rattle.coord_config.specs.declared.fault.ConfigFault.TheVariants.{BadKey, BadValue}
+use Rattle.coord_config.specs.declared.topology.Topology.{Topology}
+use Rattle.coord_config.specs.declared.topology.NodeEntry.{NodeEntry}
+use Rattle.coord_config.specs.declared.topology.LinkEntry.{LinkEntry}
+use Rattle.coord_config.specs.Keys.{Key, has_right_keys}
+
+-- the size of a half, and the nodes and links in the order of the file
+pub record Content : Type 0 where
+  pub half : ℕ
+  pub nodes : List NodeEntry
+  pub links : List LinkEntry
+
+abbrev pub content : Topology → Content
+content t = record { half = t.half; nodes = t.nodes.items; links = t.links.items }
+
+-- a value of two, where both are there
+abbrev pub both : {A B C : Type 0} → (A → B → C) → Option A → Option B → Option C
+both f (Some a) (Some b) = Some (f a b)
+both f a b = None
+
+-- the whole number that the value is, if it lies between these
+abbrev pub number_within : ℕ → ℕ → Data → Option ℕ
+number_within least most (integer (pos n)) = if nat_le least n && nat_le n most then Some n else None
+number_within least most other = None
+
+-- the number at a key of the table
+abbrev pub number_at : Key → ℕ → ℕ → Members → Option ℕ
+number_at key least most ms = option_and_then (number_within least most) (get_member key ms)
+
+-- a node is a table with an id from 1 to 64 and a group from 1 to 16
+abbrev pub node_of : Data → Option NodeEntry
+node_of (table ms) = both (λ id group. record { id = id; group = group }) (number_at (codes "id") 1 64 ms) (number_at (codes "group") 1 16 ms)
+node_of other = None
+
+-- a link is a table with two ends, each the id of a node
+abbrev pub link_of : Data → Option LinkEntry
+link_of (table ms) = both (λ a b. record { a = a; b = b }) (number_at (codes "a") 1 64 ms) (number_at (codes "b") 1 64 ms)
+link_of other = None
+
+-- what each item is, if each is something
+abbrev pub each : {X : Type 0} → (Data → Option X) → Items → Option (List X)
+each read no_items = Some []
+each read (item d ds) = both (λ x xs. x ∷ xs) (read d) (each read ds)
+
+-- an absent array has no entries
+abbrev pub entries_of : {X : Type 0} → (Data → Option X) → Option Data → Option (List X)
+entries_of read None = Some []
+entries_of read (Some (array ds)) = each read ds
+entries_of read (Some other) = None
+
+-- an absent size is 65,536
+abbrev pub half_of : Option Data → Option ℕ
+half_of None = Some 65536
+half_of (Some d) = number_within 32768 16777216 d
+
+abbrev pub content_of : Option ℕ → Option (List NodeEntry) → Option (List LinkEntry) → Option Content
+content_of (Some half) (Some nodes) (Some links) = Some (record { half = half; nodes = nodes; links = links })
+content_of half nodes links = None
+
+-- the topology of the values, if each has its type and lies within its limits
+abbrev pub values_of : Members → Option Content
+values_of ms =
+    content_of
+    (half_of (get_member (codes "half") ms))
+    (entries_of node_of (get_member (codes "node") ms))
+    (entries_of link_of (get_member (codes "link") ms))
+
+abbrev pub or_bad_value : Option Content → Result Content ConfigFault
+or_bad_value None = Err BadValue
+or_bad_value (Some t) = Ok t
+
+-- the topology of the table: its keys are judged before its values
+abbrev pub topology_of : Members → Result Content ConfigFault
+topology_of ms = if has_right_keys ms then or_bad_value (values_of ms) else Err BadKey

@@ -1,0 +1,94 @@
+//! Judging the keys of a topology file.
+
+ghost use Rattle.std.specs.Prelude.{◌≡◌, codes, is_some, map, option_map};
+ghost use Rattle.toml.specs.Data.{get_member};
+ghost use Rattle.toml.specs.View.{array_view, table_view, view};
+ghost use Rattle.coord_config.specs.Keys.{entries_have_just, file_keys, has_all, has_only, has_right_keys, is_among, items_have_just, link_keys, node_keys, table_has_just};
+
+use toml::value::Array;
+use toml::{Table, Value};
+
+/// The value at a key.
+pub fn value_at<'a>(table: &'a Table, key: &str) -> Option<&'a Value>
+    ensures { option_map (λ value. view value.now) result ≡ get_member key.now (table_view table.now) }
+{
+    table.get(key)
+}
+
+fn is_among(names: &[&str], key: &str) -> bool
+    ensures { result ≡ is_among (map (λ name. name.now) names.now) key.now }
+{
+    for name in names {
+        if key == *name {
+            return true;
+        }
+    }
+    false
+}
+
+/// Whether the table has no key but these.
+fn has_only(names: &[&str], table: &Table) -> bool
+    ensures { result ≡ has_only (map (λ name. name.now) names.now) (table_view table.now) }
+{
+    'keys: for (key, _value) in table.iter() {
+        if !is_among(names, key.as_str()) {
+            return false;
+        }
+    }
+    true
+}
+
+/// Whether the table has a value at each of these keys.
+fn has_all(names: &[&str], table: &Table) -> bool
+    ensures { result ≡ has_all (map (λ name. name.now) names.now) (table_view table.now) }
+{
+    for name in names {
+        if value_at(table, name).is_none() {
+            return false;
+        }
+    }
+    true
+}
+
+/// Whether the value, if it is a table, has just these keys.
+fn table_has_just(names: &[&str], value: &Value) -> bool
+    ensures { result ≡ table_has_just (map (λ name. name.now) names.now) (view value.now) }
+{
+    match value.as_table() {
+        Some(table) => has_only(names, table) && has_all(names, table),
+        None => true,
+    }
+}
+
+fn items_have_just(names: &[&str], array: &Array) -> bool
+    ensures { result ≡ items_have_just (map (λ name. name.now) names.now) (array_view array.now) }
+{
+    for value in array {
+        if !table_has_just(names, value) {
+            return false;
+        }
+    }
+    true
+}
+
+/// Whether each table in the array at this key, if there is one, has just these keys.
+fn entries_have_just(names: &[&str], table: &Table, key: &str) -> bool
+    ensures { result ≡ entries_have_just (map (λ name. name.now) names.now) (get_member key.now (table_view table.now)) }
+{
+    match value_at(table, key) {
+        Some(value) => match value.as_array() {
+            Some(array) => items_have_just(names, array),
+            None => true,
+        },
+        None => true,
+    }
+}
+
+/// Whether each key of a topology file is one that it may have, and none is missing.
+pub fn has_right_keys(table: &Table) -> bool
+    ensures { result ≡ has_right_keys (table_view table.now) }
+{
+    has_only(&["half", "node", "link"], table)
+        && entries_have_just(&["id", "group"], table, "node")
+        && entries_have_just(&["a", "b"], table, "link")
+}

@@ -1,0 +1,42 @@
+//! Reading a topology file.
+
+ghost use Rattle.std.specs.Prelude.{◌≡◌, ◌≢◌, ◌≤◌, length, Err, IfErr, IfOk, Ok};
+ghost use Rattle.toml.specs.Errors.{IsBlank};
+ghost use Rattle.coord_config.specs.declared.fault.ConfigFault.TheVariants.{OutOfMemory};
+ghost use Rattle.coord_config.specs.Reading.{reading};
+ghost use Rattle.coord_config.specs.Topology.{content};
+
+use crate::fault::ConfigFault;
+use crate::keys::has_right_keys;
+use crate::topology::Topology;
+use crate::values::values_of;
+use std::alloc::Global;
+
+/// The longest text that is read, in bytes.
+const LONGEST_TEXT: usize = 65_536;
+
+/// Reads a topology file from its text.
+///
+/// The answer is the topology that the text says. Else it is `NotToml` where the text has more than
+/// 65,536 bytes or the crate `toml` does not read it as a table, `BadKey` where a key is missing or
+/// has no meaning, and `BadValue` where all keys are right and some value is not; or it is
+/// `OutOfMemory`, but for a text that is too long, or that has nothing but white space and comments.
+pub fn read_topology(alloc: Global, text: &str) -> Result<Topology, ConfigFault>
+    ensures ok { IfOk result (λ topology. reading text.now ≡ Ok (content topology)) }
+    ensures refused { IfErr result (λ fault. fault ≢ OutOfMemory → reading text.now ≡ Err fault) }
+    ensures within_limit { result ≡ Err OutOfMemory → length text.now ≤ 65536 }
+    ensures not_blank { result ≡ Err OutOfMemory → ¬ IsBlank text.now }
+{
+    if text.len() > LONGEST_TEXT {
+        return Err(ConfigFault::NotToml);
+    }
+    let table = match toml::table_from_str(alloc, text) {
+        Ok(table) => table,
+        Err(error) if error.is_memory() => return Err(ConfigFault::OutOfMemory),
+        Err(_) => return Err(ConfigFault::NotToml),
+    };
+    if !has_right_keys(&table) {
+        return Err(ConfigFault::BadKey);
+    }
+    values_of(alloc, &table)
+}

@@ -1,0 +1,94 @@
+//! The file of the format's page, and an answer of each kind, as they come out when the call runs.
+
+use super::*;
+use std::alloc::Global;
+use std::test::Fail;
+
+const FILE: &str = "half = 32768
+[[node]]
+id = 1
+group = 1
+[[node]]
+id = 2
+group = 1
+[[link]]
+a = 1
+b = 2
+";
+
+/// Whether the topology is that of the file.
+fn is_of_file(topology: &Topology) -> bool {
+    let nodes = topology
+        .nodes
+        .iter()
+        .map(|node| (node.id.number(), node.group.number()));
+    let links = topology
+        .links
+        .iter()
+        .map(|link| (link.a.number(), link.b.number()));
+    topology.half == 32_768 && nodes.eq([(1, 1), (2, 1)]) && links.eq([(1, 2)])
+}
+
+/// The number of the fault that the text is answered with, 0 where there is none.
+fn fault_of(alloc: Global, text: &str) -> u8 {
+    match read_topology(alloc, text) {
+        Ok(_) => 0,
+        Err(fault) => fault.number(),
+    }
+}
+
+#[test]
+fn the_file_is_read(rt: HostRuntime) -> Result<(), Fail> {
+    let topology = read_topology(rt.alloc(), FILE)?;
+    assert!(rt; is_of_file(&topology));
+    Ok(())
+}
+
+#[test]
+fn texts_are_answered(rt: HostRuntime) {
+    for (text, number) in [
+        ("", 0),
+        ("half = 65536 # the usual size\r\nnode = []\r\n", 0),
+        ("\"half\" = 0x8000", 0),
+        ("half = 32_768", 0),
+        ("link = [{a = 1, b = 1}]", 0),
+        ("Half = 32768", 3),
+        ("[[node]]\nid = 1", 3),
+        ("[[node]]\nid = 1\ngroup = 1\n[node.x]", 3),
+        ("half = 1\nkey = 1", 3),
+        ("half = 1", 4),
+        ("half = 65536.0", 4),
+        ("half = \"65536\"", 4),
+        ("half = {x = 1}", 4),
+        ("half = 2026-11-22", 4),
+        ("node = 1", 4),
+        ("node.id = 1", 4),
+        ("[link]", 4),
+        ("node = [[]]", 4),
+        ("[[node]]\nid = 65\ngroup = 1", 4),
+        ("half = 32768\nhalf = 32768", 2),
+        ("[[node]]\nid = 1\nid = 2", 2),
+        ("node = []\n[[node]]", 2),
+        ("half = 99999999999999999999", 2),
+        ("half = 032768", 2),
+        ("half 32768", 2),
+    ] {
+        assert_eq!(rt; fault_of(rt.alloc(), text), number, "{text}");
+    }
+}
+
+#[test]
+fn long_texts_are_no_toml(rt: HostRuntime) -> Result<(), Fail> {
+    let most = " ".repeat(rt.alloc(), 65_536)?;
+    assert_eq!(rt; fault_of(rt.alloc(), &most), 0);
+    let more = " ".repeat(rt.alloc(), 65_537)?;
+    assert_eq!(rt; fault_of(rt.alloc(), &more), 2);
+    Ok(())
+}
+
+#[test]
+fn faults_are_printed(rt: HostRuntime) -> Result<(), Fail> {
+    let printed = format!(in rt.alloc(); "{} {}", ConfigFault::BadKey, ConfigFault::OutOfMemory)?;
+    assert_eq!(rt; printed.as_str(), "BadKey OutOfMemory");
+    Ok(())
+}
