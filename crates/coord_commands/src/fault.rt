@@ -2,13 +2,13 @@
 
 ghost use Rattle.std.specs.Prelude.{◌≡◌, ◌≢◌};
 ghost use Rattle.std.specs.IoError.{error_kind};
-ghost use Rattle.coord_drill.specs.Faults.{fault_name, fault_status};
+ghost use Rattle.coord_commands.specs.Faults.{fault_name, fault_status};
 
 use std::alloc::AllocError;
 use std::fmt;
 use std::io::{Error, ErrorKind};
 
-/// What ends the program early. Each has a name, printed on standard error, and an exit status.
+/// What ends a command early. Each has a name, printed on standard error, and an exit status.
 #[derive(Clone, Copy, Debug, PartialEq, Eq)]
 pub enum Fault {
     /// The words were refused.
@@ -18,20 +18,20 @@ pub enum Fault {
     /// Output could not be written.
     Write,
     /// The end of the input was not met within the reads that a command makes.
-    Turns,
+    TooManyReads,
     /// There was not enough memory.
     OutOfMemory,
 }
 
 impl Fault {
-    /// The fault of a failed call of the system: want of memory, or else the one that is given.
-    pub fn of_failed(error: &Error, otherwise: Fault) -> Fault
+    /// The fault of words that could not be had: want of memory, or else `Usage`.
+    pub fn of_words(error: &Error) -> Fault
         ensures memory { error_kind error.now ≡ ErrorKind.OutOfMemory → result ≡ Fault.OutOfMemory }
-        ensures other { error_kind error.now ≢ ErrorKind.OutOfMemory → result ≡ otherwise }
+        ensures other { error_kind error.now ≢ ErrorKind.OutOfMemory → result ≡ Fault.Usage }
     {
         match error.kind() {
             ErrorKind::OutOfMemory => Fault::OutOfMemory,
-            _ => otherwise,
+            _ => Fault::Usage,
         }
     }
 
@@ -43,7 +43,7 @@ impl Fault {
             Fault::Usage => "Usage",
             Fault::Read => "Read",
             Fault::Write => "Write",
-            Fault::Turns => "Turns",
+            Fault::TooManyReads => "Turns",
             Fault::OutOfMemory => "OutOfMemory",
         }
     }
@@ -54,7 +54,7 @@ impl Fault {
     {
         match self {
             Fault::Usage => 2,
-            Fault::Read | Fault::Write | Fault::Turns => 3,
+            Fault::Read | Fault::Write | Fault::TooManyReads => 3,
             Fault::OutOfMemory => 4,
         }
     }
@@ -62,7 +62,7 @@ impl Fault {
 
 impl fmt::Display for Fault {
     ghost use Rattle.std.specs.Prelude.{Some};
-    ghost use Rattle.coord_drill.specs.Faults.{fault_name};
+    ghost use Rattle.coord_commands.specs.Faults.{fault_name};
 
     ghost output = { λ fault. Some (fault_name fault) };
 
@@ -73,11 +73,27 @@ impl fmt::Display for Fault {
 
 impl From<AllocError> for Fault {
     ghost use Rattle.std.specs.Prelude.{◌≡◌};
-    ghost use Rattle.coord_drill.specs.declared.fault.Fault.TheVariants.{OutOfMemory};
+    ghost use Rattle.coord_commands.specs.declared.fault.Fault.TheVariants.{OutOfMemory};
 
     ghost from_gives = { λ _ fault. fault ≡ OutOfMemory };
 
     fn from(_: AllocError) -> Fault {
         Fault::OutOfMemory
+    }
+}
+
+impl From<coord_drill::Fault> for Fault {
+    ghost use Rattle.std.specs.Prelude.{◌≡◌};
+    ghost use Rattle.coord_commands.specs.Faults.{fault_of_drill};
+
+    ghost from_gives = { λ given fault. fault ≡ fault_of_drill given };
+
+    fn from(fault: coord_drill::Fault) -> Fault {
+        match fault {
+            coord_drill::Fault::Read => Fault::Read,
+            coord_drill::Fault::Write => Fault::Write,
+            coord_drill::Fault::TooManyReads => Fault::TooManyReads,
+            coord_drill::Fault::OutOfMemory => Fault::OutOfMemory,
+        }
     }
 }
