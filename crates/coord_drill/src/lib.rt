@@ -1,2 +1,17 @@
-//! The drill: requests read line by line, and what becomes of each.
+//! The drill: requests read line by line from a reader, and what becomes of each printed to a
+//! writer.
+//!
+//! `specs/Drilled.antt` says what is printed to a whole input, `specs/Grammar.antt` what a line asks
+//! for, `specs/Drill.antt` what becomes of it, and `specs/Printed.antt` the lines that are printed.
 #![tactic(auto)]
+
+mod answer;
+mod console;
+mod drill;
+mod fault;
+mod print;
+mod request;
+mod writing;
+
+pub use console::{MOST_READS, coord_drill};
+pub use fault::Fault;

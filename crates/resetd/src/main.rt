@@ -1,39 +1,23 @@
-//! The program `resetd`. Its words are read in `words`, and each command is a function of its own:
-//! `drill` reads requests line by line and prints what becomes of them.
+//! The program `resetd`. Its commands stand in the library `coord_commands`, the drill in
+//! `coord_drill`.
 #![tactic(auto)]
 
-mod answer;
-mod console;
-mod drill;
-mod fault;
-mod line_buffer;
-mod print;
-mod request;
-#[cfg(test)]
-mod tests;
-mod words;
-
-pub use console::coord_drill;
-use fault::Fault;
+pub use coord_commands::{Fault, drill, report, run};
+pub use coord_drill::coord_drill;
 use std::env;
 use std::process::ExitCode;
-use words::Task;
 
-fn run(rt: &HostRuntime) -> Result<(), Fault> {
-    let alloc = rt.alloc();
-    let given = env::args(rt).map_err(|error| Fault::of_failed(&error, Fault::Usage))?;
-    let given: Vec<String> = given.collect(alloc)?;
-    match words::read(alloc, given.as_slice())? {
-        Task::Drill => coord_drill(alloc, &mut rt.stdin(), &mut rt.stdout()),
-    }
+/// The program's words, the first of which is its own name.
+fn words(rt: &HostRuntime) -> Result<Vec<String>, Fault> {
+    let words = env::args(rt).map_err(|error| Fault::of_words(&error))?;
+    Ok(words.collect(rt.alloc())?)
 }
 
 fn main(rt: HostRuntime) -> ExitCode {
-    match run(&rt) {
-        Ok(()) => ExitCode::SUCCESS,
-        Err(fault) => {
-            let _ = eprintln!(rt; "resetd: {fault}");
-            ExitCode::from(fault.status())
-        }
-    }
+    let (mut input, mut output, mut errors) = (rt.stdin(), rt.stdout(), rt.stderr());
+    let status = match words(&rt) {
+        Ok(words) => run(rt.alloc(), &words, &mut input, &mut output, &mut errors),
+        Err(fault) => report(Err(fault), &mut errors),
+    };
+    ExitCode::from(status)
 }

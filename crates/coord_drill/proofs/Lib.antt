@@ -1,0 +1,3 @@
+mod FirstParts
+mod NoText
+mod Taken

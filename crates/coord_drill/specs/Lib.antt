@@ -1,0 +1,4 @@
+pub mod Grammar
+pub mod Drill
+pub mod Printed
+pub mod Drilled

@@ -1,0 +1,27 @@
+//! Why a drill ends before the end of its input.
+
+use std::alloc::AllocError;
+
+/// What ends a drill early.
+#[derive(Clone, Copy, Debug, PartialEq, Eq)]
+pub enum Fault {
+    /// The input could not be read.
+    Read,
+    /// What is printed could not be written.
+    Write,
+    /// The end of the input was not met within `MOST_READS` reads.
+    TooManyReads,
+    /// There was not enough memory.
+    OutOfMemory,
+}
+
+impl From<AllocError> for Fault {
+    ghost use Rattle.std.specs.Prelude.{◌≡◌};
+    ghost use Rattle.coord_drill.specs.declared.fault.Fault.TheVariants.{OutOfMemory};
+
+    ghost from_gives = { λ _ fault. fault ≡ OutOfMemory };
+
+    fn from(_: AllocError) -> Fault {
+        Fault::OutOfMemory
+    }
+}

@@ -1,0 +1,47 @@
+//! Writing of which is known, where it fails, that a first part was written.
+
+ghost use Rattle.std.specs.Prelude.{◌≡◌, ◌≢◌, OnOk, OnErr, IfErr};
+ghost use Rattle.std.specs.Io.KnownBytes.{Appends};
+ghost use Rattle.std.specs.IoError.{error_kind};
+ghost use Rattle.coord_drill.specs.Drilled.{IsOfWriting, WritesFirstPart};
+
+use crate::fault::Fault;
+use std::io::{Error, ErrorKind, Write};
+
+/// The most calls of `write` for one text.
+const MOST_WRITES: u64 = 1_048_576;
+
+/// Writes a text whole.
+pub fn write_text<W: Write>(writer: &mut W, text: &[u8]) -> Result<(), Fault>
+    ensures ok { OnOk result (Appends (W.contents writer.old) (W.contents writer.new) text.now) }
+    ensures err { OnErr result (WritesFirstPart (W.contents writer.old) (W.contents writer.new) text.now) }
+    ensures fault { IfErr result IsOfWriting }
+{
+    let mut rest = text;
+    for _ in 0..MOST_WRITES {
+        if rest.is_empty() {
+            return Ok(());
+        }
+        match writer.write(rest) {
+            Ok(0) => return Err(Fault::Write),
+            Ok(count) => rest = &rest[count..],
+            Err(error) => {
+                if error.kind() != ErrorKind::Interrupted {
+                    return Err(fault_of(&error));
+                }
+            }
+        }
+    }
+    Err(Fault::Write)
+}
+
+/// The fault of a failed write: want of memory, or else `Write`.
+pub fn fault_of(error: &Error) -> Fault
+    ensures memory { error_kind error.now ≡ ErrorKind.OutOfMemory → result ≡ Fault.OutOfMemory }
+    ensures other { error_kind error.now ≢ ErrorKind.OutOfMemory → result ≡ Fault.Write }
+{
+    match error.kind() {
+        ErrorKind::OutOfMemory => Fault::OutOfMemory,
+        _ => Fault::Write,
+    }
+}

@@ -1,0 +1,2 @@
+pub mod LinesOn
+mod Pieces

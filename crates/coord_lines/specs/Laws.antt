@@ -1,0 +1,25 @@
+-- A text that comes in pieces.
+use Rattle.std.specs.Prelude.{◌≡◌, ℕ, List, [], ◌∷◌, ◌++◌, Some}
+use Rattle.std.specs.List.{concat}
+use Rattle.coord_lines.specs.Lines.{Line, lines_of, lines_on}
+
+-- the last of some lines is kept as the line so far, and those before it have ended
+abbrev pub ended : List Line → List Line
+ended [] = []
+ended (line ∷ []) = []
+ended (line ∷ next ∷ lines) = line ∷ ended (next ∷ lines)
+
+abbrev pub last_of : List Line → Line
+last_of [] = Some []
+last_of (line ∷ []) = line
+last_of (line ∷ next ∷ lines) = last_of (next ∷ lines)
+
+-- the lines of a text in pieces: each piece goes on the line that the pieces before it left, and
+-- the line that the last one leaves is the last
+abbrev pub lines_in_pieces : Line → List (List ℕ) → List Line
+lines_in_pieces line [] = lines_on line []
+lines_in_pieces line (piece ∷ pieces) = let lines = lines_on line piece in ended lines ++ lines_in_pieces (last_of lines) pieces
+
+-- a text in any pieces has the lines of the whole
+abbrev pub PiecesHaveTheLinesOfTheWhole : Type 0
+PiecesHaveTheLinesOfTheWhole = (pieces : List (List ℕ)) → lines_in_pieces (Some []) pieces ≡ lines_of (concat pieces)

@@ -1,0 +1,47 @@
+-- The lines of a text.
+use Rattle.std.specs.Prelude.{ℕ, ◌≤◌, IfSome, nat_le, ◌==◌, Bool, List, [], ◌∷◌, ◌++◌, length, map, Option, Some, None, option_map, if◌then◌else◌}
+use Rattle.std.specs.List.{slice_split, position, before_first, after_first}
+
+abbrev pub is_line_feed : ℕ → Bool
+is_line_feed byte = byte == 10
+
+-- the most bytes of a line, its line feed not counted
+abbrev pub limit : ℕ
+limit = 512
+
+-- a line by its bytes; None where it is over the limit
+abbrev pub Line : Type 0
+Line = Option (List ℕ)
+
+unfoldable pub line_of : List ℕ → Line
+line_of bytes = if nat_le (length bytes) limit then Some bytes else None
+
+-- a line that is over the limit is told by None alone
+abbrev pub IsWithin : Line → Type 0
+IsWithin line = IfSome line (λ bytes. length bytes ≤ limit)
+
+-- what stands before, between and behind the line feeds of a text: one line more than it has line
+-- feeds, of which the last, which may be empty, is the one that no line feed ends
+abbrev pub lines_of : List ℕ → List Line
+lines_of text = map line_of (slice_split is_line_feed text)
+
+-- a line so far, with more bytes
+abbrev pub extended : Line → List ℕ → Line
+extended None more = None
+extended (Some line) more = line_of (line ++ more)
+
+-- the lines of a text that goes on a line so far
+abbrev pub going_on : Line → List (List ℕ) → List Line
+going_on line [] = line ∷ []
+going_on line (part ∷ parts) = extended line part ∷ map line_of parts
+
+abbrev pub lines_on : Line → List ℕ → List Line
+lines_on line text = going_on line (slice_split is_line_feed text)
+
+-- what stands before the first line feed of a text, or all of it
+abbrev pub before_line_feed : List ℕ → List ℕ
+before_line_feed text = before_first is_line_feed text
+
+-- what stands behind the first line feed of a text, if there is one
+abbrev pub behind_line_feed : List ℕ → Option (List ℕ)
+behind_line_feed text = option_map (λ place. after_first is_line_feed text) (position is_line_feed text)

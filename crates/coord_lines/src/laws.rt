@@ -1,0 +1,8 @@
+//! The law of a text that comes in pieces: a function that does nothing, whose contract is the law.
+
+ghost use Rattle.coord_lines.specs.Laws.{PiecesHaveTheLinesOfTheWhole};
+
+/// A text in any pieces has the lines of the whole.
+pub fn pieces_have_the_lines_of_the_whole()
+    ensures { PiecesHaveTheLinesOfTheWhole }
+{}

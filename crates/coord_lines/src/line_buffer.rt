@@ -1,0 +1,102 @@
+//! A line of a text while its bytes come in.
+
+ghost use Rattle.std.specs.Prelude.{◌≡◌, Some, []};
+ghost use Rattle.std.specs.Option.{option_copied};
+ghost use Rattle.std.specs.List.{position};
+ghost use Rattle.coord_lines.specs.Lines.{is_line_feed, extended, IsWithin, before_line_feed, behind_line_feed};
+
+use std::marker::Model;
+
+/// The most bytes of a line, its line feed not counted.
+pub const LINE_LEN: usize = 512;
+
+const LINE_FEED: u8 = b'\n';
+
+/// The bytes of a line so far. Contracts see them, or None once there are more than `LINE_LEN`.
+#[derive(Drop)]
+pub struct LineBuffer {
+    bytes: [u8; LINE_LEN],
+    len: usize,
+    is_long: bool,
+}
+
+impl Model for LineBuffer {
+    ghost use Rattle.std.specs.Prelude.{◌≤◌, ℕ, List, Option, Some, None, take, if◌then◌else◌};
+
+    ghost Value = { Option (List ℕ) };
+
+    ghost view = { λ a. if a.is_long then None else Some (take a.len a.bytes) };
+
+    ghost invariant = { λ a. a.len ≤ 512 };
+}
+
+impl LineBuffer {
+    /// An empty line.
+    pub fn new() -> Self
+        ensures { result ≡ Some [] }
+    {
+        LineBuffer {
+            bytes: [0; LINE_LEN],
+            len: 0,
+            is_long: false,
+        }
+    }
+
+    /// Adds to the line what stands before the first line feed of a piece of the text, and answers
+    /// what stands behind it; None where the piece has none, so that the line goes on.
+    pub fn take<'a>(&mut self, piece: &'a [u8]) -> Option<&'a [u8]>
+        ensures line { self.new ≡ extended self.old (before_line_feed piece.now) }
+        ensures behind { option_copied result ≡ behind_line_feed piece.now }
+    {
+        match line_feed_in(piece) {
+            Some(end) => {
+                self.extend(&piece[..end]);
+                Some(&piece[end + 1..])
+            }
+            None => {
+                self.extend(piece);
+                None
+            }
+        }
+    }
+
+    /// The line; None where it is over the limit.
+    pub fn get(&self) -> Option<&[u8]>
+        ensures line { option_copied result ≡ self.now }
+        ensures within { IsWithin self.now }
+    {
+        if self.is_long {
+            None
+        } else {
+            Some(&self.bytes[..self.len])
+        }
+    }
+
+    /// Begins a new line.
+    pub fn clear(&mut self)
+        ensures { self.new ≡ Some [] }
+    {
+        self.len = 0;
+        self.is_long = false;
+    }
+
+    #[tactic(auto, unfolding(crate::specs::Lines::line_of))]
+    fn extend(&mut self, more: &[u8])
+        ensures { self.new ≡ extended self.old more.now }
+    {
+        if more.len() <= LINE_LEN - self.len {
+            let end = self.len + more.len();
+            self.bytes[self.len..end].copy_from_slice(more);
+            self.len = end;
+        } else {
+            self.is_long = true;
+        }
+    }
+}
+
+/// The place of the first line feed.
+fn line_feed_in(piece: &[u8]) -> Option<usize>
+    ensures { result ≡ position is_line_feed piece.now }
+{
+    piece.iter().position(|byte| *byte == LINE_FEED)
+}
