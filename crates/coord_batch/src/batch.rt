@@ -12,17 +12,8 @@ ghost use Rattle.coord_batch.specs.Batches.{IsBatch, IsNumbered, content, pair};
 use crate::fault::{CodecFault, FaultKind, ReadError};
 use crate::input::Input;
 use crate::step_writing::put_step;
-use coord_types::Step;
+use coord_types::{MAX_BATCH_BYTES, MAX_BATCH_STEPS, MAX_STEPS, Step};
 use std::alloc::{AllocError, Global};
-
-/// The most steps of a batch.
-pub const MAX_BATCH_STEPS: usize = 256;
-
-/// The most bytes that a batch may have on a disk. Those of version 1 have at most 5,130.
-pub const MAX_BATCH_BYTES: usize = 8192;
-
-/// The most steps that a world takes, and so the greatest number of a step.
-pub const MAX_STEPS: u64 = 1 << 40;
 
 /// Steps that were committed together, 1 to 256 of them, of which the first has this number, from
 /// 1 to 2^40.

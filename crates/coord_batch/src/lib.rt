@@ -18,7 +18,7 @@ pub mod laws;
 mod step_reading;
 mod step_writing;
 
-pub use batch::{Batch, MAX_BATCH_BYTES, MAX_BATCH_STEPS, MAX_STEPS, read_batch, write_batch};
+pub use batch::{Batch, read_batch, write_batch};
 pub use fault::{CodecFault, FaultKind, Flaw, ReadError};
 pub use input::Input;
 pub use step_writing::{message_byte, put_command};

@@ -16,8 +16,5 @@ mod world;
 mod world_reading;
 mod world_writing;
 
-pub use coord_batch::{
-    Batch, CodecFault, FaultKind, MAX_BATCH_BYTES, MAX_BATCH_STEPS, MAX_STEPS, read_batch,
-    write_batch,
-};
-pub use world::{MAX_WORLD_BYTES, read_world, write_world};
+pub use coord_batch::{Batch, CodecFault, FaultKind, read_batch, write_batch};
+pub use world::{read_world, write_world};

@@ -5,11 +5,8 @@ ghost use Rattle.std.specs.Option.{option_copied};
 ghost use Rattle.coord_world.specs.Parts.{degree, group_of};
 ghost use Rattle.coord_codec.specs.Worlds.{can_link, first_rises, last_by, last_ends, second_rises};
 
-use coord_types::{Group, NodeId};
+use coord_types::{Group, MAX_DEGREE, NodeId};
 use coord_world::{ClientRow, LinkRow, NodeRow};
-
-/// The most links of a node.
-const MAX_DEGREE: usize = 16;
 
 /// The number of the last node, or 0.
 pub fn last_node(rows: &[NodeRow]) -> u8

@@ -10,11 +10,9 @@ ghost use Rattle.coord_codec.specs.Worlds.{world};
 use crate::world_reading::read_parts;
 use crate::world_writing::{put_clients, put_links, put_nodes};
 use coord_batch::{CodecFault, Input, ReadError};
+use coord_types::MAX_SNAPSHOT_BYTES;
 use coord_world::{Parts, World};
 use std::alloc::{AllocError, Global};
-
-/// The most bytes that a world may have on a disk. Those of version 1 have at most 8,907.
-pub const MAX_WORLD_BYTES: usize = 16384;
 
 /// The rows that all of the bytes spell.
 fn decode(alloc: Global, version: u8, bytes: &[u8]) -> Result<Parts, CodecFault>
@@ -67,7 +65,7 @@ pub fn read_world(alloc: Global, version: u8, bytes: &[u8]) -> Result<World, Cod
 /// The one spelling of a world, in version 1.
 pub fn write_world(alloc: Global, written: &World) -> Result<Vec<u8>, AllocError>
     ensures spelled { IfOk result (λ v. v.items ≡ world.text (rows_of written.now)) }
-    ensures len { IfOk result (λ v. length v.items ≤ MAX_WORLD_BYTES) }
+    ensures len { IfOk result (λ v. length v.items ≤ MAX_SNAPSHOT_BYTES) }
 {
     let parts = written.parts()?;
     let mut out = Vec::new(alloc);

@@ -8,9 +8,9 @@ ghost use Rattle.coord_codec.specs.Worlds.{client_row, clients, content_of_lane,
 ghost use Rattle.coord_world.specs.Parts.{listed};
 
 use crate::row_search::{can_link, first_rises, last_client, last_node, second_rises};
-use coord_batch::{Input, MAX_STEPS, ReadError};
+use coord_batch::{Input, ReadError};
 use coord_link::Lane;
-use coord_types::{Command, Kind, Mode, Msg, NodeId, NodeSet, Reply, Session};
+use coord_types::{Command, Kind, MAX_STEPS, Mode, Msg, NodeId, NodeSet, Reply, Session};
 use coord_world::{ClientRow, LinkRow, NodeRow, Parts};
 use std::alloc::Global;
 

@@ -23,6 +23,7 @@ use Rattle.coord_world.proofs.release.TakeablePackets.{IsDueReceipt, IsNextPacke
 use Rattle.coord_world.proofs.release.Membership.{not_in_nil}
 use Rattle.coord_world.proofs.release.LaneFronts.{IsNumbered, IsFront, IsPast, IsFrontReceipt, front_fold, front_not_past, one_lane, past_fold, receipt_fold}
 use Rattle.coord_world.proofs.release.Trails.{EachFresh, fold-take_drop, each_fresh-drop, each_fresh-take, sound_fold, sound_next, trail_each_fresh}
+use Rattle.coord_world.proofs.lanes.Transit.{counts_cases}
 
 -- a front at the end was given out by the steps, or was one before them
 pub front_of_steps : (ss : List Step) (w : World) (p : DataPacket) → IsFront (fold w ss) p → Contains (outputs_of w ss) (Sent p) ⊎ IsFront w p
@@ -130,7 +131,7 @@ module _ (settled : World) (ss : List Step) (sound : IsSound settled) (each : Ea
               made = subst (λ i. i ≤ settled.count) known.1 (sound.in_range.lanes p.from p.to l known.0).inc;
               past = λ k there same. let one = one_lane _ l k known.0 there in subst (λ z. p.number ≤ z.base) one (grind (arith, nat_tests, less));
             })))
-            (λ more _. elim (sound.legal.lanes p.from p.to l known.0) [
+            (λ more _. elim (counts_cases l (sound.legal.lanes p.from p.to l known.0)) [
               | inl idle ↦ absurd (grind (arith, nat_tests, more, within, idle))
               | inr taken ↦ record { at = record { lane = l; there = known.0; inc = known.1; number = grind (arith, nat_tests, more, within, taken.0) }; got = taken.0 }
             ])

@@ -19,6 +19,7 @@ use Rattle.coord_world.proofs.lists.GetAfter.{same_pair}
 use Rattle.coord_world.proofs.release.Membership.{Contains-cons_cases, Contains-head, not_in_nil, Contains-one, Contains-flat_map_found, Contains-flat_map_entry, Contains-tail}
 use Rattle.coord_world.proofs.release.LaneFronts.{IsFront, IsFrontReceipt}
 use Rattle.coord_world.proofs.lists.TableEntries.{is_true}
+use Rattle.coord_world.proofs.lanes.Transit.{counts_cases}
 
 -- both lists are made of the entries of the lanes
 all_again-flat_map : (es : List ((ℕ × ℕ) × Lane)) → all_again es ≡ flat_map (λ e. again_by e.0 e.1 e.1.queue) es
@@ -115,7 +116,7 @@ receipt_again w p sound r = lane_again w (Receipted p) (p.from, p.to) l r.at.the
     l = r.at.lane
 
     of_queue : (q : List Msg) → l.queue ≡ q → Contains (again_by (p.from, p.to) l q) (Receipted p)
-    of_queue [] none = absurd (elim (sound.legal.lanes p.from p.to l r.at.there) [ inl idle ↦ omega (arith, idle, r.got) | inr taken ↦ taken.1 none ])
+    of_queue [] none = absurd (elim (counts_cases l (sound.legal.lanes p.from p.to l r.at.there)) [ inl idle ↦ omega (arith, idle, r.got) | inr taken ↦ taken.1 none ])
     of_queue (m ∷ ms) is =
         let front = front_packet (p.from, p.to) l m in
         let taken : is_front_taken l ≡ true = grind (arith, nat_tests, r.got) in

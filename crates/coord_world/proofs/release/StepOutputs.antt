@@ -27,6 +27,7 @@ use Rattle.coord_world.proofs.lists.GetAfter.{same_pair}
 use Rattle.coord_world.proofs.release.TakeablePackets.{fresh_take_is_next}
 use Rattle.coord_world.proofs.release.Membership.{Contains-cons_cases, Contains-head, not_in_nil, Contains-one, Contains-flat_map_found, Contains-flat_map_entry}
 use Rattle.coord_world.proofs.release.LaneFronts.{IsNumbered, IsFront, IsFrontReceipt, one_lane}
+use Rattle.coord_world.proofs.lanes.Transit.{counts_cases}
 
 -- the receipts of a step are of the packet that it takes
 receipts_taken : (s : Step) (p : ReceiptPacket) → Contains (receipts s) (Receipted p) → (q : DataPacket) × ((s ≡ Take q) × (receipt q ≡ p))
@@ -185,4 +186,4 @@ receipt_from_step w s p sound fresh r = by_step (lane_step w s p.from p.to)
         let same = one_lane _ (cleared k) at.lane e at.there in
         let got = ap (λ z. z.got) same in
         let base = ap (λ z. z.base) same in
-        absurd (elim (sound.legal.lanes p.from p.to k was) [ inl idle ↦ omega (arith, idle, got, base, r.got) | inr taken ↦ omega (arith, taken.0, got, base, r.got) ])
+        absurd (elim (counts_cases k (sound.legal.lanes p.from p.to k was)) [ inl idle ↦ omega (arith, idle, got, base, r.got) | inr taken ↦ omega (arith, taken.0, got, base, r.got) ])

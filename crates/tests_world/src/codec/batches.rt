@@ -3,8 +3,10 @@ ghost use Rattle.std.specs.List.{AllByRecursion};
 ghost use Rattle.coord_batch.specs.Batches.{IsNumbered};
 
 use super::*;
-use coord_codec::{MAX_BATCH_STEPS, write_batch};
-use coord_types::{Client, Command, DataPacket, Group, Msg, NodeId, ReceiptPacket, Step};
+use coord_codec::write_batch;
+use coord_types::{
+    Client, Command, DataPacket, Group, MAX_BATCH_STEPS, Msg, NodeId, ReceiptPacket, Step,
+};
 
 // Step 1 is client 1's order 1, to add node 1 to group 1.
 const BATCH: [u8; 23] = [
