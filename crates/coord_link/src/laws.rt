@@ -14,14 +14,3 @@ pub fn lane_law()
 pub fn reset_lane()
     ensures { ResetLane }
 {}
-
-#[cfg(test)]
-mod tests {
-    use super::*;
-
-    #[test]
-    fn laws_do_nothing() {
-        lane_law();
-        reset_lane();
-    }
-}

@@ -107,31 +107,3 @@ pub fn released_from_base()
 pub fn kept_reply_law()
     ensures { KeptReplyLaw }
 {}
-
-#[cfg(test)]
-mod tests {
-    use super::*;
-
-    #[test]
-    fn laws_do_nothing() {
-        fresh_over_itself();
-        next_keeps_ranges();
-        next_keeps_legal();
-        view_of_next();
-        lanes_are_short();
-        rows_of_world_fit();
-        rows_give_world();
-        once_per_wave();
-        trail_keeps_worlds();
-        trail_is_cut();
-        trail_goes_on();
-        fold_counts();
-        release_law();
-        fresh_where_released();
-        release_stays();
-        resend_law();
-        released_grows();
-        released_from_base();
-        kept_reply_law();
-    }
-}

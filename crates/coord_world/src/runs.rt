@@ -33,18 +33,3 @@ pub fn drop_in_abort()
 pub fn drop_in_converge()
     ensures { DropInConverge }
 {}
-
-#[cfg(test)]
-mod tests {
-    use super::*;
-
-    #[test]
-    fn runs_do_nothing() {
-        stored_run();
-        stored_wave();
-        released_run();
-        two_initiators();
-        drop_in_abort();
-        drop_in_converge();
-    }
-}
