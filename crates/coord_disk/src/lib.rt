@@ -1,4 +1,13 @@
-//! A disk that may crash at any moment, by what a crash may leave.
+//! Disks that may crash at any moment: what was synced is left, and at the places that were written
+//! since anything may be.
+//!
+//! `Disk` is the trait that users see. Its meaning stands in `specs/Model`: `Present` says what a
+//! disk holds and which bytes a crash may leave of it, `Moments` what holds at each moment of a run
+//! of calls. This is what a reader has to believe; `specs/Disks` is only of the disks in this crate.
+//! The main theorem is that `MemDisk` keeps the model, proved from its own record of its writes and
+//! syncs (`write_at` and `sync`, clauses `crash` and `time`); its `crash` leaves what was chosen.
+//! A `FailingDisk` is any disk with calls that fail by a `Rule`, as a fuse (`FuseDisk`) or a blip
+//! (`BlipDisk`), and are passed on once otherwise.
 #![tactic(auto)]
 
 mod blip;

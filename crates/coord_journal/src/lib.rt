@@ -1,4 +1,13 @@
-//! A journal on a disk that a crash may strike at any moment: a version, a snapshot and the batches appended since.
+//! A journal on a disk that may crash at any moment: a version, a snapshot and the batches that were
+//! appended since.
+//!
+//! `specs/Text.antt` says which bytes are the text of a content, apart from any code. `format` makes
+//! such a text, `open` reads it and writes nothing, `Journal::append` adds a batch, and
+//! `Journal::replace` puts a new snapshot in place of everything, in the half that is not selected.
+//! The main theorems are the clauses `any_moment` and `done` of the last two: a crash at any moment
+//! leaves the text of the content from before the call or from after it, and once the call has
+//! returned Ok of the latter alone. Both stand on `synced::write_in_turn`: two writes, the second of
+//! them begun when the first is on the disk.
 #![tactic(auto)]
 
 mod barrier;

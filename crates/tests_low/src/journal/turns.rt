@@ -1,6 +1,6 @@
 //! A journal moves into its other half, and back.
 
-use super::{BODY, CREATED, opened};
+use super::{BODY, COMMITTED, CREATED, opened};
 use coord_disk::MemDisk;
 use coord_journal::{Contents, Journal};
 use std::alloc::Global;
@@ -57,5 +57,25 @@ fn a_journal_moves_into_its_other_half(rt: HostRuntime) -> Result<(), Fail> {
         );
         disk = journal.into_disk();
     }
+    Ok(())
+}
+
+// Whether a replace leaves all that was written but the selector, and writes the second half behind zeros.
+fn moves(alloc: Global) -> Result<bool, Fail> {
+    let (mut journal, _contents) = opened(alloc, MemDisk::from_bytes(alloc, &COMMITTED)?)?;
+    journal.replace(1, &[0; 11])?;
+    let disk = journal.into_disk();
+    let bytes = disk.bytes();
+    if bytes.len() != 32_802 {
+        return Ok(false);
+    }
+    let kept = bytes[0] == 1 && bytes[1..62] == COMMITTED[1..];
+    let between = bytes[62..32_785].iter().all(|byte| *byte == 0);
+    Ok(kept && between && bytes[32_785..] == CREATED[17..])
+}
+
+#[test]
+fn a_replace_writes_the_second_half(rt: HostRuntime) -> Result<(), Fail> {
+    assert!(rt; moves(rt.alloc())?);
     Ok(())
 }
