@@ -1,16 +1,15 @@
 -- The table of a topology says that topology.
-use Rattle.std.proofs.Common.{◌≡◌, ℕ, ◌≤◌, ◌+◌, nat_le, le-leb, max, codes, Bool, true, List, [], ◌∷◌, length, Option, Some, Ok, refl, ap, arith}
-use Rattle.std.proofs.lemmas.Bool.Decides.{nat_tests}
+use Rattle.std.proofs.Common.{◌≡◌, ℕ, ◌≤◌, le-leb, Bool, true, List, [], ◌∷◌, length, Some, Ok, refl, arith}
 use Rattle.std.specs.List.{AllByRecursion}
-use Rattle.toml.specs.Data.{Data, depth, has_valid_dates, is_sorted, items_depth, items_have_valid_dates, items_are_sorted, members_depth, members_have_valid_dates, members_are_sorted}
+use Rattle.toml.specs.Data.{Data, depth, has_valid_dates, is_sorted, items_depth, items_have_valid_dates, items_are_sorted}
 use Rattle.toml.specs.Parse.{parse_document}
 use Rattle.toml.specs.Text.{IsDocumentText}
 use Rattle.toml.proofs.ReadBack.{parse_document-printed}
 use Rattle.coord_config.specs.declared.topology.NodeEntry.{NodeEntry}
 use Rattle.coord_config.specs.declared.topology.LinkEntry.{LinkEntry}
-use Rattle.coord_config.specs.Keys.{items_have_just, has_right_keys, link_keys, node_keys}
-use Rattle.coord_config.specs.Reading.{reading, topology_if}
-use Rattle.coord_config.specs.Topology.{Content, each, half_of, link_of, node_of, number_within, topology_of, values_of}
+use Rattle.coord_config.specs.Keys.{items_have_just, link_keys, node_keys}
+use Rattle.coord_config.specs.Reading.{reading}
+use Rattle.coord_config.specs.Topology.{Content, each, link_of, node_of, number_within, topology_of, values_of}
 use Rattle.coord_config.specs.Written.{IsInLimits, IsLinkEntry, IsNodeEntry, array_of, link_table, node_table, number, written}
 
 -- a number between the limits is read

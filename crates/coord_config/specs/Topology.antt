@@ -1,5 +1,5 @@
 -- The topology of a TOML table.
-use Rattle.std.specs.Prelude.{ℕ, ℤ, pos, ◌&&◌, nat_le, if◌then◌else◌, List, [], ◌∷◌, codes, Option, Some, None, option_and_then, Result, Ok, Err}
+use Rattle.std.specs.Prelude.{ℕ, pos, ◌&&◌, nat_le, if◌then◌else◌, List, [], ◌∷◌, codes, Option, Some, None, option_and_then, Result, Ok, Err}
 use Rattle.toml.specs.Data.{Data, integer, array, table, Items, no_items, item, Members, get_member}
 use Rattle.coord_config.specs.declared.fault.ConfigFault.{ConfigFault}
 use Rattle.coord_config.specs.declared.fault.ConfigFault.TheVariants.{BadKey, BadValue}

@@ -1,10 +1,9 @@
 -- Texts of which it is known what they say.
-use Rattle.std.specs.Prelude.{◌≡◌, ℕ, List, [], ◌∷◌, codes, Ok, Err}
+use Rattle.std.specs.Prelude.{◌≡◌, ℕ, [], ◌∷◌, codes, Ok, Err}
 use Rattle.coord_config.specs.declared.fault.ConfigFault.TheVariants.{NotToml, BadKey, BadValue}
 use Rattle.coord_config.specs.declared.topology.NodeEntry.{NodeEntry}
 use Rattle.coord_config.specs.declared.topology.LinkEntry.{LinkEntry}
 use Rattle.coord_config.specs.Reading.{reading}
-use Rattle.coord_config.specs.Topology.{Content}
 
 abbrev node : ℕ → ℕ → NodeEntry
 node id group = record { id = id; group = group }
