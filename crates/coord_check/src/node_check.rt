@@ -3,8 +3,8 @@
 ghost use Rattle.std.specs.Prelude.{◌≡◌};
 ghost use Rattle.coord_world.specs.Legal.{awaits_rightly, has_right_parent, is_parent_near, is_within, is_legal_node};
 
-use coord_node::{Node, NodeSet};
-use coord_types::{Mode, NodeId};
+use coord_node::Node;
+use coord_types::{Mode, NodeId, NodeSet};
 
 /// Whether a node is as the rules keep each node, in a world of so many steps.
 pub(crate) fn is_legal_node(node: &Node, count: u64) -> bool
@@ -14,14 +14,14 @@ pub(crate) fn is_legal_node(node: &Node, count: u64) -> bool
     awaits_rightly(node.mode(), pend)
         && has_right_parent(node.mode(), node.parent())
         && is_parent_near(node.parent(), pend, neighbours)
-        && is_within(pend, neighbours)
+        && pend.is_subset(neighbours)
         && node.confirmed() <= node.epoch()
         && node.epoch() <= count
 }
 
 /// Whether a node awaits somebody exactly where it is Abort.
-fn awaits_rightly(mode: Mode, pend: &NodeSet) -> bool
-    ensures { result ≡ awaits_rightly mode pend.now }
+fn awaits_rightly(mode: Mode, pend: NodeSet) -> bool
+    ensures { result ≡ awaits_rightly mode pend }
 {
     (mode == Mode::Abort) != pend.is_empty()
 }
@@ -38,18 +38,11 @@ fn has_right_parent(mode: Mode, parent: Option<NodeId>) -> bool
 }
 
 /// Whether a parent is a neighbour that isn't awaited.
-fn is_parent_near(parent: Option<NodeId>, pend: &NodeSet, neighbours: &NodeSet) -> bool
-    ensures { result ≡ is_parent_near parent pend.now neighbours.now }
+fn is_parent_near(parent: Option<NodeId>, pend: NodeSet, neighbours: NodeSet) -> bool
+    ensures { result ≡ is_parent_near parent pend neighbours }
 {
     match parent {
         None => true,
         Some(parent) => !pend.contains(parent) && neighbours.contains(parent),
     }
-}
-
-/// Whether all that are awaited are neighbours.
-fn is_within(pend: &NodeSet, neighbours: &NodeSet) -> bool
-    ensures { result ≡ is_within pend.now neighbours.now }
-{
-    pend.as_slice().iter().all(|id| neighbours.contains(*id))
 }

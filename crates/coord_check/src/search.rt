@@ -35,6 +35,7 @@ pub fn check(world: &World) -> Option<Violation>
     ensures legal { IsNone result ↔ Legal world.now }
     ensures named { IfSome result (Fails world.now) }
 {
+    world.ranges();
     let count = world.count();
     if let Some(fault) = first_of_nodes(world, count) {
         return Some(fault);

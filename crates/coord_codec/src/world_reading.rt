@@ -11,8 +11,7 @@ use crate::fault::ReadError;
 use crate::input::Input;
 use crate::row_search::{can_link, first_rises, last_client, last_node, second_rises};
 use coord_link::Lane;
-use coord_node::NodeSet;
-use coord_types::{Client, Command, Kind, Mode, Msg, NodeId, Reply, Session};
+use coord_types::{Client, Command, Kind, Mode, Msg, NodeId, NodeSet, Reply, Session};
 use coord_world::{ClientRow, LinkRow, NodeRow, Parts};
 use std::alloc::Global;
 
@@ -86,20 +85,15 @@ impl<'a> Input<'a> {
     }
 
     #[tactic(auto, unfolding(crate::specs::Worlds::mask))]
-    fn node_set(&mut self, alloc: Global) -> Result<NodeSet, ReadError>
+    fn node_set(&mut self) -> Result<NodeSet, ReadError>
         ensures { Reads (λ x. x) result (mask.read self.old) self.new }
     {
         let bits = self.u64()?;
-        Ok(NodeSet::from_bits(alloc, bits)?)
+        Ok(NodeSet::from_bits(bits))
     }
 
     #[tactic(auto, unfolding(crate::specs::Worlds::node_row))]
-    fn node_row(
-        &mut self,
-        alloc: Global,
-        count: u64,
-        front: &[NodeRow],
-    ) -> Result<NodeRow, ReadError>
+    fn node_row(&mut self, count: u64, front: &[NodeRow]) -> Result<NodeRow, ReadError>
         ensures { Reads (λ x. x) result ((node_row count front.now).read self.old) self.new }
     {
         let left = self.left();
@@ -112,7 +106,7 @@ impl<'a> Input<'a> {
             group: self.group()?,
             mode: self.mode()?,
             parent: self.parent()?,
-            pend: self.node_set(alloc)?,
+            pend: self.node_set()?,
             epoch: self.at_most(count)?,
             confirmed: self.at_most(count)?,
         })
@@ -236,7 +230,7 @@ impl<'a> Input<'a> {
     {
         let mut list = Vec::new(alloc);
         for _ in 0..rows {
-            let row = self.node_row(alloc, count, &list)?;
+            let row = self.node_row(count, &list)?;
             list.push(row)?;
         }
         Ok(list)

@@ -29,9 +29,13 @@ took l = record l { got = l.got + 1 }
 abbrev pub cleared : Lane → Lane
 cleared l = record l { base = l.base + 1; queue = behind_front l.queue }
 
+-- whether the front was taken at the other end
+abbrev pub is_front_taken : Lane → Bool
+is_front_taken l = l.got == l.base + 1
+
 -- the messages on the way: not the front, where it was taken
 abbrev pub transit : Lane → List Msg
-transit l = if l.got == l.base then l.queue else behind_front l.queue
+transit l = if is_front_taken l then behind_front l.queue else l.queue
 
 abbrev pub front_in : ℕ → List Msg → Option (ℕ × Msg)
 front_in base [] = None

@@ -1,7 +1,7 @@
 //! One direction of a link.
 
 ghost use Rattle.std.specs.Prelude.{◌≡◌, ◌<◌, ◌≤◌, ◌-◌, ◌^◌, ◌↔◌, [], ◌∷◌, length, IsTrue};
-ghost use Rattle.coord_link.specs.LaneMachine.{new_lane, sent, took, cleared, transit, front_of, judged_take, judged_clear};
+ghost use Rattle.coord_link.specs.LaneMachine.{new_lane, sent, took, cleared, is_front_taken, transit, front_of, judged_take, judged_clear};
 
 use coord_types::{Msg, Refusal};
 use std::marker::Model;
@@ -14,7 +14,7 @@ const BEHIND: Msg = Msg::Abort;
 
 /// The messages from one node to its neighbour, numbered from 1 since the link was made. Contracts
 /// see it as a lane of `specs/LaneMachine.antt`.
-#[derive(Clone, Copy, Debug)]
+#[derive(Clone, Copy, PartialEq, Eq, Debug)]
 pub struct Lane {
     inc: u64,
     base: u64,
@@ -184,80 +184,22 @@ impl Lane {
         self.len -= 1;
     }
 
+    /// Whether the front was taken at the other end: one more message was taken than is receipted.
+    pub fn is_front_taken(&self) -> bool
+        ensures { result ≡ is_front_taken self.now }
+    {
+        self.got > self.base && self.got - self.base == 1
+    }
+
     /// The messages on the way: those of the queue, without a front that was taken.
     pub fn transit(&self) -> &[Msg]
         ensures { result.now ≡ transit self.now }
     {
         let on_the_way = &self.queue[..self.len];
-        if self.got == self.base || self.len == 0 {
-            on_the_way
-        } else {
+        if self.is_front_taken() && self.len != 0 {
             &on_the_way[1..]
+        } else {
+            on_the_way
         }
-    }
-}
-
-#[cfg(test)]
-mod tests {
-    use super::*;
-
-    // What a sender does that has something to say.
-    fn sent_unless_full(lane: &mut Lane, msg: Msg) -> bool {
-        if lane.is_full() {
-            return false;
-        }
-        lane.send(msg);
-        true
-    }
-
-    // The lane from the initiator of a reset to its only neighbour, with packets and receipts that
-    // come again and too early.
-    #[test]
-    fn reset_lane(rt: HostRuntime) {
-        let mut lane = Lane::new(3);
-        assert_eq!(rt; lane.current(), None);
-        assert_eq!(rt; lane.judge_take(1, Msg::Abort), Err(Refusal::Early));
-        lane.send(Msg::Abort);
-        assert_eq!(rt; lane.current(), Some((1, Msg::Abort)));
-        assert_eq!(rt; lane.judge_take(1, Msg::Ready), Err(Refusal::Differs));
-        assert_eq!(rt; lane.judge_clear(1), Err(Refusal::Early));
-        assert_eq!(rt; lane.judge_take(1, Msg::Abort), Ok(()));
-        lane.take();
-        assert_eq!(rt; lane.judge_take(1, Msg::Abort), Err(Refusal::Old));
-        lane.send(Msg::Ready);
-        assert_eq!(rt; lane.queue(), [Msg::Abort, Msg::Ready].as_slice());
-        assert_eq!(rt; lane.transit(), [Msg::Ready].as_slice());
-        assert_eq!(rt; lane.judge_take(2, Msg::Ready), Err(Refusal::Early));
-        assert_eq!(rt; lane.judge_clear(1), Ok(()));
-        let before = lane;
-        lane.clear();
-        assert_eq!(rt; lane.judge_clear(1), Err(Refusal::Old));
-        assert_eq!(rt; lane.current(), Some((2, Msg::Ready)));
-        assert_eq!(rt; (lane.inc(), lane.base(), lane.got()), (3, 1, 1));
-        assert_eq!(rt; (before.base(), before.queue().len()), (0, 2));
-    }
-
-    // A lane whose front was taken and not cleared.
-    #[test]
-    fn restored(rt: HostRuntime) {
-        let lane = Lane::restore(3, 6, 7, &[Msg::Ack, Msg::Ready]);
-        assert_eq!(rt; (lane.inc(), lane.base(), lane.got()), (3, 6, 7));
-        assert_eq!(rt; lane.queue(), [Msg::Ack, Msg::Ready].as_slice());
-        assert_eq!(rt; lane.current(), Some((7, Msg::Ack)));
-        assert_eq!(rt; lane.transit(), [Msg::Ready].as_slice());
-    }
-
-    #[test]
-    fn holds_four(rt: HostRuntime) {
-        let mut lane = Lane::new(1);
-        for msg in [Msg::Abort, Msg::Ack, Msg::Ready, Msg::Abort] {
-            assert!(rt; sent_unless_full(&mut lane, msg));
-        }
-        assert!(rt; lane.is_full());
-        assert!(rt; !sent_unless_full(&mut lane, Msg::Ack));
-        assert_eq!(rt;
-            lane.queue(),
-            [Msg::Abort, Msg::Ack, Msg::Ready, Msg::Abort].as_slice()
-        );
     }
 }

@@ -1,3 +1,1 @@
-pub mod Sorted
-pub mod Acks
-pub mod Bits
+pub mod Sends

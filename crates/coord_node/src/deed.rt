@@ -1,8 +1,9 @@
 //! What a call at a node leads to.
 
-ghost use Rattle.std.specs.Prelude.{◌≡◌, IfOk, false, [], ◌∷◌};
+ghost use Rattle.std.specs.Prelude.{◌≡◌, IfOk, false, [], ◌∷◌, map};
+ghost use Rattle.coord_types.specs.NodeSet as set;
 
-use coord_types::{Msg, NodeId};
+use coord_types::{Msg, NodeId, NodeSet};
 use std::alloc::{AllocError, Global};
 
 /// What is to be sent, and whether the node finished a reset.
@@ -37,4 +38,22 @@ impl Deed {
             finished: false,
         })
     }
+}
+
+/// One message to each of these nodes, in ascending order.
+pub(crate) fn sends_to(
+    alloc: Global,
+    to: NodeSet,
+    msg: Msg,
+) -> Result<Vec<(NodeId, Msg)>, AllocError>
+    ensures { IfOk result
+        (λ sends. sends.items ≡ map (λ x. record { 0 = x; 1 = msg }) (set.items to)) }
+{
+    let mut sends = Vec::with_capacity(alloc, to.len())?;
+    let mut rest = to;
+    while let Some(id) = rest.first() {
+        sends.push((id, msg))?;
+        rest = rest.without(id);
+    }
+    Ok(sends)
 }

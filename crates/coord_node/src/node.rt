@@ -6,15 +6,14 @@ ghost use Rattle.coord_types.specs.NodeState.{new_node};
 ghost use Rattle.coord_node.specs.Rules.{request, on_abort, on_ack, on_ready, lost, with_neighbour};
 ghost use Rattle.coord_node.specs.Rules.{acknowledged, finish, wave_on, lost_in, without, sends_of};
 
-use crate::deed::Deed;
-use crate::set::NodeSet;
-use coord_types::{Group, Mode, Msg, NodeId};
+use crate::deed::{Deed, sends_to};
+use coord_types::{Group, Mode, Msg, NodeId, NodeSet};
 use std::alloc::{AllocError, Global};
 use std::marker::Model;
 
 /// A node: its group, where it stands in a reset, and how many resets it has been through.
 /// Contracts see it as its state, and each call's contract cites the reset rule of its name.
-#[derive(Drop, Debug)]
+#[derive(Clone, Copy, PartialEq, Eq, Debug)]
 pub struct Node {
     group: Group,
     mode: Mode,
@@ -23,7 +22,6 @@ pub struct Node {
     neighbours: NodeSet,
     epoch: u64,
     confirmed: u64,
-    alloc: Global,
 }
 
 impl Model for Node {
@@ -42,55 +40,70 @@ impl Model for Node {
       epoch = a.epoch;
       confirmed = a.confirmed;
     } };
+
+    ghost inverse = { λ r. record {
+      group = r.group;
+      mode = r.mode;
+      parent = r.parent;
+      pend = r.pend;
+      neighbours = r.neighbours;
+      epoch = r.epoch;
+      confirmed = r.confirmed;
+    } };
+}
+
+/// All that a node keeps, to restore it from.
+#[derive(Clone, Copy, Debug)]
+pub struct NodeFields {
+    pub group: Group,
+    pub mode: Mode,
+    /// The neighbour that is owed the node's acknowledgement.
+    pub parent: Option<NodeId>,
+    /// The neighbours whose acknowledgement is awaited.
+    pub pend: NodeSet,
+    pub neighbours: NodeSet,
+    /// How many resets the node has finished.
+    pub epoch: u64,
+    /// The last epoch whose signal is known to have been acted on.
+    pub confirmed: u64,
 }
 
 impl Node {
     /// A node as it is added: Ready, without neighbours, in epoch 0.
-    pub fn new(alloc: Global, group: Group) -> Self
+    pub fn new(group: Group) -> Self
         ensures { result ≡ new_node group }
     {
         Node {
             group,
             mode: Mode::Ready,
             parent: None,
-            pend: NodeSet::new(alloc),
-            neighbours: NodeSet::new(alloc),
+            pend: NodeSet::new(),
+            neighbours: NodeSet::new(),
             epoch: 0,
             confirmed: 0,
-            alloc,
         }
     }
 
-    /// The node in this state: `pend` are the neighbours whose acknowledgement is awaited.
-    pub fn restore(
-        alloc: Global,
-        group: Group,
-        mode: Mode,
-        parent: Option<NodeId>,
-        pend: NodeSet,
-        neighbours: NodeSet,
-        epoch: u64,
-        confirmed: u64,
-    ) -> Self
+    /// The node that keeps this.
+    pub fn restore(fields: NodeFields) -> Self
         ensures { result ≡ record {
-          group = group;
-          mode = mode;
-          parent = parent;
-          pend = pend;
-          neighbours = neighbours;
-          epoch = epoch;
-          confirmed = confirmed;
+          group = fields.group;
+          mode = fields.mode;
+          parent = fields.parent;
+          pend = fields.pend;
+          neighbours = fields.neighbours;
+          epoch = fields.epoch;
+          confirmed = fields.confirmed;
         } }
     {
         Node {
-            group,
-            mode,
-            parent,
-            pend,
-            neighbours,
-            epoch,
-            confirmed,
-            alloc,
+            group: fields.group,
+            mode: fields.mode,
+            parent: fields.parent,
+            pend: fields.pend,
+            neighbours: fields.neighbours,
+            epoch: fields.epoch,
+            confirmed: fields.confirmed,
         }
     }
 
@@ -114,16 +127,16 @@ impl Node {
     }
 
     /// The neighbours whose acknowledgement is awaited.
-    pub fn pend(&self) -> &NodeSet
-        ensures { result.now ≡ self.now.pend }
+    pub fn pend(&self) -> NodeSet
+        ensures { result ≡ self.now.pend }
     {
-        &self.pend
+        self.pend
     }
 
-    pub fn neighbours(&self) -> &NodeSet
-        ensures { result.now ≡ self.now.neighbours }
+    pub fn neighbours(&self) -> NodeSet
+        ensures { result ≡ self.now.neighbours }
     {
-        &self.neighbours
+        self.neighbours
     }
 
     /// How many resets it has finished.
@@ -140,25 +153,9 @@ impl Node {
         self.confirmed
     }
 
-    /// A node in the same state.
-    pub fn copy(&self) -> Result<Node, AllocError>
-        ensures { IfOk result (λ same. same ≡ self.now) }
-    {
-        Ok(Node {
-            group: self.group,
-            mode: self.mode,
-            parent: self.parent,
-            pend: self.pend.copy()?,
-            neighbours: self.neighbours.copy()?,
-            epoch: self.epoch,
-            confirmed: self.confirmed,
-            alloc: self.alloc,
-        })
-    }
-
     /// A reset is asked for at this node.
     #[tactic(auto, using(coord_types::proofs::Sets::listed))]
-    pub fn request(&mut self) -> Result<Deed, AllocError>
+    pub fn request(&mut self, alloc: Global) -> Result<Deed, AllocError>
         requires { self.old.epoch < 2 ^ 64 - 1 }
         ensures row { OnOk result (self.new ≡ (request self.old).row) }
         ensures sends { IfOk result (λ d. d.sends.items ≡ sends_of (request self.old)) }
@@ -166,31 +163,31 @@ impl Node {
         ensures err { OnErr result (self.new ≡ self.old) }
     {
         if self.mode != Mode::Ready {
-            return Ok(Deed::idle(self.alloc));
+            return Ok(Deed::idle(alloc));
         }
         if self.neighbours.is_empty() {
-            return self.finish();
+            return self.finish(alloc);
         }
-        let others = self.neighbours.copy()?;
-        self.wave_on(None, others)
+        let others = self.neighbours;
+        self.wave_on(alloc, None, others)
     }
 
     /// An Abort comes from a neighbour.
     #[tactic(auto, using(coord_types::proofs::Sets::listed))]
-    pub fn on_abort(&mut self, from: NodeId) -> Result<Deed, AllocError>
+    pub fn on_abort(&mut self, alloc: Global, from: NodeId) -> Result<Deed, AllocError>
         ensures row { OnOk result (self.new ≡ (on_abort self.old from).row) }
         ensures sends { IfOk result (λ d. d.sends.items ≡ sends_of (on_abort self.old from)) }
         ensures finished { IfOk result (λ d. d.finished ≡ (on_abort self.old from).finished) }
         ensures err { OnErr result (self.new ≡ self.old) }
     {
         if self.mode != Mode::Ready {
-            return Deed::answer(self.alloc, from);
+            return Deed::answer(alloc, from);
         }
-        let others = self.neighbours.without(from)?;
+        let others = self.neighbours.without(from);
         if !others.is_empty() {
-            return self.wave_on(Some(from), others);
+            return self.wave_on(alloc, Some(from), others);
         }
-        let deed = Deed::answer(self.alloc, from)?;
+        let deed = Deed::answer(alloc, from)?;
         self.mode = Mode::Converge;
         self.parent = Some(from);
         Ok(deed)
@@ -198,7 +195,7 @@ impl Node {
 
     /// An Ack comes from a neighbour.
     #[tactic(auto, using(coord_types::proofs::Sets::listed))]
-    pub fn on_ack(&mut self, from: NodeId) -> Result<Deed, AllocError>
+    pub fn on_ack(&mut self, alloc: Global, from: NodeId) -> Result<Deed, AllocError>
         requires { self.old.epoch < 2 ^ 64 - 1 }
         ensures row { OnOk result (self.new ≡ (on_ack self.old from).row) }
         ensures sends { IfOk result (λ d. d.sends.items ≡ sends_of (on_ack self.old from)) }
@@ -206,21 +203,22 @@ impl Node {
         ensures err { OnErr result (self.new ≡ self.old) }
     {
         if self.pend.is_empty() {
-            return Ok(Deed::idle(self.alloc));
+            return Ok(Deed::idle(alloc));
         }
-        let rest = self.pend.without(from)?;
-        let deed = if rest.is_empty() {
-            self.acknowledged()?
-        } else {
-            Deed::idle(self.alloc)
-        };
-        self.pend = rest;
+        let mut after = *self;
+        after.pend = self.pend.without(from);
+        if !after.pend.is_empty() {
+            *self = after;
+            return Ok(Deed::idle(alloc));
+        }
+        let deed = after.acknowledged(alloc)?;
+        *self = after;
         Ok(deed)
     }
 
     /// A Ready comes from a neighbour.
     #[tactic(auto, using(coord_types::proofs::Sets::listed))]
-    pub fn on_ready(&mut self, from: NodeId) -> Result<Deed, AllocError>
+    pub fn on_ready(&mut self, alloc: Global, from: NodeId) -> Result<Deed, AllocError>
         requires { self.old.epoch < 2 ^ 64 - 1 }
         ensures row { OnOk result (self.new ≡ (on_ready self.old from).row) }
         ensures sends { IfOk result (λ d. d.sends.items ≡ sends_of (on_ready self.old from)) }
@@ -228,14 +226,14 @@ impl Node {
         ensures err { OnErr result (self.new ≡ self.old) }
     {
         if self.mode == Mode::Converge && self.parent == Some(from) {
-            self.finish()
+            self.finish(alloc)
         } else {
-            Ok(Deed::idle(self.alloc))
+            Ok(Deed::idle(alloc))
         }
     }
 
-    /// The link to a neighbour vanishes.
-    pub fn lost(&mut self, other: NodeId) -> Result<Deed, AllocError>
+    /// The link to a neighbour is dropped.
+    pub fn lost(&mut self, alloc: Global, other: NodeId) -> Result<Deed, AllocError>
         requires { self.old.epoch < 2 ^ 64 - 1 }
         ensures row { OnOk result (self.new ≡ (lost self.old other).row) }
         ensures sends { IfOk result (λ d. d.sends.items ≡ sends_of (lost self.old other)) }
@@ -244,21 +242,20 @@ impl Node {
     {
         let awaited = self.pend.contains(other);
         let child = self.parent == Some(other);
-        let mut rest = self.without(other)?;
-        let deed = rest.go_on(awaited, child)?;
+        let mut rest = self.without(other);
+        let deed = rest.go_on(alloc, awaited, child)?;
         *self = rest;
         Ok(deed)
     }
 
     /// A link to another node comes.
-    pub fn gained(&mut self, other: NodeId) -> Result<Deed, AllocError>
-        ensures row { OnOk result (self.new ≡ with_neighbour self.old other) }
-        ensures sends { IfOk result (λ d. d.sends.items ≡ []) }
-        ensures finished { IfOk result (λ d. d.finished ≡ false) }
-        ensures err { OnErr result (self.new ≡ self.old) }
+    pub fn gained(&mut self, alloc: Global, other: NodeId) -> Deed
+        ensures row { self.new ≡ with_neighbour self.old other }
+        ensures sends { result.sends.items ≡ [] }
+        ensures finished { result.finished ≡ false }
     {
-        self.neighbours = self.neighbours.with(other)?;
-        Ok(Deed::idle(self.alloc))
+        self.neighbours = self.neighbours.with(other);
+        Deed::idle(alloc)
     }
 
     /// The signals up to this epoch are known to have been acted on.
@@ -269,17 +266,18 @@ impl Node {
     }
 
     /// Sends Ready to every neighbour but the parent, and enters the next epoch.
-    fn finish(&mut self) -> Result<Deed, AllocError>
+    fn finish(&mut self, alloc: Global) -> Result<Deed, AllocError>
         requires { self.old.epoch < 2 ^ 64 - 1 }
         ensures row { OnOk result (self.new ≡ (finish self.old).row) }
         ensures sends { IfOk result (λ d. d.sends.items ≡ sends_of (finish self.old)) }
         ensures finished { IfOk result (λ d. d.finished ≡ true) }
         ensures err { OnErr result (self.new ≡ self.old) }
     {
-        let sends = match self.parent {
-            None => self.neighbours.to_each(Msg::Ready)?,
-            Some(parent) => self.neighbours.without(parent)?.to_each(Msg::Ready)?,
+        let others = match self.parent {
+            None => self.neighbours,
+            Some(parent) => self.neighbours.without(parent),
         };
+        let sends = sends_to(alloc, others, Msg::Ready)?;
         self.mode = Mode::Ready;
         self.parent = None;
         self.epoch += 1;
@@ -290,13 +288,18 @@ impl Node {
     }
 
     /// Passes the abort wave on, and awaits those that it goes to.
-    fn wave_on(&mut self, parent: Option<NodeId>, others: NodeSet) -> Result<Deed, AllocError>
+    fn wave_on(
+        &mut self,
+        alloc: Global,
+        parent: Option<NodeId>,
+        others: NodeSet,
+    ) -> Result<Deed, AllocError>
         ensures row { OnOk result (self.new ≡ (wave_on self.old parent others).row) }
         ensures sends { IfOk result (λ d. d.sends.items ≡ sends_of (wave_on self.old parent others)) }
         ensures finished { IfOk result (λ d. d.finished ≡ false) }
         ensures err { OnErr result (self.new ≡ self.old) }
     {
-        let sends = others.to_each(Msg::Abort)?;
+        let sends = sends_to(alloc, others, Msg::Abort)?;
         self.mode = Mode::Abort;
         self.parent = parent;
         self.pend = others;
@@ -308,7 +311,7 @@ impl Node {
 
     /// The last acknowledgement that was awaited has come.
     #[tactic(auto, using(coord_types::proofs::Sets::listed))]
-    fn acknowledged(&mut self) -> Result<Deed, AllocError>
+    fn acknowledged(&mut self, alloc: Global) -> Result<Deed, AllocError>
         requires { self.old.epoch < 2 ^ 64 - 1 }
         ensures row { OnOk result (self.new ≡ (acknowledged self.old self.old.parent).row) }
         ensures sends { IfOk result (λ d. d.sends.items ≡ sends_of (acknowledged self.old self.old.parent)) }
@@ -316,9 +319,9 @@ impl Node {
         ensures err { OnErr result (self.new ≡ self.old) }
     {
         match self.parent {
-            None => self.finish(),
+            None => self.finish(alloc),
             Some(parent) => {
-                let deed = Deed::answer(self.alloc, parent)?;
+                let deed = Deed::answer(alloc, parent)?;
                 self.mode = Mode::Converge;
                 Ok(deed)
             }
@@ -326,35 +329,30 @@ impl Node {
     }
 
     /// The node without a link to this neighbour, in the same mode.
-    fn without(&self, other: NodeId) -> Result<Node, AllocError>
-        ensures { IfOk result
-            (λ rest. rest ≡ record self.now {
-              parent = without self.now.parent other;
-              pend = set.remove self.now.pend other;
-              neighbours = set.remove self.now.neighbours other;
-            }) }
+    fn without(&self, other: NodeId) -> Node
+        ensures { result ≡ record self.now {
+          parent = without self.now.parent other;
+          pend = set.remove self.now.pend other;
+          neighbours = set.remove self.now.neighbours other;
+        } }
     {
         let parent = if self.parent == Some(other) {
             None
         } else {
             self.parent
         };
-        Ok(Node {
-            group: self.group,
-            mode: self.mode,
+        Node {
             parent,
-            pend: self.pend.without(other)?,
-            neighbours: self.neighbours.without(other)?,
-            epoch: self.epoch,
-            confirmed: self.confirmed,
-            alloc: self.alloc,
-        })
+            pend: self.pend.without(other),
+            neighbours: self.neighbours.without(other),
+            ..*self
+        }
     }
 
-    /// Goes on after a link vanished: `awaited` says that its end's acknowledgement was awaited,
-    /// and `child` that its end was the parent.
+    /// Goes on after a link was dropped: `awaited` says that its end's acknowledgement was
+    /// awaited, and `child` that its end was the parent.
     #[tactic(auto, using(coord_types::proofs::Sets::listed))]
-    fn go_on(&mut self, awaited: bool, child: bool) -> Result<Deed, AllocError>
+    fn go_on(&mut self, alloc: Global, awaited: bool, child: bool) -> Result<Deed, AllocError>
         requires { self.old.epoch < 2 ^ 64 - 1 }
         ensures row { OnOk result (self.new ≡ (lost_in self.old.mode self.old awaited child).row) }
         ensures sends { IfOk result
@@ -364,9 +362,9 @@ impl Node {
         ensures err { OnErr result (self.new ≡ self.old) }
     {
         match self.mode {
-            Mode::Abort if awaited && self.pend.is_empty() => self.acknowledged(),
-            Mode::Converge if child => self.finish(),
-            _ => Ok(Deed::idle(self.alloc)),
+            Mode::Abort if awaited && self.pend.is_empty() => self.acknowledged(alloc),
+            Mode::Converge if child => self.finish(alloc),
+            _ => Ok(Deed::idle(alloc)),
         }
     }
 }

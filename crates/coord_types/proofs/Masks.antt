@@ -1,12 +1,17 @@
 -- Sets of nodes and their masks.
-use Rattle.std.proofs.Common.{◌≡◌, ℕ, zero, suc, ◌+◌, ◌-◌, ◌^◌, ◌<◌, ◌≤◌, Bool, true, false, ◌&&◌, List, [], ◌∷◌, ◌++◌, refl, sym, ap, ◌∙◌, subst, cond, ltb, leb, add-one, arith}
-use Rattle.std.specs.Int.{bit_at}
+use Rattle.std.proofs.Common.{◌≡◌, ◌≢◌, ◌↔◌, ℕ, zero, suc, ◌+◌, ◌-◌, ◌*◌, ◌/◌, ◌%◌, ◌^◌, ◌<◌, ◌≤◌, Bool, true, false, ◌&&◌, List, [], ◌∷◌, ◌++◌, length, Option, Some, None, IsSome, refl, sym, ap, ◌∙◌, subst, cond, eqb, ltb, leb, add-one, bit_and, bit_or, w64, lit<, min, arith}
+use Rattle.std.specs.Prelude.{◌==◌, IfSome, nat_eq}
+use Rattle.std.specs.Cmp.Lexicographic.{pointwise, same_text, other_text}
+use Rattle.std.specs.Int.{bit_at, bit_not, trailing_zeros}
+use Rattle.std.specs.Int.Count.{ones, trailing_of_zero}
 use Rattle.std.specs.List.{AllByRecursion}
 use Rattle.std.proofs.lemmas.Bool.Decides.{nat_tests}
-use Rattle.std.proofs.lemmas.Nat.Bits.{same_from_bits_below, bit_at-lt, bit_at-zero, bit_at_above, bit_at_lowest, bit_at_cat_low, bit_at_cat_high}
-use Rattle.coord_types.specs.NodeSet.{NodeSet, contains, insert, items}
+use Rattle.std.proofs.lemmas.List.{length-append}
+use Rattle.std.proofs.lemmas.Nat.{and_le_l, ones_cat, or_lt}
+use Rattle.std.proofs.lemmas.Nat.Bits.{same_from_bits_below, bit_at_and, bit_at_not, bit_at-lt, bit_at-zero, bit_at_above, bit_at_lowest, bit_at_cat_low, bit_at_cat_high, bit_at_set_same, bit_at_set_other, bit_at_clear_same, bit_at_clear_other, shr_and_one, bit_at-trailing_zeros}
+use Rattle.coord_types.specs.NodeSet.{NodeSet, contains, empty, insert, remove, len, items, from_list, first, first_of, is_subset}
 use Rattle.coord_types.specs.NodeMask.{nodes_where, is_set, nodes_of, bits_where, mask_of, IsMaskable}
-use Rattle.coord_types.proofs.Sets.{contains-empty, contains-insert, same_nodes, items-empty, items-insert_back}
+use Rattle.coord_types.proofs.Sets.{contains-empty, contains-insert, contains-remove, same_nodes, empty_of_len, len-empty, len_of_items, items-empty, items-insert_back, items_least, contains-subset, is_subset_by, from_list-items}
 
 one_more_node : (s : NodeSet) (test : ℕ → Bool) (n q : ℕ) (b : Bool) → test n ≡ b → contains s q ≡ (ltb 0 q && (leb q n && test (q - 1))) →
     contains (cond b (insert s (suc n)) s) q ≡ (ltb 0 q && (leb q (suc n) && test (q - 1)))
@@ -131,3 +136,147 @@ items_more test n =
       | true ↦ items-insert_back (nodes_where test n) (suc n) (items_below test n)
       | false ↦ refl
     ])
+
+-- a number whose bits are those of another but for one
+module _ (bits more k : ℕ) (within : (1 ≤ k) × (k ≤ 64)) (others : (i : ℕ) → i < 64 → i ≢ k - 1 → is_set more i ≡ is_set bits i) where
+  nodes_where_set : is_set more (k - 1) ≡ true → nodes_of more ≡ insert (nodes_of bits) k
+  nodes_where_set here = same_nodes _ _ (λ q. grind (arith, nat_tests, contains-nodes_of bits q, contains-nodes_of more q, contains-insert (nodes_of bits) k q, others (q - 1), here))
+
+  nodes_where_cleared : is_set more (k - 1) ≡ false → nodes_of more ≡ remove (nodes_of bits) k
+  nodes_where_cleared here = same_nodes _ _ (λ q. grind (arith, nat_tests, contains-nodes_of bits q, contains-nodes_of more q, contains-remove (nodes_of bits) k q, others (q - 1), here))
+
+-- what the code does with the bit of a node
+module _ (bits k : ℕ) (within : (1 ≤ k) × (k ≤ 64)) where
+  pub contains-bit : eqb (bit_and (bits / 2 ^ (k - 1)) 1) 1 ≡ contains (nodes_of bits) k
+  contains-bit = grind (arith, nat_tests, shr_and_one bits (k - 1), contains-nodes_of bits k)
+
+  pub nodes_of-with : nodes_of (bit_or bits (1 * 2 ^ (k - 1) % 2 ^ 64)) ≡ insert (nodes_of bits) k
+  nodes_of-with =
+      nodes_where_set bits _ k within (λ i below apart. ap (λ b. eqb b 1) (bit_at_set_other w64 bits (k - 1) (omega arith) i apart))
+      (ap (λ b. eqb b 1) (bit_at_set_same w64 bits (k - 1) (omega arith)))
+
+  pub nodes_of-without : nodes_of (bit_and bits (bit_not w64 (1 * 2 ^ (k - 1) % 2 ^ 64))) ≡ remove (nodes_of bits) k
+  nodes_of-without =
+      nodes_where_cleared bits _ k within (λ i below apart. ap (λ b. eqb b 1) (bit_at_clear_other w64 bits (k - 1) (omega arith) i below apart))
+      (ap (λ b. eqb b 1) (bit_at_clear_same w64 bits (k - 1) (omega arith)))
+
+  pub mask_back_with : bits < 2 ^ 64 → mask_of (nodes_of (bit_or bits (1 * 2 ^ (k - 1) % 2 ^ 64))) ≡ bit_or bits (1 * 2 ^ (k - 1) % 2 ^ 64)
+  mask_back_with fits = mask_back _ (or_lt 64 bits _ fits (omega arith))
+
+  pub mask_back_without : bits < 2 ^ 64 → mask_of (nodes_of (bit_and bits (bit_not w64 (1 * 2 ^ (k - 1) % 2 ^ 64)))) ≡ bit_and bits (bit_not w64 (1 * 2 ^ (k - 1) % 2 ^ 64))
+  mask_back_without fits = mask_back _ (omega (arith, and_le_l bits (bit_not w64 (1 * 2 ^ (k - 1) % 2 ^ 64))))
+
+-- 0 is the mask of the empty set alone
+pub nodes_of-zero : nodes_of 0 ≡ empty
+nodes_of-zero = same_nodes _ _ (λ q. grind (arith, nat_tests, contains-nodes_of 0 q, contains-empty q, bit_at-zero (q - 1)))
+
+pub len-nodes_of-zero : (bits : ℕ) → bits < 2 ^ 64 → (bits ≡ 0) ↔ (len (nodes_of bits) ≡ 0)
+len-nodes_of-zero bits fits = (
+  λ none. ap (λ b. len (nodes_of b)) none ∙ ap len nodes_of-zero ∙ len-empty,
+  λ none. sym (mask_back bits fits) ∙ ap mask_of (empty_of_len (nodes_of bits) none ∙ sym nodes_of-zero) ∙ mask_back 0 (lit< tt),
+)
+
+-- a set has as many members as its mask has ones
+len-nodes_where : (test : ℕ → Bool) (n : ℕ) → len (nodes_where test n) ≡ ones (bits_where test n)
+unfolding nodes_where bits_where ones
+len-nodes_where test zero = len-empty
+len-nodes_where test (suc n) =
+    elim (test n) as (λ b. len (cond b (insert (nodes_where test n) (suc n)) (nodes_where test n)) ≡ ones (cond b (bits_where test n + 2 ^ n) (bits_where test n))) [
+      | true ↦
+          let one : ones (1 * 2 ^ n + bits_where test n) ≡ ones 1 + ones (bits_where test n) = ones_cat n 1 (bits_where test n) (bits_where-below test n) in
+          let sum : bits_where test n + 2 ^ n ≡ 1 * 2 ^ n + bits_where test n = omega arith in
+          let longer = len_of_items (insert (nodes_where test n) (suc n)) ∙ ap length (items-insert_back (nodes_where test n) (suc n) (items_below test n)) in
+          grind (arith, longer, one, sum, len_of_items (nodes_where test n), length-append (items (nodes_where test n)) (suc n ∷ []), len-nodes_where test n)
+      | false ↦ len-nodes_where test n
+    ]
+
+bits_where-is_set : (bits : ℕ) → bits < 2 ^ 64 → bits_where (is_set bits) 64 ≡ bits
+bits_where-is_set bits fits =
+    same_from_bits_below 64 _ bits (bits_where-below _ 64) fits (λ i below. same_bit _ bits i (is_set-bits_where (is_set bits) 64 i ∙ grind (arith, nat_tests)))
+
+pub len-nodes_of : (bits : ℕ) → bits < 2 ^ 64 → ones bits ≡ len (nodes_of bits)
+len-nodes_of bits fits = sym (len-nodes_where (is_set bits) 64 ∙ ap ones (bits_where-is_set bits fits))
+
+-- its first member stands at the lowest one
+first_found : (bits : ℕ) → bits < 2 ^ 64 → 0 < bits → first (nodes_of bits) ≡ Some (trailing_zeros w64 bits + 1)
+first_found bits fits some =
+    let place = trailing_zeros w64 bits in
+    let lowest = bit_at-trailing_zeros w64 bits some fits in
+    ap first_of (items_least (nodes_of bits) (place + 1)
+    (grind (arith, nat_tests, contains-nodes_of bits (place + 1), lowest))
+    (λ q has. grind (arith, nat_tests, contains-nodes_of bits q, lowest.2 (q - 1))))
+
+no_first : (bits : ℕ) → bits ≡ 0 → first (nodes_of bits) ≡ None
+no_first bits none = ap (λ b. first (nodes_of b)) none ∙ ap first nodes_of-zero ∙ ap first_of items-empty
+
+no_ones : (bits : ℕ) → bits ≡ 0 → trailing_zeros w64 bits ≡ 64
+no_ones bits none = ap (trailing_zeros w64) none ∙ trailing_of_zero 64
+
+-- the node behind the lowest zeros, where that is one
+pub first-nodes_of : (bits : ℕ) (o : Option ℕ) → bits < 2 ^ 64 → IsSome o ↔ ((1 ≤ trailing_zeros w64 bits + 1) × (trailing_zeros w64 bits + 1 ≤ 64)) → IfSome o (λ id. id ≡ trailing_zeros w64 bits + 1) → o ≡ first (nodes_of bits)
+first-nodes_of bits None fits within value = sym (no_first bits (empty (trailing_zeros w64 bits) refl (bits == 0) refl))
+  where
+    empty : (place : ℕ) → trailing_zeros w64 bits ≡ place → (b : Bool) → (bits == 0) ≡ b → bits ≡ 0
+    empty place at true is = grind (arith, nat_tests)
+    empty place at false is =
+        let some : 0 < bits = grind (arith, nat_tests) in
+        let lowest = bit_at-trailing_zeros w64 bits some fits in
+        grind (arith, within.1 (omega arith, omega arith))
+first-nodes_of bits (Some id) fits within value =
+    let small = within.0 refl in
+    let some : 0 < bits = grind (arith, no_ones bits) in
+    ap Some value ∙ sym (first_found bits fits some)
+
+-- a difference has the ones of the first number that the second lacks
+bit_at-difference : (bits more i : ℕ) → more < 2 ^ 64 → i < 64 → bit_at (bit_and bits (bit_not w64 more)) i ≡ min (bit_at bits i) (1 - bit_at more i)
+bit_at-difference bits more i fits below = bit_at_and bits (bit_not w64 more) i ∙ ap (min (bit_at bits i)) (bit_at_not w64 more i fits below)
+
+module _ (bits more : ℕ) (fits : bits < 2 ^ 64) (fits_too : more < 2 ^ 64) where
+  no_difference : bit_and bits (bit_not w64 more) ≡ 0 → (q : ℕ) → contains (nodes_of bits) q ≡ true → contains (nodes_of more) q ≡ true
+  no_difference none q has =
+      let within = maskable_nodes bits q has in
+      let nothing : bit_at (bit_and bits (bit_not w64 more)) (q - 1) ≡ 0 = ap (λ b. bit_at b (q - 1)) none ∙ bit_at-zero (q - 1) in
+      let lacks = bit_at-difference bits more (q - 1) fits_too (omega arith) in
+      let small = bit_at-lt more (q - 1) in
+      grind (arith, nat_tests, contains-nodes_of bits q, contains-nodes_of more q, nothing, lacks, small)
+
+  no_bit : ((q : ℕ) → contains (nodes_of bits) q ≡ true → contains (nodes_of more) q ≡ true) → (i : ℕ) → i < 64 → bit_at (bit_and bits (bit_not w64 more)) i ≡ bit_at 0 i
+  no_bit each i below =
+      let place : i + 1 - 1 ≡ i = omega arith in
+      let one = contains-nodes_of bits (i + 1) ∙ ap (λ j. ltb 0 (i + 1) && (leb (i + 1) 64 && is_set bits j)) place in
+      let other = contains-nodes_of more (i + 1) ∙ ap (λ j. ltb 0 (i + 1) && (leb (i + 1) 64 && is_set more j)) place in
+      let small = bit_at-lt bits i in
+      grind (arith, nat_tests, one, other, each (i + 1), bit_at-difference bits more i fits_too below, bit_at-zero i, small)
+
+  pub is_subset-nodes_of : eqb (bit_and bits (bit_not w64 more)) 0 ≡ is_subset (nodes_of bits) (nodes_of more)
+  is_subset-nodes_of = same_test _ _
+      (λ e. is_subset_by _ _ (no_difference (grind (arith, nat_tests))))
+      (λ is. let none = same_from_bits_below 64 _ 0 (small_difference bits (bit_not w64 more) fits) (lit< tt) (no_bit (contains-subset _ _ is)) in grind (arith, nat_tests))
+    where
+      same_test : (a b : Bool) → (a ≡ true → b ≡ true) → (b ≡ true → a ≡ true) → a ≡ b
+      same_test true b to from = sym (to refl)
+      same_test false true to from = from refl
+      same_test false false to from = refl
+
+      small_difference : (a b : ℕ) → a < 2 ^ 64 → bit_and a b < 2 ^ 64
+      small_difference a b small = omega (arith, and_le_l a b)
+
+-- equal masks are those of equal sets
+module _ (bits more : ℕ) (fits : bits < 2 ^ 64) (fits_too : more < 2 ^ 64) where
+  pub same_mask : (bits ≡ more) ↔ (nodes_of bits ≡ nodes_of more)
+  same_mask = (ap nodes_of, λ e. sym (mask_back bits fits) ∙ ap mask_of e ∙ mask_back more fits_too)
+
+  pub same_mask_items : eqb bits more ≡ pointwise nat_eq (items (nodes_of bits)) (items (nodes_of more))
+  same_mask_items = by_test (pointwise nat_eq (items (nodes_of bits)) (items (nodes_of more))) refl
+    where
+      by_test : (b : Bool) → pointwise nat_eq (items (nodes_of bits)) (items (nodes_of more)) ≡ b → eqb bits more ≡ b
+      by_test true is =
+          let same = sym (from_list-items (nodes_of bits)) ∙ ap from_list (same_text _ _ (sym is)) ∙ from_list-items (nodes_of more) in
+          let e = same_mask.1 same in
+          grind (arith, nat_tests)
+      by_test false is =
+          let apart : bits ≡ more → ⊥ = λ e. other_text _ _ (sym is) (ap (λ b. items (nodes_of b)) e) in
+          grind (arith, nat_tests)
+
+-- what the code of a set's mask rests on
+pub ruleset masks = (mask_back, maskable_nodes, contains-bit, nodes_of-with, nodes_of-without, mask_back_with, mask_back_without, nodes_of-zero, len-nodes_of-zero, len-nodes_of, is_subset-nodes_of, same_mask, same_mask_items)

@@ -1,9 +1,9 @@
 -- Sets of nodes, and lists in ascending order.
-use Rattle.std.proofs.Common.{◌≡◌, ◌≢◌, ℕ, ◌<◌, Bool, true, false, ◌&&◌, ◌||◌, not, List, [], ◌∷◌, ◌++◌, Option, Some, None, Ordering, map, refl, sym, ap, ◌∙◌, subst, arith, cond, eqb, length}
+use Rattle.std.proofs.Common.{◌≡◌, ◌≢◌, ℕ, ◌+◌, ◌<◌, ◌≤◌, Bool, true, false, ◌&&◌, ◌||◌, not, List, [], ◌∷◌, ◌++◌, Option, Some, None, Ordering, map, refl, sym, ap, ◌∙◌, subst, arith, cond, eqb, length}
 use Rattle.std.specs.Prelude.{T, nat_eq, is_some}
 use Rattle.std.specs.Ordering.{nat_cmp, eq_by_cmp, is_lt}
 use Rattle.std.specs.declared.cmp.Ordering.TheVariants.{Less, Equal, Greater}
-use Rattle.std.specs.List.{filter, list_any, AllByRecursion}
+use Rattle.std.specs.List.{filter, list_any, list_all, AllByRecursion}
 use Rattle.std.specs.List.Sorted.{IsStrictlySortedBy}
 use Rattle.std.specs.FinMap.{nat_cmp-IsAntisymmetric}
 use Rattle.coord_types.specs.Table as table
@@ -12,7 +12,7 @@ use Rattle.coord_types.proofs.Tables.{same_table}
 use Rattle.std.specs.FinMap.Entries.{put, by_order, below_all, is_sorted}
 use Rattle.std.proofs.lemmas.Bool.Decides.{nat_tests}
 use Rattle.std.proofs.lemmas.Map.Keys.{sorted_head, sorted_tail}
-use Rattle.coord_types.specs.NodeSet.{NodeSet, contains, empty, insert, remove, len, items, from_list}
+use Rattle.coord_types.specs.NodeSet.{NodeSet, contains, empty, insert, remove, len, items, from_list, first, first_of, is_subset}
 
 some_or : (b : Bool) (o : Option (Unit {0})) → is_some (cond b (Some tt) o) ≡ (b || is_some o)
 some_or true o = refl
@@ -147,7 +147,7 @@ length-keys : (es : List (ℕ × Unit {0})) → length (map (λ e. e.0) es) ≡ 
 length-keys [] = refl
 length-keys (e ∷ es) = omega (arith, length-keys es)
 
-len_of_items : (s : NodeSet) → len s ≡ length (items s)
+pub len_of_items : (s : NodeSet) → len s ≡ length (items s)
 unfolding len items
 len_of_items s = sym (length-keys (table.entries s))
 
@@ -183,3 +183,73 @@ items-sorted s = sorted_listed (table.entries s) s.sorted
 -- a set is the set of its items
 pub from_list-items : (s : NodeSet) → from_list (items s) ≡ s
 from_list-items s = same_nodes _ _ (λ q. contains-from_list (items s) q ∙ sym (contains-items s q))
+
+or_later : (a b : Bool) → b ≡ true → (a || b) ≡ true
+or_later true b e = refl
+or_later false b e = e
+
+-- what holds of each number that is listed
+all_listed : (P : ℕ → Type 0) (xs : List ℕ) → ((q : ℕ) → list_any (λ y. nat_eq y q) xs ≡ true → P q) → AllByRecursion P xs
+all_listed P [] each = tt
+all_listed P (x ∷ xs) each = (each x (grind (arith, nat_tests)), all_listed P xs (λ q any. each q (or_later (nat_eq x q) _ any)))
+
+-- the least member comes first
+pub items_least : (s : NodeSet) (k : ℕ) → contains s k ≡ true → ((q : ℕ) → contains s q ≡ true → k ≤ q) → items s ≡ k ∷ items (remove s k)
+items_least s k has least =
+    let whole : s ≡ insert (remove s k) k = same_nodes _ _ (λ q. grind (arith, nat_tests, contains-insert (remove s k) k q, contains-remove s k q, has)) in
+    ap items whole
+    ∙ items-insert_front (remove s k) k
+    (all_listed _ (items (remove s k)) (λ q any. above q (sym (contains-remove s k q) ∙ contains-items (remove s k) q ∙ any) (least q)))
+  where
+    above : (q : ℕ) → (not (eqb q k) && contains s q) ≡ true → (contains s q ≡ true → k ≤ q) → nat_cmp k q ≡ Less
+    above q more bound = grind (arith, nat_tests)
+
+-- a number below all that are listed is below each
+below_each : (k q : ℕ) (xs : List ℕ) → AllByRecursion (λ y. nat_cmp k y ≡ Less) xs → list_any (λ y. nat_eq y q) xs ≡ true → k < q
+below_each k q [] below any = cc
+below_each k q (x ∷ xs) below any = by_test (nat_eq x q) refl (below_each k q xs below.1)
+  where
+    by_test : (b : Bool) → nat_eq x q ≡ b → (list_any (λ y. nat_eq y q) xs ≡ true → k < q) → k < q
+    by_test true is further = grind (arith, nat_tests, below.0)
+    by_test false is further = further (ap (λ b. b || list_any (λ z. nat_eq z q) xs) (sym is) ∙ any)
+
+-- a set's first member, and what stands behind it
+behind_first : (s : NodeSet) (k : ℕ) (xs : List ℕ) → items s ≡ xs → IsStrictlySortedBy nat_cmp xs → first_of xs ≡ Some k → items s ≡ k ∷ items (remove s k)
+behind_first s k [] is sorted e = cc
+behind_first s k (x ∷ xs) is sorted e =
+    let same : x ≡ k = cc in
+    let member : (q : ℕ) → contains s q ≡ (nat_eq x q || list_any (λ y. nat_eq y q) xs) = λ q. contains-items s q ∙ ap (list_any (λ y. nat_eq y q)) is in
+    items_least s k (grind (arith, nat_tests, member k, same))
+    (λ q has. least q same (sym (member q) ∙ has) (below_each x q xs (sorted_head nat_cmp x xs sorted)))
+  where
+    least : (q : ℕ) → x ≡ k → (nat_eq x q || list_any (λ y. nat_eq y q) xs) ≡ true → (list_any (λ y. nat_eq y q) xs ≡ true → x < q) → k ≤ q
+    least q same any behind = grind (arith, nat_tests)
+
+pub items-first : (s : NodeSet) (k : ℕ) → first s ≡ Some k → items s ≡ k ∷ items (remove s k)
+items-first s k e = behind_first s k (items s) refl (items-sorted s) e
+
+pub len-first : (s : NodeSet) (k : ℕ) → first s ≡ Some k → len s ≡ len (remove s k) + 1
+len-first s k e = grind (arith, len_of_items s, len_of_items (remove s k), ap length (items-first s k e))
+
+-- a subset, member by member
+both : (a b : Bool) → (a && b) ≡ true → (a ≡ true) × (b ≡ true)
+both true b e = (refl, e)
+both false b e = cc
+
+at_listed : (p : ℕ → Bool) (xs : List ℕ) (q : ℕ) → list_all p xs ≡ true → list_any (λ y. nat_eq y q) xs ≡ true → p q ≡ true
+at_listed p [] q all any = cc
+at_listed p (x ∷ xs) q all any = by_test (nat_eq x q) refl (at_listed p xs q (both (p x) (list_all p xs) all).1)
+  where
+    by_test : (b : Bool) → nat_eq x q ≡ b → (list_any (λ y. nat_eq y q) xs ≡ true → p q ≡ true) → p q ≡ true
+    by_test true is further = let e : x ≡ q = grind (arith, nat_tests) in ap p (sym e) ∙ (both (p x) (list_all p xs) all).0
+    by_test false is further = further (ap (λ b. b || list_any (λ y. nat_eq y q) xs) (sym is) ∙ any)
+
+list_all_by : (p : ℕ → Bool) (xs : List ℕ) → AllByRecursion (λ x. p x ≡ true) xs → list_all p xs ≡ true
+list_all_by p [] each = refl
+list_all_by p (x ∷ xs) each = ap (λ b. b && list_all p xs) each.0 ∙ list_all_by p xs each.1
+
+pub contains-subset : (s t : NodeSet) → is_subset s t ≡ true → (q : ℕ) → contains s q ≡ true → contains t q ≡ true
+contains-subset s t is q has = at_listed (λ v. contains t v) (items s) q is (sym (contains-items s q) ∙ has)
+
+pub is_subset_by : (s t : NodeSet) → ((q : ℕ) → contains s q ≡ true → contains t q ≡ true) → is_subset s t ≡ true
+is_subset_by s t each = list_all_by (λ v. contains t v) (items s) (all_listed _ (items s) (λ q any. each q (contains-items s q ∙ any)))

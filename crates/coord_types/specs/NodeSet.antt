@@ -1,5 +1,6 @@
 -- A finite set of nodes, by their numbers, whose items have an order.
-use Rattle.std.specs.Prelude.{ℕ, Bool, List, [], ◌∷◌, is_some}
+use Rattle.std.specs.Prelude.{ℕ, Bool, List, [], ◌∷◌, Option, Some, None, is_some}
+use Rattle.std.specs.List.{list_all}
 use Rattle.std.specs.Cmp.{nat_cmp_total}
 use Rattle.std.specs.Coded.{Coded, coded_ℕ}
 use Rattle.coord_types.specs.Table as table
@@ -40,3 +41,15 @@ unfoldable pub from_list : List ℕ → NodeSet
 unfolding empty insert
 from_list [] = empty
 from_list (k ∷ ks) = insert (from_list ks) k
+
+abbrev pub first_of : List ℕ → Option ℕ
+first_of [] = None
+first_of (k ∷ ks) = Some k
+
+-- the member with the least number
+abbrev pub first : NodeSet → Option ℕ
+first s = first_of (items s)
+
+-- whether each member of the first set is one of the second
+abbrev pub is_subset : NodeSet → NodeSet → Bool
+is_subset s t = list_all (λ v. contains t v) (items s)

@@ -2,6 +2,7 @@
 
 ghost use Rattle.std.specs.Prelude.{◌≡◌, ◌≤◌, ◌↔◌, IsSome, IfSome};
 
+use crate::limits::MAX_GROUPS;
 use std::marker::Model;
 
 /// A group's number, from 1 to 16. A link joins two nodes of one group.
@@ -12,12 +13,13 @@ pub struct Group {
 
 impl Model for Group {
     ghost use Rattle.std.specs.Prelude.{ℕ, ◌≤◌};
+    ghost use Rattle.coord_types.specs.declared.limits.TheConstants.{MAX_GROUPS};
 
     ghost Value = { ℕ };
 
     ghost view = { λ a. a.number };
 
-    ghost invariant = { λ a. (1 ≤ a.number) × (a.number ≤ 16) };
+    ghost invariant = { λ a. (1 ≤ a.number) × (a.number ≤ MAX_GROUPS) };
 
     ghost inverse = { λ n. record { number = n } };
 }
@@ -25,10 +27,10 @@ impl Model for Group {
 impl Group {
     /// The group with this number; None outside 1 to 16.
     pub fn new(number: u8) -> Option<Self>
-        ensures within { IsSome result ↔ ((1 ≤ number) × (number ≤ 16)) }
+        ensures within { IsSome result ↔ ((1 ≤ number) × (number ≤ MAX_GROUPS)) }
         ensures value { IfSome result (λ group. group ≡ number) }
     {
-        if (1..=16).contains(&number) {
+        if (1..=MAX_GROUPS).contains(&number) {
             Some(Group { number })
         } else {
             None
@@ -38,7 +40,7 @@ impl Group {
     pub fn number(self) -> u8
         ensures value { result ≡ self }
         ensures least { 1 ≤ self }
-        ensures greatest { self ≤ 16 }
+        ensures greatest { self ≤ MAX_GROUPS }
     {
         self.number
     }

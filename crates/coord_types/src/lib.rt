@@ -1,15 +1,20 @@
-//! The plain values of a reset coordinator: identifiers, messages, packets, commands, replies
-//! and refusals. Each type keeps its range, so no function above tests it again.
+//! The plain values of a reset coordinator: identifiers, sets of nodes, messages, packets,
+//! commands, replies and refusals, and the limits (`limits`). Each type keeps its range, so no
+//! function above tests it again.
 //!
 //! The definitions that the crates above share stand in `specs/`: the finite table that computes
-//! (`Table`), the set of nodes (`NodeSet`), a node's state (`NodeState`) and the ideal world
-//! (`IdealWorld`), over which the laws of the protocol are stated.
+//! (`Table`), the set of nodes (`NodeSet`), a node's state (`NodeState`), the ideal world
+//! (`IdealWorld`), over which the laws of the protocol are stated, and all printed words and
+//! numbers (`Names`). The main theorem is the contracts of `NodeSet`: a mask of 64 bits
+//! (`NodeMask`) answers as the set of numbers does, its members in ascending order.
 #![tactic(auto)]
 
 mod client;
 mod group;
+mod limits;
 mod messages;
 mod node_id;
+mod node_set;
 mod outputs;
 mod packets;
 mod refusals;
@@ -17,12 +22,14 @@ mod steps;
 
 pub use client::Client;
 pub use group::Group;
+pub use limits::{
+    MAX_BATCH_BYTES, MAX_BATCH_STEPS, MAX_CLIENTS, MAX_DEGREE, MAX_GROUPS, MAX_LINE_BYTES,
+    MAX_LINKS, MAX_NODES, MAX_PENDING, MAX_SNAPSHOT_BYTES, MAX_STEPS,
+};
 pub use messages::{Mode, Msg};
 pub use node_id::NodeId;
+pub use node_set::NodeSet;
 pub use outputs::Output;
 pub use packets::{DataPacket, Packet, ReceiptPacket};
 pub use refusals::Refusal;
 pub use steps::{Command, Kind, Reply, Session, Step};
-
-#[cfg(test)]
-mod tests;

@@ -28,8 +28,11 @@ pub enum Refusal {
     Differs,
     NotReleased,
     PendingFull,
-    /// The caller knows of a later step than is settled; the settled count.
-    Behind(u64),
+    /// The caller knows of a later step than is settled.
+    Behind {
+        /// How many steps are settled.
+        settled: u64,
+    },
     Stranger,
 }
 
@@ -59,7 +62,7 @@ impl Refusal {
             Refusal::Differs => 18,
             Refusal::NotReleased => 19,
             Refusal::PendingFull => 20,
-            Refusal::Behind(_) => 21,
+            Refusal::Behind { .. } => 21,
             Refusal::Stranger => 22,
         }
     }
@@ -89,7 +92,7 @@ impl Refusal {
             Refusal::Differs => "Differs",
             Refusal::NotReleased => "NotReleased",
             Refusal::PendingFull => "PendingFull",
-            Refusal::Behind(_) => "Behind",
+            Refusal::Behind { .. } => "Behind",
             Refusal::Stranger => "Stranger",
         }
     }

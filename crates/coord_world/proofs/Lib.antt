@@ -6,6 +6,7 @@ mod legal
 mod listings
 mod lists
 mod ranges
+mod release
 mod view
 mod waves
 mod WorkedRuns

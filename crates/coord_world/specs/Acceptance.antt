@@ -1,10 +1,11 @@
 -- Which steps a world takes, and why it refuses the others.
-use Rattle.std.specs.Prelude.{◌≡◌, ℕ, ◌+◌, ◌^◌, ◌==◌, ◌&&◌, ◌||◌, not, nat_le, nat_lt, Bool, false, true, [], ◌∷◌, ◌++◌, Option, Some, None, Result, Ok, if◌then◌else◌}
+use Rattle.std.specs.Prelude.{◌≡◌, ℕ, ◌+◌, ◌*◌, ◌==◌, ◌&&◌, ◌||◌, not, nat_le, nat_lt, Bool, false, true, [], ◌∷◌, ◌++◌, Option, Some, None, Result, Ok, if◌then◌else◌}
 use Rattle.coord_types.specs.NodeSet as set
 use Rattle.coord_types.specs.Table.{get, has, len}
 use Rattle.coord_types.specs.NodeState.{NodeState}
 use Rattle.coord_types.specs.Messages.{is_nil}
 use Rattle.coord_types.specs.Command.{same_command}
+use Rattle.coord_types.specs.declared.limits.TheConstants.{MAX_DEGREE, MAX_LINKS, MAX_STEPS}
 use Rattle.coord_types.specs.declared.packets.DataPacket.{DataPacket}
 use Rattle.coord_types.specs.declared.packets.ReceiptPacket.{ReceiptPacket}
 use Rattle.coord_types.specs.declared.steps.Command.{Command}
@@ -24,13 +25,13 @@ use Rattle.coord_world.specs.NumberedWorld.{World, row, is_linked}
 abbrev pub is_unknown : World → ℕ → Bool
 is_unknown w u = not (has w.rows u)
 
--- 16 links are a node's most
+-- a node has its most links
 abbrev pub is_full : NodeState → Bool
-is_full r = nat_le 16 (set.len r.neighbours)
+is_full r = nat_le MAX_DEGREE (set.len r.neighbours)
 
--- 128 links, each of two lanes, are a world's most
+-- a world has its most links, each of two lanes
 abbrev pub has_all_links : World → Bool
-has_all_links w = nat_le 256 (len w.lanes)
+has_all_links w = nat_le (2 * MAX_LINKS) (len w.lanes)
 
 -- a command is judged by the front world alone
 abbrev pub against_command : World → Command → Tests
@@ -85,7 +86,7 @@ against front settled (Take p) = against_data (lane front p.from p.to p.inc) (la
 against front settled (Clear p) = against_receipt (lane front p.from p.to p.inc) (lane settled p.from p.to p.inc) p
 
 abbrev pub is_exhausted : World → Bool
-is_exhausted w = nat_le (2 ^ 40) w.count
+is_exhausted w = nat_le MAX_STEPS w.count
 
 -- a step that isn't a repeat
 abbrev pub judged : World → World → Step → Result Verdict Refusal

@@ -23,9 +23,9 @@ NextKeepsRanges = (w settled : World) (s : Step) → StepInRange s → InRange w
 abbrev pub NextKeepsLegal : Type 0
 NextKeepsLegal = (w settled : World) (s : Step) → InRange w → Legal w → IsFresh w settled s → Legal (next w s)
 
--- what a step makes of the view is the ideal step
+-- what a step makes of the view is the ideal step, where each lane has taken at most one message more than it cleared
 abbrev pub ViewOfNext : Type 0
-ViewOfNext = (w settled : World) (s : Step) → InRange w → ((u v : ℕ) (l : Lane) → get w.lanes (u, v) ≡ Some l → Counts l) → IsFresh w settled s → view (next w s) ≡ ideal_next (view w) s
+ViewOfNext = (w settled : World) (s : Step) → ((u v : ℕ) (l : Lane) → get w.lanes (u, v) ≡ Some l → Counts l) → IsFresh w settled s → view (next w s) ≡ ideal_next (view w) s
 
 -- in a legal world at most 3 messages are on the way on a lane, and a queue has at most 4
 pub record IsShort (l : Lane) : Type 0 where

@@ -9,8 +9,12 @@ pub mod Ranges
 pub mod Parts
 pub mod Assembly
 pub mod Laws
+pub mod Trails
+pub mod Release
+pub mod KeptReplies
 pub mod Waves
 pub mod Runs
+pub mod ReleasedRun
 pub mod Place
 pub mod Sends
 pub mod Acts

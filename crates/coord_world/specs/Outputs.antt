@@ -12,7 +12,7 @@ use Rattle.coord_types.specs.declared.outputs.Output.TheVariants.{Receipted, Sig
 use Rattle.coord_types.specs.declared.steps.Reply.{Reply}
 use Rattle.coord_node.specs.Rules.{Deed}
 use Rattle.coord_node.specs.Steps.{deeds}
-use Rattle.coord_link.specs.LaneMachine.{Lane}
+use Rattle.coord_link.specs.LaneMachine.{Lane, is_front_taken}
 use Rattle.coord_world.specs.NumberedWorld.{World, row, pair_cmp_total}
 use Rattle.coord_world.specs.Next.{next, reply}
 
@@ -67,7 +67,7 @@ outs w (s ∷ ss) = record { reply = reply w s; outputs = outputs w s } ∷ outs
 -- a lane's front, and its receipt where it was taken
 abbrev pub again_by : ℕ × ℕ → Lane → List Msg → List Output
 again_by k l [] = []
-again_by k l (m ∷ ms) = Sent (front_packet k l m) ∷ (if l.got == l.base then [] else Receipted (receipt (front_packet k l m)) ∷ [])
+again_by k l (m ∷ ms) = Sent (front_packet k l m) ∷ (if is_front_taken l then Receipted (receipt (front_packet k l m)) ∷ [] else [])
 
 abbrev pub all_again : List ((ℕ × ℕ) × Lane) → List Output
 all_again [] = []

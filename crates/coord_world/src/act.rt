@@ -9,7 +9,7 @@ ghost use Rattle.coord_world.specs.Acts.{IsActOf};
 use crate::draft::Draft;
 use coord_node::{Deed, Node};
 use coord_types::{DataPacket, Msg, NodeId};
-use std::alloc::AllocError;
+use std::alloc::{AllocError, Global};
 
 /// A node as it will be, and what it sends.
 #[derive(Drop, Debug)]
@@ -21,27 +21,27 @@ pub struct Act {
 
 impl Draft {
     /// What a node does when a reset is asked for.
-    pub fn requested(&self, id: NodeId) -> Result<Act, AllocError>
+    pub fn requested(&self, alloc: Global, id: NodeId) -> Result<Act, AllocError>
         requires there { IsSome (table.get self.now.rows id) }
         requires room { (row self.now id).epoch < 2 ^ 64 - 1 }
         ensures { IfOk result (λ act. IsActOf act id (request (row self.now id))) }
     {
-        let mut node = self.node(id).unwrap().copy()?;
-        let deed = node.request()?;
+        let mut node = *self.node(id).unwrap();
+        let deed = node.request(alloc)?;
         Ok(Act { id, node, deed })
     }
 
     /// What a node does when a message comes.
-    pub fn delivered(&self, packet: DataPacket) -> Result<Act, AllocError>
+    pub fn delivered(&self, alloc: Global, packet: DataPacket) -> Result<Act, AllocError>
         requires there { IsSome (table.get self.now.rows packet.to) }
         requires room { (row self.now packet.to).epoch < 2 ^ 64 - 1 }
         ensures { IfOk result (λ act. IsActOf act packet.to (deed packet.msg (row self.now packet.to) packet.from)) }
     {
-        let mut node = self.node(packet.to).unwrap().copy()?;
+        let mut node = *self.node(packet.to).unwrap();
         let deed = match packet.msg {
-            Msg::Abort => node.on_abort(packet.from)?,
-            Msg::Ack => node.on_ack(packet.from)?,
-            Msg::Ready => node.on_ready(packet.from)?,
+            Msg::Abort => node.on_abort(alloc, packet.from)?,
+            Msg::Ack => node.on_ack(alloc, packet.from)?,
+            Msg::Ready => node.on_ready(alloc, packet.from)?,
         };
         Ok(Act {
             id: packet.to,
@@ -51,13 +51,13 @@ impl Draft {
     }
 
     /// What a node does when its link to another vanishes.
-    pub fn severed(&self, id: NodeId, other: NodeId) -> Result<Act, AllocError>
+    pub fn severed(&self, alloc: Global, id: NodeId, other: NodeId) -> Result<Act, AllocError>
         requires there { IsSome (table.get self.now.rows id) }
         requires room { (row self.now id).epoch < 2 ^ 64 - 1 }
         ensures { IfOk result (λ act. IsActOf act id (lost (row self.now id) other)) }
     {
-        let mut node = self.node(id).unwrap().copy()?;
-        let deed = node.lost(other)?;
+        let mut node = *self.node(id).unwrap();
+        let deed = node.lost(alloc, other)?;
         Ok(Act { id, node, deed })
     }
 }

@@ -10,8 +10,8 @@ use crate::lane_table::LaneTable;
 use crate::node_table::NodeTable;
 use crate::parts::{ClientRow, LinkRow, NodeRow, Parts};
 use crate::session_table::SessionTable;
-use coord_node::{Node, NodeSet};
-use coord_types::{Client, NodeId, Session};
+use coord_node::{Node, NodeFields};
+use coord_types::{Client, NodeId, NodeSet, Session};
 use std::alloc::{AllocError, Global};
 
 impl Draft {
@@ -43,41 +43,38 @@ fn nodes_of(
 {
     let mut nodes = Vec::with_capacity(alloc, rows.len())?;
     for row in rows {
-        nodes.push((row.id, node_of(alloc, row, links)?))?;
+        nodes.push((row.id, node_of(row, links)))?;
     }
     Ok(nodes)
 }
 
-fn node_of(alloc: Global, row: &NodeRow, links: &[LinkRow]) -> Result<Node, AllocError>
-    ensures { IfOk result (λ node. node ≡ state_of links.now row.now) }
+fn node_of(row: &NodeRow, links: &[LinkRow]) -> Node
+    ensures { result ≡ state_of links.now row.now }
 {
-    let pend = row.pend.copy()?;
-    let neighbours = neighbours_of(alloc, row.id, links)?;
-    Ok(Node::restore(
-        alloc,
-        row.group,
-        row.mode,
-        row.parent,
-        pend,
-        neighbours,
-        row.epoch,
-        row.confirmed,
-    ))
+    Node::restore(NodeFields {
+        group: row.group,
+        mode: row.mode,
+        parent: row.parent,
+        pend: row.pend,
+        neighbours: neighbours_of(row.id, links),
+        epoch: row.epoch,
+        confirmed: row.confirmed,
+    })
 }
 
 /// The far ends of the links that a node is an end of.
-fn neighbours_of(alloc: Global, id: NodeId, links: &[LinkRow]) -> Result<NodeSet, AllocError>
-    ensures { IfOk result (λ near. near ≡ near_with id set.empty links.now) }
+fn neighbours_of(id: NodeId, links: &[LinkRow]) -> NodeSet
+    ensures { result ≡ near_with id set.empty links.now }
 {
-    let mut near = NodeSet::new(alloc);
+    let mut near = NodeSet::new();
     for link in links {
         if id == link.a {
-            near = near.with(link.b)?;
+            near = near.with(link.b);
         } else if id == link.b {
-            near = near.with(link.a)?;
+            near = near.with(link.a);
         }
     }
-    Ok(near)
+    near
 }
 
 /// Puts the two lanes of each link into a table.

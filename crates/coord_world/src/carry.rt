@@ -38,7 +38,7 @@ impl Draft {
             Step::Order(client, number, command) => {
                 self.obey(alloc, before, client, number, &command, outputs)
             }
-            Step::Take(packet) => self.deliver(before, packet, outputs),
+            Step::Take(packet) => self.deliver(alloc, before, packet, outputs),
             Step::Clear(packet) => self.clear_front(packet.from, packet.to),
         }
     }
@@ -59,14 +59,14 @@ impl Draft {
         ensures outputs { OnOk result (outputs.new.items ≡ outputs.old.items ++ signals (deeds_ordered (row before.now) command.now)) }
     {
         match *command {
-            Command::Add(id, group) => self.nodes.insert(id, Node::new(alloc, group)),
+            Command::Add(id, group) => self.nodes.insert(id, Node::new(group)),
             Command::Remove(id) => {
                 self.nodes.remove(id);
                 Ok(())
             }
-            Command::Join(a, b) => self.join(before, a, b),
-            Command::Drop(a, b) => self.sever(before, a, b, outputs),
-            Command::Reset(id) => self.reset(before, id, outputs),
+            Command::Join(a, b) => self.join(alloc, before, a, b),
+            Command::Drop(a, b) => self.sever(alloc, before, a, b, outputs),
+            Command::Reset(id) => self.reset(alloc, before, id, outputs),
             Command::Confirm(id, epoch) => self.confirm(before, id, epoch),
         }
     }
@@ -74,6 +74,7 @@ impl Draft {
     /// A node takes the data packet that came.
     fn deliver(
         &mut self,
+        alloc: Global,
         before: &Draft,
         packet: DataPacket,
         outputs: &mut Vec<Output>,
@@ -91,13 +92,14 @@ impl Draft {
             number: packet.number,
         }))?;
         self.take_front(packet.from, packet.to)?;
-        let act = before.delivered(packet)?;
+        let act = before.delivered(alloc, packet)?;
         self.carry(act, outputs)
     }
 
     /// A reset is asked for at a node.
     fn reset(
         &mut self,
+        alloc: Global,
         before: &Draft,
         id: NodeId,
         outputs: &mut Vec<Output>,
@@ -107,13 +109,14 @@ impl Draft {
         ensures world { OnOk result (self.new ≡ does before.now id (request (row before.now id))) }
         ensures outputs { OnOk result (outputs.new.items ≡ outputs.old.items ++ signals (record { 0 = id; 1 = request (row before.now id) } ∷ [])) }
     {
-        let act = before.requested(id)?;
+        let act = before.requested(alloc, id)?;
         self.carry(act, outputs)
     }
 
     /// The link of two nodes vanishes, first at `a` and then at `b`.
     fn sever(
         &mut self,
+        alloc: Global,
         before: &Draft,
         a: NodeId,
         b: NodeId,
@@ -126,9 +129,9 @@ impl Draft {
         ensures outputs { OnOk result (outputs.new.items ≡ outputs.old.items ++ signals (record { 0 = a; 1 = lost (row before.now a) b } ∷ record { 0 = b; 1 = lost (row before.now b) a } ∷ [])) }
     {
         self.cut(a, b);
-        let first = before.severed(a, b)?;
+        let first = before.severed(alloc, a, b)?;
         self.carry(first, outputs)?;
-        let second = before.severed(b, a)?;
+        let second = before.severed(alloc, b, a)?;
         self.carry(second, outputs)
     }
 
@@ -141,17 +144,23 @@ impl Draft {
     }
 
     /// Two nodes are linked, by two empty lanes.
-    fn join(&mut self, before: &Draft, a: NodeId, b: NodeId) -> Result<(), AllocError>
+    fn join(
+        &mut self,
+        alloc: Global,
+        before: &Draft,
+        a: NodeId,
+        b: NodeId,
+    ) -> Result<(), AllocError>
         requires same { self.old ≡ before.now }
         requires one { IsSome (table.get before.now.rows a) }
         requires other { IsSome (table.get before.now.rows b) }
         requires room { before.now.count < 2 ^ 64 - 1 }
         ensures { OnOk result (self.new ≡ ordered before.now (Command.Join a b)) }
     {
-        let mut one = before.node(a).unwrap().copy()?;
-        one.gained(b)?;
-        let mut other = before.node(b).unwrap().copy()?;
-        other.gained(a)?;
+        let mut one = *before.node(a).unwrap();
+        one.gained(alloc, b);
+        let mut other = *before.node(b).unwrap();
+        other.gained(alloc, a);
         self.nodes.insert(a, one)?;
         self.nodes.insert(b, other)?;
         let lane = Lane::new(before.count + 1);
@@ -165,7 +174,7 @@ impl Draft {
         requires there { IsSome (table.get before.now.rows id) }
         ensures { OnOk result (self.new ≡ ordered before.now (Command.Confirm id epoch)) }
     {
-        let mut node = before.node(id).unwrap().copy()?;
+        let mut node = *before.node(id).unwrap();
         node.confirm(epoch);
         self.nodes.insert(id, node)
     }

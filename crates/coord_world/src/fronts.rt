@@ -82,7 +82,7 @@ fn push_again(entry: &((NodeId, NodeId), Lane), outputs: &mut Vec<Output>) -> Re
         number,
         msg,
     }))?;
-    if lane.got() != lane.base() {
+    if lane.is_front_taken() {
         outputs.push(Output::Receipted(ReceiptPacket {
             from,
             to,

@@ -9,16 +9,10 @@ ghost use Rattle.coord_world.specs.Acceptance.{judged, accepts, against_command,
 use crate::draft::Draft;
 use crate::verdicts::Verdict;
 use coord_link::Lane;
-use coord_types::{Client, Command, DataPacket, Kind, Mode, NodeId, ReceiptPacket, Refusal, Step};
-
-/// The most steps that a world takes.
-pub const STEPS: u64 = 1 << 40;
-
-/// The most links of one node.
-pub const DEGREE: usize = 16;
-
-/// The most lanes of a world, two for each of 128 links.
-pub const LANES: usize = 256;
+use coord_types::{
+    Client, Command, DataPacket, Kind, MAX_DEGREE, MAX_LINKS, MAX_STEPS, Mode, NodeId,
+    ReceiptPacket, Refusal, Step,
+};
 
 impl Draft {
     /// Whether a step is taken, repeated or refused.
@@ -49,7 +43,7 @@ impl Draft {
             }
             before = last.number;
         }
-        if self.count >= STEPS {
+        if self.count >= MAX_STEPS {
             return Err(Refusal::Exhausted);
         }
         if number == 0 || number != before && number - 1 != before {
@@ -125,10 +119,10 @@ impl Draft {
         if self.lanes.get(a, b).is_some() {
             return Err(Refusal::LinkExists);
         }
-        if one.neighbours().len() >= DEGREE || other.neighbours().len() >= DEGREE {
+        if one.neighbours().len() >= MAX_DEGREE || other.neighbours().len() >= MAX_DEGREE {
             return Err(Refusal::DegreeFull);
         }
-        if self.lanes.len() >= LANES {
+        if self.lanes.len() >= 2 * MAX_LINKS {
             return Err(Refusal::LinksFull);
         }
         Ok(())
@@ -186,7 +180,7 @@ impl Draft {
     fn judge_data(&self, settled: &Draft, packet: DataPacket) -> Result<Verdict, Refusal>
         ensures { result ≡ judged self.now settled.now (Step.Take packet) }
     {
-        if self.count >= STEPS {
+        if self.count >= MAX_STEPS {
             return Err(Refusal::Exhausted);
         }
         let Some(lane) = self.lane_of(packet.from, packet.to, packet.inc) else {
@@ -206,7 +200,7 @@ impl Draft {
     fn judge_receipt(&self, settled: &Draft, packet: ReceiptPacket) -> Result<Verdict, Refusal>
         ensures { result ≡ judged self.now settled.now (Step.Clear packet) }
     {
-        if self.count >= STEPS {
+        if self.count >= MAX_STEPS {
             return Err(Refusal::Exhausted);
         }
         let Some(lane) = self.lane_of(packet.from, packet.to, packet.inc) else {

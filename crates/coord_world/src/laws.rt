@@ -1,6 +1,9 @@
 //! Laws of the protocol, over the definitions alone: functions that do nothing, whose contracts are the laws.
 
 ghost use Rattle.coord_world.specs.Laws.{FreshOverItself, LanesAreShort, NextKeepsLegal, NextKeepsRanges, RowsGiveWorld, RowsOfWorldFit, ViewOfNext};
+ghost use Rattle.coord_world.specs.KeptReplies.{KeptReplyLaw};
+ghost use Rattle.coord_world.specs.Release.{FreshWhereReleased, ReleaseLaw, ReleasedFromBase, ReleasedGrows, ReleaseStays, ResendLaw};
+ghost use Rattle.coord_world.specs.Trails.{FoldCounts, TrailGoesOn, TrailIsCut, TrailKeepsWorlds};
 ghost use Rattle.coord_world.specs.Waves.{OncePerWave};
 
 /// A step that a world takes over some settled world, it takes over itself.
@@ -45,6 +48,66 @@ pub fn once_per_wave()
     ensures { OncePerWave }
 {}
 
+/// After any number of its steps, a trail has come to a legal world within its ranges.
+pub fn trail_keeps_worlds()
+    ensures { TrailKeepsWorlds }
+{}
+
+/// The first steps of a trail are a trail, and so are the others from the world after them.
+pub fn trail_is_cut()
+    ensures { TrailIsCut }
+{}
+
+/// A trail goes on with a step that is fresh over its world, with the world of some of its first
+/// steps as settled.
+pub fn trail_goes_on()
+    ensures { TrailGoesOn }
+{}
+
+/// Each step counts once.
+pub fn fold_counts()
+    ensures { FoldCounts }
+{}
+
+/// The release law: a packet that nothing else refuses is not refused as not released exactly
+/// where a settled step gave it out or the base sends it again.
+pub fn release_law()
+    ensures { ReleaseLaw }
+{}
+
+/// A step that the front world takes over itself, it takes over the settled one exactly where the
+/// packet that the step names is released.
+pub fn fresh_where_released()
+    ensures { FreshWhereReleased }
+{}
+
+/// A release stays: what is not refused as not released is judged the same once more steps are
+/// settled.
+pub fn release_stays()
+    ensures { ReleaseStays }
+{}
+
+/// The resend law: what the settled world sends again is released.
+pub fn resend_law()
+    ensures { ResendLaw }
+{}
+
+/// What is released stays so as more steps are settled.
+pub fn released_grows()
+    ensures { ReleasedGrows }
+{}
+
+/// What is released from a world that the trail came to is released from its base.
+pub fn released_from_base()
+    ensures { ReleasedFromBase }
+{}
+
+/// The kept-reply law: the reply that is kept for a client is the one that its last order was
+/// given, or the base's.
+pub fn kept_reply_law()
+    ensures { KeptReplyLaw }
+{}
+
 #[cfg(test)]
 mod tests {
     use super::*;
@@ -59,5 +122,16 @@ mod tests {
         rows_of_world_fit();
         rows_give_world();
         once_per_wave();
+        trail_keeps_worlds();
+        trail_is_cut();
+        trail_goes_on();
+        fold_counts();
+        release_law();
+        fresh_where_released();
+        release_stays();
+        resend_law();
+        released_grows();
+        released_from_base();
+        kept_reply_law();
     }
 }

@@ -24,6 +24,3 @@ mod world;
 pub use parts::{ClientRow, LinkRow, NodeRow, Parts};
 pub use verdicts::Verdict;
 pub use world::{Outcome, World};
-
-#[cfg(test)]
-mod tests;

@@ -34,23 +34,23 @@ fn node_rows(alloc: Global, nodes: &[(NodeId, Node)]) -> Result<Vec<NodeRow>, Al
 {
     let mut rows = Vec::with_capacity(alloc, nodes.len())?;
     for entry in nodes {
-        rows.push(node_row(entry.0, &entry.1)?)?;
+        rows.push(node_row(entry.0, &entry.1))?;
     }
     Ok(rows)
 }
 
-fn node_row(id: NodeId, node: &Node) -> Result<NodeRow, AllocError>
-    ensures { IfOk result (λ row. row ≡ node_row record { 0 = id; 1 = node.now }) }
+fn node_row(id: NodeId, node: &Node) -> NodeRow
+    ensures { result ≡ node_row record { 0 = id; 1 = node.now } }
 {
-    Ok(NodeRow {
+    NodeRow {
         id,
         group: node.group(),
         mode: node.mode(),
         parent: node.parent(),
-        pend: node.pend().copy()?,
+        pend: node.pend(),
         epoch: node.epoch(),
         confirmed: node.confirmed(),
-    })
+    }
 }
 
 /// One row for the two lanes of each link.

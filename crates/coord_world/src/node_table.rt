@@ -84,18 +84,8 @@ impl NodeTable {
     pub fn copy(&self) -> Result<NodeTable, AllocError>
         ensures { IfOk result (λ copy. copy ≡ self.now) }
     {
-        Ok(NodeTable {
-            nodes: copies_of(&self.nodes)?,
-        })
+        let alloc = *self.nodes.allocator();
+        let nodes = Vec::from_slice(alloc, &self.nodes)?;
+        Ok(NodeTable { nodes })
     }
-}
-
-fn copies_of(nodes: &Vec<(NodeId, Node)>) -> Result<Vec<(NodeId, Node)>, AllocError>
-    ensures { IfOk result (λ copies. copies.items ≡ nodes.now.items) }
-{
-    let mut copies = Vec::with_capacity(*nodes.allocator(), nodes.len())?;
-    for entry in nodes {
-        copies.push((entry.0, entry.1.copy()?))?;
-    }
-    Ok(copies)
 }

@@ -1,11 +1,10 @@
 //! The rows of a world, as they are listed and stored.
 
 use coord_link::Lane;
-use coord_node::NodeSet;
-use coord_types::{Client, Group, Mode, NodeId, Session};
+use coord_types::{Client, Group, Mode, NodeId, NodeSet, Session};
 
 /// A node's row: its state, but for its neighbours, which the links give.
-#[derive(Drop, Debug)]
+#[derive(Clone, Copy, Debug)]
 pub struct NodeRow {
     pub id: NodeId,
     pub group: Group,

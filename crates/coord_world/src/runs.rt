@@ -1,6 +1,7 @@
 //! Runs from the empty world whose outcomes are known: functions that do nothing, whose contracts
 //! say which steps are taken and what each gives out.
 
+ghost use Rattle.coord_world.specs.ReleasedRun.{ReleasedRun};
 ghost use Rattle.coord_world.specs.Runs.{DropInAbort, DropInConverge, StoredRun, StoredWave, TwoInitiators};
 
 /// Two nodes and one reset.
@@ -11,6 +12,11 @@ pub fn stored_run()
 /// What follows once these nodes are linked is one wave from the first of them.
 pub fn stored_wave()
     ensures { StoredWave }
+{}
+
+/// Each packet of that reset is refused until the step that gives it out is settled.
+pub fn released_run()
+    ensures { ReleasedRun }
 {}
 
 /// Both ends of a link start a reset.
@@ -36,6 +42,7 @@ mod tests {
     fn runs_do_nothing() {
         stored_run();
         stored_wave();
+        released_run();
         two_initiators();
         drop_in_abort();
         drop_in_converge();

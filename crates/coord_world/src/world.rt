@@ -4,7 +4,8 @@ ghost use Rattle.std.specs.Prelude.{◌≡◌, Ok, IfOk, OnOk, OnErr};
 ghost use Rattle.std.specs.Option.{option_copied};
 ghost use Rattle.coord_types.specs.Table as table;
 ghost use Rattle.coord_types.specs.declared.steps.Kind.{Kind};
-ghost use Rattle.coord_world.specs.NumberedWorld.{no_world};
+ghost use Rattle.coord_node.specs.Steps.{kind};
+ghost use Rattle.coord_world.specs.NumberedWorld.{no_world, row};
 ghost use Rattle.coord_world.specs.Next.{next, reply};
 ghost use Rattle.coord_world.specs.Acceptance.{accepts, IsFresh};
 ghost use Rattle.coord_world.specs.Outputs.{outputs, again};
@@ -81,12 +82,26 @@ impl World {
 
     /// How many steps were taken, at most 2^40.
     pub fn count(&self) -> u64
-        ensures value { result ≡ self.now.count }
-
-        // What the type keeps of every world, legal or not.
-        ensures ranges { InRange self.now }
+        ensures { result ≡ self.now.count }
     {
         self.draft.count
+    }
+
+    /// Does nothing: its contract is what the type keeps of every world, legal or not.
+    pub fn ranges(&self)
+        ensures { InRange self.now }
+    {
+        let _ = &self.draft;
+    }
+
+    /// A world equal to this one.
+    pub fn copy(&self) -> Result<World, AllocError>
+        ensures { IfOk result (λ copy. copy ≡ self.now) }
+    {
+        Ok(World {
+            alloc: self.alloc,
+            draft: self.draft.copy()?,
+        })
     }
 
     pub fn node(&self, id: NodeId) -> Option<&Node>
@@ -113,7 +128,11 @@ impl World {
     /// client's last order that comes again; or else the first refusal that applies.
     pub fn judge(&self, settled: &World, step: &Step) -> Result<Verdict, Refusal>
         ensures value { result ≡ accepts self.now settled.now step.now }
-        ensures fresh { (k : Kind) → result ≡ Ok (Verdict.Fresh k) → IsFresh self.now self.now step.now }
+
+        // A verdict of Fresh has the kind of the reply, and the world takes the step over itself too.
+        ensures fresh { (k : Kind) → result ≡ Ok (Verdict.Fresh k) → IsFresh self.now settled.now step.now }
+        ensures itself { (k : Kind) → result ≡ Ok (Verdict.Fresh k) → IsFresh self.now self.now step.now }
+        ensures kind { (k : Kind) → result ≡ Ok (Verdict.Fresh k) → k ≡ kind (row self.now) step.now }
     {
         self.draft.judge(&settled.draft, step)
     }

@@ -125,7 +125,7 @@ impl Drill {
         ensures { result ≡ next_number self.now client }
     {
         // No client's last number is above the count.
-        self.world.count();
+        self.world.ranges();
         match self.world.last(client) {
             Some(session) => session.number + 1,
             None => 1,
@@ -138,7 +138,7 @@ impl Drill {
         ensures { result ≡ front self.now from to }
     {
         // No lane's numbers are above the count.
-        self.world.count();
+        self.world.ranges();
         let Some(lane) = self.world.lane(from, to) else {
             return Err(Refusal::NoLink);
         };

@@ -1,5 +1,5 @@
 -- A verdict of Fresh has the kind that the step will be answered with.
-use Rattle.std.proofs.Common.{◌≡◌, [], ◌∷◌, Ok, Err, sym, ap, ◌∙◌, cond}
+use Rattle.std.proofs.Common.{◌≡◌, [], ◌∷◌, Ok, Err, ap, ◌∙◌, cond}
 use Rattle.coord_types.specs.Table.{get}
 use Rattle.coord_types.specs.declared.steps.Kind.{Kind}
 use Rattle.coord_types.specs.declared.steps.Step.{Step}
@@ -27,6 +27,14 @@ fresh_judged w settled (Order c n x) k h = not_a_repeat (get w.sessions c) n x _
 fresh_judged w settled (Take p) k h = h
 fresh_judged w settled (Clear p) k h = h
 
--- a step that is judged fresh over some settled world is fresh over the world itself
-pub fresh_of : (w settled : World) (s : Step) (k : Kind) → accepts w settled s ≡ Ok (Fresh k) → IsFresh w w s
-fresh_of w settled s k h = itself w settled s (h ∙ ap Ok (sym (kind_is w settled s k (fresh_judged w settled s k h))))
+-- the kind is that of the step
+pub verdict_kind : (w settled : World) (s : Step) (k : Kind) → accepts w settled s ≡ Ok (Fresh k) → k ≡ kind (row w) s
+verdict_kind w settled s k h = let same = kind_is w settled s k (fresh_judged w settled s k h) in cc
+
+-- so the step is fresh
+pub verdict_fresh : (w settled : World) (s : Step) (k : Kind) → accepts w settled s ≡ Ok (Fresh k) → IsFresh w settled s
+verdict_fresh w settled s k h = h ∙ ap (λ x. Ok (Fresh x)) (verdict_kind w settled s k h)
+
+-- and fresh over the world itself
+pub verdict_fresh_itself : (w settled : World) (s : Step) (k : Kind) → accepts w settled s ≡ Ok (Fresh k) → IsFresh w w s
+verdict_fresh_itself w settled s k h = itself w settled s (verdict_fresh w settled s k h)

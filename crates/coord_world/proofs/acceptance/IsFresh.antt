@@ -41,12 +41,12 @@ same_is msg.Ready msg.Ready e = refl
 same_is f m e = cc
 
 -- a list that begins with a message has it in front
-begins_is : (q : List Msg) (m : Msg) → begins_with q m ≡ true → (rest : List Msg) × (q ≡ m ∷ rest)
+pub begins_is : (q : List Msg) (m : Msg) → begins_with q m ≡ true → (rest : List Msg) × (q ≡ m ∷ rest)
 begins_is [] m e = cc
 begins_is (f ∷ q) m e = (q, ap (λ x. x ∷ q) (same_is f m e))
 
 -- a lane of an incarnation is there
-with_incarnation : (i : ℕ) (o : Option Lane) (l : Lane) → of_incarnation i o ≡ Some l → o ≡ Some l
+pub with_incarnation : (i : ℕ) (o : Option Lane) (l : Lane) → of_incarnation i o ≡ Some l → o ≡ Some l
 with_incarnation i None l h = cc
 with_incarnation i (Some k) l h = by_test (eqb k.inc i) (λ b. cond b (Some k) None ≡ Some l → Some k ≡ Some l) (λ _ e. e) (λ _ e. cc) h
 

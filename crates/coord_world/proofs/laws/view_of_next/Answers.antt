@@ -2,4 +2,4 @@ use Rattle.coord_world.proofs.view.ViewOfNext.{view_next}
 use Rattle.coord_world.proofs.laws.view_of_next.Goals as goal
 
 pub returns : goal.returns
-returns c = λ w settled s range counts fresh. view_next w settled s counts fresh
+returns c = view_next

@@ -1,0 +1,34 @@
+//! The limits of the protocol and of its files, each named here alone.
+
+/// The most nodes, and the greatest number of one.
+pub const MAX_NODES: u8 = 64;
+
+/// The most groups, and the greatest number of one.
+pub const MAX_GROUPS: u8 = 16;
+
+/// The most clients, and the greatest number of one.
+pub const MAX_CLIENTS: u8 = 16;
+
+/// The most links of one node.
+pub const MAX_DEGREE: usize = 16;
+
+/// The most links of a world.
+pub const MAX_LINKS: usize = 128;
+
+/// The most steps of a world.
+pub const MAX_STEPS: u64 = 1 << 40;
+
+/// The most steps of a batch.
+pub const MAX_BATCH_STEPS: usize = 256;
+
+/// The most bytes of a written batch.
+pub const MAX_BATCH_BYTES: usize = 8_192;
+
+/// The most bytes of a written world.
+pub const MAX_SNAPSHOT_BYTES: usize = 16_384;
+
+/// The most bytes of a line of text.
+pub const MAX_LINE_BYTES: usize = 512;
+
+/// The most steps that wait to be settled.
+pub const MAX_PENDING: usize = 1_024;

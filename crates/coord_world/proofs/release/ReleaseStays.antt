@@ -1,0 +1,159 @@
+-- A release stays, and which steps the settled world lets through.
+use Rattle.std.proofs.Common.{◌≡◌, ◌≢◌, ◌↔◌, ℕ, zero, suc, ◌≤◌, Bool, true, false, not, List, [], ◌∷◌, ◌++◌, Option, Some, None, Ok, Err, take, drop, cond, refl, sym, ap, subst, inl, inr, arith}
+use Rattle.std.proofs.lemmas.Bool.Decides.{nat_tests}
+use Rattle.coord_types.specs.declared.outputs.Output.{Output}
+use Rattle.coord_types.specs.declared.packets.DataPacket.{DataPacket}
+use Rattle.coord_types.specs.declared.packets.ReceiptPacket.{ReceiptPacket}
+use Rattle.coord_types.specs.declared.refusals.Refusal.TheVariants.{Exhausted, NotReleased}
+use Rattle.coord_types.specs.declared.steps.Kind.TheVariants.{Cleared, Taken}
+use Rattle.coord_types.specs.declared.steps.Step.{Step}
+use Rattle.coord_types.specs.declared.steps.Step.TheVariants.{Clear, Order, Take}
+use Rattle.coord_link.specs.LaneMachine.{Lane, Tests, against_clear, against_take, refused_or}
+use Rattle.coord_world.specs.declared.verdicts.Verdict.{Verdict}
+use Rattle.coord_world.specs.declared.verdicts.Verdict.TheVariants.{Fresh}
+use Rattle.coord_world.specs.Acceptance.{IsFresh, accepts, against_data, against_receipt, has_receipted, has_sent, is_exhausted, lane}
+use Rattle.coord_world.specs.Next.{fold}
+use Rattle.coord_world.specs.NumberedWorld.{World}
+use Rattle.coord_world.specs.Release.{FreshWhereReleased, IsReleased, IsClearable, NamesReleased, IsTakeable, ReleaseStays, TellsReleased}
+use Rattle.coord_world.specs.Trails.{IsSound}
+use Rattle.coord_world.proofs.Cases.{by_test}
+use Rattle.coord_world.proofs.acceptance.IsFresh.{NoneHolds}
+use Rattle.coord_world.proofs.release.ReleaseLaw.{front_has_sent, has_receipted_receipt, receipt_has_receipted, release_law, has_sent_front}
+use Rattle.coord_world.proofs.release.TakeablePackets.{clearable_is_due, refused_or_none_holds, none_holds_passes, takeable_is_next}
+use Rattle.coord_world.proofs.release.LaneFronts.{front_fold, front_not_past, past_fold, receipt_fold}
+use Rattle.coord_world.proofs.release.Trails.{EachFresh, fold-append, fold-take_drop, each_fresh-append, each_fresh-drop, each_fresh-take, sound_fold, trail_each_fresh}
+
+-- what the earlier settled world shows as released, the later one shows so
+record KeepsReleases (front earlier later : World) : Type 0 where
+  packets : (p : DataPacket) → IsTakeable front p → has_sent (lane earlier p.from p.to p.inc) p.number ≡ true → has_sent (lane later p.from p.to p.inc) p.number ≡ true
+  receipts : (p : ReceiptPacket) → IsClearable front p → has_receipted (lane earlier p.from p.to p.inc) p.number ≡ true → has_receipted (lane later p.from p.to p.inc) p.number ≡ true
+
+-- it does where steps lead from the one to the other
+keeps_releases : (w : World) (mid rest : List Step) → IsSound w → EachFresh w mid → EachFresh (fold w mid) rest → KeepsReleases (fold (fold w mid) rest) w (fold w mid)
+keeps_releases w mid rest sound each on = record {
+  packets = λ p is h.
+      let next = takeable_is_next front p is in
+      let stood = has_sent_front w (mid ++ rest) sound (each_fresh-append mid rest w each on) p (takeable_is_next (fold w (mid ++ rest)) p (subst (λ z. IsTakeable z p) (sym (fold-append mid rest w)) is)) h in
+      elim (front_fold mid w p sound each stood) [
+        | inl stands ↦ front_has_sent later rest kept on p next stands
+        | inr past ↦ front_not_past front p.from p.to p.inc p.number next.front.at (past_fold rest later p.from p.to p.inc p.number past)
+      ];
+  receipts = λ p is h.
+      let due = clearable_is_due front p is in
+      let stood = has_receipted_receipt w (mid ++ rest) sound (each_fresh-append mid rest w each on) p (clearable_is_due (fold w (mid ++ rest)) p (subst (λ z. IsClearable z p) (sym (fold-append mid rest w)) is)) h in
+      elim (receipt_fold mid w p sound each stood) [
+        | inl stands ↦ receipt_has_receipted later rest kept on p due stands
+        | inr past ↦ front_not_past front p.from p.to p.inc p.number due.at (past_fold rest later p.from p.to p.inc p.number past)
+      ];
+}
+  where
+    later : World
+    later = fold w mid
+
+    front : World
+    front = fold later rest
+
+    kept : IsSound later
+    kept = sound_fold mid w sound each
+
+-- the first d of the first e
+take-take : (d e : ℕ) (ss : List Step) → d ≤ e → take d (take e ss) ≡ take d ss
+take-take zero e ss le = refl
+take-take (suc d) zero ss le = absurd (omega (arith, le))
+take-take (suc d) (suc e) [] le = refl
+take-take (suc d) (suc e) (s ∷ ss) le = ap (λ l. s ∷ l) (take-take d e ss (omega (arith, le)))
+
+-- where all tests but the last agree, a last one that keeps passing keeps the answer
+last_test_decides : (v : Verdict) (ts : Tests) (b c : Bool) → (NoneHolds ts → b ≡ true → c ≡ true) → refused_or v (ts ++ (not b, NotReleased) ∷ []) ≢ Err NotReleased →
+    refused_or v (ts ++ (not c, NotReleased) ∷ []) ≡ refused_or v (ts ++ (not b, NotReleased) ∷ [])
+last_test_decides v [] true c stays h = ap (λ b. refused_or v ((not b, NotReleased) ∷ [])) (stays tt refl)
+last_test_decides v [] false c stays h = absurd (h refl)
+last_test_decides v (t ∷ ts) b c stays h =
+    by_test t.0 (λ z. t.0 ≡ z → cond z (Err t.1) (refused_or v (ts ++ (not b, NotReleased) ∷ [])) ≢ Err NotReleased →
+    cond z (Err t.1) (refused_or v (ts ++ (not c, NotReleased) ∷ [])) ≡ cond z (Err t.1) (refused_or v (ts ++ (not b, NotReleased) ∷ [])))
+    (λ _ e more. refl) (λ _ e more. last_test_decides v ts b c (λ none. stays (e, none)) more) refl h
+
+-- the verdict stays where the release does
+verdict_stays : (front earlier later : World) (s : Step) → KeepsReleases front earlier later → accepts front earlier s ≢ Err NotReleased → accepts front later s ≡ accepts front earlier s
+verdict_stays front earlier later (Order c n x) stays h = refl
+verdict_stays front earlier later (Take p) stays h = of_lane (lane front p.from p.to p.inc) refl h
+  where
+    tests : Option Lane → World → Tests
+    tests o w = (is_exhausted front, Exhausted) ∷ against_data o (lane w p.from p.to p.inc) p
+
+    of_lane : (o : Option Lane) → lane front p.from p.to p.inc ≡ o → refused_or (Fresh Taken) (tests o earlier) ≢ Err NotReleased → refused_or (Fresh Taken) (tests o later) ≡ refused_or (Fresh Taken) (tests o earlier)
+    of_lane None is more = refl
+    of_lane (Some l) is more =
+        last_test_decides (Fresh Taken) ((is_exhausted front, Exhausted) ∷ against_take l p.number p.msg) (has_sent (lane earlier p.from p.to p.inc) p.number) (has_sent (lane later p.from p.to p.inc) p.number)
+        (λ none. stays.packets p (l, (is, none_holds_passes tt (against_take l p.number p.msg) none.1))) more
+verdict_stays front earlier later (Clear p) stays h = of_lane (lane front p.from p.to p.inc) refl h
+  where
+    tests : Option Lane → World → Tests
+    tests o w = (is_exhausted front, Exhausted) ∷ against_receipt o (lane w p.from p.to p.inc) p
+
+    of_lane : (o : Option Lane) → lane front p.from p.to p.inc ≡ o → refused_or (Fresh Cleared) (tests o earlier) ≢ Err NotReleased → refused_or (Fresh Cleared) (tests o later) ≡ refused_or (Fresh Cleared) (tests o earlier)
+    of_lane None is more = refl
+    of_lane (Some l) is more =
+        last_test_decides (Fresh Cleared) ((is_exhausted front, Exhausted) ∷ against_clear l p.number) (has_receipted (lane earlier p.from p.to p.inc) p.number) (has_receipted (lane later p.from p.to p.inc) p.number)
+        (λ none. stays.receipts p (l, (is, none_holds_passes tt (against_clear l p.number) none.1))) more
+
+-- a release stays
+pub release_stays : ReleaseStays
+release_stays base trail d e s is le h = verdict_stays (fold base trail) (fold base (take d trail)) (fold base (take e trail)) s all h
+  where
+    first : List Step
+    first = take e trail
+
+    each : EachFresh base first
+    each = each_fresh-take e trail base (trail_each_fresh base trail is)
+
+    earlier : World
+    earlier = fold base (take d first)
+
+    upto : fold earlier (drop d first) ≡ fold base first
+    upto = fold-take_drop d first base
+
+    over : KeepsReleases (fold (fold earlier (drop d first)) (drop e trail)) earlier (fold earlier (drop d first))
+    over = keeps_releases earlier (drop d first) (drop e trail) (sound_fold (take d first) base is.sound (each_fresh-take d first base each)) (each_fresh-drop d first base each)
+        (subst (λ w. EachFresh w (drop e trail)) (sym upto) (each_fresh-drop e trail base (trail_each_fresh base trail is)))
+
+    all : KeepsReleases (fold base trail) (fold base (take d trail)) (fold base first)
+    all = subst (λ w. KeepsReleases w (fold base (take d trail)) (fold base first)) (fold-take_drop e trail base)
+        (subst (λ ss. KeepsReleases (fold (fold base first) (drop e trail)) (fold base ss) (fold base first)) (take-take d e trail le)
+        (subst (λ w. KeepsReleases (fold w (drop e trail)) earlier w) upto over))
+
+-- a fresh step is let through where the packet that it names is told as released
+fresh_where_told : (front settled : World) (HasGone : Output → Type 0) (s : Step) → TellsReleased front settled HasGone → IsFresh front front s → IsFresh front settled s ↔ NamesReleased HasGone s
+fresh_where_told front settled HasGone (Order c n x) tells fresh = (λ _. tt, λ _. fresh)
+fresh_where_told front settled HasGone (Take p) tells fresh = of_lane (lane front p.from p.to p.inc) refl fresh
+  where
+    tests : Option Lane → Option Lane → Tests
+    tests o k = (is_exhausted front, Exhausted) ∷ against_data o k p
+
+    of_lane : (o : Option Lane) → lane front p.from p.to p.inc ≡ o → refused_or (Fresh Taken) (tests o (lane front p.from p.to p.inc)) ≡ Ok (Fresh Taken) →
+        (refused_or (Fresh Taken) (tests o (lane settled p.from p.to p.inc)) ≡ Ok (Fresh Taken)) ↔ NamesReleased HasGone (Take p)
+    of_lane None is e = absurd (let none = refused_or_none_holds (Fresh Taken) (Fresh Taken) (tests None (lane front p.from p.to p.inc)) e in let bad = none.1.0 in cc bad)
+    of_lane (Some l) is e =
+        let none = refused_or_none_holds (Fresh Taken) (Fresh Taken) (tests (Some l) (lane front p.from p.to p.inc)) e in
+        let tell = tells.packets p (l, (is, none_holds_passes tt (against_take l p.number p.msg) (none.1.0, (none.1.1.0, (none.1.1.1.0, tt))))) in (
+          λ taken. tell.0 (let all = refused_or_none_holds (Fresh Taken) (Fresh Taken) (tests (Some l) (lane settled p.from p.to p.inc)) taken in grind (arith, nat_tests, all.1.1.1.1.0)),
+          λ gone. none_holds_passes (Fresh Taken) (tests (Some l) (lane settled p.from p.to p.inc)) (none.0, (none.1.0, (none.1.1.0, (none.1.1.1.0, (ap not (tell.1 gone), tt))))),
+        )
+fresh_where_told front settled HasGone (Clear p) tells fresh = of_lane (lane front p.from p.to p.inc) refl fresh
+  where
+    tests : Option Lane → Option Lane → Tests
+    tests o k = (is_exhausted front, Exhausted) ∷ against_receipt o k p
+
+    of_lane : (o : Option Lane) → lane front p.from p.to p.inc ≡ o → refused_or (Fresh Cleared) (tests o (lane front p.from p.to p.inc)) ≡ Ok (Fresh Cleared) →
+        (refused_or (Fresh Cleared) (tests o (lane settled p.from p.to p.inc)) ≡ Ok (Fresh Cleared)) ↔ NamesReleased HasGone (Clear p)
+    of_lane None is e = absurd (let none = refused_or_none_holds (Fresh Cleared) (Fresh Cleared) (tests None (lane front p.from p.to p.inc)) e in let bad = none.1.0 in cc bad)
+    of_lane (Some l) is e =
+        let none = refused_or_none_holds (Fresh Cleared) (Fresh Cleared) (tests (Some l) (lane front p.from p.to p.inc)) e in
+        let tell = tells.receipts p (l, (is, none_holds_passes tt (against_clear l p.number) (none.1.0, (none.1.1.0, tt)))) in (
+          λ taken. tell.0 (let all = refused_or_none_holds (Fresh Cleared) (Fresh Cleared) (tests (Some l) (lane settled p.from p.to p.inc)) taken in grind (arith, nat_tests, all.1.1.1.0)),
+          λ gone. none_holds_passes (Fresh Cleared) (tests (Some l) (lane settled p.from p.to p.inc)) (none.0, (none.1.0, (none.1.1.0, (ap not (tell.1 gone), tt)))),
+        )
+
+-- so over a trail
+pub fresh_where_released : FreshWhereReleased
+fresh_where_released base trail d s is fresh = fresh_where_told (fold base trail) (fold base (take d trail)) (IsReleased base (take d trail)) s (release_law base trail d is) fresh

@@ -1,0 +1,124 @@
+-- The resend list: it holds the fronts, and the receipts of those that were taken.
+use Rattle.std.proofs.Common.{◌≡◌, ℕ, ◌+◌, Bool, true, List, [], ◌∷◌, ◌++◌, Some, if◌then◌else◌, refl, sym, ap, ◌∙◌, subst, inl, inr, flat_map, Contains, arith}
+use Rattle.std.proofs.lemmas.Bool.Decides.{nat_tests}
+use Rattle.std.specs.List.{AllByRecursion}
+use Rattle.coord_types.specs.Table.{Table, entries, get}
+use Rattle.coord_types.specs.declared.messages.Msg.{Msg}
+use Rattle.coord_types.specs.declared.outputs.Output.{Output}
+use Rattle.coord_types.specs.declared.outputs.Output.TheVariants.{Receipted, Signalled, Sent}
+use Rattle.coord_types.specs.declared.packets.DataPacket.{DataPacket}
+use Rattle.coord_types.specs.declared.packets.ReceiptPacket.{ReceiptPacket}
+use Rattle.coord_types.proofs.Tables.{get-entries}
+use Rattle.coord_link.specs.LaneMachine.{Lane, is_front_taken}
+use Rattle.coord_world.specs.NumberedWorld.{World, pair_cmp, pair_cmp_total}
+use Rattle.coord_world.specs.Outputs.{again, again_by, all_again, all_sent, front_packet, receipt, sent_by}
+use Rattle.coord_world.specs.Trails.{IsSound}
+use Rattle.coord_world.proofs.Cases.{by_test}
+use Rattle.coord_world.proofs.lists.KeyedLists.{each_entry}
+use Rattle.coord_world.proofs.lists.GetAfter.{same_pair}
+use Rattle.coord_world.proofs.release.Membership.{Contains-cons_cases, Contains-head, not_in_nil, Contains-one, Contains-flat_map_found, Contains-flat_map_entry, Contains-tail}
+use Rattle.coord_world.proofs.release.LaneFronts.{IsFront, IsFrontReceipt}
+use Rattle.coord_world.proofs.lists.TableEntries.{is_true}
+
+-- both lists are made of the entries of the lanes
+all_again-flat_map : (es : List ((ℕ × ℕ) × Lane)) → all_again es ≡ flat_map (λ e. again_by e.0 e.1 e.1.queue) es
+all_again-flat_map [] = refl
+all_again-flat_map (e ∷ es) = ap (λ l. again_by e.0 e.1 e.1.queue ++ l) (all_again-flat_map es)
+
+pub all_sent-flat_map : (before : Table pair_cmp_total Lane) (es : List ((ℕ × ℕ) × Lane)) → all_sent before es ≡ flat_map (λ e. sent_by (get before e.0) e.0 e.1 e.1.queue) es
+all_sent-flat_map before [] = refl
+all_sent-flat_map before (e ∷ es) = ap (λ l. sent_by (get before e.0) e.0 e.1 e.1.queue ++ l) (all_sent-flat_map before es)
+
+-- each entry is found
+pub entries_found : (w : World) → AllByRecursion (λ e. get w.lanes e.0 ≡ Some e.1) (entries w.lanes)
+entries_found w = each_entry pair_cmp_total same_pair (λ e. get w.lanes e.0 ≡ Some e.1) (entries w.lanes) (is_true _ w.lanes.sorted) (λ k l is. get-entries w.lanes k ∙ is)
+
+-- the receipt of a front, where b says that it was taken
+abbrev receipted : ℕ × ℕ → Lane → Msg → Bool → List Output
+receipted k l m b = if b then Receipted (receipt (front_packet k l m)) ∷ [] else []
+
+-- what one lane sends again
+module _ (k : ℕ × ℕ) (l : Lane) where
+  again_by_sent : (q : List Msg) (p : DataPacket) → Contains (again_by k l q) (Sent p) → (m : Msg) × ((ms : List Msg) × ((q ≡ m ∷ ms) × (front_packet k l m ≡ p)))
+  again_by_sent [] p h = not_in_nil (Sent p) h
+  again_by_sent (m ∷ ms) p h = elim (Contains-cons_cases (Sent (front_packet k l m)) (receipted k l m (is_front_taken l)) (Sent p) h) [
+    | inl here ↦ (m, (ms, (refl, cc here)))
+    | inr later ↦ by_test (is_front_taken l) (λ b. Contains (receipted k l m b) (Sent p) → (n : Msg) × ((ns : List Msg) × ((m ∷ ms ≡ n ∷ ns) × (front_packet k l n ≡ p))))
+        (λ _ x. absurd (let e = Contains-one (Receipted (receipt (front_packet k l m))) (Sent p) x in cc e)) (λ _ x. not_in_nil (Sent p) x) later
+  ]
+
+  again_by_receipted : (q : List Msg) (p : ReceiptPacket) → Contains (again_by k l q) (Receipted p) → (is_front_taken l ≡ true) × ((m : Msg) × (receipt (front_packet k l m) ≡ p))
+  again_by_receipted [] p h = not_in_nil (Receipted p) h
+  again_by_receipted (m ∷ ms) p h = elim (Contains-cons_cases (Sent (front_packet k l m)) (receipted k l m (is_front_taken l)) (Receipted p) h) [
+    | inl here ↦ absurd (cc here)
+    | inr later ↦ by_test (is_front_taken l) (λ b. Contains (receipted k l m b) (Receipted p) → (b ≡ true) × ((n : Msg) × (receipt (front_packet k l n) ≡ p)))
+        (λ _ x. (refl, (m, let e = Contains-one (Receipted (receipt (front_packet k l m))) (Receipted p) x in cc e))) (λ _ x. not_in_nil (Receipted p) x) later
+  ]
+
+-- what is in the list comes from a lane
+again_lane : (w : World) (o : Output) → Contains (again w) o → (e : (ℕ × ℕ) × Lane) × ((get w.lanes e.0 ≡ Some e.1) × Contains (again_by e.0 e.1 e.1.queue) o)
+again_lane w o h = Contains-flat_map_entry pair_cmp same_pair (λ e. again_by e.0 e.1 e.1.queue) (λ e. get w.lanes e.0 ≡ Some e.1) (entries w.lanes) o (entries_found w) (subst (λ l. Contains l o) (all_again-flat_map (entries w.lanes)) h)
+
+-- and what a lane sends again is in it
+lane_again : (w : World) (o : Output) (k : ℕ × ℕ) (l : Lane) → get w.lanes k ≡ Some l → Contains (again_by k l l.queue) o → Contains (again w) o
+lane_again w o k l there h = subst (λ z. Contains z o) (sym (all_again-flat_map (entries w.lanes)))
+    (Contains-flat_map_found pair_cmp same_pair (λ e. again_by e.0 e.1 e.1.queue) (entries w.lanes) k l o (sym (get-entries w.lanes k) ∙ there) h)
+
+-- a packet that is sent again is a front
+pub again_front : (w : World) (p : DataPacket) → Contains (again w) (Sent p) → IsFront w p
+again_front w p h =
+    let on = again_lane w (Sent p) h in
+    let by = again_by_sent on.0.0 on.0.1 on.0.1.queue p on.1.1 in
+    subst (IsFront w) by.1.1.1 (record { at = record { lane = on.0.1; there = on.1.0; inc = refl; number = refl }; rest = by.1.0; queue = by.1.1.0 })
+
+-- a receipt that is sent again is of a front that was taken
+pub again_receipt : (w : World) (p : ReceiptPacket) → Contains (again w) (Receipted p) → IsFrontReceipt w p
+again_receipt w p h =
+    let on = again_lane w (Receipted p) h in
+    let by = again_by_receipted on.0.0 on.0.1 on.0.1.queue p on.1.1 in
+    let taken = by.0 in
+    subst (IsFrontReceipt w) by.1.1 (record { at = record { lane = on.0.1; there = on.1.0; inc = refl; number = refl }; got = grind (arith, nat_tests, taken) })
+
+-- no signal is sent again
+pub again_no_signal : {A : Type 0} (w : World) (u e : ℕ) → Contains (again w) (Signalled u e) → A
+again_no_signal {A} w u e h = let on = again_lane w (Signalled u e) h in of_queue on.0.0 on.0.1 on.0.1.queue on.1.1
+  where
+    of_queue : (k : ℕ × ℕ) (l : Lane) (q : List Msg) → Contains (again_by k l q) (Signalled u e) → A
+    of_queue k l [] h = not_in_nil (Signalled u e) h
+    of_queue k l (m ∷ ms) h = elim (Contains-cons_cases (Sent (front_packet k l m)) (receipted k l m (is_front_taken l)) (Signalled u e) h) [
+      | inl here ↦ absurd (cc here)
+      | inr later ↦ by_test (is_front_taken l) (λ b. Contains (receipted k l m b) (Signalled u e) → A)
+          (λ _ x. absurd (let e = Contains-one (Receipted (receipt (front_packet k l m))) (Signalled u e) x in cc e)) (λ _ x. not_in_nil (Signalled u e) x) later
+    ]
+
+-- the packet of a front, and the receipt of it
+pub front_packet_is : (w : World) (p : DataPacket) (front : IsFront w p) → front_packet (p.from, p.to) front.at.lane p.msg ≡ p
+front_packet_is w p front i = record { from = p.from; to = p.to; inc = front.at.inc i; number = front.at.number i; msg = p.msg }
+
+front_receipt_is : (w : World) (p : ReceiptPacket) (r : IsFrontReceipt w p) (m : Msg) → receipt (front_packet (p.from, p.to) r.at.lane m) ≡ p
+front_receipt_is w p r m i = record { from = p.from; to = p.to; inc = r.at.inc i; number = r.at.number i }
+
+-- each front is sent again
+pub front_again : (w : World) (p : DataPacket) → IsFront w p → Contains (again w) (Sent p)
+front_again w p front =
+    let l = front.at.lane in
+    lane_again w (Sent p) (p.from, p.to) l front.at.there
+    (subst (λ q. Contains (again_by (p.from, p.to) l q) (Sent p)) (sym front.queue)
+    (subst (λ z. Contains (again_by (p.from, p.to) l (p.msg ∷ front.rest)) (Sent z)) (front_packet_is w p front)
+    (Contains-head (Sent (front_packet (p.from, p.to) l p.msg)) (receipted (p.from, p.to) l p.msg (is_front_taken l)))))
+
+-- so is its receipt, once it was taken
+pub receipt_again : (w : World) (p : ReceiptPacket) → IsSound w → IsFrontReceipt w p → Contains (again w) (Receipted p)
+receipt_again w p sound r = lane_again w (Receipted p) (p.from, p.to) l r.at.there (of_queue l.queue refl)
+  where
+    l : Lane
+    l = r.at.lane
+
+    of_queue : (q : List Msg) → l.queue ≡ q → Contains (again_by (p.from, p.to) l q) (Receipted p)
+    of_queue [] none = absurd (elim (sound.legal.lanes p.from p.to l r.at.there) [ inl idle ↦ omega (arith, idle, r.got) | inr taken ↦ taken.1 none ])
+    of_queue (m ∷ ms) is =
+        let front = front_packet (p.from, p.to) l m in
+        let taken : is_front_taken l ≡ true = grind (arith, nat_tests, r.got) in
+        Contains-tail (Sent front) (receipted (p.from, p.to) l m (is_front_taken l)) (Receipted p)
+        (subst (λ b. Contains (receipted (p.from, p.to) l m b) (Receipted p)) (sym taken)
+        (subst (λ z. Contains (Receipted (receipt front) ∷ []) (Receipted z)) (front_receipt_is w p r m) (Contains-head (Receipted (receipt front)) [])))
