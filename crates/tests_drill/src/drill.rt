@@ -1,1 +1,265 @@
-//! Runs of the drill.
+//! Runs of the drill, through the program's commands.
+
+use crate::scripts::{BAD_LINES, RUNS};
+use coord_commands::run;
+use std::alloc::{AllocError, Global};
+use std::io;
+use std::io::{Read, Write};
+use std::test::Fail;
+
+/// Whether a run of the program with these words, over a reader, has this exit status, prints this
+/// text and this fault line. Where memory runs out there is no answer.
+fn ends<R: Read>(
+    alloc: Global,
+    words: &str,
+    input: &mut R,
+    status: u8,
+    printed: &str,
+    faults: &str,
+) -> Result<bool, AllocError> {
+    let mut given = Vec::new(alloc);
+    for word in words.split(' ') {
+        given.push(String::from_str(alloc, word)?)?;
+    }
+    let mut output = Vec::new(alloc);
+    let mut errors = Vec::new(alloc);
+    let answered = run(alloc, given.as_slice(), input, &mut output, &mut errors);
+    if answered == 4 {
+        return Err(AllocError);
+    }
+    Ok(
+        answered == status
+            && output.as_slice() == printed.as_bytes()
+            && errors.as_slice() == faults.as_bytes(),
+    )
+}
+
+/// Whether a drill prints this to a script, and ends well.
+fn prints(alloc: Global, script: &[u8], expected: &str) -> Result<bool, AllocError> {
+    let mut input = script;
+    ends(alloc, "resetd drill", &mut input, 0, expected, "")
+}
+
+#[test]
+fn worked_runs(rt: HostRuntime) -> Result<(), Fail> {
+    for (name, script, expected) in RUNS {
+        assert!(rt; prints(rt.alloc(), script.as_bytes(), expected)?, "{name}");
+    }
+    Ok(())
+}
+
+#[test]
+fn bad_lines(rt: HostRuntime) -> Result<(), Fail> {
+    for line in BAD_LINES {
+        assert!(rt;
+            prints(rt.alloc(), line.as_bytes(), "bad line 1\n")?,
+            "{line}"
+        );
+    }
+    Ok(())
+}
+
+#[test]
+fn bytes_that_are_no_text(rt: HostRuntime) -> Result<(), Fail> {
+    let input = [0xff, b'\n', b'#', 0xff, b'\n', b'\n', 0xff];
+    assert!(rt; prints(rt.alloc(), &input, "bad line 1\nbad line 4\n")?);
+    Ok(())
+}
+
+/// A line of at most 512 bytes is read, and a longer one is bad, be it a comment or not.
+#[test]
+fn the_limit_of_a_line(rt: HostRuntime) -> Result<(), Fail> {
+    let mut input = Vec::new(rt.alloc());
+    for len in [512, 513, 1500] {
+        input.push(b'#')?;
+        for _ in 1..len {
+            input.push(b'a')?;
+        }
+        input.push(b'\n')?;
+    }
+    for len in [512, 513] {
+        input.extend_from_slice(b"add ")?;
+        for _ in 7..len {
+            input.push(b'0')?;
+        }
+        input.extend_from_slice(b"1 1\n")?;
+    }
+    let expected = "bad line 2\nbad line 3\ndone 1\nbad line 5\n";
+    assert!(rt; prints(rt.alloc(), input.as_slice(), expected)?);
+    Ok(())
+}
+
+/// Gives its bytes one by one, and counts the reads.
+#[derive(Drop)]
+struct OneByOne<'a> {
+    left: &'a [u8],
+    reads: u64,
+}
+
+impl Read for OneByOne<'_> {
+    fn read(&mut self, buf: &mut [u8]) -> io::Result<usize> {
+        self.reads = self.reads.saturating_add(1);
+        let Some((byte, left)) = self.left.split_first() else {
+            return Ok(0);
+        };
+        let Some(place) = buf.first_mut() else {
+            return Ok(0);
+        };
+        *place = *byte;
+        self.left = left;
+        Ok(1)
+    }
+}
+
+/// The last line is carried out too, with no line feed behind it.
+#[test]
+fn input_in_pieces(rt: HostRuntime) -> Result<(), Fail> {
+    let mut reader = OneByOne {
+        left: b"add 1 1\nreset 1\nadd 2",
+        reads: 0,
+    };
+    let expected = "done 1\nfinished 2\nsignal 1 1\nbad line 3\n";
+    assert!(rt; ends(rt.alloc(), "resetd drill", &mut reader, 0, expected, "")?);
+    assert!(rt; reader.reads == 22);
+    Ok(())
+}
+
+/// Gives a byte at each read, and never ends.
+#[derive(Drop)]
+struct Endless {
+    reads: u64,
+    longest: usize,
+}
+
+impl Read for Endless {
+    fn read(&mut self, buf: &mut [u8]) -> io::Result<usize> {
+        self.reads = self.reads.saturating_add(1);
+        self.longest = self.longest.max(buf.len());
+        let Some(place) = buf.first_mut() else {
+            return Ok(0);
+        };
+        *place = b'#';
+        Ok(1)
+    }
+}
+
+/// Refuses a drill that ends well at the bound on reads, which no clause does.
+#[test]
+fn endless_input(rt: HostRuntime) -> Result<(), Fail> {
+    let mut reader = Endless {
+        reads: 0,
+        longest: 0,
+    };
+    assert!(rt;
+        ends(
+            rt.alloc(),
+            "resetd drill",
+            &mut reader,
+            3,
+            "",
+            "resetd: Turns\n"
+        )?
+    );
+    assert!(rt; reader.reads == 1_048_576 && reader.longest == 512);
+    Ok(())
+}
+
+/// Gives a line, and fails at the next read.
+#[derive(Drop)]
+struct Broken {
+    reads: u64,
+}
+
+impl Read for Broken {
+    fn read(&mut self, buf: &mut [u8]) -> io::Result<usize> {
+        self.reads = self.reads.saturating_add(1);
+        if self.reads > 1 || buf.len() < 8 {
+            return Err(io::Error::other("broken"));
+        }
+        buf[..8].copy_from_slice(b"add 1 1\n");
+        Ok(8)
+    }
+}
+
+/// Refuses a drill that tells a failed read as `Write`, which no clause does.
+#[test]
+fn failed_read(rt: HostRuntime) -> Result<(), Fail> {
+    let mut reader = Broken { reads: 0 };
+    assert!(rt;
+        ends(
+            rt.alloc(),
+            "resetd drill",
+            &mut reader,
+            3,
+            "done 1\n",
+            "resetd: Read\n"
+        )?
+    );
+    Ok(())
+}
+
+/// Has room for seven bytes.
+#[derive(Drop)]
+struct Full {
+    taken: usize,
+}
+
+impl Write for Full {
+    fn write(&mut self, buf: &[u8]) -> io::Result<usize> {
+        if self.taken >= 7 {
+            return Err(io::Error::other("full"));
+        }
+        let count = buf.len().min(7 - self.taken);
+        self.taken += count;
+        Ok(count)
+    }
+
+    fn flush(&mut self) -> io::Result<()> {
+        Ok(())
+    }
+}
+
+#[test]
+fn failed_write(rt: HostRuntime) -> Result<(), Fail> {
+    let mut input = b"add 1 1\nadd 2 1\n".as_slice();
+    let mut output = Full { taken: 0 };
+    let mut errors = Vec::new(rt.alloc());
+    let status = coord_commands::drill(rt.alloc(), &mut input, &mut output, &mut errors);
+    if status == 4 {
+        return Err(AllocError)?;
+    }
+    assert!(rt;
+        status == 3 && output.taken == 7 && errors.as_slice() == b"resetd: Write\n".as_slice()
+    );
+    Ok(())
+}
+
+/// Words that are refused.
+const REFUSED_WORDS: [&str; 9] = [
+    "resetd",
+    "resetd help",
+    "resetd --help",
+    "resetd -h",
+    "resetd --version",
+    "resetd drill --help",
+    "resetd drill drill",
+    "resetd drill --",
+    "resetd fly",
+];
+
+#[test]
+fn refused_words(rt: HostRuntime) -> Result<(), Fail> {
+    for words in REFUSED_WORDS {
+        let mut input = b"add 1 1\n".as_slice();
+        assert!(rt;
+            ends(rt.alloc(), words, &mut input, 2, "", "resetd: Usage\n")?,
+            "{words}"
+        );
+    }
+    Ok(())
+}
+
+#[test]
+fn laws_do_nothing() {
+    coord_lines::pieces_have_the_lines_of_the_whole();
+}

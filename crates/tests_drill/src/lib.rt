@@ -3,3 +3,5 @@
 
 #[cfg(test)]
 mod drill;
+#[cfg(test)]
+mod scripts;
