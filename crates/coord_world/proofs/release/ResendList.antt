@@ -16,6 +16,7 @@ use Rattle.coord_world.specs.Trails.{IsSound}
 use Rattle.coord_world.proofs.Cases.{by_test}
 use Rattle.coord_world.proofs.lists.KeyedLists.{each_entry}
 use Rattle.coord_world.proofs.lists.GetAfter.{same_pair}
+use Rattle.coord_world.proofs.lanes.Transit.{counts_cases}
 use Rattle.coord_world.proofs.release.Membership.{Contains-cons_cases, Contains-head, not_in_nil, Contains-one, Contains-flat_map_found, Contains-flat_map_entry, Contains-tail}
 use Rattle.coord_world.proofs.release.LaneFronts.{IsFront, IsFrontReceipt}
 use Rattle.coord_world.proofs.lists.TableEntries.{is_true}

@@ -21,6 +21,7 @@ use Rattle.coord_world.specs.NumberedWorld.{World, pair_cmp, row}
 use Rattle.coord_world.specs.Outputs.{all_sent, front_packet, had_front, outputs, receipt, receipts, sent_by, signals}
 use Rattle.coord_world.specs.Trails.{IsSound}
 use Rattle.coord_world.proofs.Cases.{by_test}
+use Rattle.coord_world.proofs.lanes.Transit.{counts_cases}
 use Rattle.coord_world.proofs.release.ResendList.{entries_found, front_packet_is, all_sent-flat_map}
 use Rattle.coord_world.proofs.release.LaneAfterStep.{LaneStep, lane_step, lane_taken}
 use Rattle.coord_world.proofs.lists.GetAfter.{same_pair}
