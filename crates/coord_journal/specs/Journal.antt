@@ -25,8 +25,8 @@ abbrev pub has_stopped : {D : Type 0} → Journal D → Bool
 has_stopped journal = journal.stopped
 
 -- a body of so many bytes fits behind what is used
-abbrev pub Fits : {D : Type 0} → Journal D → ℕ → Type 0
-Fits journal len = used_of journal + 5 + len ≤ half_size_of journal
+abbrev pub HasRoomFor : {D : Type 0} → Journal D → ℕ → Type 0
+HasRoomFor journal len = used_of journal + 5 + len ≤ half_size_of journal
 
 -- its disk holds the text of this content, all of it synced, and it may be written to
 pub record IsReady {D : Type 0} (present : D → Present) (journal : Journal D) (content : Content) : Type 0 where

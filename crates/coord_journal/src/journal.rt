@@ -29,7 +29,7 @@ pub struct Journal<D> {
 }
 
 impl<D: Disk> Journal<D> {
-    ghost use Rattle.coord_journal.specs.Journal.{Fits, IsReady, disk_of, half_of, half_size_of, used_of, has_stopped};
+    ghost use Rattle.coord_journal.specs.Journal.{HasRoomFor, IsReady, disk_of, half_of, half_size_of, used_of, has_stopped};
     ghost use Rattle.coord_journal.specs.Half.{half_number};
     ghost use Rattle.coord_journal.specs.Faults.{IsWriteFault, failures_in};
     ghost use Rattle.coord_journal.specs.declared.fault.JournalFault.TheVariants.{Device};
@@ -64,7 +64,7 @@ impl<D: Disk> Journal<D> {
 
     /// Whether a body of so many bytes still fits.
     pub fn fits(&self, len: usize) -> bool
-        ensures { IsTrue result ↔ Fits self.now len }
+        ensures { IsTrue result ↔ HasRoomFor self.now len }
     {
         let free = self.half_size - self.used;
         5 <= free && len as u64 <= free - 5
@@ -90,7 +90,7 @@ impl<D: Disk> Journal<D> {
     /// After `Device` each later call answers `Stopped`, and opening the device tells whether the batch is there.
     pub fn append(&mut self, body: &[u8]) -> Result<(), JournalFault>
         requires short { length body.now ≤ MAX_BODY }
-        requires fits { Fits self.old (length body.now) }
+        requires fits { HasRoomFor self.old (length body.now) }
 
         // A crash at any moment of the call leaves the text of the content from before it, with the batch or without.
         ensures any_moment { (content : Content) → D.keeps_model (disk_of self.old) ≡ true → IsReady D.present self.old content
@@ -139,7 +139,7 @@ impl<D: Disk> Journal<D> {
         // Once it has returned Ok, of the new one, and a body of any size fits.
         ensures done { (content : Content) → D.keeps_model (disk_of self.old) ≡ true → IsReady D.present self.old content
             → OnOk result (IsReady D.present self.new (without_batch version snapshot.now)) }
-        ensures fits { OnOk result (Fits self.new MAX_BODY) }
+        ensures fits { OnOk result (HasRoomFor self.new MAX_BODY) }
         ensures used { used_of self.new ≡ (if is_ok result then 6 + length snapshot.now else used_of self.old) }
         ensures half { half_of self.new ≡ (if is_ok result then 1 - half_of self.old else half_of self.old) }
         ensures half_size { half_size_of self.new ≡ half_size_of self.old }
