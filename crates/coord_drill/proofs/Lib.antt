@@ -1,3 +1,5 @@
 mod FirstParts
+mod NextRows
 mod NoText
 mod Taken
+mod WordsOf

@@ -1,175 +1,120 @@
--- What the lines of a drill ask for.
-use Rattle.std.specs.Prelude.{ℕ, ◌^◌, ◌==◌, ◌&&◌, nat_le, nat_lt, Bool, List, length, codes, bytes_eq, Option, Some, None, option_and_then, if◌then◌else◌}
-use Rattle.std.specs.List.{position_or_len, before_first, after_first}
+-- The grammar of a drill's lines: a table of verbs and the fields behind them.
+use Rattle.std.specs.Prelude.{ℕ, ◌^◌, ◌==◌, ◌&&◌, nat_le, nat_lt, Bool, List, [], ◌∷◌, ◌++◌, length, map, codes, decimal, bytes_eq, Option, Some, None, if◌then◌else◌}
+use Rattle.std.specs.List.{slice_split, join_with_byte}
 use Rattle.std.specs.Str.{all_ascii_digits}
 use Rattle.std.specs.Str.Parse.{digits_value}
+use Rattle.coord_types.specs.Names.{msg_name}
 use Rattle.coord_types.specs.declared.messages.Msg.{Msg}
 use Rattle.coord_types.specs.declared.messages.Msg.TheVariants as msg
 use Rattle.coord_types.specs.declared.steps.Command.{Command}
-use Rattle.coord_types.specs.declared.steps.Command.TheVariants as command
+use Rattle.coord_types.specs.declared.steps.Command.TheVariants.{Add, Remove, Join, Drop, Reset, Confirm}
 use Rattle.coord_drill.specs.declared.request.Request.{Request}
-use Rattle.coord_drill.specs.declared.request.Request.TheVariants as request
+use Rattle.coord_drill.specs.declared.request.Request.TheVariants.{Next, Order, Take, Clear, Data, Receipt, Resend, Check}
+use Rattle.coord_drill.specs.Format.{◌>>=◌, Word, Format, field, nothing, ◌&◌, made, Row, one_of}
 
-infixl 10 ◌>>=◌
-abbrev pub ◌>>=◌ : {A B : Type 0} → Option A → (A → Option B) → Option B
-o >>= f = option_and_then f o
+-- ---- words
 
 abbrev pub is_space : ℕ → Bool
 is_space c = c == 32
 
--- what stands before the first space of a text, and what stands behind it
-unfoldable pub parted : List ℕ → Option (List ℕ × List ℕ)
-parted text = if nat_lt (position_or_len is_space text) (length text) then Some (before_first is_space text, after_first is_space text) else None
+-- what stands before, between and behind the spaces of a line
+abbrev pub words_of : List ℕ → List Word
+words_of line = slice_split is_space line
+
+-- ---- fields
 
 -- one or more decimal digits, of a value that fits 64 bits
-abbrev pub is_number : List ℕ → Bool
+abbrev pub is_number : Word → Bool
 is_number word = all_ascii_digits word && (nat_lt 0 (length word) && nat_lt (digits_value 10 word) (2 ^ 64))
 
-unfoldable pub number_of : List ℕ → Option ℕ
+unfoldable pub number_of : Word → Option ℕ
 number_of word = if is_number word then Some (digits_value 10 word) else None
-
-abbrev pub byte_of : ℕ → Option ℕ
-byte_of n = if nat_lt n 256 then Some n else None
-
--- a number that fits 8 bits
-unfoldable pub small_number_of : List ℕ → Option ℕ
-small_number_of word = number_of word >>= byte_of
 
 abbrev pub up_to : ℕ → ℕ → Option ℕ
 up_to most n = if nat_le 1 n && nat_le n most then Some n else None
 
--- a number from 1 to this one
-unfoldable pub number_up_to : ℕ → List ℕ → Option ℕ
-number_up_to most word = small_number_of word >>= up_to most
-
-abbrev pub node_of : List ℕ → Option ℕ
-node_of word = number_up_to 64 word
-
-abbrev pub group_of : List ℕ → Option ℕ
-group_of word = number_up_to 16 word
-
-abbrev pub client_of : List ℕ → Option ℕ
-client_of word = number_up_to 16 word
-
-unfoldable pub two_nodes_of : List ℕ → Option (ℕ × ℕ)
-two_nodes_of text = do
-  p ← parted text
-  u ← node_of p.0
-  v ← node_of p.1
-  Some (u, v)
-
-unfoldable pub message_of : List ℕ → Option Msg
+unfoldable pub message_of : Word → Option Msg
 message_of word =
     if bytes_eq word (codes "abort") then Some msg.Abort
     else (if bytes_eq word (codes "ack") then Some msg.Ack
     else (if bytes_eq word (codes "ready") then Some msg.Ready else None))
 
-unfoldable pub add_of : List ℕ → Option Command
-add_of text = do
-  p ← parted text
-  u ← node_of p.0
-  g ← group_of p.1
-  Some (command.Add u g)
+unfoldable pub number : Format ℕ
+number = field (λ n. if nat_lt n (2 ^ 64) then Some (decimal n) else None) number_of
 
-unfoldable pub remove_of : List ℕ → Option Command
-remove_of text = do
-  u ← node_of text
-  Some (command.Remove u)
+-- a number from 1 to this one
+abbrev pub number_to : ℕ → Format ℕ
+number_to most = field (λ n. up_to most n >>= λ m. Some (decimal m)) (λ word. number_of word >>= up_to most)
 
-unfoldable pub join_of : List ℕ → Option Command
-join_of text = do
-  p ← two_nodes_of text
-  Some (command.Join p.0 p.1)
+unfoldable pub node : Format ℕ
+node = number_to 64
 
-unfoldable pub drop_of : List ℕ → Option Command
-drop_of text = do
-  p ← two_nodes_of text
-  Some (command.Drop p.0 p.1)
+unfoldable pub group : Format ℕ
+group = number_to 16
 
-unfoldable pub reset_of : List ℕ → Option Command
-reset_of text = do
-  u ← node_of text
-  Some (command.Reset u)
+unfoldable pub client : Format ℕ
+client = number_to 16
 
-unfoldable pub confirm_of : List ℕ → Option Command
-confirm_of text = do
-  p ← parted text
-  u ← node_of p.0
-  e ← number_of p.1
-  Some (command.Confirm u e)
+unfoldable pub message : Format Msg
+message = field (λ m. Some (msg_name m)) message_of
 
--- a command, by its verb and what stands behind that
-unfoldable pub command_by : List ℕ → List ℕ → Option Command
-command_by verb rest =
-    if bytes_eq verb (codes "add") then add_of rest
-    else (if bytes_eq verb (codes "remove") then remove_of rest
-    else (if bytes_eq verb (codes "join") then join_of rest
-    else (if bytes_eq verb (codes "drop") then drop_of rest
-    else (if bytes_eq verb (codes "reset") then reset_of rest
-    else (if bytes_eq verb (codes "confirm") then confirm_of rest else None)))))
+-- ---- the table
 
-unfoldable pub command_of : List ℕ → Option Command
-command_of text = do
-  p ← parted text
-  command_by p.0 p.1
+-- a row by its verb, what its fields make, and the fields of what it makes
+abbrev pub row : {A B : Type 0} → Word → Format A → (A → B) → (B → Option A) → Row B
+row verb fields make parts = record { verb = verb; fields = made make parts fields }
 
-unfoldable pub next_of : List ℕ → Option Request
-next_of line = do
-  x ← command_of line
-  Some (request.Next x)
+unfoldable pub commands : List (Row Command)
+commands =
+    row (codes "add") (node & group) (λ p. Add p.0 p.1) (λ x. elim x [ Add u g ↦ Some (u, g) | _ ↦ None ])
+    ∷ row (codes "remove") node Remove (λ x. elim x [ Remove u ↦ Some u | _ ↦ None ])
+    ∷ row (codes "join") (node & node) (λ p. Join p.0 p.1) (λ x. elim x [ Join a b ↦ Some (a, b) | _ ↦ None ])
+    ∷ row (codes "drop") (node & node) (λ p. Drop p.0 p.1) (λ x. elim x [ Drop a b ↦ Some (a, b) | _ ↦ None ])
+    ∷ row (codes "reset") node Reset (λ x. elim x [ Reset u ↦ Some u | _ ↦ None ])
+    ∷ row (codes "confirm") (node & number) (λ p. Confirm p.0 p.1) (λ x. elim x [ Confirm u e ↦ Some (u, e) | _ ↦ None ])
+    ∷ []
 
-unfoldable pub order_of : List ℕ → Option Request
-order_of text = do
-  p ← parted text
-  q ← parted p.1
-  c ← client_of p.0
-  n ← number_of q.0
-  x ← command_of q.1
-  Some (request.Order c n x)
+-- a command alone is an order of the operator
+abbrev pub next_row : Row Command → Row Request
+next_row r = row r.verb r.fields Next (λ x. elim x [ Next c ↦ Some c | _ ↦ None ])
 
-unfoldable pub take_of : List ℕ → Option Request
-take_of text = do
-  p ← two_nodes_of text
-  Some (request.Take p.0 p.1)
+unfoldable pub order_fields : Format Request
+order_fields = made (λ p. Order p.0 p.1.0 p.1.1) (λ x. elim x [ Order c n y ↦ Some (c, (n, y)) | _ ↦ None ]) (client & (number & one_of commands))
 
-unfoldable pub clear_of : List ℕ → Option Request
-clear_of text = do
-  p ← two_nodes_of text
-  Some (request.Clear p.0 p.1)
+unfoldable pub data_fields : Format Request
+data_fields = made (λ p. Data (record { from = p.0; to = p.1.0; inc = p.1.1.0; number = p.1.1.1.0; msg = p.1.1.1.1 }))
+    (λ x. elim x [ Data d ↦ Some (d.from, (d.to, (d.inc, (d.number, d.msg)))) | _ ↦ None ])
+    (node & (node & (number & (number & message))))
 
-unfoldable pub data_of : List ℕ → Option Request
-data_of text = do
-  p ← parted text
-  q ← parted p.1
-  r ← parted q.1
-  s ← parted r.1
-  u ← node_of p.0
-  v ← node_of q.0
-  i ← number_of r.0
-  n ← number_of s.0
-  m ← message_of s.1
-  Some (request.Data (record { from = u; to = v; inc = i; number = n; msg = m }))
+unfoldable pub receipt_fields : Format Request
+receipt_fields = made (λ p. Receipt (record { from = p.0; to = p.1.0; inc = p.1.1.0; number = p.1.1.1 }))
+    (λ x. elim x [ Receipt r ↦ Some (r.from, (r.to, (r.inc, r.number))) | _ ↦ None ])
+    (node & (node & (number & number)))
 
-unfoldable pub receipt_of : List ℕ → Option Request
-receipt_of text = do
-  p ← parted text
-  q ← parted p.1
-  r ← parted q.1
-  u ← node_of p.0
-  v ← node_of q.0
-  i ← number_of r.0
-  n ← number_of r.1
-  Some (request.Receipt (record { from = u; to = v; inc = i; number = n }))
+unfoldable pub other_requests : List (Row Request)
+other_requests =
+    record { verb = codes "order"; fields = order_fields }
+    ∷ row (codes "take") (node & node) (λ p. Take p.0 p.1) (λ x. elim x [ Take u v ↦ Some (u, v) | _ ↦ None ])
+    ∷ row (codes "clear") (node & node) (λ p. Clear p.0 p.1) (λ x. elim x [ Clear u v ↦ Some (u, v) | _ ↦ None ])
+    ∷ record { verb = codes "data"; fields = data_fields }
+    ∷ record { verb = codes "receipt"; fields = receipt_fields }
+    ∷ row (codes "resend") nothing (λ _. Resend) (λ x. elim x [ Resend ↦ Some tt | _ ↦ None ])
+    ∷ row (codes "check") nothing (λ _. Check) (λ x. elim x [ Check ↦ Some tt | _ ↦ None ])
+    ∷ []
 
-abbrev pub request_by : List ℕ → List ℕ → List ℕ → Option Request
-request_by line verb rest =
-    if bytes_eq verb (codes "order") then order_of rest
-    else (if bytes_eq verb (codes "take") then take_of rest
-    else (if bytes_eq verb (codes "clear") then clear_of rest
-    else (if bytes_eq verb (codes "data") then data_of rest
-    else (if bytes_eq verb (codes "receipt") then receipt_of rest else next_of line))))
+abbrev pub requests : List (Row Request)
+requests = other_requests ++ map next_row commands
 
+-- ---- lines
+
+abbrev pub all_read : {A : Type 0} → A × List Word → Option A
+all_read (x, []) = Some x
+all_read (x, w ∷ ws) = None
+
+-- the request that a line spells; None for a bad line
 unfoldable pub request_of : List ℕ → Option Request
-request_of line = if bytes_eq line (codes "resend") then Some request.Resend else (if bytes_eq line (codes "check") then Some request.Check else (do
-  p ← parted line
-  request_by line p.0 p.1))
+request_of line = (one_of requests).read (words_of line) >>= all_read
+
+-- the spelling of a request: its words, with one space between each two
+unfoldable pub spelled : Request → Option (List ℕ)
+spelled request = (one_of requests).spell request >>= λ words. Some (join_with_byte 32 words)

@@ -1,4 +1,6 @@
+pub mod Format
 pub mod Grammar
 pub mod Drill
 pub mod Printed
 pub mod Drilled
+pub mod WorkedLines

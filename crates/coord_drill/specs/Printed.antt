@@ -1,7 +1,7 @@
 -- The lines that a drill prints, each ended by a line feed.
 use Rattle.std.specs.Prelude.{ℕ, List, ◌++◌, codes, decimal, Option, Some, None}
 use Rattle.std.specs.List.{flat_map}
-use Rattle.coord_types.specs.Names.{kind_name, msg_name, refusal_name, refusal_number}
+use Rattle.coord_types.specs.Names.{kind_name, msg_name, refusal_text}
 use Rattle.coord_types.specs.declared.steps.Reply.{Reply}
 use Rattle.coord_types.specs.declared.refusals.Refusal.{Refusal}
 use Rattle.coord_types.specs.declared.outputs.Output.{Output}
@@ -19,7 +19,7 @@ abbrev pub reply_line : Reply → List ℕ
 reply_line r = kind_name r.kind ++ (codes " " ++ (decimal r.step ++ codes "\n"))
 
 abbrev pub refusal_line : Refusal → List ℕ
-refusal_line r = codes "no " ++ (decimal (refusal_number r) ++ (codes " " ++ (refusal_name r ++ codes "\n")))
+refusal_line r = codes "no " ++ (refusal_text r ++ codes "\n")
 
 abbrev pub output_line : Output → List ℕ
 output_line (Receipted p) = codes "receipt " ++ (decimal p.from ++ (codes " " ++ (decimal p.to ++ (codes " " ++ (decimal p.number ++ codes "\n")))))

@@ -11,7 +11,8 @@ ghost use Rattle.coord_drill.specs.declared.fault.Fault.TheVariants.{TooManyRead
 use crate::drill::Drill;
 use crate::fault::Fault;
 use crate::print::{print_answer, print_bad_line};
-use crate::request::{Request, parse};
+use crate::reading::parse;
+use crate::request::Request;
 use crate::writing::{fault_of, write_text};
 use coord_lines::LineBuffer;
 use std::alloc::{AllocError, Global};

@@ -9,9 +9,13 @@ mod answer;
 mod console;
 mod drill;
 mod fault;
+mod laws;
 mod print;
+mod reading;
 mod request;
+mod words;
 mod writing;
 
 pub use console::{MOST_READS, coord_drill};
 pub use fault::Fault;
+pub use laws::worked_lines;

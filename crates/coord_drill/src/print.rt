@@ -1,13 +1,13 @@
 //! The lines that a drill prints.
 
 ghost use Rattle.std.specs.Prelude.{◌≡◌, ◌++◌, OnOk, string_bytes};
-ghost use Rattle.coord_drill.specs.Printed.{bad_line, reply_line, refusal_line, output_line, output_lines, fault_line, said_lines};
+ghost use Rattle.coord_drill.specs.Printed.{bad_line, reply_line, output_line, output_lines, fault_line, said_lines};
 ghost use Rattle.coord_drill.specs.Drill.{said};
 ghost use Rattle.coord_types.specs.declared.outputs.Output.TheVariants.{Receipted, Sent};
 
 use crate::answer::Answer;
 use coord_check::Violation;
-use coord_types::{DataPacket, Output, ReceiptPacket, Refusal, Reply};
+use coord_types::{DataPacket, Output, ReceiptPacket, Reply};
 use std::alloc::AllocError;
 
 /// Adds the lines of an answer to a text: its reply first, and then what is given out, in order.
@@ -20,7 +20,7 @@ pub fn print_answer(text: &mut String, answer: &Answer) -> Result<(), AllocError
             print_outputs(text, &outcome.outputs)
         }
         Answer::Kept(reply) => print_reply(text, *reply),
-        Answer::Refused(refusal) => print_refusal(text, *refusal),
+        Answer::Refused(refusal) => writeln!(text, "no {refusal}"),
         Answer::Idle => text.push_str("idle\n"),
         Answer::Resent(outputs) => print_outputs(text, outputs),
         Answer::Checked(fault) => print_fault(text, *fault),
@@ -40,14 +40,6 @@ fn print_reply(text: &mut String, reply: Reply) -> Result<(), AllocError>
     let kind = reply.kind.name();
     let step = reply.step;
     writeln!(text, "{kind} {step}")
-}
-
-fn print_refusal(text: &mut String, refusal: Refusal) -> Result<(), AllocError>
-    ensures { OnOk result (string_bytes text.new ≡ string_bytes text.old ++ refusal_line refusal) }
-{
-    let number = refusal.number();
-    let name = refusal.name();
-    writeln!(text, "no {number} {name}")
 }
 
 fn print_fault(text: &mut String, fault: Option<Violation>) -> Result<(), AllocError>

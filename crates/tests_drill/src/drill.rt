@@ -143,7 +143,8 @@ impl Read for Endless {
     }
 }
 
-/// Refuses a drill that ends well at the bound on reads, which no clause does.
+/// The bound on reads is met by no clause alone: one says that so many bytes came, and not that so
+/// many reads suffice.
 #[test]
 fn endless_input(rt: HostRuntime) -> Result<(), Fail> {
     let mut reader = Endless {
@@ -181,7 +182,7 @@ impl Read for Broken {
     }
 }
 
-/// Refuses a drill that tells a failed read as `Write`, which no clause does.
+/// Refuses a drill that tells a failed read as `Write`: no clause sees which call failed.
 #[test]
 fn failed_read(rt: HostRuntime) -> Result<(), Fail> {
     let mut reader = Broken { reads: 0 };
@@ -262,4 +263,5 @@ fn refused_words(rt: HostRuntime) -> Result<(), Fail> {
 #[test]
 fn laws_do_nothing() {
     coord_lines::pieces_have_the_lines_of_the_whole();
+    coord_drill::worked_lines();
 }

@@ -8,7 +8,7 @@ use Rattle.std.specs.Str.{all_ascii_digits}
 use Rattle.std.specs.Str.Parse.{digits_value}
 use Rattle.std.specs.Result.{OkIff}
 use Rattle.coord_drill.specs.Grammar.{number_of}
-use Rattle.coord_drill.proofs.request.number.Goals as goal
+use Rattle.coord_drill.proofs.words.number_in.Goals as goal
 
 -- what begins with a plus is no number
 plus_refused : (word : List ℕ) → get_or word 0 0 ≡ 43 → number_of word ≡ None

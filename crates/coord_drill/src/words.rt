@@ -1,0 +1,107 @@
+//! The words of a line, read one after the other.
+
+ghost use Rattle.std.specs.Prelude.{◌≡◌, MatchOption, ◌∷◌, [], Some, None, nat_lt, option_and_then, if◌then◌else◌};
+ghost use Rattle.coord_drill.specs.Format.{Reads};
+ghost use Rattle.coord_drill.specs.Grammar.{words_of, number_of, message_of, number, node, group, client, message};
+
+use coord_types::{Client, Group, Msg, NodeId};
+use std::marker::Model;
+
+/// The words of a line that are still to be read.
+#[derive(Drop)]
+pub struct Words<'a> {
+    rest: Option<&'a str>,
+}
+
+impl<'a> Model for Words<'a> {
+    ghost use Rattle.std.specs.Prelude.{ℕ, List, []};
+    ghost use Rattle.std.specs.Option.{option_map_or};
+    ghost use Rattle.coord_drill.specs.Grammar.{words_of};
+
+    ghost Value = { List (List ℕ) };
+
+    ghost view = { λ a. option_map_or (λ text. words_of text.now) a.rest [] };
+}
+
+impl<'a> Words<'a> {
+    pub fn of(line: &'a str) -> Self
+        ensures { result ≡ words_of line.entry.now }
+    {
+        Words { rest: Some(line) }
+    }
+
+    /// The next word.
+    pub fn next(&mut self) -> Option<&'a str>
+        ensures { MatchOption result (self.old ≡ []) (λ word. self.old ≡ word.now ∷ self.new) }
+    {
+        let text = self.rest?;
+        match text.split_once(' ') {
+            Some((word, rest)) => {
+                self.rest = Some(rest);
+                Some(word)
+            }
+            None => {
+                self.rest = None;
+                Some(text)
+            }
+        }
+    }
+
+    #[tactic(auto, unfolding(crate::specs::Grammar::number))]
+    pub fn number(&mut self) -> Option<u64>
+        ensures { Reads (number.read self.old) result self.new }
+    {
+        number_in(self.next()?)
+    }
+
+    #[tactic(auto, unfolding(crate::specs::Grammar::node))]
+    pub fn node(&mut self) -> Option<NodeId>
+        ensures { Reads (node.read self.old) result self.new }
+    {
+        NodeId::new(small_number_in(self.next()?)?)
+    }
+
+    #[tactic(auto, unfolding(crate::specs::Grammar::group))]
+    pub fn group(&mut self) -> Option<Group>
+        ensures { Reads (group.read self.old) result self.new }
+    {
+        Group::new(small_number_in(self.next()?)?)
+    }
+
+    #[tactic(auto, unfolding(crate::specs::Grammar::client))]
+    pub fn client(&mut self) -> Option<Client>
+        ensures { Reads (client.read self.old) result self.new }
+    {
+        Client::new(small_number_in(self.next()?)?)
+    }
+
+    #[tactic(auto, unfolding(crate::specs::Grammar::message, crate::specs::Grammar::message_of))]
+    pub fn message(&mut self) -> Option<Msg>
+        ensures { Reads (message.read self.old) result self.new }
+    {
+        match self.next()? {
+            "abort" => Some(Msg::Abort),
+            "ack" => Some(Msg::Ack),
+            "ready" => Some(Msg::Ready),
+            _ => None,
+        }
+    }
+}
+
+/// The value of one or more decimal digits, if it is below 2^64.
+fn number_in(word: &str) -> Option<u64>
+    ensures { result ≡ number_of word.now }
+{
+    // A leading plus would be read.
+    if word.starts_with('+') {
+        return None;
+    }
+    word.parse().ok()
+}
+
+/// The same, if it is below 256.
+fn small_number_in(word: &str) -> Option<u8>
+    ensures { result ≡ option_and_then (λ n. if nat_lt n 256 then Some n else None) (number_of word.now) }
+{
+    u8::try_from(number_in(word)?).ok()
+}
