@@ -1,7 +1,7 @@
 -- What a step that a world is ready for asks of the program is there.
-use Rattle.std.proofs.Common.{◌≡◌, ℕ, ◌-◌, ◌^◌, ◌<◌, Bool, true, false, ◌||◌, not, Some, IsSome, ap, ◌∙◌, refl, arith, lit<}
+use Rattle.std.proofs.Common.{◌≡◌, ℕ, ◌-◌, ◌^◌, ◌<◌, Some, IsSome, ap, ◌∙◌, arith, lit<}
 use Rattle.std.specs.Prelude.{is_some}
-use Rattle.coord_types.specs.Table.{get, has}
+use Rattle.coord_types.specs.Table.{get}
 use Rattle.coord_types.specs.declared.packets.DataPacket.{DataPacket}
 use Rattle.coord_types.specs.declared.steps.Command.TheVariants.{Join, Drop, Reset}
 use Rattle.coord_types.specs.declared.steps.Step.TheVariants.{Order, Take}

@@ -1,11 +1,10 @@
 -- What stands in a sorted list is found there, and so each lane in the list has the place that its table promises.
-use Rattle.std.proofs.Common.{◌≡◌, ℕ, zero, suc, Bool, true, false, ◌&&◌, List, [], ◌∷◌, Some, slice_get, get_or, refl, sym, ap, ◌∙◌, cond, Ordering}
+use Rattle.std.proofs.Common.{◌≡◌, ℕ, zero, suc, true, false, List, [], ◌∷◌, Some, slice_get, get_or, sym, ap, ◌∙◌, cond, Ordering}
 use Rattle.std.specs.List.{All}
 use Rattle.std.proofs.lemmas.Option.{slice_get-get_or}
 use Rattle.std.specs.Ordering.{eq_by_cmp, is_lt, is_eq}
 use Rattle.std.specs.Cmp.{IsTotalOrder, tied_itself, eq_by_cmp_equiv}
 use Rattle.std.specs.FinMap.Entries.{find, below_all, is_sorted}
-use Rattle.std.specs.declared.cmp.Ordering.TheVariants.{Less, Equal, Greater}
 use Rattle.coord_types.specs.Table.{get, from_sorted}
 use Rattle.coord_types.proofs.Tables.{get-from_sorted}
 use Rattle.coord_types.specs.declared.messages.Msg.{Msg}
