@@ -3,5 +3,6 @@ pub mod GetAfter
 pub mod KeyedLists
 pub mod NodeSets
 pub mod PutAtPlace
+pub mod SameTables
 pub mod TableEntries
 pub mod TableLen

@@ -1,6 +1,6 @@
 //! What a node does in a step.
 
-ghost use Rattle.std.specs.Prelude.{◌≡◌, ◌<◌, ◌-◌, ◌^◌, IsSome, IfOk};
+ghost use Rattle.std.specs.Prelude.{◌<◌, ◌-◌, ◌^◌, IsSome, IfOk};
 ghost use Rattle.coord_types.specs.Table as table;
 ghost use Rattle.coord_node.specs.Rules.{deed, request, lost};
 ghost use Rattle.coord_world.specs.NumberedWorld.{row};

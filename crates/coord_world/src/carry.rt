@@ -7,7 +7,7 @@ ghost use Rattle.coord_link.specs.LaneMachine.{took, cleared};
 ghost use Rattle.coord_node.specs.Rules.{request, lost, deed};
 ghost use Rattle.coord_node.specs.Steps.{deeds, deeds_ordered};
 ghost use Rattle.coord_world.specs.NumberedWorld.{row};
-ghost use Rattle.coord_world.specs.Next.{on_lane, on_row, does, all_do, ordered, prepared};
+ghost use Rattle.coord_world.specs.Next.{on_lane, does, all_do, ordered, prepared};
 ghost use Rattle.coord_world.specs.Outputs.{receipts, receipt, signals};
 ghost use Rattle.coord_world.specs.Sends.{HasRoomFor};
 ghost use Rattle.coord_world.specs.Acts.{done, signal_of, CanAct};

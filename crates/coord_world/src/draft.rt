@@ -1,6 +1,6 @@
 //! The parts of a world, before anything is promised of them.
 
-ghost use Rattle.std.specs.Prelude.{◌≡◌, IfOk, OnOk, OnErr};
+ghost use Rattle.std.specs.Prelude.{◌≡◌, IfOk, IsTrue, ◌↔◌};
 ghost use Rattle.std.specs.Option.{option_copied};
 ghost use Rattle.coord_types.specs.Table as table;
 ghost use Rattle.coord_world.specs.NumberedWorld.{no_world};
@@ -59,6 +59,15 @@ impl Draft {
     {
         let lane = self.lanes.get(from, to)?;
         if lane.inc() == inc { Some(lane) } else { None }
+    }
+
+    pub fn is_same(&self, other: &Draft) -> bool
+        ensures { IsTrue result ↔ (self.now ≡ other.now) }
+    {
+        self.count == other.count
+            && self.nodes.is_same(&other.nodes)
+            && self.lanes.is_same(&other.lanes)
+            && self.sessions.is_same(&other.sessions)
     }
 
     pub fn copy(&self) -> Result<Draft, AllocError>

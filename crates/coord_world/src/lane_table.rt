@@ -1,11 +1,12 @@
 //! The lanes of a world.
 
-ghost use Rattle.std.specs.Prelude.{◌≡◌, ◌==◌, IfOk, OnOk, OnErr, if◌then◌else◌};
+ghost use Rattle.std.specs.Prelude.{◌≡◌, ◌==◌, IfOk, OnOk, OnErr, IsTrue, ◌↔◌, if◌then◌else◌};
 ghost use Rattle.std.specs.Option.{option_copied};
 ghost use Rattle.coord_types.specs.Table as table;
 ghost use Rattle.coord_link.specs.LaneMachine.{sent};
 ghost use Rattle.coord_world.specs.Sends.{sent_to, HasRoomFor};
 
+use crate::equality::is_same_list;
 use crate::{sends, sorted};
 use coord_link::Lane;
 use coord_types::{Msg, NodeId};
@@ -85,6 +86,12 @@ impl LaneTable {
         ensures { self.new ≡ table.change (λ k l. if k.0 == from then sent (sent_to sends.now k.1) l else l) self.old }
     {
         sends::send_all(&mut self.lanes, from, sends);
+    }
+
+    pub fn is_same(&self, other: &LaneTable) -> bool
+        ensures { IsTrue result ↔ (self.now ≡ other.now) }
+    {
+        is_same_list(&self.lanes, &other.lanes)
     }
 
     pub fn copy(&self) -> Result<LaneTable, AllocError>

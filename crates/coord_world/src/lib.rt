@@ -6,6 +6,7 @@ mod act;
 mod assembly;
 mod carry;
 mod draft;
+mod equality;
 mod fronts;
 mod judge;
 mod lane_table;

@@ -1,11 +1,12 @@
 //! The nodes of a world.
 
-ghost use Rattle.std.specs.Prelude.{◌≡◌, true, IfOk, OnOk, OnErr};
+ghost use Rattle.std.specs.Prelude.{◌≡◌, true, IfOk, OnOk, OnErr, IsTrue, ◌↔◌};
 ghost use Rattle.std.specs.Option.{option_copied};
 ghost use Rattle.std.specs.Ordering.{nat_cmp};
 ghost use Rattle.std.specs.FinMap.Entries.{is_sorted};
 ghost use Rattle.coord_types.specs.Table as table;
 
+use crate::equality::is_same_list;
 use crate::sorted;
 use coord_node::Node;
 use coord_types::NodeId;
@@ -79,6 +80,12 @@ impl NodeTable {
         ensures { self.new ≡ table.remove self.old id }
     {
         sorted::take_out(&mut self.nodes, &id);
+    }
+
+    pub fn is_same(&self, other: &NodeTable) -> bool
+        ensures { IsTrue result ↔ (self.now ≡ other.now) }
+    {
+        is_same_list(&self.nodes, &other.nodes)
     }
 
     pub fn copy(&self) -> Result<NodeTable, AllocError>

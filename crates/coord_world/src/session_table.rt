@@ -1,10 +1,11 @@
 //! The clients' last orders.
 
-ghost use Rattle.std.specs.Prelude.{◌≡◌, true, IfOk, OnOk, OnErr};
+ghost use Rattle.std.specs.Prelude.{◌≡◌, true, IfOk, OnOk, OnErr, IsTrue, ◌↔◌};
 ghost use Rattle.std.specs.Ordering.{nat_cmp};
 ghost use Rattle.std.specs.FinMap.Entries.{is_sorted};
 ghost use Rattle.coord_types.specs.Table as table;
 
+use crate::equality::is_same_list;
 use crate::sorted;
 use coord_types::{Client, Command, Reply, Session};
 use std::alloc::{AllocError, Global};
@@ -83,6 +84,12 @@ impl SessionTable {
         };
         sorted::put(&mut self.sessions, client, session)?;
         Ok(())
+    }
+
+    pub fn is_same(&self, other: &SessionTable) -> bool
+        ensures { IsTrue result ↔ (self.now ≡ other.now) }
+    {
+        is_same_list(&self.sessions, &other.sessions)
     }
 
     pub fn copy(&self) -> Result<SessionTable, AllocError>

@@ -1,6 +1,6 @@
 //! The world of nodes, lanes and sessions.
 
-ghost use Rattle.std.specs.Prelude.{◌≡◌, Ok, IfOk, OnOk, OnErr};
+ghost use Rattle.std.specs.Prelude.{◌≡◌, ◌↔◌, IsTrue, Ok, IfOk, OnOk, OnErr};
 ghost use Rattle.std.specs.Option.{option_copied};
 ghost use Rattle.coord_types.specs.Table as table;
 ghost use Rattle.coord_types.specs.declared.steps.Kind.{Kind};
@@ -92,6 +92,13 @@ impl World {
         ensures { InRange self.now }
     {
         let _ = &self.draft;
+    }
+
+    /// Whether another world has the same count, nodes, lanes and last orders.
+    pub fn is_same(&self, other: &World) -> bool
+        ensures { IsTrue result ↔ (self.now ≡ other.now) }
+    {
+        self.draft.is_same(&other.draft)
     }
 
     /// A world equal to this one.

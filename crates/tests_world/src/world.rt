@@ -175,10 +175,19 @@ fn a_world_is_read(rt: HostRuntime) -> Result<(), Fail> {
     Ok(())
 }
 
+/// Whether a copy of a world is the same world, until it takes a step.
+fn is_copied(alloc: Global) -> Result<bool, Fail> {
+    let world = asked(alloc)?;
+    let mut copy = asked(alloc)?.copy()?;
+    let was_same = copy.is_same(&world);
+    let _ = take(&mut copy, &Step::Take(packet(true, 1, Msg::Abort)))?;
+    Ok(was_same && !copy.is_same(&world))
+}
+
 #[test]
 fn a_world_is_copied(rt: HostRuntime) -> Result<(), Fail> {
-    let world = asked(rt.alloc())?.copy()?;
-    assert!(rt; is_asked(&world));
+    let copied = is_copied(rt.alloc())?;
+    assert!(rt; copied);
     Ok(())
 }
 

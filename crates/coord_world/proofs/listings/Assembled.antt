@@ -12,7 +12,7 @@ use Rattle.coord_types.specs.NodeState.{NodeState, no_node}
 use Rattle.coord_types.specs.Table.{empty, entries, get}
 use Rattle.coord_types.proofs.Sets.{contains-empty, len-empty}
 use Rattle.coord_types.proofs.Tables as tables
-use Rattle.coord_types.proofs.Tables.{entries-from_sorted, get-empty, get-entries, get-from_sorted, option_map}
+use Rattle.coord_types.proofs.Tables.{entries-from_sorted, get-empty, get-from_sorted, option_map}
 use Rattle.coord_link.specs.LaneMachine.{Lane}
 use Rattle.coord_world.specs.Assembly.{assembled, client_entry, node_entry, state_of}
 use Rattle.coord_world.specs.NumberedWorld.{is_linked, pair_cmp, pair_cmp_total, row, state_or_none}
