@@ -17,6 +17,7 @@ use Rattle.coord_world.specs.Outputs.{again, outputs}
 use Rattle.coord_world.specs.Release.{IsReleased, ReleaseLaw, ResendLaw, TellsReleased, outputs_of}
 use Rattle.coord_world.specs.Trails.{IsSound}
 use Rattle.coord_world.proofs.Cases.{by_test}
+use Rattle.coord_world.proofs.lanes.Transit.{counts_cases}
 use Rattle.coord_world.proofs.release.StepOutputs.{front_from_step, outputs_front, receipt_from_step, outputs_receipt}
 use Rattle.coord_world.proofs.release.ResendList.{again_front, again_receipt, again_no_signal, front_again, receipt_again}
 use Rattle.coord_world.proofs.release.TakeablePackets.{IsDueReceipt, IsNextPacket, clearable_is_due, lane_found, takeable_is_next, lane_numbered}
@@ -130,7 +131,7 @@ module _ (settled : World) (ss : List Step) (sound : IsSound settled) (each : Ea
               made = subst (λ i. i ≤ settled.count) known.1 (sound.in_range.lanes p.from p.to l known.0).inc;
               past = λ k there same. let one = one_lane _ l k known.0 there in subst (λ z. p.number ≤ z.base) one (grind (arith, nat_tests, less));
             })))
-            (λ more _. elim (sound.legal.lanes p.from p.to l known.0) [
+            (λ more _. elim (counts_cases l (sound.legal.lanes p.from p.to l known.0)) [
               | inl idle ↦ absurd (grind (arith, nat_tests, more, within, idle))
               | inr taken ↦ record { at = record { lane = l; there = known.0; inc = known.1; number = grind (arith, nat_tests, more, within, taken.0) }; got = taken.0 }
             ])

@@ -16,6 +16,7 @@ use Rattle.coord_world.specs.Trails.{IsSound}
 use Rattle.coord_world.proofs.Cases.{by_test}
 use Rattle.coord_world.proofs.lists.KeyedLists.{each_entry}
 use Rattle.coord_world.proofs.lists.GetAfter.{same_pair}
+use Rattle.coord_world.proofs.lanes.Transit.{counts_cases}
 use Rattle.coord_world.proofs.release.Membership.{Contains-cons_cases, Contains-head, not_in_nil, Contains-one, Contains-flat_map_found, Contains-flat_map_entry, Contains-tail}
 use Rattle.coord_world.proofs.release.LaneFronts.{IsFront, IsFrontReceipt}
 use Rattle.coord_world.proofs.lists.TableEntries.{is_true}
@@ -115,7 +116,7 @@ receipt_again w p sound r = lane_again w (Receipted p) (p.from, p.to) l r.at.the
     l = r.at.lane
 
     of_queue : (q : List Msg) → l.queue ≡ q → Contains (again_by (p.from, p.to) l q) (Receipted p)
-    of_queue [] none = absurd (elim (sound.legal.lanes p.from p.to l r.at.there) [ inl idle ↦ omega (arith, idle, r.got) | inr taken ↦ taken.1 none ])
+    of_queue [] none = absurd (elim (counts_cases l (sound.legal.lanes p.from p.to l r.at.there)) [ inl idle ↦ omega (arith, idle, r.got) | inr taken ↦ taken.1 none ])
     of_queue (m ∷ ms) is =
         let front = front_packet (p.from, p.to) l m in
         let taken : is_front_taken l ≡ true = grind (arith, nat_tests, r.got) in

@@ -21,6 +21,7 @@ use Rattle.coord_world.specs.NumberedWorld.{World, pair_cmp, row}
 use Rattle.coord_world.specs.Outputs.{all_sent, front_packet, had_front, outputs, receipt, receipts, sent_by, signals}
 use Rattle.coord_world.specs.Trails.{IsSound}
 use Rattle.coord_world.proofs.Cases.{by_test}
+use Rattle.coord_world.proofs.lanes.Transit.{counts_cases}
 use Rattle.coord_world.proofs.release.ResendList.{entries_found, front_packet_is, all_sent-flat_map}
 use Rattle.coord_world.proofs.release.LaneAfterStep.{LaneStep, lane_step, lane_taken}
 use Rattle.coord_world.proofs.lists.GetAfter.{same_pair}
@@ -185,4 +186,4 @@ receipt_from_step w s p sound fresh r = by_step (lane_step w s p.from p.to)
         let same = one_lane _ (cleared k) at.lane e at.there in
         let got = ap (λ z. z.got) same in
         let base = ap (λ z. z.base) same in
-        absurd (elim (sound.legal.lanes p.from p.to k was) [ inl idle ↦ omega (arith, idle, got, base, r.got) | inr taken ↦ omega (arith, taken.0, got, base, r.got) ])
+        absurd (elim (counts_cases k (sound.legal.lanes p.from p.to k was)) [ inl idle ↦ omega (arith, idle, got, base, r.got) | inr taken ↦ omega (arith, taken.0, got, base, r.got) ])
