@@ -9,25 +9,21 @@
 //! (`NodeMask`) answers as the set of numbers does, its members in ascending order.
 #![tactic(auto)]
 
-mod client;
-mod group;
+mod identifiers;
 mod limits;
 mod messages;
-mod node_id;
 mod node_set;
 mod outputs;
 mod packets;
 mod refusals;
 mod steps;
 
-pub use client::Client;
-pub use group::Group;
+pub use identifiers::{Client, Group, Identifier, NodeId};
 pub use limits::{
     MAX_BATCH_BYTES, MAX_BATCH_STEPS, MAX_CLIENTS, MAX_DEGREE, MAX_GROUPS, MAX_LINE_BYTES,
     MAX_LINKS, MAX_NODES, MAX_PENDING, MAX_SNAPSHOT_BYTES, MAX_STEPS,
 };
 pub use messages::{Mode, Msg};
-pub use node_id::NodeId;
 pub use node_set::NodeSet;
 pub use outputs::Output;
 pub use packets::{DataPacket, Packet, ReceiptPacket};

@@ -4,7 +4,7 @@ ghost use Rattle.std.specs.Prelude.{◌≡◌, ◌↔◌, IsTrue};
 ghost use Rattle.coord_types.specs.NodeSet as set;
 ghost use Rattle.coord_types.specs.NodeMask.{nodes_of, mask_of, IsMaskable};
 
-use crate::node_id::NodeId;
+use crate::identifiers::NodeId;
 use std::marker::Model;
 
 /// A set of nodes, kept as a mask: node k is bit k - 1. Contracts see it as the set of their

@@ -1,6 +1,6 @@
 //! What a step gives out beside its reply.
 
-use crate::node_id::NodeId;
+use crate::identifiers::NodeId;
 use crate::packets::{DataPacket, ReceiptPacket};
 
 /// Something to be released once the step is settled.

@@ -1,7 +1,7 @@
 //! What travels between nodes.
 
+use crate::identifiers::NodeId;
 use crate::messages::Msg;
-use crate::node_id::NodeId;
 
 /// The front message of the lane from one node to another.
 #[derive(Clone, Copy, Debug, PartialEq, Eq)]

@@ -4,9 +4,7 @@ ghost use Rattle.std.specs.Prelude.{◌≡◌, Some};
 ghost use Rattle.coord_types.specs.Names.{kind_name};
 ghost use Rattle.coord_types.specs.StepRanges.{CommandInRange, StepInRange};
 
-use crate::client::Client;
-use crate::group::Group;
-use crate::node_id::NodeId;
+use crate::identifiers::{Client, Group, NodeId};
 use crate::packets::{DataPacket, ReceiptPacket};
 use std::fmt;
 

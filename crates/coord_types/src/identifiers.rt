@@ -1,0 +1,57 @@
+//! The numbers of nodes, groups and clients, each kept within its range by its type.
+
+ghost use Rattle.std.specs.Prelude.{◌≡◌, ◌≤◌, ◌↔◌, IsSome, IfSome};
+
+use crate::limits::{MAX_CLIENTS, MAX_GROUPS, MAX_NODES};
+use std::marker::Model;
+
+/// A number from 1 to `MOST`, by which a node, a group or a client is named. Contracts see it as
+/// that number.
+#[derive(Clone, Copy, Debug, PartialEq, Eq, PartialOrd, Ord)]
+pub struct Identifier<const MOST: u8> {
+    number: u8,
+}
+
+/// A node's number, from 1 to 64.
+pub type NodeId = Identifier<MAX_NODES>;
+
+/// A group's number, from 1 to 16. A link joins two nodes of one group.
+pub type Group = Identifier<MAX_GROUPS>;
+
+/// A client's number, from 1 to 16. Each client numbers its own orders from 1.
+pub type Client = Identifier<MAX_CLIENTS>;
+
+impl<const MOST: u8> Model for Identifier<MOST> {
+    ghost use Rattle.std.specs.Prelude.{ℕ, ◌≤◌};
+
+    ghost Value = { ℕ };
+
+    ghost view = { λ a. a.number };
+
+    ghost invariant = { λ a. (1 ≤ a.number) × (a.number ≤ MOST) };
+
+    ghost inverse = { λ n. record { number = n } };
+}
+
+impl<const MOST: u8> Identifier<MOST> {
+    /// The one with this number; None outside 1 to `MOST`.
+    pub fn new(number: u8) -> Option<Self>
+        ensures within { IsSome result ↔ ((1 ≤ number) × (number ≤ MOST)) }
+        ensures value { IfSome result (λ id. id ≡ number) }
+    {
+        if (1..=MOST).contains(&number) {
+            Some(Identifier { number })
+        } else {
+            None
+        }
+    }
+
+    /// Its number, from 1 to `MOST`.
+    pub fn number(self) -> u8
+        ensures value { result ≡ self.entry }
+        ensures least { 1 ≤ self.entry }
+        ensures greatest { self.entry ≤ MOST }
+    {
+        self.number
+    }
+}
