@@ -3,8 +3,8 @@ use Rattle.std.proofs.Common.{◌≡◌, ℕ, ◌+◌, true, false, Bool, List, 
 use Rattle.std.specs.Prelude.{IfSome, if◌then◌else◌}
 use Rattle.std.specs.List.{AllByRecursion, flat_map}
 use Rattle.coord_types.specs.Table.{has}
-use Rattle.coord_world.specs.NumberedWorld.{World, is_linked}
-use Rattle.coord_world.specs.Ranges.{InRange}
+use Rattle.coord_world.specs.protocol.NumberedWorld.{World, is_linked}
+use Rattle.coord_world.specs.protocol.Ranges.{InRange}
 use Rattle.coord_check.specs.declared.violation.Letter.{Letter}
 use Rattle.coord_check.specs.declared.violation.Letter.TheVariants as letter
 use Rattle.coord_check.specs.declared.violation.Violation.{Violation}
@@ -53,7 +53,7 @@ module _ (w : World) (range : InRange w) where
       all_append (Fails w) (end_faults w a b x) (end_faults w b a x) (end_fails a b is x) (end_fails b a (sym (range.mirrored a b) ∙ is) x)))
 
   node_fails : (u : ℕ) → AllByRecursion (Fails w) (node_faults w u)
-  node_fails u = all_where (Fails w) (has w.rows u) _ (λ there. all_told (Fails w) _ (record { a = u; b = u; letter = letter.N }) (λ fails. (refl, there, fails)))
+  node_fails u = all_where (Fails w) (has w.nodes u) _ (λ there. all_told (Fails w) _ (record { a = u; b = u; letter = letter.N }) (λ fails. (refl, there, fails)))
 
   all_fail : AllByRecursion (Fails w) (faults w)
   all_fail = all_append (Fails w) (flat_map (node_faults w) (nodes_from 1)) (flat_map (faults_from w) (nodes_from 1))

@@ -4,9 +4,9 @@ use Rattle.std.specs.List.{flat_map, range_with_len}
 use Rattle.std.proofs.lemmas.List.{drop_more}
 use Rattle.coord_types.specs.Table.{get}
 use Rattle.coord_link.specs.LaneMachine.{Lane, transit}
-use Rattle.coord_world.specs.Links.{link}
-use Rattle.coord_world.specs.NumberedWorld.{World, view, is_linked, transit_or_none}
-use Rattle.coord_world.specs.Parts.{lane_or_none}
+use Rattle.coord_world.specs.protocol.Links.{link}
+use Rattle.coord_world.specs.protocol.NumberedWorld.{World, view, is_linked, transit_or_none}
+use Rattle.coord_world.specs.protocol.Rows.{lane_or_none}
 use Rattle.coord_check.specs.declared.violation.Letter.{Letter}
 use Rattle.coord_check.specs.declared.violation.Letter.TheVariants as letter
 use Rattle.coord_check.specs.declared.violation.Violation.{Violation}

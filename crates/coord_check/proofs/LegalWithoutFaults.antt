@@ -4,11 +4,11 @@ use Rattle.std.specs.Prelude.{is_some, IsNone, if◌then◌else◌}
 use Rattle.std.specs.List.{flat_map}
 use Rattle.coord_types.specs.NodeState.{NodeState}
 use Rattle.coord_types.specs.Table.{get}
-use Rattle.coord_world.specs.Parts.{lane_or_none}
+use Rattle.coord_world.specs.protocol.Rows.{lane_or_none}
 use Rattle.coord_link.specs.LaneMachine.{Lane, has_front_taken_at_most}
-use Rattle.coord_world.specs.Legal.{Legal, is_legal_node}
-use Rattle.coord_world.specs.NumberedWorld.{World, is_linked, state_or_none}
-use Rattle.coord_world.specs.Ranges.{InRange}
+use Rattle.coord_world.specs.protocol.Legal.{Legal, is_legal_node}
+use Rattle.coord_world.specs.protocol.NumberedWorld.{World, is_linked, state_or_none}
+use Rattle.coord_world.specs.protocol.Ranges.{InRange}
 use Rattle.coord_check.specs.declared.violation.Letter.{Letter}
 use Rattle.coord_check.specs.declared.violation.Letter.TheVariants as letter
 use Rattle.coord_check.specs.declared.violation.Violation.{Violation}
@@ -30,7 +30,7 @@ module _ (w : World) (range : InRange w) where
 
   is_node : (u v : ℕ) → is_linked w u v ≡ true → (1 ≤ u) × (u ≤ 64)
   is_node u v is =
-      let found : (r : NodeState) × (get w.rows u ≡ Some r) = has_one (get w.rows u) (range.ends u v is) in
+      let found : (r : NodeState) × (get w.nodes u ≡ Some r) = has_one (get w.nodes u) (range.ends u v is) in
       let named = range.nodes u found.0 found.1 in
       (named.least, named.greatest)
 
@@ -58,7 +58,7 @@ module _ (w : World) (range : InRange w) where
           | inr (inr same) ↦ let e : is_linked w u u ≡ true = ap (is_linked w u) same ∙ is in let none = range.apart u in cc
         ]
 
-    node_holds : (u : ℕ) (r : NodeState) → get w.rows u ≡ Some r → is_legal_node w.count r ≡ true
+    node_holds : (u : ℕ) (r : NodeState) → get w.nodes u ≡ Some r → is_legal_node w.count r ≡ true
     node_holds u r is =
         let parts = both_empty (flat_map (node_faults w) (nodes_from 1)) (flat_map (faults_from w) (nodes_from 1)) clear in
         let named = range.nodes u r is in
@@ -102,9 +102,9 @@ module _ (w : World) (range : InRange w) where
         of_test false is = ap (λ t. if t then flat_map (letter_faults w a b) link_letters else []) is
 
     no_node_fault : (u : ℕ) → node_faults w u ≡ []
-    no_node_fault u = of_option (get w.rows u) refl
+    no_node_fault u = of_option (get w.nodes u) refl
       where
-        of_option : (o : Option NodeState) → get w.rows u ≡ o → node_told u o ≡ []
+        of_option : (o : Option NodeState) → get w.nodes u ≡ o → node_told u o ≡ []
         of_option None is = refl
         of_option (Some r) is = not_told _ _ (legal.nodes u r is)
 

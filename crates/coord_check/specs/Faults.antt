@@ -3,10 +3,10 @@ use Rattle.std.specs.Prelude.{◌≡◌, ℕ, ◌+◌, ◌-◌, Bool, true, fals
 use Rattle.std.specs.List.{flat_map, range_with_len}
 use Rattle.coord_types.specs.Table.{get, has}
 use Rattle.coord_link.specs.LaneMachine.{Lane, has_front_taken_at_most}
-use Rattle.coord_world.specs.Legal.{is_legal_node}
-use Rattle.coord_world.specs.Links.{Link, link, has_ack_in_one_place, has_one_ready_at_most, has_readies_first, has_ready_for_child, has_one_parent_at_most, has_no_early_ready}
-use Rattle.coord_world.specs.NumberedWorld.{World, view, row, is_linked}
-use Rattle.coord_world.specs.Parts.{lane_or_none}
+use Rattle.coord_world.specs.protocol.Legal.{is_legal_node}
+use Rattle.coord_world.specs.protocol.Links.{Link, link, has_ack_in_one_place, has_one_ready_at_most, has_readies_first, has_ready_for_child, has_one_parent_at_most, has_no_early_ready}
+use Rattle.coord_world.specs.protocol.NumberedWorld.{World, view, state, is_linked}
+use Rattle.coord_world.specs.protocol.Rows.{lane_or_none}
 use Rattle.coord_check.specs.declared.violation.Letter.{Letter}
 use Rattle.coord_check.specs.declared.violation.Letter.TheVariants as letter
 use Rattle.coord_check.specs.declared.violation.Violation.{Violation}
@@ -28,7 +28,7 @@ link_holds w u v x = holds_of x (lane_or_none (get w.lanes (u, v))) (link (view 
 
 -- the letter that a violation names fails: N at a node that is there, any other letter at a link that is there
 abbrev pub FailsAt : World → ℕ → ℕ → Letter → Type 0
-FailsAt w u v letter.N = (u ≡ v) × (has w.rows u ≡ true) × (is_legal_node w.count (row w u) ≡ false)
+FailsAt w u v letter.N = (u ≡ v) × (has w.nodes u ≡ true) × (is_legal_node w.count (state w u) ≡ false)
 FailsAt w u v x = (is_linked w u v ≡ true) × (link_holds w u v x ≡ false)
 
 abbrev pub Fails : World → Violation → Type 0
@@ -48,7 +48,7 @@ told b v = if b then [] else v ∷ []
 
 -- a node is named twice
 abbrev pub node_faults : World → ℕ → List Violation
-node_faults w u = if has w.rows u then told (is_legal_node w.count (row w u)) (record { a = u; b = u; letter = letter.N }) else []
+node_faults w u = if has w.nodes u then told (is_legal_node w.count (state w u)) (record { a = u; b = u; letter = letter.N }) else []
 
 abbrev pub end_faults : World → ℕ → ℕ → Letter → List Violation
 end_faults w u v x = told (link_holds w u v x) (record { a = u; b = v; letter = x })

@@ -6,9 +6,9 @@ use Rattle.coord_types.specs.declared.messages.Msg.{Msg}
 use Rattle.coord_types.specs.declared.messages.Msg.TheVariants as msg
 use Rattle.coord_link.specs.LaneMachine.{transit}
 use Rattle.coord_node.specs.Rules.{is_parent}
-use Rattle.coord_world.specs.Links.{End, Link, aborts, acks, readies}
-use Rattle.coord_world.specs.NumberedWorld.{World, row}
-use Rattle.coord_world.specs.Parts.{lane_or_none}
+use Rattle.coord_world.specs.protocol.Links.{End, Link, aborts, acks, readies}
+use Rattle.coord_world.specs.protocol.NumberedWorld.{World, state}
+use Rattle.coord_world.specs.protocol.Rows.{lane_or_none}
 use Rattle.coord_check.specs.declared.side.Side.{Side}
 
 -- how many messages of a kind there are
@@ -20,9 +20,9 @@ count msg.Ready ms = readies ms
 -- u's end of its link to v
 abbrev pub side : World → ℕ → ℕ → Side
 side w u v = record {
-  mode = (row w u).mode;
-  awaits = set.contains (row w u).pend v;
-  child = is_parent (row w u).parent v;
+  mode = (state w u).mode;
+  awaits = set.contains (state w u).pend v;
+  child = is_parent (state w u).parent v;
   lane = lane_or_none (get w.lanes (u, v));
 }
 

@@ -2,7 +2,7 @@
 
 ghost use Rattle.std.specs.Prelude.{◌≡◌};
 ghost use Rattle.coord_link.specs.LaneMachine.{has_front_taken_at_most};
-ghost use Rattle.coord_world.specs.Links.{has_ack_in_one_place, has_no_early_ready, has_ready_for_child};
+ghost use Rattle.coord_world.specs.protocol.Links.{has_ack_in_one_place, has_no_early_ready, has_ready_for_child};
 ghost use Rattle.coord_check.specs.Faults.{holds_of};
 ghost use Rattle.coord_check.specs.Sides.{seen};
 

@@ -2,8 +2,8 @@
 
 ghost use Rattle.std.specs.Prelude.{◌≡◌, ◌↔◌, IsNone, IfSome};
 ghost use Rattle.std.specs.List.{flat_map};
-ghost use Rattle.coord_world.specs.Legal.{Legal};
-ghost use Rattle.coord_world.specs.Ranges.{InRange};
+ghost use Rattle.coord_world.specs.protocol.Legal.{Legal};
+ghost use Rattle.coord_world.specs.protocol.Ranges.{InRange};
 ghost use Rattle.coord_check.specs.Faults.{Fails, faults, first, link_faults, faults_from, node_faults, nodes_from};
 
 use crate::letters::holds;

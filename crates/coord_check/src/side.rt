@@ -1,8 +1,8 @@
 //! One end of a link.
 
 ghost use Rattle.std.specs.Prelude.{◌≡◌, IfSome, is_some};
-ghost use Rattle.coord_world.specs.NumberedWorld.{is_linked};
-ghost use Rattle.coord_world.specs.Ranges.{InRange};
+ghost use Rattle.coord_world.specs.protocol.NumberedWorld.{is_linked};
+ghost use Rattle.coord_world.specs.protocol.Ranges.{InRange};
 ghost use Rattle.coord_check.specs.Sides.{side};
 
 use coord_link::Lane;

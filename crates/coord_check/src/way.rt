@@ -1,7 +1,7 @@
 //! What is on the way on a lane, counted.
 
 ghost use Rattle.std.specs.Prelude.{◌≡◌};
-ghost use Rattle.coord_world.specs.Links.{readies_behind};
+ghost use Rattle.coord_world.specs.protocol.Links.{readies_behind};
 ghost use Rattle.coord_check.specs.Sides.{count};
 
 use coord_types::Msg;

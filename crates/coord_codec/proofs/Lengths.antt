@@ -4,11 +4,11 @@ use Rattle.std.specs.Int.{w64, to_be_bytes}
 use Rattle.std.specs.List.{flat_map}
 use Rattle.std.proofs.lemmas.List.Concat.{flat_map-cons}
 use Rattle.coord_types.specs.declared.messages.Msg.{Msg}
-use Rattle.coord_world.specs.Parts.{LinkRowFits, NodeRowFits, Rows, RowsFit}
-use Rattle.coord_world.specs.Ranges.{SessionInRange}
-use Rattle.coord_world.specs.declared.parts.NodeRow.{NodeRow}
-use Rattle.coord_world.specs.declared.parts.LinkRow.{LinkRow}
-use Rattle.coord_world.specs.declared.parts.ClientRow.{ClientRow}
+use Rattle.coord_world.specs.protocol.Rows.{LinkRowFits, NodeRowFits, Rows, RowsFit}
+use Rattle.coord_world.specs.protocol.Ranges.{SessionInRange}
+use Rattle.coord_world.specs.declared.rows.parts.NodeRow.{NodeRow}
+use Rattle.coord_world.specs.declared.rows.parts.LinkRow.{LinkRow}
+use Rattle.coord_world.specs.declared.rows.parts.ClientRow.{ClientRow}
 use Rattle.coord_batch.specs.Fields.{at_most, client, from_one_to, group, how_many, message, node}
 use Rattle.coord_batch.specs.Steps.{command}
 use Rattle.coord_batch.proofs.Lengths.{length-command, length-flat_map_most, length-message}

@@ -1,7 +1,7 @@
 -- The laws of the spellings of worlds, from those of any grammar.
-use Rattle.coord_world.specs.NumberedWorld.{World}
-use Rattle.coord_world.specs.Parts.{rows_of}
-use Rattle.coord_world.specs.Ranges.{InRange}
+use Rattle.coord_world.specs.protocol.NumberedWorld.{World}
+use Rattle.coord_world.specs.protocol.Rows.{rows_of}
+use Rattle.coord_world.specs.protocol.Ranges.{InRange}
 use Rattle.coord_world.proofs.Facade.{rows_give_world, rows_of_world_fit}
 use Rattle.coord_batch.proofs.Grammars.{prefix_free}
 use Rattle.coord_batch.proofs.SpellingLaws.{cut_short, more_extra}

@@ -4,10 +4,10 @@ use Rattle.coord_types.specs.NodeMask.{nodes_of, mask_of}
 use Rattle.coord_types.specs.NodeState.{mode_from, mode_number}
 use Rattle.coord_types.specs.declared.steps.Command.{Command}
 use Rattle.coord_types.proofs.Masks.{mask_back}
-use Rattle.coord_world.specs.Ranges.{answers}
-use Rattle.coord_world.specs.declared.parts.NodeRow.{NodeRow}
-use Rattle.coord_world.specs.declared.parts.LinkRow.{LinkRow}
-use Rattle.coord_world.specs.declared.parts.ClientRow.{ClientRow}
+use Rattle.coord_world.specs.protocol.Ranges.{answers}
+use Rattle.coord_world.specs.declared.rows.parts.NodeRow.{NodeRow}
+use Rattle.coord_world.specs.declared.rows.parts.LinkRow.{LinkRow}
+use Rattle.coord_world.specs.declared.rows.parts.ClientRow.{ClientRow}
 use Rattle.coord_batch.specs.Format.{byte, u64, such_that}
 use Rattle.coord_batch.specs.Fields.{node, client, message}
 use Rattle.coord_codec.specs.Worlds.{can_link, client_row, clients, ends, first_rises, kind, kind_from, kind_number, lane, last_by, link_row, links, mask, mode, node_row, nodes, parent, parent_from, parent_number, queue, second_rises, world}

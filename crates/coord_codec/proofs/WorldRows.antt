@@ -16,12 +16,12 @@ use Rattle.coord_types.specs.declared.steps.Kind.{Kind}
 use Rattle.coord_types.specs.declared.steps.Kind.TheVariants as kinds
 use Rattle.coord_types.proofs.Masks.{maskable_nodes, mask_below, nodes_back}
 use Rattle.coord_link.specs.LaneMachine.{Lane}
-use Rattle.coord_world.specs.NumberedWorld.{pair_cmp, pair_cmp_total}
-use Rattle.coord_world.specs.Ranges.{IsNode, LaneInRange, SessionInRange, answers}
-use Rattle.coord_world.specs.Parts.{LinkRowFits, NodeRowFits, Rows, RowsFit, by_client, by_ends, by_id, degree, group_in, group_of, is_end}
-use Rattle.coord_world.specs.declared.parts.NodeRow.{NodeRow}
-use Rattle.coord_world.specs.declared.parts.LinkRow.{LinkRow}
-use Rattle.coord_world.specs.declared.parts.ClientRow.{ClientRow}
+use Rattle.coord_world.specs.protocol.NumberedWorld.{pair_cmp, pair_cmp_total}
+use Rattle.coord_world.specs.protocol.Ranges.{IsNode, LaneInRange, SessionInRange, answers}
+use Rattle.coord_world.specs.protocol.Rows.{LinkRowFits, NodeRowFits, Rows, RowsFit, by_client, by_ends, by_id, degree, group_in, group_of, is_end}
+use Rattle.coord_world.specs.declared.rows.parts.NodeRow.{NodeRow}
+use Rattle.coord_world.specs.declared.rows.parts.LinkRow.{LinkRow}
+use Rattle.coord_world.specs.declared.rows.parts.ClientRow.{ClientRow}
 use Rattle.coord_world.proofs.Facade.{all_weaker}
 use Rattle.coord_batch.specs.Fields.{message}
 use Rattle.coord_batch.specs.Format.{FitBehind}

@@ -1,7 +1,7 @@
 -- How the parts of a world are spelled, whatever else is asked of them.
 use Rattle.std.proofs.Common.{◌≡◌, [], ◌++◌, refl}
 use Rattle.std.specs.Int.{w64, to_be_bytes}
-use Rattle.coord_world.specs.Parts.{Rows}
+use Rattle.coord_world.specs.protocol.Rows.{Rows}
 use Rattle.coord_batch.specs.Fields.{at_most, from_one_to}
 use Rattle.coord_codec.specs.Worlds.{client_row, clients, ends, lane, link_row, links, node_row, nodes, world}
 

@@ -9,11 +9,11 @@ use Rattle.coord_types.specs.declared.steps.Command.{Command}
 use Rattle.coord_types.specs.declared.steps.Kind.{Kind}
 use Rattle.coord_types.specs.declared.steps.Kind.TheVariants as kinds
 use Rattle.coord_link.specs.LaneMachine.{Lane}
-use Rattle.coord_world.specs.Ranges.{answers}
-use Rattle.coord_world.specs.Parts.{Rows, group_of, degree}
-use Rattle.coord_world.specs.declared.parts.NodeRow.{NodeRow}
-use Rattle.coord_world.specs.declared.parts.LinkRow.{LinkRow}
-use Rattle.coord_world.specs.declared.parts.ClientRow.{ClientRow}
+use Rattle.coord_world.specs.protocol.Ranges.{answers}
+use Rattle.coord_world.specs.protocol.Rows.{Rows, group_of, degree}
+use Rattle.coord_world.specs.declared.rows.parts.NodeRow.{NodeRow}
+use Rattle.coord_world.specs.declared.rows.parts.LinkRow.{LinkRow}
+use Rattle.coord_world.specs.declared.rows.parts.ClientRow.{ClientRow}
 use Rattle.coord_batch.specs.Format.{Format, byte, u64, such_that, followed, ◌&◌, made, counted}
 use Rattle.coord_batch.specs.Fields.{node, group, client, message, at_most, from_one_to, how_many}
 use Rattle.coord_batch.specs.Steps.{command}

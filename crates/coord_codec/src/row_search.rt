@@ -2,7 +2,7 @@
 
 ghost use Rattle.std.specs.Prelude.{◌≡◌, ◌≤◌, length};
 ghost use Rattle.std.specs.Option.{option_copied};
-ghost use Rattle.coord_world.specs.Parts.{degree, group_of};
+ghost use Rattle.coord_world.specs.protocol.Rows.{degree, group_of};
 ghost use Rattle.coord_codec.specs.Worlds.{can_link, first_rises, last_by, last_ends, second_rises};
 
 use coord_types::{Group, MAX_DEGREE, NodeId};

@@ -1,9 +1,9 @@
 //! Worlds as bytes.
 
 ghost use Rattle.std.specs.Prelude.{◌≡◌, ◌↔◌, ◌≤◌, ◌++◌, length, Ok, Err, IfOk, OnOk};
-ghost use Rattle.coord_world.specs.NumberedWorld.{World as Numbered};
-ghost use Rattle.coord_world.specs.Parts.{RowsFit, listed, rows_of};
-ghost use Rattle.coord_world.specs.Ranges.{InRange};
+ghost use Rattle.coord_world.specs.protocol.NumberedWorld.{World as Numbered};
+ghost use Rattle.coord_world.specs.protocol.Rows.{RowsFit, listed, rows_of};
+ghost use Rattle.coord_world.specs.protocol.Ranges.{InRange};
 ghost use Rattle.coord_batch.specs.Decoding.{Answers, bad_version, decoded};
 ghost use Rattle.coord_codec.specs.Worlds.{world};
 

@@ -5,7 +5,7 @@ ghost use Rattle.coord_batch.specs.Format.{items_at};
 ghost use Rattle.coord_batch.specs.Fields.{message};
 ghost use Rattle.coord_batch.specs.Reading.{Reads};
 ghost use Rattle.coord_codec.specs.Worlds.{client_row, clients, content_of_lane, ends, kind, lane, link_row, links, mask, mode, node_row, nodes, parent, queue, world};
-ghost use Rattle.coord_world.specs.Parts.{listed};
+ghost use Rattle.coord_world.specs.protocol.Rows.{listed};
 
 use crate::row_search::{can_link, first_rises, last_client, last_node, second_rises};
 use coord_batch::{Input, ReadError};

@@ -4,7 +4,7 @@ use Rattle.std.specs.Io.KnownBytes.{Appends, Consumes}
 use Rattle.std.proofs.KnownBytes.{Consumes-trans}
 use Rattle.coord_lines.specs.Lines.{Line, extended, lines_on, before_line_feed, behind_line_feed, IsWithin}
 use Rattle.coord_lines.proofs.LinesOn.{lines_on-ended, lines_on-unended, extended-nothing}
-use Rattle.coord_world.specs.NumberedWorld.{World}
+use Rattle.coord_world.specs.protocol.NumberedWorld.{World}
 use Rattle.coord_drill.specs.declared.fault.Fault.{Fault}
 use Rattle.coord_drill.specs.declared.fault.Fault.TheVariants.{TooManyReads}
 use Rattle.coord_drill.specs.Drilled.{line_response, after_line, printed_to, IsOfWriting, WritesFirstPart}

@@ -12,10 +12,10 @@ use Rattle.coord_types.specs.declared.outputs.Output.{Output}
 use Rattle.coord_link.specs.LaneMachine.{Lane}
 use Rattle.coord_world.specs.declared.verdicts.Verdict.{Verdict}
 use Rattle.coord_world.specs.declared.verdicts.Verdict.TheVariants.{Fresh, Repeat}
-use Rattle.coord_world.specs.NumberedWorld.{World}
-use Rattle.coord_world.specs.Next.{next, reply}
-use Rattle.coord_world.specs.Acceptance.{accepts, last_number}
-use Rattle.coord_world.specs.Outputs.{outputs, again, receipt, front_packet}
+use Rattle.coord_world.specs.protocol.NumberedWorld.{World}
+use Rattle.coord_world.specs.protocol.Next.{next, reply}
+use Rattle.coord_world.specs.protocol.Acceptance.{accepts, last_number}
+use Rattle.coord_world.specs.protocol.Outputs.{outputs, again, receipt, front_packet}
 use Rattle.coord_check.specs.Faults.{first, faults}
 use Rattle.coord_check.specs.declared.violation.Violation.{Violation}
 use Rattle.coord_drill.specs.declared.request.Request.{Request}

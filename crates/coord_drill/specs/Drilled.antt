@@ -3,7 +3,7 @@ use Rattle.std.specs.Prelude.{◌≡◌, ◌⊎◌, ℕ, ◌+◌, ◌==◌, Bool
 use Rattle.std.specs.Io.KnownBytes.{Appends}
 use Rattle.std.specs.Str.{is_utf8}
 use Rattle.coord_lines.specs.Lines.{Line, lines_of}
-use Rattle.coord_world.specs.NumberedWorld.{World, no_world}
+use Rattle.coord_world.specs.protocol.NumberedWorld.{World, no_world}
 use Rattle.coord_drill.specs.declared.request.Request.{Request}
 use Rattle.coord_drill.specs.declared.fault.Fault.{Fault}
 use Rattle.coord_drill.specs.declared.fault.Fault.TheVariants.{Write, OutOfMemory}

@@ -6,7 +6,7 @@ use Rattle.coord_types.specs.declared.steps.Reply.{Reply}
 use Rattle.coord_types.specs.declared.refusals.Refusal.{Refusal}
 use Rattle.coord_types.specs.declared.outputs.Output.{Output}
 use Rattle.coord_types.specs.declared.outputs.Output.TheVariants.{Receipted, Signalled, Sent}
-use Rattle.coord_world.specs.NumberedWorld.{World}
+use Rattle.coord_world.specs.protocol.NumberedWorld.{World}
 use Rattle.coord_check.specs.Names.{letter_name}
 use Rattle.coord_check.specs.declared.violation.Violation.{Violation}
 use Rattle.coord_drill.specs.declared.request.Request.{Request}

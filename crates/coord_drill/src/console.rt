@@ -3,7 +3,7 @@
 ghost use Rattle.std.specs.Prelude.{◌≡◌, ◌++◌, ◌<◌, ◌≤◌, ◌+◌, ◌-◌, ◌^◌, ℕ, List, [], OnOk, OnErr, IfErr, IfSome, Some, length, string_bytes};
 ghost use Rattle.std.specs.Io.KnownBytes.{Appends, Consumes, IsAtEnd};
 ghost use Rattle.coord_lines.specs.Lines.{lines_on, IsWithin};
-ghost use Rattle.coord_world.specs.NumberedWorld.{no_world};
+ghost use Rattle.coord_world.specs.protocol.NumberedWorld.{no_world};
 ghost use Rattle.coord_drill.specs.Printed.{response_to, after_response};
 ghost use Rattle.coord_drill.specs.Drilled.{is_skipped, line_response, after_line, printed_to, drilled, IsOfWriting, WritesFirstPart};
 ghost use Rattle.coord_drill.specs.declared.fault.Fault.TheVariants.{TooManyReads};

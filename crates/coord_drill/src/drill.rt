@@ -1,9 +1,9 @@
 //! A drill: one world, in which each step is settled at once.
 
 ghost use Rattle.std.specs.Prelude.{◌≡◌, IfOk, OnOk, OnErr};
-ghost use Rattle.coord_world.specs.NumberedWorld.{no_world};
-ghost use Rattle.coord_world.specs.Legal.{Legal};
-ghost use Rattle.coord_world.specs.Outputs.{receipt};
+ghost use Rattle.coord_world.specs.protocol.NumberedWorld.{no_world};
+ghost use Rattle.coord_world.specs.protocol.Legal.{Legal};
+ghost use Rattle.coord_world.specs.protocol.Outputs.{receipt};
 ghost use Rattle.coord_drill.specs.Drill.{front, operator, next_number, asked, after, after_step, said, said_to, said_to_step};
 
 use crate::answer::Answer;
@@ -21,8 +21,8 @@ pub struct Drill {
 }
 
 impl Model for Drill {
-    ghost use Rattle.coord_world.specs.NumberedWorld.{World as Numbered, world_code};
-    ghost use Rattle.coord_world.specs.Legal.{Legal};
+    ghost use Rattle.coord_world.specs.protocol.NumberedWorld.{World as Numbered, world_code};
+    ghost use Rattle.coord_world.specs.protocol.Legal.{Legal};
 
     ghost Value = { Numbered };
 

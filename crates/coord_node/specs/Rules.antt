@@ -9,8 +9,8 @@ use Rattle.coord_types.specs.declared.messages.Msg.{Msg}
 use Rattle.coord_types.specs.declared.messages.Msg.TheVariants as msg
 
 -- what a rule does at a node: its new state, one message to each of a set of nodes, and whether it finished
-pub record Deed : Type 0 where
-  pub row : NodeState
+pub record Transition : Type 0 where
+  pub state : NodeState
   pub message : Msg
   pub to : NodeSet
   pub finished : Bool
@@ -26,59 +26,59 @@ without_parent s None = s
 without_parent s (Some p) = set.remove s p
 
 -- what it sends, in ascending order of the nodes
-abbrev pub sends_of : Deed → List (ℕ × Msg)
+abbrev pub sends_of : Transition → List (ℕ × Msg)
 sends_of d = map (λ x. (x, d.message)) (set.items d.to)
 
 -- nothing is sent
-abbrev pub idle : NodeState → Deed
-idle r = record { row = r; message = msg.Ack; to = set.empty; finished = false }
+abbrev pub idle : NodeState → Transition
+idle r = record { state = r; message = msg.Ack; to = set.empty; finished = false }
 
 -- Ready goes to every neighbour but the parent, and the node enters its next epoch
-abbrev pub finish : NodeState → Deed
+abbrev pub finish : NodeState → Transition
 finish r = record {
-  row = record r { mode = Ready; parent = None; epoch = r.epoch + 1 };
+  state = record r { mode = Ready; parent = None; epoch = r.epoch + 1 };
   message = msg.Ready;
   to = without_parent r.neighbours r.parent;
   finished = true;
 }
 
 -- a node that was Ready passes the wave on, and waits for those that it goes to
-abbrev pub wave_on : NodeState → Option ℕ → NodeSet → Deed
-wave_on r parent others = record { row = record r { mode = Abort; parent = parent; pend = others }; message = msg.Abort; to = others; finished = false }
+abbrev pub wave_on : NodeState → Option ℕ → NodeSet → Transition
+wave_on r parent others = record { state = record r { mode = Abort; parent = parent; pend = others }; message = msg.Abort; to = others; finished = false }
 
 -- a node that was Ready has nobody to pass the wave on to
-abbrev pub wave_back : NodeState → ℕ → Deed
-wave_back r v = record { row = record r { mode = Converge; parent = Some v }; message = msg.Ack; to = only v; finished = false }
+abbrev pub wave_back : NodeState → ℕ → Transition
+wave_back r v = record { state = record r { mode = Converge; parent = Some v }; message = msg.Ack; to = only v; finished = false }
 
 -- the state stays, and v is answered
-abbrev pub answer : NodeState → ℕ → Deed
-answer r v = record { row = r; message = msg.Ack; to = only v; finished = false }
+abbrev pub answer : NodeState → ℕ → Transition
+answer r v = record { state = r; message = msg.Ack; to = only v; finished = false }
 
 -- a reset is asked for
-abbrev pub request_in : Mode → NodeState → Deed
+abbrev pub request_in : Mode → NodeState → Transition
 request_in Ready r = if is_empty r.neighbours then finish r else wave_on r None r.neighbours
 request_in Abort r = idle r
 request_in Converge r = idle r
 
-abbrev pub request : NodeState → Deed
+abbrev pub request : NodeState → Transition
 request r = request_in r.mode r
 
 -- Abort comes from v
-abbrev pub on_abort_in : Mode → NodeState → ℕ → Deed
+abbrev pub on_abort_in : Mode → NodeState → ℕ → Transition
 on_abort_in Ready r v = if is_empty (set.remove r.neighbours v) then wave_back r v else wave_on r (Some v) (set.remove r.neighbours v)
 on_abort_in Abort r v = answer r v
 on_abort_in Converge r v = answer r v
 
-abbrev pub on_abort : NodeState → ℕ → Deed
+abbrev pub on_abort : NodeState → ℕ → Transition
 on_abort r v = on_abort_in r.mode r v
 
 -- the last acknowledgement that was awaited has come: the initiator finishes, any other node acknowledges to its parent
-abbrev pub acknowledged : NodeState → Option ℕ → Deed
+abbrev pub acknowledged : NodeState → Option ℕ → Transition
 acknowledged r None = finish r
 acknowledged r (Some p) = answer (record r { mode = Converge }) p
 
 -- Ack comes from v
-abbrev pub on_ack : NodeState → ℕ → Deed
+abbrev pub on_ack : NodeState → ℕ → Transition
 on_ack r v =
     let rest = set.remove r.pend v in
     let s : NodeState = record r { pend = rest } in
@@ -91,19 +91,19 @@ is_parent None v = false
 is_parent (Some p) v = p == v
 
 -- Ready comes from v
-abbrev pub on_ready_in : Mode → NodeState → ℕ → Deed
+abbrev pub on_ready_in : Mode → NodeState → ℕ → Transition
 on_ready_in Converge r v = if is_parent r.parent v then finish r else idle r
 on_ready_in Ready r v = idle r
 on_ready_in Abort r v = idle r
 
-abbrev pub on_ready : NodeState → ℕ → Deed
+abbrev pub on_ready : NodeState → ℕ → Transition
 on_ready r v = on_ready_in r.mode r v
 
 -- a message comes from v
-abbrev pub deed : Msg → NodeState → ℕ → Deed
-deed msg.Abort r v = on_abort r v
-deed msg.Ack r v = on_ack r v
-deed msg.Ready r v = on_ready r v
+abbrev pub transition : Msg → NodeState → ℕ → Transition
+transition msg.Abort r v = on_abort r v
+transition msg.Ack r v = on_ack r v
+transition msg.Ready r v = on_ready r v
 
 abbrev pub without : Option ℕ → ℕ → Option ℕ
 without None v = None
@@ -114,12 +114,12 @@ abbrev pub with_neighbour : NodeState → ℕ → NodeState
 with_neighbour r v = record r { neighbours = set.insert r.neighbours v }
 
 -- the link to v vanishes: the state s without it, whether v was awaited, and whether it was the parent
-abbrev pub lost_in : Mode → NodeState → Bool → Bool → Deed
+abbrev pub lost_in : Mode → NodeState → Bool → Bool → Transition
 lost_in Ready s awaited child = idle s
 lost_in Abort s awaited child = if awaited && is_empty s.pend then acknowledged s s.parent else idle s
 lost_in Converge s awaited child = if child then finish s else idle s
 
-abbrev pub lost : NodeState → ℕ → Deed
+abbrev pub lost : NodeState → ℕ → Transition
 lost r v =
     lost_in r.mode (record r { parent = without r.parent v; pend = set.remove r.pend v; neighbours = set.remove r.neighbours v })
     (set.contains r.pend v) (is_parent r.parent v)

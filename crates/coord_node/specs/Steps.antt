@@ -9,21 +9,21 @@ use Rattle.coord_types.specs.declared.steps.Step.{Step}
 use Rattle.coord_types.specs.declared.steps.Step.TheVariants.{Order, Take, Clear}
 use Rattle.coord_types.specs.declared.steps.Kind.{Kind}
 use Rattle.coord_types.specs.declared.steps.Kind.TheVariants.{Done, Started, Finished, Joined, Taken, Cleared}
-use Rattle.coord_node.specs.Rules.{Deed, deed, request, lost, is_empty}
+use Rattle.coord_node.specs.Rules.{Transition, transition, request, lost, is_empty}
 
--- the deeds of a command, in order: a Drop is one step for both ends, first a, then b
-abbrev pub deeds_ordered : (ℕ → NodeState) → Command → List (ℕ × Deed)
-deeds_ordered rows (Add u g) = []
-deeds_ordered rows (Remove u) = []
-deeds_ordered rows (Join a b) = []
-deeds_ordered rows (Drop a b) = (a, lost (rows a) b) ∷ (b, lost (rows b) a) ∷ []
-deeds_ordered rows (Reset u) = (u, request (rows u)) ∷ []
-deeds_ordered rows (Confirm u e) = []
+-- the transitions of a command, in order: a Drop is one step for both ends, first a, then b
+abbrev pub transitions_ordered : (ℕ → NodeState) → Command → List (ℕ × Transition)
+transitions_ordered states (Add u g) = []
+transitions_ordered states (Remove u) = []
+transitions_ordered states (Join a b) = []
+transitions_ordered states (Drop a b) = (a, lost (states a) b) ∷ (b, lost (states b) a) ∷ []
+transitions_ordered states (Reset u) = (u, request (states u)) ∷ []
+transitions_ordered states (Confirm u e) = []
 
-abbrev pub deeds : (ℕ → NodeState) → Step → List (ℕ × Deed)
-deeds rows (Order c n x) = deeds_ordered rows x
-deeds rows (Take p) = (p.to, deed p.msg (rows p.to) p.from) ∷ []
-deeds rows (Clear p) = []
+abbrev pub transitions : (ℕ → NodeState) → Step → List (ℕ × Transition)
+transitions states (Order c n x) = transitions_ordered states x
+transitions states (Take p) = (p.to, transition p.msg (states p.to) p.from) ∷ []
+transitions states (Clear p) = []
 
 abbrev pub kind_of_request : Mode → NodeState → Kind
 kind_of_request mode.Ready r = if is_empty r.neighbours then Finished else Started
@@ -31,15 +31,15 @@ kind_of_request mode.Abort r = Joined
 kind_of_request mode.Converge r = Joined
 
 abbrev pub kind_ordered : (ℕ → NodeState) → Command → Kind
-kind_ordered rows (Add u g) = Done
-kind_ordered rows (Remove u) = Done
-kind_ordered rows (Join a b) = Done
-kind_ordered rows (Drop a b) = Done
-kind_ordered rows (Reset u) = kind_of_request (rows u).mode (rows u)
-kind_ordered rows (Confirm u e) = Done
+kind_ordered states (Add u g) = Done
+kind_ordered states (Remove u) = Done
+kind_ordered states (Join a b) = Done
+kind_ordered states (Drop a b) = Done
+kind_ordered states (Reset u) = kind_of_request (states u).mode (states u)
+kind_ordered states (Confirm u e) = Done
 
 -- what became of a step
 abbrev pub kind : (ℕ → NodeState) → Step → Kind
-kind rows (Order c n x) = kind_ordered rows x
-kind rows (Take p) = Taken
-kind rows (Clear p) = Cleared
+kind states (Order c n x) = kind_ordered states x
+kind states (Take p) = Taken
+kind states (Clear p) = Cleared

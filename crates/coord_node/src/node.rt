@@ -157,7 +157,7 @@ impl Node {
     #[tactic(auto, using(coord_types::proofs::Sets::listed))]
     pub fn request(&mut self, alloc: Global) -> Result<Deed, AllocError>
         requires { self.old.epoch < 2 ^ 64 - 1 }
-        ensures row { OnOk result (self.new ≡ (request self.old).row) }
+        ensures state { OnOk result (self.new ≡ (request self.old).state) }
         ensures sends { IfOk result (λ d. d.sends.items ≡ sends_of (request self.old)) }
         ensures finished { IfOk result (λ d. d.finished ≡ (request self.old).finished) }
         ensures err { OnErr result (self.new ≡ self.old) }
@@ -175,7 +175,7 @@ impl Node {
     /// An Abort comes from a neighbour.
     #[tactic(auto, using(coord_types::proofs::Sets::listed))]
     pub fn on_abort(&mut self, alloc: Global, from: NodeId) -> Result<Deed, AllocError>
-        ensures row { OnOk result (self.new ≡ (on_abort self.old from).row) }
+        ensures state { OnOk result (self.new ≡ (on_abort self.old from).state) }
         ensures sends { IfOk result (λ d. d.sends.items ≡ sends_of (on_abort self.old from)) }
         ensures finished { IfOk result (λ d. d.finished ≡ (on_abort self.old from).finished) }
         ensures err { OnErr result (self.new ≡ self.old) }
@@ -197,7 +197,7 @@ impl Node {
     #[tactic(auto, using(coord_types::proofs::Sets::listed))]
     pub fn on_ack(&mut self, alloc: Global, from: NodeId) -> Result<Deed, AllocError>
         requires { self.old.epoch < 2 ^ 64 - 1 }
-        ensures row { OnOk result (self.new ≡ (on_ack self.old from).row) }
+        ensures state { OnOk result (self.new ≡ (on_ack self.old from).state) }
         ensures sends { IfOk result (λ d. d.sends.items ≡ sends_of (on_ack self.old from)) }
         ensures finished { IfOk result (λ d. d.finished ≡ (on_ack self.old from).finished) }
         ensures err { OnErr result (self.new ≡ self.old) }
@@ -220,7 +220,7 @@ impl Node {
     #[tactic(auto, using(coord_types::proofs::Sets::listed))]
     pub fn on_ready(&mut self, alloc: Global, from: NodeId) -> Result<Deed, AllocError>
         requires { self.old.epoch < 2 ^ 64 - 1 }
-        ensures row { OnOk result (self.new ≡ (on_ready self.old from).row) }
+        ensures state { OnOk result (self.new ≡ (on_ready self.old from).state) }
         ensures sends { IfOk result (λ d. d.sends.items ≡ sends_of (on_ready self.old from)) }
         ensures finished { IfOk result (λ d. d.finished ≡ (on_ready self.old from).finished) }
         ensures err { OnErr result (self.new ≡ self.old) }
@@ -235,7 +235,7 @@ impl Node {
     /// The link to a neighbour is dropped.
     pub fn lost(&mut self, alloc: Global, other: NodeId) -> Result<Deed, AllocError>
         requires { self.old.epoch < 2 ^ 64 - 1 }
-        ensures row { OnOk result (self.new ≡ (lost self.old other).row) }
+        ensures state { OnOk result (self.new ≡ (lost self.old other).state) }
         ensures sends { IfOk result (λ d. d.sends.items ≡ sends_of (lost self.old other)) }
         ensures finished { IfOk result (λ d. d.finished ≡ (lost self.old other).finished) }
         ensures err { OnErr result (self.new ≡ self.old) }
@@ -250,7 +250,7 @@ impl Node {
 
     /// A link to another node comes.
     pub fn gained(&mut self, alloc: Global, other: NodeId) -> Deed
-        ensures row { self.new ≡ with_neighbour self.old other }
+        ensures state { self.new ≡ with_neighbour self.old other }
         ensures sends { result.sends.items ≡ [] }
         ensures finished { result.finished ≡ false }
     {
@@ -268,7 +268,7 @@ impl Node {
     /// Sends Ready to every neighbour but the parent, and enters the next epoch.
     fn finish(&mut self, alloc: Global) -> Result<Deed, AllocError>
         requires { self.old.epoch < 2 ^ 64 - 1 }
-        ensures row { OnOk result (self.new ≡ (finish self.old).row) }
+        ensures state { OnOk result (self.new ≡ (finish self.old).state) }
         ensures sends { IfOk result (λ d. d.sends.items ≡ sends_of (finish self.old)) }
         ensures finished { IfOk result (λ d. d.finished ≡ true) }
         ensures err { OnErr result (self.new ≡ self.old) }
@@ -294,7 +294,7 @@ impl Node {
         parent: Option<NodeId>,
         others: NodeSet,
     ) -> Result<Deed, AllocError>
-        ensures row { OnOk result (self.new ≡ (wave_on self.old parent others).row) }
+        ensures state { OnOk result (self.new ≡ (wave_on self.old parent others).state) }
         ensures sends { IfOk result (λ d. d.sends.items ≡ sends_of (wave_on self.old parent others)) }
         ensures finished { IfOk result (λ d. d.finished ≡ false) }
         ensures err { OnErr result (self.new ≡ self.old) }
@@ -313,7 +313,7 @@ impl Node {
     #[tactic(auto, using(coord_types::proofs::Sets::listed))]
     fn acknowledged(&mut self, alloc: Global) -> Result<Deed, AllocError>
         requires { self.old.epoch < 2 ^ 64 - 1 }
-        ensures row { OnOk result (self.new ≡ (acknowledged self.old self.old.parent).row) }
+        ensures state { OnOk result (self.new ≡ (acknowledged self.old self.old.parent).state) }
         ensures sends { IfOk result (λ d. d.sends.items ≡ sends_of (acknowledged self.old self.old.parent)) }
         ensures finished { IfOk result (λ d. d.finished ≡ (acknowledged self.old self.old.parent).finished) }
         ensures err { OnErr result (self.new ≡ self.old) }
@@ -354,7 +354,7 @@ impl Node {
     #[tactic(auto, using(coord_types::proofs::Sets::listed))]
     fn go_on(&mut self, alloc: Global, awaited: bool, child: bool) -> Result<Deed, AllocError>
         requires { self.old.epoch < 2 ^ 64 - 1 }
-        ensures row { OnOk result (self.new ≡ (lost_in self.old.mode self.old awaited child).row) }
+        ensures state { OnOk result (self.new ≡ (lost_in self.old.mode self.old awaited child).state) }
         ensures sends { IfOk result
             (λ d. d.sends.items ≡ sends_of (lost_in self.old.mode self.old awaited child)) }
         ensures finished { IfOk result

@@ -5,6 +5,6 @@ use Rattle.coord_types.specs.declared.messages.Msg.{Msg}
 
 -- the state of each node, which nodes are linked, and what is on the way from one to another, the oldest first
 pub record Ideal : Type 0 where
-  pub row : ℕ → NodeState
+  pub state : ℕ → NodeState
   pub linked : ℕ → ℕ → Bool
   pub way : ℕ → ℕ → List Msg

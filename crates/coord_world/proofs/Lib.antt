@@ -1,7 +1,7 @@
 mod Cases
 mod release
 mod acceptance
-mod deeds
+mod transitions
 mod lanes
 mod legal
 mod listings

@@ -7,5 +7,5 @@ pub mod IsShort
 pub mod LanePairs
 pub mod MessageCounts
 pub mod OnLane
-pub mod PlaceForDeed
+pub mod PlaceForTransition
 pub mod Transit

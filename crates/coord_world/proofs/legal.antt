@@ -1,11 +1,11 @@
 -- A fresh step keeps a world legal.
-pub mod DeedKept
+pub mod TransitionKept
 pub mod DropKept
 pub mod EmptyWorld
 pub mod EpochsFit
 pub mod JoinKept
 pub mod NextKeepsLegal
-pub mod RowKept
+pub mod StateKept
 pub mod RulesKept
 pub mod Sound
 pub mod SoundLink

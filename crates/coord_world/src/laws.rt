@@ -1,10 +1,10 @@
 //! Laws of the protocol, over the definitions alone: functions that do nothing, whose contracts are the laws.
 
-ghost use Rattle.coord_world.specs.Laws.{FreshOverItself, LanesAreShort, NextKeepsLegal, NextKeepsRanges, RowsGiveWorld, RowsOfWorldFit, ViewOfNext};
-ghost use Rattle.coord_world.specs.KeptReplies.{KeptReplyLaw};
-ghost use Rattle.coord_world.specs.Release.{FreshWhereReleased, ReleaseLaw, ReleasedFromBase, ReleasedGrows, ReleaseStays, ResendLaw};
-ghost use Rattle.coord_world.specs.Trails.{FoldCounts, TrailGoesOn, TrailIsCut, TrailKeepsWorlds};
-ghost use Rattle.coord_world.specs.Waves.{OncePerWave};
+ghost use Rattle.coord_world.specs.laws.Laws.{FreshOverItself, LanesAreShort, NextKeepsLegal, NextKeepsRanges, RowsGiveWorld, RowsOfWorldFit, ViewOfNext};
+ghost use Rattle.coord_world.specs.laws.KeptReplies.{KeptReplyLaw};
+ghost use Rattle.coord_world.specs.laws.Release.{FreshWhereReleased, ReleaseLaw, ReleasedFromBase, ReleasedGrows, ReleaseStays, ResendLaw};
+ghost use Rattle.coord_world.specs.laws.Trails.{FoldCounts, TrailGoesOn, TrailIsCut, TrailKeepsWorlds};
+ghost use Rattle.coord_world.specs.laws.Waves.{OncePerWave};
 
 /// A step that a world takes over some settled world, it takes over itself.
 pub fn fresh_over_itself()

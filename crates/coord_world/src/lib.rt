@@ -1,27 +1,25 @@
-//! The world of nodes, lanes and sessions: which steps it takes, what each makes of it and gives
-//! out, and the laws that every step keeps.
+//! A world: nodes, the lanes between them, and the last order of each client.
+//!
+//! `World` is the code. Contracts see the numbered world of `specs/protocol/NumberedWorld.antt`;
+//! beside it stand which steps a world takes (`Acceptance`), what each makes of it (`Next`) and
+//! gives out (`Outputs`), which worlds are legal (`Links`, `Legal`), and the ranges that the type
+//! keeps of every world (`Ranges`). Two calls matter: `World::judge` says whether a step is taken,
+//! repeated or refused, and `World::apply` takes a fresh one and gives its reply and outputs.
+//!
+//! The main theorems are the contracts of [`laws`], over the definitions alone: a fresh step keeps
+//! a world legal and is the ideal step of the view; a wave signals each node that it reaches once;
+//! what is released stays so, and exactly the released packets are taken. Their statements stand in
+//! `specs/laws`, and `specs/code` has what only the bodies here need.
 #![tactic(auto)]
 
-mod act;
-mod assembly;
-mod carry;
-mod draft;
-mod equality;
-mod fronts;
-mod judge;
-mod lane_table;
 pub mod laws;
-mod listing;
-mod node_table;
-mod parts;
+mod rows;
 pub mod runs;
-mod sends;
-mod session_table;
-mod sorted;
-mod successor;
+mod step;
+mod tables;
 mod verdicts;
 mod world;
 
-pub use parts::{ClientRow, LinkRow, NodeRow, Parts};
+pub use rows::parts::{ClientRow, LinkRow, NodeRow, Parts};
 pub use verdicts::Verdict;
 pub use world::{Outcome, World};

@@ -1,8 +1,8 @@
 //! Runs from the empty world whose outcomes are known: functions that do nothing, whose contracts
 //! say which steps are taken and what each gives out.
 
-ghost use Rattle.coord_world.specs.ReleasedRun.{ReleasedRun};
-ghost use Rattle.coord_world.specs.Runs.{DropInAbort, DropInConverge, StoredRun, StoredWave, TwoInitiators};
+ghost use Rattle.coord_world.specs.laws.ReleasedRun.{ReleasedRun};
+ghost use Rattle.coord_world.specs.laws.Runs.{DropInAbort, DropInConverge, StoredRun, StoredWave, TwoInitiators};
 
 /// Two nodes and one reset.
 pub fn stored_run()

@@ -5,16 +5,16 @@ ghost use Rattle.std.specs.Option.{option_copied};
 ghost use Rattle.coord_types.specs.Table as table;
 ghost use Rattle.coord_types.specs.declared.steps.Kind.{Kind};
 ghost use Rattle.coord_node.specs.Steps.{kind};
-ghost use Rattle.coord_world.specs.NumberedWorld.{no_world, row};
-ghost use Rattle.coord_world.specs.Next.{next, reply};
-ghost use Rattle.coord_world.specs.Acceptance.{accepts, IsFresh};
-ghost use Rattle.coord_world.specs.Outputs.{outputs, again};
-ghost use Rattle.coord_world.specs.Legal.{Legal};
-ghost use Rattle.coord_world.specs.Ranges.{InRange};
-ghost use Rattle.coord_world.specs.Parts.{RowsFit, listed, rows_of};
+ghost use Rattle.coord_world.specs.protocol.NumberedWorld.{no_world, state};
+ghost use Rattle.coord_world.specs.protocol.Next.{next, reply};
+ghost use Rattle.coord_world.specs.protocol.Acceptance.{accepts, IsFresh};
+ghost use Rattle.coord_world.specs.protocol.Outputs.{outputs, again};
+ghost use Rattle.coord_world.specs.protocol.Legal.{Legal};
+ghost use Rattle.coord_world.specs.protocol.Ranges.{InRange};
+ghost use Rattle.coord_world.specs.protocol.Rows.{RowsFit, listed, rows_of};
 
-use crate::draft::Draft;
-use crate::parts::Parts;
+use crate::rows::parts::Parts;
+use crate::tables::Tables;
 use crate::verdicts::Verdict;
 use coord_link::Lane;
 use coord_node::Node;
@@ -29,25 +29,25 @@ pub struct Outcome {
     pub outputs: Vec<Output>,
 }
 
-/// A world. Contracts see the numbered world of `specs/NumberedWorld.antt`; its type keeps the
-/// ranges of `specs/Ranges.antt`.
+/// A world. Contracts see the numbered world of `specs/protocol/NumberedWorld.antt`; its type keeps the
+/// ranges of `specs/protocol/Ranges.antt`.
 #[derive(Drop, Debug)]
 pub struct World {
     alloc: Global,
-    draft: Draft,
+    tables: Tables,
 }
 
 impl Model for World {
-    ghost use Rattle.coord_world.specs.NumberedWorld.{World as Numbered, world_code};
-    ghost use Rattle.coord_world.specs.Ranges.{InRange};
+    ghost use Rattle.coord_world.specs.protocol.NumberedWorld.{World as Numbered, world_code};
+    ghost use Rattle.coord_world.specs.protocol.Ranges.{InRange};
 
     ghost Value = { Numbered };
 
     ghost coded = { world_code };
 
-    ghost view = { λ a. a.draft };
+    ghost view = { λ a. a.tables };
 
-    ghost invariant = { λ a. InRange a.draft };
+    ghost invariant = { λ a. InRange a.tables };
 }
 
 impl World {
@@ -58,7 +58,7 @@ impl World {
     {
         World {
             alloc,
-            draft: Draft::empty(alloc),
+            tables: Tables::empty(alloc),
         }
     }
 
@@ -68,8 +68,8 @@ impl World {
         ensures rows { IfOk result (λ world. rows_of world ≡ listed parts) }
         ensures ranges { IfOk result (λ world. InRange world) }
     {
-        let draft = Draft::assemble(alloc, &parts)?;
-        Ok(World { alloc, draft })
+        let tables = Tables::assemble(alloc, &parts)?;
+        Ok(World { alloc, tables })
     }
 
     /// The rows of the world, each list in ascending order.
@@ -77,28 +77,28 @@ impl World {
         ensures rows { IfOk result (λ parts. listed parts ≡ rows_of self.now) }
         ensures fit { IfOk result (λ parts. RowsFit (listed parts)) }
     {
-        self.draft.list(self.alloc)
+        self.tables.list(self.alloc)
     }
 
     /// How many steps were taken, at most 2^40.
     pub fn count(&self) -> u64
         ensures { result ≡ self.now.count }
     {
-        self.draft.count
+        self.tables.count
     }
 
     /// Does nothing: its contract is what the type keeps of every world, legal or not.
     pub fn ranges(&self)
         ensures { InRange self.now }
     {
-        let _ = &self.draft;
+        let _ = &self.tables;
     }
 
     /// Whether another world has the same count, nodes, lanes and last orders.
     pub fn is_same(&self, other: &World) -> bool
         ensures { IsTrue result ↔ (self.now ≡ other.now) }
     {
-        self.draft.is_same(&other.draft)
+        self.tables.is_same(&other.tables)
     }
 
     /// A world equal to this one.
@@ -107,28 +107,28 @@ impl World {
     {
         Ok(World {
             alloc: self.alloc,
-            draft: self.draft.copy()?,
+            tables: self.tables.copy()?,
         })
     }
 
     pub fn node(&self, id: NodeId) -> Option<&Node>
-        ensures { option_copied result ≡ table.get self.now.rows id }
+        ensures { option_copied result ≡ table.get self.now.nodes id }
     {
-        self.draft.node(id)
+        self.tables.node(id)
     }
 
     /// The lane from one node to another.
     pub fn lane(&self, from: NodeId, to: NodeId) -> Option<&Lane>
         ensures { option_copied result ≡ table.get self.now.lanes record { 0 = from; 1 = to } }
     {
-        self.draft.lanes.get(from, to)
+        self.tables.lanes.get(from, to)
     }
 
     /// A client's last order.
     pub fn last(&self, client: Client) -> Option<Session>
         ensures { result ≡ table.get self.now.sessions client }
     {
-        self.draft.sessions.get(client)
+        self.tables.sessions.get(client)
     }
 
     /// Whether this world, of which `settled` is what is settled, takes a step; the reply to a
@@ -139,9 +139,9 @@ impl World {
         // A verdict of Fresh has the kind of the reply, and the world takes the step over itself too.
         ensures fresh { (k : Kind) → result ≡ Ok (Verdict.Fresh k) → IsFresh self.now settled.now step.now }
         ensures itself { (k : Kind) → result ≡ Ok (Verdict.Fresh k) → IsFresh self.now self.now step.now }
-        ensures kind { (k : Kind) → result ≡ Ok (Verdict.Fresh k) → k ≡ kind (row self.now) step.now }
+        ensures kind { (k : Kind) → result ≡ Ok (Verdict.Fresh k) → k ≡ kind (state self.now) step.now }
     {
-        self.draft.judge(&settled.draft, step)
+        self.tables.judge(&settled.tables, step)
     }
 
     /// Takes a step that was judged fresh. Its outputs are to be released once it is settled.
@@ -155,8 +155,8 @@ impl World {
         ensures err { OnErr result (self.new ≡ self.old) }
     {
         step.within_ranges();
-        let (draft, outcome) = self.draft.after(self.alloc, step)?;
-        self.draft = draft;
+        let (tables, outcome) = self.tables.after(self.alloc, step)?;
+        self.tables = tables;
         Ok(outcome)
     }
 
@@ -165,6 +165,6 @@ impl World {
     pub fn resend(&self) -> Result<Vec<Output>, AllocError>
         ensures { IfOk result (λ outputs. outputs.items ≡ again self.now) }
     {
-        self.draft.again(self.alloc)
+        self.tables.again(self.alloc)
     }
 }

@@ -1,7 +1,7 @@
 //! Tests of coord_check: a reset has no fault, and of worlds as bytes each letter is told, and
 //! printed.
 
-ghost use Rattle.coord_world.specs.Legal.{Legal};
+ghost use Rattle.coord_world.specs.protocol.Legal.{Legal};
 
 use coord_check::{Letter, Violation, check};
 use coord_codec::read_world;

@@ -2,7 +2,7 @@
 //! and the limits on steps and links.
 
 ghost use Rattle.std.specs.Prelude.{◌≤◌, IfOk};
-ghost use Rattle.coord_world.specs.Legal.{Legal};
+ghost use Rattle.coord_world.specs.protocol.Legal.{Legal};
 
 use coord_link::Lane;
 use coord_node::Node;

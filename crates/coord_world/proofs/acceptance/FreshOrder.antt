@@ -9,45 +9,45 @@ use Rattle.coord_types.specs.declared.steps.Command.{Command}
 use Rattle.coord_types.specs.declared.steps.Command.TheVariants.{Add, Remove, Join, Drop, Reset, Confirm}
 use Rattle.coord_types.specs.declared.steps.Step.TheVariants.{Order}
 use Rattle.coord_node.specs.Rules.{is_empty}
-use Rattle.coord_world.specs.NumberedWorld.{World, row, is_linked}
-use Rattle.coord_world.specs.Acceptance.{IsFresh, is_full, is_unknown, against_command, last_number}
+use Rattle.coord_world.specs.protocol.NumberedWorld.{World, state, is_linked}
+use Rattle.coord_world.specs.protocol.Acceptance.{IsFresh, is_full, is_unknown, against_command, last_number}
 use Rattle.coord_world.proofs.acceptance.IsFresh.{NoneHolds, tests_passed}
 
 -- two nodes that may be linked
 pub record Joinable (w : World) (a b : ℕ) : Type 0 where
-  pub first : has w.rows a ≡ true
-  pub second : has w.rows b ≡ true
+  pub first : has w.nodes a ≡ true
+  pub second : has w.nodes b ≡ true
   pub apart : a ≢ b
-  pub one_group : (row w a).group ≡ (row w b).group
+  pub one_group : (state w a).group ≡ (state w b).group
   pub free : is_linked w a b ≡ false
-  pub first_room : set.len (row w a).neighbours ≤ 15
-  pub second_room : set.len (row w b).neighbours ≤ 15
+  pub first_room : set.len (state w a).neighbours ≤ 15
+  pub second_room : set.len (state w b).neighbours ≤ 15
   pub room : len w.lanes ≤ 255
 
 -- two nodes whose link may be dropped
 pub record Droppable (w : World) (a b : ℕ) : Type 0 where
-  pub first : has w.rows a ≡ true
-  pub second : has w.rows b ≡ true
+  pub first : has w.nodes a ≡ true
+  pub second : has w.nodes b ≡ true
   pub apart : a ≢ b
   pub linked : is_linked w a b ≡ true
 
 -- an epoch of a node that may be confirmed
 pub record Confirmable (w : World) (u e : ℕ) : Type 0 where
-  pub there : has w.rows u ≡ true
-  pub entered : e ≤ (row w u).epoch
+  pub there : has w.nodes u ≡ true
+  pub entered : e ≤ (state w u).epoch
 
 -- a node that may be removed
 pub record Removable (w : World) (u : ℕ) : Type 0 where
-  pub there : has w.rows u ≡ true
-  pub alone : is_empty (row w u).neighbours ≡ true
+  pub there : has w.nodes u ≡ true
+  pub alone : is_empty (state w u).neighbours ≡ true
 
 -- what its tests say of a command
 abbrev pub Passes : World → Command → Type 0
-Passes w (Add u g) = get w.rows u ≡ None
+Passes w (Add u g) = get w.nodes u ≡ None
 Passes w (Remove u) = Removable w u
 Passes w (Join a b) = Joinable w a b
 Passes w (Drop a b) = Droppable w a b
-Passes w (Reset u) = has w.rows u ≡ true
+Passes w (Reset u) = has w.nodes u ≡ true
 Passes w (Confirm u e) = Confirmable w u e
 
 -- who is not there is nobody
@@ -71,7 +71,7 @@ passes w (Add u g) h = absent _ h.0
 passes w (Remove u) h = record { there = positive _ h.0; alone = positive _ h.1.0 }
 passes w (Join a b) h =
     let known = neither (is_unknown w a) (is_unknown w b) h.0 in
-    let rooms = neither (is_full (row w a)) (is_full (row w b)) h.1.1.1.1.0 in
+    let rooms = neither (is_full (state w a)) (is_full (state w b)) h.1.1.1.1.0 in
     record {
       first = positive _ known.0;
       second = positive _ known.1;

@@ -10,8 +10,8 @@ use Rattle.coord_types.specs.declared.steps.Step.TheVariants.{Order, Take, Clear
 use Rattle.coord_link.specs.LaneMachine.{Lane, refused_or}
 use Rattle.coord_world.specs.declared.verdicts.Verdict.{Verdict}
 use Rattle.coord_world.specs.declared.verdicts.Verdict.TheVariants.{Fresh}
-use Rattle.coord_world.specs.Acceptance.{against_data, against_receipt, lane, is_exhausted}
-use Rattle.coord_world.specs.Laws.{FreshOverItself}
+use Rattle.coord_world.specs.protocol.Acceptance.{against_data, against_receipt, lane, is_exhausted}
+use Rattle.coord_world.specs.laws.Laws.{FreshOverItself}
 
 -- a lane that passes the tests against what is settled has the packet itself
 data_itself : (o settled : Option Lane) (p : DataPacket) (v r : Verdict) → refused_or v (against_data o settled p) ≡ Ok r → refused_or v (against_data o o p) ≡ Ok r

@@ -9,8 +9,8 @@ use Rattle.coord_link.specs.LaneMachine.{Tests, refused_or}
 use Rattle.coord_node.specs.Steps.{kind}
 use Rattle.coord_world.specs.declared.verdicts.Verdict.{Verdict}
 use Rattle.coord_world.specs.declared.verdicts.Verdict.TheVariants.{Fresh}
-use Rattle.coord_world.specs.NumberedWorld.{World, row}
-use Rattle.coord_world.specs.Acceptance.{accepts, judged, against, is_exhausted, IsFresh}
+use Rattle.coord_world.specs.protocol.NumberedWorld.{World, state}
+use Rattle.coord_world.specs.protocol.Acceptance.{accepts, judged, against, is_exhausted, IsFresh}
 use Rattle.coord_world.proofs.Cases.{by_test}
 use Rattle.coord_world.proofs.acceptance.IsFresh.{not_a_repeat}
 use Rattle.coord_world.proofs.acceptance.FreshOverItself.{itself}
@@ -19,8 +19,8 @@ passed_is : (v r : Verdict) (ts : Tests) → refused_or v ts ≡ Ok r → v ≡ 
 passed_is v r [] h = cc
 passed_is v r (t ∷ ts) h = by_test t.0 (λ b. cond b (Err t.1) (refused_or v ts) ≡ Ok r → v ≡ r) (λ _ e. cc) (λ _ e. passed_is v r ts e) h
 
-kind_is : (w settled : World) (s : Step) (k : Kind) → judged w settled s ≡ Ok (Fresh k) → Fresh (kind (row w) s) ≡ Fresh k
-kind_is w settled s k h = passed_is (Fresh (kind (row w) s)) (Fresh k) ((is_exhausted w, Exhausted) ∷ against w settled s) h
+kind_is : (w settled : World) (s : Step) (k : Kind) → judged w settled s ≡ Ok (Fresh k) → Fresh (kind (state w) s) ≡ Fresh k
+kind_is w settled s k h = passed_is (Fresh (kind (state w) s)) (Fresh k) ((is_exhausted w, Exhausted) ∷ against w settled s) h
 
 fresh_judged : (w settled : World) (s : Step) (k : Kind) → accepts w settled s ≡ Ok (Fresh k) → judged w settled s ≡ Ok (Fresh k)
 fresh_judged w settled (Order c n x) k h = not_a_repeat (get w.sessions c) n x _ k h
@@ -28,7 +28,7 @@ fresh_judged w settled (Take p) k h = h
 fresh_judged w settled (Clear p) k h = h
 
 -- the kind is that of the step
-pub verdict_kind : (w settled : World) (s : Step) (k : Kind) → accepts w settled s ≡ Ok (Fresh k) → k ≡ kind (row w) s
+pub verdict_kind : (w settled : World) (s : Step) (k : Kind) → accepts w settled s ≡ Ok (Fresh k) → k ≡ kind (state w) s
 verdict_kind w settled s k h = let same = kind_is w settled s k (fresh_judged w settled s k h) in cc
 
 -- so the step is fresh

@@ -19,8 +19,8 @@ use Rattle.coord_link.specs.LaneMachine.{Lane, Tests, refused_or}
 use Rattle.coord_node.specs.Steps.{kind}
 use Rattle.coord_world.specs.declared.verdicts.Verdict.{Verdict}
 use Rattle.coord_world.specs.declared.verdicts.Verdict.TheVariants.{Fresh, Repeat}
-use Rattle.coord_world.specs.NumberedWorld.{World, row}
-use Rattle.coord_world.specs.Acceptance.{IsFresh, judged, is_exhausted, or_repeat, of_incarnation, against_data, against_receipt, against, lane}
+use Rattle.coord_world.specs.protocol.NumberedWorld.{World, state}
+use Rattle.coord_world.specs.protocol.Acceptance.{IsFresh, judged, is_exhausted, or_repeat, of_incarnation, against_data, against_receipt, against, lane}
 use Rattle.coord_world.proofs.Cases.{by_test}
 
 -- none of the tests holds
@@ -56,7 +56,7 @@ not_a_repeat None n x v k h = h
 not_a_repeat (Some o) n x v k h = by_test (eqb o.number n && same_command o.command x) (λ b. cond b (Ok (Repeat o.reply)) v ≡ Ok (Fresh k) → v ≡ Ok (Fresh k)) (λ _ e. cc) (λ _ e. e) h
 
 -- a fresh step passes the judgement
-fresh_judged : (w settled : World) (s : Step) → IsFresh w settled s → judged w settled s ≡ Ok (Fresh (kind (row w) s))
+fresh_judged : (w settled : World) (s : Step) → IsFresh w settled s → judged w settled s ≡ Ok (Fresh (kind (state w) s))
 fresh_judged w settled (Order c n x) fresh = not_a_repeat (get w.sessions c) n x (judged w settled (Order c n x)) _ fresh
 fresh_judged w settled (Take p) fresh = fresh
 fresh_judged w settled (Clear p) fresh = fresh
@@ -64,7 +64,7 @@ fresh_judged w settled (Clear p) fresh = fresh
 module _ (w settled : World) (s : Step) (fresh : IsFresh w settled s) where
   -- it passes each test
   all_passed : NoneHolds ((is_exhausted w, Exhausted) ∷ against w settled s)
-  all_passed = none_holds (Fresh (kind (row w) s)) (Fresh (kind (row w) s)) ((is_exhausted w, Exhausted) ∷ against w settled s) (fresh_judged w settled s fresh)
+  all_passed = none_holds (Fresh (kind (state w) s)) (Fresh (kind (state w) s)) ((is_exhausted w, Exhausted) ∷ against w settled s) (fresh_judged w settled s fresh)
 
   -- there is a number left for the step
   pub fresh_count : w.count + 1 ≤ 2 ^ 40

@@ -6,9 +6,9 @@ use Rattle.coord_types.specs.declared.messages.Msg.{Msg}
 use Rattle.coord_types.specs.declared.steps.Command.TheVariants.{Drop, Join}
 use Rattle.coord_link.specs.LaneMachine.{Lane, Counts, took, cleared, sent, new_lane}
 use Rattle.coord_node.specs.IdealRules.{added, is_link}
-use Rattle.coord_node.specs.Rules.{Deed}
-use Rattle.coord_world.specs.Next.{does, on_lane, ordered, is_lane}
-use Rattle.coord_world.specs.NumberedWorld.{World}
+use Rattle.coord_node.specs.Rules.{Transition}
+use Rattle.coord_world.specs.protocol.Next.{applied, on_lane, ordered, is_lane}
+use Rattle.coord_world.specs.protocol.NumberedWorld.{World}
 use Rattle.coord_world.proofs.Cases.{by_test}
 use Rattle.coord_world.proofs.lists.GetAfter.{lane_done, lane_on, lane_left, lane_made, each_changed, each_left, each_made}
 use Rattle.coord_world.proofs.lanes.Transit.{counts_cases, counts_from, counts-sent, counts-took}
@@ -33,8 +33,8 @@ was_taken l counts more = elim (counts_cases l counts) [
 ]
 
 module _ (w : World) (counts : AllCount w) where
-  -- after a deed
-  pub counts_done : (u : ℕ) (d : Deed) → AllCount (does w u d)
+  -- after a transition
+  pub counts_done : (u : ℕ) (d : Transition) → AllCount (applied w u d)
   counts_done u d x y m e = each_changed (get w.lanes (x, y)) (λ l. cond (eqb x u) (sent (added d y) l) l) Counts
       (λ l is. by_test (eqb x u) (λ b. Counts (cond b (sent (added d y) l) l)) (λ _. counts-sent l (added d y) (counts x y l is)) (λ _. counts x y l is))
       m (sym (lane_done w u d x y) ∙ e)

@@ -7,10 +7,10 @@ use Rattle.coord_types.specs.declared.steps.Step.{Step}
 use Rattle.coord_types.specs.declared.steps.Step.TheVariants.{Order, Take, Clear}
 use Rattle.coord_link.specs.LaneMachine.{Lane, cleared, new_lane, sent, took}
 use Rattle.coord_node.specs.IdealRules.{added, is_link}
-use Rattle.coord_node.specs.Rules.{Deed}
-use Rattle.coord_node.specs.Steps.{deeds}
-use Rattle.coord_world.specs.Next.{all_do, does, is_lane, next, on_lane, prepared}
-use Rattle.coord_world.specs.NumberedWorld.{World, row}
+use Rattle.coord_node.specs.Rules.{Transition}
+use Rattle.coord_node.specs.Steps.{transitions}
+use Rattle.coord_world.specs.protocol.Next.{all_applied, applied, is_lane, next, on_lane, prepared}
+use Rattle.coord_world.specs.protocol.NumberedWorld.{World, state}
 use Rattle.coord_world.proofs.Cases.{by_test}
 use Rattle.coord_world.proofs.lists.GetAfter.{lane_done, lane_on, lane_left, lane_made, each_changed, each_left, each_made}
 
@@ -32,9 +32,9 @@ Makes Q count s = Unit {0}
 
 module _ (P Q : ℕ → ℕ → Lane → Type 0) (carries : LaneCarries P Q) where
   -- messages join lanes
-  all_done : (w : World) (ds : List (ℕ × Deed)) → AllLanes Q w → AllLanes Q (all_do w ds)
+  all_done : (w : World) (ds : List (ℕ × Transition)) → AllLanes Q w → AllLanes Q (all_applied w ds)
   all_done w [] all = all
-  all_done w (d ∷ ds) all = all_done (does w d.0 d.1) ds (λ x y m e.
+  all_done w (d ∷ ds) all = all_done (applied w d.0 d.1) ds (λ x y m e.
       each_changed (get w.lanes (x, y)) (λ l. cond (eqb x d.0) (sent (added d.1 y) l) l) (Q x y)
       (λ l is. by_test (eqb x d.0) (λ b. Q x y (cond b (sent (added d.1 y) l) l)) (λ _. carries.send x y l (added d.1 y) (all x y l is)) (λ _. all x y l is))
       m (sym (lane_done w d.0 d.1 x y) ∙ e))
@@ -64,6 +64,6 @@ module _ (P Q : ℕ → ℕ → Lane → Type 0) (carries : LaneCarries P Q) whe
 
     -- every lane after a step
     pub lanes_next : (s : Step) → Makes Q w.count s → AllLanes Q (next w s)
-    lanes_next (Order c n x) makes = all_done (prepared w (Order c n x)) (deeds (row w) (Order c n x)) (all_prepared (Order c n x) makes)
-    lanes_next (Take p) makes = all_done (prepared w (Take p)) (deeds (row w) (Take p)) (all_prepared (Take p) makes)
+    lanes_next (Order c n x) makes = all_done (prepared w (Order c n x)) (transitions (state w) (Order c n x)) (all_prepared (Order c n x) makes)
+    lanes_next (Take p) makes = all_done (prepared w (Take p)) (transitions (state w) (Take p)) (all_prepared (Take p) makes)
     lanes_next (Clear p) makes = all_prepared (Clear p) makes

@@ -9,9 +9,9 @@ use Rattle.coord_types.specs.Table.{get, from_sorted}
 use Rattle.coord_types.proofs.Tables.{get-from_sorted}
 use Rattle.coord_types.specs.declared.messages.Msg.{Msg}
 use Rattle.coord_link.specs.LaneMachine.{Lane}
-use Rattle.coord_world.specs.NumberedWorld.{pair_cmp, pair_cmp_total}
+use Rattle.coord_world.specs.protocol.NumberedWorld.{pair_cmp, pair_cmp_total}
 use Rattle.coord_world.proofs.lists.KeyedLists.{not_tied}
-use Rattle.coord_world.specs.Sends.{HasPlaceFor, HasRoomFor}
+use Rattle.coord_world.specs.code.Sends.{HasPlaceFor, HasRoomFor}
 use Rattle.coord_world.proofs.Cases.{both}
 
 module _ {K X : Type 0} (R : K → K → Ordering) (o : IsTotalOrder R) where

@@ -9,9 +9,9 @@ use Rattle.coord_types.specs.Table.{get}
 use Rattle.coord_types.specs.declared.messages.Msg.{Msg}
 use Rattle.coord_types.specs.declared.messages.Msg.TheVariants.{Abort, Ack, Ready}
 use Rattle.coord_link.specs.LaneMachine.{Lane, transit}
-use Rattle.coord_world.specs.Laws.{IsShort}
-use Rattle.coord_world.specs.Links.{aborts, acks, readies, one}
-use Rattle.coord_world.specs.NumberedWorld.{World, view, transit_or_none}
+use Rattle.coord_world.specs.laws.Laws.{IsShort}
+use Rattle.coord_world.specs.protocol.Links.{aborts, acks, readies, one}
+use Rattle.coord_world.specs.protocol.NumberedWorld.{World, view, transit_or_none}
 use Rattle.coord_world.proofs.legal.Sound.{Sound}
 
 -- each message is of one of three kinds
@@ -28,10 +28,10 @@ at_most_one b = grind arith
 -- one Abort and one Ack by the two ends' counts, and one Ready
 pub way_short : (w : Ideal) (u v : ℕ) → Sound w → w.linked u v ≡ true → length (w.way u v) ≤ 3
 way_short w u v sound linked =
-    let near : contains (w.row u).neighbours v ≡ true = sym (sound.linked u v) ∙ linked in
+    let near : contains (w.state u).neighbours v ≡ true = sym (sound.linked u v) ∙ linked in
     let out = sound.links u v near in
     let back = sound.links v u (sym (sound.mirrored u v) ∙ near) in
-    omega (arith, counted (w.way u v), out.counted, back.counted, out.one_ready, at_most_one (contains (w.row u).pend v), at_most_one (contains (w.row v).pend u))
+    omega (arith, counted (w.way u v), out.counted, back.counted, out.one_ready, at_most_one (contains (w.state u).pend v), at_most_one (contains (w.state v).pend u))
 
 -- only the front is left out
 length-behind : (q : List Msg) → length q ≤ length (behind_front q) + 1

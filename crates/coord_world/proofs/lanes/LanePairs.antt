@@ -7,8 +7,8 @@ use Rattle.coord_types.specs.Table.{get, has, len, remove}
 use Rattle.coord_types.specs.declared.steps.Command.TheVariants.{Drop}
 use Rattle.coord_types.proofs.Tables.{get-remove}
 use Rattle.coord_node.specs.IdealRules.{is_link}
-use Rattle.coord_world.specs.Next.{ordered}
-use Rattle.coord_world.specs.NumberedWorld.{World, is_linked, pair_cmp}
+use Rattle.coord_world.specs.protocol.Next.{ordered}
+use Rattle.coord_world.specs.protocol.NumberedWorld.{World, is_linked, pair_cmp}
 use Rattle.coord_world.proofs.lists.GetAfter.{lane_left}
 use Rattle.coord_world.proofs.lists.TableLen.{len-remove, some_entry}
 

@@ -2,7 +2,7 @@
 use Rattle.std.proofs.Common.{◌≡◌, ◌+◌, ◌≤◌, List, [], ◌∷◌, ◌++◌, arith}
 use Rattle.coord_types.specs.declared.messages.Msg.{Msg}
 use Rattle.coord_types.specs.declared.messages.Msg.TheVariants.{Abort, Ack, Ready}
-use Rattle.coord_world.specs.Links.{aborts, acks, readies, readies_behind}
+use Rattle.coord_world.specs.protocol.Links.{aborts, acks, readies, readies_behind}
 
 -- how many of a kind stand in two lists together
 pub aborts-append : (xs ys : List Msg) → aborts (xs ++ ys) ≡ aborts xs + aborts ys

@@ -6,8 +6,8 @@ use Rattle.std.specs.FinMap.{IsAntisymmetric}
 use Rattle.coord_types.specs.Table.{get, insert, change}
 use Rattle.coord_types.proofs.Tables.{get-insert, get-change, same_table, option_map}
 use Rattle.coord_link.specs.LaneMachine.{Lane}
-use Rattle.coord_world.specs.NumberedWorld.{World, pair_cmp}
-use Rattle.coord_world.specs.Next.{is_lane, on_lane}
+use Rattle.coord_world.specs.protocol.NumberedWorld.{World, pair_cmp}
+use Rattle.coord_world.specs.protocol.Next.{is_lane, on_lane}
 use Rattle.coord_world.proofs.lists.GetAfter.{same_pair}
 
 antisymmetric : IsAntisymmetric pair_cmp

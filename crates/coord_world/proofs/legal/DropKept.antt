@@ -6,23 +6,23 @@ use Rattle.coord_types.specs.NodeSet as set
 use Rattle.coord_types.specs.NodeSet.{contains}
 use Rattle.coord_types.proofs.Sets.{len_zero}
 use Rattle.coord_types.specs.declared.messages.Mode.TheVariants.{Abort, Converge}
-use Rattle.coord_node.specs.IdealRules.{acts, cut}
-use Rattle.coord_node.specs.Rules.{Deed, is_empty, is_parent, without, lost, idle}
+use Rattle.coord_node.specs.IdealRules.{ideal_applied, without_link}
+use Rattle.coord_node.specs.Rules.{Transition, is_empty, is_parent, without, lost, idle}
 use Rattle.coord_types.specs.IdealWorld.{Ideal}
-use Rattle.coord_world.proofs.legal.DeedKept.{LegalLinks, links_of, sound_of, links_kept, row_here, row_there}
+use Rattle.coord_world.proofs.legal.TransitionKept.{LegalLinks, links_of, sound_of, links_kept, row_here, row_there}
 use Rattle.coord_world.proofs.Cases.{by_test, everywhere}
-use Rattle.coord_world.proofs.deeds.NodeGoesOn.{goes_lost}
-use Rattle.coord_world.proofs.deeds.LegalBoth.{LegalBoth}
-use Rattle.coord_world.proofs.deeds.KeepsLinks.{Aside, Keeps, aside_lost, keeps_converge, keeps_finish, keeps_idle}
-use Rattle.coord_world.proofs.deeds.RuleCases.{cut_from, lost_cases}
+use Rattle.coord_world.proofs.transitions.NodeGoesOn.{goes_lost}
+use Rattle.coord_world.proofs.transitions.LegalBoth.{LegalBoth}
+use Rattle.coord_world.proofs.transitions.KeepsLinks.{Aside, Keeps, aside_lost, keeps_converge, keeps_finish, keeps_idle}
+use Rattle.coord_world.proofs.transitions.RuleCases.{cut_from, lost_cases}
 use Rattle.coord_world.proofs.lists.NodeSets.{empty_has, has_remove}
 use Rattle.coord_world.proofs.legal.Sound.{Sound}
 use Rattle.coord_world.proofs.legal.SoundNode.{SoundNode}
-use Rattle.coord_world.specs.Links.{link, end_of, is_abort, is_ready}
+use Rattle.coord_world.specs.protocol.Links.{link, end_of, is_abort, is_ready}
 
 -- a link vanishes, and both its ends act on that
 abbrev pub dropped : Ideal → ℕ → ℕ → Ideal
-dropped w a b = acts (acts (cut w a b) a (lost (w.row a) b)) b (lost (w.row b) a)
+dropped w a b = ideal_applied (ideal_applied (without_link w a b) a (lost (w.state a) b)) b (lost (w.state b) a)
 
 -- a node whose parent is lost has none
 no_parent_left : (p : Option ℕ) (b : ℕ) → is_parent p b ≡ true → without p b ≡ None
@@ -78,60 +78,60 @@ module _ (r : NodeState) (b : ℕ) (node : SoundNode r) where
 
 module _ (w : Ideal) (a b : ℕ) where
   -- the links that are left are legal
-  pub cut_links : LegalLinks w → LegalLinks (cut w a b)
+  pub cut_links : LegalLinks w → LegalLinks (without_link w a b)
   cut_links ok = record {
-    links = λ x y with_y. subst LegalBoth (λ i. record { here = end_of (w.row x) y; there = end_of (w.row y) x; out = sym (way_stays x y with_y) i; back = sym (way_back_stays x y with_y) i }) (ok.links x y (grind (arith, nat_tests)));
+    links = λ x y with_y. subst LegalBoth (λ i. record { here = end_of (w.state x) y; there = end_of (w.state y) x; out = sym (way_stays x y with_y) i; back = sym (way_back_stays x y with_y) i }) (ok.links x y (grind (arith, nat_tests)));
     mirrored = λ x y. grind (arith, nat_tests, ok.mirrored x y);
     apart = λ x y with_y. ok.apart x y (grind (arith, nat_tests));
   }
     where
-      way_stays : (x y : ℕ) → (cut w a b).linked x y ≡ true → (cut w a b).way x y ≡ w.way x y
+      way_stays : (x y : ℕ) → (without_link w a b).linked x y ≡ true → (without_link w a b).way x y ≡ w.way x y
       way_stays x y with_y = grind (arith, nat_tests)
 
-      way_back_stays : (x y : ℕ) → (cut w a b).linked x y ≡ true → (cut w a b).way y x ≡ w.way y x
+      way_back_stays : (x y : ℕ) → (without_link w a b).linked x y ≡ true → (without_link w a b).way y x ≡ w.way y x
       way_back_stays x y with_y = grind (arith, nat_tests)
 
 module _ (w : Ideal) (a b : ℕ) (with_b : w.linked a b ≡ true) (sound : Sound w) where
   -- what the first end does
-  abbrev da : Deed
-  da = lost (w.row a) b
+  abbrev da : Transition
+  da = lost (w.state a) b
 
   -- what the second end does
-  abbrev db : Deed
-  db = lost (w.row b) a
+  abbrev db : Transition
+  db = lost (w.state b) a
 
   -- the world when the first end has acted
   abbrev one_end : Ideal
-  one_end = acts (cut w a b) a da
+  one_end = ideal_applied (without_link w a b) a da
 
   -- the ends are two nodes
   apart : b ≢ a
   apart = (links_of w sound).apart a b with_b
 
   -- the first end is legal then
-  first : Keeps (w.row a) b da
-  first = loses (w.row a) b (sound.nodes a)
+  first : Keeps (w.state a) b da
+  first = loses (w.state a) b (sound.nodes a)
 
   -- and so is the second
-  second : Keeps (w.row b) a db
-  second = loses (w.row b) a (sound.nodes b)
+  second : Keeps (w.state b) a db
+  second = loses (w.state b) a (sound.nodes b)
 
   -- links that are left go to neighbours
-  in_near : (x y : ℕ) → (cut w a b).linked x y ≡ true → contains (w.row x).neighbours y ≡ true
+  in_near : (x y : ℕ) → (without_link w a b).linked x y ≡ true → contains (w.state x).neighbours y ≡ true
   in_near x y with_y = sym (sound.linked x y) ∙ grind (arith, nat_tests)
 
   -- the links are legal when one is cut
-  cut_ok : LegalLinks (cut w a b)
+  cut_ok : LegalLinks (without_link w a b)
   cut_ok = cut_links w a b (links_of w sound)
 
   -- when the first end has acted
   one_ok : LegalLinks one_end
-  one_ok = links_kept (cut w a b) a da cut_ok.mirrored cut_ok.apart (λ x y p q with_y. cut_ok.links x y with_y)
-      (λ y with_y. first.elsewhere (link (cut w a b) a y) y (λ same. absurd (grind (arith, nat_tests))) (in_near a y with_y) refl (cut_ok.links a y with_y))
+  one_ok = links_kept (without_link w a b) a da cut_ok.mirrored cut_ok.apart (λ x y p q with_y. cut_ok.links x y with_y)
+      (λ y with_y. first.elsewhere (link (without_link w a b) a y) y (λ same. absurd (grind (arith, nat_tests))) (in_near a y with_y) refl (cut_ok.links a y with_y))
 
   -- which the second end does not see
-  row_b : one_end.row b ≡ w.row b
-  row_b = row_there (cut w a b) a da b apart
+  row_b : one_end.state b ≡ w.state b
+  row_b = row_there (without_link w a b) a da b apart
 
   -- and when the second end has too
   both_ok : LegalLinks (dropped w a b)
@@ -139,25 +139,25 @@ module _ (w : Ideal) (a b : ℕ) (with_b : w.linked a b ≡ true) (sound : Sound
       (λ y with_y. second.elsewhere (link one_end b y) y (λ same. absurd (grind (arith, nat_tests))) (in_near b y with_y) (ap (λ r. end_of r y) row_b) (one_ok.links b y with_y))
 
   -- the states at the end
-  row_is : (x : ℕ) → (dropped w a b).row x ≡ cond (eqb x b) db.row (cond (eqb x a) da.row (w.row x))
+  row_is : (x : ℕ) → (dropped w a b).state x ≡ cond (eqb x b) db.state (cond (eqb x a) da.state (w.state x))
   row_is x = refl
 
   -- each node is legal
-  nodes_ok : (x : ℕ) → SoundNode ((dropped w a b).row x)
-  nodes_ok = everywhere (λ x. SoundNode ((dropped w a b).row x)) b (subst SoundNode (sym (row_here one_end b db)) second.node)
+  nodes_ok : (x : ℕ) → SoundNode ((dropped w a b).state x)
+  nodes_ok = everywhere (λ x. SoundNode ((dropped w a b).state x)) b (subst SoundNode (sym (row_here one_end b db)) second.node)
       (λ x far. subst SoundNode (sym (row_there one_end b db x far))
-      (everywhere (λ z. SoundNode (one_end.row z)) a (subst SoundNode (sym (row_here (cut w a b) a da)) first.node) (λ z other. subst SoundNode (sym (row_there (cut w a b) a da z other)) (sound.nodes z)) x))
+      (everywhere (λ z. SoundNode (one_end.state z)) a (subst SoundNode (sym (row_here (without_link w a b) a da)) first.node) (λ z other. subst SoundNode (sym (row_there (without_link w a b) a da z other)) (sound.nodes z)) x))
 
   -- each node names its links
-  near_ok : (x y : ℕ) → (dropped w a b).linked x y ≡ contains ((dropped w a b).row x).neighbours y
-  near_ok x y = everywhere (λ z. (dropped w a b).linked z y ≡ contains ((dropped w a b).row z).neighbours y) b
-      (grind (arith, nat_tests, sound.linked b y, has_remove (w.row b).neighbours a y) ∙ ap (λ s. contains s y) (sym (goes_lost (w.row b) a).neighbours) ∙ ap (λ r. contains r.neighbours y) (sym (row_here one_end b db)))
+  near_ok : (x y : ℕ) → (dropped w a b).linked x y ≡ contains ((dropped w a b).state x).neighbours y
+  near_ok x y = everywhere (λ z. (dropped w a b).linked z y ≡ contains ((dropped w a b).state z).neighbours y) b
+      (grind (arith, nat_tests, sound.linked b y, has_remove (w.state b).neighbours a y) ∙ ap (λ s. contains s y) (sym (goes_lost (w.state b) a).neighbours) ∙ ap (λ r. contains r.neighbours y) (sym (row_here one_end b db)))
       (λ z far. near_one z far ∙ ap (λ r. contains r.neighbours y) (sym (row_there one_end b db z far))) x
     where
-      near_one : (z : ℕ) → z ≢ b → (dropped w a b).linked z y ≡ contains (one_end.row z).neighbours y
-      near_one = everywhere (λ z. z ≢ b → (dropped w a b).linked z y ≡ contains (one_end.row z).neighbours y) a
-          (λ far. grind (arith, nat_tests, far, sound.linked a y, has_remove (w.row a).neighbours b y) ∙ ap (λ s. contains s y) (sym (goes_lost (w.row a) b).neighbours) ∙ ap (λ r. contains r.neighbours y) (sym (row_here (cut w a b) a da)))
-          (λ z other far. grind (arith, nat_tests, far, other, sound.linked z y) ∙ ap (λ r. contains r.neighbours y) (sym (row_there (cut w a b) a da z other)))
+      near_one : (z : ℕ) → z ≢ b → (dropped w a b).linked z y ≡ contains (one_end.state z).neighbours y
+      near_one = everywhere (λ z. z ≢ b → (dropped w a b).linked z y ≡ contains (one_end.state z).neighbours y) a
+          (λ far. grind (arith, nat_tests, far, sound.linked a y, has_remove (w.state a).neighbours b y) ∙ ap (λ s. contains s y) (sym (goes_lost (w.state a) b).neighbours) ∙ ap (λ r. contains r.neighbours y) (sym (row_here (without_link w a b) a da)))
+          (λ z other far. grind (arith, nat_tests, far, other, sound.linked z y) ∙ ap (λ r. contains r.neighbours y) (sym (row_there (without_link w a b) a da z other)))
 
   -- a link that is dropped
   pub drop_kept : Sound (dropped w a b)

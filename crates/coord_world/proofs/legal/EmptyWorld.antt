@@ -7,12 +7,12 @@ use Rattle.coord_types.specs.Table.{get}
 use Rattle.coord_types.proofs.Sets.{contains-empty}
 use Rattle.coord_types.proofs.Tables.{get-empty, len-empty}
 use Rattle.coord_link.specs.LaneMachine.{Lane}
-use Rattle.coord_world.specs.Legal.{Legal}
-use Rattle.coord_world.specs.NumberedWorld.{is_linked, no_world, pair_cmp_total, state_or_none}
-use Rattle.coord_world.specs.Ranges.{InRange}
+use Rattle.coord_world.specs.protocol.Legal.{Legal}
+use Rattle.coord_world.specs.protocol.NumberedWorld.{is_linked, no_world, pair_cmp_total, state_or_none}
+use Rattle.coord_world.specs.protocol.Ranges.{InRange}
 
 -- no node
-no_row : (u : ℕ) → get no_world.rows u ≡ None
+no_row : (u : ℕ) → get no_world.nodes u ≡ None
 no_row u = get-empty nat_cmp_total u
 
 -- no lane

@@ -3,11 +3,11 @@ use Rattle.std.proofs.Common.{ℕ, ◌+◌, arith}
 use Rattle.coord_types.specs.declared.steps.Command.TheVariants.{Add}
 use Rattle.coord_types.specs.declared.steps.Step.{Step}
 use Rattle.coord_types.specs.declared.steps.Step.TheVariants.{Order}
-use Rattle.coord_world.specs.Acceptance.{IsFresh}
-use Rattle.coord_world.specs.Legal.{Legal}
-use Rattle.coord_world.specs.Next.{next}
-use Rattle.coord_world.specs.NumberedWorld.{World}
-use Rattle.coord_world.specs.Ranges.{InRange}
+use Rattle.coord_world.specs.protocol.Acceptance.{IsFresh}
+use Rattle.coord_world.specs.protocol.Legal.{Legal}
+use Rattle.coord_world.specs.protocol.Next.{next}
+use Rattle.coord_world.specs.protocol.NumberedWorld.{World}
+use Rattle.coord_world.specs.protocol.Ranges.{InRange}
 use Rattle.coord_world.proofs.legal.SoundNode.{EpochsFit, epochs_fit}
 use Rattle.coord_world.proofs.ranges.EveryNode.{Adds, AllRows, Carries, rows_next}
 
@@ -29,7 +29,7 @@ new_fits count (Order c n (Add u g)) = record { confirmed = omega arith; entered
 new_fits count s = tt
 
 -- each node keeps it through a fresh step
-pub epochs_next : (w settled : World) (s : Step) → InRange w → Legal w → IsFresh w settled s → AllRows (λ x r. EpochsFit (w.count + 1) r) (next w s).rows
+pub epochs_next : (w settled : World) (s : Step) → InRange w → Legal w → IsFresh w settled s → AllRows (λ x r. EpochsFit (w.count + 1) r) (next w s).nodes
 epochs_next w settled s range legal fresh =
     rows_next (λ x r. EpochsFit w.count r) (λ x r. EpochsFit (w.count + 1) r) w (carries_epochs w.count)
     (λ x r is. epochs_fit w.count r (legal.nodes x r is))

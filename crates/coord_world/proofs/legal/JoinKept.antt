@@ -8,10 +8,10 @@ use Rattle.coord_types.proofs.Sets.{contains-insert}
 use Rattle.coord_node.specs.IdealRules.{is_link, linked_up}
 use Rattle.coord_node.specs.Rules.{is_parent, with_neighbour}
 use Rattle.coord_world.proofs.legal.SoundNode.{SoundNode}
-use Rattle.coord_world.specs.Links.{end_of}
-use Rattle.coord_world.proofs.legal.DeedKept.{LegalLinks, legal_end, links_of, sound_of}
+use Rattle.coord_world.specs.protocol.Links.{end_of}
+use Rattle.coord_world.proofs.legal.TransitionKept.{LegalLinks, legal_end, links_of, sound_of}
 use Rattle.coord_world.proofs.Cases.{by_test}
-use Rattle.coord_world.proofs.deeds.LegalBoth.{LegalBoth, joined}
+use Rattle.coord_world.proofs.transitions.LegalBoth.{LegalBoth, joined}
 use Rattle.coord_world.proofs.legal.Sound.{Sound}
 
 -- a node with one more neighbour
@@ -32,20 +32,20 @@ module _ (w : Ideal) (a b : ℕ) (apart : a ≢ b) (free : w.linked a b ≡ fals
   back_free = sym ((links_of w sound).mirrored a b) ∙ free
 
   -- the ends of the links do not change
-  same_end : (x y : ℕ) → end_of ((linked_up w a b).row x) y ≡ end_of (w.row x) y
-  same_end x y = by_test (eqb x b) (λ t. end_of (cond t (with_neighbour (w.row b) a) (cond (eqb x a) (with_neighbour (w.row a) b) (w.row x))) y ≡ end_of (w.row x) y)
-      (λ e. let same : x ≡ b = grind (arith, nat_tests) in ap (λ z. end_of (w.row z) y) (sym same))
-      (λ _. by_test (eqb x a) (λ t. end_of (cond t (with_neighbour (w.row a) b) (w.row x)) y ≡ end_of (w.row x) y)
-      (λ e. let same : x ≡ a = grind (arith, nat_tests) in ap (λ z. end_of (w.row z) y) (sym same)) (λ _. refl))
+  same_end : (x y : ℕ) → end_of ((linked_up w a b).state x) y ≡ end_of (w.state x) y
+  same_end x y = by_test (eqb x b) (λ t. end_of (cond t (with_neighbour (w.state b) a) (cond (eqb x a) (with_neighbour (w.state a) b) (w.state x))) y ≡ end_of (w.state x) y)
+      (λ e. let same : x ≡ b = grind (arith, nat_tests) in ap (λ z. end_of (w.state z) y) (sym same))
+      (λ _. by_test (eqb x a) (λ t. end_of (cond t (with_neighbour (w.state a) b) (w.state x)) y ≡ end_of (w.state x) y)
+      (λ e. let same : x ≡ a = grind (arith, nat_tests) in ap (λ z. end_of (w.state z) y) (sym same)) (λ _. refl))
 
   -- a node neither awaits one that it is not linked to, nor has it as its parent
-  strangers : (x y : ℕ) → w.linked x y ≡ false → (contains (w.row x).pend y ≡ false) × (is_parent (w.row x).parent y ≡ false)
+  strangers : (x y : ℕ) → w.linked x y ≡ false → (contains (w.state x).pend y ≡ false) × (is_parent (w.state x).parent y ≡ false)
   strangers x y none =
-      let apart_near : contains (w.row x).neighbours y ≡ false = sym (sound.linked x y) ∙ none in
+      let apart_near : contains (w.state x).neighbours y ≡ false = sym (sound.linked x y) ∙ none in
       (grind (arith, (sound.nodes x).within y, apart_near), grind (arith, (sound.nodes x).parent_near y, apart_near))
 
   -- so a new link is legal
-  new_link : (x y : ℕ) → w.linked x y ≡ false → w.linked y x ≡ false → LegalBoth (record { here = end_of (w.row x) y; there = end_of (w.row y) x; out = []; back = [] })
+  new_link : (x y : ℕ) → w.linked x y ≡ false → w.linked y x ≡ false → LegalBoth (record { here = end_of (w.state x) y; there = end_of (w.state y) x; out = []; back = [] })
   new_link x y none back = record {
     here = legal_end _ y (sound.nodes x);
     there = legal_end _ x (sound.nodes y);
@@ -61,28 +61,28 @@ module _ (w : Ideal) (a b : ℕ) (apart : a ≢ b) (free : w.linked a b ≡ fals
     apart = λ x y with_y same. grind (arith, nat_tests, (links_of w sound).apart x y, same);
   }
     where
-      plain : (x y : ℕ) → (linked_up w a b).linked x y ≡ true → LegalBoth (record { here = end_of (w.row x) y; there = end_of (w.row y) x; out = (linked_up w a b).way x y; back = (linked_up w a b).way y x })
+      plain : (x y : ℕ) → (linked_up w a b).linked x y ≡ true → LegalBoth (record { here = end_of (w.state x) y; there = end_of (w.state y) x; out = (linked_up w a b).way x y; back = (linked_up w a b).way y x })
       plain x y with_y = both_ways (is_link a b x y) (is_link a b y x) refl refl
         where
-          both_ways : (s t : Bool) → is_link a b x y ≡ s → is_link a b y x ≡ t → LegalBoth (record { here = end_of (w.row x) y; there = end_of (w.row y) x; out = cond s [] (w.way x y); back = cond t [] (w.way y x) })
+          both_ways : (s t : Bool) → is_link a b x y ≡ s → is_link a b y x ≡ t → LegalBoth (record { here = end_of (w.state x) y; there = end_of (w.state y) x; out = cond s [] (w.way x y); back = cond t [] (w.way y x) })
           both_ways true true e f = new_link x y (grind (arith, nat_tests, free, back_free)) (grind (arith, nat_tests, free, back_free))
           both_ways true false e f = absurd (grind (arith, nat_tests))
           both_ways false true e f = absurd (grind (arith, nat_tests))
           both_ways false false e f = (links_of w sound).links x y (grind (arith, nat_tests))
 
   -- each node is legal
-  up_nodes : (x : ℕ) → SoundNode ((linked_up w a b).row x)
-  up_nodes x = by_test (eqb x b) (λ t. SoundNode (cond t (with_neighbour (w.row b) a) (cond (eqb x a) (with_neighbour (w.row a) b) (w.row x))))
-      (λ _. wider (w.row b) a (sound.nodes b))
-      (λ _. by_test (eqb x a) (λ t. SoundNode (cond t (with_neighbour (w.row a) b) (w.row x)))
-      (λ _. wider (w.row a) b (sound.nodes a)) (λ _. sound.nodes x))
+  up_nodes : (x : ℕ) → SoundNode ((linked_up w a b).state x)
+  up_nodes x = by_test (eqb x b) (λ t. SoundNode (cond t (with_neighbour (w.state b) a) (cond (eqb x a) (with_neighbour (w.state a) b) (w.state x))))
+      (λ _. wider (w.state b) a (sound.nodes b))
+      (λ _. by_test (eqb x a) (λ t. SoundNode (cond t (with_neighbour (w.state a) b) (w.state x)))
+      (λ _. wider (w.state a) b (sound.nodes a)) (λ _. sound.nodes x))
 
   -- each node names its links
-  up_near : (x y : ℕ) → (linked_up w a b).linked x y ≡ contains ((linked_up w a b).row x).neighbours y
-  up_near x y = by_test (eqb x b) (λ t. (linked_up w a b).linked x y ≡ contains (cond t (with_neighbour (w.row b) a) (cond (eqb x a) (with_neighbour (w.row a) b) (w.row x))).neighbours y)
-      (λ e. grind (arith, nat_tests, contains-insert (w.row b).neighbours a y, sound.linked b y))
-      (λ f. by_test (eqb x a) (λ t. (linked_up w a b).linked x y ≡ contains (cond t (with_neighbour (w.row a) b) (w.row x)).neighbours y)
-      (λ e. grind (arith, nat_tests, contains-insert (w.row a).neighbours b y, sound.linked a y)) (λ g. grind (arith, nat_tests, sound.linked x y)))
+  up_near : (x y : ℕ) → (linked_up w a b).linked x y ≡ contains ((linked_up w a b).state x).neighbours y
+  up_near x y = by_test (eqb x b) (λ t. (linked_up w a b).linked x y ≡ contains (cond t (with_neighbour (w.state b) a) (cond (eqb x a) (with_neighbour (w.state a) b) (w.state x))).neighbours y)
+      (λ e. grind (arith, nat_tests, contains-insert (w.state b).neighbours a y, sound.linked b y))
+      (λ f. by_test (eqb x a) (λ t. (linked_up w a b).linked x y ≡ contains (cond t (with_neighbour (w.state a) b) (w.state x)).neighbours y)
+      (λ e. grind (arith, nat_tests, contains-insert (w.state a).neighbours b y, sound.linked a y)) (λ g. grind (arith, nat_tests, sound.linked x y)))
 
   -- a link that is made
   pub join_kept : Sound (linked_up w a b)

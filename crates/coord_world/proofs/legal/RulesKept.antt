@@ -10,13 +10,13 @@ use Rattle.coord_types.specs.declared.messages.Mode.TheVariants.{Abort, Converge
 use Rattle.coord_types.specs.declared.messages.Msg.{Msg}
 use Rattle.coord_types.specs.declared.messages.Msg.TheVariants as msg
 use Rattle.coord_types.proofs.Sets.{contains-empty}
-use Rattle.coord_node.specs.IdealRules.{acts, added}
-use Rattle.coord_node.specs.Rules.{Deed, answer, deed, finish, idle, is_empty, is_parent, on_abort, on_ack, on_ready, request, wave_back, wave_on}
-use Rattle.coord_world.specs.Links.{link, acks, is_abort, is_ready}
-use Rattle.coord_world.proofs.legal.DeedKept.{both_before, but_of, deed_kept, not_self}
-use Rattle.coord_world.proofs.deeds.LegalBoth.{LegalBoth, acked, acked_last, converges_near, passed_by, released, wave_ends, wave_meets, wave_reaches}
-use Rattle.coord_world.proofs.deeds.KeepsLinks.{Aside, Keeps, aside_acked, aside_self, has_without, keeps_alone, keeps_answer, keeps_converge, keeps_finish, keeps_idle, keeps_wave_back, keeps_wave_on}
-use Rattle.coord_world.proofs.deeds.RuleCases.{abort_cases, ack_cases, acked_by, ready_cases, request_cases}
+use Rattle.coord_node.specs.IdealRules.{ideal_applied, added}
+use Rattle.coord_node.specs.Rules.{Transition, answer, transition, finish, idle, is_empty, is_parent, on_abort, on_ack, on_ready, request, wave_back, wave_on}
+use Rattle.coord_world.specs.protocol.Links.{link, acks, is_abort, is_ready}
+use Rattle.coord_world.proofs.legal.TransitionKept.{both_before, but_of, deed_kept, not_self}
+use Rattle.coord_world.proofs.transitions.LegalBoth.{LegalBoth, acked, acked_last, converges_near, passed_by, released, wave_ends, wave_meets, wave_reaches}
+use Rattle.coord_world.proofs.transitions.KeepsLinks.{Aside, Keeps, aside_acked, aside_self, has_without, keeps_alone, keeps_answer, keeps_converge, keeps_finish, keeps_idle, keeps_wave_back, keeps_wave_on}
+use Rattle.coord_world.proofs.transitions.RuleCases.{abort_cases, ack_cases, acked_by, ready_cases, request_cases}
 use Rattle.coord_world.proofs.lists.NodeSets.{empty_has, has_remove, has_only}
 use Rattle.coord_world.proofs.legal.Sound.{Sound}
 use Rattle.coord_world.proofs.legal.SoundNode.{SoundNode}
@@ -27,32 +27,32 @@ pub one_parent : (p : Option ℕ) (x y : ℕ) → is_parent p x ≡ true → y �
 one_parent None x y h far = refl
 one_parent (Some p) x y h far = grind (arith, nat_tests)
 
--- what a deed that sends nothing adds
+-- what a transition that sends nothing adds
 nothing : (xs : List Msg) (r : NodeState) (y : ℕ) → xs ++ added (idle r) y ≡ xs
 nothing xs r y = grind (arith, contains-empty y, append-nil xs)
 
 module _ (w : Ideal) (u : ℕ) (sound : Sound w) where
   -- the node that acts
   abbrev r : NodeState
-  r = w.row u
+  r = w.state u
 
-  -- a deed whose cause is the node itself
-  own : (d : Deed) → d.row.neighbours ≡ r.neighbours → Keeps r u d → Sound (acts w u d)
+  -- a transition whose cause is the node itself
+  own : (d : Transition) → d.state.neighbours ≡ r.neighbours → Keeps r u d → Sound (ideal_applied w u d)
   own d same keeps = deed_kept w u d (but_of w u sound) (λ y with_y.
       let near : contains r.neighbours y ≡ true = sym (sound.linked u y) ∙ with_y in
       keeps.elsewhere (link w u y) y (not_self w u sound y near) near refl (both_before w u sound y near)) same keeps.node
 
   -- a reset that is asked for
-  pub reset_kept : Sound (acts w u (request r))
-  reset_kept = request_cases r (λ d k. Sound (acts w u d))
+  pub reset_kept : Sound (ideal_applied w u (request r))
+  reset_kept = request_cases r (λ d k. Sound (ideal_applied w u d))
       (λ ready none. own (finish r) refl (keeps_alone r u (sound.nodes u) ready none))
       (λ ready some. own (wave_on r None r.neighbours) refl (keeps_wave_on r u (sound.nodes u) None r.neighbours ready some (λ y e. cc) (λ y. refl) (λ e. cc)))
       (own (idle r) refl (keeps_idle r r u (aside_self r u (sound.nodes u)) (sound.nodes u)))
 
-module _ (w : Ideal) (v u : ℕ) (rest : List Msg) (near : contains (w.row u).neighbours v ≡ true) (sound : Sound w) where
+module _ (w : Ideal) (v u : ℕ) (rest : List Msg) (near : contains (w.state u).neighbours v ≡ true) (sound : Sound w) where
   -- the node that takes the message, and its link to the sender before
   abbrev taker : NodeState
-  taker = w.row u
+  taker = w.state u
 
   before : LegalBoth (link w u v)
   before = both_before w u sound v near
@@ -127,7 +127,7 @@ module _ (w : Ideal) (v u : ℕ) (rest : List Msg) (near : contains (w.row u).ne
       (grind (arith, nat_tests, has_without taker.neighbours taker.parent v, child, append-nil (w.way u v))) front before))
 
 -- any message that is taken
-pub taken_kept : (w : Ideal) (v u : ℕ) (m : Msg) (rest : List Msg) → w.way v u ≡ m ∷ rest → contains (w.row u).neighbours v ≡ true → Sound w → Sound (after_take w v u (deed m (w.row u) v))
+pub taken_kept : (w : Ideal) (v u : ℕ) (m : Msg) (rest : List Msg) → w.way v u ≡ m ∷ rest → contains (w.state u).neighbours v ≡ true → Sound w → Sound (after_take w v u (transition m (w.state u) v))
 taken_kept w v u msg.Abort rest front near sound = abort_taken w v u rest near sound front
 taken_kept w v u msg.Ack rest front near sound = ack_taken w v u rest near sound front
 taken_kept w v u msg.Ready rest front near sound = ready_taken w v u rest near sound front

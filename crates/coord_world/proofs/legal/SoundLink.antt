@@ -2,7 +2,7 @@
 use Rattle.std.proofs.Common.{◌≡◌, ℕ, ◌+◌, ◌≤◌, Bool, true, false, ◌&&◌, ◌||◌, not, refl, arith}
 use Rattle.std.specs.Prelude.{◌==◌}
 use Rattle.std.proofs.lemmas.Bool.Decides.{nat_tests}
-use Rattle.coord_world.specs.Links.{Link, LegalLink, one, aborts, acks, readies, readies_behind, is_abort, is_converge, is_ready}
+use Rattle.coord_world.specs.protocol.Links.{Link, LegalLink, one, aborts, acks, readies, readies_behind, is_abort, is_converge, is_ready}
 
 -- B to G, as the sender of `out` sees them
 pub record SoundLink (l : Link) : Type 0 where

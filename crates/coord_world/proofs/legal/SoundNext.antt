@@ -12,16 +12,16 @@ use Rattle.coord_types.specs.NodeState.{no_node}
 use Rattle.coord_types.proofs.Sets.{len-empty}
 use Rattle.coord_node.specs.IdealRules.{ideal_next}
 use Rattle.coord_node.specs.Rules.{is_empty}
-use Rattle.coord_world.specs.Acceptance.{IsFresh}
-use Rattle.coord_world.specs.Next.{next}
-use Rattle.coord_world.specs.NumberedWorld.{World, view, row, state_or_none, transit_or_none}
+use Rattle.coord_world.specs.protocol.Acceptance.{IsFresh}
+use Rattle.coord_world.specs.protocol.Next.{next}
+use Rattle.coord_world.specs.protocol.NumberedWorld.{World, view, state, state_or_none, transit_or_none}
 use Rattle.coord_world.proofs.lanes.Counts.{AllCount}
 use Rattle.coord_world.proofs.legal.DropKept.{drop_kept}
 use Rattle.coord_world.proofs.acceptance.IsFresh.{fresh_take}
 use Rattle.coord_world.proofs.legal.JoinKept.{join_kept}
 use Rattle.coord_world.proofs.view.ViewOfNext.{view_next}
 use Rattle.coord_world.proofs.acceptance.FreshOrder.{Passes, fresh_order}
-use Rattle.coord_world.proofs.legal.RowKept.{confirm_kept, new_kept}
+use Rattle.coord_world.proofs.legal.StateKept.{confirm_kept, new_kept}
 use Rattle.coord_world.proofs.legal.RulesKept.{reset_kept, taken_kept}
 use Rattle.coord_world.proofs.legal.Sound.{Sound}
 
@@ -43,7 +43,7 @@ ideal_kept : (w settled : World) (s : Step) → Sound (view w) → IsFresh w set
 ideal_kept w settled (Order c n x) sound fresh = ordered_kept w c n x sound (fresh_order w settled c n x fresh)
 ideal_kept w settled (Take p) sound fresh =
     let take = fresh_take w settled p fresh in
-    let out : contains (row w p.from).neighbours p.to ≡ true = sym (sound.linked p.from p.to) ∙ ap is_some take.there in
+    let out : contains (state w p.from).neighbours p.to ≡ true = sym (sound.linked p.from p.to) ∙ ap is_some take.there in
     let front : transit_or_none (get w.lanes (p.from, p.to)) ≡ p.msg ∷ take.rest = ap transit_or_none take.there ∙ grind (arith, nat_tests, take.idle) ∙ take.front in
     taken_kept (view w) p.from p.to p.msg take.rest front (sym (sound.mirrored p.from p.to) ∙ out) sound
 ideal_kept w settled (Clear p) sound fresh = sound

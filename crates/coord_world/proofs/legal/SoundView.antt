@@ -2,20 +2,20 @@
 use Rattle.std.proofs.Common.{◌≡◌, ℕ, Option, Some, None, refl, sym, ◌∙◌}
 use Rattle.coord_types.specs.NodeState.{NodeState}
 use Rattle.coord_types.specs.Table.{get}
-use Rattle.coord_world.specs.Legal.{Legal}
-use Rattle.coord_world.specs.Links.{link}
+use Rattle.coord_world.specs.protocol.Legal.{Legal}
+use Rattle.coord_world.specs.protocol.Links.{link}
 use Rattle.coord_world.proofs.legal.SoundLink.{sound_link}
 use Rattle.coord_world.proofs.legal.SoundNode.{SoundNode, sound_node}
-use Rattle.coord_world.specs.NumberedWorld.{World, view, row, state_or_none}
-use Rattle.coord_world.specs.Ranges.{InRange}
-use Rattle.coord_world.proofs.legal.RowKept.{new_legal}
+use Rattle.coord_world.specs.protocol.NumberedWorld.{World, view, state, state_or_none}
+use Rattle.coord_world.specs.protocol.Ranges.{InRange}
+use Rattle.coord_world.proofs.legal.StateKept.{new_legal}
 use Rattle.coord_world.proofs.legal.Sound.{Sound}
 
 -- what holds of a new node and of each node that is there holds at every number
-pub at_each : (w : World) (P : NodeState → Type 0) → P (state_or_none None) → ((u : ℕ) (r : NodeState) → get w.rows u ≡ Some r → P r) → (u : ℕ) → P (row w u)
-at_each w P none some u = of_option (get w.rows u) refl
+pub at_each : (w : World) (P : NodeState → Type 0) → P (state_or_none None) → ((u : ℕ) (r : NodeState) → get w.nodes u ≡ Some r → P r) → (u : ℕ) → P (state w u)
+at_each w P none some u = of_option (get w.nodes u) refl
   where
-    of_option : (o : Option NodeState) → get w.rows u ≡ o → P (state_or_none o)
+    of_option : (o : Option NodeState) → get w.nodes u ≡ o → P (state_or_none o)
     of_option None is = none
     of_option (Some r) is = some u r is
 

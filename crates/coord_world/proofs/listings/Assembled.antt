@@ -14,13 +14,13 @@ use Rattle.coord_types.proofs.Sets.{contains-empty, len-empty}
 use Rattle.coord_types.proofs.Tables as tables
 use Rattle.coord_types.proofs.Tables.{entries-from_sorted, get-empty, get-from_sorted, option_map}
 use Rattle.coord_link.specs.LaneMachine.{Lane}
-use Rattle.coord_world.specs.Assembly.{assembled, client_entry, node_entry, state_of}
-use Rattle.coord_world.specs.NumberedWorld.{is_linked, pair_cmp, pair_cmp_total, row, state_or_none}
-use Rattle.coord_world.specs.Parts.{by_client, by_id, client_row, goes_up, group_in, link_row, node_row, rows_of, HasEnds, LinkRowFits, NodeRowFits, Rows, RowsFit}
-use Rattle.coord_world.specs.Ranges.{InRange, IsNode, LaneInRange, NodeInRange, SessionInRange}
-use Rattle.coord_world.specs.declared.parts.ClientRow.{ClientRow}
-use Rattle.coord_world.specs.declared.parts.LinkRow.{LinkRow}
-use Rattle.coord_world.specs.declared.parts.NodeRow.{NodeRow}
+use Rattle.coord_world.specs.code.Assembly.{assembled, client_entry, node_entry, state_of}
+use Rattle.coord_world.specs.protocol.NumberedWorld.{is_linked, pair_cmp, pair_cmp_total, state, state_or_none}
+use Rattle.coord_world.specs.protocol.Rows.{by_client, by_id, client_row, goes_up, group_in, link_row, node_row, rows_of, HasEnds, LinkRowFits, NodeRowFits, Rows, RowsFit}
+use Rattle.coord_world.specs.protocol.Ranges.{InRange, IsNode, LaneInRange, NodeInRange, SessionInRange}
+use Rattle.coord_world.specs.declared.rows.parts.ClientRow.{ClientRow}
+use Rattle.coord_world.specs.declared.rows.parts.LinkRow.{LinkRow}
+use Rattle.coord_world.specs.declared.rows.parts.NodeRow.{NodeRow}
 use Rattle.coord_world.proofs.Cases.{by_test}
 use Rattle.coord_world.proofs.lists.KeyedLists.{all_weaker, each_value, find-values, found, sorted-keys}
 use Rattle.coord_world.proofs.listings.WithLinks.{Listed, OneInc, Turned, backs, contains-near_with, each_lane, find-forth, find-ups, first_or, get-with_links, lane_at, lanes_apart, lanes_mirrored, len-near_with, len-with_links, listed_ends, one_inc, rows-forth, tied_pair, ups}
@@ -43,7 +43,7 @@ module _ (rows : Rows) (fit : RowsFit rows) where
   turned = all_weaker (LinkRowFits rows.count rows.nodes) Turned (λ r fits. fits.turned) rows.links fit.links
 
   -- what the world has
-  get-node : (u : ℕ) → get (assembled rows).rows u ≡ option_map (state_of rows.links) (find nat_cmp u (by_id rows.nodes))
+  get-node : (u : ℕ) → get (assembled rows).nodes u ≡ option_map (state_of rows.links) (find nat_cmp u (by_id rows.nodes))
   get-node u = get-from_sorted nat_cmp_total (map (node_entry rows.links) rows.nodes) u nodes_sorted ∙ find-values nat_cmp (λ r. r.id) (state_of rows.links) u rows.nodes
 
   get-lane : (x y : ℕ) → get (assembled rows).lanes (x, y) ≡ lane_at x y rows.links
@@ -63,7 +63,7 @@ module _ (rows : Rows) (fit : RowsFit rows) where
   client_fits c s there = found nat_cmp (λ r. r.client) same_number (λ r. SessionInRange rows.count r.client r.session) c rows.clients s fit.clients there
 
   -- what holds of the node of each row holds of each node
-  each_node : (P : NodeState → Type 0) → P (state_or_none None) → ((s : NodeRow) → NodeRowFits rows.count s → P (state_of rows.links s)) → (u : ℕ) → P (row (assembled rows) u)
+  each_node : (P : NodeState → Type 0) → P (state_or_none None) → ((s : NodeRow) → NodeRowFits rows.count s → P (state_of rows.links s)) → (u : ℕ) → P (state (assembled rows) u)
   each_node P none some = at_each (assembled rows) P none (λ u r is. each_value (state_of rows.links) P (row_at u) (λ s there. some s (node_fits u s there).0) r (sym (get-node u) ∙ is))
 
   -- the ends of lanes are listed, in one group

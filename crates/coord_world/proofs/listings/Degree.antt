@@ -11,9 +11,9 @@ use Rattle.coord_types.specs.Table.{Table, get, has, len, remove}
 use Rattle.coord_types.proofs.Sets.{contains-remove}
 use Rattle.coord_types.proofs.Tables.{get-remove}
 use Rattle.coord_link.specs.LaneMachine.{Lane}
-use Rattle.coord_world.specs.NumberedWorld.{pair_cmp, pair_cmp_total}
-use Rattle.coord_world.specs.Parts.{by_ends, degree, is_end}
-use Rattle.coord_world.specs.declared.parts.LinkRow.{LinkRow}
+use Rattle.coord_world.specs.protocol.NumberedWorld.{pair_cmp, pair_cmp_total}
+use Rattle.coord_world.specs.protocol.Rows.{by_ends, degree, is_end}
+use Rattle.coord_world.specs.declared.rows.parts.LinkRow.{LinkRow}
 use Rattle.coord_world.proofs.Cases.{by_test}
 use Rattle.coord_world.proofs.listings.WithLinks.{Turned}
 use Rattle.coord_world.proofs.lists.TableLen.{len-remove, len-remove_one}

@@ -11,10 +11,10 @@ use Rattle.coord_types.specs.declared.steps.Session.{Session}
 use Rattle.coord_types.proofs.Sets.{same_nodes}
 use Rattle.coord_types.proofs.Tables.{get-change, get-entries, option_map, same_table}
 use Rattle.coord_link.specs.LaneMachine.{Lane}
-use Rattle.coord_world.specs.Laws.{RowsGiveWorld}
-use Rattle.coord_world.specs.NumberedWorld.{World, pair_cmp, row, state_or_none}
-use Rattle.coord_world.specs.Parts.{by_id, client_row, goes_up, lane_or_none, link_row, node_row, rows_of}
-use Rattle.coord_world.specs.Ranges.{InRange}
+use Rattle.coord_world.specs.laws.Laws.{RowsGiveWorld}
+use Rattle.coord_world.specs.protocol.NumberedWorld.{World, pair_cmp, state, state_or_none}
+use Rattle.coord_world.specs.protocol.Rows.{by_id, client_row, goes_up, lane_or_none, link_row, node_row, rows_of}
+use Rattle.coord_world.specs.protocol.Ranges.{InRange}
 use Rattle.coord_world.proofs.Cases.{by_test, some_value}
 use Rattle.coord_world.proofs.listings.WithLinks.{find-ups, tied_pair, ups}
 use Rattle.coord_world.proofs.lists.GetAfter.{same_number, same_pair}
@@ -56,19 +56,19 @@ same_node u (Some r) (Some s) same near =
     λ i. Some (record { group = (rows i).group; mode = (rows i).mode; parent = (rows i).parent; pend = (rows i).pend; neighbours = near i; epoch = (rows i).epoch; confirmed = (rows i).confirmed })
 
 -- a node's row by its number
-rows_keyed : (w : World) → entries (change (λ u r. node_row (u, r)) w.rows) ≡ by_id (map node_row (entries w.rows))
+rows_keyed : (w : World) → entries (change (λ u r. node_row (u, r)) w.nodes) ≡ by_id (map node_row (entries w.nodes))
 unfolding change
-rows_keyed w = keyed (entries w.rows)
+rows_keyed w = keyed (entries w.nodes)
   where
     keyed : (es : List (ℕ × NodeState)) → map (λ e. (e.0, node_row e)) es ≡ by_id (map node_row es)
     keyed [] = refl
     keyed (e ∷ es) = ap (λ l. (e.0, node_row e) ∷ l) (keyed es)
 
 -- the row that is listed of a node
-pub row_listed : (w : World) (u : ℕ) → find nat_cmp u (by_id (map node_row (entries w.rows))) ≡ option_map (λ r. node_row (u, r)) (get w.rows u)
+pub row_listed : (w : World) (u : ℕ) → find nat_cmp u (by_id (map node_row (entries w.nodes))) ≡ option_map (λ r. node_row (u, r)) (get w.nodes u)
 row_listed w u =
-    let keyed = change (λ k r. node_row (k, r)) w.rows in
-    ap (find nat_cmp u) (sym (rows_keyed w)) ∙ sym (get-entries keyed u) ∙ get-change nat_cmp (λ k r. node_row (k, r)) same_number w.rows u
+    let keyed = change (λ k r. node_row (k, r)) w.nodes in
+    ap (find nat_cmp u) (sym (rows_keyed w)) ∙ sym (get-entries keyed u) ∙ get-change nat_cmp (λ k r. node_row (k, r)) same_number w.nodes u
 
 module _ (v w : World) (in_v : InRange v) (in_w : InRange w) (same : rows_of v ≡ rows_of w) where
   same_ups : ups v ≡ ups w
@@ -93,22 +93,22 @@ module _ (v w : World) (in_v : InRange v) (in_w : InRange w) (same : rows_of v �
       (λ not_down. let tied : x ≡ y = grind (arith, nat_tests) in
       subst (λ z. get v.lanes (x, z) ≡ get w.lanes (x, z)) tied (same_lane _ _ (in_v.apart x ∙ sym (in_w.apart x)) (λ there. let none = in_v.apart x in cc))))
 
-  same_neighbours : (u : ℕ) → (row v u).neighbours ≡ (row w u).neighbours
+  same_neighbours : (u : ℕ) → (state v u).neighbours ≡ (state w u).neighbours
   same_neighbours u = same_nodes _ _ (λ x. sym (in_v.linked u x) ∙ ap is_some (each_lane u x) ∙ in_w.linked u x)
 
   -- every node
-  each_node : (u : ℕ) → get v.rows u ≡ get w.rows u
-  each_node u = same_node u (get v.rows u) (get w.rows u) (sym (row_listed v u) ∙ ap (λ rows. find nat_cmp u (by_id rows.nodes)) same ∙ row_listed w u) (same_neighbours u)
+  each_node : (u : ℕ) → get v.nodes u ≡ get w.nodes u
+  each_node u = same_node u (get v.nodes u) (get w.nodes u) (sym (row_listed v u) ∙ ap (λ rows. find nat_cmp u (by_id rows.nodes)) same ∙ row_listed w u) (same_neighbours u)
 
   same_sessions : entries v.sessions ≡ entries w.sessions
   same_sessions = sym (same_entry (entries v.sessions)) ∙ ap (λ rows. map (λ r. (r.client, r.session)) rows.clients) same ∙ same_entry (entries w.sessions)
 
   one_world : v ≡ w
   one_world =
-      let rows = same_table nat_cmp-IsAntisymmetric v.rows w.rows each_node in
+      let rows = same_table nat_cmp-IsAntisymmetric v.nodes w.nodes each_node in
       let lanes = same_table tied_pair v.lanes w.lanes (λ q. each_lane q.0 q.1) in
       let sessions = same_entries_table v.sessions w.sessions same_sessions in
-      λ i. record { count = (same i).count; rows = rows i; lanes = lanes i; sessions = sessions i }
+      λ i. record { count = (same i).count; nodes = rows i; lanes = lanes i; sessions = sessions i }
 
 -- rows tell worlds apart
 pub rows_give_world : RowsGiveWorld

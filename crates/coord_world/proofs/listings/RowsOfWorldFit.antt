@@ -14,11 +14,11 @@ use Rattle.coord_types.specs.Table.{entries, get, has}
 use Rattle.coord_types.proofs.Sets.{len-empty}
 use Rattle.coord_types.proofs.Tables.{get-entries, option_map}
 use Rattle.coord_link.specs.LaneMachine.{Lane}
-use Rattle.coord_world.specs.Laws.{RowsOfWorldFit}
-use Rattle.coord_world.specs.NumberedWorld.{World, is_linked, pair_cmp, pair_cmp_total, row, state_or_none}
-use Rattle.coord_world.specs.Parts.{by_ends, client_row, degree, goes_up, group_in, group_of, lane_or_none, link_row, node_row, LinkRowFits, NodeRowFits}
-use Rattle.coord_world.specs.Ranges.{InRange, LaneInRange, SessionInRange}
-use Rattle.coord_world.specs.declared.parts.LinkRow.{LinkRow}
+use Rattle.coord_world.specs.laws.Laws.{RowsOfWorldFit}
+use Rattle.coord_world.specs.protocol.NumberedWorld.{World, is_linked, pair_cmp, pair_cmp_total, state, state_or_none}
+use Rattle.coord_world.specs.protocol.Rows.{by_ends, client_row, degree, goes_up, group_in, group_of, lane_or_none, link_row, node_row, LinkRowFits, NodeRowFits}
+use Rattle.coord_world.specs.protocol.Ranges.{InRange, LaneInRange, SessionInRange}
+use Rattle.coord_world.specs.declared.rows.parts.LinkRow.{LinkRow}
 use Rattle.coord_world.proofs.Cases.{by_test, some_value}
 use Rattle.coord_world.proofs.listings.Degree.{HasBoth, IsNear, degree_within, links_within}
 use Rattle.coord_world.proofs.lists.KeyedLists.{all_mapped, all_weaker, each_entry, sorted-keys}
@@ -51,9 +51,9 @@ passes true o l is = (refl, is)
 passes false o l is = cc
 
 module _ (w : World) (range : InRange w) where
-  node_fits : (u : ℕ) (r : NodeState) → find nat_cmp u (entries w.rows) ≡ Some r → NodeRowFits w.count (node_row (u, r))
+  node_fits : (u : ℕ) (r : NodeState) → find nat_cmp u (entries w.nodes) ≡ Some r → NodeRowFits w.count (node_row (u, r))
   node_fits u r found =
-      let there : get w.rows u ≡ Some r = get-entries w.rows u ∙ found in
+      let there : get w.nodes u ≡ Some r = get-entries w.nodes u ∙ found in
       let within = range.nodes u r there in
       record {
         least = within.least;
@@ -66,9 +66,9 @@ module _ (w : World) (range : InRange w) where
         confirmed = within.confirmed;
       }
 
-  pub nodes_fit : AllByRecursion (NodeRowFits w.count) (map node_row (entries w.rows))
-  nodes_fit = all_mapped node_row (NodeRowFits w.count) (entries w.rows)
-      (each_entry nat_cmp_total same_number (λ e. NodeRowFits w.count (node_row e)) (entries w.rows) (is_true _ w.rows.sorted) node_fits)
+  pub nodes_fit : AllByRecursion (NodeRowFits w.count) (map node_row (entries w.nodes))
+  nodes_fit = all_mapped node_row (NodeRowFits w.count) (entries w.nodes)
+      (each_entry nat_cmp_total same_number (λ e. NodeRowFits w.count (node_row e)) (entries w.nodes) (is_true _ w.nodes.sorted) node_fits)
 
   pub clients_fit : AllByRecursion (λ r. SessionInRange w.count r.client r.session) (map client_row (entries w.sessions))
   clients_fit = all_mapped client_row (λ r. SessionInRange w.count r.client r.session) (entries w.sessions)
@@ -88,10 +88,10 @@ module _ (w : World) (range : InRange w) where
   way_back a b l there = range.mirrored b a ∙ ap is_some there
 
   -- the group of a node that is there is listed
-  group_listed : (u : ℕ) → has w.rows u ≡ true → group_of (map node_row (entries w.rows)) u ≡ Some (row w u).group
+  group_listed : (u : ℕ) → has w.nodes u ≡ true → group_of (map node_row (entries w.nodes)) u ≡ Some (state w u).group
   group_listed u known = ap group_in (row_listed w u ∙ ap (λ o. option_map (λ r. node_row (u, r)) o) (there_is w u known))
 
-  link_fits : (a b : ℕ) (l : Lane) → goes_up (a, b) ≡ true → get w.lanes (a, b) ≡ Some l → LinkRowFits w.count (map node_row (entries w.rows)) (link_row w ((a, b), l))
+  link_fits : (a b : ℕ) (l : Lane) → goes_up (a, b) ≡ true → get w.lanes (a, b) ≡ Some l → LinkRowFits w.count (map node_row (entries w.nodes)) (link_row w ((a, b), l))
   link_fits a b l up there =
       let linked : is_linked w a b ≡ true = ap is_some there in
       let back = some_value (get w.lanes (b, a)) (way_back a b l there) in
@@ -99,7 +99,7 @@ module _ (w : World) (range : InRange w) where
       record {
         turned = grind (arith, nat_tests);
         ends = record {
-          group = (row w a).group;
+          group = (state w a).group;
           first = group_listed a (range.ends a b linked);
           second = group_listed b (range.ends b a (way_back a b l there)) ∙ ap Some (sym (range.one_group a b linked));
         };
@@ -110,25 +110,25 @@ module _ (w : World) (range : InRange w) where
         one_incarnation = range.one_incarnation a b l back.0 there back.1 ∙ ap (λ k. k.inc) (sym it);
       }
 
-  pub links_fit : AllByRecursion (LinkRowFits w.count (map node_row (entries w.rows))) (map (link_row w) (ups w))
-  links_fit = each_link (LinkRowFits w.count (map node_row (entries w.rows))) link_fits
+  pub links_fit : AllByRecursion (LinkRowFits w.count (map node_row (entries w.nodes))) (map (link_row w) (ups w))
+  links_fit = each_link (LinkRowFits w.count (map node_row (entries w.nodes))) link_fits
 
   links_turned : AllByRecursion Turned (map (link_row w) (ups w))
-  links_turned = all_weaker (LinkRowFits w.count (map node_row (entries w.rows))) Turned (λ r fits. fits.turned) (map (link_row w) (ups w)) links_fit
+  links_turned = all_weaker (LinkRowFits w.count (map node_row (entries w.nodes))) Turned (λ r fits. fits.turned) (map (link_row w) (ups w)) links_fit
 
   pub links_rise : is_sorted pair_cmp (by_ends (map (link_row w) (ups w))) ≡ true
   links_rise = sorted_rows pair_cmp (link_row w) (λ r. (r.a, r.b)) (λ e. refl) (ups w) ∙ ups_sorted
 
   -- the far ends of a node's links are neighbours
-  near : (u a b : ℕ) (l : Lane) → get w.lanes (a, b) ≡ Some l → IsNear u (row w u).neighbours (link_row w ((a, b), l))
-  near u a b l there end = by_test (eqb u a) (λ t. contains (row w u).neighbours (cond t b a) ≡ true)
+  near : (u a b : ℕ) (l : Lane) → get w.lanes (a, b) ≡ Some l → IsNear u (state w u).neighbours (link_row w ((a, b), l))
+  near u a b l there end = by_test (eqb u a) (λ t. contains (state w u).neighbours (cond t b a) ≡ true)
       (λ is. let same : u ≡ a = grind (arith, nat_tests) in sym (range.linked u b) ∙ ap (λ z. is_linked w z b) same ∙ ap is_some there)
       (λ not_a. let same : u ≡ b = grind (arith, nat_tests) in sym (range.linked u a) ∙ ap (λ z. is_linked w z a) same ∙ way_back a b l there)
 
   pub degrees_fit : (u : ℕ) → degree u (map (link_row w) (ups w)) ≤ 16
   degrees_fit u =
       let most = at_each w (λ r. set.len r.neighbours ≤ 16) (omega (arith, len-empty)) (λ v r is. (range.nodes v r is).degree) u in
-      omega (arith, most, degree_within u (row w u).neighbours (map (link_row w) (ups w)) links_turned links_rise (each_link (IsNear u (row w u).neighbours) (λ a b l _ there. near u a b l there)))
+      omega (arith, most, degree_within u (state w u).neighbours (map (link_row w) (ups w)) links_turned links_rise (each_link (IsNear u (state w u).neighbours) (λ a b l _ there. near u a b l there)))
 
   pub most_fit : length (map (link_row w) (ups w)) ≤ 128
   most_fit = omega (
@@ -142,7 +142,7 @@ module _ (w : World) (range : InRange w) where
 pub rows_of_world_fit : RowsOfWorldFit
 rows_of_world_fit w range = record {
   count = range.count;
-  nodes_rise = sorted_rows nat_cmp node_row (λ r. r.id) (λ e. refl) (entries w.rows) ∙ is_true _ w.rows.sorted;
+  nodes_rise = sorted_rows nat_cmp node_row (λ r. r.id) (λ e. refl) (entries w.nodes) ∙ is_true _ w.nodes.sorted;
   nodes = nodes_fit w range;
   links_rise = links_rise w range;
   links = links_fit w range;

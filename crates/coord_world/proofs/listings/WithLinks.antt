@@ -13,11 +13,11 @@ use Rattle.coord_types.proofs.Sets.{contains-insert}
 use Rattle.coord_types.proofs.Tables.{get-entries, get-insert}
 use Rattle.coord_link.specs.LaneMachine.{Lane}
 use Rattle.coord_node.specs.IdealRules.{is_link}
-use Rattle.coord_world.specs.Assembly.{near_with, with_links}
-use Rattle.coord_world.specs.NumberedWorld.{World, pair_cmp, pair_cmp_total}
-use Rattle.coord_world.specs.Parts.{by_ends, degree, goes_up, group_of, lane_or_none, link_row, HasEnds}
-use Rattle.coord_world.specs.declared.parts.LinkRow.{LinkRow}
-use Rattle.coord_world.specs.declared.parts.NodeRow.{NodeRow}
+use Rattle.coord_world.specs.code.Assembly.{near_with, with_links}
+use Rattle.coord_world.specs.protocol.NumberedWorld.{World, pair_cmp, pair_cmp_total}
+use Rattle.coord_world.specs.protocol.Rows.{by_ends, degree, goes_up, group_of, lane_or_none, link_row, HasEnds}
+use Rattle.coord_world.specs.declared.rows.parts.LinkRow.{LinkRow}
+use Rattle.coord_world.specs.declared.rows.parts.NodeRow.{NodeRow}
 use Rattle.coord_world.proofs.Cases.{by_test}
 use Rattle.coord_world.proofs.lists.GetAfter.{same_pair}
 use Rattle.coord_world.proofs.lists.TableLen.{len-insert, len-insert_le}

@@ -8,10 +8,10 @@ use Rattle.coord_types.specs.Table.{Table, get}
 use Rattle.coord_types.proofs.Tables.{get-insert, get-remove, get-change, option_map}
 use Rattle.coord_link.specs.LaneMachine.{Lane, sent, new_lane}
 use Rattle.coord_node.specs.IdealRules.{added, is_link}
-use Rattle.coord_node.specs.Rules.{Deed}
+use Rattle.coord_node.specs.Rules.{Transition}
 use Rattle.coord_types.specs.declared.steps.Command.TheVariants.{Join, Drop}
-use Rattle.coord_world.specs.NumberedWorld.{World, pair_cmp}
-use Rattle.coord_world.specs.Next.{on_lane, does, ordered, is_lane}
+use Rattle.coord_world.specs.protocol.NumberedWorld.{World, pair_cmp}
+use Rattle.coord_world.specs.protocol.Next.{on_lane, applied, ordered, is_lane}
 
 -- numbers that tie are equal
 pub same_number : (p q : ℕ) → eq_by_cmp nat_cmp p q ≡ true → p ≡ q
@@ -39,8 +39,8 @@ get-unset m u q = get-remove m u q ∙ ap (λ b. cond b None (get m q)) (same q)
     same q = grind (arith, nat_tests)
 
 module _ (w : World) where
-  -- a lane after a deed at u
-  pub lane_done : (u : ℕ) (d : Deed) (x y : ℕ) → get (does w u d).lanes (x, y) ≡ option_map (λ l. cond (eqb x u) (sent (added d y) l) l) (get w.lanes (x, y))
+  -- a lane after a transition at u
+  pub lane_done : (u : ℕ) (d : Transition) (x y : ℕ) → get (applied w u d).lanes (x, y) ≡ option_map (λ l. cond (eqb x u) (sent (added d y) l) l) (get w.lanes (x, y))
   lane_done u d x y = get-change pair_cmp (λ k l. cond (eqb k.0 u) (sent (added d k.1) l) l) same_pair w.lanes (x, y)
 
   -- a lane after a change of the one from u to v

@@ -12,11 +12,11 @@ use Rattle.coord_types.specs.declared.steps.Command.TheVariants.{Add, Remove, Jo
 use Rattle.coord_types.specs.declared.steps.Step.{Step}
 use Rattle.coord_types.specs.declared.steps.Step.TheVariants.{Order, Take, Clear}
 use Rattle.coord_node.specs.Rules.{with_neighbour}
-use Rattle.coord_world.specs.Acceptance.{IsFresh}
-use Rattle.coord_world.specs.Next.{next}
-use Rattle.coord_world.specs.NumberedWorld.{World, row, state_or_none}
-use Rattle.coord_world.specs.Ranges.{InRange}
-use Rattle.coord_world.proofs.deeds.NodeGoesOn.{Goes, goes_deed, goes_lost, goes_request}
+use Rattle.coord_world.specs.protocol.Acceptance.{IsFresh}
+use Rattle.coord_world.specs.protocol.Next.{next}
+use Rattle.coord_world.specs.protocol.NumberedWorld.{World, state, state_or_none}
+use Rattle.coord_world.specs.protocol.Ranges.{InRange}
+use Rattle.coord_world.proofs.transitions.NodeGoesOn.{Goes, goes_deed, goes_lost, goes_request}
 use Rattle.coord_world.proofs.acceptance.IsFresh.{fresh_take}
 use Rattle.coord_world.proofs.lists.GetAfter.{get-set, get-unset, each_left, each_made}
 use Rattle.coord_world.proofs.acceptance.FreshOrder.{Passes, fresh_order}
@@ -48,47 +48,47 @@ all_unset : (Q : ℕ → NodeState → Type 0) (rows : Table nat_cmp_total NodeS
 all_unset Q rows u all x r e = all x r (each_left (get rows x) (eqb x u) r (sym (get-unset rows u x) ∙ e))
 
 -- a node that is there has its state
-pub there_is : (w : World) (u : ℕ) → has w.rows u ≡ true → get w.rows u ≡ Some (row w u)
-there_is w u known = of_option (get w.rows u) known
+pub there_is : (w : World) (u : ℕ) → has w.nodes u ≡ true → get w.nodes u ≡ Some (state w u)
+there_is w u known = of_option (get w.nodes u) known
   where
     of_option : (o : Option NodeState) → is_some o ≡ true → o ≡ Some (state_or_none o)
     of_option None e = cc
     of_option (Some r) e = refl
 
-module _ (P Q : ℕ → NodeState → Type 0) (w : World) (carries : Carries P Q) (before : AllRows P w.rows) where
+module _ (P Q : ℕ → NodeState → Type 0) (w : World) (carries : Carries P Q) (before : AllRows P w.nodes) where
   -- nodes stay
-  later : AllRows Q w.rows
+  later : AllRows Q w.nodes
   later x r is = carries.weaken x r (before x r is)
 
-  module _ (u : ℕ) (known : has w.rows u ≡ true) where
+  module _ (u : ℕ) (known : has w.nodes u ≡ true) where
     -- of a node that is there
-    here : P u (row w u)
-    here = before u (row w u) (there_is w u known)
+    here : P u (state w u)
+    here = before u (state w u) (there_is w u known)
 
-    -- a deed of it that keeps its neighbours
-    same_near : (s : NodeState) → Goes (row w u) (row w u).neighbours s → Q u s
-    same_near s goes = carries.goes u (row w u) s (row w u).neighbours here (omega arith) goes
+    -- a transition of it that keeps its neighbours
+    same_near : (s : NodeState) → Goes (state w u) (state w u).neighbours s → Q u s
+    same_near s goes = carries.goes u (state w u) s (state w u).neighbours here (omega arith) goes
 
     -- or that leaves one out
-    less_near : (v : ℕ) (s : NodeState) → Goes (row w u) (set.remove (row w u).neighbours v) s → Q u s
-    less_near v s goes = carries.goes u (row w u) s (set.remove (row w u).neighbours v) here (len-remove_le (row w u).neighbours v) goes
+    less_near : (v : ℕ) (s : NodeState) → Goes (state w u) (set.remove (state w u).neighbours v) s → Q u s
+    less_near v s goes = carries.goes u (state w u) s (set.remove (state w u).neighbours v) here (len-remove_le (state w u).neighbours v) goes
 
   -- by the command
-  ordered_rows : (c n : ℕ) (x : Command) → Passes w x → Adds Q (Order c n x) → AllRows Q (next w (Order c n x)).rows
-  ordered_rows c n (Add u g) new adds = all_set Q w.rows u (new_node g) later adds
-  ordered_rows c n (Remove u) removable adds = all_unset Q w.rows u later
-  ordered_rows c n (Join a b) joinable adds = all_set Q _ b _ (all_set Q w.rows a _ later (carries.widen a (row w a) b (here a joinable.first) joinable.first_room))
-      (carries.widen b (row w b) a (here b joinable.second) joinable.second_room)
-  ordered_rows c n (Drop a b) droppable adds = all_set Q _ b _ (all_set Q w.rows a _ later (less_near a droppable.first b _ (goes_lost (row w a) b)))
-      (less_near b droppable.second a _ (goes_lost (row w b) a))
-  ordered_rows c n (Reset u) known adds = all_set Q w.rows u _ later (same_near u known _ (goes_request (row w u)))
-  ordered_rows c n (Confirm u e) confirmable adds = all_set Q w.rows u _ later (carries.confirm u (row w u) e (here u confirmable.there) confirmable.entered)
+  ordered_rows : (c n : ℕ) (x : Command) → Passes w x → Adds Q (Order c n x) → AllRows Q (next w (Order c n x)).nodes
+  ordered_rows c n (Add u g) new adds = all_set Q w.nodes u (new_node g) later adds
+  ordered_rows c n (Remove u) removable adds = all_unset Q w.nodes u later
+  ordered_rows c n (Join a b) joinable adds = all_set Q _ b _ (all_set Q w.nodes a _ later (carries.widen a (state w a) b (here a joinable.first) joinable.first_room))
+      (carries.widen b (state w b) a (here b joinable.second) joinable.second_room)
+  ordered_rows c n (Drop a b) droppable adds = all_set Q _ b _ (all_set Q w.nodes a _ later (less_near a droppable.first b _ (goes_lost (state w a) b)))
+      (less_near b droppable.second a _ (goes_lost (state w b) a))
+  ordered_rows c n (Reset u) known adds = all_set Q w.nodes u _ later (same_near u known _ (goes_request (state w u)))
+  ordered_rows c n (Confirm u e) confirmable adds = all_set Q w.nodes u _ later (carries.confirm u (state w u) e (here u confirmable.there) confirmable.entered)
 
   -- every node after a fresh step
-  pub rows_next : (settled : World) (s : Step) → InRange w → Adds Q s → IsFresh w settled s → AllRows Q (next w s).rows
+  pub rows_next : (settled : World) (s : Step) → InRange w → Adds Q s → IsFresh w settled s → AllRows Q (next w s).nodes
   rows_next settled (Order c n x) range adds fresh = ordered_rows c n x (fresh_order w settled c n x fresh) adds
   rows_next settled (Take p) range adds fresh =
       let take = fresh_take w settled p fresh in
       let known = range.ends p.to p.from (sym (range.mirrored p.from p.to) ∙ ap is_some take.there) in
-      all_set Q w.rows p.to _ later (same_near p.to known _ (goes_deed (row w p.to) p.from p.msg))
+      all_set Q w.nodes p.to _ later (same_near p.to known _ (goes_deed (state w p.to) p.from p.msg))
   rows_next settled (Clear p) range adds fresh = later

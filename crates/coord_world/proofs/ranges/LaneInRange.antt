@@ -7,9 +7,9 @@ use Rattle.coord_types.specs.declared.steps.Step.{Step}
 use Rattle.coord_types.specs.declared.steps.Step.TheVariants.{Order}
 use Rattle.coord_link.specs.LaneMachine.{Lane, new_lane}
 use Rattle.coord_node.specs.IdealRules.{is_link}
-use Rattle.coord_world.specs.Next.{next, ordered}
-use Rattle.coord_world.specs.NumberedWorld.{World}
-use Rattle.coord_world.specs.Ranges.{InRange, LaneInRange}
+use Rattle.coord_world.specs.protocol.Next.{next, ordered}
+use Rattle.coord_world.specs.protocol.NumberedWorld.{World}
+use Rattle.coord_world.specs.protocol.Ranges.{InRange, LaneInRange}
 use Rattle.coord_world.proofs.lanes.EveryLane.{AllLanes, LaneCarries, Makes, lanes_next}
 use Rattle.coord_world.proofs.lists.GetAfter.{lane_made}
 

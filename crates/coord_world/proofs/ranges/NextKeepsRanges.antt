@@ -10,13 +10,13 @@ use Rattle.coord_types.specs.declared.steps.Step.{Step}
 use Rattle.coord_types.specs.declared.steps.Step.TheVariants.{Order, Take, Clear}
 use Rattle.coord_types.proofs.Sets.{contains-empty}
 use Rattle.coord_link.specs.LaneMachine.{new_lane, took}
-use Rattle.coord_node.specs.Rules.{Deed, is_parent}
-use Rattle.coord_node.specs.Steps.{deeds, deeds_ordered}
-use Rattle.coord_world.specs.Acceptance.{IsFresh}
-use Rattle.coord_world.specs.Laws.{NextKeepsRanges}
-use Rattle.coord_world.specs.Next.{all_do, does, next, on_lane, ordered}
-use Rattle.coord_world.specs.NumberedWorld.{World, is_linked, row, state_or_none, view}
-use Rattle.coord_world.specs.Ranges.{InRange, IsNode, NodeInRange}
+use Rattle.coord_node.specs.Rules.{Transition, is_parent}
+use Rattle.coord_node.specs.Steps.{transitions, transitions_ordered}
+use Rattle.coord_world.specs.protocol.Acceptance.{IsFresh}
+use Rattle.coord_world.specs.laws.Laws.{NextKeepsRanges}
+use Rattle.coord_world.specs.protocol.Next.{all_applied, applied, next, on_lane, ordered}
+use Rattle.coord_world.specs.protocol.NumberedWorld.{World, is_linked, state, state_or_none, view}
+use Rattle.coord_world.specs.protocol.Ranges.{InRange, IsNode, NodeInRange}
 use Rattle.coord_world.proofs.acceptance.IsFresh.{fresh_count}
 use Rattle.coord_world.proofs.ranges.OneGroup.{OneGroup, group_next}
 use Rattle.coord_world.proofs.ranges.LaneInRange.{inc_next, lane_ranges_next}
@@ -33,28 +33,28 @@ use Rattle.coord_world.proofs.legal.Sound.{Sound}
 use Rattle.coord_world.proofs.legal.SoundView.{sound_view}
 
 -- where the lanes are as the nodes name them, each has a node to go from
-pub ends_known : (w : World) → Sound (view w) → (u v : ℕ) → is_linked w u v ≡ true → has w.rows u ≡ true
-ends_known w sound u v linked = of_option (get w.rows u) (sym (sound.linked u v) ∙ linked)
+pub ends_known : (w : World) → Sound (view w) → (u v : ℕ) → is_linked w u v ≡ true → has w.nodes u ≡ true
+ends_known w sound u v linked = of_option (get w.nodes u) (sym (sound.linked u v) ∙ linked)
   where
     of_option : (o : Option NodeState) → contains (state_or_none o).neighbours v ≡ true → is_some o ≡ true
     of_option None e = grind (arith, contains-empty v)
     of_option (Some r) e = refl
 
 -- the neighbours of a node are nodes
-pub near_known : (w : World) (count : ℕ) → Sound (view w) → AllRows (NodeInRange count) w.rows → (u v : ℕ) → contains (row w u).neighbours v ≡ true → IsNode v
+pub near_known : (w : World) (count : ℕ) → Sound (view w) → AllRows (NodeInRange count) w.nodes → (u v : ℕ) → contains (state w u).neighbours v ≡ true → IsNode v
 near_known w count sound nodes u v near =
     let back : is_linked w v u ≡ true = sound.linked v u ∙ sound.mirrored v u ∙ near in
-    let within = nodes v (row w v) (there_is w v (ends_known w sound v u back)) in
+    let within = nodes v (state w v) (there_is w v (ends_known w sound v u back)) in
     (within.least, within.greatest)
 
 -- a parent is a neighbour
 parent_is : (o : Option ℕ) (p : ℕ) → o ≡ Some p → is_parent o p ≡ true
 parent_is o p is = grind (arith, nat_tests, is)
 
--- deeds make and drop no lane
-len-all_do : (w : World) (ds : List (ℕ × Deed)) → len (all_do w ds).lanes ≡ len w.lanes
+-- transitions make and drop no lane
+len-all_do : (w : World) (ds : List (ℕ × Transition)) → len (all_applied w ds).lanes ≡ len w.lanes
 len-all_do w [] = refl
-len-all_do w (d ∷ ds) = len-all_do (does w d.0 d.1) ds ∙ len-change _ w.lanes
+len-all_do w (d ∷ ds) = len-all_do (applied w d.0 d.1) ds ∙ len-change _ w.lanes
 
 -- a step makes two lanes at most, where there are an even number, below 256
 pub links_next : (w settled : World) (s : Step) → InRange w → IsFresh w settled s → len (next w s).lanes ≤ 256
@@ -69,10 +69,10 @@ links_next w settled (Order c n (Join a b)) range fresh =
     omega (arith, even.1, room, one, two)
 links_next w settled (Order c n (Drop a b)) range fresh =
     let fewer : len (ordered w (Drop a b)).lanes ≤ 256 = omega (arith, range.links, len-remove w.lanes (a, b), len-remove (remove w.lanes (a, b)) (b, a)) in
-    subst (λ k. k ≤ 256) (sym (len-all_do (ordered w (Drop a b)) (deeds_ordered (row w) (Drop a b)))) fewer
-links_next w settled (Order c n (Reset u)) range fresh = subst (λ k. k ≤ 256) (sym (len-all_do w (deeds_ordered (row w) (Reset u)))) range.links
+    subst (λ k. k ≤ 256) (sym (len-all_do (ordered w (Drop a b)) (transitions_ordered (state w) (Drop a b)))) fewer
+links_next w settled (Order c n (Reset u)) range fresh = subst (λ k. k ≤ 256) (sym (len-all_do w (transitions_ordered (state w) (Reset u)))) range.links
 links_next w settled (Order c n (Confirm u e)) range fresh = range.links
-links_next w settled (Take p) range fresh = subst (λ k. k ≤ 256) (sym (len-all_do (on_lane w p.from p.to took) (deeds (row w) (Take p)) ∙ len-change _ w.lanes)) range.links
+links_next w settled (Take p) range fresh = subst (λ k. k ≤ 256) (sym (len-all_do (on_lane w p.from p.to took) (transitions (state w) (Take p)) ∙ len-change _ w.lanes)) range.links
 links_next w settled (Clear p) range fresh = subst (λ k. k ≤ 256) (sym (len-change _ w.lanes)) range.links
 
 -- all ranges together
@@ -87,7 +87,7 @@ ranges_next w settled s within range legal fresh =
       lanes = lane_ranges_next w s range;
       short = λ u v l is. (lane_short (next w s) u v l sound is).queued;
       awaited = λ u k awaits. near_known (next w s) (w.count + 1) sound nodes u k ((sound.nodes u).within k awaits);
-      parents = λ u p is. near_known (next w s) (w.count + 1) sound nodes u p ((sound.nodes u).parent_near p (parent_is (row (next w s) u).parent p is));
+      parents = λ u p is. near_known (next w s) (w.count + 1) sound nodes u p ((sound.nodes u).parent_near p (parent_is (state (next w s) u).parent p is));
       sessions = sessions_next w range settled s within fresh;
       links = links_next w settled s range fresh;
       linked = sound.linked;

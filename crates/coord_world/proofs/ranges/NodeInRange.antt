@@ -5,10 +5,10 @@ use Rattle.coord_types.specs.declared.steps.Command.TheVariants.{Add}
 use Rattle.coord_types.specs.declared.steps.Step.{Step}
 use Rattle.coord_types.specs.declared.steps.Step.TheVariants.{Order}
 use Rattle.coord_types.proofs.Sets.{len-empty}
-use Rattle.coord_world.specs.Acceptance.{IsFresh}
-use Rattle.coord_world.specs.Next.{next}
-use Rattle.coord_world.specs.NumberedWorld.{World}
-use Rattle.coord_world.specs.Ranges.{InRange, NodeInRange, StepInRange}
+use Rattle.coord_world.specs.protocol.Acceptance.{IsFresh}
+use Rattle.coord_world.specs.protocol.Next.{next}
+use Rattle.coord_world.specs.protocol.NumberedWorld.{World}
+use Rattle.coord_world.specs.protocol.Ranges.{InRange, NodeInRange, StepInRange}
 use Rattle.coord_world.proofs.ranges.EveryNode.{Adds, AllRows, Carries, rows_next}
 use Rattle.coord_world.proofs.lists.TableLen.{len-insert_le}
 
@@ -69,6 +69,6 @@ new_in_range count (Order c n (Add u g)) within =
 new_in_range count s within = tt
 
 -- each node stays in its ranges through a fresh step
-pub nodes_next : (w settled : World) (s : Step) → StepInRange s → InRange w → IsFresh w settled s → AllRows (NodeInRange (w.count + 1)) (next w s).rows
+pub nodes_next : (w settled : World) (s : Step) → StepInRange s → InRange w → IsFresh w settled s → AllRows (NodeInRange (w.count + 1)) (next w s).nodes
 nodes_next w settled s within range fresh =
     rows_next (NodeInRange w.count) (NodeInRange (w.count + 1)) w (carries_ranges w.count) range.nodes settled s range (new_in_range (w.count + 1) s within) fresh

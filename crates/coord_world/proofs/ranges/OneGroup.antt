@@ -7,11 +7,11 @@ use Rattle.coord_types.specs.NodeState.{NodeState, new_node, no_node}
 use Rattle.coord_types.specs.declared.steps.Command.TheVariants.{Add, Remove, Join, Drop, Reset, Confirm}
 use Rattle.coord_types.specs.declared.steps.Step.{Step}
 use Rattle.coord_types.specs.declared.steps.Step.TheVariants.{Order, Take, Clear}
-use Rattle.coord_node.specs.IdealRules.{acts, headed, ideal_next, linked_up, set_row}
-use Rattle.coord_node.specs.Rules.{Deed, deed, is_empty, request}
-use Rattle.coord_world.specs.Acceptance.{IsFresh}
-use Rattle.coord_world.specs.NumberedWorld.{World, view, row, state_or_none}
-use Rattle.coord_world.proofs.deeds.NodeGoesOn.{goes_deed, goes_lost, goes_request}
+use Rattle.coord_node.specs.IdealRules.{ideal_applied, headed, ideal_next, linked_up, set_state}
+use Rattle.coord_node.specs.Rules.{Transition, transition, is_empty, request}
+use Rattle.coord_world.specs.protocol.Acceptance.{IsFresh}
+use Rattle.coord_world.specs.protocol.NumberedWorld.{World, view, state, state_or_none}
+use Rattle.coord_world.proofs.transitions.NodeGoesOn.{goes_deed, goes_lost, goes_request}
 use Rattle.coord_world.proofs.legal.DropKept.{dropped}
 use Rattle.coord_world.proofs.legal.SoundNext.{new_alone}
 use Rattle.coord_world.proofs.acceptance.FreshOrder.{fresh_order}
@@ -20,47 +20,47 @@ use Rattle.coord_world.proofs.legal.Sound.{Sound}
 
 -- linked nodes have one group
 abbrev pub OneGroup : Ideal → Type 0
-OneGroup w = (x y : ℕ) → w.linked x y ≡ true → (w.row x).group ≡ (w.row y).group
+OneGroup w = (x y : ℕ) → w.linked x y ≡ true → (w.state x).group ≡ (w.state y).group
 
 -- each node keeps its group, and no link is made
 record Groups (w z : Ideal) : Type 0 where
-  pub same : (x : ℕ) → (z.row x).group ≡ (w.row x).group
+  pub same : (x : ℕ) → (z.state x).group ≡ (w.state x).group
   pub linked : (x y : ℕ) → z.linked x y ≡ true → w.linked x y ≡ true
 
 -- then linked nodes still have one group
 of_groups : (w z : Ideal) → Groups w z → OneGroup w → OneGroup z
 of_groups w z groups one x y linked = groups.same x ∙ one x y (groups.linked x y linked) ∙ sym (groups.same y)
 
--- a deed that keeps the group of its node
-acts_groups : (w : Ideal) (u : ℕ) (d : Deed) → d.row.group ≡ (w.row u).group → Groups w (acts w u d)
+-- a transition that keeps the group of its node
+acts_groups : (w : Ideal) (u : ℕ) (d : Transition) → d.state.group ≡ (w.state u).group → Groups w (ideal_applied w u d)
 acts_groups w u d same = record { same = λ x. grind (arith, nat_tests, same); linked = λ x y linked. linked }
 
 -- a state that keeps the group of its node
-set_groups : (w : Ideal) (u : ℕ) (r : NodeState) → r.group ≡ (w.row u).group → Groups w (set_row w u r)
+set_groups : (w : Ideal) (u : ℕ) (r : NodeState) → r.group ≡ (w.state u).group → Groups w (set_state w u r)
 set_groups w u r same = record { same = λ x. grind (arith, nat_tests, same); linked = λ x y linked. linked }
 
 -- a link that is dropped
 dropped_groups : (w : Ideal) (a b : ℕ) → Groups w (dropped w a b)
 dropped_groups w a b = record {
-  same = λ x. let first = (goes_lost (w.row a) b).group in let second = (goes_lost (w.row b) a).group in grind (arith, nat_tests, first, second);
+  same = λ x. let first = (goes_lost (w.state a) b).group in let second = (goes_lost (w.state b) a).group in grind (arith, nat_tests, first, second);
   linked = λ x y linked. grind (arith, nat_tests);
 }
 
 -- a node without links may have any group
-alone_group : (w : Ideal) (u : ℕ) (r : NodeState) → Sound w → is_empty (w.row u).neighbours ≡ true → OneGroup w → OneGroup (set_row w u r)
+alone_group : (w : Ideal) (u : ℕ) (r : NodeState) → Sound w → is_empty (w.state u).neighbours ≡ true → OneGroup w → OneGroup (set_state w u r)
 alone_group w u r sound alone one x y linked =
-    let out : x ≢ u = λ same. grind (arith, sound.linked x y, same, empty_has (w.row u).neighbours y alone, ap (λ z. contains (w.row z).neighbours y) same) in
-    let back : y ≢ u = λ same. grind (arith, sound.linked x y, sound.mirrored x y, same, empty_has (w.row u).neighbours x alone, ap (λ z. contains (w.row z).neighbours x) same) in
-    let here : ((set_row w u r).row x).group ≡ (w.row x).group = grind (arith, nat_tests) in
-    let there : ((set_row w u r).row y).group ≡ (w.row y).group = grind (arith, nat_tests) in
+    let out : x ≢ u = λ same. grind (arith, sound.linked x y, same, empty_has (w.state u).neighbours y alone, ap (λ z. contains (w.state z).neighbours y) same) in
+    let back : y ≢ u = λ same. grind (arith, sound.linked x y, sound.mirrored x y, same, empty_has (w.state u).neighbours x alone, ap (λ z. contains (w.state z).neighbours x) same) in
+    let here : ((set_state w u r).state x).group ≡ (w.state x).group = grind (arith, nat_tests) in
+    let there : ((set_state w u r).state y).group ≡ (w.state y).group = grind (arith, nat_tests) in
     here ∙ one x y linked ∙ sym there
 
 -- nodes of one group may be linked
-join_group : (w : Ideal) (a b : ℕ) → (w.row a).group ≡ (w.row b).group → OneGroup w → OneGroup (linked_up w a b)
+join_group : (w : Ideal) (a b : ℕ) → (w.state a).group ≡ (w.state b).group → OneGroup w → OneGroup (linked_up w a b)
 join_group w a b same one x y linked =
-    let here : ((linked_up w a b).row x).group ≡ (w.row x).group = grind (arith, nat_tests) in
-    let there : ((linked_up w a b).row y).group ≡ (w.row y).group = grind (arith, nat_tests) in
-    let before : (w.row x).group ≡ (w.row y).group = grind (arith, nat_tests, one x y, same) in
+    let here : ((linked_up w a b).state x).group ≡ (w.state x).group = grind (arith, nat_tests) in
+    let there : ((linked_up w a b).state y).group ≡ (w.state y).group = grind (arith, nat_tests) in
+    let before : (w.state x).group ≡ (w.state y).group = grind (arith, nat_tests, one x y, same) in
     here ∙ before ∙ sym there
 
 module _ (w settled : World) (sound : Sound (view w)) (one : OneGroup (view w)) where
@@ -71,8 +71,8 @@ module _ (w settled : World) (sound : Sound (view w)) (one : OneGroup (view w)) 
   group_next (Order c n (Remove u)) fresh = alone_group (view w) u no_node sound (fresh_order w settled c n (Remove u) fresh).alone one
   group_next (Order c n (Join a b)) fresh = join_group (view w) a b (fresh_order w settled c n (Join a b) fresh).one_group one
   group_next (Order c n (Drop a b)) fresh = of_groups (view w) _ (dropped_groups (view w) a b) one
-  group_next (Order c n (Reset u)) fresh = of_groups (view w) _ (acts_groups (view w) u (request (row w u)) (goes_request (row w u)).group) one
-  group_next (Order c n (Confirm u e)) fresh = of_groups (view w) _ (set_groups (view w) u (record (row w u) { confirmed = e }) refl) one
+  group_next (Order c n (Reset u)) fresh = of_groups (view w) _ (acts_groups (view w) u (request (state w u)) (goes_request (state w u)).group) one
+  group_next (Order c n (Confirm u e)) fresh = of_groups (view w) _ (set_groups (view w) u (record (state w u) { confirmed = e }) refl) one
   group_next (Take p) fresh =
-      of_groups (headed (view w) p.from p.to) _ (acts_groups (headed (view w) p.from p.to) p.to (deed p.msg (row w p.to) p.from) (goes_deed (row w p.to) p.from p.msg).group) one
+      of_groups (headed (view w) p.from p.to) _ (acts_groups (headed (view w) p.from p.to) p.to (transition p.msg (state w p.to) p.from) (goes_deed (state w p.to) p.from p.msg).group) one
   group_next (Clear p) fresh = one

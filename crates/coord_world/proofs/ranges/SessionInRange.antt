@@ -13,10 +13,10 @@ use Rattle.coord_types.specs.declared.steps.Step.{Step}
 use Rattle.coord_types.specs.declared.steps.Step.TheVariants.{Order, Take, Clear}
 use Rattle.coord_node.specs.Rules.{is_empty}
 use Rattle.coord_node.specs.Steps.{kind_of_request, kind_ordered}
-use Rattle.coord_world.specs.Acceptance.{IsFresh, last_number}
-use Rattle.coord_world.specs.Next.{next, reply}
-use Rattle.coord_world.specs.NumberedWorld.{World, row}
-use Rattle.coord_world.specs.Ranges.{InRange, SessionInRange, StepInRange, answers}
+use Rattle.coord_world.specs.protocol.Acceptance.{IsFresh, last_number}
+use Rattle.coord_world.specs.protocol.Next.{next, reply}
+use Rattle.coord_world.specs.protocol.NumberedWorld.{World, state}
+use Rattle.coord_world.specs.protocol.Ranges.{InRange, SessionInRange, StepInRange, answers}
 use Rattle.coord_world.proofs.Cases.{by_test}
 use Rattle.coord_world.proofs.lists.GetAfter.{each_made, get-set}
 use Rattle.coord_world.proofs.acceptance.FreshOrder.{fresh_number}
@@ -80,7 +80,7 @@ module _ (w : World) (range : InRange w) where
     last = omega (arith, fresh_number w settled c n x fresh, last_within c);
     replied = omega arith;
     replied_by = omega arith;
-    answered = kind_answers (row w) x;
+    answered = kind_answers (state w) x;
   }
 
   -- each session after a fresh step

@@ -8,10 +8,10 @@ use Rattle.coord_types.specs.declared.steps.Command.{Command}
 use Rattle.coord_types.specs.declared.steps.Session.{Session}
 use Rattle.coord_types.specs.declared.steps.Step.{Step}
 use Rattle.coord_types.specs.declared.steps.Step.TheVariants.{Clear, Order, Take}
-use Rattle.coord_world.specs.Next.{fold, next, reply}
-use Rattle.coord_world.specs.NumberedWorld.{World}
-use Rattle.coord_world.specs.Outputs.{outputs}
-use Rattle.coord_world.specs.KeptReplies.{IsLastOrder, IsNotBy, KeptReplyLaw}
+use Rattle.coord_world.specs.protocol.Next.{fold, next, reply}
+use Rattle.coord_world.specs.protocol.NumberedWorld.{World}
+use Rattle.coord_world.specs.protocol.Outputs.{outputs}
+use Rattle.coord_world.specs.laws.KeptReplies.{IsLastOrder, IsNotBy, KeptReplyLaw}
 use Rattle.coord_world.proofs.Cases.{same_or_apart}
 use Rattle.coord_world.proofs.lists.GetAfter.{get-set}
 use Rattle.coord_world.proofs.ranges.SessionInRange.{sessions_noted}

@@ -11,10 +11,10 @@ use Rattle.coord_types.specs.declared.steps.Step.TheVariants.{Order, Take, Clear
 use Rattle.coord_types.proofs.Tables.{option_map}
 use Rattle.coord_link.specs.LaneMachine.{Lane, cleared, new_lane, sent, took}
 use Rattle.coord_node.specs.IdealRules.{added, is_link}
-use Rattle.coord_node.specs.Rules.{Deed}
-use Rattle.coord_node.specs.Steps.{deeds, deeds_ordered}
-use Rattle.coord_world.specs.Next.{all_do, does, is_lane, next, on_lane, ordered}
-use Rattle.coord_world.specs.NumberedWorld.{World, row}
+use Rattle.coord_node.specs.Rules.{Transition}
+use Rattle.coord_node.specs.Steps.{transitions, transitions_ordered}
+use Rattle.coord_world.specs.protocol.Next.{all_applied, applied, is_lane, next, on_lane, ordered}
+use Rattle.coord_world.specs.protocol.NumberedWorld.{World, state}
 use Rattle.coord_world.proofs.lists.GetAfter.{lane_done, lane_on, lane_left, lane_made}
 
 -- the lane from x to y after a step
@@ -33,7 +33,7 @@ sent_none l = let same = sym (append-nil l.queue) in λ i. record l { queue = sa
 sent_twice : (ms ns : List Msg) (l : Lane) → sent ns (sent ms l) ≡ sent (ms ++ ns) l
 sent_twice ms ns l i = record l { queue = append_assoc l.queue ms ns i }
 
--- what deeds send on one lane
+-- what transitions send on one lane
 abbrev pub Sends : Option Lane → Option Lane → Type 0
 Sends before after = (ms : List Msg) × (after ≡ option_map (sent ms) before)
 
@@ -41,17 +41,17 @@ sends_none : (o : Option Lane) → Sends o o
 sends_none None = ([], refl)
 sends_none (Some l) = ([], ap Some (sent_none l))
 
--- what one deed sends, and those after it
+-- what one transition sends, and those after it
 one_more : (b : Bool) (ms ns : List Msg) (o : Option Lane) → option_map (sent ns) (option_map (λ l. cond b (sent ms l) l) o) ≡ option_map (sent (cond b ms [] ++ ns)) o
 one_more b ms ns None = refl
 one_more true ms ns (Some l) = ap Some (sent_twice ms ns l)
 one_more false ms ns (Some l) = refl
 
--- deeds do nothing else to a lane
-pub deeds_send : (ds : List (ℕ × Deed)) (w : World) (x y : ℕ) → Sends (get w.lanes (x, y)) (get (all_do w ds).lanes (x, y))
+-- transitions do nothing else to a lane
+pub deeds_send : (ds : List (ℕ × Transition)) (w : World) (x y : ℕ) → Sends (get w.lanes (x, y)) (get (all_applied w ds).lanes (x, y))
 deeds_send [] w x y = sends_none (get w.lanes (x, y))
 deeds_send (d ∷ ds) w x y =
-    let later = deeds_send ds (does w d.0 d.1) x y in (
+    let later = deeds_send ds (applied w d.0 d.1) x y in (
       cond (eqb x d.0) (added d.1 y) [] ++ later.0,
       later.1 ∙ ap (option_map (sent later.0)) (lane_done w d.0 d.1 x y) ∙ one_more (eqb x d.0) (added d.1 y) later.0 (get w.lanes (x, y)),
     )
@@ -81,12 +81,12 @@ lane_step w (Order c n (Add u g)) x y = stays w (Order c n (Add u g)) x y (get w
 lane_step w (Order c n (Remove u)) x y = stays w (Order c n (Remove u)) x y (get w.lanes (x, y)) (get w.lanes (x, y)) refl (sends_none (get w.lanes (x, y)))
 lane_step w (Order c n (Join a b)) x y = makes w (Order c n (Join a b)) x y (is_link a b x y) (get (ordered w (Join a b)).lanes (x, y)) (lane_made w a b x y)
 lane_step w (Order c n (Drop a b)) x y =
-    let sends = deeds_send (deeds_ordered (row w) (Drop a b)) (ordered w (Drop a b)) x y in
+    let sends = deeds_send (transitions_ordered (state w) (Drop a b)) (ordered w (Drop a b)) x y in
     unlinks w (Order c n (Drop a b)) x y (is_link a b x y) _ (sends.0, sends.1 ∙ ap (option_map (sent sends.0)) (lane_left w a b x y))
-lane_step w (Order c n (Reset u)) x y = stays w (Order c n (Reset u)) x y (get w.lanes (x, y)) _ refl (deeds_send (deeds_ordered (row w) (Reset u)) w x y)
+lane_step w (Order c n (Reset u)) x y = stays w (Order c n (Reset u)) x y (get w.lanes (x, y)) _ refl (deeds_send (transitions_ordered (state w) (Reset u)) w x y)
 lane_step w (Order c n (Confirm u e)) x y = stays w (Order c n (Confirm u e)) x y (get w.lanes (x, y)) (get w.lanes (x, y)) refl (sends_none (get w.lanes (x, y)))
 lane_step w (Take p) x y =
-    let sends = deeds_send (deeds (row w) (Take p)) (on_lane w p.from p.to took) x y in
+    let sends = deeds_send (transitions (state w) (Take p)) (on_lane w p.from p.to took) x y in
     of_lane (is_lane (x, y) p.from p.to) (get w.lanes (x, y)) refl refl sends.0 (sends.1 ∙ ap (option_map (sent sends.0)) (lane_on w p.from p.to took x y))
   where
     of_lane : (b : Bool) (o : Option Lane) → is_lane (x, y) p.from p.to ≡ b → get w.lanes (x, y) ≡ o → (ms : List Msg) → get (next w (Take p)).lanes (x, y) ≡ option_map (sent ms) (option_map (λ l. cond b (took l) l) o) →
@@ -104,7 +104,7 @@ lane_step w (Clear p) x y = of_lane (is_lane (x, y) p.from p.to) (get w.lanes (x
 -- the lane whose message is taken
 pub lane_taken : (w : World) (p : DataPacket) (l : Lane) → get w.lanes (p.from, p.to) ≡ Some l → (ms : List Msg) × (get (next w (Take p)).lanes (p.from, p.to) ≡ Some (sent ms (took l)))
 lane_taken w p l there =
-    let sends = deeds_send (deeds (row w) (Take p)) (on_lane w p.from p.to took) p.from p.to in
+    let sends = deeds_send (transitions (state w) (Take p)) (on_lane w p.from p.to took) p.from p.to in
     let here : is_lane (p.from, p.to) p.from p.to ≡ true = grind (arith, nat_tests) in (
       sends.0,
       sends.1 ∙ ap (option_map (sent sends.0)) (lane_on w p.from p.to took p.from p.to ∙ ap (option_map (λ l. cond (is_lane (p.from, p.to) p.from p.to) (took l) l)) there ∙ ap (λ b. Some (cond b (took l) l)) here),

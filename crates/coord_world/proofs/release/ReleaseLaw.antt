@@ -10,12 +10,12 @@ use Rattle.coord_types.specs.declared.packets.DataPacket.{DataPacket}
 use Rattle.coord_types.specs.declared.packets.ReceiptPacket.{ReceiptPacket}
 use Rattle.coord_types.specs.declared.steps.Step.{Step}
 use Rattle.coord_link.specs.LaneMachine.{Lane}
-use Rattle.coord_world.specs.Acceptance.{has_receipted, has_sent, lane}
-use Rattle.coord_world.specs.Next.{fold, next}
-use Rattle.coord_world.specs.NumberedWorld.{World}
-use Rattle.coord_world.specs.Outputs.{again, outputs}
-use Rattle.coord_world.specs.Release.{IsReleased, ReleaseLaw, ResendLaw, TellsReleased, outputs_of}
-use Rattle.coord_world.specs.Trails.{IsSound}
+use Rattle.coord_world.specs.protocol.Acceptance.{has_receipted, has_sent, lane}
+use Rattle.coord_world.specs.protocol.Next.{fold, next}
+use Rattle.coord_world.specs.protocol.NumberedWorld.{World}
+use Rattle.coord_world.specs.protocol.Outputs.{again, outputs}
+use Rattle.coord_world.specs.laws.Release.{IsReleased, ReleaseLaw, ResendLaw, TellsReleased, outputs_of}
+use Rattle.coord_world.specs.laws.Trails.{IsSound}
 use Rattle.coord_world.proofs.Cases.{by_test}
 use Rattle.coord_world.proofs.lanes.Transit.{counts_cases}
 use Rattle.coord_world.proofs.release.StepOutputs.{front_from_step, outputs_front, receipt_from_step, outputs_receipt}

@@ -11,11 +11,11 @@ use Rattle.coord_types.specs.declared.steps.Step.TheVariants.{Clear, Order, Take
 use Rattle.coord_link.specs.LaneMachine.{Lane, Tests, against_clear, against_take, refused_or}
 use Rattle.coord_world.specs.declared.verdicts.Verdict.{Verdict}
 use Rattle.coord_world.specs.declared.verdicts.Verdict.TheVariants.{Fresh}
-use Rattle.coord_world.specs.Acceptance.{IsFresh, accepts, against_data, against_receipt, has_receipted, has_sent, is_exhausted, lane}
-use Rattle.coord_world.specs.Next.{fold}
-use Rattle.coord_world.specs.NumberedWorld.{World}
-use Rattle.coord_world.specs.Release.{FreshWhereReleased, IsReleased, IsClearable, NamesReleased, IsTakeable, ReleaseStays, TellsReleased}
-use Rattle.coord_world.specs.Trails.{IsSound}
+use Rattle.coord_world.specs.protocol.Acceptance.{IsFresh, accepts, against_data, against_receipt, has_receipted, has_sent, is_exhausted, lane}
+use Rattle.coord_world.specs.protocol.Next.{fold}
+use Rattle.coord_world.specs.protocol.NumberedWorld.{World}
+use Rattle.coord_world.specs.laws.Release.{FreshWhereReleased, IsReleased, IsClearable, NamesReleased, IsTakeable, ReleaseStays, TellsReleased}
+use Rattle.coord_world.specs.laws.Trails.{IsSound}
 use Rattle.coord_world.proofs.Cases.{by_test}
 use Rattle.coord_world.proofs.acceptance.IsFresh.{NoneHolds}
 use Rattle.coord_world.proofs.release.ReleaseLaw.{front_has_sent, has_receipted_receipt, receipt_has_receipted, release_law, has_sent_front}

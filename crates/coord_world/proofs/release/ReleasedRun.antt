@@ -2,7 +2,7 @@
 use Rattle.std.proofs.Common.{refl}
 use Rattle.coord_types.specs.Table as table
 use Rattle.coord_types.specs.NodeSet as set
-use Rattle.coord_world.specs.ReleasedRun.{ReleasedRun}
+use Rattle.coord_world.specs.laws.ReleasedRun.{ReleasedRun}
 use Rattle.coord_world.proofs.waves.StoredWave.{reset_is_trail}
 
 pub released_run : ReleasedRun

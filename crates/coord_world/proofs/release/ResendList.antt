@@ -10,9 +10,9 @@ use Rattle.coord_types.specs.declared.packets.DataPacket.{DataPacket}
 use Rattle.coord_types.specs.declared.packets.ReceiptPacket.{ReceiptPacket}
 use Rattle.coord_types.proofs.Tables.{get-entries}
 use Rattle.coord_link.specs.LaneMachine.{Lane, is_front_taken}
-use Rattle.coord_world.specs.NumberedWorld.{World, pair_cmp, pair_cmp_total}
-use Rattle.coord_world.specs.Outputs.{again, again_by, all_again, all_sent, front_packet, receipt, sent_by}
-use Rattle.coord_world.specs.Trails.{IsSound}
+use Rattle.coord_world.specs.protocol.NumberedWorld.{World, pair_cmp, pair_cmp_total}
+use Rattle.coord_world.specs.protocol.Outputs.{again, again_by, all_again, all_sent, front_packet, receipt, sent_by}
+use Rattle.coord_world.specs.laws.Trails.{IsSound}
 use Rattle.coord_world.proofs.Cases.{by_test}
 use Rattle.coord_world.proofs.lists.KeyedLists.{each_entry}
 use Rattle.coord_world.proofs.lists.GetAfter.{same_pair}

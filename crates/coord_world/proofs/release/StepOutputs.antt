@@ -13,13 +13,13 @@ use Rattle.coord_types.specs.declared.steps.Step.{Step}
 use Rattle.coord_types.specs.declared.steps.Step.TheVariants.{Clear, Order, Take}
 use Rattle.coord_types.proofs.Tables.{get-entries}
 use Rattle.coord_link.specs.LaneMachine.{Lane, cleared, new_lane, sent, took}
-use Rattle.coord_node.specs.Rules.{Deed}
-use Rattle.coord_node.specs.Steps.{deeds}
-use Rattle.coord_world.specs.Acceptance.{IsFresh}
-use Rattle.coord_world.specs.Next.{next}
-use Rattle.coord_world.specs.NumberedWorld.{World, pair_cmp, row}
-use Rattle.coord_world.specs.Outputs.{all_sent, front_packet, had_front, outputs, receipt, receipts, sent_by, signals}
-use Rattle.coord_world.specs.Trails.{IsSound}
+use Rattle.coord_node.specs.Rules.{Transition}
+use Rattle.coord_node.specs.Steps.{transitions}
+use Rattle.coord_world.specs.protocol.Acceptance.{IsFresh}
+use Rattle.coord_world.specs.protocol.Next.{next}
+use Rattle.coord_world.specs.protocol.NumberedWorld.{World, pair_cmp, state}
+use Rattle.coord_world.specs.protocol.Outputs.{all_sent, front_packet, had_front, outputs, receipt, receipts, sent_by, signals}
+use Rattle.coord_world.specs.laws.Trails.{IsSound}
 use Rattle.coord_world.proofs.Cases.{by_test}
 use Rattle.coord_world.proofs.lanes.Transit.{counts_cases}
 use Rattle.coord_world.proofs.release.ResendList.{entries_found, front_packet_is, all_sent-flat_map}
@@ -47,10 +47,10 @@ IsPacket (Receipted p) = Unit {0}
 IsPacket (Signalled u e) = ⊥
 IsPacket (Sent p) = Unit {0}
 
-signals_no_packet : {A : Type 0} (ds : List (ℕ × Deed)) (o : Output) → IsPacket o → Contains (signals ds) o → A
+signals_no_packet : {A : Type 0} (ds : List (ℕ × Transition)) (o : Output) → IsPacket o → Contains (signals ds) o → A
 signals_no_packet [] o is h = not_in_nil o h
-signals_no_packet {A} (d ∷ ds) o is h = by_test d.1.finished (λ b. Contains (cond b (Signalled d.0 d.1.row.epoch ∷ signals ds) (signals ds)) o → A)
-    (λ _ x. elim (Contains-cons_cases (Signalled d.0 d.1.row.epoch) (signals ds) o x) [ inl here ↦ absurd (subst IsPacket (sym here) is) | inr later ↦ signals_no_packet ds o is later ])
+signals_no_packet {A} (d ∷ ds) o is h = by_test d.1.finished (λ b. Contains (cond b (Signalled d.0 d.1.state.epoch ∷ signals ds) (signals ds)) o → A)
+    (λ _ x. elim (Contains-cons_cases (Signalled d.0 d.1.state.epoch) (signals ds) o x) [ inl here ↦ absurd (subst IsPacket (sym here) is) | inr later ↦ signals_no_packet ds o is later ])
     (λ _ x. signals_no_packet ds o is x) h
 
 -- what a lane sends is its front
@@ -71,15 +71,15 @@ module _ (w : World) (s : Step) where
       (Contains-flat_map_found pair_cmp same_pair (λ e. sent_by (get w.lanes e.0) e.0 e.1 e.1.queue) (entries (next w s).lanes) k l o (sym (get-entries (next w s).lanes k) ∙ there) h)
 
   -- what a step gives out is a receipt, a signal, or sent
-  outputs_cases : {A : Type 0} (o : Output) → (Contains (receipts s) o → A) → (Contains (signals (deeds (row w) s)) o → A) → (Contains (all_sent w.lanes (entries (next w s).lanes)) o → A) → Contains (outputs w s) o → A
-  outputs_cases o first second third h = elim (Contains-append_cases (receipts s ++ signals (deeds (row w) s)) (all_sent w.lanes (entries (next w s).lanes)) o h) [
-    | inl early ↦ elim (Contains-append_cases (receipts s) (signals (deeds (row w) s)) o early) [ inl receipt ↦ first receipt | inr signal ↦ second signal ]
+  outputs_cases : {A : Type 0} (o : Output) → (Contains (receipts s) o → A) → (Contains (signals (transitions (state w) s)) o → A) → (Contains (all_sent w.lanes (entries (next w s).lanes)) o → A) → Contains (outputs w s) o → A
+  outputs_cases o first second third h = elim (Contains-append_cases (receipts s ++ signals (transitions (state w) s)) (all_sent w.lanes (entries (next w s).lanes)) o h) [
+    | inl early ↦ elim (Contains-append_cases (receipts s) (signals (transitions (state w) s)) o early) [ inl receipt ↦ first receipt | inr signal ↦ second signal ]
     | inr sends ↦ third sends
   ]
 
   -- a data packet that is given out is a front
   pub outputs_front : (p : DataPacket) → Contains (outputs w s) (Sent p) → IsFront (next w s) p
-  outputs_front p h = outputs_cases (Sent p) (receipts_no_data s p) (signals_no_packet (deeds (row w) s) (Sent p) tt)
+  outputs_front p h = outputs_cases (Sent p) (receipts_no_data s p) (signals_no_packet (transitions (state w) s) (Sent p) tt)
       (λ last.
       let on = all_sent_lane (Sent p) last in
       let by = sent_by_front (get w.lanes on.0.0) on.0.0 on.0.1 on.0.1.queue (Sent p) on.1.1 in
@@ -89,7 +89,7 @@ module _ (w : World) (s : Step) where
 
   -- a receipt that is given out is of the packet that is taken
   outputs_receipt_taken : (p : ReceiptPacket) → Contains (outputs w s) (Receipted p) → (q : DataPacket) × ((s ≡ Take q) × (receipt q ≡ p))
-  outputs_receipt_taken p h = outputs_cases (Receipted p) (receipts_taken s p) (signals_no_packet (deeds (row w) s) (Receipted p) tt)
+  outputs_receipt_taken p h = outputs_cases (Receipted p) (receipts_taken s p) (signals_no_packet (transitions (state w) s) (Receipted p) tt)
       (λ last.
       let on = all_sent_lane (Receipted p) last in
       let by = sent_by_front (get w.lanes on.0.0) on.0.0 on.0.1 on.0.1.queue (Receipted p) on.1.1 in
@@ -105,7 +105,7 @@ module _ (w : World) (s : Step) where
       subst (λ q. Contains (sent_by before (p.from, p.to) l q) (Sent p)) (sym front.queue)
       (subst (λ b. Contains (cond b [] (Sent (front_packet (p.from, p.to) l p.msg) ∷ [])) (Sent p)) (sym new)
       (subst (λ z. Contains (Sent (front_packet (p.from, p.to) l p.msg) ∷ []) (Sent z)) (front_packet_is (next w s) p front) (Contains-head (Sent (front_packet (p.from, p.to) l p.msg)) []))) in
-      Contains-append_right (receipts s ++ signals (deeds (row w) s)) (all_sent w.lanes (entries (next w s).lanes)) (Sent p) (lane_sent (Sent p) (p.from, p.to) l front.at.there sends)
+      Contains-append_right (receipts s ++ signals (transitions (state w) s)) (all_sent w.lanes (entries (next w s).lanes)) (Sent p) (lane_sent (Sent p) (p.from, p.to) l front.at.there sends)
 
 -- a receipt that is given out is of a front that was taken
 pub outputs_receipt : (w : World) (s : Step) (p : ReceiptPacket) → IsFresh w w s → Contains (outputs w s) (Receipted p) → IsFrontReceipt (next w s) p
@@ -182,7 +182,7 @@ receipt_from_step w s p sound fresh r = by_step (lane_step w s p.from p.to)
         let number : q.number ≡ p.number = sym is.front.at.number ∙ ap (λ z. z.base + 1) here ∙ ap (λ z. z.base + 1) same ∙ at.number in
         let named : receipt q ≡ p = λ i. record { from = ends.0 i; to = ends.1 i; inc = inc i; number = number i } in
         let first : Contains (receipts s) (Receipted p) = subst (λ z. Contains (receipts z) (Receipted p)) (sym t) (subst (λ z. Contains (Receipted (receipt q) ∷ []) (Receipted z)) named (Contains-head (Receipted (receipt q)) [])) in
-        inl (Contains-append_left (receipts s ++ signals (deeds (row w) s)) (all_sent w.lanes (entries (next w s).lanes)) (Receipted p) (Contains-append_left (receipts s) (signals (deeds (row w) s)) (Receipted p) first))
+        inl (Contains-append_left (receipts s ++ signals (transitions (state w) s)) (all_sent w.lanes (entries (next w s).lanes)) (Receipted p) (Contains-append_left (receipts s) (signals (transitions (state w) s)) (Receipted p) first))
     by_step (LaneStep.is_cleared k q t ends was e) =
         let same = one_lane _ (cleared k) at.lane e at.there in
         let got = ap (λ z. z.got) same in

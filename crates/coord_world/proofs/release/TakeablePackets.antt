@@ -8,9 +8,9 @@ use Rattle.coord_types.specs.declared.packets.ReceiptPacket.{ReceiptPacket}
 use Rattle.coord_types.specs.declared.refusals.Refusal.{Refusal}
 use Rattle.coord_types.specs.declared.steps.Step.TheVariants.{Take}
 use Rattle.coord_link.specs.LaneMachine.{Lane, Tests, against_clear, against_take, refused_or}
-use Rattle.coord_world.specs.Acceptance.{IsFresh, against_data, lane, of_incarnation}
-use Rattle.coord_world.specs.NumberedWorld.{World}
-use Rattle.coord_world.specs.Release.{IsClearable, IsTakeable}
+use Rattle.coord_world.specs.protocol.Acceptance.{IsFresh, against_data, lane, of_incarnation}
+use Rattle.coord_world.specs.protocol.NumberedWorld.{World}
+use Rattle.coord_world.specs.laws.Release.{IsClearable, IsTakeable}
 use Rattle.coord_world.proofs.Cases.{by_test}
 use Rattle.coord_world.proofs.acceptance.IsFresh.{NoneHolds, begins_is, tests_passed, with_incarnation}
 use Rattle.coord_world.proofs.release.LaneFronts.{IsNumbered, IsFront}

@@ -9,10 +9,10 @@ use Rattle.coord_types.specs.Messages.{behind_front}
 use Rattle.coord_types.specs.declared.steps.Command.TheVariants.{Drop, Join}
 use Rattle.coord_types.proofs.Tables.{option_map}
 use Rattle.coord_link.specs.LaneMachine.{Lane, sent, took, cleared, transit, new_lane}
-use Rattle.coord_node.specs.IdealRules.{acts, added, cut, headed, is_link, linked_up, set_row}
-use Rattle.coord_node.specs.Rules.{Deed, with_neighbour}
-use Rattle.coord_world.specs.Next.{does, on_lane, on_row, ordered, is_lane}
-use Rattle.coord_world.specs.NumberedWorld.{World, view, row, state_or_none, transit_or_none}
+use Rattle.coord_node.specs.IdealRules.{ideal_applied, added, without_link, headed, is_link, linked_up, set_state}
+use Rattle.coord_node.specs.Rules.{Transition, with_neighbour}
+use Rattle.coord_world.specs.protocol.Next.{applied, on_lane, with_state, ordered, is_lane}
+use Rattle.coord_world.specs.protocol.NumberedWorld.{World, view, state, state_or_none, transit_or_none}
 use Rattle.coord_world.proofs.Cases.{by_test}
 use Rattle.coord_world.proofs.lanes.Counts.{AllCount, it_is, was_taken}
 use Rattle.coord_world.proofs.lists.GetAfter.{get-set, get-unset, lane_done, lane_on, lane_left, lane_made}
@@ -25,44 +25,44 @@ some_mapped f (Some l) = refl
 
 module _ (w : World) where
   -- a state is put
-  pub view_set : (u : ℕ) (r : NodeState) → view (on_row w u r) ≡ set_row (view w) u r
-  view_set u r i = record { row = λ x. rows x i; linked = (view w).linked; way = (view w).way }
+  pub view_set : (u : ℕ) (r : NodeState) → view (with_state w u r) ≡ set_state (view w) u r
+  view_set u r i = record { state = λ x. rows x i; linked = (view w).linked; way = (view w).way }
     where
-      rows : (x : ℕ) → state_or_none (get (table.insert w.rows u r) x) ≡ cond (eqb x u) r (row w x)
-      rows x = ap state_or_none (get-set w.rows u r x) ∙ grind (arith, nat_tests)
+      rows : (x : ℕ) → state_or_none (get (table.insert w.nodes u r) x) ≡ cond (eqb x u) r (state w x)
+      rows x = ap state_or_none (get-set w.nodes u r x) ∙ grind (arith, nat_tests)
 
   -- a node is removed
-  pub view_unset : (u : ℕ) → view (record w { rows = table.remove w.rows u }) ≡ set_row (view w) u no_node
-  view_unset u i = record { row = λ x. rows x i; linked = (view w).linked; way = (view w).way }
+  pub view_unset : (u : ℕ) → view (record w { nodes = table.remove w.nodes u }) ≡ set_state (view w) u no_node
+  view_unset u i = record { state = λ x. rows x i; linked = (view w).linked; way = (view w).way }
     where
-      rows : (x : ℕ) → state_or_none (get (table.remove w.rows u) x) ≡ cond (eqb x u) no_node (row w x)
-      rows x = ap state_or_none (get-unset w.rows u x) ∙ grind (arith, nat_tests)
+      rows : (x : ℕ) → state_or_none (get (table.remove w.nodes u) x) ≡ cond (eqb x u) no_node (state w x)
+      rows x = ap state_or_none (get-unset w.nodes u x) ∙ grind (arith, nat_tests)
 
   -- a link is cut
-  pub view_left : (a b : ℕ) → view (ordered w (Drop a b)) ≡ cut (view w) a b
+  pub view_left : (a b : ℕ) → view (ordered w (Drop a b)) ≡ without_link (view w) a b
   view_left a b i = record {
-    row = row w;
+    state = state w;
     linked = λ x y. (ap is_some (lane_left w a b x y) ∙ links x y) i;
     way = λ x y. (ap transit_or_none (lane_left w a b x y) ∙ ways x y) i;
   }
     where
-      links : (x y : ℕ) → is_some (cond (is_link a b x y) None (get w.lanes (x, y))) ≡ (cut (view w) a b).linked x y
+      links : (x y : ℕ) → is_some (cond (is_link a b x y) None (get w.lanes (x, y))) ≡ (without_link (view w) a b).linked x y
       links x y = grind (arith, nat_tests)
 
-      ways : (x y : ℕ) → transit_or_none (cond (is_link a b x y) None (get w.lanes (x, y))) ≡ (cut (view w) a b).way x y
+      ways : (x y : ℕ) → transit_or_none (cond (is_link a b x y) None (get w.lanes (x, y))) ≡ (without_link (view w) a b).way x y
       ways x y = grind (arith, nat_tests)
 
   -- a link is made
   pub view_made : (a b : ℕ) → view (ordered w (Join a b)) ≡ linked_up (view w) a b
   view_made a b i = record {
-    row = λ x. rows x i;
+    state = λ x. rows x i;
     linked = λ x y. (ap is_some (lane_made w a b x y) ∙ links x y) i;
     way = λ x y. (ap transit_or_none (lane_made w a b x y) ∙ ways x y) i;
   }
     where
-      rows : (x : ℕ) → row (ordered w (Join a b)) x ≡ (linked_up (view w) a b).row x
-      rows x = ap state_or_none (get-set (table.insert w.rows a (with_neighbour (row w a) b)) b (with_neighbour (row w b) a) x
-          ∙ ap (cond (eqb x b) (Some (with_neighbour (row w b) a))) (get-set w.rows a (with_neighbour (row w a) b) x)) ∙ grind (arith, nat_tests)
+      rows : (x : ℕ) → state (ordered w (Join a b)) x ≡ (linked_up (view w) a b).state x
+      rows x = ap state_or_none (get-set (table.insert w.nodes a (with_neighbour (state w a) b)) b (with_neighbour (state w b) a) x
+          ∙ ap (cond (eqb x b) (Some (with_neighbour (state w b) a))) (get-set w.nodes a (with_neighbour (state w a) b) x)) ∙ grind (arith, nat_tests)
 
       links : (x y : ℕ) → is_some (cond (is_link a b x y) (Some (new_lane (w.count + 1))) (get w.lanes (x, y))) ≡ (linked_up (view w) a b).linked x y
       links x y = grind (arith, nat_tests)
@@ -72,16 +72,16 @@ module _ (w : World) where
 
 -- where the numbers fit the queues
 module _ (w : World) (counts : AllCount w) where
-  -- a deed over the numbers is the deed over the view
-  pub view_done : (u : ℕ) (d : Deed) → view (does w u d) ≡ acts (view w) u d
+  -- a transition over the numbers is the transition over the view
+  pub view_done : (u : ℕ) (d : Transition) → view (applied w u d) ≡ ideal_applied (view w) u d
   view_done u d i = record {
-    row = λ x. rows x i;
+    state = λ x. rows x i;
     linked = λ x y. (ap is_some (lane_done w u d x y) ∙ some_mapped _ (get w.lanes (x, y))) i;
     way = λ x y. (ap transit_or_none (lane_done w u d x y) ∙ ways x y (get w.lanes (x, y)) refl) i;
   }
     where
-      rows : (x : ℕ) → row (does w u d) x ≡ cond (eqb x u) d.row (row w x)
-      rows x = ap state_or_none (get-set w.rows u d.row x) ∙ grind (arith, nat_tests)
+      rows : (x : ℕ) → state (applied w u d) x ≡ cond (eqb x u) d.state (state w x)
+      rows x = ap state_or_none (get-set w.nodes u d.state x) ∙ grind (arith, nat_tests)
 
       ways : (x y : ℕ) (o : Option Lane) → get w.lanes (x, y) ≡ o →
           transit_or_none (option_map (λ l. cond (eqb x u) (sent (added d y) l) l) o) ≡ cond (eqb x u && is_some o) (transit_or_none o ++ added d y) (transit_or_none o)
@@ -91,7 +91,7 @@ module _ (w : World) (counts : AllCount w) where
   -- a front that is taken leaves the way
   pub view_took : (v u : ℕ) (k : Lane) → get w.lanes (v, u) ≡ Some k → k.got ≡ k.base → view (on_lane w v u took) ≡ headed (view w) v u
   view_took v u k there idle i = record {
-    row = row w;
+    state = state w;
     linked = λ x y. (ap is_some (lane_on w v u took x y) ∙ some_mapped _ (get w.lanes (x, y))) i;
     way = λ x y. (ap transit_or_none (lane_on w v u took x y) ∙ ways x y (get w.lanes (x, y)) refl) i;
   }
@@ -105,7 +105,7 @@ module _ (w : World) (counts : AllCount w) where
   -- a front that is cleared was not on the way
   pub view_cleared : (u v : ℕ) (k : Lane) → get w.lanes (u, v) ≡ Some k → k.base + 1 ≤ k.got → view (on_lane w u v cleared) ≡ view w
   view_cleared u v k there more i = record {
-    row = row w;
+    state = state w;
     linked = λ x y. (ap is_some (lane_on w u v cleared x y) ∙ some_mapped _ (get w.lanes (x, y))) i;
     way = λ x y. (ap transit_or_none (lane_on w u v cleared x y) ∙ ways x y (get w.lanes (x, y)) refl) i;
   }

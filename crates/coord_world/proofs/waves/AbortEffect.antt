@@ -11,34 +11,34 @@ use Rattle.coord_types.specs.declared.messages.Msg.{Msg}
 use Rattle.coord_types.specs.declared.messages.Msg.TheVariants as msg
 use Rattle.coord_types.specs.declared.steps.Kind.TheVariants.{Taken}
 use Rattle.coord_node.specs.IdealRules.{added, headed}
-use Rattle.coord_node.specs.Rules.{Deed, is_empty, on_abort, wave_on, wave_back, answer}
-use Rattle.coord_world.specs.Links.{aborts, is_ready}
-use Rattle.coord_world.specs.Outputs.{signals}
-use Rattle.coord_world.specs.Waves.{is_signal_of}
-use Rattle.coord_world.proofs.legal.DeedKept.{not_self, row_here, row_there}
+use Rattle.coord_node.specs.Rules.{Transition, is_empty, on_abort, wave_on, wave_back, answer}
+use Rattle.coord_world.specs.protocol.Links.{aborts, is_ready}
+use Rattle.coord_world.specs.protocol.Outputs.{signals}
+use Rattle.coord_world.specs.laws.Waves.{is_signal_of}
+use Rattle.coord_world.proofs.legal.TransitionKept.{not_self, row_here, row_there}
 use Rattle.coord_world.proofs.waves.Calm.{calm_take, same_places}
 use Rattle.coord_world.proofs.waves.Effect.{Effect, Reaches}
 use Rattle.coord_world.proofs.lists.NodeSets.{empty_has, has_remove, has_only}
 use Rattle.coord_world.proofs.legal.Sound.{Sound}
-use Rattle.coord_world.proofs.deeds.RuleCases.{abort_cases}
+use Rattle.coord_world.proofs.transitions.RuleCases.{abort_cases}
 use Rattle.coord_world.proofs.legal.TakeKept.{after_take}
 use Rattle.coord_world.proofs.lanes.MessageCounts.{aborts-append}
 
--- what a deed at t does to a wave, after a message from v
-abbrev pub TakeEffect : Ideal → ℕ → ℕ → Deed → Type 0
+-- what a transition at t does to a wave, after a message from v
+abbrev pub TakeEffect : Ideal → ℕ → ℕ → Transition → Type 0
 TakeEffect z v t d = Effect z (after_take z v t d) (λ x. count_by (is_signal_of x) (signals ((t, d) ∷ []))) [] Taken
 
-module _ (z : Ideal) (v t : ℕ) (rest : List Msg) (front : z.way v t ≡ msg.Abort ∷ rest) (near : contains (z.row t).neighbours v ≡ true) (sound : Sound z) where
+module _ (z : Ideal) (v t : ℕ) (rest : List Msg) (front : z.way v t ≡ msg.Abort ∷ rest) (near : contains (z.state t).neighbours v ≡ true) (sound : Sound z) where
   -- the neighbours but the sender
   abbrev others : NodeSet
-  others = set.remove (z.row t).neighbours v
+  others = set.remove (z.state t).neighbours v
 
   -- the sender is another node
   apart : v ≢ t
   apart = not_self z t sound v near
 
   -- a Ready node turns away from Ready, with the sender as its parent
-  away : (d : Deed) → (z.row t).mode ≡ Ready → is_ready d.row.mode ≡ false → d.row.parent ≡ Some v → ((x : ℕ) → contains (z.row t).neighbours x ≡ true → x ≢ v → 1 ≤ aborts (added d x)) → Reaches z (after_take z v t d) t v
+  away : (d : Transition) → (z.state t).mode ≡ Ready → is_ready d.state.mode ≡ false → d.state.parent ≡ Some v → ((x : ℕ) → contains (z.state t).neighbours x ≡ true → x ≢ v → 1 ≤ aborts (added d x)) → Reaches z (after_take z v t d) t v
   away d ready busy parent sends = record {
     was = ready;
     near = near;
@@ -68,21 +68,21 @@ module _ (z : Ideal) (v t : ℕ) (rest : List Msg) (front : z.way v t ≡ msg.Ab
       alone = let count = (sound.links v t (sym (sound.mirrored t v) ∙ near)).counted in grind (arith, count, ap aborts front)
 
   -- a Ready node with other neighbours passes the wave on
-  waits : (z.row t).mode ≡ Ready → is_empty others ≡ false → TakeEffect z v t (wave_on (z.row t) (Some v) others)
+  waits : (z.state t).mode ≡ Ready → is_empty others ≡ false → TakeEffect z v t (wave_on (z.state t) (Some v) others)
   waits ready some =
-      let d = wave_on (z.row t) (Some v) others in
-      Effect.reaches t v (away d ready refl refl (λ x near_x far. grind (arith, nat_tests, has_remove (z.row t).neighbours v x))) (λ x. refl) refl
+      let d = wave_on (z.state t) (Some v) others in
+      Effect.reaches t v (away d ready refl refl (λ x near_x far. grind (arith, nat_tests, has_remove (z.state t).neighbours v x))) (λ x. refl) refl
 
   -- one without acknowledges
-  acknowledges : (z.row t).mode ≡ Ready → is_empty others ≡ true → TakeEffect z v t (wave_back (z.row t) v)
+  acknowledges : (z.state t).mode ≡ Ready → is_empty others ≡ true → TakeEffect z v t (wave_back (z.state t) v)
   acknowledges ready none =
-      let d = wave_back (z.row t) v in
-      Effect.reaches t v (away d ready refl refl (λ x near_x far. absurd (grind (arith, nat_tests, has_remove (z.row t).neighbours v x, empty_has others x none)))) (λ x. refl) refl
+      let d = wave_back (z.state t) v in
+      Effect.reaches t v (away d ready refl refl (λ x near_x far. absurd (grind (arith, nat_tests, has_remove (z.state t).neighbours v x, empty_has others x none)))) (λ x. refl) refl
 
   -- a node in a reset answers
-  answers : is_ready (z.row t).mode ≡ false → TakeEffect z v t (answer (z.row t) v)
+  answers : is_ready (z.state t).mode ≡ false → TakeEffect z v t (answer (z.state t) v)
   answers busy =
-      let d = answer (z.row t) v in
+      let d = answer (z.state t) v in
       Effect.passes
       (record {
         same = same_places (headed z v t) t d (record { mode = refl; parent = refl });
@@ -90,5 +90,5 @@ module _ (z : Ideal) (v t : ℕ) (rest : List Msg) (front : z.way v t ≡ msg.Ab
       }) (λ x. refl) refl
 
   -- an Abort that is taken
-  pub abort_effect : TakeEffect z v t (on_abort (z.row t) v)
-  abort_effect = abort_cases (z.row t) v (TakeEffect z v t) acknowledges waits answers
+  pub abort_effect : TakeEffect z v t (on_abort (z.state t) v)
+  abort_effect = abort_cases (z.state t) v (TakeEffect z v t) acknowledges waits answers

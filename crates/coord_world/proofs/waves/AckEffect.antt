@@ -9,22 +9,22 @@ use Rattle.coord_types.specs.declared.messages.Msg.{Msg}
 use Rattle.coord_types.specs.declared.messages.Msg.TheVariants as msg
 use Rattle.coord_types.proofs.Sets.{contains-empty}
 use Rattle.coord_node.specs.IdealRules.{headed}
-use Rattle.coord_node.specs.Rules.{Deed, on_ack, finish, idle, answer, is_parent}
-use Rattle.coord_world.specs.Links.{is_abort, is_ready}
+use Rattle.coord_node.specs.Rules.{Transition, on_ack, finish, idle, answer, is_parent}
+use Rattle.coord_world.specs.protocol.Links.{is_abort, is_ready}
 use Rattle.coord_world.proofs.waves.AbortEffect.{TakeEffect}
-use Rattle.coord_world.proofs.legal.DeedKept.{row_here, row_there}
+use Rattle.coord_world.proofs.legal.TransitionKept.{row_here, row_there}
 use Rattle.coord_world.proofs.waves.Calm.{IsQuiet, calm_take, same_places}
 use Rattle.coord_world.proofs.waves.Effect.{Calm, Effect}
-use Rattle.coord_world.proofs.deeds.RuleCases.{ack_cases, acked_by}
+use Rattle.coord_world.proofs.transitions.RuleCases.{ack_cases, acked_by}
 use Rattle.coord_world.proofs.legal.RulesKept.{some_awaited, waiting}
 use Rattle.coord_world.proofs.legal.TakeKept.{after_take}
 use Rattle.coord_world.proofs.lists.NodeSets.{has_only}
 use Rattle.coord_world.proofs.legal.Sound.{Sound}
 
-module _ (z : Ideal) (v t : ℕ) (rest : List Msg) (front : z.way v t ≡ msg.Ack ∷ rest) (near : contains (z.row t).neighbours v ≡ true) (sound : Sound z) where
+module _ (z : Ideal) (v t : ℕ) (rest : List Msg) (front : z.way v t ≡ msg.Ack ∷ rest) (near : contains (z.state t).neighbours v ≡ true) (sound : Sound z) where
   -- the node that takes the message
   abbrev r : NodeState
-  r = z.row t
+  r = z.state t
 
   -- its state when the sender is awaited no more
   abbrev left : NodeState
@@ -34,8 +34,8 @@ module _ (z : Ideal) (v t : ℕ) (rest : List Msg) (front : z.way v t ≡ msg.Ac
   wait : r.mode ≡ Abort
   wait = waiting z v t rest near sound front
 
-  -- a deed that sends no Abort is calm
-  calm : (d : Deed) → IsQuiet d → Calm z (after_take z v t d)
+  -- a transition that sends no Abort is calm
+  calm : (d : Transition) → IsQuiet d → Calm z (after_take z v t d)
   calm d quiet = calm_take z v t d quiet (λ _. grind (arith, front))
 
   -- others are still awaited

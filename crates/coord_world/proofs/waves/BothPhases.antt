@@ -7,11 +7,11 @@ use Rattle.coord_types.specs.declared.steps.Kind.{Kind}
 use Rattle.coord_types.specs.declared.steps.Step.{Step}
 use Rattle.coord_node.specs.Rules.{is_empty}
 use Rattle.coord_node.specs.Steps.{kind}
-use Rattle.coord_world.specs.Links.{is_ready}
-use Rattle.coord_world.specs.Next.{next}
-use Rattle.coord_world.specs.NumberedWorld.{World, view, row, is_linked}
-use Rattle.coord_world.specs.Outputs.{outs}
-use Rattle.coord_world.specs.Waves.{Connected, signals_of, started, started_by}
+use Rattle.coord_world.specs.protocol.Links.{is_ready}
+use Rattle.coord_world.specs.protocol.Next.{next}
+use Rattle.coord_world.specs.protocol.NumberedWorld.{World, view, state, is_linked}
+use Rattle.coord_world.specs.protocol.Outputs.{outs}
+use Rattle.coord_world.specs.laws.Waves.{Connected, signals_of, started, started_by}
 use Rattle.coord_world.proofs.Cases.{same_or_apart}
 use Rattle.coord_world.proofs.waves.Effect.{Effect}
 use Rattle.coord_world.proofs.waves.Front.{Front}
@@ -30,12 +30,12 @@ front_empty [] ys e = (refl, e)
 front_empty (x ∷ xs) ys e = cc
 
 -- the last phase
-pub last_phase : (steps : List Step) (w : World) → AllGo w steps → started w steps ≡ [] → Settled (view w) → (x : ℕ) → is_empty (row w x).neighbours ≡ false → signals_of x (outs w steps) ≡ busy (row w x)
+pub last_phase : (steps : List Step) (w : World) → AllGo w steps → started w steps ≡ [] → Settled (view w) → (x : ℕ) → is_empty (state w x).neighbours ≡ false → signals_of x (outs w steps) ≡ busy (state w x)
 last_phase [] w ready none settled x some = let r = ap is_ready (ready x) in grind (arith, r)
 last_phase (s ∷ ss) w run none settled x some =
     let goes = run.0 in
-    let nobody = front_empty (started_by (kind (row w) s) s) (started (next w s) ss) none in
-    let step = settles (view w) (view (next w s)) (signals_in (row w) s) (started_by (kind (row w) s) s) (kind (row w) s) goes.before settled nobody.0 goes.effect in
+    let nobody = front_empty (started_by (kind (state w) s) s) (started (next w s) ss) none in
+    let step = settles (view w) (view (next w s)) (signals_in (state w) s) (started_by (kind (state w) s) s) (kind (state w) s) goes.before settled nobody.0 goes.effect in
     let rest = last_phase ss (next w s) run.1 nobody.1 step.settled x (near_kept w s goes x ∙ some) in
     let now = step.once x some in
     let all = signals_first x w s ss in
@@ -43,8 +43,8 @@ last_phase (s ∷ ss) w run none settled x some =
 
 -- the world in which u begins its wave, and a later one
 pub record Within (base : World) (u : ℕ) (w : World) : Type 0 where
-  pub like : (a b : ℕ) → is_linked base a b ≡ true → contains (row w a).neighbours b ≡ true
-  pub near : (x : ℕ) → Connected base u x → is_empty (row w x).neighbours ≡ false
+  pub like : (a b : ℕ) → is_linked base a b ≡ true → contains (state w a).neighbours b ≡ true
+  pub near : (x : ℕ) → Connected base u x → is_empty (state w x).neighbours ≡ false
 
 -- a step keeps that
 within_next : (base : World) (u : ℕ) (w : World) (s : Step) → Goes w s → Within base u w → Within base u (next w s)
@@ -56,16 +56,16 @@ within_next base u w s goes within = record {
 -- the first phase goes on, or it ends
 data Turn (base : World) (u : ℕ) (y : Ideal) (signals : ℕ → ℕ) : Type 0 where
   on : (xs : List ℕ) → Front y u xs → ((x : ℕ) → Connected base u x → signals x ≡ 0) → Turn base u y signals
-  ends : Settled y → ((x : ℕ) → Connected base u x → signals x + busy (y.row x) ≡ 1) → Turn base u y signals
+  ends : Settled y → ((x : ℕ) → Connected base u x → signals x + busy (y.state x) ≡ 1) → Turn base u y signals
 
 -- by what the step does
 turn : (base : World) (u : ℕ) (z y : Ideal) (signals : ℕ → ℕ) (starts : List ℕ) (k : Kind) (xs : List ℕ) → Sound z → Sound y → SameNear z y →
-    ((a b : ℕ) → is_linked base a b ≡ true → contains (z.row a).neighbours b ≡ true) → ((x : ℕ) → Connected base u x → is_empty (z.row x).neighbours ≡ false) →
+    ((a b : ℕ) → is_linked base a b ≡ true → contains (z.state a).neighbours b ≡ true) → ((x : ℕ) → Connected base u x → is_empty (z.state x).neighbours ≡ false) →
     Front z u xs → starts ≡ [] → Effect z y signals starts k → Turn base u y signals
 turn base u z y signals starts k xs before after near like some front none (Effect.passes passes silent e) = Turn.on xs (passed_by z y u xs near front passes) (λ x path. silent x)
 turn base u z y signals starts k xs before after near like some front none (Effect.alone t passes lone signal kind e) =
     Turn.on xs (passed_by z y u xs near front passes) (λ x path. signal x ∙ elim (same_or_apart x t) [
-      | inl here ↦ absurd (let more = subst (λ q. is_empty (z.row q).neighbours ≡ false) here (some x path) in cc)
+      | inl here ↦ absurd (let more = subst (λ q. is_empty (z.state q).neighbours ≡ false) here (some x path) in cc)
       | inr apart ↦ grind (arith, nat_tests)
     ])
 turn base u z y signals starts k xs before after near like some front none (Effect.reaches t v reaches silent e) = Turn.on (t ∷ xs) (grows z y u t v xs before near front reaches) (λ x path. silent x)
@@ -80,9 +80,9 @@ pub first_phase : (base : World) (u : ℕ) (steps : List Step) (w : World) → A
 first_phase base u [] w ready none within xs front x path = absurd (let is_ready = ready u in let is_abort = front.top in cc)
 first_phase base u (s ∷ ss) w run none within xs front x path =
     let goes = run.0 in
-    let nobody = front_empty (started_by (kind (row w) s) s) (started (next w s) ss) none in
+    let nobody = front_empty (started_by (kind (state w) s) s) (started (next w s) ss) none in
     let all = signals_first x w s ss in
-    elim (turn base u (view w) (view (next w s)) (signals_in (row w) s) (started_by (kind (row w) s) s) (kind (row w) s) xs goes.before goes.after goes.near within.like within.near front nobody.0 goes.effect) [
+    elim (turn base u (view w) (view (next w s)) (signals_in (state w) s) (started_by (kind (state w) s) s) (kind (state w) s) xs goes.before goes.after goes.near within.like within.near front nobody.0 goes.effect) [
       | on more front_next silent ↦
           let rest = first_phase base u ss (next w s) run.1 nobody.1 (within_next base u w s goes within) more front_next x path in
           let now = silent x path in

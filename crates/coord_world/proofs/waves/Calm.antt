@@ -1,13 +1,13 @@
--- Deeds that send no Abort, and what they leave on the way.
+-- Transitions that send no Abort, and what they leave on the way.
 use Rattle.std.proofs.Common.{◌≡◌, ℕ, ◌≤◌, true, List, [], ◌∷◌, arith}
 use Rattle.std.proofs.lemmas.Bool.Decides.{nat_tests}
 use Rattle.coord_types.specs.IdealWorld.{Ideal}
 use Rattle.coord_types.specs.Messages.{behind_front}
 use Rattle.coord_types.specs.declared.messages.Msg.{Msg}
 use Rattle.coord_types.specs.declared.messages.Msg.TheVariants as msg
-use Rattle.coord_node.specs.IdealRules.{acts, added, headed}
-use Rattle.coord_node.specs.Rules.{Deed}
-use Rattle.coord_world.specs.Links.{aborts, is_ready}
+use Rattle.coord_node.specs.IdealRules.{ideal_applied, added, headed}
+use Rattle.coord_node.specs.Rules.{Transition}
+use Rattle.coord_world.specs.protocol.Links.{aborts, is_ready}
 use Rattle.coord_world.proofs.legal.TakeKept.{after_take}
 use Rattle.coord_world.proofs.Cases.{everywhere}
 use Rattle.coord_world.proofs.waves.Effect.{SamePlace, Calm}
@@ -20,8 +20,8 @@ fewer_behind (msg.Abort ∷ xs) = omega arith
 fewer_behind (msg.Ack ∷ xs) = omega arith
 fewer_behind (msg.Ready ∷ xs) = omega arith
 
--- a deed sends no Abort
-abbrev pub IsQuiet : Deed → Type 0
+-- a transition sends no Abort
+abbrev pub IsQuiet : Transition → Type 0
 IsQuiet d = (y : ℕ) → aborts (added d y) ≡ 0
 
 module _ (z : Ideal) (v t : ℕ) where
@@ -30,30 +30,30 @@ module _ (z : Ideal) (v t : ℕ) where
   headed_fewer a b = grind (arith, nat_tests, fewer_behind (z.way a b))
 
   -- it was no Abort, or its receiver wasn't Ready
-  headed_kept : (is_ready (z.row t).mode ≡ true → aborts (z.way v t) ≤ aborts (behind_front (z.way v t))) → (a b : ℕ) → is_ready (z.row b).mode ≡ true → aborts (z.way a b) ≤ aborts ((headed z v t).way a b)
-  headed_kept same a b = everywhere (λ q. is_ready (z.row q).mode ≡ true → aborts (z.way a q) ≤ aborts ((headed z v t).way a q)) t
-      (everywhere (λ p. is_ready (z.row t).mode ≡ true → aborts (z.way p t) ≤ aborts ((headed z v t).way p t)) v
+  headed_kept : (is_ready (z.state t).mode ≡ true → aborts (z.way v t) ≤ aborts (behind_front (z.way v t))) → (a b : ℕ) → is_ready (z.state b).mode ≡ true → aborts (z.way a b) ≤ aborts ((headed z v t).way a b)
+  headed_kept same a b = everywhere (λ q. is_ready (z.state q).mode ≡ true → aborts (z.way a q) ≤ aborts ((headed z v t).way a q)) t
+      (everywhere (λ p. is_ready (z.state t).mode ≡ true → aborts (z.way p t) ≤ aborts ((headed z v t).way p t)) v
       (λ ready. let more = same ready in grind (arith, nat_tests, more)) (λ p far ready. grind (arith, nat_tests)) a)
       (λ q apart ready. grind (arith, nat_tests)) b
 
-module _ (z : Ideal) (t : ℕ) (d : Deed) (quiet : IsQuiet d) where
-  -- a quiet deed leaves all Aborts on the way
-  same_aborts : (a b : ℕ) → aborts ((acts z t d).way a b) ≡ aborts (z.way a b)
+module _ (z : Ideal) (t : ℕ) (d : Transition) (quiet : IsQuiet d) where
+  -- a quiet transition leaves all Aborts on the way
+  same_aborts : (a b : ℕ) → aborts ((ideal_applied z t d).way a b) ≡ aborts (z.way a b)
   same_aborts a b = grind (arith, nat_tests, aborts-append (z.way a b) (added d b), quiet b)
 
-  -- a quiet deed that takes nothing
-  pub calm_deed : Calm z (acts z t d)
+  -- a quiet transition that takes nothing
+  pub calm_deed : Calm z (ideal_applied z t d)
   calm_deed = record { fewer = λ a b. omega (arith, same_aborts a b); kept = λ a b ready. omega (arith, same_aborts a b) }
 
--- a quiet deed that takes a message
-pub calm_take : (z : Ideal) (v t : ℕ) (d : Deed) → IsQuiet d → (is_ready (z.row t).mode ≡ true → aborts (z.way v t) ≤ aborts (behind_front (z.way v t))) → Calm z (after_take z v t d)
+-- a quiet transition that takes a message
+pub calm_take : (z : Ideal) (v t : ℕ) (d : Transition) → IsQuiet d → (is_ready (z.state t).mode ≡ true → aborts (z.way v t) ≤ aborts (behind_front (z.way v t))) → Calm z (after_take z v t d)
 calm_take z v t d quiet same = record {
   fewer = λ a b. omega (arith, same_aborts (headed z v t) t d quiet a b, headed_fewer z v t a b);
   kept = λ a b ready. omega (arith, same_aborts (headed z v t) t d quiet a b, headed_kept z v t same a b ready);
 }
 
--- a deed at a node that stays in its place leaves each one in its place
-pub same_places : (z : Ideal) (t : ℕ) (d : Deed) → SamePlace (z.row t) d.row → (x : ℕ) → SamePlace (z.row x) ((acts z t d).row x)
-same_places z t d same = everywhere (λ x. SamePlace (z.row x) ((acts z t d).row x)) t
+-- a transition at a node that stays in its place leaves each one in its place
+pub same_places : (z : Ideal) (t : ℕ) (d : Transition) → SamePlace (z.state t) d.state → (x : ℕ) → SamePlace (z.state x) ((ideal_applied z t d).state x)
+same_places z t d same = everywhere (λ x. SamePlace (z.state x) ((ideal_applied z t d).state x)) t
     (record { mode = grind (arith, nat_tests, same.mode); parent = grind (arith, nat_tests, same.parent) })
     (λ x apart. record { mode = grind (arith, nat_tests); parent = grind (arith, nat_tests) })

@@ -1,7 +1,7 @@
 -- Paths of links.
 use Rattle.std.proofs.Common.{◌≡◌, ℕ, true, List, [], ◌∷◌, ◌++◌, refl, subst, sym}
-use Rattle.coord_world.specs.NumberedWorld.{World, is_linked}
-use Rattle.coord_world.specs.Waves.{IsPath, Connected}
+use Rattle.coord_world.specs.protocol.NumberedWorld.{World, is_linked}
+use Rattle.coord_world.specs.laws.Waves.{IsPath, Connected}
 
 module _ (w : World) where
   -- what passes over every link goes along a path

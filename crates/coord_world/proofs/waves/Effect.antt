@@ -7,7 +7,7 @@ use Rattle.coord_types.specs.declared.messages.Mode.TheVariants.{Ready, Abort, C
 use Rattle.coord_types.specs.declared.steps.Kind.{Kind}
 use Rattle.coord_types.specs.declared.steps.Kind.TheVariants.{Finished}
 use Rattle.coord_node.specs.Rules.{is_empty}
-use Rattle.coord_world.specs.Links.{aborts, readies, is_ready, one}
+use Rattle.coord_world.specs.protocol.Links.{aborts, readies, is_ready, one}
 
 -- a node stays in its place in the wave
 pub record SamePlace (r q : NodeState) : Type 0 where
@@ -17,7 +17,7 @@ pub record SamePlace (r q : NodeState) : Type 0 where
 -- no Abort joins those on the way, and none to a Ready node leaves them
 pub record Calm (z y : Ideal) : Type 0 where
   pub fewer : (a b : ℕ) → aborts (y.way a b) ≤ aborts (z.way a b)
-  pub kept : (a b : ℕ) → is_ready (z.row b).mode ≡ true → aborts (z.way a b) ≤ aborts (y.way a b)
+  pub kept : (a b : ℕ) → is_ready (z.state b).mode ≡ true → aborts (z.way a b) ≤ aborts (y.way a b)
 
 -- no node signals
 abbrev pub Silent : (ℕ → ℕ) → Type 0
@@ -29,45 +29,45 @@ Signals signals t = (v : ℕ) → signals v ≡ one (eqb t v)
 
 -- no node but t changes
 abbrev pub Elsewhere : Ideal → Ideal → ℕ → Type 0
-Elsewhere z y t = (x : ℕ) → x ≢ t → y.row x ≡ z.row x
+Elsewhere z y t = (x : ℕ) → x ≢ t → y.state x ≡ z.state x
 
 -- each node stays in its place
 pub record Passes (z y : Ideal) : Type 0 where
-  pub same : (x : ℕ) → SamePlace (z.row x) (y.row x)
+  pub same : (x : ℕ) → SamePlace (z.state x) (y.state x)
   pub calm : Calm z y
 
 -- the Ready node t takes v's Abort, and sends one to every other neighbour
 pub record Reaches (z y : Ideal) (t v : ℕ) : Type 0 where
-  pub was : (z.row t).mode ≡ Ready
-  pub near : contains (z.row t).neighbours v ≡ true
+  pub was : (z.state t).mode ≡ Ready
+  pub near : contains (z.state t).neighbours v ≡ true
   pub came : 1 ≤ aborts (z.way v t)
-  pub busy : is_ready (y.row t).mode ≡ false
-  pub parent : (y.row t).parent ≡ Some v
+  pub busy : is_ready (y.state t).mode ≡ false
+  pub parent : (y.state t).parent ≡ Some v
   pub elsewhere : Elsewhere z y t
   pub left : aborts (y.way v t) ≡ 0
-  pub sent : (x : ℕ) → contains (z.row t).neighbours x ≡ true → x ≢ v → 1 ≤ aborts (y.way t x)
+  pub sent : (x : ℕ) → contains (z.state t).neighbours x ≡ true → x ≢ v → 1 ≤ aborts (y.way t x)
   pub apart : (a b : ℕ) → a ≢ t → b ≢ t → y.way a b ≡ z.way a b
 
 -- the Abort node t awaits nobody any more, and acknowledges to its parent p
 pub record Turns (z y : Ideal) (t p : ℕ) : Type 0 where
-  pub was : (z.row t).mode ≡ Abort
-  pub now : (y.row t).mode ≡ Converge
-  pub parent : (z.row t).parent ≡ Some p
-  pub same_parent : (y.row t).parent ≡ Some p
+  pub was : (z.state t).mode ≡ Abort
+  pub now : (y.state t).mode ≡ Converge
+  pub parent : (z.state t).parent ≡ Some p
+  pub same_parent : (y.state t).parent ≡ Some p
   pub elsewhere : Elsewhere z y t
   pub calm : Calm z y
   pub none : aborts (z.way p t) ≡ 0
 
 -- the node t, which nobody reached, awaits nobody any more
 pub record Tops (z : Ideal) (t : ℕ) : Type 0 where
-  pub was : (z.row t).mode ≡ Abort
-  pub top : (z.row t).parent ≡ None
+  pub was : (z.state t).mode ≡ Abort
+  pub top : (z.state t).parent ≡ None
 
 -- the node t takes its parent's Ready
 pub record Hears (z : Ideal) (t v : ℕ) : Type 0 where
-  pub was : (z.row t).mode ≡ Converge
-  pub near : contains (z.row t).neighbours v ≡ true
-  pub parent : (z.row t).parent ≡ Some v
+  pub was : (z.state t).mode ≡ Converge
+  pub near : contains (z.state t).neighbours v ≡ true
+  pub parent : (z.state t).parent ≡ Some v
   pub came : 1 ≤ readies (z.way v t)
 
 -- why t finishes
@@ -76,25 +76,25 @@ Cause z t = Tops z t ⊎ ((v : ℕ) × Hears z t v)
 
 -- the node t, which isn't Ready, finishes
 pub record Finishes (z y : Ideal) (t : ℕ) : Type 0 where
-  pub was : is_ready (z.row t).mode ≡ false
+  pub was : is_ready (z.state t).mode ≡ false
   pub cause : Cause z t
-  pub now : (y.row t).mode ≡ Ready
+  pub now : (y.state t).mode ≡ Ready
   pub elsewhere : Elsewhere z y t
   pub calm : Calm z y
 
 -- the Ready node t sends an Abort to every neighbour
 pub record Starts (z y : Ideal) (t : ℕ) : Type 0 where
-  pub was : (z.row t).mode ≡ Ready
-  pub some : is_empty (z.row t).neighbours ≡ false
-  pub now : (y.row t).mode ≡ Abort
-  pub parent : (y.row t).parent ≡ None
+  pub was : (z.state t).mode ≡ Ready
+  pub some : is_empty (z.state t).neighbours ≡ false
+  pub now : (y.state t).mode ≡ Abort
+  pub parent : (y.state t).parent ≡ None
   pub elsewhere : Elsewhere z y t
-  pub sent : (x : ℕ) → contains (z.row t).neighbours x ≡ true → 1 ≤ aborts (y.way t x)
+  pub sent : (x : ℕ) → contains (z.state t).neighbours x ≡ true → 1 ≤ aborts (y.way t x)
 
 -- what a step does that makes y of z: who signals, who starts, and the kind of its reply
 pub data Effect (z y : Ideal) (signals : ℕ → ℕ) (starts : List ℕ) (k : Kind) : Type 0 where
   passes : Passes z y → Silent signals → starts ≡ [] → Effect z y signals starts k
-  alone : (t : ℕ) → Passes z y → is_empty (z.row t).neighbours ≡ true → Signals signals t → k ≡ Finished → starts ≡ [] → Effect z y signals starts k
+  alone : (t : ℕ) → Passes z y → is_empty (z.state t).neighbours ≡ true → Signals signals t → k ≡ Finished → starts ≡ [] → Effect z y signals starts k
   reaches : (t v : ℕ) → Reaches z y t v → Silent signals → starts ≡ [] → Effect z y signals starts k
   turns : (t p : ℕ) → Turns z y t p → Silent signals → starts ≡ [] → Effect z y signals starts k
   finishes : (t : ℕ) → Finishes z y t → Signals signals t → starts ≡ [] → Effect z y signals starts k

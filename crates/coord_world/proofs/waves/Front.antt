@@ -5,7 +5,7 @@ use Rattle.coord_types.specs.IdealWorld.{Ideal}
 use Rattle.coord_types.specs.NodeSet.{contains}
 use Rattle.coord_types.specs.declared.messages.Mode.{Mode}
 use Rattle.coord_types.specs.declared.messages.Mode.TheVariants.{Ready, Abort, Converge}
-use Rattle.coord_world.specs.Links.{aborts, is_ready}
+use Rattle.coord_world.specs.protocol.Links.{aborts, is_ready}
 use Rattle.coord_world.proofs.Cases.{by_test, same_or_apart}
 use Rattle.coord_world.proofs.legal.Sound.{Sound}
 
@@ -16,7 +16,7 @@ among (y ∷ ys) x = eqb x y || among ys x
 
 -- x is u, or its parent is in the list
 abbrev pub IsUnder : Ideal → ℕ → List ℕ → ℕ → Type 0
-IsUnder z u xs x = (x ≡ u) ⊎ ((p : ℕ) × ((z.row x).parent ≡ Some p) × (among xs p ≡ true))
+IsUnder z u xs x = (x ≡ u) ⊎ ((p : ℕ) × ((z.state x).parent ≡ Some p) × (among xs p ≡ true))
 
 -- the nodes that a wave from u has reached, the newest first: each one's parent was reached before it
 abbrev pub Reached : Ideal → ℕ → List ℕ → Type 0
@@ -25,15 +25,15 @@ Reached z u (x ∷ xs) = IsUnder z u xs x × Reached z u xs
 
 -- a wave from u that has reached the nodes xs
 pub record Front (z : Ideal) (u : ℕ) (xs : List ℕ) : Type 0 where
-  pub top : (z.row u).mode ≡ Abort
-  pub no_parent : (z.row u).parent ≡ None
+  pub top : (z.state u).mode ≡ Abort
+  pub no_parent : (z.state u).parent ≡ None
   pub reached : Reached z u xs
   -- nobody else is in it
-  pub others : (x : ℕ) → among xs x ≡ false → is_ready (z.row x).mode ≡ true
+  pub others : (x : ℕ) → among xs x ≡ false → is_ready (z.state x).mode ≡ true
   -- a node that has acknowledged to its parent has no Abort on the way from there
-  pub held : (x p : ℕ) → (z.row x).mode ≡ Converge → (z.row x).parent ≡ Some p → aborts (z.way p x) ≡ 0
+  pub held : (x p : ℕ) → (z.state x).mode ≡ Converge → (z.state x).parent ≡ Some p → aborts (z.way p x) ≡ 0
   -- a node that was reached has sent an Abort to each Ready neighbour
-  pub sent : (a b : ℕ) → contains (z.row a).neighbours b ≡ true → is_ready (z.row a).mode ≡ false → is_ready (z.row b).mode ≡ true → 1 ≤ aborts (z.way a b)
+  pub sent : (a b : ℕ) → contains (z.state a).neighbours b ≡ true → is_ready (z.state a).mode ≡ false → is_ready (z.state b).mode ≡ true → 1 ≤ aborts (z.way a b)
 
 -- what is_ready says
 pub mode_is_ready : (m : Mode) → is_ready m ≡ true → m ≡ Ready
@@ -53,7 +53,7 @@ under z u (y ∷ xs) reached x h = elim (eqb_tells x y) [
     more known = elim known [ inl is_u ↦ inl is_u | inr from ↦ inr (from.0, from.1, grind (arith, from.2)) ]
 
 -- the list stays where the parents of its nodes do
-pub reached_same : (z y : Ideal) (u : ℕ) (xs : List ℕ) → ((x : ℕ) → among xs x ≡ true → x ≢ u → (y.row x).parent ≡ (z.row x).parent) → Reached z u xs → Reached y u xs
+pub reached_same : (z y : Ideal) (u : ℕ) (xs : List ℕ) → ((x : ℕ) → among xs x ≡ true → x ≢ u → (y.state x).parent ≡ (z.state x).parent) → Reached z u xs → Reached y u xs
 reached_same z y u [] same reached = tt
 reached_same z y u (x ∷ xs) same reached = (again, reached_same z y u xs (λ q h far. same q (grind (arith, h)) far) reached.1)
   where
@@ -65,23 +65,23 @@ reached_same z y u (x ∷ xs) same reached = (again, reached_same z y u xs (λ q
 
 module _ (z : Ideal) (u : ℕ) (xs : List ℕ) (sound : Sound z) (front : Front z u xs) where
   -- a node with a parent isn't Ready
-  pub child_busy : (x p : ℕ) → (z.row x).parent ≡ Some p → is_ready (z.row x).mode ≡ false
-  child_busy x p up = by_test (is_ready (z.row x).mode) (λ b. b ≡ false) (λ h. absurd (let none = (sound.nodes x).no_parent (mode_is_ready (z.row x).mode h) in cc)) (λ _. refl)
+  pub child_busy : (x p : ℕ) → (z.state x).parent ≡ Some p → is_ready (z.state x).mode ≡ false
+  child_busy x p up = by_test (is_ready (z.state x).mode) (λ b. b ≡ false) (λ h. absurd (let none = (sound.nodes x).no_parent (mode_is_ready (z.state x).mode h) in cc)) (λ _. refl)
 
   -- a node that was reached isn't Ready
-  pub reached_busy : (x : ℕ) → among xs x ≡ true → is_ready (z.row x).mode ≡ false
+  pub reached_busy : (x : ℕ) → among xs x ≡ true → is_ready (z.state x).mode ≡ false
   reached_busy x h = elim (under z u xs front.reached x h) [
-    | inl is_u ↦ subst (λ q. is_ready (z.row q).mode ≡ false) (sym is_u) (ap is_ready front.top)
+    | inl is_u ↦ subst (λ q. is_ready (z.state q).mode ≡ false) (sym is_u) (ap is_ready front.top)
     | inr from ↦ child_busy x from.0 from.1
   ]
 
   -- and a node that isn't Ready was reached
-  pub busy_reached : (x : ℕ) → is_ready (z.row x).mode ≡ false → among xs x ≡ true
+  pub busy_reached : (x : ℕ) → is_ready (z.state x).mode ≡ false → among xs x ≡ true
   busy_reached x h = by_test (among xs x) (λ b. b ≡ true) (λ _. refl) (λ none. absurd (let ready = front.others x none in cc))
 
   -- so is its parent
-  pub parent_busy : (x p : ℕ) → (z.row x).parent ≡ Some p → is_ready (z.row p).mode ≡ false
+  pub parent_busy : (x p : ℕ) → (z.state x).parent ≡ Some p → is_ready (z.state p).mode ≡ false
   parent_busy x p up = elim (under z u xs front.reached x (busy_reached x (child_busy x p up))) [
-    | inl is_u ↦ absurd (let none = subst (λ q. (z.row q).parent ≡ None) (sym is_u) front.no_parent in cc)
+    | inl is_u ↦ absurd (let none = subst (λ q. (z.state q).parent ≡ None) (sym is_u) front.no_parent in cc)
     | inr from ↦ reached_busy p (let same : from.0 ≡ p = cc (from.1, up) in subst (λ q. among xs q ≡ true) same from.2)
   ]

@@ -5,35 +5,35 @@ use Rattle.coord_types.specs.IdealWorld.{Ideal}
 use Rattle.coord_types.specs.NodeSet.{contains}
 use Rattle.coord_types.specs.NodeState.{NodeState}
 use Rattle.coord_types.specs.declared.messages.Mode.TheVariants.{Ready, Abort, Converge}
-use Rattle.coord_world.specs.Links.{aborts, is_ready}
+use Rattle.coord_world.specs.protocol.Links.{aborts, is_ready}
 use Rattle.coord_world.proofs.Cases.{everywhere}
 use Rattle.coord_world.proofs.waves.Effect.{Calm, Passes, Turns, Starts}
 use Rattle.coord_world.proofs.waves.Front.{Front, reached_same}
 
 -- the neighbours stay
 abbrev pub SameNear : Ideal → Ideal → Type 0
-SameNear z y = (a b : ℕ) → contains (y.row a).neighbours b ≡ contains (z.row a).neighbours b
+SameNear z y = (a b : ℕ) → contains (y.state a).neighbours b ≡ contains (z.state a).neighbours b
 
 -- a start at t, where every node is Ready
-pub begins : (z y : Ideal) (t : ℕ) → SameNear z y → ((x : ℕ) → (z.row x).mode ≡ Ready) → Starts z y t → Front y t (t ∷ [])
+pub begins : (z y : Ideal) (t : ℕ) → SameNear z y → ((x : ℕ) → (z.state x).mode ≡ Ready) → Starts z y t → Front y t (t ∷ [])
 begins z y t near ready starts = record {
   top = starts.now;
   no_parent = starts.parent;
   reached = (inl refl, tt);
   others = λ x h. calm x (λ same. grind (arith, nat_tests, h, same));
-  held = λ x p. everywhere (λ q. (y.row q).mode ≡ Converge → (y.row q).parent ≡ Some p → aborts (y.way p q) ≡ 0) t
+  held = λ x p. everywhere (λ q. (y.state q).mode ≡ Converge → (y.state q).parent ≡ Some p → aborts (y.way p q) ≡ 0) t
       (λ mode up. absurd (let is_abort = starts.now in cc)) (λ q far mode up. absurd (let is_ready = calm q far in cc)) x;
-  sent = λ a b. everywhere (λ q. contains (y.row q).neighbours b ≡ true → is_ready (y.row q).mode ≡ false → is_ready (y.row b).mode ≡ true → 1 ≤ aborts (y.way q b)) t
+  sent = λ a b. everywhere (λ q. contains (y.state q).neighbours b ≡ true → is_ready (y.state q).mode ≡ false → is_ready (y.state b).mode ≡ true → 1 ≤ aborts (y.way q b)) t
       (λ with_b busy ready_b. starts.sent b (sym (near t b) ∙ with_b)) (λ q far with_b busy ready_b. absurd (let calm_q = calm q far in cc)) a;
 }
   where
-    calm : (x : ℕ) → x ≢ t → is_ready (y.row x).mode ≡ true
+    calm : (x : ℕ) → x ≢ t → is_ready (y.state x).mode ≡ true
     calm x far = ap (λ (r : NodeState). is_ready r.mode) (starts.elsewhere x far) ∙ ap is_ready (ready x)
 
 module _ (z y : Ideal) (u : ℕ) (xs : List ℕ) (near : SameNear z y) (front : Front z u xs) where
   -- where nobody is reached and nobody gets Ready
-  goes_on : Calm z y → ((x : ℕ) → (y.row x).parent ≡ (z.row x).parent) → ((x : ℕ) → is_ready (y.row x).mode ≡ is_ready (z.row x).mode) →
-      (y.row u).mode ≡ Abort → ((x p : ℕ) → (y.row x).mode ≡ Converge → (z.row x).parent ≡ Some p → aborts (z.way p x) ≡ 0) → Front y u xs
+  goes_on : Calm z y → ((x : ℕ) → (y.state x).parent ≡ (z.state x).parent) → ((x : ℕ) → is_ready (y.state x).mode ≡ is_ready (z.state x).mode) →
+      (y.state u).mode ≡ Abort → ((x p : ℕ) → (y.state x).mode ≡ Converge → (z.state x).parent ≡ Some p → aborts (z.way p x) ≡ 0) → Front y u xs
   goes_on calm parent ready top none = record {
     top = top;
     no_parent = parent u ∙ front.no_parent;
@@ -53,19 +53,19 @@ module _ (z y : Ideal) (u : ℕ) (xs : List ℕ) (near : SameNear z y) (front : 
   pub turned : (t p : ℕ) → Turns z y t p → Front y u xs
   turned t p turns = goes_on turns.calm parent ready top none
     where
-      parent : (x : ℕ) → (y.row x).parent ≡ (z.row x).parent
-      parent = everywhere (λ x. (y.row x).parent ≡ (z.row x).parent) t (turns.same_parent ∙ sym turns.parent) (λ x far. ap (λ (r : NodeState). r.parent) (turns.elsewhere x far))
+      parent : (x : ℕ) → (y.state x).parent ≡ (z.state x).parent
+      parent = everywhere (λ x. (y.state x).parent ≡ (z.state x).parent) t (turns.same_parent ∙ sym turns.parent) (λ x far. ap (λ (r : NodeState). r.parent) (turns.elsewhere x far))
 
-      ready : (x : ℕ) → is_ready (y.row x).mode ≡ is_ready (z.row x).mode
-      ready = everywhere (λ x. is_ready (y.row x).mode ≡ is_ready (z.row x).mode) t (ap is_ready turns.now ∙ sym (ap is_ready turns.was)) (λ x far. ap (λ (r : NodeState). is_ready r.mode) (turns.elsewhere x far))
+      ready : (x : ℕ) → is_ready (y.state x).mode ≡ is_ready (z.state x).mode
+      ready = everywhere (λ x. is_ready (y.state x).mode ≡ is_ready (z.state x).mode) t (ap is_ready turns.now ∙ sym (ap is_ready turns.was)) (λ x far. ap (λ (r : NodeState). is_ready r.mode) (turns.elsewhere x far))
 
       apart : u ≢ t
-      apart same = let none = subst (λ q. (z.row q).parent ≡ None) same front.no_parent in let some = turns.parent in cc
+      apart same = let none = subst (λ q. (z.state q).parent ≡ None) same front.no_parent in let some = turns.parent in cc
 
-      top : (y.row u).mode ≡ Abort
+      top : (y.state u).mode ≡ Abort
       top = ap (λ (r : NodeState). r.mode) (turns.elsewhere u apart) ∙ front.top
 
-      none : (x q : ℕ) → (y.row x).mode ≡ Converge → (z.row x).parent ≡ Some q → aborts (z.way q x) ≡ 0
-      none x q = everywhere (λ n. (y.row n).mode ≡ Converge → (z.row n).parent ≡ Some q → aborts (z.way q n) ≡ 0) t
+      none : (x q : ℕ) → (y.state x).mode ≡ Converge → (z.state x).parent ≡ Some q → aborts (z.way q x) ≡ 0
+      none x q = everywhere (λ n. (y.state n).mode ≡ Converge → (z.state n).parent ≡ Some q → aborts (z.way q n) ≡ 0) t
           (λ mode up. let same : p ≡ q = cc (up, turns.parent) in subst (λ n. aborts (z.way n t) ≡ 0) same turns.none)
           (λ n far mode up. front.held n q (ap (λ (r : NodeState). r.mode) (sym (turns.elsewhere n far)) ∙ mode) up) x

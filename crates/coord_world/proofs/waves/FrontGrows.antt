@@ -6,7 +6,7 @@ use Rattle.coord_types.specs.NodeSet.{contains}
 use Rattle.coord_types.specs.NodeState.{NodeState}
 use Rattle.coord_types.specs.declared.messages.Mode.{Mode}
 use Rattle.coord_types.specs.declared.messages.Mode.TheVariants.{Ready, Abort, Converge}
-use Rattle.coord_world.specs.Links.{aborts, is_abort, is_ready}
+use Rattle.coord_world.specs.protocol.Links.{aborts, is_abort, is_ready}
 use Rattle.coord_world.proofs.Cases.{same_or_apart}
 use Rattle.coord_world.proofs.waves.Effect.{Reaches}
 use Rattle.coord_world.proofs.waves.Front.{Front, reached_same, reached_busy, busy_reached, parent_busy}
@@ -22,21 +22,21 @@ abort_busy Converge e = cc
 
 module _ (z y : Ideal) (u t v : ℕ) (xs : List ℕ) (sound : Sound z) (near : SameNear z y) (front : Front z u xs) (reaches : Reaches z y t v) where
   -- the sender is in the wave
-  sender_busy : is_ready (z.row v).mode ≡ false
-  sender_busy = abort_busy (z.row v).mode (sender_aborts z sound v t reaches.near reaches.came)
+  sender_busy : is_ready (z.state v).mode ≡ false
+  sender_busy = abort_busy (z.state v).mode (sender_aborts z sound v t reaches.near reaches.came)
 
   -- a node in the wave is another one
-  apart : (x : ℕ) → is_ready (z.row x).mode ≡ false → x ≢ t
-  apart x busy same = let ready = subst (λ q. is_ready (z.row q).mode ≡ true) (sym same) (ap is_ready reaches.was) in cc
+  apart : (x : ℕ) → is_ready (z.state x).mode ≡ false → x ≢ t
+  apart x busy same = let ready = subst (λ q. is_ready (z.state q).mode ≡ true) (sym same) (ap is_ready reaches.was) in cc
 
   -- what the others' states are
-  ready_far : (x : ℕ) → x ≢ t → is_ready (y.row x).mode ≡ is_ready (z.row x).mode
+  ready_far : (x : ℕ) → x ≢ t → is_ready (y.state x).mode ≡ is_ready (z.state x).mode
   ready_far x far = ap (λ (r : NodeState). is_ready r.mode) (reaches.elsewhere x far)
 
   -- a node that is Ready after it is another one, and was Ready
-  ready_before : (x : ℕ) → is_ready (y.row x).mode ≡ true → (x ≢ t) × (is_ready (z.row x).mode ≡ true)
+  ready_before : (x : ℕ) → is_ready (y.state x).mode ≡ true → (x ≢ t) × (is_ready (z.state x).mode ≡ true)
   ready_before x ready =
-      let far : x ≢ t = λ same. (let busy = subst (λ q. is_ready (y.row q).mode ≡ false) (sym same) reaches.busy in cc) in
+      let far : x ≢ t = λ same. (let busy = subst (λ q. is_ready (y.state q).mode ≡ false) (sym same) reaches.busy in cc) in
       (far, sym (ready_far x far) ∙ ready)
 
   -- the initiator is another one
@@ -44,24 +44,24 @@ module _ (z y : Ideal) (u t v : ℕ) (xs : List ℕ) (sound : Sound z) (near : S
   top_far = apart u (ap is_ready front.top)
 
   -- who has acknowledged
-  held : (x p : ℕ) → (y.row x).mode ≡ Converge → (y.row x).parent ≡ Some p → aborts (y.way p x) ≡ 0
+  held : (x p : ℕ) → (y.state x).mode ≡ Converge → (y.state x).parent ≡ Some p → aborts (y.way p x) ≡ 0
   held x p mode up = elim (same_or_apart x t) [
     | inl here ↦ subst (λ q. aborts (y.way p q) ≡ 0) (sym here)
-        (let up_t = subst (λ q. (y.row q).parent ≡ Some p) here up in let same : v ≡ p = cc (up_t, reaches.parent) in subst (λ q. aborts (y.way q t) ≡ 0) same reaches.left)
+        (let up_t = subst (λ q. (y.state q).parent ≡ Some p) here up in let same : v ≡ p = cc (up_t, reaches.parent) in subst (λ q. aborts (y.way q t) ≡ 0) same reaches.left)
     | inr far ↦
-        let up_z : (z.row x).parent ≡ Some p = ap (λ (r : NodeState). r.parent) (sym (reaches.elsewhere x far)) ∙ up in
-        let mode_z : (z.row x).mode ≡ Converge = ap (λ (r : NodeState). r.mode) (sym (reaches.elsewhere x far)) ∙ mode in
+        let up_z : (z.state x).parent ≡ Some p = ap (λ (r : NodeState). r.parent) (sym (reaches.elsewhere x far)) ∙ up in
+        let mode_z : (z.state x).mode ≡ Converge = ap (λ (r : NodeState). r.mode) (sym (reaches.elsewhere x far)) ∙ mode in
         ap aborts (reaches.apart p x (apart p (parent_busy z u xs sound front x p up_z)) far) ∙ front.held x p mode_z up_z
   ]
 
   -- who has sent an Abort
-  sent : (a b : ℕ) → contains (y.row a).neighbours b ≡ true → is_ready (y.row a).mode ≡ false → is_ready (y.row b).mode ≡ true → 1 ≤ aborts (y.way a b)
+  sent : (a b : ℕ) → contains (y.state a).neighbours b ≡ true → is_ready (y.state a).mode ≡ false → is_ready (y.state b).mode ≡ true → 1 ≤ aborts (y.way a b)
   sent a b with_b busy ready =
       let before = ready_before b ready in
       elim (same_or_apart a t) [
         | inl here ↦ subst (λ q. 1 ≤ aborts (y.way q b)) (sym here)
-            (reaches.sent b (sym (near t b) ∙ subst (λ q. contains (y.row q).neighbours b ≡ true) here with_b)
-            (λ same. let other = subst (λ q. is_ready (z.row q).mode ≡ false) (sym same) sender_busy in let ready_b = before.1 in cc))
+            (reaches.sent b (sym (near t b) ∙ subst (λ q. contains (y.state q).neighbours b ≡ true) here with_b)
+            (λ same. let other = subst (λ q. is_ready (z.state q).mode ≡ false) (sym same) sender_busy in let ready_b = before.1 in cc))
         | inr far ↦ subst (λ m. 1 ≤ aborts m) (sym (reaches.apart a b far before.0)) (front.sent a b (sym (near a b) ∙ with_b) (sym (ready_far a far) ∙ busy) before.1)
       ]
 

@@ -10,11 +10,11 @@ use Rattle.coord_types.specs.declared.steps.Kind.{Kind}
 use Rattle.coord_types.specs.declared.steps.Kind.TheVariants.{Finished}
 use Rattle.coord_types.specs.declared.steps.Step.{Step}
 use Rattle.coord_node.specs.Steps.{kind}
-use Rattle.coord_world.specs.Links.{is_ready}
-use Rattle.coord_world.specs.Next.{next, reply}
-use Rattle.coord_world.specs.NumberedWorld.{World, view, row, is_linked}
-use Rattle.coord_world.specs.Outputs.{Released, outs, outputs}
-use Rattle.coord_world.specs.Waves.{Connected, IsExplained, started, started_by}
+use Rattle.coord_world.specs.protocol.Links.{is_ready}
+use Rattle.coord_world.specs.protocol.Next.{next, reply}
+use Rattle.coord_world.specs.protocol.NumberedWorld.{World, view, state, is_linked}
+use Rattle.coord_world.specs.protocol.Outputs.{StepOutcome, outs, outputs}
+use Rattle.coord_world.specs.laws.Waves.{Connected, IsExplained, started, started_by}
 use Rattle.coord_world.proofs.Cases.{everywhere, same_or_apart}
 use Rattle.coord_world.proofs.waves.Effect.{Effect, SamePlace}
 use Rattle.coord_world.proofs.waves.Front.{among}
@@ -28,7 +28,7 @@ use Rattle.coord_world.proofs.waves.StepEffect.{signals_in}
 
 -- each node that isn't Ready is connected with u
 abbrev pub Inside : World → ℕ → Ideal → Type 0
-Inside base u z = (x : ℕ) → is_ready (z.row x).mode ≡ false → Connected base u x
+Inside base u z = (x : ℕ) → is_ready (z.state x).mode ≡ false → Connected base u x
 
 -- what a step keeps
 record Explains (base : World) (u : ℕ) (y : Ideal) (signals : ℕ → ℕ) (k : Kind) : Type 0 where
@@ -37,12 +37,12 @@ record Explains (base : World) (u : ℕ) (y : Ideal) (signals : ℕ → ℕ) (k 
 
 module _ (base : World) (u : ℕ) (z y : Ideal) (signals : ℕ → ℕ) (k : Kind) (inside : Inside base u z) where
   -- where one node alone changes, and is connected
-  one_changes : (t : ℕ) → ((x : ℕ) → x ≢ t → y.row x ≡ z.row x) → Connected base u t → Inside base u y
-  one_changes t elsewhere known = everywhere (λ x. is_ready (y.row x).mode ≡ false → Connected base u x) t (λ busy. known)
+  one_changes : (t : ℕ) → ((x : ℕ) → x ≢ t → y.state x ≡ z.state x) → Connected base u t → Inside base u y
+  one_changes t elsewhere known = everywhere (λ x. is_ready (y.state x).mode ≡ false → Connected base u x) t (λ busy. known)
       (λ x far busy. inside x (ap (λ (r : NodeState). is_ready r.mode) (sym (elsewhere x far)) ∙ busy))
 
   -- where each stays in its place
-  same_inside : ((x : ℕ) → SamePlace (z.row x) (y.row x)) → Inside base u y
+  same_inside : ((x : ℕ) → SamePlace (z.state x) (y.state x)) → Inside base u y
   same_inside same x busy = inside x (ap is_ready (sym (same x).mode) ∙ busy)
 
   -- nobody signals
@@ -50,14 +50,14 @@ module _ (base : World) (u : ℕ) (z y : Ideal) (signals : ℕ → ℕ) (k : Kin
   nobody silent v some = absurd (omega (arith, silent v, some))
 
 -- by what the step does
-explains : (base : World) (u : ℕ) (z y : Ideal) (signals : ℕ → ℕ) (starts : List ℕ) (k : Kind) → Sound z → ((a b : ℕ) → contains (z.row a).neighbours b ≡ true → is_linked base a b ≡ true) →
+explains : (base : World) (u : ℕ) (z y : Ideal) (signals : ℕ → ℕ) (starts : List ℕ) (k : Kind) → Sound z → ((a b : ℕ) → contains (z.state a).neighbours b ≡ true → is_linked base a b ≡ true) →
     Inside base u z → ((t : ℕ) → starts ≡ t ∷ [] → Connected base u t) → Effect z y signals starts k → Explains base u y signals k
 explains base u z y signals starts k sound like inside known (Effect.passes passes silent e) =
     record { inside = same_inside base u z y signals k inside passes.same; signal = nobody base u z y signals k inside silent }
 explains base u z y signals starts k sound like inside known (Effect.alone t passes lone signal kind e) =
     record { inside = same_inside base u z y signals k inside passes.same; signal = λ v some. inr kind }
 explains base u z y signals starts k sound like inside known (Effect.reaches t v reaches silent e) =
-    let from = inside v (abort_busy (z.row v).mode (sender_aborts z sound v t reaches.near reaches.came)) in
+    let from = inside v (abort_busy (z.state v).mode (sender_aborts z sound v t reaches.near reaches.came)) in
     let to = connected_further base u v t from (like v t (sym (sound.mirrored t v) ∙ reaches.near)) in
     record { inside = one_changes base u z y signals k inside t reaches.elsewhere to; signal = nobody base u z y signals k inside silent }
 explains base u z y signals starts k sound like inside known (Effect.turns t p turns silent e) =
@@ -75,17 +75,17 @@ explains base u z y signals starts k sound like inside known (Effect.starts_at t
     record { inside = one_changes base u z y signals k inside t start.elsewhere (known t e); signal = nobody base u z y signals k inside silent }
 
 -- step by step
-pub explained : (base : World) (u : ℕ) (steps : List Step) (w : World) → AllGo w steps → ((a b : ℕ) → contains (row w a).neighbours b ≡ true → is_linked base a b ≡ true) →
+pub explained : (base : World) (u : ℕ) (steps : List Step) (w : World) → AllGo w steps → ((a b : ℕ) → contains (state w a).neighbours b ≡ true → is_linked base a b ≡ true) →
     Inside base u (view w) → ((t : ℕ) → among (started w steps) t ≡ true → Connected base u t) → All (λ r. All (IsExplained base u r.reply.kind) r.outputs) (outs w steps)
-explained base u [] w run like inside known = All-nil (λ (r : Released). All (IsExplained base u r.reply.kind) r.outputs)
+explained base u [] w run like inside known = All-nil (λ (r : StepOutcome). All (IsExplained base u r.reply.kind) r.outputs)
 explained base u (s ∷ ss) w run like inside known =
     let goes = run.0 in
-    let here : Released = record { reply = reply w s; outputs = outputs w s } in
-    let by = explains base u (view w) (view (next w s)) (signals_in (row w) s) (started_by (kind (row w) s) s) (kind (row w) s) goes.before like inside
+    let here : StepOutcome = record { reply = reply w s; outputs = outputs w s } in
+    let by = explains base u (view w) (view (next w s)) (signals_in (state w) s) (started_by (kind (state w) s) s) (kind (state w) s) goes.before like inside
     (λ t e. known t (subst (λ l. among (l ++ started (next w s) ss) t ≡ true) (sym e) (grind (arith, nat_tests)))) goes.effect in
-    All-cons (λ (r : Released). All (IsExplained base u r.reply.kind) r.outputs) here (outs (next w s) ss)
-    (all_explained base u (kind (row w) s) (outputs w s) (λ v some. by.signal v (let given = signals_given v w s in omega arith)))
-    (explained base u ss (next w s) run.1 (λ a b near. like a b (sym (goes.near a b) ∙ near)) by.inside (λ t h. known t (later (started_by (kind (row w) s) s) (started (next w s) ss) t h)))
+    All-cons (λ (r : StepOutcome). All (IsExplained base u r.reply.kind) r.outputs) here (outs (next w s) ss)
+    (all_explained base u (kind (state w) s) (outputs w s) (λ v some. by.signal v (let given = signals_given v w s in omega arith)))
+    (explained base u ss (next w s) run.1 (λ a b near. like a b (sym (goes.near a b) ∙ near)) by.inside (λ t h. known t (later (started_by (kind (state w) s) s) (started (next w s) ss) t h)))
   where
     later : (xs ys : List ℕ) (t : ℕ) → among ys t ≡ true → among (xs ++ ys) t ≡ true
     later [] ys t h = h

@@ -9,13 +9,13 @@ use Rattle.coord_types.specs.declared.messages.Msg.{Msg}
 use Rattle.coord_types.specs.declared.messages.Msg.TheVariants as msg
 use Rattle.coord_types.proofs.Sets.{contains-empty}
 use Rattle.coord_node.specs.IdealRules.{headed}
-use Rattle.coord_node.specs.Rules.{Deed, on_ready, finish, idle, is_parent}
-use Rattle.coord_world.specs.Links.{readies, is_ready}
+use Rattle.coord_node.specs.Rules.{Transition, on_ready, finish, idle, is_parent}
+use Rattle.coord_world.specs.protocol.Links.{readies, is_ready}
 use Rattle.coord_world.proofs.waves.AbortEffect.{TakeEffect}
-use Rattle.coord_world.proofs.legal.DeedKept.{row_here, row_there}
+use Rattle.coord_world.proofs.legal.TransitionKept.{row_here, row_there}
 use Rattle.coord_world.proofs.waves.Calm.{IsQuiet, calm_take, same_places}
 use Rattle.coord_world.proofs.waves.Effect.{Calm, Effect}
-use Rattle.coord_world.proofs.deeds.RuleCases.{ready_cases}
+use Rattle.coord_world.proofs.transitions.RuleCases.{ready_cases}
 use Rattle.coord_world.proofs.legal.TakeKept.{after_take}
 
 -- a node's parent is the one that it names
@@ -23,13 +23,13 @@ named : (p : Option ℕ) (v : ℕ) → is_parent p v ≡ true → p ≡ Some v
 named None v h = cc
 named (Some p) v h = grind (arith, nat_tests)
 
-module _ (z : Ideal) (v t : ℕ) (rest : List Msg) (front : z.way v t ≡ msg.Ready ∷ rest) (near : contains (z.row t).neighbours v ≡ true) where
+module _ (z : Ideal) (v t : ℕ) (rest : List Msg) (front : z.way v t ≡ msg.Ready ∷ rest) (near : contains (z.state t).neighbours v ≡ true) where
   -- the node that takes the message
   abbrev r : NodeState
-  r = z.row t
+  r = z.state t
 
-  -- a deed that sends no Abort is calm
-  calm : (d : Deed) → IsQuiet d → Calm z (after_take z v t d)
+  -- a transition that sends no Abort is calm
+  calm : (d : Transition) → IsQuiet d → Calm z (after_take z v t d)
   calm d quiet = calm_take z v t d quiet (λ _. grind (arith, front))
 
   -- a Ready that is ignored

@@ -10,26 +10,26 @@ use Rattle.coord_types.specs.declared.steps.Kind.{Kind}
 use Rattle.coord_types.specs.declared.steps.Kind.TheVariants.{Started, Finished, Joined}
 use Rattle.coord_types.specs.declared.steps.Step.TheVariants.{Order}
 use Rattle.coord_types.proofs.Sets.{contains-empty}
-use Rattle.coord_node.specs.IdealRules.{acts, added}
-use Rattle.coord_node.specs.Rules.{Deed, is_empty, request, wave_on, finish, idle}
+use Rattle.coord_node.specs.IdealRules.{ideal_applied, added}
+use Rattle.coord_node.specs.Rules.{Transition, is_empty, request, wave_on, finish, idle}
 use Rattle.coord_node.specs.Steps.{kind_of_request}
-use Rattle.coord_world.specs.Outputs.{signals}
-use Rattle.coord_world.specs.Waves.{is_signal_of, started_by}
-use Rattle.coord_world.proofs.legal.DeedKept.{row_here, row_there}
+use Rattle.coord_world.specs.protocol.Outputs.{signals}
+use Rattle.coord_world.specs.laws.Waves.{is_signal_of, started_by}
+use Rattle.coord_world.proofs.legal.TransitionKept.{row_here, row_there}
 use Rattle.coord_world.proofs.waves.Calm.{calm_deed, same_places}
 use Rattle.coord_world.proofs.waves.Effect.{Effect}
-use Rattle.coord_world.proofs.deeds.RuleCases.{request_cases}
+use Rattle.coord_world.proofs.transitions.RuleCases.{request_cases}
 use Rattle.coord_world.proofs.legal.Sound.{Sound}
 use Rattle.coord_world.proofs.lanes.MessageCounts.{aborts-append}
 
 module _ (z : Ideal) (c n t : ℕ) (sound : Sound z) where
   -- the node that is to be reset
   abbrev r : NodeState
-  r = z.row t
+  r = z.state t
 
-  -- what a deed at it does to a wave
-  abbrev ResetEffect : Deed → Kind → Type 0
-  ResetEffect d k = Effect z (acts z t d) (λ x. count_by (is_signal_of x) (signals ((t, d) ∷ []))) (started_by k (Order c n (Reset t))) k
+  -- what a transition at it does to a wave
+  abbrev ResetEffect : Transition → Kind → Type 0
+  ResetEffect d k = Effect z (ideal_applied z t d) (λ x. count_by (is_signal_of x) (signals ((t, d) ∷ []))) (started_by k (Order c n (Reset t))) k
 
   -- a node without neighbours finishes at once
   finishes_alone : r.mode ≡ Ready → is_empty r.neighbours ≡ true → ResetEffect (finish r) Finished

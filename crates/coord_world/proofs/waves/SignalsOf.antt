@@ -12,12 +12,12 @@ use Rattle.coord_types.specs.declared.steps.Kind.{Kind}
 use Rattle.coord_types.specs.declared.steps.Kind.TheVariants.{Finished}
 use Rattle.coord_types.specs.declared.steps.Step.{Step}
 use Rattle.coord_types.specs.declared.steps.Step.TheVariants.{Order, Take, Clear}
-use Rattle.coord_node.specs.Steps.{deeds}
+use Rattle.coord_node.specs.Steps.{transitions}
 use Rattle.coord_link.specs.LaneMachine.{Lane}
-use Rattle.coord_world.specs.Next.{next, reply}
-use Rattle.coord_world.specs.NumberedWorld.{World, row, pair_cmp_total}
-use Rattle.coord_world.specs.Outputs.{Released, all_sent, had_front, outputs, outs, receipts, sent_by, signals, front_packet}
-use Rattle.coord_world.specs.Waves.{Connected, IsExplained, is_signal_of, signals_of}
+use Rattle.coord_world.specs.protocol.Next.{next, reply}
+use Rattle.coord_world.specs.protocol.NumberedWorld.{World, state, pair_cmp_total}
+use Rattle.coord_world.specs.protocol.Outputs.{StepOutcome, all_sent, had_front, outputs, outs, receipts, sent_by, signals, front_packet}
+use Rattle.coord_world.specs.laws.Waves.{Connected, IsExplained, is_signal_of, signals_of}
 use Rattle.coord_world.proofs.Cases.{by_test}
 use Rattle.coord_world.proofs.waves.StepEffect.{signals_in}
 
@@ -42,17 +42,17 @@ module _ (v : ℕ) where
   none_receipted (Take p) = refl
   none_receipted (Clear p) = refl
 
-  -- the signals are those of the deeds
-  pub signals_given : (w : World) (s : Step) → count_by (is_signal_of v) (outputs w s) ≡ signals_in (row w) s v
+  -- the signals are those of the transitions
+  pub signals_given : (w : World) (s : Step) → count_by (is_signal_of v) (outputs w s) ≡ signals_in (state w) s v
   signals_given w s =
-      sum_by-append signal_in (receipts s ++ signals (deeds (row w) s)) (all_sent w.lanes (entries (next w s).lanes))
-      ∙ omega (arith, sum_by-append signal_in (receipts s) (signals (deeds (row w) s)), none_receipted s, none_sent w.lanes (entries (next w s).lanes))
+      sum_by-append signal_in (receipts s ++ signals (transitions (state w) s)) (all_sent w.lanes (entries (next w s).lanes))
+      ∙ omega (arith, sum_by-append signal_in (receipts s) (signals (transitions (state w) s)), none_receipted s, none_sent w.lanes (entries (next w s).lanes))
 
   -- those of a step come first
-  pub signals_first : (w : World) (s : Step) (ss : List Step) → signals_of v (outs w (s ∷ ss)) ≡ signals_in (row w) s v + signals_of v (outs (next w s) ss)
+  pub signals_first : (w : World) (s : Step) (ss : List Step) → signals_of v (outs w (s ∷ ss)) ≡ signals_in (state w) s v + signals_of v (outs (next w s) ss)
   signals_first w s ss =
-      let now : Released = record { reply = reply w s; outputs = outputs w s } in
-      sum_by-cons (λ (r : Released). count_by (is_signal_of v) r.outputs) now (outs (next w s) ss) ∙ omega (arith, signals_given w s)
+      let now : StepOutcome = record { reply = reply w s; outputs = outputs w s } in
+      sum_by-cons (λ (r : StepOutcome). count_by (is_signal_of v) r.outputs) now (outs (next w s) ss) ∙ omega (arith, signals_given w s)
 
 -- where each node that is signalled is explained, each output is
 pub all_explained : (w : World) (u : ℕ) (k : Kind) (os : List Output) → ((v : ℕ) → 1 ≤ count_by (is_signal_of v) os → Connected w u v ⊎ (k ≡ Finished)) → All (IsExplained w u k) os

@@ -11,14 +11,14 @@ use Rattle.coord_types.specs.declared.messages.Msg.TheVariants as msg
 use Rattle.coord_types.specs.declared.steps.Command.TheVariants.{Add, Remove, Join, Drop, Reset, Confirm}
 use Rattle.coord_types.specs.declared.steps.Step.{Step}
 use Rattle.coord_types.specs.declared.steps.Step.TheVariants.{Order, Take, Clear}
-use Rattle.coord_node.specs.IdealRules.{ideal_next, set_row}
-use Rattle.coord_node.specs.Rules.{deed}
-use Rattle.coord_node.specs.Steps.{deeds, kind}
-use Rattle.coord_world.specs.Acceptance.{IsFresh}
-use Rattle.coord_world.specs.Next.{next}
-use Rattle.coord_world.specs.NumberedWorld.{World, view, row, transit_or_none}
-use Rattle.coord_world.specs.Outputs.{signals}
-use Rattle.coord_world.specs.Waves.{changes_topology, is_signal_of, started_by}
+use Rattle.coord_node.specs.IdealRules.{ideal_next, set_state}
+use Rattle.coord_node.specs.Rules.{transition}
+use Rattle.coord_node.specs.Steps.{transitions, kind}
+use Rattle.coord_world.specs.protocol.Acceptance.{IsFresh}
+use Rattle.coord_world.specs.protocol.Next.{next}
+use Rattle.coord_world.specs.protocol.NumberedWorld.{World, view, state, transit_or_none}
+use Rattle.coord_world.specs.protocol.Outputs.{signals}
+use Rattle.coord_world.specs.laws.Waves.{changes_topology, is_signal_of, started_by}
 use Rattle.coord_world.proofs.waves.AbortEffect.{TakeEffect, abort_effect}
 use Rattle.coord_world.proofs.waves.AckEffect.{ack_effect}
 use Rattle.coord_world.proofs.Cases.{everywhere}
@@ -31,29 +31,29 @@ use Rattle.coord_world.proofs.waves.ResetEffect.{reset_effect}
 use Rattle.coord_world.proofs.legal.Sound.{Sound}
 
 -- by the message
-taken : (z : Ideal) (v t : ℕ) (m : Msg) (rest : List Msg) → z.way v t ≡ m ∷ rest → contains (z.row t).neighbours v ≡ true → Sound z → TakeEffect z v t (deed m (z.row t) v)
+taken : (z : Ideal) (v t : ℕ) (m : Msg) (rest : List Msg) → z.way v t ≡ m ∷ rest → contains (z.state t).neighbours v ≡ true → Sound z → TakeEffect z v t (transition m (z.state t) v)
 taken z v t msg.Abort rest front near sound = abort_effect z v t rest front near sound
 taken z v t msg.Ack rest front near sound = ack_effect z v t rest front near sound
 taken z v t msg.Ready rest front near sound = ready_effect z v t rest front near
 
 -- how often each node is signalled in a step
 abbrev pub signals_in : (ℕ → NodeState) → Step → ℕ → ℕ
-signals_in rows s v = count_by (is_signal_of v) (signals (deeds rows s))
+signals_in rows s v = count_by (is_signal_of v) (signals (transitions rows s))
 
 -- what a step that makes y of the view does to a wave
 abbrev pub StepEffect : Ideal → Ideal → Step → Type 0
-StepEffect z y s = Effect z y (signals_in z.row s) (started_by (kind z.row s) s) (kind z.row s)
+StepEffect z y s = Effect z y (signals_in z.state s) (started_by (kind z.state s) s) (kind z.state s)
 
 -- a node whose state is put and stays in its place
 confirmed : (z : Ideal) (c n u e : ℕ) → StepEffect z (ideal_next z (Order c n (Confirm u e))) (Order c n (Confirm u e))
 confirmed z c n u e = Effect.passes (record { same = same; calm = record { fewer = λ a b. omega arith; kept = λ a b ready. omega arith } }) (λ x. refl) refl
   where
-    same : (x : ℕ) → SamePlace (z.row x) ((set_row z u (record (z.row u) { confirmed = e })).row x)
-    same = everywhere (λ x. SamePlace (z.row x) ((set_row z u (record (z.row u) { confirmed = e })).row x)) u
+    same : (x : ℕ) → SamePlace (z.state x) ((set_state z u (record (z.state u) { confirmed = e })).state x)
+    same = everywhere (λ x. SamePlace (z.state x) ((set_state z u (record (z.state u) { confirmed = e })).state x)) u
         (record { mode = grind (arith, nat_tests); parent = grind (arith, nat_tests) }) (λ x apart. record { mode = grind (arith, nat_tests); parent = grind (arith, nat_tests) })
 
 -- a step that leaves the view
-unchanged : (z : Ideal) (s : Step) → ((v : ℕ) → signals_in z.row s v ≡ 0) → started_by (kind z.row s) s ≡ [] → StepEffect z z s
+unchanged : (z : Ideal) (s : Step) → ((v : ℕ) → signals_in z.state s v ≡ 0) → started_by (kind z.state s) s ≡ [] → StepEffect z z s
 unchanged z s silent none = Effect.passes (record { same = λ x. record { mode = refl; parent = refl }; calm = record { fewer = λ a b. omega arith; kept = λ a b ready. omega arith } }) silent none
 
 -- the ideal step
@@ -66,7 +66,7 @@ ideal_effect w settled (Order c n (Reset u)) stays sound fresh = reset_effect (v
 ideal_effect w settled (Order c n (Confirm u e)) stays sound fresh = confirmed (view w) c n u e
 ideal_effect w settled (Take p) stays sound fresh =
     let take = fresh_take w settled p fresh in
-    let out : contains (row w p.from).neighbours p.to ≡ true = sym (sound.linked p.from p.to) ∙ ap is_some take.there in
+    let out : contains (state w p.from).neighbours p.to ≡ true = sym (sound.linked p.from p.to) ∙ ap is_some take.there in
     let front : transit_or_none (get w.lanes (p.from, p.to)) ≡ p.msg ∷ take.rest = ap transit_or_none take.there ∙ grind (arith, nat_tests, take.idle) ∙ take.front in
     taken (view w) p.from p.to p.msg take.rest front (sym (sound.mirrored p.from p.to) ∙ out) sound
 ideal_effect w settled (Clear p) stays sound fresh = unchanged (view w) (Clear p) (λ v. refl) refl

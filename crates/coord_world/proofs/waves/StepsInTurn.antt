@@ -5,11 +5,11 @@ use Rattle.std.proofs.lemmas.List.Elements.{All-head, All-tail}
 use Rattle.coord_types.proofs.Sets.{same_nodes}
 use Rattle.coord_types.specs.declared.steps.Step.{Step}
 use Rattle.coord_node.specs.Rules.{is_empty}
-use Rattle.coord_world.specs.Acceptance.{IsFresh}
-use Rattle.coord_world.specs.Next.{next, fold}
-use Rattle.coord_world.specs.NumberedWorld.{World, view, row}
-use Rattle.coord_world.specs.Turns.{InTurn}
-use Rattle.coord_world.specs.Waves.{AllReady, changes_topology}
+use Rattle.coord_world.specs.protocol.Acceptance.{IsFresh}
+use Rattle.coord_world.specs.protocol.Next.{next, fold}
+use Rattle.coord_world.specs.protocol.NumberedWorld.{World, view, state}
+use Rattle.coord_world.specs.protocol.InTurn.{InTurn}
+use Rattle.coord_world.specs.laws.Waves.{AllReady, changes_topology}
 use Rattle.coord_world.proofs.lanes.Counts.{AllCount}
 use Rattle.coord_world.proofs.waves.FrontGoesOn.{SameNear}
 use Rattle.coord_world.proofs.legal.SoundNext.{sound_next}
@@ -60,5 +60,5 @@ running (s ∷ ss) w sound counts taken stays ready =
     )
 
 -- a node keeps having neighbours
-pub near_kept : (w : World) (s : Step) → Goes w s → (x : ℕ) → is_empty (row (next w s) x).neighbours ≡ is_empty (row w x).neighbours
+pub near_kept : (w : World) (s : Step) → Goes w s → (x : ℕ) → is_empty (state (next w s) x).neighbours ≡ is_empty (state w x).neighbours
 near_kept w s goes x = ap is_empty (same_nodes _ _ (goes.near x))

@@ -8,11 +8,11 @@ use Rattle.coord_types.specs.Table as table
 use Rattle.coord_types.specs.NodeSet as set
 use Rattle.coord_types.specs.NodeState.{NodeState}
 use Rattle.coord_types.specs.declared.messages.Mode.TheVariants.{Ready}
-use Rattle.coord_world.specs.Next.{fold}
-use Rattle.coord_world.specs.NumberedWorld.{World, no_world, state_or_none}
-use Rattle.coord_world.specs.Runs.{StoredWave, two_linked, one_reset}
-use Rattle.coord_world.specs.Trails.{IsTrail}
-use Rattle.coord_world.specs.Waves.{AllReady, changes_topology, started}
+use Rattle.coord_world.specs.protocol.Next.{fold}
+use Rattle.coord_world.specs.protocol.NumberedWorld.{World, no_world, state_or_none}
+use Rattle.coord_world.specs.laws.Runs.{StoredWave, two_linked, one_reset}
+use Rattle.coord_world.specs.laws.Trails.{IsTrail}
+use Rattle.coord_world.specs.laws.Waves.{AllReady, changes_topology, started}
 use Rattle.coord_world.proofs.Cases.{by_test}
 use Rattle.coord_world.proofs.legal.EmptyWorld.{no_world_in_range, no_world_legal}
 use Rattle.coord_world.proofs.release.Trails.{EachFresh, sound_fold, trail_of}
@@ -23,9 +23,9 @@ ready_entries [] ready v = refl
 ready_entries (e ∷ es) ready v = by_test (eq_by_cmp nat_cmp v e.0) (λ b. (state_or_none (cond b (Some e.1) (find nat_cmp v es))).mode ≡ Ready) (λ _. ready.0) (λ _. ready_entries es ready.1 v)
 
 -- so are all, where each entry of the world's is
-all_ready : (w : World) → AllByRecursion (λ e. e.1.mode ≡ Ready) w.rows.list → AllReady w
+all_ready : (w : World) → AllByRecursion (λ e. e.1.mode ≡ Ready) w.nodes.list → AllReady w
 unfolding table.get
-all_ready w ready v = ready_entries w.rows.list ready v
+all_ready w ready v = ready_entries w.nodes.list ready v
 
 -- the steps that link the nodes are fresh in turn
 linking : EachFresh no_world two_linked
@@ -47,12 +47,12 @@ unfolding table.empty table.get table.insert table.remove table.change table.len
 one_start = refl
 
 -- the nodes are Ready before it
-ready_before : AllByRecursion (λ e. e.1.mode ≡ Ready) (fold no_world two_linked).rows.list
+ready_before : AllByRecursion (λ e. e.1.mode ≡ Ready) (fold no_world two_linked).nodes.list
 unfolding table.empty table.get table.insert table.remove table.change table.len set.contains set.empty set.insert set.remove set.len
 ready_before = (refl, (refl, tt))
 
 -- and after it
-ready_after : AllByRecursion (λ e. e.1.mode ≡ Ready) (fold (fold no_world two_linked) one_reset).rows.list
+ready_after : AllByRecursion (λ e. e.1.mode ≡ Ready) (fold (fold no_world two_linked) one_reset).nodes.list
 unfolding table.empty table.get table.insert table.remove table.change table.len set.contains set.empty set.insert set.remove set.len
 ready_after = (refl, (refl, tt))
 

@@ -6,11 +6,11 @@ use Rattle.coord_types.specs.declared.steps.Kind.{Kind}
 use Rattle.coord_types.specs.declared.steps.Step.{Step}
 use Rattle.coord_node.specs.Rules.{is_empty}
 use Rattle.coord_node.specs.Steps.{kind}
-use Rattle.coord_world.specs.Links.{is_abort, is_ready}
-use Rattle.coord_world.specs.Next.{next}
-use Rattle.coord_world.specs.NumberedWorld.{World, view, row, is_linked}
-use Rattle.coord_world.specs.Outputs.{outs}
-use Rattle.coord_world.specs.Waves.{AllReady, Connected, signals_of, started, started_by}
+use Rattle.coord_world.specs.protocol.Links.{is_abort, is_ready}
+use Rattle.coord_world.specs.protocol.Next.{next}
+use Rattle.coord_world.specs.protocol.NumberedWorld.{World, view, state, is_linked}
+use Rattle.coord_world.specs.protocol.Outputs.{outs}
+use Rattle.coord_world.specs.laws.Waves.{AllReady, Connected, signals_of, started, started_by}
 use Rattle.coord_world.proofs.waves.Effect.{Effect, Starts, Silent}
 use Rattle.coord_world.proofs.waves.Front.{mode_is_ready}
 use Rattle.coord_world.proofs.waves.FrontGoesOn.{begins}
@@ -39,25 +39,25 @@ start_of z y signals starts k (Effect.starts_at t start silent e) = Start.somewh
 
 -- a wave's whole run
 pub record Whole (base : World) (u : ℕ) (w : World) (steps : List Step) : Type 0 where
-  pub some : is_empty (row w u).neighbours ≡ false
+  pub some : is_empty (state w u).neighbours ≡ false
   pub once : (x : ℕ) → Connected base u x → signals_of x (outs w steps) ≡ 1
 
-module _ (base : World) (u : ℕ) (w : World) (sound : Sound (view w)) (like : (a b : ℕ) → is_linked base a b ≡ true → contains (row w a).neighbours b ≡ true) where
+module _ (base : World) (u : ℕ) (w : World) (sound : Sound (view w)) (like : (a b : ℕ) → is_linked base a b ≡ true → contains (state w a).neighbours b ≡ true) where
   -- a node that is linked with another one has a neighbour
-  linked_some : (a b : ℕ) → is_linked base a b ≡ true → is_empty (row w b).neighbours ≡ false
-  linked_some a b linked = let back = sym (sound.mirrored a b) ∙ like a b linked in grind (arith, back, empty_has (row w b).neighbours a)
+  linked_some : (a b : ℕ) → is_linked base a b ≡ true → is_empty (state w b).neighbours ≡ false
+  linked_some a b linked = let back = sym (sound.mirrored a b) ∙ like a b linked in grind (arith, back, empty_has (state w b).neighbours a)
 
   -- where the initiator has a neighbour, each node that is connected with it has one
-  within : is_empty (row w u).neighbours ≡ false → Within base u w
-  within some = record { like = like; near = λ x path. along base (λ q. is_empty (row w q).neighbours ≡ false) (λ a b _ linked. linked_some a b linked) u x path.0 path.1 some }
+  within : is_empty (state w u).neighbours ≡ false → Within base u w
+  within some = record { like = like; near = λ x path. along base (λ q. is_empty (state w q).neighbours ≡ false) (λ a b _ linked. linked_some a b linked) u x path.0 path.1 some }
 
-module _ (base : World) (u : ℕ) (w : World) (s : Step) (ss : List Step) (goes : Goes w s) (ready : AllReady w) (like : (a b : ℕ) → is_linked base a b ≡ true → contains (row w a).neighbours b ≡ true) where
+module _ (base : World) (u : ℕ) (w : World) (s : Step) (ss : List Step) (goes : Goes w s) (ready : AllReady w) (like : (a b : ℕ) → is_linked base a b ≡ true → contains (state w a).neighbours b ≡ true) where
   -- the neighbours after the step
-  like_next : (a b : ℕ) → is_linked base a b ≡ true → contains (row (next w s) a).neighbours b ≡ true
+  like_next : (a b : ℕ) → is_linked base a b ≡ true → contains (state (next w s) a).neighbours b ≡ true
   like_next a b linked = goes.near a b ∙ like a b linked
 
   -- the wave begins with this step
-  starting : AllGo (next w s) ss → Starts (view w) (view (next w s)) u → Silent (signals_in (row w) s) → started (next w s) ss ≡ [] → Whole base u w (s ∷ ss)
+  starting : AllGo (next w s) ss → Starts (view w) (view (next w s)) u → Silent (signals_in (state w) s) → started (next w s) ss ≡ [] → Whole base u w (s ∷ ss)
   starting run start silent nobody = record {
     some = start.some;
     once = λ x path.
@@ -70,11 +70,11 @@ module _ (base : World) (u : ℕ) (w : World) (s : Step) (ss : List Step) (goes 
   }
 
   -- it hasn't begun yet
-  waiting : started_by (kind (row w) s) s ≡ [] → (AllReady (next w s) → Whole base u (next w s) ss) → Whole base u w (s ∷ ss)
+  waiting : started_by (kind (state w) s) s ≡ [] → (AllReady (next w s) → Whole base u (next w s) ss) → Whole base u w (s ∷ ss)
   waiting none rest =
-      let step = settles (view w) (view (next w s)) (signals_in (row w) s) (started_by (kind (row w) s) s) (kind (row w) s) goes.before (λ x. ap is_abort (ready x)) none goes.effect in
-      let whole = rest (λ x. mode_is_ready (row (next w s) x).mode (step.ready x (ap is_ready (ready x)))) in
-      let some : is_empty (row w u).neighbours ≡ false = sym (near_kept w s goes u) ∙ whole.some in
+      let step = settles (view w) (view (next w s)) (signals_in (state w) s) (started_by (kind (state w) s) s) (kind (state w) s) goes.before (λ x. ap is_abort (ready x)) none goes.effect in
+      let whole = rest (λ x. mode_is_ready (state (next w s) x).mode (step.ready x (ap is_ready (ready x)))) in
+      let some : is_empty (state w u).neighbours ≡ false = sym (near_kept w s goes u) ∙ whole.some in
       record {
         some = some;
         once = λ x path.
@@ -83,14 +83,14 @@ module _ (base : World) (u : ℕ) (w : World) (s : Step) (ss : List Step) (goes 
             let was = ap is_ready (ready x) in
             let later = whole.once x path in
             let all = signals_first x w s ss in
-            let none_now : signals_in (row w) s x ≡ 0 = grind (arith, now, was) in
+            let none_now : signals_in (state w) s x ≡ 0 = grind (arith, now, was) in
             omega arith;
       }
 
 -- all steps
-pub whole_run : (base : World) (u : ℕ) (steps : List Step) (w : World) → AllGo w steps → AllReady w → started w steps ≡ u ∷ [] → ((a b : ℕ) → is_linked base a b ≡ true → contains (row w a).neighbours b ≡ true) → Whole base u w steps
+pub whole_run : (base : World) (u : ℕ) (steps : List Step) (w : World) → AllGo w steps → AllReady w → started w steps ≡ u ∷ [] → ((a b : ℕ) → is_linked base a b ≡ true → contains (state w a).neighbours b ≡ true) → Whole base u w steps
 whole_run base u [] w run ready one like = cc
-whole_run base u (s ∷ ss) w run ready one like = elim (start_of (view w) (view (next w s)) (signals_in (row w) s) (started_by (kind (row w) s) s) (kind (row w) s) run.0.effect) [
+whole_run base u (s ∷ ss) w run ready one like = elim (start_of (view w) (view (next w s)) (signals_in (state w) s) (started_by (kind (state w) s) s) (kind (state w) s) run.0.effect) [
   | nowhere none ↦
       let later : started (next w s) ss ≡ u ∷ [] = subst (λ l. l ++ started (next w s) ss ≡ u ∷ []) none one in
       waiting base u w s ss run.0 ready like none (λ ready_next. whole_run base u ss (next w s) run.1 ready_next later (like_next base u w s ss run.0 ready like))

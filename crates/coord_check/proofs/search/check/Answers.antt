@@ -1,7 +1,7 @@
 -- A world without a fault is legal, and the first fault fails where it says.
 use Rattle.std.proofs.Common.{◌≡◌, Some, sym, ◌∙◌}
 use Rattle.std.specs.List.{flat_map}
-use Rattle.coord_world.specs.NumberedWorld.{World}
+use Rattle.coord_world.specs.protocol.NumberedWorld.{World}
 use Rattle.coord_check.specs.Faults.{faults, first, node_faults, faults_from, nodes_from}
 use Rattle.coord_check.specs.declared.violation.Violation.{Violation}
 use Rattle.coord_check.proofs.FaultsFail.{first_fails}

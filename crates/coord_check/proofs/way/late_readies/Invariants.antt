@@ -1,6 +1,6 @@
 -- No Abort was met.
 use Rattle.std.proofs.Common.{◌≡◌, drop}
-use Rattle.coord_world.specs.Links.{readies_behind}
+use Rattle.coord_world.specs.protocol.Links.{readies_behind}
 use Rattle.coord_check.proofs.way.late_readies.Given as goal
 
 abbrev pub invariant-loop-i : goal.invariant-loop-i

@@ -1,5 +1,5 @@
 use Rattle.std.proofs.Common.{◌≡◌, ◌+◌, ◌≤◌, drop}
-use Rattle.coord_world.specs.Parts.{degree}
+use Rattle.coord_world.specs.protocol.Rows.{degree}
 use Rattle.coord_codec.proofs.row_search.degree.Given as goal
 
 abbrev pub invariant-loop-link : goal.invariant-loop-link

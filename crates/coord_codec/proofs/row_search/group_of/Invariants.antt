@@ -1,5 +1,5 @@
 use Rattle.std.proofs.Common.{◌≡◌, drop}
-use Rattle.coord_world.specs.Parts.{group_of}
+use Rattle.coord_world.specs.protocol.Rows.{group_of}
 use Rattle.coord_codec.proofs.row_search.group_of.Given as goal
 
 abbrev pub invariant-loop-row : goal.invariant-loop-row

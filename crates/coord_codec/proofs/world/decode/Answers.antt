@@ -1,5 +1,5 @@
 use Rattle.std.proofs.Common.{arith}
-use Rattle.coord_world.specs.Parts.{listed}
+use Rattle.coord_world.specs.protocol.Rows.{listed}
 use Rattle.coord_codec.proofs.WorldGrammars.{world_grammar}
 use Rattle.coord_codec.proofs.WorldRows.{rows_in}
 use Rattle.coord_codec.proofs.world.decode.Goals as goal

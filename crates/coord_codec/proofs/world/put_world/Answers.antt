@@ -1,6 +1,6 @@
 use Rattle.std.proofs.Common.{◌≡◌, [], ◌++◌, refl, ap, sym, ◌∙◌, append_assoc, arith}
 use Rattle.std.specs.Int.{w64, to_be_bytes}
-use Rattle.coord_world.specs.Parts.{listed}
+use Rattle.coord_world.specs.protocol.Rows.{listed}
 use Rattle.coord_codec.specs.Worlds.{clients, links, nodes}
 use Rattle.coord_codec.proofs.WorldRows.{few_clients, few_nodes}
 use Rattle.coord_codec.proofs.WorldTexts.{world_text}

@@ -1,5 +1,5 @@
 use Rattle.std.proofs.Common.{arith}
-use Rattle.coord_world.specs.Parts.{rows_of}
+use Rattle.coord_world.specs.protocol.Rows.{rows_of}
 use Rattle.coord_batch.proofs.Decoded.{version_told}
 use Rattle.coord_codec.specs.Worlds.{world}
 use Rattle.coord_codec.proofs.WorldGrammars.{world_grammar}

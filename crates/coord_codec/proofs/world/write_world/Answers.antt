@@ -1,5 +1,5 @@
 use Rattle.std.proofs.Common.{arith}
-use Rattle.coord_world.specs.Parts.{listed}
+use Rattle.coord_world.specs.protocol.Rows.{listed}
 use Rattle.coord_codec.proofs.Lengths.{length-world}
 use Rattle.coord_codec.proofs.world.write_world.Goals as goal
 

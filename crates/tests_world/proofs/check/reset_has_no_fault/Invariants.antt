@@ -1,5 +1,5 @@
 -- The world stays legal.
-use Rattle.coord_world.specs.Legal.{Legal}
+use Rattle.coord_world.specs.protocol.Legal.{Legal}
 use Rattle.tests_world.proofs.check.reset_has_no_fault.Given as goal
 
 abbrev pub invariant-loop-step : goal.invariant-loop-step

@@ -1,5 +1,5 @@
 use Rattle.std.proofs.Common.{◌≡◌, ◌≤◌, ◌^◌, [], refl, sym, subst, arith}
-use Rattle.coord_world.specs.Parts.{listed, Rows, RowsFit}
+use Rattle.coord_world.specs.protocol.Rows.{listed, Rows, RowsFit}
 use Rattle.tests_world.proofs.world.is_exhausted.Goals as goal
 
 -- no rows fit together

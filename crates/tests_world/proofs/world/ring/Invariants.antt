@@ -1,4 +1,4 @@
-use Rattle.coord_world.specs.Legal.{Legal}
+use Rattle.coord_world.specs.protocol.Legal.{Legal}
 use Rattle.tests_world.proofs.world.ring.Given as goal
 
 abbrev pub invariant-loop-number : goal.invariant-loop-number

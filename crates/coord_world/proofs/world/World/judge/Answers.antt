@@ -1,20 +1,20 @@
 use Rattle.std.proofs.Common.{◌≡◌, sym, ◌∙◌, subst}
 use Rattle.coord_node.specs.Steps.{kind}
-use Rattle.coord_world.specs.Acceptance.{IsFresh}
-use Rattle.coord_world.specs.NumberedWorld.{row}
+use Rattle.coord_world.specs.protocol.Acceptance.{IsFresh}
+use Rattle.coord_world.specs.protocol.NumberedWorld.{state}
 use Rattle.coord_world.proofs.acceptance.FreshVerdict.{verdict_fresh, verdict_fresh_itself, verdict_kind}
 use Rattle.coord_world.proofs.world.World.judge.Goals as goal
 
 pub returns-clause-fresh : goal.returns-clause-fresh
 returns-clause-fresh c k is =
     let step = c.args.step.now in
-    let fresh = verdict_fresh c.self.inside.draft c.settled.inside.draft step k (sym c.judge.ensures ∙ is) in
-    subst (λ w. IsFresh w c.args.settled.now step) c.self.view_is (subst (λ w. IsFresh c.self.inside.draft w step) c.settled.view_is fresh)
+    let fresh = verdict_fresh c.self.inside.tables c.settled.inside.tables step k (sym c.judge.ensures ∙ is) in
+    subst (λ w. IsFresh w c.args.settled.now step) c.self.view_is (subst (λ w. IsFresh c.self.inside.tables w step) c.settled.view_is fresh)
 
 pub returns-clause-itself : goal.returns-clause-itself
 returns-clause-itself c k is =
-    subst (λ w. IsFresh w w c.args.step.now) c.self.view_is (verdict_fresh_itself c.self.inside.draft c.settled.inside.draft c.args.step.now k (sym c.judge.ensures ∙ is))
+    subst (λ w. IsFresh w w c.args.step.now) c.self.view_is (verdict_fresh_itself c.self.inside.tables c.settled.inside.tables c.args.step.now k (sym c.judge.ensures ∙ is))
 
 pub returns-clause-kind : goal.returns-clause-kind
 returns-clause-kind c k is =
-    subst (λ w. k ≡ kind (row w) c.args.step.now) c.self.view_is (verdict_kind c.self.inside.draft c.settled.inside.draft c.args.step.now k (sym c.judge.ensures ∙ is))
+    subst (λ w. k ≡ kind (state w) c.args.step.now) c.self.view_is (verdict_kind c.self.inside.tables c.settled.inside.tables c.args.step.now k (sym c.judge.ensures ∙ is))

@@ -1,7 +1,0 @@
--- What the rules do at a node and to its links.
-pub mod CanAct
-pub mod IsActOf
-pub mod KeepsLinks
-pub mod LegalBoth
-pub mod NodeGoesOn
-pub mod RuleCases

@@ -1,0 +1,96 @@
+-- Room in the queues: where a transition of a fresh step sends, a place is free.
+use Rattle.std.proofs.Common.{◌≡◌, ℕ, ◌+◌, ◌<◌, ◌≤◌, true, List, [], ◌∷◌, ◌++◌, Option, Some, cond, eqb, length, refl, ◌∙◌, ap, arith}
+use Rattle.std.proofs.lemmas.Bool.Decides.{nat_tests}
+use Rattle.std.proofs.lemmas.List.{length-append}
+use Rattle.coord_types.specs.NodeSet.{contains}
+use Rattle.coord_types.specs.Table.{get}
+use Rattle.coord_types.specs.declared.packets.DataPacket.{DataPacket}
+use Rattle.coord_types.specs.declared.steps.Command.TheVariants.{Drop, Reset}
+use Rattle.coord_types.specs.declared.steps.Step.{Step}
+use Rattle.coord_types.specs.declared.steps.Step.TheVariants.{Order, Take, Clear}
+use Rattle.coord_types.proofs.Tables.{option_map}
+use Rattle.coord_link.specs.LaneMachine.{Lane, sent, took}
+use Rattle.coord_node.specs.IdealRules.{added}
+use Rattle.coord_node.specs.Rules.{Transition, transition, lost, request}
+use Rattle.coord_node.specs.Steps.{transitions}
+use Rattle.coord_world.specs.protocol.Acceptance.{IsFresh}
+use Rattle.coord_world.specs.protocol.Legal.{Legal}
+use Rattle.coord_world.specs.protocol.Next.{all_applied, applied, next, on_lane, ordered, prepared}
+use Rattle.coord_world.specs.protocol.NumberedWorld.{World, state}
+use Rattle.coord_world.specs.protocol.Ranges.{InRange}
+use Rattle.coord_world.proofs.Cases.{by_test}
+use Rattle.coord_world.proofs.legal.NextKeepsLegal.{sound_after}
+use Rattle.coord_world.proofs.lists.GetAfter.{lane_done}
+use Rattle.coord_world.proofs.lanes.IsShort.{lane_short}
+
+-- a lane is there, with n messages or more
+record HasQueue (o : Option Lane) (n : ℕ) : Type 0 where
+  pub lane : Lane
+  pub there : o ≡ Some lane
+  pub long : n ≤ length lane.queue
+
+-- a transition sends one message to each node of its set
+one_added : (d : Transition) (v : ℕ) → contains d.to v ≡ true → length (added d v) ≡ 1
+one_added d v to = grind (arith, to)
+
+-- a transition puts one message on each lane that it sends to
+one_more : (p : World) (u : ℕ) (d : Transition) (v : ℕ) (l : Lane) → get p.lanes (u, v) ≡ Some l → contains d.to v ≡ true → HasQueue (get (applied p u d).lanes (u, v)) (length l.queue + 1)
+one_more p u d v l there to = record {
+  lane = sent (added d v) l;
+  there = lane_done p u d u v ∙ ap (option_map (λ k. cond (eqb u u) (sent (added d v) k) k)) there ∙ ap Some self;
+  long = omega (arith, length-append l.queue (added d v), one_added d v to);
+}
+  where
+    self : cond (eqb u u) (sent (added d v) l) l ≡ sent (added d v) l
+    self = grind (arith, nat_tests)
+
+-- transitions leave no lane shorter
+still : (p : World) (ds : List (ℕ × Transition)) (u v n : ℕ) → HasQueue (get p.lanes (u, v)) n → HasQueue (get (all_applied p ds).lanes (u, v)) n
+still p [] u v n has = has
+still p (e ∷ ds) u v n has = still (applied p e.0 e.1) ds u v n (record {
+  lane = cond (eqb u e.0) (sent (added e.1 v) has.lane) has.lane;
+  there = lane_done p e.0 e.1 u v ∙ ap (option_map (λ k. cond (eqb u e.0) (sent (added e.1 v) k) k)) has.there;
+  long = by_test (eqb u e.0) (λ b. n ≤ length (cond b (sent (added e.1 v) has.lane) has.lane).queue) (λ _. omega (arith, has.long, length-append has.lane.queue (added e.1 v))) (λ _. has.long);
+})
+
+-- transitions are done in two goes
+all_do-append : (w : World) (ds es : List (ℕ × Transition)) → all_applied w (ds ++ es) ≡ all_applied (all_applied w ds) es
+all_do-append w [] es = refl
+all_do-append w (d ∷ ds) es = all_do-append (applied w d.0 d.1) ds es
+
+-- a step's transitions are what it does to the lanes that are prepared
+lanes_done : (w : World) (s : Step) → (next w s).lanes ≡ (all_applied (prepared w s) (transitions (state w) s)).lanes
+lanes_done w (Order c n x) = refl
+lanes_done w (Take p) = refl
+lanes_done w (Clear p) = refl
+
+module _ (w settled : World) (range : InRange w) (legal : Legal w) where
+  -- whatever transitions were done before it, and are done after it
+  pub room : (s : Step) (before after : List (ℕ × Transition)) (u : ℕ) (d : Transition) → IsFresh w settled s → transitions (state w) s ≡ before ++ (u, d) ∷ after → (v : ℕ) (l : Lane) →
+      get (all_applied (prepared w s) before).lanes (u, v) ≡ Some l → contains d.to v ≡ true → length l.queue < 4
+  room s before after u d fresh are v l there to =
+      let p = all_applied (prepared w s) before in
+      let more = still (applied p u d) after u v (length l.queue + 1) (one_more p u d v l there to) in
+      let end : (next w s).lanes ≡ (all_applied (applied p u d) after).lanes =
+      lanes_done w s ∙ ap (λ ds. (all_applied (prepared w s) ds).lanes) are ∙ ap (λ (z : World). z.lanes) (all_do-append (prepared w s) before ((u, d) ∷ after)) in
+      let short = (lane_short (next w s) u v more.lane (sound_after w settled s range legal fresh) (ap (λ t. get t (u, v)) end ∙ more.there)).queued in
+      omega (arith, more.long, short)
+
+  -- the one transition of a Take
+  pub room_take : (p : DataPacket) → IsFresh w settled (Take p) → (v : ℕ) (l : Lane) →
+      get (on_lane w p.from p.to took).lanes (p.to, v) ≡ Some l → contains (transition p.msg (state w p.to) p.from).to v ≡ true → length l.queue < 4
+  room_take p fresh = room (Take p) [] [] p.to (transition p.msg (state w p.to) p.from) fresh refl
+
+  -- the one transition of a Reset
+  pub room_reset : (c n u : ℕ) → IsFresh w settled (Order c n (Reset u)) → (v : ℕ) (l : Lane) →
+      get w.lanes (u, v) ≡ Some l → contains (request (state w u)).to v ≡ true → length l.queue < 4
+  room_reset c n u fresh = room (Order c n (Reset u)) [] [] u (request (state w u)) fresh refl
+
+  -- the two transitions of a Drop
+  pub room_drop_first : (c n a b : ℕ) → IsFresh w settled (Order c n (Drop a b)) → (v : ℕ) (l : Lane) →
+      get (ordered w (Drop a b)).lanes (a, v) ≡ Some l → contains (lost (state w a) b).to v ≡ true → length l.queue < 4
+  room_drop_first c n a b fresh = room (Order c n (Drop a b)) [] ((b, lost (state w b) a) ∷ []) a (lost (state w a) b) fresh refl
+
+  pub room_drop_second : (c n a b : ℕ) → IsFresh w settled (Order c n (Drop a b)) → (v : ℕ) (l : Lane) →
+      get (applied (ordered w (Drop a b)) a (lost (state w a) b)).lanes (b, v) ≡ Some l → contains (lost (state w b) a).to v ≡ true → length l.queue < 4
+  room_drop_second c n a b fresh = room (Order c n (Drop a b)) ((a, lost (state w a) b) ∷ []) [] b (lost (state w b) a) fresh refl

@@ -1,0 +1,69 @@
+-- A node's state that changes by itself keeps a world sound.
+use Rattle.std.proofs.Common.{◌≡◌, ℕ, true, ◌++◌, refl, sym, subst, arith}
+use Rattle.std.proofs.lemmas.Bool.Decides.{nat_tests}
+use Rattle.std.proofs.lemmas.List.{append-nil}
+use Rattle.coord_types.specs.IdealWorld.{Ideal}
+use Rattle.coord_types.specs.NodeState.{NodeState, new_node}
+use Rattle.coord_types.proofs.Sets.{contains-empty, empty_of_len, len-empty}
+use Rattle.coord_node.specs.IdealRules.{ideal_applied, added, set_state}
+use Rattle.coord_node.specs.Rules.{idle, is_empty}
+use Rattle.coord_world.proofs.legal.SoundNode.{SoundNode}
+use Rattle.coord_world.specs.protocol.Links.{end_of}
+use Rattle.coord_world.proofs.legal.TransitionKept.{but_of, links_of, deed_kept}
+use Rattle.coord_world.proofs.transitions.LegalBoth.{LegalBoth}
+use Rattle.coord_world.proofs.lists.NodeSets.{empty_has}
+use Rattle.coord_world.proofs.legal.Sound.{Sound}
+
+-- a node's law looks at four fields
+pub same_node : (r s : NodeState) → r.mode ≡ s.mode → r.parent ≡ s.parent → r.pend ≡ s.pend → r.neighbours ≡ s.neighbours → SoundNode r → SoundNode s
+same_node r s mode parent pend neighbours node =
+    subst SoundNode (λ i. record s { mode = mode i; parent = parent i; pend = pend i; neighbours = neighbours i })
+    (record {
+      awaits = node.awaits;
+      quiet = node.quiet;
+      no_parent = node.no_parent;
+      has_parent = node.has_parent;
+      parent_outside = node.parent_outside;
+      parent_near = node.parent_near;
+      within = node.within;
+    })
+
+module _ (w : Ideal) (u : ℕ) (r : NodeState) (sound : Sound w) where
+  -- a state that changes is a transition that sends nothing
+  set_acts : set_state w u r ≡ ideal_applied w u (idle r)
+  set_acts i = record { state = (set_state w u r).state; linked = w.linked; way = λ x y. same x y i }
+    where
+      same : (x y : ℕ) → w.way x y ≡ (ideal_applied w u (idle r)).way x y
+      same x y = grind (arith, nat_tests, contains-empty y, append-nil (w.way x y))
+
+  -- it keeps a world sound where the neighbours and the ends of the links stay
+  pub row_kept : r.neighbours ≡ (w.state u).neighbours → SoundNode r → ((y : ℕ) → w.linked u y ≡ true → end_of r y ≡ end_of (w.state u) y) → Sound (set_state w u r)
+  row_kept neighbours node ends = subst Sound (sym set_acts) (deed_kept w u (idle r) (but_of w u sound)
+      (λ y with_y. subst LegalBoth (λ i. record { here = sym (ends y with_y) i; there = end_of (w.state y) u; out = sym (nothing y) i; back = w.way y u }) ((links_of w sound).links u y with_y))
+      neighbours node)
+    where
+      nothing : (y : ℕ) → w.way u y ++ added (idle r) y ≡ w.way u y
+      nothing y = grind (arith, contains-empty y, append-nil (w.way u y))
+
+-- a node as it is added
+pub new_legal : (g : ℕ) → SoundNode (new_node g)
+new_legal g = record {
+  awaits = λ e. cc;
+  quiet = λ e. grind (arith, nat_tests, len-empty);
+  no_parent = λ e. refl;
+  has_parent = λ e n. cc;
+  parent_outside = λ y e. cc;
+  parent_near = λ y e. cc;
+  within = λ y e. e;
+}
+
+module _ (w : Ideal) (u : ℕ) (sound : Sound w) where
+  -- more of the node's epochs is confirmed
+  pub confirm_kept : (e : ℕ) → Sound (set_state w u (record (w.state u) { confirmed = e }))
+  confirm_kept e = row_kept w u (record (w.state u) { confirmed = e }) sound refl
+      (same_node (w.state u) (record (w.state u) { confirmed = e }) refl refl refl refl (sound.nodes u)) (λ y with_y. refl)
+
+  -- a node without neighbours begins anew
+  pub new_kept : (g : ℕ) → is_empty (w.state u).neighbours ≡ true → Sound (set_state w u (new_node g))
+  new_kept g alone = row_kept w u (new_node g) sound (sym (empty_of_len (w.state u).neighbours (grind (arith, nat_tests)))) (new_legal g)
+      (λ y with_y. absurd (grind (arith, sound.linked u y, empty_has (w.state u).neighbours y alone)))

@@ -1,0 +1,6 @@
+use Rattle.std.specs.Cmp.{nat_cmp_total}
+use Rattle.coord_world.proofs.lists.TableEntries.{from_sorted-none}
+use Rattle.coord_world.proofs.tables.node_table.NodeTable.new.Goals as goal
+
+pub returns : goal.returns
+returns c = from_sorted-none nat_cmp_total _ c.new.ensures.items

@@ -1,0 +1,12 @@
+use Rattle.std.proofs.Common.{ap, sym, ◌∙◌}
+use Rattle.std.specs.Cmp.{nat_cmp_total}
+use Rattle.std.specs.Ordering.{nat_cmp}
+use Rattle.std.specs.FinMap.Entries.{find}
+use Rattle.coord_types.specs.Table as table
+use Rattle.coord_types.proofs.Tables.{get-from_sorted}
+use Rattle.coord_world.proofs.tables.session_table.SessionTable.get.Goals as goal
+
+pub returns : goal.returns
+returns c =
+    c.copied.ensures ∙ c.value_at.ensures ∙ ap (find nat_cmp c.args.client) c.deref.ensures.value
+    ∙ sym (get-from_sorted nat_cmp_total c.self.inside.sessions.items c.args.client c.self.invariant) ∙ ap (λ m. table.get m c.args.client) c.self.view_is

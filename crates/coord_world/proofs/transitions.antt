@@ -1,0 +1,7 @@
+-- What the rules do at a node and to its links.
+pub mod CanApply
+pub mod IsNodeStepOf
+pub mod KeepsLinks
+pub mod LegalBoth
+pub mod NodeGoesOn
+pub mod RuleCases

@@ -1,0 +1,172 @@
+-- A transition at one node: the state that it leaves is sound, and the node's links stay legal, all but the one at which the transition has its cause.
+use Rattle.std.proofs.Common.{◌≡◌, ◌≢◌, ℕ, Bool, true, false, ◌&&◌, not, [], ◌∷◌, ◌++◌, Option, Some, None, eqb, refl, sym, ap, ◌∙◌, subst, inl, inr, arith}
+use Rattle.std.proofs.lemmas.List.{append-nil}
+use Rattle.std.proofs.lemmas.Bool.Decides.{nat_tests, eqb_tells}
+use Rattle.coord_types.specs.NodeSet as set
+use Rattle.coord_types.specs.NodeSet.{NodeSet, contains}
+use Rattle.coord_types.specs.NodeState.{NodeState}
+use Rattle.coord_types.specs.declared.messages.Mode.TheVariants.{Ready, Abort, Converge}
+use Rattle.coord_types.specs.declared.messages.Msg.TheVariants as msg
+use Rattle.coord_types.proofs.Sets.{contains-empty}
+use Rattle.coord_node.specs.IdealRules.{added}
+use Rattle.coord_node.specs.Rules.{Transition, answer, finish, idle, is_empty, is_parent, wave_back, wave_on, without, without_parent}
+use Rattle.coord_world.specs.protocol.Links.{Link, end_of, is_abort, is_ready}
+use Rattle.coord_world.proofs.transitions.LegalBoth.{LegalBoth, finishes, converges_up, converges_far, wave_goes_on}
+use Rattle.coord_world.proofs.transitions.RuleCases.{acked_by, cut_from}
+use Rattle.coord_world.proofs.lists.NodeSets.{empty_has, has_remove, has_only}
+use Rattle.coord_world.proofs.legal.SoundNode.{SoundNode}
+
+-- the neighbours without the parent
+pub has_without : (s : NodeSet) (p : Option ℕ) (y : ℕ) → contains (without_parent s p) y ≡ (not (is_parent p y) && contains s y)
+has_without s None y = refl
+has_without s (Some p) y = grind (arith, nat_tests, has_remove s p y)
+
+-- what is still a parent
+child_left : (p : Option ℕ) (b y : ℕ) → is_parent (without p b) y ≡ (not (eqb y b) && is_parent p y)
+child_left None b y = grind (arith, nat_tests)
+child_left (Some p) b y = grind (arith, nat_tests)
+
+-- a state s that is r but for what it says of v, and whose sets fit each other
+pub record Aside (r s : NodeState) (v : ℕ) : Type 0 where
+  pub mode : s.mode ≡ r.mode
+  pub awaits : (y : ℕ) → y ≢ v → contains s.pend y ≡ contains r.pend y
+  pub child : (y : ℕ) → y ≢ v → is_parent s.parent y ≡ is_parent r.parent y
+  pub near : (y : ℕ) → y ≢ v → contains s.neighbours y ≡ contains r.neighbours y
+  pub parent_outside : (y : ℕ) → is_parent s.parent y ≡ true → contains s.pend y ≡ false
+  pub parent_near : (y : ℕ) → is_parent s.parent y ≡ true → contains s.neighbours y ≡ true
+  pub within : (y : ℕ) → contains s.pend y ≡ true → contains s.neighbours y ≡ true
+
+module _ (r : NodeState) (v : ℕ) (node : SoundNode r) where
+  -- the state itself
+  pub aside_self : Aside r r v
+  aside_self = record { mode = refl; awaits = λ y far. refl; child = λ y far. refl; near = λ y far. refl; parent_outside = node.parent_outside; parent_near = node.parent_near; within = node.within }
+
+  -- when v is awaited no more
+  pub aside_acked : Aside r (acked_by r v) v
+  aside_acked = record {
+    mode = refl;
+    awaits = λ y far. grind (arith, nat_tests, has_remove r.pend v y);
+    child = λ y far. refl;
+    near = λ y far. refl;
+    parent_outside = λ y e. grind (arith, nat_tests, has_remove r.pend v y, node.parent_outside y e);
+    parent_near = node.parent_near;
+    within = λ y e. grind (arith, nat_tests, has_remove r.pend v y, node.within y);
+  }
+
+  -- without the link to v
+  pub aside_lost : Aside r (cut_from r v) v
+  aside_lost = record {
+    mode = refl;
+    awaits = λ y far. grind (arith, nat_tests, has_remove r.pend v y);
+    child = λ y far. grind (arith, nat_tests, child_left r.parent v y);
+    near = λ y far. grind (arith, nat_tests, has_remove r.neighbours v y);
+    parent_outside = λ y e. grind (arith, nat_tests, has_remove r.pend v y, child_left r.parent v y, node.parent_outside y);
+    parent_near = λ y e. grind (arith, nat_tests, has_remove r.neighbours v y, child_left r.parent v y, node.parent_near y);
+    within = λ y e. grind (arith, nat_tests, has_remove r.pend v y, has_remove r.neighbours v y, node.within y);
+  }
+
+-- what the transition d at a node with the state r keeps, where its cause is v
+pub record Keeps (r : NodeState) (v : ℕ) (d : Transition) : Type 0 where
+  pub node : SoundNode d.state
+  pub elsewhere : (l : Link) (y : ℕ) → y ≢ v → contains r.neighbours y ≡ true → l.here ≡ end_of r y → LegalBoth l → LegalBoth (record l { here = end_of d.state y; out = l.out ++ added d y })
+
+-- a transition that changes no other end, and sends there nothing
+quiet : (r : NodeState) (v : ℕ) (d : Transition) → SoundNode d.state → ((y : ℕ) → y ≢ v → end_of r y ≡ end_of d.state y) → ((y : ℕ) → y ≢ v → contains d.to y ≡ false) → Keeps r v d
+quiet r v d node ends none = record {
+  node = node;
+  elsewhere = λ l y far near here both. subst LegalBoth (λ i. record l { here = (here ∙ ends y far) i; out = sym (nothing l y far) i }) both;
+}
+  where
+    nothing : (l : Link) (y : ℕ) → y ≢ v → l.out ++ added d y ≡ l.out
+    nothing l y far = grind (arith, none y far, append-nil l.out)
+
+module _ (r s : NodeState) (v : ℕ) (aside : Aside r s v) where
+  -- nothing happens
+  pub keeps_idle : SoundNode s → Keeps r v (idle s)
+  keeps_idle node = quiet r v (idle s) node (λ y far i. record { mode = sym aside.mode i; awaits = sym (aside.awaits y far) i; child = sym (aside.child y far) i }) (λ y far. contains-empty y)
+
+  -- a node that awaits nobody finishes
+  pub finished : is_empty s.pend ≡ true → SoundNode (finish s).state
+  finished none = record { awaits = λ e. cc; quiet = λ e. none; no_parent = λ e. refl; has_parent = λ e n. cc; parent_outside = λ y e. cc; parent_near = λ y e. cc; within = aside.within }
+
+  pub keeps_finish : is_ready r.mode ≡ false → is_empty s.pend ≡ true → ((y : ℕ) → y ≢ v → is_parent s.parent y ≡ false) → Keeps r v (finish s)
+  keeps_finish busy none top = record {
+    node = finished none;
+    elsewhere = λ l y far near here both. finishes l _ (ap (λ e. is_ready e.mode) here ∙ busy)
+        (ap (λ e. e.awaits) here ∙ sym (aside.awaits y far) ∙ empty_has s.pend y none) (ap (λ e. e.child) here ∙ sym (aside.child y far) ∙ top y far)
+        refl (empty_has s.pend y none) refl refl (ap (λ ms. l.out ++ ms) (sends y far near)) refl both;
+  }
+    where
+      sends : (y : ℕ) → y ≢ v → contains r.neighbours y ≡ true → added (finish s) y ≡ msg.Ready ∷ []
+      sends y far near = grind (arith, nat_tests, has_without s.neighbours s.parent y, aside.near y far, top y far)
+
+  -- a node that awaits nobody acknowledges to its parent
+  pub keeps_converge : (p : ℕ) → r.mode ≡ Abort → is_empty s.pend ≡ true → s.parent ≡ Some p → Keeps r v (answer (record s { mode = Converge }) p)
+  keeps_converge p mode none up = record {
+    node = record { awaits = λ e. cc; quiet = λ e. none; no_parent = λ e. cc; has_parent = λ e n. cc (up, n); parent_outside = aside.parent_outside; parent_near = aside.parent_near; within = aside.within };
+    elsewhere = λ l y far near here both.
+        let still : l.here.awaits ≡ false = ap (λ e. e.awaits) here ∙ sym (aside.awaits y far) ∙ empty_has s.pend y none in
+        let child : l.here.child ≡ eqb p y = ap (λ e. e.child) here ∙ sym (aside.child y far) ∙ ap (λ q. is_parent q y) up in
+        let wait : l.here.mode ≡ Abort = ap (λ e. e.mode) here ∙ mode in
+        elim (eqb_tells y p) [
+          | inl same ↦ converges_up l _ wait still (child ∙ grind (arith, nat_tests)) refl (empty_has s.pend y none) (ap (λ q. is_parent q y) up ∙ grind (arith, nat_tests)) refl
+              (grind (arith, nat_tests, has_only p y)) refl both
+          | inr other ↦ converges_far l _ wait still (child ∙ grind (arith, nat_tests)) refl (empty_has s.pend y none) (ap (λ q. is_parent q y) up ∙ grind (arith, nat_tests)) refl
+              (grind (arith, nat_tests, has_only p y, append-nil l.out)) refl both
+        ];
+  }
+
+module _ (r : NodeState) (v : ℕ) (node : SoundNode r) where
+  -- v is answered
+  pub keeps_answer : Keeps r v (answer r v)
+  keeps_answer = quiet r v (answer r v) node (λ y far. refl) (λ y far. grind (arith, nat_tests, has_only v y))
+
+  -- a Ready node awaits nobody
+  ready_quiet : r.mode ≡ Ready → is_empty r.pend ≡ true
+  ready_quiet ready = node.quiet (ap is_abort ready)
+
+  -- one without neighbours finishes
+  pub keeps_alone : r.mode ≡ Ready → is_empty r.neighbours ≡ true → Keeps r v (finish r)
+  keeps_alone ready none = record {
+    node = finished r r v (aside_self r v node) (ready_quiet ready);
+    elsewhere = λ l y far near here both. absurd (grind (arith, near, empty_has r.neighbours y none));
+  }
+
+  -- a Ready node passes the wave on to all neighbours but its new parent
+  pub keeps_wave_on : (parent : Option ℕ) (others : NodeSet) → r.mode ≡ Ready → is_empty others ≡ false →
+      ((y : ℕ) → is_parent parent y ≡ true → y ≡ v) → ((y : ℕ) → contains others y ≡ (not (is_parent parent y) && contains r.neighbours y)) → (is_parent parent v ≡ true → contains r.neighbours v ≡ true) →
+      Keeps r v (wave_on r parent others)
+  keeps_wave_on parent others ready some up rest near_v = record {
+    node = record {
+      awaits = λ _. some;
+      quiet = λ e. cc;
+      no_parent = λ e. cc;
+      has_parent = λ e. cc;
+      parent_outside = λ y e. grind (arith, rest y);
+      parent_near = λ y e. let same : y ≡ v = up y e in subst (λ z. contains r.neighbours z ≡ true) (sym same) (near_v (subst (λ z. is_parent parent z ≡ true) same e));
+      within = λ y e. grind (arith, rest y);
+    };
+    elsewhere = λ l y far near here both.
+        let other : is_parent parent y ≡ false = no_parent y far (is_parent parent y) refl in
+        let has : contains others y ≡ true = grind (arith, rest y, other, near) in
+        wave_goes_on l _ (ap (λ e. e.mode) here ∙ ready) refl has other refl (grind (arith, has)) refl both;
+  }
+    where
+      no_parent : (y : ℕ) → y ≢ v → (b : Bool) → is_parent parent y ≡ b → b ≡ false
+      no_parent y far true e = absurd (far (up y e))
+      no_parent y far false e = refl
+
+  -- one with no other neighbour than v answers it
+  pub keeps_wave_back : r.mode ≡ Ready → is_empty (set.remove r.neighbours v) ≡ true → contains r.neighbours v ≡ true → Keeps r v (wave_back r v)
+  keeps_wave_back ready none near_v = record {
+    node = record {
+      awaits = λ e. cc;
+      quiet = λ e. ready_quiet ready;
+      no_parent = λ e. cc;
+      has_parent = λ e n. cc;
+      parent_outside = λ y e. empty_has r.pend y (ready_quiet ready);
+      parent_near = λ y e. grind (arith, nat_tests, near_v);
+      within = node.within;
+    };
+    elsewhere = λ l y far near here both. absurd (grind (arith, nat_tests, has_remove r.neighbours v y, empty_has (set.remove r.neighbours v) y none, near));
+  }

@@ -1,0 +1,91 @@
+-- What each rule does, by cases: what holds of each transition that a rule may be, where the rule is that transition, holds of the rule.
+use Rattle.std.proofs.Common.{◌≡◌, ℕ, true, false, ◌&&◌, Option, Some, None, refl, ap, ◌∙◌, cond}
+use Rattle.coord_types.specs.NodeSet.{contains, remove}
+use Rattle.coord_types.specs.NodeState.{NodeState}
+use Rattle.coord_types.specs.declared.messages.Mode.{Mode}
+use Rattle.coord_types.specs.declared.messages.Mode.TheVariants.{Ready, Abort, Converge}
+use Rattle.coord_types.specs.declared.steps.Kind.{Kind}
+use Rattle.coord_types.specs.declared.steps.Kind.TheVariants.{Started, Finished, Joined}
+use Rattle.coord_node.specs.Rules.{Transition, acknowledged, answer, finish, idle, is_empty, is_parent, lost, lost_in, on_abort, on_abort_in, on_ack, on_ready, on_ready_in, request, request_in, wave_back, wave_on, without}
+use Rattle.coord_node.specs.Steps.{kind_of_request}
+use Rattle.coord_world.specs.protocol.Links.{is_converge, is_ready}
+use Rattle.coord_world.proofs.Cases.{by_test}
+
+-- the state in which v is awaited no more
+abbrev pub acked_by : NodeState → ℕ → NodeState
+acked_by r v = record r { pend = remove r.pend v }
+
+-- the state without the link to v
+abbrev pub cut_from : NodeState → ℕ → NodeState
+cut_from r v = record r { parent = without r.parent v; pend = remove r.pend v; neighbours = remove r.neighbours v }
+
+-- nobody is awaited any more: the initiator finishes, and any other node acknowledges to its parent
+pub acknowledged_cases : (s : NodeState) (P : Transition → Type 0) → (s.parent ≡ None → P (finish s)) → ((p : ℕ) → s.parent ≡ Some p → P (answer (record s { mode = Converge }) p)) → P (acknowledged s s.parent)
+acknowledged_cases s P tops climbs = of_parent s.parent refl
+  where
+    of_parent : (o : Option ℕ) → s.parent ≡ o → P (acknowledged s o)
+    of_parent None e = tops e
+    of_parent (Some p) e = climbs p e
+
+-- a reset is asked for, with the kind of its reply
+pub request_cases : (r : NodeState) (P : Transition → Kind → Type 0) →
+    (r.mode ≡ Ready → is_empty r.neighbours ≡ true → P (finish r) Finished) →
+    (r.mode ≡ Ready → is_empty r.neighbours ≡ false → P (wave_on r None r.neighbours) Started) →
+    P (idle r) Joined → P (request r) (kind_of_request r.mode r)
+request_cases r P alone starts joins = in_mode r.mode refl
+  where
+    in_mode : (m : Mode) → r.mode ≡ m → P (request_in m r) (kind_of_request m r)
+    in_mode Ready e = by_test (is_empty r.neighbours) (λ b. P (cond b (finish r) (wave_on r None r.neighbours)) (cond b Finished Started)) (alone e) (starts e)
+    in_mode Abort e = joins
+    in_mode Converge e = joins
+
+module _ (r : NodeState) (v : ℕ) (P : Transition → Type 0) where
+  -- Abort comes from v
+  pub abort_cases :
+      (r.mode ≡ Ready → is_empty (remove r.neighbours v) ≡ true → P (wave_back r v)) →
+      (r.mode ≡ Ready → is_empty (remove r.neighbours v) ≡ false → P (wave_on r (Some v) (remove r.neighbours v))) →
+      (is_ready r.mode ≡ false → P (answer r v)) → P (on_abort r v)
+  abort_cases ends spreads answers = in_mode r.mode refl
+    where
+      in_mode : (m : Mode) → r.mode ≡ m → P (on_abort_in m r v)
+      in_mode Ready e = by_test (is_empty (remove r.neighbours v)) (λ b. P (cond b (wave_back r v) (wave_on r (Some v) (remove r.neighbours v)))) (ends e) (spreads e)
+      in_mode Abort e = answers (ap is_ready e)
+      in_mode Converge e = answers (ap is_ready e)
+
+  -- Ack comes from v
+  pub ack_cases :
+      (is_empty r.pend ≡ true → P (idle r)) →
+      (is_empty (remove r.pend v) ≡ false → P (idle (acked_by r v))) →
+      (is_empty (remove r.pend v) ≡ true → r.parent ≡ None → P (finish (acked_by r v))) →
+      (is_empty (remove r.pend v) ≡ true → (p : ℕ) → r.parent ≡ Some p → P (answer (record (acked_by r v) { mode = Converge }) p)) → P (on_ack r v)
+  ack_cases unasked waits tops climbs =
+      by_test (is_empty r.pend) (λ b. P (cond b (idle r) (cond (is_empty (remove r.pend v)) (acknowledged (acked_by r v) r.parent) (idle (acked_by r v))))) unasked
+      (λ _. by_test (is_empty (remove r.pend v)) (λ b. P (cond b (acknowledged (acked_by r v) r.parent) (idle (acked_by r v))))
+      (λ none. acknowledged_cases (acked_by r v) P (tops none) (climbs none)) waits)
+
+  -- Ready comes from v
+  pub ready_cases :
+      ((is_converge r.mode && is_parent r.parent v) ≡ false → P (idle r)) →
+      (r.mode ≡ Converge → is_parent r.parent v ≡ true → P (finish r)) → P (on_ready r v)
+  ready_cases ignored heard = in_mode r.mode refl
+    where
+      in_mode : (m : Mode) → r.mode ≡ m → P (on_ready_in m r v)
+      in_mode Ready e = ignored (ap (λ m. is_converge m && is_parent r.parent v) e)
+      in_mode Abort e = ignored (ap (λ m. is_converge m && is_parent r.parent v) e)
+      in_mode Converge e = by_test (is_parent r.parent v) (λ b. P (cond b (finish r) (idle r))) (heard e) (λ h. ignored (ap (λ m. is_converge m && is_parent r.parent v) e ∙ h))
+
+  -- the link to v vanishes
+  pub lost_cases :
+      (r.mode ≡ Ready → P (idle (cut_from r v))) →
+      (r.mode ≡ Abort → (contains r.pend v && is_empty (remove r.pend v)) ≡ false → P (idle (cut_from r v))) →
+      (r.mode ≡ Converge → is_parent r.parent v ≡ false → P (idle (cut_from r v))) →
+      (r.mode ≡ Converge → is_parent r.parent v ≡ true → P (finish (cut_from r v))) →
+      (r.mode ≡ Abort → (contains r.pend v && is_empty (remove r.pend v)) ≡ true → without r.parent v ≡ None → P (finish (cut_from r v))) →
+      (r.mode ≡ Abort → (contains r.pend v && is_empty (remove r.pend v)) ≡ true → (p : ℕ) → without r.parent v ≡ Some p → P (answer (record (cut_from r v) { mode = Converge }) p)) → P (lost r v)
+  lost_cases ready waits other freed tops climbs = in_mode r.mode refl
+    where
+      in_mode : (m : Mode) → r.mode ≡ m → P (lost_in m (cut_from r v) (contains r.pend v) (is_parent r.parent v))
+      in_mode Ready e = ready e
+      in_mode Abort e = by_test (contains r.pend v && is_empty (remove r.pend v)) (λ b. P (cond b (acknowledged (cut_from r v) (without r.parent v)) (idle (cut_from r v))))
+          (λ last. acknowledged_cases (cut_from r v) P (tops e last) (climbs e last)) (waits e)
+      in_mode Converge e = by_test (is_parent r.parent v) (λ b. P (cond b (finish (cut_from r v)) (idle (cut_from r v)))) (freed e) (other e)

@@ -1,0 +1,7 @@
+-- What only the bodies of this crate need; nothing above cites it.
+pub mod NodeSteps
+pub mod Fronts
+pub mod Place
+pub mod Sends
+pub mod Ready
+pub mod Assembly

@@ -1,0 +1,44 @@
+-- The laws of steps, over the definitions alone.
+use Rattle.std.specs.Prelude.{◌≡◌, ℕ, ◌≤◌, Some, length}
+use Rattle.coord_types.specs.Table.{get}
+use Rattle.coord_types.specs.declared.steps.Step.{Step}
+use Rattle.coord_link.specs.LaneMachine.{Lane, transit, Counts}
+use Rattle.coord_node.specs.IdealRules.{ideal_next}
+use Rattle.coord_world.specs.protocol.NumberedWorld.{World, view}
+use Rattle.coord_world.specs.protocol.Next.{next}
+use Rattle.coord_world.specs.protocol.Acceptance.{IsFresh}
+use Rattle.coord_world.specs.protocol.Legal.{Legal}
+use Rattle.coord_world.specs.protocol.Ranges.{InRange, StepInRange}
+use Rattle.coord_world.specs.protocol.Rows.{RowsFit, rows_of}
+
+-- a step that a world takes over some settled world, it takes over itself
+abbrev pub FreshOverItself : Type 0
+FreshOverItself = (w settled : World) (s : Step) → IsFresh w settled s → IsFresh w w s
+
+-- a fresh step keeps the ranges of a world
+abbrev pub NextKeepsRanges : Type 0
+NextKeepsRanges = (w settled : World) (s : Step) → StepInRange s → InRange w → Legal w → IsFresh w settled s → InRange (next w s)
+
+-- a fresh step keeps a world legal
+abbrev pub NextKeepsLegal : Type 0
+NextKeepsLegal = (w settled : World) (s : Step) → InRange w → Legal w → IsFresh w settled s → Legal (next w s)
+
+-- what a step makes of the view is the ideal step, where each lane has taken at most one message more than it cleared
+abbrev pub ViewOfNext : Type 0
+ViewOfNext = (w settled : World) (s : Step) → ((u v : ℕ) (l : Lane) → get w.lanes (u, v) ≡ Some l → Counts l) → IsFresh w settled s → view (next w s) ≡ ideal_next (view w) s
+
+-- in a legal world at most 3 messages are on the way on a lane, and a queue has at most 4
+pub record IsShort (l : Lane) : Type 0 where
+  pub on_way : length (transit l) ≤ 3
+  pub queued : length l.queue ≤ 4
+
+abbrev pub LanesAreShort : Type 0
+LanesAreShort = (w : World) (u v : ℕ) (l : Lane) → InRange w → Legal w → get w.lanes (u, v) ≡ Some l → IsShort l
+
+-- the rows of a world in its ranges fit together
+abbrev pub RowsOfWorldFit : Type 0
+RowsOfWorldFit = (w : World) → InRange w → RowsFit (rows_of w)
+
+-- worlds in their ranges with the same rows are equal
+abbrev pub RowsGiveWorld : Type 0
+RowsGiveWorld = (v w : World) → InRange v → InRange w → rows_of v ≡ rows_of w → v ≡ w

@@ -1,0 +1,68 @@
+-- Which outputs are released once the first steps of a trail are settled, and the laws of releases.
+use Rattle.std.specs.Prelude.{◌≡◌, ◌≢◌, ◌⊎◌, ◌↔◌, ℕ, ◌+◌, ◌≤◌, true, List, Some, Ok, Err, take, drop, flat_map, All, Contains}
+use Rattle.coord_types.specs.declared.outputs.Output.{Output}
+use Rattle.coord_types.specs.declared.outputs.Output.TheVariants.{Receipted, Sent}
+use Rattle.coord_types.specs.declared.packets.DataPacket.{DataPacket}
+use Rattle.coord_types.specs.declared.packets.ReceiptPacket.{ReceiptPacket}
+use Rattle.coord_types.specs.declared.refusals.Refusal.TheVariants.{NotReleased}
+use Rattle.coord_types.specs.declared.steps.Step.{Step}
+use Rattle.coord_types.specs.declared.steps.Step.TheVariants.{Order, Take, Clear}
+use Rattle.coord_link.specs.LaneMachine.{Lane, judged_take, judged_clear}
+use Rattle.coord_world.specs.protocol.Acceptance.{IsFresh, accepts, has_receipted, has_sent, lane}
+use Rattle.coord_world.specs.protocol.Next.{fold}
+use Rattle.coord_world.specs.protocol.NumberedWorld.{World}
+use Rattle.coord_world.specs.protocol.Outputs.{again, outs}
+use Rattle.coord_world.specs.laws.Trails.{IsTrail}
+
+-- what these steps give out beside their replies
+abbrev pub outputs_of : World → List Step → List Output
+outputs_of base steps = flat_map (λ r. r.outputs) (outs base steps)
+
+-- released, where these steps from the base are settled: one of them gave it out, or the base sends it again
+abbrev pub IsReleased : World → List Step → Output → Type 0
+IsReleased base settled o = Contains (outputs_of base settled) o ⊎ Contains (again base) o
+
+-- the front world has the lane of a packet, which takes it: what is left to ask is whether the packet was released
+abbrev pub IsTakeable : World → DataPacket → Type 0
+IsTakeable front p = (l : Lane) × ((lane front p.from p.to p.inc ≡ Some l) × (judged_take l p.number p.msg ≡ Ok tt))
+
+-- so with a receipt
+abbrev pub IsClearable : World → ReceiptPacket → Type 0
+IsClearable front p = (l : Lane) × ((lane front p.from p.to p.inc ≡ Some l) × (judged_clear l p.number ≡ Ok tt))
+
+-- the settled world shows of each packet that nothing else refuses whether it is out
+pub record TellsReleased (front settled : World) (IsOut : Output → Type 0) : Type 0 where
+  pub packets : (p : DataPacket) → IsTakeable front p → (has_sent (lane settled p.from p.to p.inc) p.number ≡ true) ↔ IsOut (Sent p)
+  pub receipts : (p : ReceiptPacket) → IsClearable front p → (has_receipted (lane settled p.from p.to p.inc) p.number ≡ true) ↔ IsOut (Receipted p)
+
+-- the release law: a packet that nothing else refuses is not refused as not released exactly where it is released
+abbrev pub ReleaseLaw : Type 0
+ReleaseLaw = (base : World) (trail : List Step) (d : ℕ) → IsTrail base trail → TellsReleased (fold base trail) (fold base (take d trail)) (IsReleased base (take d trail))
+
+-- the packet that a step names is out
+abbrev pub NamesReleased : (Output → Type 0) → Step → Type 0
+NamesReleased IsOut (Order c n x) = Unit {0}
+NamesReleased IsOut (Take p) = IsOut (Sent p)
+NamesReleased IsOut (Clear p) = IsOut (Receipted p)
+
+-- the same of the verdict: a step that the front world takes over itself, it takes over the settled one exactly where the packet that it names is released
+abbrev pub FreshWhereReleased : Type 0
+FreshWhereReleased = (base : World) (trail : List Step) (d : ℕ) (s : Step) → IsTrail base trail → IsFresh (fold base trail) (fold base trail) s →
+    IsFresh (fold base trail) (fold base (take d trail)) s ↔ NamesReleased (IsReleased base (take d trail)) s
+
+-- a release stays: what is not refused as not released is judged the same once more steps are settled
+abbrev pub ReleaseStays : Type 0
+ReleaseStays = (base : World) (trail : List Step) (d e : ℕ) (s : Step) → IsTrail base trail → d ≤ e → accepts (fold base trail) (fold base (take d trail)) s ≢ Err NotReleased →
+    accepts (fold base trail) (fold base (take e trail)) s ≡ accepts (fold base trail) (fold base (take d trail)) s
+
+-- the resend law: what the settled world sends again is released
+abbrev pub ResendLaw : Type 0
+ResendLaw = (base : World) (trail : List Step) (d : ℕ) → IsTrail base trail → All (IsReleased base (take d trail)) (again (fold base (take d trail)))
+
+-- what is released stays so as more steps are settled
+abbrev pub ReleasedGrows : Type 0
+ReleasedGrows = (base : World) (trail : List Step) (d e : ℕ) (o : Output) → d ≤ e → IsReleased base (take d trail) o → IsReleased base (take e trail) o
+
+-- what is released from a world that the trail came to is released from its base
+abbrev pub ReleasedFromBase : Type 0
+ReleasedFromBase = (base : World) (trail : List Step) (n d : ℕ) (o : Output) → IsTrail base trail → IsReleased (fold base (take n trail)) (take d (drop n trail)) o → IsReleased base (take (n + d) trail) o

@@ -1,0 +1,134 @@
+-- Runs from the empty world whose outcomes are known.
+use Rattle.std.specs.Prelude.{◌≡◌, ℕ, List, [], ◌∷◌, ◌++◌, map, Result, Ok}
+use Rattle.coord_types.specs.declared.messages.Msg.{Msg}
+use Rattle.coord_types.specs.declared.messages.Msg.TheVariants as msg
+use Rattle.coord_types.specs.declared.outputs.Output.{Output}
+use Rattle.coord_types.specs.declared.outputs.Output.TheVariants.{Receipted, Signalled, Sent}
+use Rattle.coord_types.specs.declared.refusals.Refusal.{Refusal}
+use Rattle.coord_types.specs.declared.steps.Command.{Command}
+use Rattle.coord_types.specs.declared.steps.Command.TheVariants.{Add, Join, Drop, Reset}
+use Rattle.coord_types.specs.declared.steps.Kind.{Kind}
+use Rattle.coord_types.specs.declared.steps.Kind.TheVariants.{Done, Started, Taken, Cleared}
+use Rattle.coord_types.specs.declared.steps.Step.{Step}
+use Rattle.coord_types.specs.declared.steps.Step.TheVariants.{Order, Take, Clear}
+use Rattle.coord_world.specs.declared.verdicts.Verdict.{Verdict}
+use Rattle.coord_world.specs.declared.verdicts.Verdict.TheVariants.{Fresh}
+use Rattle.coord_world.specs.protocol.Acceptance.{accepts}
+use Rattle.coord_world.specs.protocol.Next.{next, fold}
+use Rattle.coord_world.specs.protocol.NumberedWorld.{World, no_world}
+use Rattle.coord_world.specs.protocol.Outputs.{StepOutcome, outs}
+use Rattle.coord_world.specs.laws.Waves.{IsWave}
+
+-- the n-th order of client 1
+abbrev pub order : ℕ → Command → Step
+order n x = Order 1 n x
+
+-- packets of the lane from u to v, by incarnation and number
+abbrev pub take : ℕ → ℕ → ℕ → ℕ → Msg → Step
+take u v i n m = Take (record { from = u; to = v; inc = i; number = n; msg = m })
+
+abbrev pub clear : ℕ → ℕ → ℕ → ℕ → Step
+clear u v i n = Clear (record { from = u; to = v; inc = i; number = n })
+
+abbrev pub data_out : ℕ → ℕ → ℕ → ℕ → Msg → Output
+data_out u v i n m = Sent (record { from = u; to = v; inc = i; number = n; msg = m })
+
+abbrev pub receipt_out : ℕ → ℕ → ℕ → ℕ → Output
+receipt_out u v i n = Receipted (record { from = u; to = v; inc = i; number = n })
+
+-- what step n gives
+abbrev pub gives : ℕ → Kind → List Output → StepOutcome
+gives n k os = record { reply = record { step = n; kind = k }; outputs = os }
+
+-- what each of these steps is answered, where each one before it is settled
+abbrev pub verdicts : World → List Step → List (Result Verdict Refusal)
+verdicts w [] = []
+verdicts w (s ∷ ss) = accepts w w s ∷ verdicts (next w s) ss
+
+-- each step is taken, with the reply and the outputs that are given
+abbrev pub IsRun : List Step → List StepOutcome → Type 0
+IsRun steps given = (verdicts no_world steps ≡ map (λ r. Ok (Fresh r.reply.kind)) given) × (outs no_world steps ≡ given)
+
+-- two nodes are linked, and one of them is reset
+abbrev pub two_linked : List Step
+two_linked = order 1 (Add 1 1) ∷ order 2 (Add 2 1) ∷ order 3 (Join 1 2) ∷ []
+
+abbrev pub one_reset : List Step
+one_reset = order 4 (Reset 1) ∷ take 1 2 3 1 msg.Abort ∷ take 2 1 3 1 msg.Ack ∷ clear 1 2 3 1 ∷ take 1 2 3 2 msg.Ready ∷ []
+
+abbrev pub StoredRun : Type 0
+StoredRun =
+    IsRun
+    (two_linked ++ one_reset)
+    (
+    gives 1 Done [] ∷ gives 2 Done [] ∷ gives 3 Done []
+    ∷ gives 4 Started (data_out 1 2 3 1 msg.Abort ∷ [])
+    ∷ gives 5 Taken (receipt_out 1 2 3 1 ∷ data_out 2 1 3 1 msg.Ack ∷ [])
+    ∷ gives 6 Taken (receipt_out 2 1 3 1 ∷ Signalled 1 1 ∷ [])
+    ∷ gives 7 Cleared (data_out 1 2 3 2 msg.Ready ∷ [])
+    ∷ gives 8 Taken (receipt_out 1 2 3 2 ∷ Signalled 2 1 ∷ []) ∷ []
+    )
+
+-- that reset is one wave from node 1
+abbrev pub StoredWave : Type 0
+StoredWave = IsWave (fold no_world two_linked) one_reset 1
+
+-- both ends of a link start a reset
+abbrev pub TwoInitiators : Type 0
+TwoInitiators =
+    IsRun
+    (
+    order 1 (Add 1 1) ∷ order 2 (Add 2 1) ∷ order 3 (Join 1 2) ∷ order 4 (Reset 1) ∷ order 5 (Reset 2)
+    ∷ take 1 2 3 1 msg.Abort ∷ take 2 1 3 1 msg.Abort ∷ clear 1 2 3 1 ∷ clear 2 1 3 1
+    ∷ take 1 2 3 2 msg.Ack ∷ take 2 1 3 2 msg.Ack ∷ clear 1 2 3 2 ∷ take 1 2 3 3 msg.Ready ∷ []
+    )
+    (
+    gives 1 Done [] ∷ gives 2 Done [] ∷ gives 3 Done []
+    ∷ gives 4 Started (data_out 1 2 3 1 msg.Abort ∷ [])
+    ∷ gives 5 Started (data_out 2 1 3 1 msg.Abort ∷ [])
+    ∷ gives 6 Taken (receipt_out 1 2 3 1 ∷ [])
+    ∷ gives 7 Taken (receipt_out 2 1 3 1 ∷ [])
+    ∷ gives 8 Cleared (data_out 1 2 3 2 msg.Ack ∷ [])
+    ∷ gives 9 Cleared (data_out 2 1 3 2 msg.Ack ∷ [])
+    ∷ gives 10 Taken (receipt_out 1 2 3 2 ∷ Signalled 2 1 ∷ [])
+    ∷ gives 11 Taken (receipt_out 2 1 3 2 ∷ Signalled 1 1 ∷ [])
+    ∷ gives 12 Cleared (data_out 1 2 3 3 msg.Ready ∷ [])
+    ∷ gives 13 Taken (receipt_out 1 2 3 3 ∷ []) ∷ []
+    )
+
+-- the first link of a path of three nodes is dropped while the wave goes out
+abbrev pub DropInAbort : Type 0
+DropInAbort =
+    IsRun
+    (
+    order 1 (Add 1 1) ∷ order 2 (Add 2 1) ∷ order 3 (Add 3 1) ∷ order 4 (Join 1 2) ∷ order 5 (Join 2 3) ∷ order 6 (Reset 1)
+    ∷ take 1 2 4 1 msg.Abort ∷ order 7 (Drop 1 2)
+    ∷ take 2 3 5 1 msg.Abort ∷ take 3 2 5 1 msg.Ack ∷ clear 2 3 5 1 ∷ take 2 3 5 2 msg.Ready ∷ []
+    )
+    (
+    gives 1 Done [] ∷ gives 2 Done [] ∷ gives 3 Done [] ∷ gives 4 Done [] ∷ gives 5 Done []
+    ∷ gives 6 Started (data_out 1 2 4 1 msg.Abort ∷ [])
+    ∷ gives 7 Taken (receipt_out 1 2 4 1 ∷ data_out 2 3 5 1 msg.Abort ∷ [])
+    ∷ gives 8 Done (Signalled 1 1 ∷ [])
+    ∷ gives 9 Taken (receipt_out 2 3 5 1 ∷ data_out 3 2 5 1 msg.Ack ∷ [])
+    ∷ gives 10 Taken (receipt_out 3 2 5 1 ∷ Signalled 2 1 ∷ [])
+    ∷ gives 11 Cleared (data_out 2 3 5 2 msg.Ready ∷ [])
+    ∷ gives 12 Taken (receipt_out 2 3 5 2 ∷ Signalled 3 1 ∷ []) ∷ []
+    )
+
+-- and after it has come back
+abbrev pub DropInConverge : Type 0
+DropInConverge =
+    IsRun
+    (
+    order 1 (Add 1 1) ∷ order 2 (Add 2 1) ∷ order 3 (Add 3 1) ∷ order 4 (Join 1 2) ∷ order 5 (Join 2 3) ∷ order 6 (Reset 1)
+    ∷ take 1 2 4 1 msg.Abort ∷ take 2 3 5 1 msg.Abort ∷ take 3 2 5 1 msg.Ack ∷ order 7 (Drop 1 2) ∷ []
+    )
+    (
+    gives 1 Done [] ∷ gives 2 Done [] ∷ gives 3 Done [] ∷ gives 4 Done [] ∷ gives 5 Done []
+    ∷ gives 6 Started (data_out 1 2 4 1 msg.Abort ∷ [])
+    ∷ gives 7 Taken (receipt_out 1 2 4 1 ∷ data_out 2 3 5 1 msg.Abort ∷ [])
+    ∷ gives 8 Taken (receipt_out 2 3 5 1 ∷ data_out 3 2 5 1 msg.Ack ∷ [])
+    ∷ gives 9 Taken (receipt_out 3 2 5 1 ∷ data_out 2 1 4 1 msg.Ack ∷ [])
+    ∷ gives 10 Done (Signalled 1 1 ∷ Signalled 2 1 ∷ []) ∷ []
+    )

@@ -1,0 +1,108 @@
+-- Which steps a world takes, and why it refuses the others.
+use Rattle.std.specs.Prelude.{◌≡◌, ℕ, ◌+◌, ◌*◌, ◌==◌, ◌&&◌, ◌||◌, not, nat_le, nat_lt, Bool, false, true, [], ◌∷◌, ◌++◌, Option, Some, None, Result, Ok, if◌then◌else◌}
+use Rattle.coord_types.specs.NodeSet as set
+use Rattle.coord_types.specs.Table.{get, has, len}
+use Rattle.coord_types.specs.NodeState.{NodeState}
+use Rattle.coord_types.specs.Messages.{is_nil}
+use Rattle.coord_types.specs.Command.{same_command}
+use Rattle.coord_types.specs.declared.limits.TheConstants.{MAX_DEGREE, MAX_LINKS, MAX_STEPS}
+use Rattle.coord_types.specs.declared.packets.DataPacket.{DataPacket}
+use Rattle.coord_types.specs.declared.packets.ReceiptPacket.{ReceiptPacket}
+use Rattle.coord_types.specs.declared.steps.Command.{Command}
+use Rattle.coord_types.specs.declared.steps.Command.TheVariants.{Add, Remove, Join, Drop, Reset, Confirm}
+use Rattle.coord_types.specs.declared.steps.Step.{Step}
+use Rattle.coord_types.specs.declared.steps.Step.TheVariants.{Order, Take, Clear}
+use Rattle.coord_types.specs.declared.steps.Session.{Session}
+use Rattle.coord_types.specs.declared.refusals.Refusal.{Refusal}
+use Rattle.coord_types.specs.declared.refusals.Refusal.TheVariants.{Exhausted, OutOfTurn, NumberReused, UnknownNode, NodeExists, HasLinks, SameNode, OtherGroup, LinkExists, NoLink, DegreeFull, LinksFull, BadEpoch, NotReleased}
+use Rattle.coord_link.specs.LaneMachine.{Lane, Tests, refused_or, against_take, against_clear}
+use Rattle.coord_node.specs.Rules.{is_empty}
+use Rattle.coord_node.specs.Steps.{kind}
+use Rattle.coord_world.specs.declared.verdicts.Verdict.{Verdict}
+use Rattle.coord_world.specs.declared.verdicts.Verdict.TheVariants.{Fresh, Repeat}
+use Rattle.coord_world.specs.protocol.NumberedWorld.{World, state, is_linked}
+
+abbrev pub is_unknown : World → ℕ → Bool
+is_unknown w u = not (has w.nodes u)
+
+-- a node has its most links
+abbrev pub is_full : NodeState → Bool
+is_full r = nat_le MAX_DEGREE (set.len r.neighbours)
+
+-- a world has its most links, each of two lanes
+abbrev pub has_all_links : World → Bool
+has_all_links w = nat_le (2 * MAX_LINKS) (len w.lanes)
+
+-- a command is judged by the front world alone
+abbrev pub against_command : World → Command → Tests
+against_command w (Add u g) = (has w.nodes u, NodeExists) ∷ []
+against_command w (Remove u) = (is_unknown w u, UnknownNode) ∷ (not (is_empty (state w u).neighbours), HasLinks) ∷ []
+against_command w (Join a b) =
+    (is_unknown w a || is_unknown w b, UnknownNode) ∷ (a == b, SameNode) ∷ (not ((state w a).group == (state w b).group), OtherGroup) ∷ (is_linked w a b, LinkExists)
+    ∷ (is_full (state w a) || is_full (state w b), DegreeFull) ∷ (has_all_links w, LinksFull) ∷ []
+against_command w (Drop a b) = (is_unknown w a || is_unknown w b, UnknownNode) ∷ (a == b, SameNode) ∷ (not (is_linked w a b), NoLink) ∷ []
+against_command w (Reset u) = (is_unknown w u, UnknownNode) ∷ []
+against_command w (Confirm u e) = (is_unknown w u, UnknownNode) ∷ (not (nat_lt (state w u).confirmed e && nat_le e (state w u).epoch), BadEpoch) ∷ []
+
+abbrev pub of_incarnation : ℕ → Option Lane → Option Lane
+of_incarnation i None = None
+of_incarnation i (Some l) = if l.inc == i then Some l else None
+
+-- the lane from u to v, where it has this incarnation
+abbrev pub lane : World → ℕ → ℕ → ℕ → Option Lane
+lane w u v i = of_incarnation i (get w.lanes (u, v))
+
+-- whether a settled lane has given out the data packet with this number
+abbrev pub has_sent : Option Lane → ℕ → Bool
+has_sent None n = false
+has_sent (Some l) n = (n == l.base + 1) && not (is_nil l.queue)
+
+-- whether a settled lane has given out the receipt with this number
+abbrev pub has_receipted : Option Lane → ℕ → Bool
+has_receipted None n = false
+has_receipted (Some l) n = nat_le n l.got
+
+-- a packet is judged by its lane in the front world, and then by that in the settled one
+abbrev pub against_data : Option Lane → Option Lane → DataPacket → Tests
+against_data None settled p = (true, NoLink) ∷ []
+against_data (Some l) settled p = against_take l p.number p.msg ++ (not (has_sent settled p.number), NotReleased) ∷ []
+
+abbrev pub against_receipt : Option Lane → Option Lane → ReceiptPacket → Tests
+against_receipt None settled p = (true, NoLink) ∷ []
+against_receipt (Some l) settled p = against_clear l p.number ++ (not (has_receipted settled p.number), NotReleased) ∷ []
+
+-- a client's numbers begin with 1
+abbrev pub last_number : Option Session → ℕ
+last_number None = 0
+last_number (Some s) = s.number
+
+-- neither the last number nor the one after it; the last one, with another command
+abbrev pub against_number : ℕ → ℕ → Tests
+against_number last n = (not (n == last + 1) && (not (n == last) || (n == 0)), OutOfTurn) ∷ (n == last, NumberReused) ∷ []
+
+abbrev pub against : World → World → Step → Tests
+against front settled (Order c n x) = against_number (last_number (get front.sessions c)) n ++ against_command front x
+against front settled (Take p) = against_data (lane front p.from p.to p.inc) (lane settled p.from p.to p.inc) p
+against front settled (Clear p) = against_receipt (lane front p.from p.to p.inc) (lane settled p.from p.to p.inc) p
+
+abbrev pub is_exhausted : World → Bool
+is_exhausted w = nat_le MAX_STEPS w.count
+
+-- a step that isn't a repeat
+abbrev pub judged : World → World → Step → Result Verdict Refusal
+judged front settled s = refused_or (Fresh (kind (state front) s)) ((is_exhausted front, Exhausted) ∷ against front settled s)
+
+-- a repeat of a client's last order is answered with its reply
+abbrev pub or_repeat : Option Session → ℕ → Command → Result Verdict Refusal → Result Verdict Refusal
+or_repeat None n x verdict = verdict
+or_repeat (Some o) n x verdict = if (o.number == n) && same_command o.command x then Ok (Repeat o.reply) else verdict
+
+-- acceptance: what the front world, with what is settled of it, says to a step
+abbrev pub accepts : World → World → Step → Result Verdict Refusal
+accepts front settled (Order c n x) = or_repeat (get front.sessions c) n x (judged front settled (Order c n x))
+accepts front settled (Take p) = judged front settled (Take p)
+accepts front settled (Clear p) = judged front settled (Clear p)
+
+-- a step that a world takes, over some settled world
+abbrev pub IsFresh : World → World → Step → Type 0
+IsFresh front settled s = accepts front settled s ≡ Ok (Fresh (kind (state front) s))

@@ -1,0 +1,47 @@
+-- Legal worlds: the node predicate N and the link predicates A to G hold.
+use Rattle.std.specs.Prelude.{◌≡◌, ℕ, ◌&&◌, not, nat_le, Bool, true, false, Option, Some, None}
+use Rattle.std.specs.List.{list_all}
+use Rattle.coord_types.specs.NodeSet as set
+use Rattle.coord_types.specs.NodeSet.{NodeSet}
+use Rattle.coord_types.specs.Table.{get}
+use Rattle.coord_types.specs.NodeState.{NodeState}
+use Rattle.coord_types.specs.declared.messages.Mode.{Mode}
+use Rattle.coord_types.specs.declared.messages.Mode.TheVariants.{Ready, Abort, Converge}
+use Rattle.coord_link.specs.LaneMachine.{Lane, Counts}
+use Rattle.coord_node.specs.Rules.{is_empty}
+use Rattle.coord_world.specs.protocol.NumberedWorld.{World, view, is_linked}
+use Rattle.coord_world.specs.protocol.Links.{link, LegalLink}
+
+-- a node is Abort exactly where it awaits somebody
+abbrev pub awaits_rightly : Mode → NodeSet → Bool
+awaits_rightly Ready pend = is_empty pend
+awaits_rightly Abort pend = not (is_empty pend)
+awaits_rightly Converge pend = is_empty pend
+
+-- a Ready node has no parent, and a Converge node has one
+abbrev pub has_right_parent : Mode → Option ℕ → Bool
+has_right_parent Ready None = true
+has_right_parent Ready (Some p) = false
+has_right_parent Abort parent = true
+has_right_parent Converge None = false
+has_right_parent Converge (Some p) = true
+
+-- a parent is a neighbour that isn't awaited
+abbrev pub is_parent_near : Option ℕ → NodeSet → NodeSet → Bool
+is_parent_near None pend neighbours = true
+is_parent_near (Some p) pend neighbours = not (set.contains pend p) && set.contains neighbours p
+
+-- all that are awaited are neighbours
+abbrev pub is_within : NodeSet → NodeSet → Bool
+is_within pend neighbours = list_all (λ v. set.contains neighbours v) (set.items pend)
+
+-- N: that, and no epoch is confirmed that was not entered, nor more entered than steps were taken
+abbrev pub is_legal_node : ℕ → NodeState → Bool
+is_legal_node count r =
+    awaits_rightly r.mode r.pend && has_right_parent r.mode r.parent && is_parent_near r.parent r.pend r.neighbours && is_within r.pend r.neighbours && nat_le r.confirmed r.epoch && nat_le r.epoch count
+
+-- N of each node, A of each lane, and B to G of each link as each of its ends sees it
+pub record Legal (w : World) : Type 0 where
+  pub nodes : (u : ℕ) (r : NodeState) → get w.nodes u ≡ Some r → is_legal_node w.count r ≡ true
+  pub lanes : (u v : ℕ) (l : Lane) → get w.lanes (u, v) ≡ Some l → Counts l
+  pub links : (u v : ℕ) → is_linked w u v ≡ true → LegalLink (link (view w) u v)

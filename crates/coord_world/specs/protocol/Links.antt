@@ -1,0 +1,117 @@
+-- The predicates B to G over the two ends of a link and what is on the way between them, each a test. Predicate A, over a lane, stands in the lane machine.
+use Rattle.std.specs.Prelude.{◌≡◌, ℕ, ◌+◌, ◌==◌, nat_le, Bool, true, false, ◌&&◌, ◌||◌, not, List, [], ◌∷◌, if◌then◌else◌}
+use Rattle.coord_types.specs.NodeSet as set
+use Rattle.coord_types.specs.NodeState.{NodeState}
+use Rattle.coord_types.specs.NodeSet.{NodeSet}
+use Rattle.coord_types.specs.declared.messages.Mode.{Mode}
+use Rattle.coord_types.specs.declared.messages.Mode.TheVariants.{Ready, Abort, Converge}
+use Rattle.coord_types.specs.declared.messages.Msg.{Msg}
+use Rattle.coord_types.specs.declared.messages.Msg.TheVariants as msg
+use Rattle.coord_types.specs.IdealWorld.{Ideal}
+use Rattle.coord_node.specs.Rules.{is_parent}
+
+-- one end of a link: whether it awaits the other end, and whether that is its parent
+pub record End : Type 0 where
+  pub mode : Mode
+  pub awaits : Bool
+  pub child : Bool
+
+-- a link as one end sees it
+pub record Link : Type 0 where
+  pub here : End
+  pub there : End
+  pub out : List Msg
+  pub back : List Msg
+
+abbrev pub end_of : NodeState → ℕ → End
+end_of r v = record { mode = r.mode; awaits = set.contains r.pend v; child = is_parent r.parent v }
+
+abbrev pub link : Ideal → ℕ → ℕ → Link
+link w u v = record { here = end_of (w.state u) v; there = end_of (w.state v) u; out = w.way u v; back = w.way v u }
+
+abbrev pub turned : Link → Link
+turned l = record { here = l.there; there = l.here; out = l.back; back = l.out }
+
+abbrev pub one : Bool → ℕ
+one b = if b then 1 else 0
+
+abbrev pub aborts : List Msg → ℕ
+aborts [] = 0
+aborts (msg.Abort ∷ ms) = 1 + aborts ms
+aborts (msg.Ack ∷ ms) = aborts ms
+aborts (msg.Ready ∷ ms) = aborts ms
+
+abbrev pub acks : List Msg → ℕ
+acks [] = 0
+acks (msg.Abort ∷ ms) = acks ms
+acks (msg.Ack ∷ ms) = 1 + acks ms
+acks (msg.Ready ∷ ms) = acks ms
+
+abbrev pub readies : List Msg → ℕ
+readies [] = 0
+readies (msg.Abort ∷ ms) = readies ms
+readies (msg.Ack ∷ ms) = readies ms
+readies (msg.Ready ∷ ms) = 1 + readies ms
+
+-- how many Readies stand behind an Abort
+abbrev pub readies_behind : List Msg → ℕ
+readies_behind [] = 0
+readies_behind (msg.Abort ∷ ms) = readies ms
+readies_behind (msg.Ack ∷ ms) = readies_behind ms
+readies_behind (msg.Ready ∷ ms) = readies_behind ms
+
+abbrev pub is_abort : Mode → Bool
+is_abort Ready = false
+is_abort Abort = true
+is_abort Converge = false
+
+abbrev pub is_converge : Mode → Bool
+is_converge Ready = false
+is_converge Abort = false
+is_converge Converge = true
+
+abbrev pub is_ready : Mode → Bool
+is_ready Ready = true
+is_ready Abort = false
+is_ready Converge = false
+
+-- an end that owes the other one an acknowledgement
+abbrev pub owes_ack : End → Bool
+owes_ack e = is_abort e.mode && e.child
+
+-- an end that waits for the other one's Ready
+abbrev pub waits_for_ready : End → Bool
+waits_for_ready e = is_converge e.mode && e.child
+
+-- B: an acknowledgement that is awaited stands in one place, and no other does: in the Abort on the way, at the end that owes it, or in the Ack on the way back
+abbrev pub has_ack_in_one_place : Link → Bool
+has_ack_in_one_place l = (aborts l.out + one (owes_ack l.there) + acks l.back) == one l.here.awaits
+
+-- C: at most one Ready is on the way
+abbrev pub has_one_ready_at_most : Link → Bool
+has_one_ready_at_most l = nat_le (readies l.out) 1
+
+-- D: no Ready stands behind an Abort
+abbrev pub has_readies_first : Link → Bool
+has_readies_first l = readies_behind l.out == 0
+
+-- E: where the other end waits for this one's Ready, it is on the way, or this end isn't Ready
+abbrev pub has_ready_for_child : Link → Bool
+has_ready_for_child l = not (waits_for_ready l.there) || not (readies l.out == 0) || not (is_ready l.here.mode)
+
+-- F: the two ends are not each other's parent
+abbrev pub has_one_parent_at_most : Link → Bool
+has_one_parent_at_most l = not (l.here.child && l.there.child)
+
+-- G: where this end isn't Ready, the other isn't its parent and no Abort is on the way, no Ready is
+abbrev pub has_no_early_ready : Link → Bool
+has_no_early_ready l = is_ready l.here.mode || l.here.child || not (aborts l.out == 0) || (readies l.out == 0)
+
+-- B to G, as the sender of `out` sees them
+pub record LegalLink (l : Link) : Type 0 where
+  pub ack_in_one_place : has_ack_in_one_place l ≡ true
+  pub one_ready_at_most : has_one_ready_at_most l ≡ true
+  pub readies_first : has_readies_first l ≡ true
+  pub ready_for_child : has_ready_for_child l ≡ true
+  pub one_parent_at_most : has_one_parent_at_most l ≡ true
+  pub no_early_ready : has_no_early_ready l ≡ true

@@ -1,0 +1,59 @@
+-- The numbered world: nodes, lanes that number their messages, and the clients' last orders.
+use Rattle.std.specs.Prelude.{ℕ, Bool, List, [], Option, Some, None}
+use Rattle.std.specs.Ordering.{nat_cmp, ordering_then}
+use Rattle.std.specs.declared.cmp.Ordering.{Ordering}
+use Rattle.std.specs.Cmp.{IsTotalOrder, nat_cmp_total, on_total, then_total}
+use Rattle.std.specs.Coded.{Coded, code_by, coded×, coded_ℕ}
+use Rattle.std.proofs.Common.{refl}
+use Rattle.coord_types.specs.Table as table
+use Rattle.coord_types.specs.Table.{Table, get, has, code}
+use Rattle.coord_types.specs.NodeState.{NodeState, no_node, state_code}
+use Rattle.coord_types.specs.IdealWorld.{Ideal}
+use Rattle.coord_types.specs.declared.messages.Msg.{Msg}
+use Rattle.coord_types.specs.declared.steps.Session.{Session}
+use Rattle.coord_types.specs.contracts.steps.Session as session
+use Rattle.coord_link.specs.LaneMachine.{Lane, transit, lane_code}
+
+-- by the sender, and then by the receiver
+abbrev pub pair_cmp : ℕ × ℕ → ℕ × ℕ → Ordering
+pair_cmp p q = ordering_then (nat_cmp p.0 q.0) (nat_cmp p.1 q.1)
+
+pub pair_cmp_total : IsTotalOrder pair_cmp
+pair_cmp_total = then_total (on_total (λ p. p.0) nat_cmp_total) (on_total (λ p. p.1) nat_cmp_total)
+
+-- how many steps were taken, the nodes, the lanes by their ends, and each client's last order
+pub record World : Type 0 where
+  pub count : ℕ
+  pub nodes : Table nat_cmp_total NodeState
+  pub lanes : Table pair_cmp_total Lane
+  pub sessions : Table nat_cmp_total Session
+
+abbrev pub no_world : World
+no_world = record { count = 0; nodes = table.empty; lanes = table.empty; sessions = table.empty }
+
+abbrev pub state_or_none : Option NodeState → NodeState
+state_or_none None = no_node
+state_or_none (Some r) = r
+
+-- the state of a node
+abbrev pub state : World → ℕ → NodeState
+state w u = state_or_none (get w.nodes u)
+
+abbrev pub is_linked : World → ℕ → ℕ → Bool
+is_linked w u v = has w.lanes (u, v)
+
+abbrev pub transit_or_none : Option Lane → List Msg
+transit_or_none None = []
+transit_or_none (Some l) = transit l
+
+-- the ideal world that a numbered one stands for: each lane is what is on the way on it
+abbrev pub view : World → Ideal
+view w = record { state = state w; linked = is_linked w; way = λ u v. transit_or_none (get w.lanes (u, v)) }
+
+-- a world is stored as the tuple of its parts
+abbrev pub world_code : Coded World
+world_code =
+    code_by
+    (ℕ × (Table nat_cmp_total NodeState × (Table pair_cmp_total Lane × Table nat_cmp_total Session)))
+    (coded× coded_ℕ (coded× (code coded_ℕ state_code) (coded× (code (coded× coded_ℕ coded_ℕ) lane_code) (code coded_ℕ (session.the_row).coded))))
+    (λ w. (w.count, (w.nodes, (w.lanes, w.sessions)))) (λ p. record { count = p.0; nodes = p.1.0; lanes = p.1.1.0; sessions = p.1.1.1 }) (λ _. refl)

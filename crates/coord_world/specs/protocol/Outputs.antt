@@ -1,0 +1,78 @@
+-- What a step gives out, and what is sent again.
+use Rattle.std.specs.Prelude.{ℕ, ◌+◌, ◌==◌, ◌&&◌, Bool, false, not, List, [], ◌∷◌, ◌++◌, Option, Some, None, if◌then◌else◌}
+use Rattle.coord_types.specs.Table.{Table, get, entries}
+use Rattle.coord_types.specs.Messages.{is_nil}
+use Rattle.coord_types.specs.declared.messages.Msg.{Msg}
+use Rattle.coord_types.specs.declared.packets.DataPacket.{DataPacket}
+use Rattle.coord_types.specs.declared.packets.ReceiptPacket.{ReceiptPacket}
+use Rattle.coord_types.specs.declared.steps.Step.{Step}
+use Rattle.coord_types.specs.declared.steps.Step.TheVariants.{Order, Take, Clear}
+use Rattle.coord_types.specs.declared.outputs.Output.{Output}
+use Rattle.coord_types.specs.declared.outputs.Output.TheVariants.{Receipted, Signalled, Sent}
+use Rattle.coord_types.specs.declared.steps.Reply.{Reply}
+use Rattle.coord_node.specs.Rules.{Transition}
+use Rattle.coord_node.specs.Steps.{transitions}
+use Rattle.coord_link.specs.LaneMachine.{Lane, is_front_taken}
+use Rattle.coord_world.specs.protocol.NumberedWorld.{World, state, pair_cmp_total}
+use Rattle.coord_world.specs.protocol.Next.{next, reply}
+
+-- the receipt of a data packet
+abbrev pub receipt : DataPacket → ReceiptPacket
+receipt p = record { from = p.from; to = p.to; inc = p.inc; number = p.number }
+
+-- a Take gives out the receipt of its packet
+abbrev pub receipts : Step → List Output
+receipts (Order c n x) = []
+receipts (Take p) = Receipted (receipt p) ∷ []
+receipts (Clear p) = []
+
+-- a signal for each transition that finished, in the order of the transitions
+abbrev pub signals : List (ℕ × Transition) → List Output
+signals [] = []
+signals (d ∷ ds) = if d.1.finished then Signalled d.0 d.1.state.epoch ∷ signals ds else signals ds
+
+-- the packet of a lane's front
+abbrev pub front_packet : ℕ × ℕ → Lane → Msg → DataPacket
+front_packet k l m = record { from = k.0; to = k.1; inc = l.inc; number = l.base + 1; msg = m }
+
+-- whether a lane had a front of the incarnation and the number that l's front has
+abbrev pub had_front : Option Lane → Lane → Bool
+had_front None l = false
+had_front (Some o) l = not (is_nil o.queue) && (o.inc == l.inc) && (o.base == l.base)
+
+-- what a lane sends: its front, if it has one that wasn't its front before
+abbrev pub sent_by : Option Lane → ℕ × ℕ → Lane → List Msg → List Output
+sent_by before k l [] = []
+sent_by before k l (m ∷ ms) = if had_front before l then [] else Sent (front_packet k l m) ∷ []
+
+-- what lanes send that were these before, in ascending order of their ends
+abbrev pub all_sent : Table pair_cmp_total Lane → List ((ℕ × ℕ) × Lane) → List Output
+all_sent before [] = []
+all_sent before (e ∷ es) = sent_by (get before e.0) e.0 e.1 e.1.queue ++ all_sent before es
+
+-- what a step gives out after its reply
+abbrev pub outputs : World → Step → List Output
+outputs w s = receipts s ++ signals (transitions (state w) s) ++ all_sent w.lanes (entries (next w s).lanes)
+
+-- a step's reply, and what it gives out after that
+pub record StepOutcome : Type 0 where
+  pub reply : Reply
+  pub outputs : List Output
+
+-- the outputs of these steps, in order
+abbrev pub outs : World → List Step → List StepOutcome
+outs w [] = []
+outs w (s ∷ ss) = record { reply = reply w s; outputs = outputs w s } ∷ outs (next w s) ss
+
+-- a lane's front, and its receipt where it was taken
+abbrev pub again_by : ℕ × ℕ → Lane → List Msg → List Output
+again_by k l [] = []
+again_by k l (m ∷ ms) = Sent (front_packet k l m) ∷ (if is_front_taken l then Receipted (receipt (front_packet k l m)) ∷ [] else [])
+
+abbrev pub all_again : List ((ℕ × ℕ) × Lane) → List Output
+all_again [] = []
+all_again (e ∷ es) = again_by e.0 e.1 e.1.queue ++ all_again es
+
+-- the resend list: what may have been lost and is sent again, in ascending order of the lanes
+abbrev pub again : World → List Output
+again w = all_again (entries w.lanes)

@@ -1,0 +1,66 @@
+-- The ranges of a world, which its type keeps: what is true of every world by its form, legal or not.
+use Rattle.std.specs.Prelude.{◌≡◌, ℕ, ◌^◌, ◌≤◌, Bool, true, false, Some, length}
+use Rattle.coord_types.specs.NodeSet as set
+use Rattle.coord_types.specs.NodeMask.{IsMaskable}
+use Rattle.coord_types.specs.Table.{get, has, len}
+use Rattle.coord_types.specs.NodeState.{NodeState}
+pub use Rattle.coord_types.specs.StepRanges.{IsNode, CommandInRange, StepInRange}
+use Rattle.coord_types.specs.declared.steps.Session.{Session}
+use Rattle.coord_types.specs.declared.steps.Command.{Command}
+use Rattle.coord_types.specs.declared.steps.Command.TheVariants.{Reset}
+use Rattle.coord_types.specs.declared.steps.Kind.{Kind}
+use Rattle.coord_types.specs.declared.steps.Kind.TheVariants.{Done, Started, Finished, Joined}
+use Rattle.coord_link.specs.LaneMachine.{Lane}
+use Rattle.coord_world.specs.protocol.NumberedWorld.{World, state, is_linked}
+
+pub record NodeInRange (count u : ℕ) (r : NodeState) : Type 0 where
+  pub least : 1 ≤ u
+  pub greatest : u ≤ 64
+  pub group_least : 1 ≤ r.group
+  pub group_greatest : r.group ≤ 16
+  pub epoch : r.epoch ≤ count
+  pub confirmed : r.confirmed ≤ count
+  pub degree : set.len r.neighbours ≤ 16
+
+-- an incarnation is the number of a step
+pub record LaneInRange (count : ℕ) (l : Lane) : Type 0 where
+  pub made : 1 ≤ l.inc
+  pub inc : l.inc ≤ count
+  pub base : l.base ≤ count
+  pub got : l.got ≤ count
+
+-- the kinds that a command may be answered with
+abbrev pub answers : Command → Kind → Bool
+answers (Reset u) Started = true
+answers (Reset u) Finished = true
+answers (Reset u) Joined = true
+answers (Reset u) k = false
+answers x Done = true
+answers x k = false
+
+pub record SessionInRange (count c : ℕ) (s : Session) : Type 0 where
+  pub least : 1 ≤ c
+  pub greatest : c ≤ 16
+  pub ordered : CommandInRange s.command
+  pub first : 1 ≤ s.number
+  pub last : s.number ≤ count
+  pub replied : 1 ≤ s.reply.step
+  pub replied_by : s.reply.step ≤ count
+  pub answered : answers s.command s.reply.kind ≡ true
+
+-- a node's neighbours are those that it has lanes to; a link has two lanes, of one incarnation, between two nodes of one group
+pub record InRange (w : World) : Type 0 where
+  pub count : w.count ≤ 2 ^ 40
+  pub nodes : (u : ℕ) (r : NodeState) → get w.nodes u ≡ Some r → NodeInRange w.count u r
+  pub lanes : (u v : ℕ) (l : Lane) → get w.lanes (u, v) ≡ Some l → LaneInRange w.count l
+  pub short : (u v : ℕ) (l : Lane) → get w.lanes (u, v) ≡ Some l → length l.queue ≤ 4
+  pub awaited : (u : ℕ) → IsMaskable (state w u).pend
+  pub parents : (u p : ℕ) → (state w u).parent ≡ Some p → IsNode p
+  pub sessions : (c : ℕ) (s : Session) → get w.sessions c ≡ Some s → SessionInRange w.count c s
+  pub links : len w.lanes ≤ 256
+  pub linked : (u v : ℕ) → is_linked w u v ≡ set.contains (state w u).neighbours v
+  pub mirrored : (u v : ℕ) → is_linked w u v ≡ is_linked w v u
+  pub apart : (u : ℕ) → is_linked w u u ≡ false
+  pub ends : (u v : ℕ) → is_linked w u v ≡ true → has w.nodes u ≡ true
+  pub one_group : (u v : ℕ) → is_linked w u v ≡ true → (state w u).group ≡ (state w v).group
+  pub one_incarnation : (u v : ℕ) (l k : Lane) → get w.lanes (u, v) ≡ Some l → get w.lanes (v, u) ≡ Some k → l.inc ≡ k.inc

@@ -1,0 +1,115 @@
+-- A world as lists of rows, and which lists are those of a world.
+use Rattle.std.specs.Prelude.{◌≡◌, ℕ, ◌+◌, ◌^◌, ◌≤◌, ◌<◌, ◌==◌, ◌||◌, nat_lt, Bool, true, List, [], ◌∷◌, map, length, Option, Some, None, if◌then◌else◌}
+use Rattle.std.specs.Ordering.{nat_cmp}
+use Rattle.std.specs.List.{AllByRecursion}
+use Rattle.std.specs.FinMap.Entries.{is_sorted, where_key, find}
+use Rattle.coord_types.specs.NodeMask.{IsMaskable}
+use Rattle.coord_types.specs.NodeState.{NodeState}
+use Rattle.coord_types.specs.Table.{get, entries}
+use Rattle.coord_types.specs.declared.steps.Session.{Session}
+use Rattle.coord_link.specs.LaneMachine.{Lane, new_lane}
+use Rattle.coord_world.specs.protocol.NumberedWorld.{World, pair_cmp}
+use Rattle.coord_world.specs.protocol.Ranges.{IsNode, LaneInRange, SessionInRange}
+use Rattle.coord_world.specs.declared.rows.parts.NodeRow.{NodeRow}
+use Rattle.coord_world.specs.declared.rows.parts.LinkRow.{LinkRow}
+use Rattle.coord_world.specs.declared.rows.parts.ClientRow.{ClientRow}
+use Rattle.coord_world.specs.declared.rows.parts.Parts.{Parts}
+
+pub record Rows : Type 0 where
+  pub count : ℕ
+  pub nodes : List NodeRow
+  pub links : List LinkRow
+  pub clients : List ClientRow
+
+-- the rows of the program's record
+abbrev pub listed : Parts → Rows
+listed p = record { count = p.count; nodes = p.nodes.items; links = p.links.items; clients = p.clients.items }
+
+abbrev pub node_row : ℕ × NodeState → NodeRow
+node_row e = record { id = e.0; group = e.1.group; mode = e.1.mode; parent = e.1.parent; pend = e.1.pend; epoch = e.1.epoch; confirmed = e.1.confirmed }
+
+abbrev pub lane_or_none : Option Lane → Lane
+lane_or_none None = new_lane 0
+lane_or_none (Some l) = l
+
+-- a link stands with the lane that goes from its lesser end to its greater one
+abbrev pub goes_up : ℕ × ℕ → Bool
+goes_up k = nat_lt k.0 k.1
+
+abbrev pub link_row : World → (ℕ × ℕ) × Lane → LinkRow
+link_row w e = record { a = e.0.0; b = e.0.1; forth = e.1; back = lane_or_none (get w.lanes (e.0.1, e.0.0)) }
+
+abbrev pub client_row : ℕ × Session → ClientRow
+client_row e = record { client = e.0; session = e.1 }
+
+-- the rows of a world, each list in ascending order
+abbrev pub rows_of : World → Rows
+rows_of w = record {
+  count = w.count;
+  nodes = map node_row (entries w.nodes);
+  links = map (link_row w) (where_key pair_cmp goes_up (entries w.lanes));
+  clients = map client_row (entries w.sessions);
+}
+
+-- each row with its key
+abbrev pub by_id : List NodeRow → List (ℕ × NodeRow)
+by_id = map (λ r. (r.id, r))
+
+abbrev pub by_ends : List LinkRow → List ((ℕ × ℕ) × LinkRow)
+by_ends = map (λ r. ((r.a, r.b), r))
+
+abbrev pub by_client : List ClientRow → List (ℕ × ClientRow)
+by_client = map (λ r. (r.client, r))
+
+pub record NodeRowFits (count : ℕ) (r : NodeRow) : Type 0 where
+  pub least : 1 ≤ r.id
+  pub greatest : r.id ≤ 64
+  pub group_least : 1 ≤ r.group
+  pub group_greatest : r.group ≤ 16
+  pub parent : (p : ℕ) → r.parent ≡ Some p → IsNode p
+  pub pend : IsMaskable r.pend
+  pub epoch : r.epoch ≤ count
+  pub confirmed : r.confirmed ≤ count
+
+-- the group of the node with this number, where it is listed
+abbrev pub group_in : Option NodeRow → Option ℕ
+group_in None = None
+group_in (Some r) = Some r.group
+
+abbrev pub group_of : List NodeRow → ℕ → Option ℕ
+group_of nodes u = group_in (find nat_cmp u (by_id nodes))
+
+-- both ends are listed, in one group
+pub record HasEnds (nodes : List NodeRow) (r : LinkRow) : Type 0 where
+  pub group : ℕ
+  pub first : group_of nodes r.a ≡ Some group
+  pub second : group_of nodes r.b ≡ Some group
+
+pub record LinkRowFits (count : ℕ) (nodes : List NodeRow) (r : LinkRow) : Type 0 where
+  pub turned : r.a < r.b
+  pub ends : HasEnds nodes r
+  pub forth : LaneInRange count r.forth
+  pub back : LaneInRange count r.back
+  pub forth_short : length r.forth.queue ≤ 4
+  pub back_short : length r.back.queue ≤ 4
+  pub one_incarnation : r.forth.inc ≡ r.back.inc
+
+abbrev pub is_end : ℕ → LinkRow → Bool
+is_end u r = (u == r.a) || (u == r.b)
+
+-- how many links a node is an end of
+abbrev pub degree : ℕ → List LinkRow → ℕ
+degree u [] = 0
+degree u (r ∷ rs) = if is_end u r then 1 + degree u rs else degree u rs
+
+-- what lists of rows must be to be those of a world
+pub record RowsFit (rows : Rows) : Type 0 where
+  pub count : rows.count ≤ 2 ^ 40
+  pub nodes_rise : is_sorted nat_cmp (by_id rows.nodes) ≡ true
+  pub nodes : AllByRecursion (NodeRowFits rows.count) rows.nodes
+  pub links_rise : is_sorted pair_cmp (by_ends rows.links) ≡ true
+  pub links : AllByRecursion (LinkRowFits rows.count rows.nodes) rows.links
+  pub degrees : (u : ℕ) → degree u rows.links ≤ 16
+  pub most_links : length rows.links ≤ 128
+  pub clients_rise : is_sorted nat_cmp (by_client rows.clients) ≡ true
+  pub clients : AllByRecursion (λ r. SessionInRange rows.count r.client r.session) rows.clients

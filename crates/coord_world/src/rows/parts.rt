@@ -1,0 +1,48 @@
+//! The rows of a world, as they are listed and stored.
+
+use coord_link::Lane;
+use coord_types::{Client, Group, Mode, NodeId, NodeSet, Session};
+
+/// A node's row: its state, but for its neighbours, which the links give.
+#[derive(Clone, Copy, Debug)]
+pub struct NodeRow {
+    pub id: NodeId,
+    pub group: Group,
+    pub mode: Mode,
+    pub parent: Option<NodeId>,
+    /// The neighbours whose acknowledgement is awaited.
+    pub pend: NodeSet,
+    pub epoch: u64,
+    pub confirmed: u64,
+}
+
+/// A link's row: its ends, of which `a` is below `b`, and the lane each way.
+#[derive(Clone, Copy, Debug)]
+pub struct LinkRow {
+    pub a: NodeId,
+    pub b: NodeId,
+    /// From `a` to `b`.
+    pub forth: Lane,
+    /// From `b` to `a`.
+    pub back: Lane,
+}
+
+/// A client's row: its last order.
+#[derive(Clone, Copy, Debug)]
+pub struct ClientRow {
+    pub client: Client,
+    pub session: Session,
+}
+
+/// All that a world has. Contracts see its rows as `specs/protocol/Rows.antt` lists them.
+#[derive(Drop, Debug)]
+pub struct Parts {
+    /// How many steps were taken.
+    pub count: u64,
+    /// By ascending `id`.
+    pub nodes: Vec<NodeRow>,
+    /// By ascending `a`, and then `b`.
+    pub links: Vec<LinkRow>,
+    /// By ascending `client`.
+    pub clients: Vec<ClientRow>,
+}

@@ -1,0 +1,91 @@
+//! The tables of a world: its count, its nodes, its lanes and the clients' last orders, before
+//! anything is promised of them.
+
+ghost use Rattle.std.specs.Prelude.{◌≡◌, IfOk, IsTrue, ◌↔◌};
+ghost use Rattle.std.specs.Option.{option_copied};
+ghost use Rattle.coord_types.specs.Table as table;
+ghost use Rattle.coord_world.specs.protocol.NumberedWorld.{no_world};
+ghost use Rattle.coord_world.specs.protocol.Acceptance.{lane};
+
+mod equality;
+pub mod lane_table;
+pub mod node_table;
+mod sends;
+pub mod session_table;
+mod sorted;
+
+use crate::tables::lane_table::LaneTable;
+use crate::tables::node_table::NodeTable;
+use crate::tables::session_table::SessionTable;
+use coord_link::Lane;
+use coord_node::Node;
+use coord_types::NodeId;
+use std::alloc::{AllocError, Global};
+use std::marker::Model;
+
+/// The parts of a world. A step is carried out on a copy, which becomes the world only once all
+/// of it is done.
+#[derive(Drop, Debug)]
+pub struct Tables {
+    pub count: u64,
+    pub nodes: NodeTable,
+    pub lanes: LaneTable,
+    pub sessions: SessionTable,
+}
+
+impl Model for Tables {
+    ghost use Rattle.coord_world.specs.protocol.NumberedWorld.{World, world_code};
+
+    ghost Value = { World };
+
+    ghost coded = { world_code };
+
+    ghost view = { λ a. record { count = a.count; nodes = a.nodes; lanes = a.lanes; sessions = a.sessions } };
+}
+
+impl Tables {
+    pub fn empty(alloc: Global) -> Self
+        ensures { result ≡ no_world }
+    {
+        Tables {
+            count: 0,
+            nodes: NodeTable::new(alloc),
+            lanes: LaneTable::new(alloc),
+            sessions: SessionTable::new(alloc),
+        }
+    }
+
+    pub fn node(&self, id: NodeId) -> Option<&Node>
+        ensures { option_copied result ≡ table.get self.now.nodes id }
+    {
+        self.nodes.get(id)
+    }
+
+    /// The lane from one node to another, where it has this incarnation.
+    pub fn lane_of(&self, from: NodeId, to: NodeId, inc: u64) -> Option<&Lane>
+        ensures { option_copied result ≡ lane self.now from to inc }
+    {
+        let lane = self.lanes.get(from, to)?;
+        if lane.inc() == inc { Some(lane) } else { None }
+    }
+
+    pub fn is_same(&self, other: &Tables) -> bool
+        ensures { IsTrue result ↔ (self.now ≡ other.now) }
+    {
+        self.count == other.count
+            && self.nodes.is_same(&other.nodes)
+            && self.lanes.is_same(&other.lanes)
+            && self.sessions.is_same(&other.sessions)
+    }
+
+    pub fn copy(&self) -> Result<Tables, AllocError>
+        ensures { IfOk result (λ copy. copy ≡ self.now) }
+    {
+        Ok(Tables {
+            count: self.count,
+            nodes: self.nodes.copy()?,
+            lanes: self.lanes.copy()?,
+            sessions: self.sessions.copy()?,
+        })
+    }
+}
