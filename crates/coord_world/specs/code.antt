@@ -5,3 +5,4 @@ pub mod Place
 pub mod Sends
 pub mod Ready
 pub mod Assembly
+pub mod SameWorlds

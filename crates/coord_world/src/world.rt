@@ -50,6 +50,30 @@ impl Model for World {
     ghost invariant = { λ a. InRange a.tables };
 }
 
+/// Equal worlds have the same count, nodes, lanes and last orders.
+impl PartialEq for World {
+    ghost use Rattle.std.specs.Cmp.{decided, partial_equiv_from_equiv};
+    ghost use Rattle.coord_world.specs.code.SameWorlds.{same_world, same_world_decides};
+
+    ghost eq = { same_world };
+
+    ghost laws = { partial_equiv_from_equiv (decided same_world same_world_decides) };
+
+    fn eq(&self, other: &World) -> bool
+        ensures value { result ≡ same_world self.now other.now }
+        ensures same { IsTrue result ↔ (self.now ≡ other.now) }
+    {
+        self.tables.is_same(&other.tables)
+    }
+}
+
+impl Eq for World {
+    ghost use Rattle.std.specs.Cmp.{decided};
+    ghost use Rattle.coord_world.specs.code.SameWorlds.{same_world, same_world_decides};
+
+    ghost laws = { decided same_world same_world_decides };
+}
+
 impl World {
     /// The world before any step.
     pub fn empty(alloc: Global) -> Self
@@ -92,13 +116,6 @@ impl World {
         ensures { InRange self.now }
     {
         let _ = &self.tables;
-    }
-
-    /// Whether another world has the same count, nodes, lanes and last orders.
-    pub fn is_same(&self, other: &World) -> bool
-        ensures { IsTrue result ↔ (self.now ≡ other.now) }
-    {
-        self.tables.is_same(&other.tables)
     }
 
     /// A world equal to this one.

@@ -179,9 +179,9 @@ fn a_world_is_read(rt: HostRuntime) -> Result<(), Fail> {
 fn is_copied(alloc: Global) -> Result<bool, Fail> {
     let world = asked(alloc)?;
     let mut copy = asked(alloc)?.copy()?;
-    let was_same = copy.is_same(&world);
+    let was_same = copy == world;
     let _ = take(&mut copy, &Step::Take(packet(true, 1, Msg::Abort)))?;
-    Ok(was_same && !copy.is_same(&world))
+    Ok(was_same && copy != world)
 }
 
 #[test]
