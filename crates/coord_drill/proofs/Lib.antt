@@ -1,5 +1,6 @@
 mod FirstParts
 mod NextRows
 mod NoText
+pub mod Spelled
 mod Taken
 mod WordsOf

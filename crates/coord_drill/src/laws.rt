@@ -1,7 +1,13 @@
 //! Laws of the grammar, over the definitions alone: functions that do nothing, whose contracts are
 //! the laws.
 
+ghost use Rattle.coord_drill.specs.Laws.{SpelledIsRead};
 ghost use Rattle.coord_drill.specs.WorkedLines.{WorkedLines};
+
+/// What is spelled is read so: no two requests share a line.
+pub fn spelled_is_read()
+    ensures { SpelledIsRead }
+{}
 
 /// A request of each verb is spelled as a given line, and that line is read as it.
 pub fn worked_lines()
