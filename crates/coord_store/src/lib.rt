@@ -1,2 +1,30 @@
-//! A world that outlives the program.
+//! A world that outlives the program: it stands on a device as a journal, and each commit of steps
+//! appends a batch to it, or first makes room by a checkpoint.
+//!
+//! `specs/Recovered.antt` defines the world that the bytes of a device give, and
+//! `specs/Refused.antt` the first refusal of bytes that give none; `laws` states that there is one
+//! world at most, and that bytes that give one are not refused for a reason of theirs.
+//! `specs/Kept.antt` is what contracts see of a store: its disk, its world, and what a torn commit
+//! was to make.
+//!
+//! `create` makes a store, `open` answers exactly what the bytes of the device give, and
+//! `Store::commit` takes steps. The main theorem stands on these: at each moment of a commit, also
+//! inside its checkpoint, whatever a crash may leave gives the world from before it or from after
+//! it, and once it has answered Ok the one from after it. The type `Store` keeps that of its
+//! images, so that the layers above speak of its world alone (`Store::images_give_world`).
 #![tactic(auto)]
+
+mod creation;
+mod faults;
+pub mod laws;
+mod opening;
+mod replay;
+mod snapshot;
+mod steps;
+mod store;
+mod writing;
+
+pub use creation::create;
+pub use faults::{CommitFault, StoreFault};
+pub use opening::open;
+pub use store::Store;

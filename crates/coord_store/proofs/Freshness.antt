@@ -1,0 +1,48 @@
+-- Steps that are fresh one after the other.
+use Rattle.std.proofs.Common.{◌≡◌, ℕ, ◌+◌, ◌<◌, ◌≤◌, ◌^◌, suc, List, [], ◌∷◌, ◌++◌, length, take, drop, get_or, refl, sym, ap, ◌∙◌, subst, add-one, arith}
+use Rattle.std.proofs.lemmas.List.{take-append-drop}
+use Rattle.std.proofs.Math.Seq.{drop-cons, take-suc}
+use Rattle.coord_types.specs.declared.steps.Step.{Step}
+use Rattle.coord_world.specs.protocol.Acceptance.{IsFresh}
+use Rattle.coord_world.specs.protocol.Next.{fold, next}
+use Rattle.coord_world.specs.protocol.NumberedWorld.{World}
+use Rattle.coord_world.proofs.Fresh.{fresh_count}
+use Rattle.coord_world.proofs.Itself.{itself}
+use Rattle.coord_store.specs.Recovered.{AllFresh}
+
+-- the one that stands here is
+pub fresh_at : (front rest : List Step) (settled w : World) (s : Step) → AllFresh settled w (front ++ s ∷ rest) → IsFresh (fold w front) settled s
+fresh_at [] rest settled w s all = all.0
+fresh_at (f ∷ front) rest settled w s all = fresh_at front rest settled (next w f) s all.1
+
+-- with one more
+pub fresh-push : (front : List Step) (settled w : World) (s : Step) → AllFresh settled w front → IsFresh (fold w front) settled s → AllFresh settled w (front ++ s ∷ [])
+fresh-push [] settled w s all fresh = (fresh, tt)
+fresh-push (f ∷ front) settled w s all fresh = (all.0, fresh-push front settled (next w f) s all.1 fresh)
+
+pub fold-push : (front : List Step) (w : World) (s : Step) → fold w (front ++ s ∷ []) ≡ next (fold w front) s
+fold-push [] w s = refl
+fold-push (f ∷ front) w s = fold-push front (next w f) s
+
+-- a list about one of its elements
+pub split_at : {A : Type 0} (xs : List A) (i : ℕ) (x : A) → i < length xs → x ≡ get_or xs i x → xs ≡ take i xs ++ x ∷ drop (i + 1) xs
+split_at xs i x below is =
+    sym (take-append-drop i xs) ∙ ap (λ l. take i xs ++ l) (drop-cons xs i x below ∙ ap (λ y. y ∷ drop (suc i) xs) (sym is) ∙ ap (λ n. x ∷ drop n xs) (sym (add-one i)))
+
+-- and its front up to that element
+pub take-push : {A : Type 0} (xs : List A) (i : ℕ) (x : A) → i < length xs → x ≡ get_or xs i x → take (i + 1) xs ≡ take i xs ++ x ∷ []
+take-push xs i x below is = rw add-one (take-suc xs i x below ∙ ap (λ y. take i xs ++ y ∷ []) (sym is))
+
+-- the world after one step more
+pub fold-take : (steps : List Step) (w : World) (i : ℕ) (s : Step) → i < length steps → s ≡ get_or steps i s → fold w (take (i + 1) steps) ≡ next (fold w (take i steps)) s
+fold-take steps w i s below is = ap (fold w) (take-push steps i s below is) ∙ fold-push (take i steps) w s
+
+-- a step of such a list is fresh over the world before it, which is settled too
+pub fresh_over_itself : (steps : List Step) (settled w : World) (i : ℕ) (s : Step) → i < length steps → s ≡ get_or steps i s → AllFresh settled w steps → IsFresh (fold w (take i steps)) (fold w (take i steps)) s
+fresh_over_itself steps settled w i s below is all =
+    itself (fold w (take i steps)) settled s (fresh_at (take i steps) (drop (i + 1) steps) settled w s (subst (AllFresh settled w) (split_at steps i s below is) all))
+
+-- a world that takes a step has a number left for it
+pub first_number : (steps : List Step) (settled w : World) → 1 ≤ length steps → AllFresh settled w steps → w.count + 1 ≤ 2 ^ 40
+first_number [] settled w some all = absurd (omega arith)
+first_number (s ∷ steps) settled w some all = fresh_count w settled s all.0

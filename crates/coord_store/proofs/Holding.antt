@@ -1,0 +1,81 @@
+-- What the images of a journal's disk give.
+use Rattle.std.proofs.Common.{◌≡◌, ℕ, ◌+◌, Bool, true, false, List, None, Some, Option, is_some, inl, inr, ⊎_elim, refl, sym, ap, ◌∙◌, subst}
+use Rattle.coord_batch.specs.Batches.{IsBatch, pair}
+use Rattle.coord_batch.specs.Steps.{batch}
+use Rattle.coord_codec.specs.Worlds.{world}
+use Rattle.coord_disk.specs.Model.Present.{Present, IsImage}
+use Rattle.coord_disk.proofs.TornWrites.{whole_image}
+use Rattle.coord_journal.specs.Journal.{disk_of, half_of, half_size_of, has_stopped, used_of}
+use Rattle.coord_journal.specs.Text.{Content, IsEitherText, IsText, with_batch, without_batch}
+use Rattle.coord_journal.specs.declared.journal.Journal.{Journal}
+use Rattle.coord_types.specs.declared.steps.Step.{Step}
+use Rattle.coord_world.specs.protocol.Legal.{Legal}
+use Rattle.coord_world.specs.protocol.Next.{fold}
+use Rattle.coord_world.specs.protocol.NumberedWorld.{World}
+use Rattle.coord_world.specs.protocol.Rows.{rows_of}
+use Rattle.coord_world.specs.protocol.Ranges.{InRange}
+use Rattle.coord_store.specs.Kept.{GivesEither, Holds, IsKept, IsOnlyWorld}
+use Rattle.coord_store.specs.Recovered.{AllFresh, Gives, Recovered, Takes}
+use Rattle.coord_store.proofs.Replaying.{replays-push}
+
+pub text_gives : (content : Content) (w : World) (bytes : List ℕ) → Gives content w → IsText content bytes → Recovered bytes w
+text_gives content w bytes gives text = record { content = content; text = text; gives = gives }
+
+-- with a batch more
+pub gives-push : (content : Content) (w : World) (body : List ℕ) (steps : List Step) → Gives content w → Takes w body steps → Gives (with_batch content body) (fold w steps)
+gives-push content w body steps gives takes = record {
+  start = gives.start;
+  snapshot = record { known = gives.snapshot.known; in_range = gives.snapshot.in_range; spelled = gives.snapshot.spelled };
+  legal = gives.legal;
+  replays = replays-push content.batches body steps gives.start w gives.replays takes;
+}
+
+-- a snapshot alone
+pub snapshot_gives : (version : ℕ) (snapshot : List ℕ) (w : World) → version ≡ 1 → InRange w → Legal w → snapshot ≡ world.text (rows_of w) → Gives (without_batch version snapshot) w
+snapshot_gives version snapshot w known range legal spelled = record { start = w; snapshot = record { known = known; in_range = range; spelled = spelled }; legal = legal; replays = refl }
+
+-- what the body of a batch of fresh steps spells is taken
+pub taken : (w : World) (n : ℕ) (body items : List ℕ) (steps : List Step) → n ≡ w.count → body ≡ items → items ≡ batch.text (pair (n + 1) steps) → IsBatch (n + 1) steps → AllFresh w w steps → Takes w body steps
+taken w n body items steps counts is spelled fits fresh = record {
+  spells = record { numbered = subst (λ m. IsBatch (m + 1) steps) counts fits; spelled = is ∙ spelled ∙ ap (λ m. batch.text (pair (m + 1) steps)) counts };
+  fresh = fresh;
+}
+
+pub none_of : (o : Option World) (b : Bool) → b ≡ is_some o → b ≡ false → o ≡ None
+none_of None b is clear = refl
+none_of (Some w) b is clear = absurd cc
+
+-- during an append
+pub appending_gives : (content : Content) (w : World) (body : List ℕ) (steps : List Step) → Gives content w → Takes w body steps → (bytes : List ℕ) → IsEitherText content (with_batch content body) bytes → GivesEither w (fold w steps) bytes
+appending_gives content w body steps gives takes bytes either =
+    ⊎_elim (λ t. inl (text_gives content w bytes gives t)) (λ t. inr (text_gives (with_batch content body) (fold w steps) bytes (gives-push content w body steps gives takes) t)) either
+
+-- during a checkpoint
+pub replacing_gives : (content other : Content) (w : World) → Gives content w → Gives other w → (bytes : List ℕ) → IsEitherText content other bytes → IsOnlyWorld w bytes
+replacing_gives content other w gives too bytes either = ⊎_elim (λ t. text_gives content w bytes gives t) (λ t. text_gives other w bytes too t) either
+
+module _ {D : Type 0} (present : D → Present) (keeps_model : D → Bool) where
+  -- each image of a journal that holds a world gives it
+  pub image_gives : (journal : Journal D) (w : World) → Holds present journal w → (image : List ℕ) → IsImage (present (disk_of journal)) image → Recovered image w
+  image_gives journal w holds image is =
+      text_gives holds.content w image holds.gives
+      (subst (IsText holds.content) (sym (whole_image (present (disk_of journal)).read (present (disk_of journal)) holds.ready.synced image is)) (half_size_of journal, half_of journal, used_of journal, holds.ready.text))
+
+  -- a store that goes on
+  pub kept_on : (journal : Journal D) (w : World) (torn : Option World) → torn ≡ None → Legal w → has_stopped journal ≡ false → (keeps_model (disk_of journal) ≡ true → Holds present journal w) → IsKept present keeps_model journal w torn
+  kept_on journal w torn none legal going holds = record {
+    legal = legal;
+    stopped = going ∙ sym (ap is_some none);
+    holds = λ k _. holds k;
+    images = λ k image is. inl (image_gives journal w (holds k) image is);
+  }
+
+  -- a store after a torn commit
+  pub kept_torn : (journal : Journal D) (w next : World) → Legal w → has_stopped journal ≡ true → (keeps_model (disk_of journal) ≡ true → (image : List ℕ) → IsImage (present (disk_of journal)) image → GivesEither w next image)
+      → IsKept present keeps_model journal w (Some next)
+  kept_torn journal w next legal stopped each = record {
+    legal = legal;
+    stopped = stopped;
+    holds = λ k none. absurd cc;
+    images = λ k image is. ⊎_elim (λ r. inl r) (λ r. inr (next, refl, r)) (each k image is);
+  }

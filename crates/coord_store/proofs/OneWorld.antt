@@ -1,0 +1,45 @@
+-- Bytes give one world at most.
+use Rattle.std.proofs.Common.{◌≡◌, ℕ, ◌+◌, List, [], ◌∷◌, ◌++◌, sym, ap, ◌∙◌, subst}
+use Rattle.coord_types.specs.declared.steps.Step.{Step}
+use Rattle.coord_batch.specs.Batches.{pair}
+use Rattle.coord_batch.specs.Steps.{batch}
+use Rattle.coord_batch.proofs.SpellingLaws.{batches_prefix_free}
+use Rattle.coord_codec.specs.Worlds.{world}
+use Rattle.coord_codec.proofs.SpellingLaws.{worlds_prefix_free}
+use Rattle.coord_journal.specs.Text.{Content}
+use Rattle.coord_journal.proofs.Texts.{text_same}
+use Rattle.coord_world.specs.protocol.Next.{fold}
+use Rattle.coord_world.specs.protocol.NumberedWorld.{World}
+use Rattle.coord_world.specs.protocol.Rows.{rows_of}
+use Rattle.coord_store.specs.Laws.{RecoveredIsOne}
+use Rattle.coord_store.specs.Recovered.{Gives, HasSnapshot, IsBody, Replays}
+
+-- a body spells one list of steps
+pub one_spelling : (w : World) (body : List ℕ) (ss ts : List Step) → IsBody w body ss → IsBody w body ts → ss ≡ ts
+one_spelling w body ss ts here there =
+    let e : batch.text (pair (w.count + 1) ss) ++ [] ≡ batch.text (pair (w.count + 1) ts) ++ [] = ap (λ l. l ++ []) (sym here.spelled ∙ there.spelled) in
+    ap (λ p. p.1) (batches_prefix_free (w.count + 1) (w.count + 1) ss ts [] [] here.numbered there.numbered e).0
+
+-- a snapshot spells one world
+pub one_start : (content : Content) (v w : World) → HasSnapshot content v → HasSnapshot content w → v ≡ w
+one_start content v w here there =
+    let e : world.text (rows_of v) ++ [] ≡ world.text (rows_of w) ++ [] = ap (λ l. l ++ []) (sym here.spelled ∙ there.spelled) in
+    (worlds_prefix_free v w [] [] here.in_range there.in_range e).0
+
+-- batches lead to one world
+pub one_end : (bodies : List (List ℕ)) (w u v : World) → Replays w bodies u → Replays w bodies v → u ≡ v
+one_end [] w u v here there = sym here ∙ there
+one_end (body ∷ bodies) w u v here there =
+    let same = one_spelling w body here.0 there.0 here.1.spells there.1.spells in
+    one_end bodies (fold w there.0) u v (subst (λ ss. Replays (fold w ss) bodies u) same here.2) there.2
+
+-- a content gives one world
+pub one_given : (content : Content) (v w : World) → Gives content v → Gives content w → v ≡ w
+one_given content v w here there =
+    let start = one_start content here.start there.start here.snapshot there.snapshot in
+    one_end content.batches there.start v w (subst (λ x. Replays x content.batches v) start here.replays) there.replays
+
+pub recovered_is_one : RecoveredIsOne
+recovered_is_one bytes v w here there =
+    let same : here.content ≡ there.content = text_same bytes here.content there.content here.text there.text in
+    one_given there.content v w (subst (λ (c : Content). Gives c v) same here.gives) there.gives

@@ -1,0 +1,8 @@
+use Rattle.std.proofs.Common.{◌≡◌, take}
+use Rattle.coord_world.specs.protocol.Legal.{Legal}
+use Rattle.coord_world.specs.protocol.Next.{fold}
+use Rattle.coord_store.specs.Recovered.{AllFresh}
+use Rattle.coord_store.proofs.steps.judge_all.Given as goal
+
+abbrev pub invariant-loop-index : goal.invariant-loop-index
+invariant-loop-index l = (l.world ≡ fold l.initial.world (take l.index l.steps)) × AllFresh l.initial.world l.initial.world (take l.index l.steps) × Legal l.world

@@ -1,0 +1,66 @@
+use Rattle.std.proofs.Common.{◌≡◌, ◌≢◌, true, None, rules, arith, sym, ap, ◌∙◌, subst}
+use Rattle.coord_disk.specs.Model.Moments.{LeavesOnly}
+use Rattle.coord_store.specs.Kept.{GivesEither, Holds, Kept}
+use Rattle.coord_store.specs.Recovered.{AllFresh}
+use Rattle.coord_store.specs.declared.faults.CommitFault.TheVariants.{Device}
+use Rattle.coord_world.specs.protocol.Next.{fold}
+use Rattle.coord_store.proofs.Freshness.{first_number}
+use Rattle.coord_store.proofs.Holding.{kept_on, kept_torn, none_of, taken}
+use Rattle.coord_store.proofs.store.Store.commit.Goals as goal
+use Rattle.coord_store.proofs.store.Store.commit.Goals.{then-eq, else-eq}
+
+pub write_batch-requires-clause-first : goal.write_batch-requires-clause-first
+write_batch-requires-clause-first g c =
+    let most = first_number c.args.steps.now c.args.self.now.world c.args.self.now.world c.requires.some.0 c.requires.fresh in
+    let same = ap (λ (k : Kept g.row.D.Denot). k.world.count) c.self.view_is in
+    (omega arith, omega (arith, most, same, c.count.ensures))
+
+pub invariant_of-self : goal.invariant_of-self
+invariant_of-self g c =
+    let w = c.self.inside.world in
+    let steps = c.args.steps.now in
+    let fresh = subst (λ x. AllFresh x x steps) (sym (ap (λ (k : Kept g.row.D.Denot). k.world) c.self.view_is)) c.requires.fresh in
+    let takes = taken w c.count.result c.deref.result.now c.in_ok-body.body.items steps c.count.ensures c.deref.ensures.value c.in_ok-body.ensures.spelled c.in_ok-body.ensures.fits fresh in
+    let next = c.in_ok-take_all.ensures.world ∙ ap (λ x. fold x steps) c.in_ok-next.ensures in
+    let none = none_of c.self.inside.torn c.is_some.result c.is_some.ensures c.if-is_some.false in
+    kept_on g.D.Disk.present g.D.Disk.keeps_model c.write.new.journal c.take_all.new.world c.self.inside.torn none c.take_all.ensures.legal c.in-Ok.ensures.going
+    (λ k. let before = sym c.write.ensures.model ∙ k in subst (Holds g.D.Disk.present c.write.new.journal) (sym next) (c.in-Ok.ensures.done steps before (c.self.invariant.holds before none) takes))
+
+pub returns-in-Ok-clause-any_moment : goal.returns-in-Ok-clause-any_moment
+returns-in-Ok-clause-any_moment g c =
+    let steps = c.args.steps.now in
+    let fresh = subst (λ x. AllFresh x x steps) (sym (ap (λ (k : Kept g.row.D.Denot). k.world) c.self.view_is)) c.requires.fresh in
+    let takes = taken c.self.inside.world c.count.result c.deref.result.now c.in_ok-body.body.items steps c.count.ensures c.deref.ensures.value c.in_ok-body.ensures.spelled c.in_ok-body.ensures.fits fresh in
+    let P : Kept g.row.D.Denot → Type 0 = λ o. g.D.Disk.keeps_model o.disk ≡ true → o.torn ≡ None → LeavesOnly g.D.Disk.clock g.D.Disk.left_since o.disk c.write.new.journal.disk (GivesEither o.world (fold o.world steps)) in
+    subst P c.self.view_is (λ k none. c.write.ensures.any_moment steps k (c.self.invariant.holds k none) takes)
+
+pub invariant_of-self-then-eq : goal.invariant_of-self-then-eq
+invariant_of-self-then-eq g c =
+    let w = c.self.inside.world in
+    let steps = c.args.steps.now in
+    let fresh = subst (λ x. AllFresh x x steps) (sym (ap (λ (k : Kept g.row.D.Denot). k.world) c.self.view_is)) c.requires.fresh in
+    let takes = taken w c.count.result c.deref.result.now c.in_ok-body.body.items steps c.count.ensures c.deref.ensures.value c.in_ok-body.ensures.spelled c.in_ok-body.ensures.fits fresh in
+    let next = c.in_ok-take_all.ensures.world ∙ ap (λ x. fold x steps) c.in_ok-next.ensures in
+    let none = none_of c.self.inside.torn c.is_some.result c.is_some.ensures c.if-is_some.false in
+    let device : c.in-Err.fault ≡ Device = search rules in
+    kept_torn g.D.Disk.present g.D.Disk.keeps_model c.write.new.journal w c.take_all.new.world c.self.invariant.legal (c.in-Err.ensures.device (cc))
+    (λ k image is.
+    let before = sym c.write.ensures.model ∙ k in
+    let moments = c.write.ensures.any_moment steps before (c.self.invariant.holds before none) takes in
+    subst (λ x. GivesEither w x image) (sym next) (moments.each image (g.met.D.Disk.counts_now c.write.new.journal.disk (g.D.Disk.clock c.self.inside.journal.disk) image k moments.later is)))
+
+pub invariant_of-self-else-eq : goal.invariant_of-self-else-eq
+invariant_of-self-else-eq g c =
+    let none = none_of c.self.inside.torn c.is_some.result c.is_some.ensures c.if-is_some.false in
+    let other : c.in-Err.fault ≢ Device = search rules in
+    kept_on g.D.Disk.present g.D.Disk.keeps_model c.write.new.journal c.self.inside.world c.self.inside.torn none c.self.invariant.legal (c.in-Err.ensures.still other)
+    (λ k. let before = sym c.write.ensures.model ∙ k in c.in-Err.ensures.held before (c.self.invariant.holds before none) other)
+
+pub returns-clause-any_moment : goal.returns-clause-any_moment
+returns-clause-any_moment g c =
+    let steps = c.args.steps.now in
+    let fresh = subst (λ x. AllFresh x x steps) (sym (ap (λ (k : Kept g.row.D.Denot). k.world) c.self.view_is)) c.requires.fresh in
+    let takes = taken c.self.inside.world c.count.result c.deref.result.now c.in_ok-body.body.items steps c.count.ensures c.deref.ensures.value c.in_ok-body.ensures.spelled c.in_ok-body.ensures.fits fresh in
+    let disk : c.write.new.journal.disk ≡ c.if-eq.self.disk = elim c.if-eq.branch [ then-eq w ↦ sym (ap (λ (k : Kept g.row.D.Denot). k.disk) w.self-is) | else-eq w ↦ sym (ap (λ (k : Kept g.row.D.Denot). k.disk) w.self-is) ] in
+    let P : Kept g.row.D.Denot → Type 0 = λ o. g.D.Disk.keeps_model o.disk ≡ true → o.torn ≡ None → LeavesOnly g.D.Disk.clock g.D.Disk.left_since o.disk c.if-eq.self.disk (GivesEither o.world (fold o.world steps)) in
+    subst P c.self.view_is (λ k none. subst (λ d. LeavesOnly g.D.Disk.clock g.D.Disk.left_since c.self.inside.journal.disk d (GivesEither c.self.inside.world (fold c.self.inside.world steps))) disk (c.write.ensures.any_moment steps k (c.self.invariant.holds k none) takes))

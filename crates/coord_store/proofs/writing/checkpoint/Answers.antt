@@ -1,0 +1,27 @@
+use Rattle.std.proofs.Common.{refl, ◌∙◌}
+use Rattle.coord_disk.proofs.MomentLemmas.{started, weaker}
+use Rattle.coord_journal.specs.Text.{without_batch}
+use Rattle.coord_store.specs.Kept.{IsOnlyWorld}
+use Rattle.coord_store.proofs.Holding.{image_gives, replacing_gives, snapshot_gives}
+use Rattle.coord_store.proofs.writing.checkpoint.Goals as goal
+
+pub returns-in-Err-clause-any_moment : goal.returns-in-Err-clause-any_moment
+returns-in-Err-clause-any_moment g c k holds =
+    started g.D.Disk.clock g.D.Disk.left_since _ (IsOnlyWorld c.args.world.now) (λ image left. image_gives g.D.Disk.present g.D.Disk.keeps_model c.args.journal.now c.args.world.now holds image (g.met.D.Disk.only_now c.args.journal.now.disk image k left))
+
+pub returns-in-Ok-replace-clause-any_moment : goal.returns-in-Ok-replace-clause-any_moment
+returns-in-Ok-replace-clause-any_moment g c k holds =
+    let new = snapshot_gives 1 c.deref.result.now c.args.world.now refl c.ranges-2.ensures c.requires.legal (c.deref.ensures.value ∙ c.in-Ok.ensures.spelled) in
+    weaker g.D.Disk.clock g.D.Disk.left_since _ _ _ _ (c.replace.ensures.any_moment holds.content k holds.ready) (replacing_gives holds.content (without_batch 1 c.deref.result.now) c.args.world.now holds.gives new)
+
+pub returns-in-Ok-replace-clause-done : goal.returns-in-Ok-replace-clause-done
+returns-in-Ok-replace-clause-done g c k holds = record {
+  content = without_batch 1 c.deref.result.now;
+  ready = c.in-Ok-replace.ensures.done holds.content k holds.ready;
+  gives = snapshot_gives 1 c.deref.result.now c.args.world.now refl c.ranges-2.ensures c.requires.legal (c.deref.ensures.value ∙ c.in-Ok.ensures.spelled);
+}
+
+pub returns-clause-any_moment : goal.returns-clause-any_moment
+returns-clause-any_moment g c k holds =
+    let new = snapshot_gives 1 c.deref.result.now c.args.world.now refl c.ranges-2.ensures c.requires.legal (c.deref.ensures.value ∙ c.in-Ok.ensures.spelled) in
+    weaker g.D.Disk.clock g.D.Disk.left_since _ _ _ _ (c.replace.ensures.any_moment holds.content k holds.ready) (replacing_gives holds.content (without_batch 1 c.deref.result.now) c.args.world.now holds.gives new)

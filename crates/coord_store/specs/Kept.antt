@@ -1,0 +1,48 @@
+-- A store: what its disk's images give.
+use Rattle.std.specs.Prelude.{◌≡◌, ◌⊎◌, ℕ, Bool, true, List, Option, Some, None, is_some}
+use Rattle.coord_disk.specs.Model.Present.{Present, IsImage}
+use Rattle.coord_journal.specs.Journal.{IsReady, disk_of, has_stopped as journal_has_stopped}
+use Rattle.coord_journal.specs.Text.{Content}
+use Rattle.coord_journal.specs.declared.journal.Journal.{Journal}
+use Rattle.coord_world.specs.protocol.Legal.{Legal}
+use Rattle.coord_world.specs.protocol.NumberedWorld.{World}
+use Rattle.coord_store.specs.Recovered.{Gives, Recovered}
+
+-- its disk, its world, and the world that a torn commit was to make
+pub record Kept (D : Type 0) : Type 0 where
+  pub disk : D
+  pub world : World
+  pub torn : Option World
+
+-- whether a commit was torn: then each later one is refused
+abbrev pub has_stopped : {D : Type 0} → Kept D → Bool
+has_stopped kept = is_some kept.torn
+
+-- these bytes give one of two worlds
+abbrev pub GivesEither : World → World → List ℕ → Type 0
+GivesEither v w bytes = Recovered bytes v ⊎ Recovered bytes w
+
+-- these bytes give the store's world, or after a torn commit perhaps the one that it was to make
+abbrev pub GivesKept : {D : Type 0} → Kept D → List ℕ → Type 0
+GivesKept kept bytes = Recovered bytes kept.world ⊎ ((w : World) × (kept.torn ≡ Some w) × Recovered bytes w)
+
+-- so does each image of its disk
+abbrev pub ImagesGive : {D : Type 0} → (D → Present) → Kept D → Type 0
+ImagesGive present kept = (image : List ℕ) → IsImage (present kept.disk) image → GivesKept kept image
+
+-- the journal is ready, and its content gives this world
+pub record Holds {D : Type 0} (present : D → Present) (journal : Journal D) (w : World) : Type 0 where
+  pub content : Content
+  pub ready : IsReady present journal content
+  pub gives : Gives content w
+
+-- what the type of a store keeps of its parts
+pub record IsKept {D : Type 0} (present : D → Present) (keeps_model : D → Bool) (journal : Journal D) (world : World) (torn : Option World) : Type 0 where
+  pub legal : Legal world
+  pub stopped : journal_has_stopped journal ≡ is_some torn
+  pub holds : keeps_model (disk_of journal) ≡ true → torn ≡ None → Holds present journal world
+  pub images : keeps_model (disk_of journal) ≡ true → ImagesGive present (record { disk = disk_of journal; world = world; torn = torn })
+
+-- these bytes give this world
+abbrev pub IsOnlyWorld : World → List ℕ → Type 0
+IsOnlyWorld w bytes = Recovered bytes w

@@ -1,0 +1,5 @@
+pub mod Faults
+pub mod Kept
+pub mod Laws
+pub mod Recovered
+pub mod Refused

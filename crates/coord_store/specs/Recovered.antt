@@ -1,0 +1,52 @@
+-- The world that the bytes of a device give.
+use Rattle.std.specs.Prelude.{◌≡◌, ℕ, ◌+◌, List, [], ◌∷◌}
+use Rattle.coord_types.specs.declared.steps.Step.{Step}
+use Rattle.coord_batch.specs.Batches.{IsBatch, pair}
+use Rattle.coord_batch.specs.Steps.{batch}
+use Rattle.coord_codec.specs.Worlds.{world}
+use Rattle.coord_journal.specs.Text.{Content, IsText}
+use Rattle.coord_world.specs.protocol.Acceptance.{IsFresh}
+use Rattle.coord_world.specs.protocol.Legal.{Legal}
+use Rattle.coord_world.specs.protocol.Next.{next, fold}
+use Rattle.coord_world.specs.protocol.NumberedWorld.{World}
+use Rattle.coord_world.specs.protocol.Rows.{rows_of}
+use Rattle.coord_world.specs.protocol.Ranges.{InRange}
+
+-- each step is fresh over the one before it, with one world settled for all of them
+abbrev pub AllFresh : World → World → List Step → Type 0
+AllFresh settled w [] = Unit {0}
+AllFresh settled w (s ∷ steps) = IsFresh w settled s × AllFresh settled (next w s) steps
+
+-- the body spells these steps, numbered from the world's next one on
+pub record IsBody (w : World) (body : List ℕ) (steps : List Step) : Type 0 where
+  pub numbered : IsBatch (w.count + 1) steps
+  pub spelled : body ≡ batch.text (pair (w.count + 1) steps)
+
+-- the world takes the steps that the body spells, itself settled for all of them
+pub record Takes (w : World) (body : List ℕ) (steps : List Step) : Type 0 where
+  pub spells : IsBody w body steps
+  pub fresh : AllFresh w w steps
+
+-- batch by batch, from one world to another
+abbrev pub Replays : World → List (List ℕ) → World → Type 0
+Replays w [] v = w ≡ v
+Replays w (body ∷ bodies) v = (steps : List Step) × Takes w body steps × Replays (fold w steps) bodies v
+
+-- the snapshot spells this world; there is one version of the spelling
+pub record HasSnapshot (content : Content) (w : World) : Type 0 where
+  pub known : content.version ≡ 1
+  pub in_range : InRange w
+  pub spelled : content.snapshot ≡ world.text (rows_of w)
+
+-- the snapshot spells a legal world, from which the batches lead to this one
+pub record Gives (content : Content) (w : World) : Type 0 where
+  pub start : World
+  pub snapshot : HasSnapshot content start
+  pub legal : Legal start
+  pub replays : Replays start content.batches w
+
+-- these bytes are the text of a journal that gives this world
+pub record Recovered (bytes : List ℕ) (w : World) : Type 0 where
+  pub content : Content
+  pub text : IsText content bytes
+  pub gives : Gives content w

@@ -1,0 +1,90 @@
+-- Why the bytes of a device give no world, and which refusal comes first.
+use Rattle.std.specs.Prelude.{◌≡◌, ◌⊎◌, ℕ, ◌<◌, List, ◌∷◌, ◌++◌, length, Some}
+use Rattle.coord_types.specs.declared.steps.Step.{Step}
+use Rattle.coord_check.specs.Faults.{faults, first}
+use Rattle.coord_journal.specs.Faults.{BeginsWithHeader}
+use Rattle.coord_journal.specs.Text.{Content, IsHalfSize, IsText}
+use Rattle.coord_world.specs.protocol.Acceptance.{IsFresh}
+use Rattle.coord_world.specs.protocol.Legal.{Legal}
+use Rattle.coord_world.specs.protocol.Next.{fold}
+use Rattle.coord_world.specs.protocol.NumberedWorld.{World}
+use Rattle.coord_store.specs.Recovered.{AllFresh, HasSnapshot, IsBody, Replays}
+use Rattle.coord_store.specs.declared.faults.StoreFault.{StoreFault}
+use Rattle.coord_store.specs.declared.faults.StoreFault.TheVariants.{OutOfMemory, Device, NotEmpty, HalfSize, NoMagic, BadRecord, BadSnapshot, BadBatch, BadStep, Violated}
+
+-- the world takes so many of the steps, and not the next one
+pub record StopsAt (w : World) (steps : List Step) (index : ℕ) : Type 0 where
+  pub front : List Step
+  pub refused : Step
+  pub rest : List Step
+  pub split : steps ≡ front ++ refused ∷ rest
+  pub number : length front ≡ index
+  pub fresh : AllFresh w w front
+  pub stops : ¬ IsFresh (fold w front) w refused
+
+-- what the world refuses of a batch with this number
+abbrev pub RefusesBatch : World → ℕ → List ℕ → StoreFault → Type 0
+RefusesBatch w n body BadBatch = (steps : List Step) → IsBody w body steps → ⊥
+RefusesBatch w n body (BadStep batch index) = (batch ≡ n) × ((steps : List Step) × IsBody w body steps × StopsAt w steps index)
+RefusesBatch w n body fault = ⊥
+
+-- the batches in front of this one, so many, lead from one world to another
+pub record Reaches (start : World) (bodies : List (List ℕ)) (n : ℕ) (body : List ℕ) (w : World) : Type 0 where
+  pub front : List (List ℕ)
+  pub rest : List (List ℕ)
+  pub split : bodies ≡ front ++ body ∷ rest
+  pub number : length front ≡ n
+  pub replays : Replays start front w
+
+-- the first batch that is refused, counted from 0, and why
+pub record RefusesReplay (start : World) (bodies : List (List ℕ)) (fault : StoreFault) : Type 0 where
+  pub number : ℕ
+  pub body : List ℕ
+  pub reached : World
+  pub reaches : Reaches start bodies number body reached
+  pub refuses : RefusesBatch reached number body fault
+
+-- the snapshot spells no world, or one that is not legal
+abbrev pub RefusesSnapshot : Content → StoreFault → Type 0
+RefusesSnapshot content OutOfMemory = Unit {0}
+RefusesSnapshot content BadSnapshot = (w : World) → HasSnapshot content w → ⊥
+RefusesSnapshot content (Violated violation) = (w : World) × HasSnapshot content w × (first (faults w) ≡ Some violation)
+RefusesSnapshot content fault = ⊥
+
+-- the snapshot spells a legal world, and then a batch is refused
+abbrev pub RefusesBatches : Content → StoreFault → Type 0
+RefusesBatches content fault = (start : World) × HasSnapshot content start × Legal start × RefusesReplay start content.batches fault
+
+-- a journal of this content is refused so
+abbrev pub RefusesContent : Content → StoreFault → Type 0
+RefusesContent content BadBatch = RefusesBatches content BadBatch
+RefusesContent content (BadStep batch index) = RefusesBatches content (BadStep batch index)
+RefusesContent content fault = RefusesSnapshot content fault
+
+abbrev pub RefusesText : List ℕ → StoreFault → Type 0
+RefusesText bytes fault = (content : Content) × IsText content bytes × RefusesContent content fault
+
+-- a device of these bytes is refused so, where it is to be opened; memory and the device may fail anywhere
+abbrev pub RefusesOpen : List ℕ → StoreFault → Type 0
+RefusesOpen bytes OutOfMemory = Unit {0}
+RefusesOpen bytes Device = Unit {0}
+RefusesOpen bytes NoMagic = ¬ BeginsWithHeader bytes
+RefusesOpen bytes BadRecord = BeginsWithHeader bytes × ((content : Content) → IsText content bytes → ⊥)
+RefusesOpen bytes fault = RefusesText bytes fault
+
+-- a device of these bytes is refused so, where a store with halves of this size is to be made on it
+abbrev pub RefusesCreate : List ℕ → ℕ → StoreFault → Type 0
+RefusesCreate bytes half_size OutOfMemory = Unit {0}
+RefusesCreate bytes half_size Device = Unit {0}
+RefusesCreate bytes half_size NotEmpty = 0 < length bytes
+RefusesCreate bytes half_size HalfSize = (length bytes ≡ 0) × ¬ IsHalfSize half_size
+RefusesCreate bytes half_size fault = ⊥
+
+-- want of memory, or a failure of the device
+abbrev pub IsPassing : StoreFault → Type 0
+IsPassing fault = (fault ≡ OutOfMemory) ⊎ (fault ≡ Device)
+
+-- how often the device has failed in a call that is refused so
+abbrev pub failed_in : StoreFault → ℕ
+failed_in Device = 1
+failed_in fault = 0

@@ -1,0 +1,139 @@
+//! Why calls on a store are refused.
+
+ghost use Rattle.std.specs.Prelude.{◌≡◌, Some};
+ghost use Rattle.coord_store.specs.Faults.{commit_name, commit_number, store_name, store_number};
+ghost use Rattle.coord_store.specs.declared.faults.CommitFault.TheVariants.{OutOfMemory as NoMemory};
+ghost use Rattle.coord_store.specs.declared.faults.StoreFault.TheVariants.{OutOfMemory};
+
+use coord_check::Violation;
+use coord_types::NodeId;
+use std::alloc::AllocError;
+use std::error::Error;
+use std::fmt;
+
+/// Why a store was not made or opened.
+#[derive(Clone, Copy, Debug, PartialEq, Eq)]
+pub enum StoreFault {
+    /// No memory was found.
+    OutOfMemory,
+    /// The device failed during the call.
+    Device,
+    /// The device on which a store is to be made is not empty.
+    NotEmpty,
+    /// The size of a half is outside its limits.
+    HalfSize,
+    /// The device does not begin with a journal's header.
+    NoMagic,
+    /// The selected half is cut short, or a length in it is over its limit.
+    BadRecord,
+    /// The snapshot spells no world, or its version is unknown.
+    BadSnapshot,
+    /// A batch spells no steps, or its first number is not the next one.
+    BadBatch,
+    /// A step is not fresh. Both are counted from 0.
+    BadStep { batch: usize, index: usize },
+    /// The world of the snapshot is not legal.
+    Violated(Violation),
+    /// A node is not Ready. No call answers this yet; the number is kept for a change of version.
+    NotQuiet(NodeId),
+}
+
+impl StoreFault {
+    /// From 1 to 11.
+    pub fn number(self) -> u8
+        ensures { result ≡ store_number self }
+    {
+        match self {
+            StoreFault::OutOfMemory => 1,
+            StoreFault::Device => 2,
+            StoreFault::NotEmpty => 3,
+            StoreFault::HalfSize => 4,
+            StoreFault::NoMagic => 5,
+            StoreFault::BadRecord => 6,
+            StoreFault::BadSnapshot => 7,
+            StoreFault::BadBatch => 8,
+            StoreFault::BadStep { batch: _, index: _ } => 9,
+            StoreFault::Violated(_) => 10,
+            StoreFault::NotQuiet(_) => 11,
+        }
+    }
+}
+
+impl fmt::Display for StoreFault {
+    ghost output = { λ fault. Some (store_name fault) };
+
+    fn fmt<W: fmt::Write>(&self, f: &mut fmt::Formatter<W>) -> fmt::Result {
+        f.write_str(match *self {
+            StoreFault::OutOfMemory => "OutOfMemory",
+            StoreFault::Device => "Device",
+            StoreFault::NotEmpty => "NotEmpty",
+            StoreFault::HalfSize => "HalfSize",
+            StoreFault::NoMagic => "NoMagic",
+            StoreFault::BadRecord => "BadRecord",
+            StoreFault::BadSnapshot => "BadSnapshot",
+            StoreFault::BadBatch => "BadBatch",
+            StoreFault::BadStep { batch: _, index: _ } => "BadStep",
+            StoreFault::Violated(_) => "Violated",
+            StoreFault::NotQuiet(_) => "NotQuiet",
+        })
+    }
+}
+
+impl Error for StoreFault {}
+
+impl From<AllocError> for StoreFault {
+    ghost from_gives = { λ _ fault. fault ≡ OutOfMemory };
+
+    fn from(_: AllocError) -> Self {
+        StoreFault::OutOfMemory
+    }
+}
+
+/// Why steps were not committed.
+#[derive(Clone, Copy, Debug, PartialEq, Eq)]
+pub enum CommitFault {
+    /// No memory was found.
+    OutOfMemory,
+    /// The device failed during the call.
+    Device,
+    /// Never answered, since a store makes room by a checkpoint. The number is kept.
+    Full,
+    /// The device has failed before.
+    Stopped,
+    /// The steps were committed before. A store does not answer this itself: whoever holds steps
+    /// for it does.
+    Again,
+}
+
+impl CommitFault {
+    /// From 1 to 5.
+    pub fn number(self) -> u8
+        ensures { result ≡ commit_number self }
+    {
+        self as u8 + 1
+    }
+}
+
+impl fmt::Display for CommitFault {
+    ghost output = { λ fault. Some (commit_name fault) };
+
+    fn fmt<W: fmt::Write>(&self, f: &mut fmt::Formatter<W>) -> fmt::Result {
+        f.write_str(match self {
+            CommitFault::OutOfMemory => "OutOfMemory",
+            CommitFault::Device => "Device",
+            CommitFault::Full => "Full",
+            CommitFault::Stopped => "Stopped",
+            CommitFault::Again => "Again",
+        })
+    }
+}
+
+impl Error for CommitFault {}
+
+impl From<AllocError> for CommitFault {
+    ghost from_gives = { λ _ fault. fault ≡ NoMemory };
+
+    fn from(_: AllocError) -> Self {
+        CommitFault::OutOfMemory
+    }
+}

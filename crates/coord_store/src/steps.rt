@@ -1,0 +1,62 @@
+//! Steps that a world takes, one after the other.
+
+ghost use Rattle.std.specs.Prelude.{◌≡◌, ◌⊎◌, ◌↔◌, ℕ, IsTrue, OnOk, IfErr};
+ghost use Rattle.coord_store.specs.Recovered.{AllFresh};
+ghost use Rattle.coord_store.specs.Refused.{StopsAt};
+ghost use Rattle.coord_store.specs.declared.faults.StoreFault.TheVariants.{OutOfMemory, BadStep};
+ghost use Rattle.coord_world.specs.protocol.Acceptance.{IsFresh};
+ghost use Rattle.coord_world.specs.protocol.Legal.{Legal};
+ghost use Rattle.coord_world.specs.protocol.Next.{fold};
+
+use crate::StoreFault;
+use coord_types::Step;
+use coord_world::{Verdict, World};
+use std::alloc::AllocError;
+
+/// Takes steps, each of them fresh, with the world from before them all as the settled one.
+pub fn take_all(world: &mut World, steps: &[Step]) -> Result<(), AllocError>
+    requires legal { Legal world.old }
+    requires fresh { AllFresh world.old world.old steps.now }
+    ensures world { OnOk result (world.new ≡ fold world.old steps.now) }
+    ensures legal { Legal world.new }
+{
+    for step in steps {
+        world.apply(step)?;
+    }
+    Ok(())
+}
+
+/// Whether the world takes the step, with `settled` as the settled world.
+fn is_fresh(world: &World, settled: &World, step: &Step) -> bool
+    ensures { IsTrue result ↔ IsFresh world.now settled.now step.now }
+{
+    match world.judge(settled, step) {
+        Ok(Verdict::Fresh(_)) => true,
+        Ok(Verdict::Repeat(_)) => false,
+        Err(_) => false,
+    }
+}
+
+/// Takes the steps of a batch with this number, with `settled` as the settled world, which is the
+/// world from before them all.
+pub fn judge_all(
+    world: &mut World,
+    settled: &World,
+    batch: usize,
+    steps: &[Step],
+) -> Result<(), StoreFault>
+    requires same { world.old ≡ settled.now }
+    requires legal { Legal world.old }
+    ensures world { OnOk result (world.new ≡ fold world.old steps.now) }
+    ensures fresh { OnOk result (AllFresh world.old world.old steps.now) }
+    ensures legal { Legal world.new }
+    ensures fault { IfErr result (λ fault. (fault ≡ OutOfMemory) ⊎ ((index : ℕ) × (fault ≡ BadStep batch index) × StopsAt world.old steps.now index)) }
+{
+    for (index, step) in steps.iter().enumerate() {
+        if !is_fresh(world, settled, step) {
+            return Err(StoreFault::BadStep { batch, index });
+        }
+        world.apply(step)?;
+    }
+    Ok(())
+}

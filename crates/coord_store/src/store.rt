@@ -1,0 +1,85 @@
+//! A store: a world, and the disk whose images give it.
+
+ghost use Rattle.std.specs.Prelude.{◌≡◌, true, false, None};
+ghost use Rattle.coord_journal.specs.Journal.{disk_of, has_stopped as journal_has_stopped};
+ghost use Rattle.coord_world.specs.protocol.Legal.{Legal};
+
+mod commit;
+
+use coord_disk::Disk;
+use coord_journal::Journal;
+use coord_world::World;
+use std::alloc::Global;
+use std::marker::Model;
+
+/// A world that outlives the program. Contracts see its disk, its world, and once a commit was
+/// torn by the device, the world that this one was to make (`specs/Kept.antt`). Its type keeps
+/// that each image of the disk gives the world or, after a torn commit, one of both.
+#[derive(Drop)]
+pub struct Store<D: Disk> {
+    alloc: Global,
+    journal: Journal<D>,
+    world: World,
+    torn: Option<World>,
+}
+
+impl<D: Disk> Model for Store<D> {
+    ghost use Rattle.coord_journal.specs.Journal.{disk_of};
+    ghost use Rattle.coord_store.specs.Kept.{IsKept, Kept};
+
+    ghost Value = { Kept D };
+
+    ghost view = { λ s. record { disk = disk_of s.journal; world = s.world; torn = s.torn } };
+
+    ghost invariant = { λ s. IsKept D.present D.keeps_model s.journal s.world s.torn };
+}
+
+impl<D: Disk> Store<D> {
+    ghost use Rattle.coord_store.specs.Kept.{Holds, ImagesGive, has_stopped};
+
+    // Over a journal whose content gives this world.
+    pub(crate) fn over(alloc: Global, journal: Journal<D>, world: World) -> Self
+        requires legal { Legal world }
+        requires going { journal_has_stopped journal ≡ false }
+        requires holds { D.keeps_model (disk_of journal) ≡ true → Holds D.present journal world }
+        ensures disk { result.disk ≡ disk_of journal }
+        ensures world { result.world ≡ world }
+        ensures going { result.torn ≡ None }
+    {
+        Store {
+            alloc,
+            journal,
+            world,
+            torn: None,
+        }
+    }
+
+    /// The world, after the last commit that was not refused.
+    pub fn world(&self) -> &World
+        ensures { result.now ≡ self.now.world }
+    {
+        &self.world
+    }
+
+    /// Whether the device has failed in a commit. Each later commit is refused.
+    pub fn stopped(&self) -> bool
+        ensures { result ≡ has_stopped self.now }
+    {
+        self.torn.is_some()
+    }
+
+    /// Does nothing: its contract is what the type keeps of every store.
+    pub fn images_give_world(&self)
+        ensures legal { Legal self.now.world }
+        ensures images { D.keeps_model self.now.disk ≡ true → ImagesGive D.present self.now }
+    {
+        let _ = &self.world;
+    }
+
+    /// Gives the disk back.
+    pub fn into_disk(self) -> D
+        ensures { result ≡ self.disk }
+    {
+        self.journal.into_disk()
+    }
+}

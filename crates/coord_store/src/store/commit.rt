@@ -1,0 +1,91 @@
+//! Commits.
+
+ghost use Rattle.std.specs.Prelude.{◌≡◌, ◌≢◌, ◌⊎◌, ◌↔◌, ◌+◌, ◌≤◌, true, None, Some, length, IsTrue, OnOk, IfOk, IfErr, IsErrOf};
+ghost use Rattle.std.specs.List.{AllByRecursion};
+ghost use Rattle.coord_batch.specs.Batches.{IsNumbered};
+ghost use Rattle.coord_batch.specs.declared.batch.TheConstants.{MAX_BATCH_STEPS};
+ghost use Rattle.coord_disk.specs.Model.Moments.{LeavesOnly};
+ghost use Rattle.coord_store.specs.Faults.{failures_in};
+ghost use Rattle.coord_store.specs.Kept.{GivesEither, has_stopped};
+ghost use Rattle.coord_store.specs.Recovered.{AllFresh};
+ghost use Rattle.coord_store.specs.declared.faults.CommitFault.TheVariants.{OutOfMemory, Device, Stopped};
+ghost use Rattle.coord_world.specs.protocol.Next.{fold};
+
+use super::Store;
+use crate::steps::{judge_all, take_all};
+use crate::writing::write;
+use crate::{CommitFault, StoreFault};
+use coord_batch::write_batch;
+use coord_disk::Disk;
+use coord_types::Step;
+use std::alloc::AllocError;
+
+impl<D: Disk> Store<D> {
+    /// Whether these steps are fresh, each after those before it, with the world from before them
+    /// all as the settled one. `commit` asks for this.
+    pub fn takes(&self, steps: &[Step]) -> Result<bool, AllocError>
+        ensures { IfOk result (λ takes. IsTrue takes ↔ AllFresh self.now.world self.now.world steps.now) }
+    {
+        let mut next = self.world.copy()?;
+        match judge_all(&mut next, &self.world, 0, steps) {
+            Ok(()) => Ok(true),
+            Err(fault) => {
+                if fault == StoreFault::OutOfMemory {
+                    return Err(AllocError);
+                }
+                Ok(false)
+            }
+        }
+    }
+
+    /// Commits 1 to 256 steps, each fresh after those before it, with the world from before them
+    /// all as the settled one. It takes four calls of the device, or eight where it has to make
+    /// room by a checkpoint first.
+    ///
+    /// `OutOfMemory` may leave that checkpoint made. After `Device` each later call answers
+    /// `Stopped`, and opening the device tells which of both worlds it holds.
+    pub fn commit(&mut self, steps: &[Step]) -> Result<(), CommitFault>
+        requires some { (1 ≤ length steps.now) × (length steps.now ≤ MAX_BATCH_STEPS) }
+        requires numbered { AllByRecursion IsNumbered steps.now }
+        requires fresh { AllFresh self.old.world self.old.world steps.now }
+
+        // A crash at any moment of the call, also inside a checkpoint, leaves what gives the world from before it or from after it.
+        ensures any_moment { D.keeps_model self.old.disk ≡ true → self.old.torn ≡ None
+            → LeavesOnly D.clock D.left_since self.old.disk self.new.disk (GivesEither self.old.world (fold self.old.world steps.now)) }
+
+        // What the store is then: after Device one of both worlds may be on the disk.
+        ensures world { OnOk result (self.new.world ≡ fold self.old.world steps.now) }
+        ensures going { OnOk result (self.new.torn ≡ None) }
+        ensures torn { IsErrOf result CommitFault.Device → self.new.torn ≡ Some (fold self.old.world steps.now) }
+        ensures same_world { IfErr result (λ fault. self.new.world ≡ self.old.world) }
+        ensures unchanged { IfErr result (λ fault. fault ≢ Device → self.new.torn ≡ self.old.torn) }
+        ensures untouched { IsErrOf result CommitFault.Stopped → self.new ≡ self.old }
+
+        // When it is refused.
+        ensures stopped { IsErrOf result CommitFault.Stopped ↔ (has_stopped self.old ≡ true) }
+        ensures fault { IfErr result (λ fault. (fault ≡ Stopped) ⊎ ((fault ≡ OutOfMemory) ⊎ (fault ≡ Device))) }
+        ensures failures { D.failures self.new.disk ≡ D.failures self.old.disk + failures_in result }
+        ensures calls { D.keeps_model self.old.disk ≡ true → D.clock self.new.disk ≤ D.clock self.old.disk + 8 }
+        ensures model { D.keeps_model self.new.disk ≡ D.keeps_model self.old.disk }
+    {
+        if self.torn.is_some() {
+            return Err(CommitFault::Stopped);
+        }
+        self.world.ranges();
+        let mut next = self.world.copy()?;
+        take_all(&mut next, steps)?;
+        let body = write_batch(self.alloc, self.world.count() + 1, steps)?;
+        match write(self.alloc, &mut self.journal, &self.world, &body) {
+            Ok(()) => {
+                self.world = next;
+                Ok(())
+            }
+            Err(fault) => {
+                if fault == CommitFault::Device {
+                    self.torn = Some(next);
+                }
+                Err(fault)
+            }
+        }
+    }
+}
