@@ -6,8 +6,7 @@ use Rattle.coord_types.specs.declared.steps.Step.{Step}
 use Rattle.coord_world.specs.protocol.Acceptance.{IsFresh}
 use Rattle.coord_world.specs.protocol.Next.{fold, next}
 use Rattle.coord_world.specs.protocol.NumberedWorld.{World}
-use Rattle.coord_world.proofs.Fresh.{fresh_count}
-use Rattle.coord_world.proofs.Itself.{itself}
+use Rattle.coord_world.proofs.Facade.{fresh_count, itself}
 use Rattle.coord_store.specs.Recovered.{AllFresh}
 
 -- the one that stands here is

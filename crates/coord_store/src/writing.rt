@@ -4,7 +4,7 @@
 ghost use Rattle.std.specs.Prelude.{◌≡◌, ◌≢◌, ◌⊎◌, ◌+◌, ◌≤◌, true, false, List, length, OnOk, IfErr, IsErrOf};
 ghost use Rattle.coord_disk.specs.Model.Moments.{LeavesOnly};
 ghost use Rattle.coord_journal.specs.Faults.{IsWriteFault};
-ghost use Rattle.coord_journal.specs.Journal.{Fits, disk_of, has_stopped};
+ghost use Rattle.coord_journal.specs.Journal.{HasRoomFor, disk_of, has_stopped};
 ghost use Rattle.coord_journal.specs.declared.layout.TheConstants.{MAX_BODY};
 ghost use Rattle.coord_store.specs.Faults.{commit_fault_of, failures_in};
 ghost use Rattle.coord_store.specs.Kept.{GivesEither, Holds, IsOnlyWorld};
@@ -49,7 +49,7 @@ fn checkpoint<D: Disk>(
     ensures any_moment { D.keeps_model (disk_of journal.old) ≡ true → Holds D.present journal.old world.now
         → LeavesOnly D.clock D.left_since (disk_of journal.old) (disk_of journal.new) (IsOnlyWorld world.now) }
     ensures done { D.keeps_model (disk_of journal.old) ≡ true → Holds D.present journal.old world.now → OnOk result (Holds D.present journal.new world.now) }
-    ensures fits { OnOk result (Fits journal.new MAX_BODY) }
+    ensures fits { OnOk result (HasRoomFor journal.new MAX_BODY) }
     ensures going { OnOk result (has_stopped journal.new ≡ false) }
     ensures fault { IfErr result (λ fault. (fault ≡ OutOfMemory) ⊎ (fault ≡ Device)) }
     ensures unchanged { IfErr result (λ fault. fault ≢ Device → journal.new ≡ journal.old) }
@@ -72,7 +72,7 @@ fn checkpoint<D: Disk>(
 /// Appends a batch of which the body fits.
 fn append<D: Disk>(journal: &mut Journal<D>, body: &[u8]) -> Result<(), CommitFault>
     requires short { length body.now ≤ MAX_BODY }
-    requires fits { Fits journal.old (length body.now) }
+    requires fits { HasRoomFor journal.old (length body.now) }
     requires going { has_stopped journal.old ≡ false }
     ensures any_moment { (w : Numbered) (steps : List Taken) → D.keeps_model (disk_of journal.old) ≡ true → Holds D.present journal.old w → Takes w body.now steps
         → LeavesOnly D.clock D.left_since (disk_of journal.old) (disk_of journal.new) (GivesEither w (fold w steps)) }

@@ -3,7 +3,7 @@
 ghost use Rattle.std.specs.Prelude.{◌≡◌, ◌≢◌, ◌⊎◌, ◌↔◌, ◌+◌, ◌≤◌, true, None, Some, length, IsTrue, OnOk, IfOk, IfErr, IsErrOf};
 ghost use Rattle.std.specs.List.{AllByRecursion};
 ghost use Rattle.coord_batch.specs.Batches.{IsNumbered};
-ghost use Rattle.coord_batch.specs.declared.batch.TheConstants.{MAX_BATCH_STEPS};
+ghost use Rattle.coord_types.specs.declared.limits.TheConstants.{MAX_BATCH_STEPS};
 ghost use Rattle.coord_disk.specs.Model.Moments.{LeavesOnly};
 ghost use Rattle.coord_store.specs.Faults.{failures_in};
 ghost use Rattle.coord_store.specs.Kept.{GivesEither, has_stopped};
