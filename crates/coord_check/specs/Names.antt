@@ -1,7 +1,8 @@
--- The letters as they are printed.
-use Rattle.std.specs.Prelude.{ℕ, List, codes}
+-- Letters and violations as they are printed.
+use Rattle.std.specs.Prelude.{ℕ, List, ◌++◌, codes, decimal}
 use Rattle.coord_check.specs.declared.violation.Letter.{Letter}
 use Rattle.coord_check.specs.declared.violation.Letter.TheVariants as letter
+use Rattle.coord_check.specs.declared.violation.Violation.{Violation}
 
 abbrev pub letter_name : Letter → List ℕ
 letter_name letter.N = codes "N"
@@ -12,3 +13,7 @@ letter_name letter.D = codes "D"
 letter_name letter.E = codes "E"
 letter_name letter.F = codes "F"
 letter_name letter.G = codes "G"
+
+-- the two nodes, and the letter that fails there
+abbrev pub violation_text : Violation → List ℕ
+violation_text v = decimal v.a ++ (codes " " ++ (decimal v.b ++ (codes " " ++ letter_name v.letter)))

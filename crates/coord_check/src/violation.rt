@@ -45,6 +45,10 @@ impl Letter {
 }
 
 impl fmt::Display for Letter {
+    ghost use Rattle.std.specs.Prelude.{Some};
+
+    ghost output = { λ letter. Some (letter_name letter) };
+
     fn fmt<W: fmt::Write>(&self, f: &mut fmt::Formatter<W>) -> fmt::Result {
         f.write_str(self.name())
     }
@@ -59,8 +63,15 @@ pub struct Violation {
 }
 
 impl fmt::Display for Violation {
+    ghost use Rattle.std.specs.Prelude.{Some};
+    ghost use Rattle.coord_check.specs.Names.{violation_text};
+
+    ghost output = { λ violation. Some (violation_text violation) };
+
     fn fmt<W: fmt::Write>(&self, f: &mut fmt::Formatter<W>) -> fmt::Result {
-        let (a, b) = (self.a.number(), self.b.number());
-        write!(f, "{a} {b} {}", self.letter)
+        let a = self.a.number();
+        let b = self.b.number();
+        let letter = self.letter.name();
+        write!(f, "{a} {b} {letter}")
     }
 }

@@ -7,7 +7,7 @@ use Rattle.coord_types.specs.declared.refusals.Refusal.{Refusal}
 use Rattle.coord_types.specs.declared.outputs.Output.{Output}
 use Rattle.coord_types.specs.declared.outputs.Output.TheVariants.{Receipted, Signalled, Sent}
 use Rattle.coord_world.specs.protocol.NumberedWorld.{World}
-use Rattle.coord_check.specs.Names.{letter_name}
+use Rattle.coord_check.specs.Names.{violation_text}
 use Rattle.coord_check.specs.declared.violation.Violation.{Violation}
 use Rattle.coord_drill.specs.declared.request.Request.{Request}
 use Rattle.coord_drill.specs.Drill.{Said, Settled, Kept, Refused, Idle, Resent, Checked, said_to, after}
@@ -31,7 +31,7 @@ output_lines os = flat_map output_line os
 
 abbrev pub fault_line : Option Violation → List ℕ
 fault_line None = codes "legal\n"
-fault_line (Some v) = codes "violated " ++ (decimal v.a ++ (codes " " ++ (decimal v.b ++ (codes " " ++ (letter_name v.letter ++ codes "\n")))))
+fault_line (Some v) = codes "violated " ++ (violation_text v ++ codes "\n")
 
 -- a reply stands before what is given out after it
 abbrev pub said_lines : Said → List ℕ

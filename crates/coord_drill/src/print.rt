@@ -47,12 +47,7 @@ fn print_fault(text: &mut String, fault: Option<Violation>) -> Result<(), AllocE
 {
     match fault {
         None => text.push_str("legal\n"),
-        Some(violation) => {
-            let a = violation.a.number();
-            let b = violation.b.number();
-            let letter = violation.letter.name();
-            writeln!(text, "violated {a} {b} {letter}")
-        }
+        Some(violation) => writeln!(text, "violated {violation}"),
     }
 }
 
