@@ -14,14 +14,17 @@ use Rattle.coord_drill.specs.Grammar.{is_space, words_of}
 abbrev pub IsPlain : Word → Type 0
 IsPlain w = position_or_len is_space w ≡ length w
 
+-- words that hold no space
 abbrev pub ArePlain : List Word → Type 0
 ArePlain [] = Unit {0}
 ArePlain (w ∷ ws) = IsPlain w × ArePlain ws
 
+-- such words behind such words
 ArePlain-append : (ws vs : List Word) → ArePlain ws → ArePlain vs → ArePlain (ws ++ vs)
 ArePlain-append [] vs p q = q
 ArePlain-append (w ∷ ws) vs p q = (p.0, ArePlain-append ws vs p.1 q)
 
+-- no byte of such a word is a space
 no_space : (w : Word) → IsPlain w → All (λ b. is_space b ≡ false) w
 no_space w plain k d below = fails_before_first is_space w k d (omega arith)
 
@@ -37,6 +40,7 @@ pub record IsFormat {A : Type 0} (f : Format A) : Type 0 where
   pub again : (x : A) (ws rest : List Word) → f.spell x ≡ Some ws → f.read (ws ++ rest) ≡ Some (x, rest)
   pub plain : (x : A) (ws : List Word) → f.spell x ≡ Some ws → ArePlain ws
 
+-- a field, where each word that is spelled is read so and holds no space
 module _ {A : Type 0} (word_of : A → Option Word) (of_word : Word → Option A) (h : (x : A) (w : Word) → word_of x ≡ Some w → (of_word w ≡ Some x) × IsPlain w) where
   field_again : (x : A) (ws rest : List Word) (o : Option Word) → word_of x ≡ o → (o >>= λ w. Some (w ∷ [])) ≡ Some ws → read_word of_word (ws ++ rest) ≡ Some (x, rest)
   field_again x ws rest None e f = absurd cc
@@ -51,12 +55,14 @@ module _ {A : Type 0} (word_of : A → Option Word) (of_word : Word → Option A
   pub field_format : IsFormat (field word_of of_word)
   field_format = record { again = λ x ws rest e. field_again x ws rest _ refl e; plain = λ x ws e. field_plain x ws _ refl e }
 
+-- no word
 pub nothing_format : IsFormat nothing
 nothing_format = record {
   again = λ x ws rest e. let none : [] ≡ ws = cc in subst (λ v. nothing.read (v ++ rest) ≡ Some (x, rest)) none refl;
   plain = λ x ws e. let none : [] ≡ ws = cc in subst ArePlain none tt;
 }
 
+-- one after the other
 module _ {A B : Type 0} (f : Format A) (g : Format B) (first : IsFormat f) (second : IsFormat g) where
   and_again : (p : A × B) (ws rest : List Word) (o : Option (List Word)) (u : Option (List Word)) → f.spell p.0 ≡ o → g.spell p.1 ≡ u → (o >>= λ us. u >>= λ vs. Some (us ++ vs)) ≡ Some ws → (f & g).read (ws ++ rest) ≡ Some (p, rest)
   and_again p ws rest None u e1 e2 e = absurd cc
@@ -77,6 +83,7 @@ module _ {A B : Type 0} (f : Format A) (g : Format B) (first : IsFormat f) (seco
   pub and_format : IsFormat (f & g)
   and_format = record { again = λ p ws rest e. and_again p ws rest _ _ refl refl e; plain = λ p ws e. and_plain p ws _ _ refl refl e }
 
+-- a value by its parts, where it is made of the parts that it gives
 module _ {A B : Type 0} (make : A → B) (parts : B → Option A) (f : Format A) (format : IsFormat f) (h : (y : B) (x : A) → parts y ≡ Some x → make x ≡ y) where
   made_again : (y : B) (ws rest : List Word) (o : Option A) → parts y ≡ o → (o >>= f.spell) ≡ Some ws → (made make parts f).read (ws ++ rest) ≡ Some (y, rest)
   made_again y ws rest None e1 e = absurd cc
@@ -119,6 +126,7 @@ pub record Found (A : Type 0) (rows : List (Row A)) (x : A) (ws rest : List Word
 same_bytes : (w : Word) → bytes_eq w w ≡ true
 same_bytes w = (bytes_eq-Decides w w).1 refl
 
+-- a spelling by a table is of one of its rows, whose verb reads it
 module _ {A : Type 0} where
   found_later : (r : Row A) (rs : List (Row A)) (x : A) (ws rest : List Word) → is_other r rs ≡ true → Found A rs x ws rest → Found A (r ∷ rs) x ws rest
   found_later r rs x ws rest others f = record {

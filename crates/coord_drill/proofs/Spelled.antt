@@ -43,6 +43,7 @@ decimal_is n below =
     let digits : all_ascii_digits (decimal n) ≡ true = (numerals_by_value _ tells_all_ascii_digits).from (decimal n) numeral.0.1 in
     (number_is (decimal n) n digits numeral.0.0 numeral.1 below, digits_plain (decimal n) digits)
 
+-- a number of 64 bits
 number_agrees : (n : ℕ) (w : Word) (t : Bool) → ltb n (2 ^ 64) ≡ t → cond t (Some (decimal n)) None ≡ Some w → (number_of w ≡ Some n) × IsPlain w
 number_agrees n w true e f = let same : decimal n ≡ w = cc in subst (λ v. (number_of v ≡ Some n) × IsPlain v) same (decimal_is n (grind (arith, nat_tests)))
 number_agrees n w false e f = absurd cc
@@ -51,6 +52,7 @@ number_format : IsFormat number
 unfolding number
 number_format = field_format _ _ (λ n w e. number_agrees n w _ refl e)
 
+-- a number from 1 to another one
 number_to_agrees : (most n : ℕ) (w : Word) → most < 2 ^ 64 → (t : Bool) → (leb 1 n && leb n most) ≡ t → (cond t (Some n) None >>= λ m. Some (decimal m)) ≡ Some w → ((number_of w >>= up_to most) ≡ Some n) × IsPlain w
 number_to_agrees most n w low true e f =
     let same : decimal n ≡ w = cc in
@@ -80,6 +82,7 @@ message_is msg.Abort = (refl, refl)
 message_is msg.Ack = (refl, refl)
 message_is msg.Ready = (refl, refl)
 
+-- a message
 message_agrees : (m : Msg) (w : Word) → Some (msg_name m) ≡ Some w → (message_of w ≡ Some m) × IsPlain w
 message_agrees m w e = let same : msg_name m ≡ w = cc in subst (λ v. (message_of v ≡ Some m) × IsPlain v) same (message_is m)
 
@@ -128,6 +131,7 @@ confirm_parts : (y : Command) (x : ℕ × ℕ) → (elim y [ Confirm u e ↦ Som
 confirm_parts (Confirm u n) x e = made_of (λ p. Confirm p.0 p.1) (u, n) x e
 confirm_parts _ x e = absurd cc
 
+-- the verbs of commands differ, and each row is read as it is spelled
 commands_table : IsTable commands
 unfolding commands
 commands_table = (
@@ -164,6 +168,7 @@ next_parts : (y : Request) (x : Command) → (elim y [ Next c ↦ Some c | _ ↦
 next_parts (Next c) x e = made_of Next c x e
 next_parts _ x e = absurd cc
 
+-- these rows keep their verbs
 next_row-is_other : (r : Row Command) (rows : List (Row Command)) → is_other (next_row r) (map next_row rows) ≡ is_other r rows
 next_row-is_other r [] = refl
 next_row-is_other r (s ∷ ss) = ap (λ b. not (bytes_eq s.verb r.verb) && b) (next_row-is_other r ss)
@@ -216,6 +221,7 @@ check_parts : (y : Request) (x : Unit {0}) → (elim y [ Check ↦ Some tt | _ �
 check_parts Check x e = refl
 check_parts _ x e = absurd cc
 
+-- so do those of requests
 requests_table : IsTable requests
 unfolding other_requests commands
 requests_table = (
