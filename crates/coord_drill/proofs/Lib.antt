@@ -1,6 +1,7 @@
 mod FirstParts
+mod Formats
 mod NextRows
 mod NoText
-pub mod Spelled
+mod Spelled
 mod Taken
 mod WordsOf
