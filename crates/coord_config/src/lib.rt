@@ -21,6 +21,3 @@ mod values;
 pub use fault::ConfigFault;
 pub use reading::read_topology;
 pub use topology::{LinkEntry, NodeEntry, Topology};
-
-#[cfg(test)]
-mod tests;

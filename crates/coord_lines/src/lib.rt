@@ -8,4 +8,4 @@ mod laws;
 mod line_buffer;
 
 pub use laws::pieces_have_the_lines_of_the_whole;
-pub use line_buffer::{LINE_LEN, LineBuffer};
+pub use line_buffer::LineBuffer;

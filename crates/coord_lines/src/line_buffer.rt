@@ -5,17 +5,15 @@ ghost use Rattle.std.specs.Option.{option_copied};
 ghost use Rattle.std.specs.List.{position};
 ghost use Rattle.coord_lines.specs.Lines.{is_line_feed, extended, IsWithin, before_line_feed, behind_line_feed};
 
+use coord_types::MAX_LINE_BYTES;
 use std::marker::Model;
-
-/// The most bytes of a line, its line feed not counted.
-pub const LINE_LEN: usize = 512;
 
 const LINE_FEED: u8 = b'\n';
 
-/// The bytes of a line so far. Contracts see them, or None once there are more than `LINE_LEN`.
+/// The bytes of a line so far. Contracts see them, or None once there are more than `MAX_LINE_BYTES`.
 #[derive(Drop)]
 pub struct LineBuffer {
-    bytes: [u8; LINE_LEN],
+    bytes: [u8; MAX_LINE_BYTES],
     len: usize,
     is_long: bool,
 }
@@ -36,7 +34,7 @@ impl LineBuffer {
         ensures { result ≡ Some [] }
     {
         LineBuffer {
-            bytes: [0; LINE_LEN],
+            bytes: [0; MAX_LINE_BYTES],
             len: 0,
             is_long: false,
         }
@@ -84,7 +82,7 @@ impl LineBuffer {
     fn extend(&mut self, more: &[u8])
         ensures { self.new ≡ extended self.old more.now }
     {
-        if more.len() <= LINE_LEN - self.len {
+        if more.len() <= MAX_LINE_BYTES - self.len {
             let end = self.len + more.len();
             self.bytes[self.len..end].copy_from_slice(more);
             self.len = end;
