@@ -1,6 +1,6 @@
 //! The file of the format's page, and an answer of each kind, as they come out when the call runs.
 
-use coord_config::{Topology, read_topology};
+use coord_config::{ConfigFault, Topology, read_topology};
 use std::alloc::Global;
 use std::test::Fail;
 
