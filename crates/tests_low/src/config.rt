@@ -29,11 +29,13 @@ fn is_of_file(topology: &Topology) -> bool {
     topology.half == 32_768 && nodes.eq([(1, 1), (2, 1)]) && links.eq([(1, 2)])
 }
 
-/// The number of the fault that the text is answered with, 0 where there is none.
-fn fault_of(alloc: Global, text: &str) -> u8 {
+/// The number of the fault that the text is answered with, 0 where there is none. Want of memory
+/// says nothing of the text.
+fn fault_of(alloc: Global, text: &str) -> Result<u8, ConfigFault> {
     match read_topology(alloc, text) {
-        Ok(_) => 0,
-        Err(fault) => fault.number(),
+        Ok(_) => Ok(0),
+        Err(ConfigFault::OutOfMemory) => Err(ConfigFault::OutOfMemory),
+        Err(fault) => Ok(fault.number()),
     }
 }
 
@@ -45,7 +47,7 @@ fn the_file_is_read(rt: HostRuntime) -> Result<(), Fail> {
 }
 
 #[test]
-fn texts_are_answered(rt: HostRuntime) {
+fn texts_are_answered(rt: HostRuntime) -> Result<(), Fail> {
     for (text, number) in [
         ("", 0),
         ("half = 65536 # the usual size\r\nnode = []\r\n", 0),
@@ -73,16 +75,17 @@ fn texts_are_answered(rt: HostRuntime) {
         ("half = 032768", 2),
         ("half 32768", 2),
     ] {
-        assert_eq!(rt; fault_of(rt.alloc(), text), number, "{text}");
+        assert_eq!(rt; fault_of(rt.alloc(), text)?, number, "{text}");
     }
+    Ok(())
 }
 
 #[test]
 fn long_texts_are_no_toml(rt: HostRuntime) -> Result<(), Fail> {
     let most = " ".repeat(rt.alloc(), 65_536)?;
-    assert_eq!(rt; fault_of(rt.alloc(), &most), 0);
+    assert_eq!(rt; fault_of(rt.alloc(), &most)?, 0);
     let more = " ".repeat(rt.alloc(), 65_537)?;
-    assert_eq!(rt; fault_of(rt.alloc(), &more), 2);
+    assert_eq!(rt; fault_of(rt.alloc(), &more)?, 2);
     Ok(())
 }
 
