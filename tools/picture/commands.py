@@ -7,8 +7,14 @@ from collections import deque
 FOLLOWS = ("receipt", "signal", "data", "node", "link")
 # These print no line of their own, or any number of lines that follow.
 UNANSWERED = ("hold", "version", "resend")
-REPLIES = {"reset": ("started", "finished", "joined"), "take": ("taken",), "data": ("taken",),
-           "clear": ("cleared",), "receipt": ("cleared",)}
+# What each kind of reply answers; a pending step may be any.
+ANSWERED = {
+    "done": r"(?:add|join|drop|confirm) \d+ \d+|remove \d+",
+    "started": r"reset \d+", "finished": r"reset \d+", "joined": r"reset \d+",
+    "taken": r"take \d+ \d+|data(?: \d+){4} \w+(?: \d+)?",
+    "cleared": r"clear \d+ \d+|receipt(?: \d+){4}",
+}
+ANSWERED["pending"] = "|".join(ANSWERED.values())
 
 
 class OtherRun(Exception):
@@ -40,9 +46,9 @@ def skip_flight(answers):
 
 def note(commands, number, words, answer):
     """Notes the step that line `number` of the input made, where it made one."""
-    match = re.fullmatch(r"(pending|done|started|finished|joined|taken|cleared) (\d+)", answer)
-    if not match:
+    kind, _, step = answer.partition(" ")
+    if kind not in ANSWERED or not step.isdigit():
         return
-    if match[1] not in ("pending", *REPLIES.get(words[0], ("done",))):
+    if not re.fullmatch(ANSWERED[kind], " ".join(words)):
         raise OtherRun(f"line {number}, {' '.join(words)!r}, is not what {answer!r} answers")
-    commands[int(match[2])] = words
+    commands[int(step)] = words

@@ -101,6 +101,7 @@ class Wave:
             self.drop(int(words[1]), int(words[2]))
 
     def ask(self, node):
+        self.nodes.add(node)
         self.column.cells[node].asked = True
         if self.column.kind == "started":
             self.column.modes[node] = "reached"
@@ -111,6 +112,7 @@ class Wave:
             self.ask(node)
 
     def drop(self, a, b):
+        self.nodes.update((a, b))
         for sender, receiver in ((a, b), (b, a)):
             self.column.cells[sender].dropped = True
             self.lose(self.lanes.pop((sender, receiver), None))

@@ -109,7 +109,7 @@ def arrow(message, at):
     style = f'class="{message.kind}" stroke="{COLOURS[message.kind]}" stroke-width="2"'
     if not message.taken:
         return line(x1, y1, (x1 + x2) / 2, (y1 + y2) / 2, style + ' stroke-dasharray="3 4"')
-    length = hypot(x2 - x1, y2 - y1)
+    length = hypot(x2 - x1, y2 - y1) or 1
     dx, dy = (x2 - x1) / length, (y2 - y1) / length
     return line(x1 + 6 * dx, y1 + 6 * dy, x2 - 8 * dx, y2 - 8 * dy, f'{style} marker-end="url(#{message.kind})"')
 
