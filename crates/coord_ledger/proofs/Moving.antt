@@ -19,7 +19,7 @@ use Rattle.coord_ledger.specs.declared.events.Event.{Event}
 use Rattle.coord_ledger.specs.declared.events.Event.TheVariants.{Submit, Begin, Commit, Finish, Collect, Resend, Show, Crash}
 use Rattle.coord_ledger.specs.declared.mark.Mark.{Mark}
 use Rattle.coord_ledger.specs.declared.mark.Mark.TheVariants.{New, Good, Torn}
-use Rattle.coord_ledger.specs.laws.Moving.{CrashReopens, MovedAnswersAlike, MovedGoesOn, is_crash, with_base_moved}
+use Rattle.coord_ledger.specs.laws.Moving.{CrashReopens, MovedAnswersAlike, MovedGoesOn, with_base_moved}
 use Rattle.coord_ledger.specs.machine.After.{after, after_finish, after_submit, crashed, finished, releases_of, resent}
 use Rattle.coord_ledger.specs.machine.Answers.{answers, kept_by, kept_with, most_in_flight, ticket, to_collect, to_commit, to_finish, to_submit, stays_home, next_size, verdict_on, with_flight}
 use Rattle.coord_ledger.specs.machine.Consistent.{IsConsistent, IsConsistentLog}
@@ -27,6 +27,7 @@ use Rattle.coord_ledger.specs.machine.Log.{Log, accepted_count, moved, pending, 
 use Rattle.coord_ledger.specs.machine.Machine.{FlightOut, Machine, has_stopped}
 use Rattle.coord_ledger.specs.machine.Shown.{shown}
 use Rattle.coord_ledger.specs.machine.Submits.{most_pending, unless_full, verdict}
+use Rattle.coord_ledger.specs.promises.Headline.{is_crash}
 use Rattle.coord_ledger.proofs.Lists.{each_one}
 use Rattle.coord_ledger.proofs.Logs.{moved_accepted, moved_count, moved_front, moved_pending, moved_settled, none_behind}
 

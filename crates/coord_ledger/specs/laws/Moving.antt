@@ -1,13 +1,13 @@
 -- A base that moves: after a crash a ledger begins a new base, and answers as if it had kept the old one.
-use Rattle.std.specs.Prelude.{◌≡◌, ℕ, ◌≤◌, Bool, true, false}
+use Rattle.std.specs.Prelude.{◌≡◌, ℕ, ◌≤◌, false}
 use Rattle.coord_ledger.specs.declared.events.Answer.{Answer}
 use Rattle.coord_ledger.specs.declared.events.Event.{Event}
-use Rattle.coord_ledger.specs.declared.events.Event.TheVariants.{Crash}
 use Rattle.coord_ledger.specs.machine.After.{after, crashed}
 use Rattle.coord_ledger.specs.machine.Answers.{IsOneOf, answers}
 use Rattle.coord_ledger.specs.machine.Consistent.{IsConsistent, IsConsistentLog}
 use Rattle.coord_ledger.specs.machine.Log.{Log, moved, world_after}
 use Rattle.coord_ledger.specs.machine.Machine.{Machine, adopted}
+use Rattle.coord_ledger.specs.promises.Headline.{is_crash}
 
 -- the same machine with its base moved along its first n steps
 abbrev pub with_base_moved : Machine → ℕ → Machine
@@ -19,10 +19,6 @@ MovedIsConsistent = (log : Log) (n : ℕ) → IsConsistentLog log → n ≤ log.
 -- it may give the same answers
 abbrev pub MovedAnswersAlike : Type 0
 MovedAnswersAlike = (s : Machine) (n : ℕ) (e : Event) → IsConsistent s → n ≤ s.log.settled → answers (with_base_moved s n) e ≡ answers s e
-
-abbrev pub is_crash : Event → Bool
-is_crash Crash = true
-is_crash event = false
 
 -- and stays the same machine with its base moved
 abbrev pub MovedGoesOn : Type 0

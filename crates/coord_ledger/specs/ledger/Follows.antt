@@ -11,7 +11,8 @@ use Rattle.coord_ledger.specs.declared.events.Answer.{Answer}
 use Rattle.coord_ledger.specs.declared.events.Event.{Event}
 use Rattle.coord_ledger.specs.declared.release.Release.{Release}
 use Rattle.coord_ledger.specs.ledger.State.{Claim, FlightState, IsGranted, LedgerState, reply_of, started}
-use Rattle.coord_ledger.specs.machine.Answers.{IsOneOf}
+use Rattle.coord_ledger.specs.machine.After.{after}
+use Rattle.coord_ledger.specs.machine.Answers.{IsOneOf, answers}
 use Rattle.coord_ledger.specs.machine.Consistent.{IsConsistent}
 use Rattle.coord_ledger.specs.machine.Log.{Log, moved, pending, settled_count, settled_world, world_after}
 use Rattle.coord_ledger.specs.machine.Machine.{FlightOut, Machine}
@@ -36,27 +37,46 @@ abbrev pub HoldsFlight : {D : Type 0} → LedgerState D → Option (FlightState 
 HoldsFlight l None = l.out ≡ None
 HoldsFlight l (Some f) = IsOut l f
 
--- each ticket that was not collected is granted, and claims its reply
+-- a ticket that was not collected is granted, and claims its reply
+abbrev pub HoldsTicket : Log → Option Claim → Option Reply → Type 0
+HoldsTicket log None None = Unit {0}
+HoldsTicket log None (Some reply) = ⊥
+HoldsTicket log (Some claim) None = ⊥
+HoldsTicket log (Some claim) (Some reply) = (reply_of claim ≡ reply) × IsGranted log claim
+
 abbrev pub HoldsTickets : Log → List (Option Claim) → List (Option Reply) → Type 0
 HoldsTickets log [] [] = Unit {0}
-HoldsTickets log (None ∷ claims) (None ∷ tickets) = HoldsTickets log claims tickets
-HoldsTickets log (Some claim ∷ claims) (Some reply ∷ tickets) = (reply_of claim ≡ reply) × IsGranted log claim × HoldsTickets log claims tickets
-HoldsTickets log claims tickets = ⊥
+HoldsTickets log [] (t ∷ ts) = ⊥
+HoldsTickets log (c ∷ cs) [] = ⊥
+HoldsTickets log (c ∷ cs) (t ∷ ts) = HoldsTicket log c t × HoldsTickets log cs ts
 
--- a ledger, with the flight and the tickets that its driver holds, is where the machine is
-pub record Follows {D : Type 0} (l : LedgerState D) (flight : Option (FlightState D)) (claims : List (Option Claim)) (s : Machine) : Type 0 where
+-- what a driver holds: a ledger, its flight, the tickets as they were given, what was shown last, and what was released
+pub record Held (D : Type 0) : Type 0 where
+  pub ledger : LedgerState D
+  pub flight : Option (FlightState D)
+  pub claims : List (Option Claim)
+  pub seen : ℕ
+  pub released : List Release
+
+-- all that is where the machine is
+pub record Follows {D : Type 0} (h : Held D) (s : Machine) : Type 0 where
   pub by : ℕ
   pub within : by ≤ s.log.settled
-  pub log : l.log ≡ moved s.log by
-  pub doubt : l.doubt ≡ s.doubt
-  pub flight_is : option_map flight_out flight ≡ s.flight
-  pub own : HoldsFlight l flight
-  pub tickets : HoldsTickets l.log claims s.tickets
+  pub log : h.ledger.log ≡ moved s.log by
+  pub doubt : h.ledger.doubt ≡ s.doubt
+  pub flight : option_map flight_out h.flight ≡ s.flight
+  pub own : HoldsFlight h.ledger h.flight
+  pub tickets : HoldsTickets h.ledger.log h.claims s.tickets
+  pub seen : h.seen ≡ s.seen
+  pub released : h.released ≡ s.released
 
--- what a driver keeps after some events with these answers: the answers may be given, the machine is consistent, the ledger follows it, and these were released
-pub record Drives {D : Type 0} (start : LedgerState D) (events : List Event) (given : List Answer) (released : List Release) (l : LedgerState D) (flight : Option (FlightState D)) (claims : List (Option Claim)) (seen : ℕ) : Type 0 where
+-- the machine may answer an event so, and what is held follows it
+pub record FollowsTo {D : Type 0} (s : Machine) (e : Event) (a : Answer) (h : Held D) : Type 0 where
+  pub allowed : IsOneOf a (answers s e)
+  pub follows : Follows h (after s e a)
+
+-- what a driver keeps after some events with these answers
+pub record Drives {D : Type 0} (start : LedgerState D) (events : List Event) (given : List Answer) (h : Held D) : Type 0 where
   pub answered : Answered (started start) events given
   pub consistent : IsConsistent (run (started start) events given)
-  pub follows : Follows l flight claims (run (started start) events given)
-  pub seen_is : seen ≡ (run (started start) events given).seen
-  pub released_is : released ≡ (run (started start) events given).released
+  pub follows : Follows h (run (started start) events given)

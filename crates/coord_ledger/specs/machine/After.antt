@@ -61,7 +61,7 @@ abbrev pub finished : Machine → Option FlightOut → Machine
 finished s None = s
 finished s (Some f) = after_finish s f.size f.mark
 
-abbrev pub spent : List (Option Reply) → ℕ → List (Option Reply)
+abbrev pub spent : {A : Type 0} → List (Option A) → ℕ → List (Option A)
 spent [] i = []
 spent (t ∷ ts) zero = None ∷ ts
 spent (t ∷ ts) (suc i) = t ∷ spent ts i

@@ -63,7 +63,7 @@ with_flight None answers_for = NoFlight ∷ []
 with_flight (Some f) answers_for = answers_for f
 
 -- the ticket with this index, where it was given and not collected
-abbrev pub ticket : List (Option Reply) → ℕ → Option Reply
+abbrev pub ticket : {A : Type 0} → List (Option A) → ℕ → Option A
 ticket [] i = None
 ticket (t ∷ ts) zero = t
 ticket (t ∷ ts) (suc i) = ticket ts i

@@ -7,7 +7,7 @@
 -- A run is a list of events with its answers. `Survives` is the sentence for one image of the disk, `CrashPrefix` for
 -- all of them, and `Ran` has it beside what else a run promises: that the answers are the event machine's, and that
 -- what was released and collected is true of the steps that are kept.
-use Rattle.std.specs.Prelude.{◌≡◌, ◌⊎◌, ℕ, ◌≤◌, ◌==◌, ◌&&◌, Bool, true, List, ◌++◌, map, length, take, slice_get, count_by, Some}
+use Rattle.std.specs.Prelude.{◌≡◌, ◌⊎◌, ℕ, ◌≤◌, ◌==◌, ◌&&◌, Bool, true, false, List, ◌++◌, map, length, take, slice_get, count_by, Some}
 use Rattle.std.specs.List.{AllByRecursion}
 use Rattle.coord_disk.specs.Model.Present.{Present, IsImage}
 use Rattle.coord_types.specs.Table.{get}
@@ -15,6 +15,7 @@ use Rattle.coord_types.specs.declared.steps.Reply.{Reply}
 use Rattle.coord_types.specs.declared.steps.Session.{Session}
 use Rattle.coord_types.specs.declared.steps.Step.{Step}
 use Rattle.coord_store.specs.Recovered.{Recovered}
+use Rattle.coord_store.specs.Refused.{IsPassing}
 use Rattle.coord_world.specs.laws.Release.{IsReleased}
 use Rattle.coord_world.specs.laws.Waves.{is_signal_of}
 use Rattle.coord_world.specs.protocol.Legal.{Legal}
@@ -22,7 +23,10 @@ use Rattle.coord_world.specs.protocol.NumberedWorld.{World}
 use Rattle.coord_world.specs.protocol.Outputs.{outs}
 use Rattle.coord_ledger.specs.declared.events.Answer.{Answer}
 use Rattle.coord_ledger.specs.declared.events.Event.{Event}
+use Rattle.coord_ledger.specs.declared.events.Event.TheVariants.{Crash}
 use Rattle.coord_ledger.specs.declared.release.Release.{Release}
+use Rattle.coord_ledger.specs.declared.trace.RunFaultKind.{RunFaultKind}
+use Rattle.coord_ledger.specs.declared.trace.RunFaultKind.TheVariants.{OutOfMemory, Store}
 use Rattle.coord_ledger.specs.machine.After.{after, releases_of}
 use Rattle.coord_ledger.specs.machine.Answers.{IsOneOf, answers, kept}
 use Rattle.coord_ledger.specs.machine.Log.{Log, accepted_count, settled_steps, world_after}
@@ -81,6 +85,14 @@ RepliedTruly s = AllByRecursion (IsReplyOf s.log.base (settled_steps s.log)) s.r
 
 -- ---- runs
 
+abbrev pub is_crash : Event → Bool
+is_crash Crash = true
+is_crash event = false
+
+-- what is promised of a run on a disk that keeps the model, and without crashes on every disk
+abbrev pub Promised : Bool → List Event → Type 0 → Type 0
+Promised keeps_model events Promise = (keeps_model ≡ true) ⊎ AllByRecursion (λ e. is_crash e ≡ false) events → Promise
+
 -- A run from a ledger at home that hasn't stopped: the answers are the machine's, these were released, and wherever it
 -- is stopped, the headline holds. It is what `run_events` ensures where it answers a trace and a ledger.
 pub record Ran (start : Machine) (events : List Event) (given : List Answer) (released : List Release) (keeps_model : Bool) (present : Present) : Type 0 where
@@ -108,3 +120,8 @@ pub record Broke (start : Machine) (events : List Event) (at : ℕ) (given : Lis
   pub answered : Answered start (take at events) given
   pub during : (e : Event) → slice_get events at ≡ Some e → IsCutShort (run start (take at events) given) e released
   pub behind : at ≡ length events → released ≡ (run start events given).released
+
+-- a store's fault comes of a crash alone; on a disk that keeps the model it is want of memory or a failure of the device
+abbrev pub HasCause : Bool → List Event → ℕ → RunFaultKind → Type 0
+HasCause keeps_model events at OutOfMemory = Unit {0}
+HasCause keeps_model events at (Store fault) = (slice_get events at ≡ Some Crash) × (keeps_model ≡ true → IsPassing fault)
