@@ -8,4 +8,7 @@ pub mod Steady
 pub mod Safe
 pub mod Moving
 pub mod Signals
+pub mod Granted
+pub mod Following
+pub mod Driving
 mod WorkedRuns
