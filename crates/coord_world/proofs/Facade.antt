@@ -4,3 +4,12 @@ pub use Rattle.coord_world.proofs.listings.RowsGiveWorld.{rows_give_world}
 pub use Rattle.coord_world.proofs.lists.KeyedLists.{all_weaker}
 pub use Rattle.coord_world.proofs.acceptance.IsFresh.{fresh_count}
 pub use Rattle.coord_world.proofs.acceptance.FreshOverItself.{itself}
+pub use Rattle.coord_world.proofs.Cases.{by_test, same_or_apart}
+pub use Rattle.coord_world.proofs.acceptance.FreshOrder.{fresh_number, fresh_order}
+pub use Rattle.coord_world.proofs.acceptance.FreshVerdict.{verdict_fresh, verdict_kind}
+pub use Rattle.coord_world.proofs.release.KeptReplies.{kept_reply_law}
+pub use Rattle.coord_world.proofs.release.ReleasedGrows.{released_from_base, released_grows}
+pub use Rattle.coord_world.proofs.release.ReleaseLaw.{release_law, resend_law}
+pub use Rattle.coord_world.proofs.release.ReleaseStays.{fresh_where_released, release_stays}
+pub use Rattle.coord_world.proofs.release.Trails.{EachFresh, fold-append, fold-take_drop, fold_counts, trail_each_fresh, trail_goes_on, trail_is_cut, trail_keeps_worlds, trail_of}
+pub use Rattle.coord_world.proofs.waves.SignalsOf.{signals_given}

@@ -1,0 +1,68 @@
+-- Replies: those to steps, and those that a world keeps.
+use Rattle.std.proofs.Common.{◌≡◌, ℕ, zero, suc, ◌+◌, ◌≤◌, List, [], ◌∷◌, ◌++◌, map, length, take, Some, refl, sym, ap, ◌∙◌, arith, inl, inr}
+use Rattle.std.specs.Prelude.{slice_get}
+use Rattle.coord_types.specs.Table.{get}
+use Rattle.coord_types.specs.declared.steps.Reply.{Reply}
+use Rattle.coord_types.specs.declared.steps.Session.{Session}
+use Rattle.coord_types.specs.declared.steps.Step.{Step}
+use Rattle.coord_world.proofs.Facade.{kept_reply_law}
+use Rattle.coord_world.specs.protocol.Next.{next, fold, reply}
+use Rattle.coord_world.specs.protocol.NumberedWorld.{World}
+use Rattle.coord_world.specs.protocol.Outputs.{StepOutcome, outs}
+use Rattle.coord_ledger.specs.machine.Answers.{IsOneOf}
+use Rattle.coord_ledger.specs.promises.Headline.{IsReplyOf}
+
+abbrev replies : World → List Step → List Reply
+replies w steps = map (λ q. q.reply) (outs w steps)
+
+-- what stands at a place is one of the items
+one_at : {A B : Type 0} (f : A → B) (xs : List A) (i : ℕ) (x : A) → slice_get xs i ≡ Some x → IsOneOf (f x) (map f xs)
+one_at f [] i x is = cc
+one_at f (y ∷ ys) zero x is = inl (let same : x ≡ y = cc is in ap f same)
+one_at f (y ∷ ys) (suc i) x is = inr (one_at f ys i x is)
+
+-- the reply that is kept for a client is that to a step, or was kept before
+pub kept_reply : (w : World) (steps : List Step) (client : ℕ) (last : Session) → get (fold w steps).sessions client ≡ Some last → IsReplyOf w steps last.reply
+kept_reply w steps client last there = elim (kept_reply_law w steps client) [
+  | inl by ↦
+      let own = by.1.1 in
+      let kept = by.1.0 in
+      let same : by.0 ≡ last = cc in
+      inl (one_at (λ (q : StepOutcome). q.reply) (outs w steps) (length own.before) (record { reply = last.reply; outputs = own.given }) (own.replied ∙ ap (λ (o : Session). Some (record { reply = o.reply; outputs = own.given })) same))
+  | inr none ↦ inr (client, (last, (sym none.0 ∙ there, refl)))
+]
+
+-- with more steps behind
+among_more : (w : World) (steps more : List Step) (r : Reply) → IsOneOf r (replies w steps) → IsOneOf r (replies w (steps ++ more))
+among_more w [] more r one = absurd one
+among_more w (s ∷ steps) more r (inl same) = inl same
+among_more w (s ∷ steps) more r (inr one) = inr (among_more (next w s) steps more r one)
+
+pub reply_later : (w : World) (steps more : List Step) (r : Reply) → IsReplyOf w steps r → IsReplyOf w (steps ++ more) r
+reply_later w steps more r (inl one) = inl (among_more w steps more r one)
+reply_later w steps more r (inr kept) = inr kept
+
+-- the last of them
+pub reply_last : (w : World) (steps : List Step) (s : Step) → IsReplyOf w (steps ++ s ∷ []) (reply (fold w steps) s)
+reply_last w steps s = inl (last w steps)
+  where
+    last : (w : World) (steps : List Step) → IsOneOf (reply (fold w steps) s) (replies w (steps ++ s ∷ []))
+    last w [] = inl refl
+    last w (q ∷ qs) = inr (last (next w q) qs)
+
+-- replies to steps have later numbers than the world before them
+after_count : (w : World) (steps : List Step) (r : Reply) → IsOneOf r (replies w steps) → w.count + 1 ≤ r.step
+after_count w [] r one = absurd one
+after_count w (s ∷ steps) r (inl same) = omega (arith, ap (λ (q : Reply). q.step) same)
+after_count w (s ∷ steps) r (inr one) = omega (arith, after_count (next w s) steps r one)
+
+-- so a reply of a low number is one to an early step
+among_first : (w : World) (d : ℕ) (steps : List Step) (r : Reply) → r.step ≤ w.count + d → IsOneOf r (replies w steps) → IsOneOf r (replies w (take d steps))
+among_first w d [] r le one = absurd one
+among_first w zero (s ∷ steps) r le one = absurd (omega (arith, le, after_count w (s ∷ steps) r one))
+among_first w (suc d) (s ∷ steps) r le (inl same) = inl same
+among_first w (suc d) (s ∷ steps) r le (inr one) = inr (among_first (next w s) d steps r (omega (arith, le)) one)
+
+pub reply_first : (w : World) (d : ℕ) (steps : List Step) (r : Reply) → r.step ≤ w.count + d → IsReplyOf w steps r → IsReplyOf w (take d steps) r
+reply_first w d steps r le (inl one) = inl (among_first w d steps r le one)
+reply_first w d steps r le (inr kept) = inr kept

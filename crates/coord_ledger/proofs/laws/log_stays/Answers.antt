@@ -1,0 +1,5 @@
+use Rattle.coord_ledger.proofs.Logs as law
+use Rattle.coord_ledger.proofs.laws.log_stays.Goals as goal
+
+pub returns : goal.returns
+returns c = law.log_stays

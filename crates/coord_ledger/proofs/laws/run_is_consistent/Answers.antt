@@ -1,0 +1,5 @@
+use Rattle.coord_ledger.proofs.Consistent as law
+use Rattle.coord_ledger.proofs.laws.run_is_consistent.Goals as goal
+
+pub returns : goal.returns
+returns c = law.run_is_consistent

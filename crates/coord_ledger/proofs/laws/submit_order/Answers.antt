@@ -1,0 +1,5 @@
+use Rattle.coord_ledger.proofs.Judging as law
+use Rattle.coord_ledger.proofs.laws.submit_order.Goals as goal
+
+pub returns : goal.returns
+returns c = law.submit_order

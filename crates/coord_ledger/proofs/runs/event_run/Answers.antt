@@ -1,0 +1,5 @@
+use Rattle.coord_ledger.proofs.WorkedRuns.{event_run}
+use Rattle.coord_ledger.proofs.runs.event_run.Goals as goal
+
+pub returns : goal.returns
+returns c = event_run

@@ -1,0 +1,5 @@
+use Rattle.coord_ledger.proofs.WorkedRuns.{not_released}
+use Rattle.coord_ledger.proofs.runs.not_released.Goals as goal
+
+pub returns : goal.returns
+returns c = not_released

@@ -1,0 +1,5 @@
+use Rattle.coord_ledger.proofs.WorkedRuns.{signalled_before}
+use Rattle.coord_ledger.proofs.runs.signalled_before.Goals as goal
+
+pub returns : goal.returns
+returns c = signalled_before

@@ -1,0 +1,4 @@
+pub mod machine
+pub mod ledger
+pub mod promises
+pub mod laws

@@ -1,0 +1,101 @@
+-- The laws of the event machine.
+use Rattle.std.specs.Prelude.{◌≡◌, ℕ, ◌+◌, ◌≤◌, Bool, false, true, List, [], ◌∷◌, ◌++◌, length, take, Result, Err, if◌then◌else◌}
+use Rattle.std.specs.List.{AllByRecursion}
+use Rattle.coord_disk.specs.Model.Present.{Present, IsImage}
+use Rattle.coord_link.specs.LaneMachine.{refused_or}
+use Rattle.coord_node.specs.Steps.{kind}
+use Rattle.coord_types.specs.Table.{get}
+use Rattle.coord_types.specs.declared.refusals.Refusal.{Refusal}
+use Rattle.coord_types.specs.declared.refusals.Refusal.TheVariants.{Exhausted, PendingFull, Stopped}
+use Rattle.coord_types.specs.declared.steps.Step.{Step}
+use Rattle.coord_types.specs.declared.steps.Step.TheVariants.{Order, Take, Clear}
+use Rattle.coord_store.specs.Recovered.{Recovered}
+use Rattle.coord_world.specs.declared.verdicts.Verdict.{Verdict}
+use Rattle.coord_world.specs.declared.verdicts.Verdict.TheVariants.{Fresh}
+use Rattle.coord_world.specs.laws.Trails.{IsSound}
+use Rattle.coord_world.specs.protocol.Acceptance.{IsFresh, against, is_exhausted, or_repeat}
+use Rattle.coord_world.specs.protocol.NumberedWorld.{World, state}
+use Rattle.coord_world.specs.protocol.Ranges.{StepInRange}
+use Rattle.coord_ledger.specs.declared.events.Answer.{Answer}
+use Rattle.coord_ledger.specs.declared.events.Event.{Event}
+use Rattle.coord_ledger.specs.machine.After.{after, finished}
+use Rattle.coord_ledger.specs.machine.Answers.{IsOneOf, answers, kept}
+use Rattle.coord_ledger.specs.machine.Consistent.{EventInRange, IsConsistent, IsConsistentLog}
+use Rattle.coord_ledger.specs.machine.Log.{Log, cut_to, front_world, settled_world, with_settled, with_step, world_after}
+use Rattle.coord_ledger.specs.machine.Machine.{Machine, adopted}
+use Rattle.coord_ledger.specs.machine.Runs.{Answered, run}
+use Rattle.coord_ledger.specs.machine.Submits.{is_full, verdict}
+use Rattle.coord_ledger.specs.promises.Headline.{CrashPrefix, IsSafe, SignalledOnce}
+
+-- ---- the order of refusals
+
+-- a client's last order that comes again is answered with its reply
+abbrev pub unless_repeat : World → Step → Result Verdict Refusal → Result Verdict Refusal
+unless_repeat front (Order client number command) verdict = or_repeat (get front.sessions client) number command verdict
+unless_repeat front (Take p) verdict = verdict
+unless_repeat front (Clear p) verdict = verdict
+
+-- all tests of a step in one list: too many pending, no number left, and the step's own
+abbrev pub judged_in_order : Log → Step → Result Verdict Refusal
+judged_in_order log s = refused_or (Fresh (kind (state (front_world log)) s)) ((is_full log, PendingFull) ∷ (is_exhausted (front_world log), Exhausted) ∷ against (front_world log) (settled_world log) s)
+
+-- a step is refused by the first that applies: Stopped, unless it is a repeat by the first of these tests
+abbrev pub SubmitOrder : Type 0
+SubmitOrder = (stopped : Bool) (log : Log) (s : Step) → verdict stopped log s ≡ (if stopped then Err Stopped else unless_repeat (front_world log) s (judged_in_order log s))
+
+-- ---- logs
+
+-- an accepted step, settled ones and a cut keep a log consistent
+pub record LogStays : Type 0 where
+  pub accepted : (log : Log) (s : Step) → IsConsistentLog log → StepInRange s → is_full log ≡ false → IsFresh (front_world log) (settled_world log) s → IsConsistentLog (with_step log s)
+  pub settled : (log : Log) (b : ℕ) → IsConsistentLog log → log.settled + b ≤ length log.trail → IsConsistentLog (with_settled log b)
+  pub cut : (log : Log) (n : ℕ) → IsConsistentLog log → log.settled ≤ n → n ≤ length log.trail → IsConsistentLog (cut_to log n)
+
+-- ---- events
+
+abbrev pub HasAnswer : Type 0
+HasAnswer = (s : Machine) (e : Event) → (a : Answer) × IsOneOf a (answers s e)
+
+-- the settled steps stay as they are
+pub record KeepsSettled (s t : Machine) : Type 0 where
+  pub base : t.log.base ≡ s.log.base
+  pub settled : s.log.settled ≤ t.log.settled
+  pub steps : take s.log.settled t.log.trail ≡ take s.log.settled s.log.trail
+
+-- in each event, a crash too
+abbrev pub SettledStays : Type 0
+SettledStays = (s : Machine) (e : Event) (a : Answer) → IsConsistent s → IsOneOf a (answers s e) → KeepsSettled s (after s e a)
+
+abbrev pub AdoptedIsConsistent : Type 0
+AdoptedIsConsistent = (w : World) → IsSound w → IsConsistent (adopted w)
+
+abbrev pub StaysConsistent : Type 0
+StaysConsistent = (s : Machine) (e : Event) (a : Answer) → EventInRange e → IsConsistent s → IsOneOf a (answers s e) → IsConsistent (after s e a)
+
+-- ---- runs
+
+abbrev pub RunIsConsistent : Type 0
+RunIsConsistent = (s : Machine) (events : List Event) (given : List Answer) → AllByRecursion EventInRange events → IsConsistent s → Answered s events given → IsConsistent (run s events given)
+
+-- runs grow by one event at a time
+abbrev pub RunGoesOn : Type 0
+RunGoesOn = (s : Machine) (events : List Event) (given : List Answer) (e : Event) (a : Answer) → Answered s events given → IsOneOf a (answers (run s events given) e) →
+    Answered s (events ++ e ∷ []) (given ++ a ∷ []) × (run s (events ++ e ∷ []) (given ++ a ∷ []) ≡ after (run s events given) e a)
+
+-- whatever a crash may keep is legal, holds all that was told, and nothing that was not accepted
+abbrev pub KeptIsSafe : Type 0
+KeptIsSafe = (s : Machine) (n : ℕ) → IsConsistent s → IsOneOf n (kept s) → IsSafe s (world_after s.log n)
+
+-- no step's signal was released twice
+abbrev pub SignalsOnce : Type 0
+SignalsOnce = (s : Machine) → IsConsistent s → SignalledOnce s
+
+-- a flight that comes back at the end of a run changes nothing of what a crash may keep
+abbrev pub FinishKeepsKept : Type 0
+FinishKeepsKept = (s : Machine) → IsConsistent s → kept (finished s s.flight) ≡ kept s
+
+-- where each image of a disk gives the world after steps that a crash may keep, the crash prefix holds
+abbrev pub PrefixFromImages : Type 0
+PrefixFromImages = (s : Machine) (keeps_model : Bool) (present : Present) → IsConsistent s →
+    (keeps_model ≡ true → (image : List ℕ) → IsImage present image → (n : ℕ) × (IsOneOf n (kept s) × Recovered image (world_after s.log n))) →
+    CrashPrefix s keeps_model present

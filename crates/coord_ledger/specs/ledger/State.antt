@@ -1,0 +1,66 @@
+-- A ledger, a flight and a ticket as contracts see them.
+use Rattle.std.specs.Prelude.{◌≡◌, ◌⊎◌, ℕ, ◌≤◌, List, [], Option, Some, None, slice_get}
+use Rattle.coord_types.specs.Table.{get}
+use Rattle.coord_types.specs.declared.steps.Kind.{Kind}
+use Rattle.coord_types.specs.declared.steps.Reply.{Reply}
+use Rattle.coord_types.specs.declared.steps.Session.{Session}
+use Rattle.coord_types.specs.declared.steps.Step.{Step}
+use Rattle.coord_types.specs.declared.steps.Step.TheVariants.{Order}
+use Rattle.coord_world.specs.protocol.Next.{reply}
+use Rattle.coord_world.specs.protocol.NumberedWorld.{World}
+use Rattle.coord_ledger.specs.declared.mark.Mark.{Mark}
+use Rattle.coord_ledger.specs.machine.Log.{Log, log_over, settled_count, world_after}
+use Rattle.coord_ledger.specs.machine.Machine.{Machine}
+
+pub record LedgerState (D : Type 0) : Type 0 where
+  pub log : Log
+  pub out : Option ℕ  -- how many steps are out in a flight
+  pub doubt : Option ℕ  -- it has stopped, and so many steps behind the settled ones are on the disk, or none of them
+  pub disk : Option D  -- the store's; None while it is out
+
+pub record FlightState (D : Type 0) : Type 0 where
+  pub first : ℕ  -- the number of its first step
+  pub steps : List Step
+  pub world : World  -- the settled world when it went out
+  pub mark : Mark
+  pub disk : D
+
+-- a ledger that was just made of a store with this world and disk
+abbrev pub ledger_over : {D : Type 0} → World → D → LedgerState D
+ledger_over w disk = record { log = log_over w; out = None; doubt = None; disk = Some disk }
+
+-- the event machine at the start of a run
+abbrev pub started : {D : Type 0} → LedgerState D → Machine
+started l = record { log = l.log; flight = None; doubt = l.doubt; tickets = []; seen = 0; released = []; replied = [] }
+
+-- what a ticket claims: that this step has this number, and is answered with this kind
+pub record Claim : Type 0 where
+  pub step : ℕ
+  pub what : Step
+  pub kind : Kind
+
+abbrev pub reply_of : Claim → Reply
+reply_of claim = record { step = claim.step; kind = claim.kind }
+
+-- the log has the claim's step at its number, and answers it so
+pub record IsInTrail (log : Log) (claim : Claim) : Type 0 where
+  pub place : ℕ
+  pub there : slice_get log.trail place ≡ Some claim.what
+  pub answered : reply (world_after log place) claim.what ≡ reply_of claim
+
+-- the base keeps that reply for that order
+pub record IsKeptBy (base : World) (claim : Claim) : Type 0 where
+  pub client : ℕ
+  pub last : Session
+  pub there : get base.sessions client ≡ Some last
+  pub order : claim.what ≡ Order client last.number last.command
+  pub answered : last.reply ≡ reply_of claim
+
+-- what the claim says is true here
+abbrev pub IsGranted : Log → Claim → Type 0
+IsGranted log claim = IsInTrail log claim ⊎ IsKeptBy log.base claim
+
+-- and its step is settled: then, and only then, its reply is collected
+pub record IsCollectable (log : Log) (claim : Claim) : Type 0 where
+  pub settled : claim.step ≤ settled_count log
+  pub granted : IsGranted log claim

@@ -1,0 +1,64 @@
+-- What holds of the event machine whenever its events have been answered as they may be.
+use Rattle.std.specs.Prelude.{ℕ, ◌+◌, ◌≤◌, List, length, Option, Some, None}
+use Rattle.std.specs.List.{AllByRecursion}
+use Rattle.coord_types.specs.declared.steps.Reply.{Reply}
+use Rattle.coord_types.specs.declared.steps.Step.{Step}
+use Rattle.coord_store.specs.Recovered.{AllFresh}
+use Rattle.coord_world.specs.laws.Trails.{IsTrail}
+use Rattle.coord_world.specs.protocol.NumberedWorld.{World}
+use Rattle.coord_world.specs.protocol.Outputs.{outs}
+use Rattle.coord_world.specs.protocol.Ranges.{StepInRange}
+use Rattle.coord_ledger.specs.declared.events.Event.{Event}
+use Rattle.coord_ledger.specs.declared.events.Event.TheVariants.{Submit}
+use Rattle.coord_ledger.specs.declared.release.Release.{Release}
+use Rattle.coord_ledger.specs.machine.After.{releases_of}
+use Rattle.coord_ledger.specs.machine.Answers.{most_in_flight}
+use Rattle.coord_ledger.specs.machine.Log.{Log, pending, settled_count, settled_steps, settled_world}
+use Rattle.coord_ledger.specs.machine.Machine.{FlightOut, Machine}
+use Rattle.coord_ledger.specs.machine.Submits.{most_pending}
+use Rattle.coord_ledger.specs.promises.Headline.{IsReplyOf, IsTrulyAgain}
+use Rattle.coord_ledger.specs.promises.Parts.{IsPartOf, released_first}
+
+-- the steps are a trail; those that are pending are not too many, and each of them is fresh with the settled world as settled
+pub record IsConsistentLog (log : Log) : Type 0 where
+  pub trail : IsTrail log.base log.trail
+  pub within : log.settled ≤ length log.trail
+  pub few : length (pending log) ≤ most_pending
+  pub fresh : AllFresh (settled_world log) (settled_world log) (pending log)
+
+-- a flight has some of the pending steps, and not too many
+abbrev pub FlightFits : Log → Option FlightOut → Type 0
+FlightFits log None = Unit {0}
+FlightFits log (Some f) = (1 ≤ f.size) × (f.size ≤ most_in_flight) × (log.settled + f.size ≤ length log.trail)
+
+-- the steps in doubt are pending, and no flight is out then
+abbrev pub DoubtFits : Log → Option FlightOut → Option ℕ → Type 0
+DoubtFits log flight None = Unit {0}
+DoubtFits log None (Some b) = log.settled + b ≤ length log.trail
+DoubtFits log (Some f) (Some b) = ⊥
+
+-- a ticket has the reply to an accepted step, or one that the base keeps
+abbrev pub TicketFits : World → List Step → Option Reply → Type 0
+TicketFits base steps None = Unit {0}
+TicketFits base steps (Some reply) = IsReplyOf base steps reply
+
+-- what was released and collected is true of the settled steps
+pub record IsTold (log : Log) (released : List Release) (replied : List Reply) : Type 0 where
+  pub released_settled : AllByRecursion (λ r. r.step ≤ settled_count log) released
+  pub once : IsPartOf (released_first released) (releases_of (outs log.base (settled_steps log)))
+  pub again : AllByRecursion (IsTrulyAgain log) released
+  pub replied_settled : AllByRecursion (λ r. r.step ≤ settled_count log) replied
+  pub truly : AllByRecursion (IsReplyOf log.base (settled_steps log)) replied
+
+pub record IsConsistent (s : Machine) : Type 0 where
+  pub log : IsConsistentLog s.log
+  pub flight : FlightFits s.log s.flight
+  pub doubt : DoubtFits s.log s.flight s.doubt
+  pub seen : s.seen ≤ settled_count s.log
+  pub tickets : AllByRecursion (TicketFits s.log.base s.log.trail) s.tickets
+  pub told : IsTold s.log s.released s.replied
+
+-- the numbers that an event names are in the ranges of their types
+abbrev pub EventInRange : Event → Type 0
+EventInRange (Submit x) = StepInRange x
+EventInRange event = Unit {0}

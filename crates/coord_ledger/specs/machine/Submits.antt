@@ -1,0 +1,26 @@
+-- What a ledger says to a step: first whether it has stopped, then whether the step is a repeat, then whether too many steps are pending, and then as the front and the settled world accept it.
+use Rattle.std.specs.Prelude.{ℕ, nat_le, Bool, length, Result, Ok, Err, if◌then◌else◌}
+use Rattle.coord_types.specs.declared.refusals.Refusal.{Refusal}
+use Rattle.coord_types.specs.declared.refusals.Refusal.TheVariants.{Stopped, PendingFull}
+use Rattle.coord_types.specs.declared.steps.Step.{Step}
+use Rattle.coord_world.specs.declared.verdicts.Verdict.{Verdict}
+use Rattle.coord_world.specs.declared.verdicts.Verdict.TheVariants.{Fresh, Repeat}
+use Rattle.coord_world.specs.protocol.Acceptance.{accepts}
+use Rattle.coord_ledger.specs.machine.Log.{Log, front_world, pending, settled_world}
+
+-- so many steps may be accepted and not settled
+abbrev pub most_pending : ℕ
+most_pending = 1024
+
+-- no more steps may be pending
+abbrev pub is_full : Log → Bool
+is_full log = nat_le most_pending (length (pending log))
+
+-- a full log refuses all but a repeat, which isn't a step
+abbrev pub unless_full : Bool → Result Verdict Refusal → Result Verdict Refusal
+unless_full full (Ok (Repeat reply)) = Ok (Repeat reply)
+unless_full full (Ok (Fresh kind)) = if full then Err PendingFull else Ok (Fresh kind)
+unless_full full (Err refusal) = if full then Err PendingFull else Err refusal
+
+abbrev pub verdict : Bool → Log → Step → Result Verdict Refusal
+verdict stopped log s = if stopped then Err Stopped else unless_full (is_full log) (accepts (front_world log) (settled_world log) s)

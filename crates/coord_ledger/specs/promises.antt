@@ -1,0 +1,3 @@
+-- What is promised of a run of events.
+pub mod Parts
+pub mod Headline

@@ -1,0 +1,88 @@
+//! Laws of the event machine, over the definitions alone: functions that do nothing, whose contracts
+//! are the laws.
+
+ghost use Rattle.coord_ledger.specs.laws.Laws.{AdoptedIsConsistent, FinishKeepsKept, HasAnswer, KeptIsSafe, LogStays, PrefixFromImages, RunGoesOn, RunIsConsistent, SettledStays, SignalsOnce, StaysConsistent, SubmitOrder};
+ghost use Rattle.coord_ledger.specs.laws.Moving.{CrashReopens, MovedAnswersAlike, MovedGoesOn, MovedIsConsistent};
+
+/// The first refusal that applies: Stopped; unless it is a repeat, PendingFull; then Exhausted, and
+/// the step's own in the order of their numbers.
+pub fn submit_order()
+    ensures { SubmitOrder }
+{}
+
+/// Accepting, settling and cutting keep a log consistent: each pending step stays fresh as more are
+/// settled.
+pub fn log_stays()
+    ensures { LogStays }
+{}
+
+/// Each event has an answer.
+pub fn has_answer()
+    ensures { HasAnswer }
+{}
+
+/// The settled steps stay, in a crash too.
+pub fn settled_stays()
+    ensures { SettledStays }
+{}
+
+/// A ledger that was just made of a store is consistent.
+pub fn adopted_is_consistent()
+    ensures { AdoptedIsConsistent }
+{}
+
+/// An event leaves a ledger consistent, whatever it is answered.
+pub fn stays_consistent()
+    ensures { StaysConsistent }
+{}
+
+/// So does a run of events.
+pub fn run_is_consistent()
+    ensures { RunIsConsistent }
+{}
+
+/// Runs grow by one event at a time.
+pub fn run_goes_on()
+    ensures { RunGoesOn }
+{}
+
+/// Whatever a crash may keep is a legal world, with every step of which anything was told, and with
+/// no step that was not accepted.
+pub fn kept_is_safe()
+    ensures { KeptIsSafe }
+{}
+
+/// No step has signalled a node twice, crashes included.
+pub fn signals_once()
+    ensures { SignalsOnce }
+{}
+
+/// A flight that comes back at the end of a run changes nothing of what a crash may keep.
+pub fn finish_keeps_kept()
+    ensures { FinishKeepsKept }
+{}
+
+/// The headline, from what a store says of its images.
+pub fn prefix_from_images()
+    ensures { PrefixFromImages }
+{}
+
+/// A log stays consistent where its base moves along its settled steps.
+pub fn moved_is_consistent()
+    ensures { MovedIsConsistent }
+{}
+
+/// A ledger answers as one whose base is moved along the settled steps, as it is after a crash.
+pub fn moved_answers_alike()
+    ensures { MovedAnswersAlike }
+{}
+
+/// And it stays such a ledger, until a crash.
+pub fn moved_goes_on()
+    ensures { MovedGoesOn }
+{}
+
+/// After a crash it is as one that was just made of a store of the kept world.
+pub fn crash_reopens()
+    ensures { CrashReopens }
+{}

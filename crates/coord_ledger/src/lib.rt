@@ -1,0 +1,29 @@
+//! A ledger accepts steps, settles them on the disk in flights, and releases a step's outputs only
+//! once it is settled. A crash loses what was not settled, and nothing that was released.
+//!
+//! `specs/machine` defines what a ledger is, as a machine of events: `Log` is what was accepted and
+//! how much of it is settled, `Submits` what is said to a step, `Answers` all that each event may
+//! be answered, `After` what becomes of it with an answer, `Runs` lists of events. Memory, the
+//! device and crashes choose among the answers.
+//! `specs/promises/Headline.antt` states the main theorem in plain words and then formally: wherever
+//! a run is stopped, the disk gives the world after a prefix of the accepted steps that holds all
+//! that was released. `specs/ledger` is what contracts see of a ledger, a flight and a ticket, and
+//! how they follow the machine.
+//!
+//! [`laws`] proves of the machine what the main theorem stands on, and [`runs`] has runs whose
+//! answers are known.
+#![tactic(auto)]
+
+mod events;
+pub mod laws;
+mod mark;
+mod release;
+pub mod runs;
+mod trace;
+mod view;
+
+pub use events::{Answer, Event};
+pub use mark::Mark;
+pub use release::Release;
+pub use trace::{RunFault, RunFaultKind, Trace};
+pub use view::{LinkView, NodeView, View};

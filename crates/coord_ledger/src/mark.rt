@@ -1,0 +1,12 @@
+//! What became of a flight.
+
+/// Whether a flight was committed.
+#[derive(Clone, Copy, Debug, PartialEq, Eq)]
+pub enum Mark {
+    /// It may still be committed.
+    New,
+    /// Its steps are on the disk.
+    Good,
+    /// The device failed: its steps are on the disk or not.
+    Torn,
+}

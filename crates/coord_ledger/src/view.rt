@@ -1,0 +1,43 @@
+//! The settled world as it is shown.
+
+use coord_types::{Group, Mode, NodeId};
+use std::marker::Model;
+
+/// A node as it is shown.
+#[derive(Clone, Copy, Debug, PartialEq, Eq)]
+pub struct NodeView {
+    pub node: NodeId,
+    pub group: Group,
+    pub mode: Mode,
+    pub parent: Option<NodeId>,
+    pub epoch: u64,
+    /// The last epoch whose signal was acted on.
+    pub confirmed: u64,
+}
+
+/// A link as it is shown, with its lesser end first.
+#[derive(Clone, Copy, Debug, PartialEq, Eq)]
+pub struct LinkView {
+    pub a: NodeId,
+    pub b: NodeId,
+    /// The number of the step that made the link.
+    pub inc: u64,
+}
+
+/// How many steps are accepted and how many are settled, and the nodes and links of the settled
+/// world in ascending order. Contracts see it as these four.
+#[derive(Debug, Drop)]
+pub struct View {
+    pub accepted: u64,
+    pub settled: u64,
+    pub nodes: Vec<NodeView>,
+    pub links: Vec<LinkView>,
+}
+
+impl Model for View {
+    ghost use Rattle.coord_ledger.specs.machine.Shown.{Shown};
+
+    ghost Value = { Shown };
+
+    ghost view = { λ a. record { accepted = a.accepted; settled = a.settled; nodes = a.nodes.items; links = a.links.items } };
+}
