@@ -19,32 +19,33 @@ fn reset(alloc: Global, disk: MemDisk, first: u64, count: u64) -> Result<MemDisk
     Ok(store.into_disk())
 }
 
-// The selector, and how long a body still fits.
-fn selector_and_room(alloc: Global, disk: &MemDisk) -> Result<(u8, u64), Fail> {
-    let bytes = disk.bytes();
-    let selector = *bytes.first().ok_or("empty")?;
-    match open(alloc, MemDisk::from_bytes(alloc, bytes)?) {
-        Ok((journal, _contents)) => Ok((selector, journal.room())),
+// The half that a device has selected.
+fn selector(disk: &MemDisk) -> Result<u8, Fail> {
+    Ok(*disk.bytes().first().ok_or("empty")?)
+}
+
+// How long a body still fits.
+fn room(alloc: Global, disk: MemDisk) -> Result<u64, Fail> {
+    match open(alloc, disk) {
+        Ok((journal, _contents)) => Ok(journal.room()),
         Err((fault, _disk)) => Err(fault)?,
     }
 }
 
 // The first half is full after 1,211 resets, and the second one after 1,211 more.
 fn fills_both_halves(alloc: Global) -> Result<bool, Fail> {
-    let disk = created(alloc, MemDisk::new(alloc))?.into_disk();
-    let at_first = selector_and_room(alloc, &disk)?;
-    let mut store = opened(alloc, disk)?;
+    let mut store = created(alloc, MemDisk::new(alloc))?;
     committed(&mut store, &[adding()?])??;
     let disk = reset(alloc, store.into_disk(), 2, 1_211)?;
-    let before = selector_and_room(alloc, &disk)?.0;
+    let before = selector(&disk)?;
     let disk = reset(alloc, disk, 1_213, 1)?;
-    let after = selector_and_room(alloc, &disk)?.0;
+    let after = selector(&disk)?;
     let disk = reset(alloc, disk, 1_214, 1_210)?;
-    let before_second = selector_and_room(alloc, &disk)?.0;
+    let before_second = selector(&disk)?;
     let disk = reset(alloc, disk, 2_424, 1)?;
-    let after_second = selector_and_room(alloc, &disk)?.0;
+    let after_second = selector(&disk)?;
     let is_turned = [before, after, before_second, after_second] == [0, 1, 1, 0];
-    Ok(at_first == (0, 32_746) && is_turned && is_reset(alloc, disk)?)
+    Ok(is_turned && is_reset(alloc, disk)?)
 }
 
 // The store holds all steps: one node, which every other one reset.
@@ -53,6 +54,14 @@ fn is_reset(alloc: Global, disk: MemDisk) -> Result<bool, Fail> {
     let node = NodeId::new(1).ok_or("node")?;
     let epoch = store.world().node(node).ok_or("absent")?.epoch();
     Ok(store.world().count() == 2_424 && epoch == 2_423)
+}
+
+#[test]
+fn a_store_has_room_when_it_is_made(rt: HostRuntime) -> Result<(), Fail> {
+    let alloc = rt.alloc();
+    let made = created(alloc, MemDisk::new(alloc))?.into_disk();
+    assert!(rt; room(alloc, made)? == 32_746);
+    Ok(())
 }
 
 #[test]
