@@ -1,5 +1,5 @@
 -- What was served, where more is read.
-use Rattle.std.proofs.Common.{◌≡◌, ℕ, ◌<◌, Bool, true, false, List, [], ◌∷◌, ◌++◌, length, map, Option, Some, Result, Ok, Err, IfOk, String, Global, string_bytes, refl, sym, ap, ◌∙◌, subst, append_assoc, append-nil, arith, take, inl, inr}
+use Rattle.std.proofs.Common.{◌≡◌, ◌≢◌, ℕ, ◌<◌, Bool, true, false, List, [], ◌∷◌, ◌++◌, length, map, Option, Some, Result, Ok, Err, IfOk, String, Global, string_bytes, refl, sym, ap, ◌∙◌, subst, append_assoc, append-nil, arith, take, inl, inr}
 use Rattle.std.specs.Io.KnownBytes.{Appends, Consumes}
 use Rattle.std.specs.List.{slice_split}
 use Rattle.std.proofs.KnownBytes.{Appends-trans, Consumes-trans}
@@ -9,9 +9,11 @@ use Rattle.coord_lines.proofs.LinesOn.{lines_on-ended, extended-nothing}
 use Rattle.coord_admin.specs.declared.request.Request.{Request}
 use Rattle.coord_admin.specs.declared.answer.Answer.{Answer}
 use Rattle.coord_admin.specs.declared.answer.Answer.TheVariants.{Replied, Refused, Shown, Resent, Closed, Faulted}
-use Rattle.coord_admin.specs.declared.fault.LineFault.TheVariants.{Unfinished, OutOfMemory}
+use Rattle.coord_admin.specs.declared.fault.LineFault.{LineFault}
+use Rattle.coord_admin.specs.declared.fault.LineFault.TheVariants.{Unfinished, TooLong, BadText, BadJson, BadRequest, UnknownOp, OutOfMemory}
+use Rattle.coord_admin.specs.Requests.{asked_by}
 use Rattle.coord_admin.specs.Replies.{made_bytes, reply_line, reply_lines}
-use Rattle.coord_admin.specs.Stream.{is_closed, last_answers, IsWritten, WritesFirstPart, Gets, GetsAtLast, AllGet, Reaches, Finishes, Closes, Stops, BreaksOff}
+use Rattle.coord_admin.specs.Stream.{is_closed, takes_memory, IsText, MayAnswer, last_answers, IsWritten, WritesFirstPart, Gets, GetsAtLast, AllGet, Reaches, Finishes, Closes, Stops, BreaksOff}
 
 -- ---- lists
 
@@ -38,9 +40,17 @@ Consumes-none a b c seen bytes count first second e =
 
 -- ---- what is told of an answer
 
+stays_open : (answer : Answer) → takes_memory answer ≡ true → is_closed answer ≡ false
+stays_open (Replied r) e = refl
+stays_open (Refused r) e = refl
+stays_open (Shown v) e = refl
+stays_open (Resent n) e = refl
+stays_open Closed e = absurd cc
+stays_open (Faulted f) e = refl
+
 pub closed-told : (answer told : Answer) → IsWritten answer told → is_closed told ≡ is_closed answer
 closed-told answer told (inl same) = ap is_closed same
-closed-told answer told (inr h) = ap is_closed h.0 ∙ sym h.1
+closed-told answer told (inr h) = ap is_closed h.0 ∙ sym (stays_open answer h.1)
 
 pub closes-told : (told : Answer) → is_closed told ≡ true → told ≡ Closed
 closes-told (Replied r) e = absurd cc
@@ -51,6 +61,22 @@ closes-told Closed e = refl
 closes-told (Faulted f) e = absurd cc
 
 module _ {D : Type 0} (answers : D → Request → Answer → D → Type 0) where
+  -- a fault that was found is that of the line, or there was no memory
+  pub gets-fault : (d : D) (line : Line) (fault : LineFault) (r : Result Request LineFault) → r ≡ Err fault → (r ≢ Err OutOfMemory → r ≡ asked_by line) → (r ≡ Err OutOfMemory → IsText line) → Gets answers d line (Faulted fault) d
+  gets-fault d line fault r e reads memory = by fault e
+    where
+      answered : (f : LineFault) → r ≡ Err f → r ≢ Err OutOfMemory → Gets answers d line (Faulted f) d
+      answered f is other = inl (subst (λ asked. MayAnswer answers d asked (Faulted f) d) (sym is ∙ reads other) (refl, refl))
+
+      by : (f : LineFault) → r ≡ Err f → Gets answers d line (Faulted f) d
+      by Unfinished is = answered Unfinished is (λ k. absurd cc)
+      by TooLong is = answered TooLong is (λ k. absurd cc)
+      by BadText is = answered BadText is (λ k. absurd cc)
+      by BadJson is = answered BadJson is (λ k. absurd cc)
+      by BadRequest is = answered BadRequest is (λ k. absurd cc)
+      by UnknownOp is = answered UnknownOp is (λ k. absurd cc)
+      by OutOfMemory is = inr (refl, inl (memory is, refl))
+
   pub gets-told : (d e : D) (line : Line) (answer told : Answer) → Gets answers d line answer e → IsWritten answer told → Gets answers d line told e
   gets-told d e line answer told h (inl same) = subst (λ a. Gets answers d line a e) (sym same) h
   gets-told d e line answer told (inl h) (inr w) = inr (w.0, inr (answer, w.1, h))
@@ -142,9 +168,9 @@ module _ {D : Type 0} (answers : D → Request → Answer → D → Type 0) wher
 
 -- ---- what is told of an answer, as a line
 
-pub told-made : {E : Type 0} (answer is : Answer) (r : Result (String Global) E) (bytes : List ℕ) → answer ≡ is → is_closed is ≡ false → IfOk r (λ text. string_bytes text ≡ reply_line is) → bytes ≡ made_bytes r → (told : Answer) × IsWritten answer told × (bytes ≡ reply_line told)
-told-made answer is (Ok text) bytes same goes_on h e = (is, inl (sym same), e ∙ h)
-told-made answer is (Err x) bytes same goes_on h e = (Faulted OutOfMemory, inr (refl, ap is_closed same ∙ goes_on), e)
+pub told-made : {E : Type 0} (answer is : Answer) (r : Result (String Global) E) (bytes : List ℕ) → answer ≡ is → takes_memory is ≡ true → IfOk r (λ text. string_bytes text ≡ reply_line is) → bytes ≡ made_bytes r → (told : Answer) × IsWritten answer told × (bytes ≡ reply_line told)
+told-made answer is (Ok text) bytes same takes h e = (is, inl (sym same), e ∙ h)
+told-made answer is (Err x) bytes same takes h e = (Faulted OutOfMemory, inr (refl, ap takes_memory same ∙ takes), e)
 
 pub told-fixed : (answer is : Answer) (bytes : List ℕ) → answer ≡ is → bytes ≡ reply_line is → (told : Answer) × IsWritten answer told × (bytes ≡ reply_line told)
 told-fixed answer is bytes same e = (is, inl (sym same), e)

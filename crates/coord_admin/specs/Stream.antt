@@ -1,6 +1,7 @@
 -- What `serve` writes: a reply to each line of a text, in order, by what a desk may answer.
-use Rattle.std.specs.Prelude.{◌≡◌, ◌⊎◌, ℕ, ◌≤◌, ◌^◌, Bool, true, false, List, [], ◌∷◌, ◌++◌, length, Option, Some, Result, Ok, Err}
+use Rattle.std.specs.Prelude.{◌≡◌, ◌⊎◌, ℕ, ◌≤◌, ◌^◌, Bool, true, false, List, [], ◌∷◌, ◌++◌, length, IsSome, IfSome, Option, Some, Result, Ok, Err}
 use Rattle.std.specs.Io.KnownBytes.{Appends}
+use Rattle.std.specs.Str.{IsUtf8}
 use Rattle.coord_lines.specs.Lines.{Line, lines_of}
 use Rattle.coord_admin.specs.declared.request.Request.{Request}
 use Rattle.coord_admin.specs.declared.answer.Answer.{Answer}
@@ -18,6 +19,12 @@ abbrev pub is_closed : Answer → Bool
 is_closed Closed = true
 is_closed a = false
 
+-- that the desk was closed, and a fault, are told without memory
+abbrev pub takes_memory : Answer → Bool
+takes_memory Closed = false
+takes_memory (Faulted f) = false
+takes_memory a = true
+
 -- the last line, which no line feed ended, is answered if it has a byte
 abbrev pub last_answers : Line → List Answer
 last_answers (Some []) = []
@@ -31,9 +38,13 @@ IsFirstPart part text = (rest : List ℕ) × (text ≡ part ++ rest)
 abbrev pub WritesFirstPart : Option (List ℕ) → Option (List ℕ) → List ℕ → Type 0
 WritesFirstPart old new text = (part : List ℕ) × Appends old new part × IsFirstPart part text
 
--- what is told of an answer: itself, or that there was no memory to write it; that the desk was closed is always told
+-- what is told of an answer: itself, or that there was no memory to write it
 abbrev pub IsWritten : Answer → Answer → Type 0
-IsWritten answer told = (told ≡ answer) ⊎ ((told ≡ Faulted OutOfMemory) × (is_closed answer ≡ false))
+IsWritten answer told = (told ≡ answer) ⊎ ((told ≡ Faulted OutOfMemory) × (takes_memory answer ≡ true))
+
+-- a line within the limit that is a text
+abbrev pub IsText : Line → Type 0
+IsText line = IsSome line × IfSome line IsUtf8
 
 -- `answers d r a e`: the desk d may answer a to the request r, and then is e
 module _ {D : Type 0} (answers : D → Request → Answer → D → Type 0) where
@@ -45,9 +56,9 @@ module _ {D : Type 0} (answers : D → Request → Answer → D → Type 0) wher
   abbrev pub Answers : D → Line → Answer → D → Type 0
   Answers d line a e = MayAnswer d (asked_by line) a e
 
-  -- there was no memory to read the line, or none to write an answer that does not close the desk
+  -- there was no memory to read the line, or none to write its answer
   abbrev pub FindsNoMemory : D → Line → D → Type 0
-  FindsNoMemory d line e = (e ≡ d) ⊎ ((a : Answer) × (is_closed a ≡ false) × Answers d line a e)
+  FindsNoMemory d line e = (IsText line × (e ≡ d)) ⊎ ((a : Answer) × (takes_memory a ≡ true) × Answers d line a e)
 
   -- what is replied to a line: its answer, or that there was no memory
   abbrev pub Gets : D → Line → Answer → D → Type 0

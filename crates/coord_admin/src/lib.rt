@@ -7,6 +7,7 @@
 #![tactic(auto)]
 
 mod answer;
+mod asking;
 mod count_desk;
 mod desk;
 mod fault;

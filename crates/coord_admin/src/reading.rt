@@ -2,9 +2,11 @@
 
 ghost use Rattle.std.specs.Prelude.{◌≡◌, ◌≢◌, Err, Some};
 ghost use Rattle.std.specs.Option.{option_copied};
+ghost use Rattle.std.specs.Str.{IsUtf8};
 ghost use Rattle.serde_json.specs.View.{view};
 ghost use Rattle.coord_admin.specs.declared.fault.LineFault.TheVariants.{OutOfMemory};
 ghost use Rattle.coord_admin.specs.Requests.{asked_by, asked_in, request_of, member_count};
+ghost use Rattle.coord_admin.specs.Stream.{IsText};
 
 use crate::fault::LineFault;
 use crate::op::Op;
@@ -15,7 +17,8 @@ use std::str;
 
 /// What a line asks for, or its fault. A line over the limit is None.
 pub fn read_line(alloc: Global, line: Option<&[u8]>) -> Result<Request, LineFault>
-    ensures { result ≢ Err OutOfMemory → result ≡ asked_by (option_copied line.entry) }
+    ensures value { result ≢ Err OutOfMemory → result ≡ asked_by (option_copied line.entry) }
+    ensures memory { result ≡ Err OutOfMemory → IsText (option_copied line.entry) }
 {
     match line {
         Some(bytes) => read_bytes(alloc, bytes),
@@ -24,7 +27,8 @@ pub fn read_line(alloc: Global, line: Option<&[u8]>) -> Result<Request, LineFaul
 }
 
 fn read_bytes(alloc: Global, bytes: &[u8]) -> Result<Request, LineFault>
-    ensures { result ≢ Err OutOfMemory → result ≡ asked_by (Some bytes.now) }
+    ensures value { result ≢ Err OutOfMemory → result ≡ asked_by (Some bytes.now) }
+    ensures memory { result ≡ Err OutOfMemory → IsUtf8 bytes.now }
 {
     match str::from_utf8(bytes) {
         Ok(text) => read_text(alloc, text),

@@ -8,17 +8,14 @@ ghost use Rattle.coord_admin.specs.declared.answer.Answer.{Answer};
 ghost use Rattle.coord_admin.specs.declared.answer.Answer.TheVariants.{Faulted};
 ghost use Rattle.coord_admin.specs.declared.fault.LineFault.TheVariants.{Unfinished};
 ghost use Rattle.coord_admin.specs.declared.session.Ended.TheVariants.{Input};
-ghost use Rattle.coord_admin.specs.Replies.{refused, reply_line, reply_lines};
+ghost use Rattle.coord_admin.specs.Replies.{reply_line, reply_lines};
 ghost use Rattle.coord_admin.specs.Stream.{is_closed, last_answers, Gets, AllGet, Closes, BreaksOff, Served, WritesFirstPart};
 
-use crate::answer::Answer;
+use crate::asking::answer_line;
 use crate::desk::Desk;
 use crate::fault::{LineFault, ServeFault};
-use crate::reading::read_line;
-use crate::request::Request;
 use crate::writing::{NotWritten, write_answer, write_text};
 use coord_lines::LineBuffer;
-use coord_types::Refusal;
 use std::alloc::Global;
 use std::io::{Read, Write};
 
@@ -153,48 +150,5 @@ fn finish<W: Write>(line: &LineBuffer, writer: &mut W) -> Result<(), NotWritten>
     match line.get() {
         Some(bytes) if bytes.is_empty() => Ok(()),
         _ => write_text(writer, LineFault::Unfinished.line().as_bytes()),
-    }
-}
-
-/// The answer to a line, for which the desk is asked if the line has no fault.
-fn answer_line<D: Desk>(alloc: Global, line: Option<&[u8]>, desk: &mut D) -> Answer
-    ensures { Gets D.answers desk.old (option_copied line.entry) result desk.new }
-{
-    match read_line(alloc, line) {
-        Ok(request) => ask(desk, request),
-        Err(fault) => Answer::Faulted(fault),
-    }
-}
-
-fn ask<D: Desk>(desk: &mut D, request: Request) -> Answer
-    ensures { D.answers desk.old request result desk.new }
-{
-    match request {
-        Request::Order(client, number, command) => match desk.order(client, number, command) {
-            Ok(reply) => Answer::Replied(reply),
-            Err(refusal) => refused(refusal),
-        },
-        Request::Show => match desk.show() {
-            Ok(view) => Answer::Shown(view),
-            Err(refusal) => refused(refusal),
-        },
-        Request::Resend => match desk.resend() {
-            Ok(count) => Answer::Resent(count),
-            Err(refusal) => refused(refusal),
-        },
-        Request::Close => {
-            desk.close();
-            Answer::Closed
-        }
-    }
-}
-
-/// A desk that found no memory is told as a fault of the line.
-fn refused(refusal: Refusal) -> Answer
-    ensures { result ≡ refused refusal }
-{
-    match refusal {
-        Refusal::OutOfMemory => Answer::Faulted(LineFault::OutOfMemory),
-        _ => Answer::Refused(refusal),
     }
 }
