@@ -12,3 +12,9 @@ pub mod Granted
 pub mod Following
 pub mod Driving
 mod WorkedRuns
+pub mod Collecting
+pub mod Holding
+pub mod ReplyKinds
+pub mod SameSteps
+pub mod ReleasedSteps
+pub mod OwnFlight
