@@ -11,6 +11,7 @@ pub mod Signals
 pub mod Granted
 pub mod Following
 pub mod Driving
+pub mod Calling
 mod WorkedRuns
 pub mod Collecting
 pub mod Holding
