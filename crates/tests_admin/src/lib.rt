@@ -7,3 +7,5 @@ mod desks;
 mod hostile;
 #[cfg(test)]
 mod lines;
+#[cfg(test)]
+mod memory;
