@@ -15,7 +15,7 @@ demo:
 
 build:
 	rt all check
-	cd crates/resetd && rt run -- drill < stdin
+	cd crates/resetd && rt run -- drill < ../stored_run/stdin
 	mkdir -p bin
 	cp crates/resetd/out/resetd bin/resetd
 

@@ -1,1 +1,4 @@
-mod DrillWords
+mod OneClient
+mod SaidBytes
+mod Statuses
+mod Submitted

@@ -1,2 +1,6 @@
 pub mod Faults
+pub mod Founding
+pub mod Inspection
+pub mod Printed
+pub mod Topology
 pub mod Words

@@ -55,10 +55,10 @@ impl Fault {
 
     /// The exit status: 1 for what was refused, 2 for refused words, 3 for reading, writing and the
     /// device, 4 for want of memory.
-    pub fn status(self) -> u8
-        ensures { result ≡ fault_status self }
+    pub fn status(&self) -> u8
+        ensures { result ≡ fault_status self.now }
     {
-        match self {
+        match *self {
             Fault::Usage => 2,
             Fault::Read | Fault::Write | Fault::TooManyReads => 3,
             Fault::Store(StoreFault::Device) => 3,

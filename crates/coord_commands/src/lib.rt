@@ -1,13 +1,27 @@
 //! The program's commands: each a function that answers its exit status.
 //!
-//! `specs/Faults.antt` says what the faults are called, which status each has and what is printed of
-//! it, and `specs/Words.antt` what the program's words ask for.
+//! `specs/Words.antt` says what the program's words ask for, `specs/Faults.antt` what the faults are
+//! called, which status each has and what is printed of it, and `specs/Printed.antt` the lines of a
+//! store. `run` carries out what the words ask for.
+//!
+//! `init`, `check` and `show` are each a thin call, over a file, of a function over any disk:
+//! `create_store`, whose store begins with the orders of a topology (`specs/Founding.antt`),
+//! `check_store` and `show_store`. Where the disk keeps the model these say exactly which world the
+//! bytes give.
 #![tactic(auto)]
 
 mod commands;
+mod creation;
 mod fault;
+mod founding;
+mod inspection;
+mod lines;
+mod topology;
 mod words;
 
-pub use commands::{drill, report, run};
+pub use commands::{check, drill, init, report, run, show};
+pub use creation::create_store;
 pub use fault::Fault;
+pub use inspection::{check_store, show_store};
+pub use topology::topology_from;
 pub use words::{Task, read_words};

@@ -2,7 +2,7 @@
 //! `coord_drill`.
 #![tactic(auto)]
 
-pub use coord_commands::{Fault, drill, report, run};
+pub use coord_commands::{Fault, check, drill, init, report, run, show};
 pub use coord_drill::coord_drill;
 use std::env;
 use std::process::ExitCode;
@@ -16,7 +16,7 @@ fn words(rt: &HostRuntime) -> Result<Vec<String>, Fault> {
 fn main(rt: HostRuntime) -> ExitCode {
     let (mut input, mut output, mut errors) = (rt.stdin(), rt.stdout(), rt.stderr());
     let status = match words(&rt) {
-        Ok(words) => run(rt.alloc(), &words, &mut input, &mut output, &mut errors),
+        Ok(words) => run(&rt, &words, &mut input, &mut output, &mut errors),
         Err(fault) => report(Err(fault), &mut errors),
     };
     ExitCode::from(status)

@@ -1,49 +1,28 @@
-//! Runs of the drill, through the program's commands.
+//! Runs of the drill, through the program's words.
 
+use crate::program::ends;
 use crate::scripts::{BAD_LINES, RUNS};
-use coord_commands::run;
-use std::alloc::{AllocError, Global};
+use std::alloc::AllocError;
+use std::fs::File;
 use std::io;
 use std::io::{Read, Write};
+use std::rt::Files;
 use std::test::Fail;
 
-/// Whether a run of the program with these words, over a reader, has this exit status, prints this
-/// text and this fault line. Where memory runs out there is no answer.
-fn ends<R: Read>(
-    alloc: Global,
-    words: &str,
-    input: &mut R,
-    status: u8,
-    printed: &str,
-    faults: &str,
-) -> Result<bool, AllocError> {
-    let mut given = Vec::new(alloc);
-    for word in words.split(' ') {
-        given.push(String::from_str(alloc, word)?)?;
-    }
-    let mut output = Vec::new(alloc);
-    let mut errors = Vec::new(alloc);
-    let answered = run(alloc, given.as_slice(), input, &mut output, &mut errors);
-    if answered == 4 {
-        return Err(AllocError);
-    }
-    Ok(
-        answered == status
-            && output.as_slice() == printed.as_bytes()
-            && errors.as_slice() == faults.as_bytes(),
-    )
-}
-
 /// Whether a drill prints this to a script, and ends well.
-fn prints(alloc: Global, script: &[u8], expected: &str) -> Result<bool, AllocError> {
+fn prints<S: Files<File = File> + AllocGlobal>(
+    rt: &S,
+    script: &[u8],
+    expected: &'static str,
+) -> Result<bool, AllocError> {
     let mut input = script;
-    ends(alloc, "resetd drill", &mut input, 0, expected, "")
+    ends(rt, "resetd drill", &mut input, (0, expected, ""))
 }
 
 #[test]
 fn worked_runs(rt: HostRuntime) -> Result<(), Fail> {
     for (name, script, expected) in RUNS {
-        assert!(rt; prints(rt.alloc(), script.as_bytes(), expected)?, "{name}");
+        assert!(rt; prints(&rt, script.as_bytes(), expected)?, "{name}");
     }
     Ok(())
 }
@@ -51,10 +30,7 @@ fn worked_runs(rt: HostRuntime) -> Result<(), Fail> {
 #[test]
 fn bad_lines(rt: HostRuntime) -> Result<(), Fail> {
     for line in BAD_LINES {
-        assert!(rt;
-            prints(rt.alloc(), line.as_bytes(), "bad line 1\n")?,
-            "{line}"
-        );
+        assert!(rt; prints(&rt, line.as_bytes(), "bad line 1\n")?, "{line}");
     }
     Ok(())
 }
@@ -62,7 +38,7 @@ fn bad_lines(rt: HostRuntime) -> Result<(), Fail> {
 #[test]
 fn bytes_that_are_no_text(rt: HostRuntime) -> Result<(), Fail> {
     let input = [0xff, b'\n', b'#', 0xff, b'\n', b'\n', 0xff];
-    assert!(rt; prints(rt.alloc(), &input, "bad line 1\nbad line 4\n")?);
+    assert!(rt; prints(&rt, &input, "bad line 1\nbad line 4\n")?);
     Ok(())
 }
 
@@ -85,7 +61,7 @@ fn the_limit_of_a_line(rt: HostRuntime) -> Result<(), Fail> {
         input.extend_from_slice(b"1 1\n")?;
     }
     let expected = "bad line 2\nbad line 3\ndone 1\nbad line 5\n";
-    assert!(rt; prints(rt.alloc(), input.as_slice(), expected)?);
+    assert!(rt; prints(&rt, input.as_slice(), expected)?);
     Ok(())
 }
 
@@ -119,7 +95,7 @@ fn input_in_pieces(rt: HostRuntime) -> Result<(), Fail> {
         reads: 0,
     };
     let expected = "done 1\nfinished 2\nsignal 1 1\nbad line 3\n";
-    assert!(rt; ends(rt.alloc(), "resetd drill", &mut reader, 0, expected, "")?);
+    assert!(rt; ends(&rt, "resetd drill", &mut reader, (0, expected, ""))?);
     assert!(rt; reader.reads == 22);
     Ok(())
 }
@@ -151,16 +127,7 @@ fn endless_input(rt: HostRuntime) -> Result<(), Fail> {
         reads: 0,
         longest: 0,
     };
-    assert!(rt;
-        ends(
-            rt.alloc(),
-            "resetd drill",
-            &mut reader,
-            3,
-            "",
-            "resetd: Turns\n"
-        )?
-    );
+    assert!(rt; ends(&rt, "resetd drill", &mut reader, (3, "", "resetd: Turns\n"))?);
     assert!(rt; reader.reads == 1_048_576 && reader.longest == 512);
     Ok(())
 }
@@ -188,12 +155,10 @@ fn failed_read(rt: HostRuntime) -> Result<(), Fail> {
     let mut reader = Broken { reads: 0 };
     assert!(rt;
         ends(
-            rt.alloc(),
+            &rt,
             "resetd drill",
             &mut reader,
-            3,
-            "done 1\n",
-            "resetd: Read\n"
+            (3, "done 1\n", "resetd: Read\n")
         )?
     );
     Ok(())
@@ -232,31 +197,6 @@ fn failed_write(rt: HostRuntime) -> Result<(), Fail> {
     assert!(rt;
         status == 3 && output.taken == 7 && errors.as_slice() == b"resetd: Write\n".as_slice()
     );
-    Ok(())
-}
-
-/// Words that are refused.
-const REFUSED_WORDS: [&str; 9] = [
-    "resetd",
-    "resetd help",
-    "resetd --help",
-    "resetd -h",
-    "resetd --version",
-    "resetd drill --help",
-    "resetd drill drill",
-    "resetd drill --",
-    "resetd fly",
-];
-
-#[test]
-fn refused_words(rt: HostRuntime) -> Result<(), Fail> {
-    for words in REFUSED_WORDS {
-        let mut input = b"add 1 1\n".as_slice();
-        assert!(rt;
-            ends(rt.alloc(), words, &mut input, 2, "", "resetd: Usage\n")?,
-            "{words}"
-        );
-    }
     Ok(())
 }
 

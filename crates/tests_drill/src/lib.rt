@@ -2,6 +2,10 @@
 #![tactic(auto)]
 
 #[cfg(test)]
+mod commands;
+#[cfg(test)]
 mod drill;
+#[cfg(test)]
+mod program;
 #[cfg(test)]
 mod scripts;

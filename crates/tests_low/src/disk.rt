@@ -1,8 +1,13 @@
 //! Tests of coord_disk.
 
-use coord_disk::{BlipDisk, Choice, CrashDisk, Disk, DiskFault, FuseDisk, MemDisk};
+use coord_disk::{
+    BlipDisk, Choice, CrashDisk, Disk, DiskFault, FileDisk, FuseDisk, GateDisk, MemDisk,
+};
 use std::alloc::Global;
+use std::sync::Arc;
+use std::sync::atomic::{AtomicBool, Ordering};
 use std::test::Fail;
+use std::{env, fs};
 
 // Whether a crash by this choice leaves these bytes of three synced ones and, behind a gap of two places, two that are not.
 fn leaves(alloc: Global, choice: Choice, want: &[u8]) -> Result<bool, Fail> {
@@ -90,6 +95,64 @@ fn blip_fails(alloc: Global) -> Result<bool, Fail> {
 #[test]
 fn a_blip_fails_one_call(rt: HostRuntime) -> Result<(), Fail> {
     assert!(rt; blip_fails(rt.alloc())?);
+    Ok(())
+}
+
+// Whether a sync says that it came, passes where the gate is open, and else fails and changes nothing.
+fn waits_at_a_gate(alloc: Global, is_open: bool) -> Result<bool, Fail> {
+    let entered = Arc::new(alloc, AtomicBool::new(false))?;
+    let answered = Arc::new(alloc, AtomicBool::new(is_open))?;
+    let inner = MemDisk::new(alloc);
+    let mut disk = GateDisk::new(inner, Arc::try_clone(&entered)?, Arc::try_clone(&answered)?);
+    disk.write_at(0, &[1])?;
+    let came_early = entered.load(Ordering::SeqCst);
+    let passed = disk.sync().is_ok();
+    let came = entered.load(Ordering::SeqCst);
+    let synced = disk.crash().into_inner().bytes() == [1].as_slice();
+    Ok(!came_early && came && passed == is_open && synced == is_open)
+}
+
+#[test]
+fn a_sync_waits_at_a_gate(rt: HostRuntime) -> Result<(), Fail> {
+    assert!(rt; waits_at_a_gate(rt.alloc(), true)? && waits_at_a_gate(rt.alloc(), false)?);
+    Ok(())
+}
+
+// Whether a file is made, and read as it was written, while no other process may open it for writing.
+fn is_a_disk(rt: &HostRuntime, path: &str) -> Result<bool, Fail> {
+    let mut disk = FileDisk::open(rt, path)?;
+    let is_empty = disk.len() == Ok(0);
+    disk.write_at(2, &[7, 8])?;
+    disk.sync()?;
+    let mut buf = [9u8; 4];
+    disk.read(0, &mut buf)?;
+    let is_written = buf == [0, 0, 7, 8] && disk.len() == Ok(4);
+    let past_the_end = disk.read(1, &mut buf) == Err(DiskFault)
+        && disk.write_at(1 << 63, &[1]) == Err(DiskFault)
+        && disk.len() == Ok(4);
+    let is_locked = FileDisk::open(rt, path).is_err();
+    let mut reader = FileDisk::open_to_read(rt, path)?;
+    let is_read = reader.len() == Ok(4) && reader.read(0, &mut buf) == Ok(());
+    let is_kept = reader.write_at(0, &[1]) == Err(DiskFault) && disk.len() == Ok(4);
+    drop(disk);
+    Ok(
+        is_empty
+            && is_written
+            && past_the_end
+            && is_locked
+            && is_read
+            && is_kept
+            && FileDisk::open(rt, path).is_ok(),
+    )
+}
+
+#[test]
+fn a_file_is_a_disk(rt: HostRuntime) -> Result<(), Fail> {
+    let path = format!(in rt.alloc(); "{}/resetd_file_disk", env::temp_dir(&rt)?.as_str())?;
+    let _ = fs::remove_file(&rt, &path);
+    let is_a_disk = is_a_disk(&rt, &path)?;
+    fs::remove_file(&rt, &path)?;
+    assert!(rt; is_a_disk);
     Ok(())
 }
 

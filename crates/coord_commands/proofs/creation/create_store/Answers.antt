@@ -1,0 +1,13 @@
+use Rattle.std.proofs.Common.{List, arith, subst, sym, ◌∙◌}
+use Rattle.std.specs.List.{AllByRecursion}
+use Rattle.coord_batch.specs.Batches.{IsNumbered}
+use Rattle.coord_config.specs.Topology.{content}
+use Rattle.coord_types.specs.declared.steps.Step.{Step}
+use Rattle.coord_commands.proofs.OneClient.{each_numbered}
+use Rattle.coord_commands.specs.Founding.{commands}
+use Rattle.coord_commands.proofs.creation.create_store.Goals as goal
+
+pub commit-requires-clause-numbered : goal.commit-requires-clause-numbered
+commit-requires-clause-numbered g c =
+    subst (λ (l : List Step). AllByRecursion IsNumbered l) (sym (c.deref.ensures.value ∙ c.in-Ok-founding_steps.ensures.steps))
+    (each_numbered 1 (commands (content c.args.topology.now)) (omega arith))

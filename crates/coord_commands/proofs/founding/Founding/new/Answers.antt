@@ -1,0 +1,21 @@
+use Rattle.std.proofs.Common.{◌∙◌, List, ap, sym, subst, length}
+use Rattle.coord_store.specs.Recovered.{AllFresh}
+use Rattle.coord_types.specs.Table.{get}
+use Rattle.coord_types.specs.declared.steps.Step.{Step}
+use Rattle.coord_world.specs.protocol.Acceptance.{last_number}
+use Rattle.coord_world.specs.protocol.Next.{fold}
+use Rattle.coord_world.specs.protocol.NumberedWorld.{World, no_world}
+use Rattle.coord_commands.specs.Founding.{founder}
+use Rattle.coord_commands.proofs.OneClient.{none_yet}
+use Rattle.coord_commands.proofs.founding.Founding.new.Goals as goal
+
+pub returns-clause-under_way : goal.returns-clause-under_way
+returns-clause-under_way c =
+    let none = c.new.ensures.items in
+    record {
+      nothing_settled = c.empty.ensures.value;
+      world = c.empty-2.ensures.value ∙ sym (ap (λ (l : List Step). fold no_world l) none);
+      fresh = subst (λ (l : List Step). AllFresh no_world no_world l) (sym none) tt;
+      legal = c.empty-2.ensures.legal;
+      numbered = ap (λ (w : World). last_number (get w.sessions founder)) c.empty-2.ensures.value ∙ none_yet ∙ sym (ap (λ (l : List Step). length l) none);
+    }

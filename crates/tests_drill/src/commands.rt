@@ -1,0 +1,217 @@
+//! Runs of the commands on files.
+
+use crate::program::{Ending, ends};
+use coord_commands::{Fault, report};
+use std::test::Fail;
+use std::{env, fs, io};
+
+/// Words, in which `@` stands for the folder of the run, and what a run with them ends with.
+type Run = (&'static str, Ending);
+
+/// A folder of its own for the files of a test.
+fn make_folder(rt: &HostRuntime, name: &str) -> io::Result<String> {
+    let folder = format!(in rt.alloc(); "{}/resetd_{name}", env::temp_dir(rt)?.as_str())?;
+    let _ = fs::remove_dir_all(rt, &folder);
+    fs::create_dir(rt, &folder)?;
+    Ok(folder)
+}
+
+/// Carries runs out, one after the other, on files that are in a folder of their own, and tells
+/// the first that ends otherwise.
+fn first_wrong(
+    rt: &HostRuntime,
+    name: &str,
+    files: &[(&str, &[u8])],
+    runs: &[Run],
+) -> Result<Option<&'static str>, Fail> {
+    let folder = make_folder(rt, name)?;
+    for (file, bytes) in files {
+        fs::write(rt, format!(in rt.alloc(); "{folder}/{file}")?, *bytes)?;
+    }
+    let mut wrong = None;
+    for (words, ending) in runs {
+        let given = words.replace(rt.alloc(), "@", &folder)?;
+        if !ends(rt, &given, &mut b"".as_slice(), *ending)? {
+            wrong = wrong.or(Some(*words));
+        }
+    }
+    fs::remove_dir_all(rt, &folder)?;
+    Ok(wrong)
+}
+
+/// Two nodes of one group and their link.
+const PAIR: &[u8] = b"half = 32768\n\
+[[node]]\n\
+id = 1\n\
+group = 1\n\
+[[node]]\n\
+id = 2\n\
+group = 1\n\
+[[link]]\n\
+a = 1\n\
+b = 2\n";
+
+/// The second node has the first one's number.
+const REPEATED_NODE: &[u8] = b"[[node]]\n\
+id = 1\n\
+group = 1\n\
+[[node]]\n\
+id = 1\n\
+group = 1\n";
+
+const TOPOLOGY_RUNS: [Run; 9] = [
+    ("resetd init @/store @/pair", (0, "created 3\n", "")),
+    (
+        "resetd show @/store",
+        (
+            0,
+            "view 3 3\n\
+             node 1 1 ready 0 0 0\n\
+             node 2 1 ready 0 0 0\n\
+             link 1 2 3\n",
+            "",
+        ),
+    ),
+    ("resetd check @/store", (0, "legal 3\n", "")),
+    ("resetd init @/store @/pair", (1, "", "resetd: NotEmpty\n")),
+    (
+        "resetd init @/other @/repeated",
+        (1, "", "resetd: 7 NodeExists\n"),
+    ),
+    ("resetd check @/other", (0, "legal 0\n", "")),
+    ("resetd show @/other", (0, "view 0 0\n", "")),
+    ("resetd init @/empty @/nothing", (0, "created 0\n", "")),
+    ("resetd show @/empty", (0, "view 0 0\n", "")),
+];
+
+#[test]
+fn topology_file(rt: HostRuntime) -> Result<(), Fail> {
+    let files = [
+        ("pair", PAIR),
+        ("repeated", REPEATED_NODE),
+        ("nothing", b"".as_slice()),
+    ];
+    let wrong = first_wrong(&rt, "topology", &files, &TOPOLOGY_RUNS)?;
+    assert!(rt; wrong.is_none(), "{wrong:?}");
+    Ok(())
+}
+
+/// The order of faults: the words, the topology, the file.
+const FAULT_RUNS: [Run; 11] = [
+    (
+        "resetd init @/absent/store @/absent",
+        (3, "", "resetd: Read\n"),
+    ),
+    (
+        "resetd init @/absent/store @/key",
+        (1, "", "resetd: BadKey\n"),
+    ),
+    (
+        "resetd init @/absent/store @/value",
+        (1, "", "resetd: BadValue\n"),
+    ),
+    (
+        "resetd init @/absent/store @/toml",
+        (1, "", "resetd: NotToml\n"),
+    ),
+    (
+        "resetd init @/absent/store @/bytes",
+        (1, "", "resetd: NotToml\n"),
+    ),
+    (
+        "resetd init @/absent/store @/pair",
+        (3, "", "resetd: Device\n"),
+    ),
+    ("resetd check @/absent/store", (3, "", "resetd: Device\n")),
+    ("resetd check @/new", (1, "", "resetd: NoMagic\n")),
+    ("resetd init @/new @/pair", (0, "created 3\n", "")),
+    ("resetd check @/pair", (1, "", "resetd: NoMagic\n")),
+    ("resetd show @/pair", (1, "", "resetd: NoMagic\n")),
+];
+
+#[test]
+fn order_of_faults(rt: HostRuntime) -> Result<(), Fail> {
+    let files = [
+        ("pair", PAIR),
+        ("key", b"halves = 1".as_slice()),
+        ("value", b"half = 1".as_slice()),
+        ("toml", b"half =".as_slice()),
+        ("bytes", b"half = 32768 # \xff".as_slice()),
+    ];
+    let wrong = first_wrong(&rt, "faults", &files, &FAULT_RUNS)?;
+    assert!(rt; wrong.is_none(), "{wrong:?}");
+    Ok(())
+}
+
+/// A store of two linked nodes, of which the second sent an Ack that the first does not await.
+const VIOLATED: &[u8] = b"\x00ACRRESET\0\0\0\0\0\0\x80\0\
+\x01\0\0\0\x70\
+\0\0\0\0\0\0\0\x03\
+\x02\
+\x01\x01\0\0\0\0\0\0\0\0\0\0\0\0\0\0\0\0\0\0\0\0\0\0\0\0\0\0\
+\x02\x01\0\0\0\0\0\0\0\0\0\0\0\0\0\0\0\0\0\0\0\0\0\0\0\0\0\0\
+\x01\
+\x01\x02\0\0\0\0\0\0\0\x03\
+\0\0\0\0\0\0\0\0\0\0\0\0\0\0\0\0\0\
+\0\0\0\0\0\0\0\0\0\0\0\0\0\0\0\0\x01\x01\
+\0\
+\0";
+
+const VIOLATED_RUNS: [Run; 3] = [
+    ("resetd check @/store", (1, "violated 1 2 B\n", "")),
+    ("resetd show @/store", (1, "", "resetd: Violated\n")),
+    ("resetd check @/cut", (1, "", "resetd: BadRecord\n")),
+];
+
+#[test]
+fn violated_store(rt: HostRuntime) -> Result<(), Fail> {
+    let files = [
+        ("store", VIOLATED),
+        ("cut", &VIOLATED[..VIOLATED.len() - 1]),
+    ];
+    let wrong = first_wrong(&rt, "violated", &files, &VIOLATED_RUNS)?;
+    assert!(rt; wrong.is_none(), "{wrong:?}");
+    Ok(())
+}
+
+/// Words that are refused.
+const REFUSED_WORDS: [&str; 18] = [
+    "resetd",
+    "resetd help",
+    "resetd --help",
+    "resetd -h",
+    "resetd --version",
+    "resetd drill --help",
+    "resetd drill drill",
+    "resetd drill --",
+    "resetd fly",
+    "resetd serve F localhost",
+    "resetd init",
+    "resetd init F",
+    "resetd init F T T",
+    "resetd check",
+    "resetd check --help",
+    "resetd check -f",
+    "resetd show F F",
+    "resetd show --version",
+];
+
+#[test]
+fn refused_words(rt: HostRuntime) -> Result<(), Fail> {
+    for words in REFUSED_WORDS {
+        let mut input = b"add 1 1\n".as_slice();
+        assert!(rt;
+            ends(&rt, words, &mut input, (2, "", "resetd: Usage\n"))?,
+            "{words}"
+        );
+    }
+    Ok(())
+}
+
+#[test]
+fn want_of_memory_is_told(rt: HostRuntime) -> Result<(), Fail> {
+    let mut errors = Vec::new(rt.alloc());
+    let status = report(Err(Fault::OutOfMemory), &mut errors);
+    assert!(rt; status == 4 && errors.as_slice() == b"resetd: OutOfMemory\n".as_slice());
+    Ok(())
+}
