@@ -1,3 +1,4 @@
+mod CommandsTaken
 mod OneClient
 mod SaidBytes
 mod Statuses

@@ -15,6 +15,7 @@ mod creation;
 mod fault;
 mod founding;
 mod inspection;
+pub mod laws;
 mod lines;
 mod topology;
 mod words;
