@@ -27,6 +27,7 @@ mod ledger;
 mod mark;
 mod release;
 mod releases;
+mod run_events;
 pub mod runs;
 mod seen;
 mod settling;

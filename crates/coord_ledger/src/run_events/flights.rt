@@ -1,0 +1,156 @@
+//! The events of a run that move the store: a flight goes out and comes back, and the disk crashes.
+
+ghost use Rattle.std.specs.Prelude.{◌≡◌, IfOk, MatchResult};
+ghost use Rattle.coord_ledger.specs.declared.events.Event.TheVariants.{Begin, Crash, Finish};
+ghost use Rattle.coord_ledger.specs.ledger.Driver.{IsPromised, model_of};
+ghost use Rattle.coord_ledger.specs.ledger.Follows.{Follows, FollowsTo};
+ghost use Rattle.coord_ledger.specs.machine.Consistent.{IsConsistent};
+ghost use Rattle.coord_ledger.specs.machine.Machine.{Machine};
+ghost use Rattle.coord_ledger.specs.promises.Headline.{IsCutShort};
+
+use super::driver::Driver;
+use super::released::{forget_all, push_releases};
+use crate::{Answer, Ledger, Release, RunFaultKind, Seen};
+use coord_disk::CrashDisk;
+use coord_types::Refusal;
+use std::alloc::Global;
+
+/// Why an event was not answered, and what was released until then.
+pub struct Broken {
+    pub kind: RunFaultKind,
+    pub released: Vec<Release>,
+}
+
+impl<D: CrashDisk> Driver<D> {
+    /// A flight goes out. While one is out, none does.
+    pub fn begin(self) -> (Answer, Self)
+        ensures answered { (s : Machine) → IsConsistent s → Follows self s → FollowsTo s Begin result.0 result.1 }
+        ensures model { model_of D.keeps_model result.1 ≡ model_of D.keeps_model self }
+    {
+        let Driver {
+            mut ledger,
+            flight,
+            tickets,
+            seen,
+            released,
+        } = self;
+        if let Some(flight) = flight {
+            let flight = Some(flight);
+            let held = Driver {
+                ledger,
+                flight,
+                tickets,
+                seen,
+                released,
+            };
+            return (Answer::Nothing, held);
+        }
+        let (answer, flight) = match ledger.begin_flush() {
+            Ok(Some(flight)) => (Answer::Begun(flight.steps.len() as u64), Some(flight)),
+            Ok(None) => (Answer::Nothing, None),
+            Err(_) => (Answer::Refused(Refusal::OutOfMemory), None),
+        };
+        let held = Driver {
+            ledger,
+            flight,
+            tickets,
+            seen,
+            released,
+        };
+        (answer, held)
+    }
+
+    /// The flight comes back, and what it releases is kept.
+    pub fn finish(self) -> Result<(Answer, Self), Broken>
+        ensures answered { (s : Machine) → IsConsistent s → Follows self s → MatchResult result (λ held. FollowsTo s Finish held.0 held.1) (λ broken. IsCutShort s Finish broken.released.items) }
+        ensures model { IfOk result (λ held. model_of D.keeps_model held.1 ≡ model_of D.keeps_model self) }
+    {
+        let Driver {
+            mut ledger,
+            flight,
+            tickets,
+            seen,
+            mut released,
+        } = self;
+        let Some(flight) = flight else {
+            let held = Driver {
+                ledger,
+                flight: None,
+                tickets,
+                seen,
+                released,
+            };
+            return Ok((Answer::NoFlight, held));
+        };
+        let (answer, flight) = match ledger.end_flush(flight) {
+            Ok(releases) => {
+                if push_releases(&mut released, releases).is_err() {
+                    forget_all(tickets);
+                    return Err(Broken {
+                        kind: RunFaultKind::OutOfMemory,
+                        released,
+                    });
+                }
+                (Answer::Finished(ledger.settled().count()), None)
+            }
+            Err((refusal, flight)) => (Answer::Refused(refusal), Some(flight)),
+        };
+        let held = Driver {
+            ledger,
+            flight,
+            tickets,
+            seen,
+            released,
+        };
+        Ok((answer, held))
+    }
+
+    /// The disk crashes and is opened again. Tickets and the flight are gone.
+    pub fn crash(self, alloc: Global) -> Result<(Answer, Self), Broken>
+        ensures answered { (s : Machine) → IsConsistent s → Follows self s → IsPromised (model_of D.keeps_model self) Crash
+            → MatchResult result (λ held. FollowsTo s Crash held.0 held.1) (λ broken. IsCutShort s Crash broken.released.items) }
+        ensures model { IfOk result (λ held. model_of D.keeps_model held.1 ≡ model_of D.keeps_model self) }
+    {
+        let Driver {
+            ledger,
+            flight,
+            tickets,
+            seen: _,
+            released,
+        } = self;
+        forget_all(tickets);
+        let disk = match flight {
+            Some(flight) => {
+                flight.images_give_world();
+                flight.into_disk()
+            }
+            None => {
+                ledger.images_give_settled();
+                match ledger.close() {
+                    Ok(store) => store.into_disk(),
+                    Err(_) => unreachable!(),
+                }
+            }
+        };
+        let store = match coord_store::open(alloc, disk.crash()) {
+            Ok(store) => store,
+            Err((fault, _)) => {
+                let kind = RunFaultKind::Store(fault);
+                return Err(Broken { kind, released });
+            }
+        };
+        let Ok(ledger) = Ledger::adopt(alloc, store) else {
+            let kind = RunFaultKind::OutOfMemory;
+            return Err(Broken { kind, released });
+        };
+        let count = ledger.settled().count();
+        let held = Driver {
+            ledger,
+            flight: None,
+            tickets: Vec::new(alloc),
+            seen: Seen::new(),
+            released,
+        };
+        Ok((Answer::Opened(count), held))
+    }
+}
