@@ -15,6 +15,12 @@ use crate::step_writing::put_step;
 use coord_types::{MAX_BATCH_BYTES, MAX_BATCH_STEPS, MAX_STEPS, Step};
 use std::alloc::{AllocError, Global};
 
+/// The bytes before the first step: its number, and how many steps there are.
+const HEAD_BYTES: usize = 10;
+
+/// The most bytes of one step.
+const MOST_STEP_BYTES: usize = 20;
+
 /// Steps that were committed together, 1 to 256 of them, of which the first has this number, from
 /// 1 to 2^40.
 #[derive(Drop, Debug)]
@@ -78,7 +84,7 @@ pub fn write_batch(alloc: Global, first: u64, steps: &[Step]) -> Result<Vec<u8>,
     ensures len { IfOk result (λ v. length v.items ≤ MAX_BATCH_BYTES) }
     ensures fits { IfOk result (λ v. IsBatch first steps.now) }
 {
-    let mut out = Vec::new(alloc);
+    let mut out = Vec::with_capacity(alloc, HEAD_BYTES + MOST_STEP_BYTES * steps.len())?;
     out.extend_from_slice(&first.to_be_bytes())?;
     out.extend_from_slice(&(steps.len() as u16).to_be_bytes())?;
     for step in steps {

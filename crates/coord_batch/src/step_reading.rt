@@ -70,7 +70,7 @@ impl<'a> Input<'a> {
     fn step_list(&mut self, alloc: Global, count: u16) -> Result<Vec<Step>, ReadError>
         ensures { Reads (λ v. v.items) result (items_at (λ _. step) count [] self.old) self.new }
     {
-        let mut list = Vec::new(alloc);
+        let mut list = Vec::with_capacity(alloc, usize::from(count))?;
         for _ in 0..count {
             // By reference: the toolchain has no proof for a `push` of a value that holds a `Command`.
             list.extend_from_slice(&[self.step()?])?;

@@ -28,7 +28,7 @@ module _ (w : World) (range : InRange w) where
   abbrev node_told : ℕ → Option NodeState → List Violation
   node_told u o = if is_some o then told (is_legal_node w.count (state_or_none o)) (record { a = u; b = u; letter = letter.N }) else []
 
-  is_node : (u v : ℕ) → is_linked w u v ≡ true → (1 ≤ u) × (u ≤ 64)
+  pub is_node : (u v : ℕ) → is_linked w u v ≡ true → (1 ≤ u) × (u ≤ 64)
   is_node u v is =
       let found : (r : NodeState) × (get w.nodes u ≡ Some r) = has_one (get w.nodes u) (range.ends u v is) in
       let named = range.nodes u found.0 found.1 in

@@ -2,3 +2,4 @@ pub mod FirstFault
 pub mod NoFaults
 pub mod LegalWithoutFaults
 pub mod FaultsFail
+pub mod Walk

@@ -1,8 +1,9 @@
 //! The search for the first fault.
 
-ghost use Rattle.std.specs.Prelude.{◌≡◌, ◌↔◌, IsNone, IfSome};
+ghost use Rattle.std.specs.Prelude.{◌≡◌, ◌↔◌, IsNone, IfSome, [], nat_lt, if◌then◌else◌};
 ghost use Rattle.std.specs.List.{flat_map};
 ghost use Rattle.coord_world.specs.protocol.Legal.{Legal};
+ghost use Rattle.coord_world.specs.protocol.NumberedWorld.{state};
 ghost use Rattle.coord_world.specs.protocol.Ranges.{InRange};
 ghost use Rattle.coord_check.specs.Faults.{Fails, faults, first, link_faults, faults_from, node_faults, nodes_from};
 
@@ -10,7 +11,7 @@ use crate::letters::holds;
 use crate::node_check::is_legal_node;
 use crate::side::Side;
 use crate::violation::{Letter, Violation};
-use coord_types::NodeId;
+use coord_types::{NodeId, NodeSet};
 use coord_world::World;
 
 /// One more than the greatest number of a node.
@@ -86,13 +87,35 @@ fn first_of_links_from(world: &World, a: NodeId) -> Option<Violation>
     requires { InRange world.now }
     ensures { result ≡ first (faults_from world.now a) }
 {
-    for number in a.number() + 1..END {
-        let b = NodeId::new(number)?;
-        if let Some(fault) = first_of_link(world, a, b) {
+    let mut rest = neighbours_of(world, a);
+    while let Some(b) = rest.first() {
+        if let Some(fault) = first_of_link_up(world, a, b) {
             return Some(fault);
         }
+        rest = rest.without(b);
     }
     None
+}
+
+fn neighbours_of(world: &World, a: NodeId) -> NodeSet
+    ensures { result ≡ (state world.now a).neighbours }
+{
+    match world.node(a) {
+        Some(node) => node.neighbours(),
+        None => NodeSet::new(),
+    }
+}
+
+/// The first fault of a link to a node with a greater number; none where that number is lesser.
+fn first_of_link_up(world: &World, a: NodeId, b: NodeId) -> Option<Violation>
+    requires { InRange world.now }
+    ensures { result ≡ first (if nat_lt a b then link_faults world.now a b else []) }
+{
+    if a < b {
+        first_of_link(world, a, b)
+    } else {
+        None
+    }
 }
 
 fn first_of_link(world: &World, a: NodeId, b: NodeId) -> Option<Violation>

@@ -1,5 +1,6 @@
 pub mod WorldGrammars
 pub mod Rising
+pub mod RowsRead
 pub mod WorldTexts
 pub mod WorldRows
 pub mod Lengths

@@ -11,7 +11,7 @@
 #![tactic(auto)]
 
 pub mod laws;
-mod row_search;
+mod rows_read;
 mod world;
 mod world_reading;
 mod world_writing;

@@ -1,16 +1,17 @@
 //! Reading of the rows of worlds.
 
-ghost use Rattle.std.specs.Prelude.{◌≡◌, ◌≤◌, [], length, IfOk};
+ghost use Rattle.std.specs.Prelude.{◌≡◌, ◌≤◌, [], List, IfOk, OnOk};
 ghost use Rattle.coord_batch.specs.Format.{items_at};
 ghost use Rattle.coord_batch.specs.Fields.{message};
 ghost use Rattle.coord_batch.specs.Reading.{Reads};
-ghost use Rattle.coord_codec.specs.Worlds.{client_row, clients, content_of_lane, ends, kind, lane, link_row, links, mask, mode, node_row, nodes, parent, queue, world};
+ghost use Rattle.coord_codec.specs.Worlds.{client_row, clients, content_of_lane, ends, kind, lane, last_by, link_row, links, mask, mode, node_row, nodes, parent, queue, world};
 ghost use Rattle.coord_world.specs.protocol.Rows.{listed};
+ghost use Rattle.coord_world.specs.declared.rows.parts.ClientRow.{ClientRow};
 
-use crate::row_search::{can_link, first_rises, last_client, last_node, second_rises};
+use crate::rows_read::{LinksRead, NodesRead, can_link};
 use coord_batch::{Input, ReadError};
 use coord_link::Lane;
-use coord_types::{Command, Kind, MAX_STEPS, Mode, Msg, NodeId, NodeSet, Reply, Session};
+use coord_types::{Command, Kind, MAX_STEPS, Mode, NodeId, NodeSet, Reply, Session};
 use coord_world::{ClientRow, LinkRow, NodeRow, Parts};
 use std::alloc::Global;
 
@@ -51,12 +52,12 @@ fn read_node_set(input: &mut Input) -> Result<NodeSet, ReadError>
 }
 
 #[tactic(auto, unfolding(crate::specs::Worlds::node_row))]
-fn read_node_row(input: &mut Input, count: u64, front: &[NodeRow]) -> Result<NodeRow, ReadError>
-    ensures { Reads (λ x. x) result ((node_row count front.now).read input.old) input.new }
+fn read_node_row(input: &mut Input, count: u64, front: &NodesRead) -> Result<NodeRow, ReadError>
+    ensures { Reads (λ x. x) result ((node_row count front.now.rows.items).read input.old) input.new }
 {
     let left = input.left();
     let id = input.node()?;
-    if id.number() <= last_node(front) {
+    if id.number() <= front.last() {
         return Err(ReadError::bad_byte(left));
     }
     Ok(NodeRow {
@@ -73,19 +74,19 @@ fn read_node_row(input: &mut Input, count: u64, front: &[NodeRow]) -> Result<Nod
 #[tactic(auto, unfolding(crate::specs::Worlds::ends))]
 fn read_ends(
     input: &mut Input,
-    nodes: &[NodeRow],
-    front: &[LinkRow],
+    nodes: &NodesRead,
+    front: &LinksRead,
 ) -> Result<(NodeId, NodeId), ReadError>
-    ensures { Reads (λ x. x) result ((ends nodes.now front.now).read input.old) input.new }
+    ensures { Reads (λ x. x) result ((ends nodes.now.rows.items front.now.rows.items).read input.old) input.new }
 {
     let left = input.left();
     let a = input.node()?;
-    if !first_rises(front, a) {
+    if !front.first_rises(a) {
         return Err(ReadError::bad_byte(left));
     }
     let left_behind_first = input.left();
     let b = input.node()?;
-    if !second_rises(front, a, b) {
+    if !front.second_rises(a, b) {
         return Err(ReadError::bad_byte(left_behind_first));
     }
     if !can_link(nodes, front, a, b) {
@@ -94,53 +95,57 @@ fn read_ends(
     Ok((a, b))
 }
 
-/// As many messages as are asked for.
-fn read_message_list(input: &mut Input, alloc: Global, count: u8) -> Result<Vec<Msg>, ReadError>
-    ensures read { Reads (λ v. v.items) result (items_at (λ _. message) count [] input.old) input.new }
-    ensures len { IfOk result (λ v. length v.items ≤ count) }
+/// As many messages as are asked for, put into an empty lane.
+fn read_messages(input: &mut Input, lane: &mut Lane, count: u8) -> Result<(), ReadError>
+    requires empty { lane.old.queue ≡ [] }
+    requires most { count ≤ 4 }
+    ensures read { Reads (λ _. lane.new.queue) result (items_at (λ _. message) count [] input.old) input.new }
+    ensures same { OnOk result ((lane.new.inc ≡ lane.old.inc) × (lane.new.base ≡ lane.old.base) × (lane.new.got ≡ lane.old.got)) }
 {
-    let mut list = Vec::new(alloc);
     for _ in 0..count {
-        list.push(input.message()?)?;
+        let msg = input.message()?;
+        lane.send(msg);
     }
-    Ok(list)
+    Ok(())
 }
 
+/// A queue, put into an empty lane.
 #[tactic(auto, unfolding(crate::specs::Worlds::queue))]
-fn read_queue(input: &mut Input, alloc: Global) -> Result<Vec<Msg>, ReadError>
-    ensures read { Reads (λ v. v.items) result (queue.read input.old) input.new }
-    ensures len { IfOk result (λ v. length v.items ≤ 4) }
+fn read_queue(input: &mut Input, lane: &mut Lane) -> Result<(), ReadError>
+    requires { lane.old.queue ≡ [] }
+    ensures read { Reads (λ _. lane.new.queue) result (queue.read input.old) input.new }
+    ensures same { OnOk result ((lane.new.inc ≡ lane.old.inc) × (lane.new.base ≡ lane.old.base) × (lane.new.got ≡ lane.old.got)) }
 {
     let count = input.how_many(4)?;
-    read_message_list(input, alloc, count)
+    read_messages(input, lane, count)
 }
 
 /// A lane of this incarnation.
 #[tactic(auto, unfolding(crate::specs::Worlds::lane))]
-fn read_lane(input: &mut Input, alloc: Global, count: u64, inc: u64) -> Result<Lane, ReadError>
+fn read_lane(input: &mut Input, count: u64, inc: u64) -> Result<Lane, ReadError>
     ensures read { Reads content_of_lane result ((lane count).read input.old) input.new }
     ensures inc { IfOk result (λ l. l.inc ≡ inc) }
 {
     let base = input.at_most(count)?;
     let got = input.at_most(count)?;
-    let queue = read_queue(input, alloc)?;
-    Ok(Lane::restore(inc, base, got, &queue))
+    let mut lane = Lane::restore(inc, base, got, &[]);
+    read_queue(input, &mut lane)?;
+    Ok(lane)
 }
 
 #[tactic(auto, unfolding(crate::specs::Worlds::link_row))]
 fn read_link_row(
     input: &mut Input,
-    alloc: Global,
     count: u64,
-    nodes: &[NodeRow],
-    front: &[LinkRow],
+    nodes: &NodesRead,
+    front: &LinksRead,
 ) -> Result<LinkRow, ReadError>
-    ensures { Reads (λ x. x) result ((link_row count nodes.now front.now).read input.old) input.new }
+    ensures { Reads (λ x. x) result ((link_row count nodes.now.rows.items front.now.rows.items).read input.old) input.new }
 {
     let (a, b) = read_ends(input, nodes, front)?;
     let inc = input.from_one_to(count)?;
-    let forth = read_lane(input, alloc, count, inc)?;
-    let back = read_lane(input, alloc, count, inc)?;
+    let forth = read_lane(input, count, inc)?;
+    let back = read_lane(input, count, inc)?;
     Ok(LinkRow { a, b, forth, back })
 }
 
@@ -164,16 +169,14 @@ fn read_kind(input: &mut Input, order: &Command) -> Result<Kind, ReadError>
 }
 
 #[tactic(auto, unfolding(crate::specs::Worlds::client_row))]
-fn read_client_row(
-    input: &mut Input,
-    count: u64,
-    front: &[ClientRow],
-) -> Result<ClientRow, ReadError>
-    ensures { Reads (λ x. x) result ((client_row count front.now).read input.old) input.new }
+/// The row of a client behind these, of which the last has this number, or 0.
+fn read_client_row(input: &mut Input, count: u64, last: u8) -> Result<ClientRow, ReadError>
+    ensures { (front : List ClientRow) → last ≡ last_by (λ r. r.client) 0 front
+        → Reads (λ x. x) result ((client_row count front).read input.old) input.new }
 {
     let left = input.left();
     let client = input.client()?;
-    if client.number() <= last_client(front) {
+    if client.number() <= last {
         return Err(ReadError::bad_byte(left));
     }
     let number = input.from_one_to(count)?;
@@ -196,10 +199,10 @@ fn read_node_list(
     alloc: Global,
     count: u64,
     rows: u8,
-) -> Result<Vec<NodeRow>, ReadError>
-    ensures { Reads (λ v. v.items) result (items_at (node_row count) rows [] input.old) input.new }
+) -> Result<NodesRead, ReadError>
+    ensures { Reads (λ v. v.rows.items) result (items_at (node_row count) rows [] input.old) input.new }
 {
-    let mut list = Vec::new(alloc);
+    let mut list = NodesRead::new(alloc);
     for _ in 0..rows {
         let row = read_node_row(input, count, &list)?;
         list.push(row)?;
@@ -212,14 +215,14 @@ fn read_link_list(
     input: &mut Input,
     alloc: Global,
     count: u64,
-    nodes: &[NodeRow],
+    nodes: &NodesRead,
     rows: u8,
-) -> Result<Vec<LinkRow>, ReadError>
-    ensures { Reads (λ v. v.items) result (items_at (link_row count nodes.now) rows [] input.old) input.new }
+) -> Result<LinksRead, ReadError>
+    ensures { Reads (λ v. v.rows.items) result (items_at (link_row count nodes.now.rows.items) rows [] input.old) input.new }
 {
-    let mut list = Vec::new(alloc);
+    let mut list = LinksRead::new(alloc);
     for _ in 0..rows {
-        let row = read_link_row(input, alloc, count, nodes, &list)?;
+        let row = read_link_row(input, count, nodes, &list)?;
         list.push(row)?;
     }
     Ok(list)
@@ -235,8 +238,10 @@ fn read_client_list(
     ensures { Reads (λ v. v.items) result (items_at (client_row count) rows [] input.old) input.new }
 {
     let mut list = Vec::new(alloc);
+    let mut last = 0;
     for _ in 0..rows {
-        let row = read_client_row(input, count, &list)?;
+        let row = read_client_row(input, count, last)?;
+        last = row.client.number();
         // By reference: the toolchain has no proof for a `push` of a value that holds a `Command`.
         list.extend_from_slice(&[row])?;
     }
@@ -256,8 +261,8 @@ pub fn read_parts(input: &mut Input, alloc: Global) -> Result<Parts, ReadError>
     let clients = read_client_list(input, alloc, count, rows)?;
     Ok(Parts {
         count,
-        nodes,
-        links,
+        nodes: nodes.rows,
+        links: links.rows,
         clients,
     })
 }

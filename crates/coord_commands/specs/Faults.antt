@@ -1,20 +1,31 @@
--- The names and the exit statuses of faults, and what is printed of them.
+-- The texts and the exit statuses of faults, and what is printed of them.
 use Rattle.std.specs.Prelude.{ℕ, List, ◌++◌, codes, Result, Ok, Err}
+use Rattle.coord_types.specs.Names.{refusal_text}
+use Rattle.coord_config.specs.Faults.{fault_name as topology_name}
+use Rattle.coord_config.specs.declared.fault.ConfigFault.TheVariants as of_topology
+use Rattle.coord_store.specs.Faults.{store_name}
+use Rattle.coord_store.specs.declared.faults.CommitFault.{CommitFault}
+use Rattle.coord_store.specs.declared.faults.CommitFault.TheVariants as of_commit
+use Rattle.coord_store.specs.declared.faults.StoreFault.TheVariants as of_store
 use Rattle.coord_drill.specs.declared.fault.Fault.{Fault as DrillFault}
 use Rattle.coord_drill.specs.declared.fault.Fault.TheVariants as of_drill
 use Rattle.coord_commands.specs.declared.fault.Fault.{Fault}
-use Rattle.coord_commands.specs.declared.fault.Fault.TheVariants.{Usage, Read, Write, TooManyReads, OutOfMemory}
+use Rattle.coord_commands.specs.declared.fault.Fault.TheVariants.{Usage, Read, Write, TooManyReads, OutOfMemory, Topology, Store, Refused}
 
-abbrev pub fault_name : Fault → List ℕ
-fault_name Usage = codes "Usage"
-fault_name Read = codes "Read"
-fault_name Write = codes "Write"
-fault_name TooManyReads = codes "Turns"
-fault_name OutOfMemory = codes "OutOfMemory"
+-- a refusal is told with its number
+abbrev pub fault_text : Fault → List ℕ
+fault_text Usage = codes "Usage"
+fault_text Read = codes "Read"
+fault_text Write = codes "Write"
+fault_text TooManyReads = codes "Turns"
+fault_text OutOfMemory = codes "OutOfMemory"
+fault_text (Topology fault) = topology_name fault
+fault_text (Store fault) = store_name fault
+fault_text (Refused refusal) = refusal_text refusal
 
 -- the line that is printed of a fault
 abbrev pub fault_line : Fault → List ℕ
-fault_line fault = codes "resetd: " ++ (fault_name fault ++ codes "\n")
+fault_line fault = codes "resetd: " ++ (fault_text fault ++ codes "\n")
 
 abbrev pub fault_status : Fault → ℕ
 fault_status Usage = 2
@@ -22,6 +33,12 @@ fault_status Read = 3
 fault_status Write = 3
 fault_status TooManyReads = 3
 fault_status OutOfMemory = 4
+fault_status (Topology of_topology.OutOfMemory) = 4
+fault_status (Topology fault) = 1
+fault_status (Store of_store.OutOfMemory) = 4
+fault_status (Store of_store.Device) = 3
+fault_status (Store fault) = 1
+fault_status (Refused refusal) = 1
 
 abbrev pub status_of : {A : Type 0} → Result A Fault → ℕ
 status_of (Ok x) = 0
@@ -32,3 +49,8 @@ fault_of_drill of_drill.Read = Read
 fault_of_drill of_drill.Write = Write
 fault_of_drill of_drill.TooManyReads = TooManyReads
 fault_of_drill of_drill.OutOfMemory = OutOfMemory
+
+-- a commit is refused for want of memory, or since the device fails or has failed
+abbrev pub fault_of_commit : CommitFault → Fault
+fault_of_commit of_commit.OutOfMemory = OutOfMemory
+fault_of_commit fault = Store of_store.Device

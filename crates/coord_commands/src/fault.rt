@@ -2,8 +2,12 @@
 
 ghost use Rattle.std.specs.Prelude.{◌≡◌, ◌≢◌};
 ghost use Rattle.std.specs.IoError.{error_kind};
-ghost use Rattle.coord_commands.specs.Faults.{fault_name, fault_status};
+ghost use Rattle.coord_commands.specs.Faults.{fault_status};
 
+use coord_config::ConfigFault;
+use coord_disk::DiskFault;
+use coord_store::{CommitFault, StoreFault};
+use coord_types::Refusal;
 use std::alloc::AllocError;
 use std::fmt;
 use std::io::{Error, ErrorKind};
@@ -13,7 +17,7 @@ use std::io::{Error, ErrorKind};
 pub enum Fault {
     /// The words were refused.
     Usage,
-    /// Standard input could not be read.
+    /// Standard input or the topology file could not be read.
     Read,
     /// Output could not be written.
     Write,
@@ -21,6 +25,12 @@ pub enum Fault {
     TooManyReads,
     /// There was not enough memory.
     OutOfMemory,
+    /// The topology file was refused.
+    Topology(ConfigFault),
+    /// The store was not made or opened, or its device failed.
+    Store(StoreFault),
+    /// An order of the topology file was refused.
+    Refused(Refusal),
 }
 
 impl Fault {
@@ -29,45 +39,54 @@ impl Fault {
         ensures memory { error_kind error.now ≡ ErrorKind.OutOfMemory → result ≡ Fault.OutOfMemory }
         ensures other { error_kind error.now ≢ ErrorKind.OutOfMemory → result ≡ Fault.Usage }
     {
+        Fault::or_memory(error, Fault::Usage)
+    }
+
+    /// The fault of a failed call: want of memory, or else the one that is given.
+    pub(crate) fn or_memory(error: &Error, other: Fault) -> Fault
+        ensures memory { error_kind error.now ≡ ErrorKind.OutOfMemory → result ≡ Fault.OutOfMemory }
+        ensures other { error_kind error.now ≢ ErrorKind.OutOfMemory → result ≡ other }
+    {
         match error.kind() {
             ErrorKind::OutOfMemory => Fault::OutOfMemory,
-            _ => Fault::Usage,
+            _ => other,
         }
     }
 
-    /// Its name, as it is printed.
-    pub fn name(self) -> &'static str
-        ensures { result.now ≡ fault_name self }
-    {
-        match self {
-            Fault::Usage => "Usage",
-            Fault::Read => "Read",
-            Fault::Write => "Write",
-            Fault::TooManyReads => "Turns",
-            Fault::OutOfMemory => "OutOfMemory",
-        }
-    }
-
-    /// The exit status: 2 for refused words, 3 for reading and writing, 4 for want of memory.
+    /// The exit status: 1 for what was refused, 2 for refused words, 3 for reading, writing and the
+    /// device, 4 for want of memory.
     pub fn status(self) -> u8
         ensures { result ≡ fault_status self }
     {
         match self {
             Fault::Usage => 2,
             Fault::Read | Fault::Write | Fault::TooManyReads => 3,
+            Fault::Store(StoreFault::Device) => 3,
             Fault::OutOfMemory => 4,
+            Fault::Topology(ConfigFault::OutOfMemory) => 4,
+            Fault::Store(StoreFault::OutOfMemory) => 4,
+            Fault::Topology(_) | Fault::Store(_) | Fault::Refused(_) => 1,
         }
     }
 }
 
 impl fmt::Display for Fault {
     ghost use Rattle.std.specs.Prelude.{Some};
-    ghost use Rattle.coord_commands.specs.Faults.{fault_name};
+    ghost use Rattle.coord_commands.specs.Faults.{fault_text};
 
-    ghost output = { λ fault. Some (fault_name fault) };
+    ghost output = { λ fault. Some (fault_text fault) };
 
     fn fmt<W: fmt::Write>(&self, f: &mut fmt::Formatter<W>) -> fmt::Result {
-        f.write_str(self.name())
+        match *self {
+            Fault::Usage => f.write_str("Usage"),
+            Fault::Read => f.write_str("Read"),
+            Fault::Write => f.write_str("Write"),
+            Fault::TooManyReads => f.write_str("Turns"),
+            Fault::OutOfMemory => f.write_str("OutOfMemory"),
+            Fault::Topology(fault) => write!(f, "{fault}"),
+            Fault::Store(fault) => write!(f, "{fault}"),
+            Fault::Refused(refusal) => write!(f, "{refusal}"),
+        }
     }
 }
 
@@ -94,6 +113,43 @@ impl From<coord_drill::Fault> for Fault {
             coord_drill::Fault::Write => Fault::Write,
             coord_drill::Fault::TooManyReads => Fault::TooManyReads,
             coord_drill::Fault::OutOfMemory => Fault::OutOfMemory,
+        }
+    }
+}
+
+impl From<ConfigFault> for Fault {
+    ghost use Rattle.std.specs.Prelude.{◌≡◌};
+    ghost use Rattle.coord_commands.specs.declared.fault.Fault.TheVariants.{Topology};
+
+    ghost from_gives = { λ given fault. fault ≡ Topology given };
+
+    fn from(fault: ConfigFault) -> Fault {
+        Fault::Topology(fault)
+    }
+}
+
+impl From<DiskFault> for Fault {
+    ghost use Rattle.std.specs.Prelude.{◌≡◌};
+    ghost use Rattle.coord_store.specs.declared.faults.StoreFault.TheVariants.{Device};
+    ghost use Rattle.coord_commands.specs.declared.fault.Fault.TheVariants.{Store};
+
+    ghost from_gives = { λ _ fault. fault ≡ Store Device };
+
+    fn from(_: DiskFault) -> Fault {
+        Fault::Store(StoreFault::Device)
+    }
+}
+
+impl From<CommitFault> for Fault {
+    ghost use Rattle.std.specs.Prelude.{◌≡◌};
+    ghost use Rattle.coord_commands.specs.Faults.{fault_of_commit};
+
+    ghost from_gives = { λ given fault. fault ≡ fault_of_commit given };
+
+    fn from(fault: CommitFault) -> Fault {
+        match fault {
+            CommitFault::OutOfMemory => Fault::OutOfMemory,
+            _ => Fault::Store(StoreFault::Device),
         }
     }
 }

@@ -1,7 +1,9 @@
 pub mod Blip
 pub mod Failing
+pub mod File
 pub mod Filled
 pub mod Fuse
+pub mod Gate
 pub mod History
 pub mod Left
 pub mod Memory

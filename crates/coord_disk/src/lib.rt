@@ -6,8 +6,9 @@
 //! of calls. This is what a reader has to believe; `specs/Disks` is only of the disks in this crate.
 //! The main theorem is that `MemDisk` keeps the model, proved from its own record of its writes and
 //! syncs (`write_at` and `sync`, clauses `crash` and `time`); its `crash` leaves what was chosen.
-//! A `FailingDisk` is any disk with calls that fail by a `Rule`, as a fuse (`FuseDisk`) or a blip
-//! (`BlipDisk`), and are passed on once otherwise.
+//! A `FailingDisk` is any disk with calls that fail by a `Rule`, as a fuse (`FuseDisk`), a blip
+//! (`BlipDisk`) or a gate at which syncs wait (`GateDisk`), and are passed on once otherwise. A
+//! `FileDisk` is a file of the system, and claims no model.
 #![tactic(auto)]
 
 mod blip;
@@ -16,7 +17,9 @@ mod crash;
 mod disk;
 mod failing;
 mod fault;
+mod file;
 mod fuse;
+mod gate;
 mod history;
 mod memory;
 
@@ -25,5 +28,7 @@ pub use choice::Choice;
 pub use disk::{CrashDisk, Disk};
 pub use failing::{Call, FailingDisk, Rule};
 pub use fault::DiskFault;
+pub use file::FileDisk;
 pub use fuse::{Fuse, FuseDisk};
+pub use gate::{Gate, GateDisk};
 pub use memory::MemDisk;

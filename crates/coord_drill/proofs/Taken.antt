@@ -1,5 +1,5 @@
 -- What is printed where a piece of the input is taken.
-use Rattle.std.proofs.Common.{refl, ◌≡◌, ℕ, ◌+◌, List, [], ◌++◌, Option, Some, None, sym, ap, ◌∙◌, subst, append-nil, take, inl, inr, Result, Ok, Err, OnErr, IfErr}
+use Rattle.std.proofs.Common.{refl, ◌≡◌, ℕ, ◌+◌, List, [], ◌++◌, Option, Some, None, sym, ap, ◌∙◌, subst, append-nil, take, inl, inr, Result, Ok, Err, OnOk, OnErr, IfErr}
 use Rattle.std.specs.Io.KnownBytes.{Appends, Consumes}
 use Rattle.std.proofs.KnownBytes.{Consumes-trans}
 use Rattle.coord_lines.specs.Lines.{Line, extended, lines_on, before_line_feed, behind_line_feed, IsWithin}
@@ -57,3 +57,33 @@ not_of_reading fault (inr e) f = cc
 pub IfErr-of_writing : {P : Type 0} {Q : Fault → Type 0} (r : Result (Unit {0}) Fault) → OnErr r P → IfErr r IsOfWriting → ((fault : Fault) → IsOfWriting fault → P → Q fault) → IfErr r Q
 IfErr-of_writing (Ok x) part kind make = tt
 IfErr-of_writing (Err fault) part kind make = make fault kind part
+
+-- What was put into an empty list for a piece of the input: P is what is printed to it and what comes behind it, Q what is still to be printed.
+module _ (r : Result (Unit {0}) Fault) (items whole : List ℕ) (P Q : List ℕ → List ℕ) (piece : P [] ≡ whole)
+    (printed : OnOk r ((text : List ℕ) × Appends (Some []) (Some items) text × ((more : List ℕ) → P more ≡ text ++ Q more))) (failed : OnErr r (WritesFirstPart (Some []) (Some items) whole)) where
+  -- it is a first part, also where a line was cut short
+  put_first : (rest : List ℕ) × (whole ≡ items ++ rest)
+  put_first = of_result r printed failed
+    where
+      of_result : (r : Result (Unit {0}) Fault) → OnOk r ((text : List ℕ) × Appends (Some []) (Some items) text × ((more : List ℕ) → P more ≡ text ++ Q more)) → OnErr r (WritesFirstPart (Some []) (Some items) whole) → (rest : List ℕ) × (whole ≡ items ++ rest)
+      of_result (Ok x) done cut = (Q [], sym piece ∙ done.2 [] ∙ ap (λ l. l ++ Q []) (sym done.1))
+      of_result (Err e) done cut = (cut.2.0, cut.2.1 ∙ ap (λ l. l ++ cut.2.0) (sym cut.1))
+
+  -- so is what was written of it
+  pub put_cut : (a b : Option (List ℕ)) → WritesFirstPart a b items → WritesFirstPart a b whole
+  put_cut a b part = subst (WritesFirstPart a b) (sym put_first.1) (first_part-longer a b items put_first.0 part)
+
+  -- where it was written whole, that is what was to be printed
+  pub put_printed : (a b : Option (List ℕ)) → Appends a b items → OnOk r ((text : List ℕ) × Appends a b text × ((more : List ℕ) → P more ≡ text ++ Q more))
+  put_printed a b h = of_result r printed
+    where
+      of_result : (r : Result (Unit {0}) Fault) → OnOk r ((text : List ℕ) × Appends (Some []) (Some items) text × ((more : List ℕ) → P more ≡ text ++ Q more)) → OnOk r ((text : List ℕ) × Appends a b text × ((more : List ℕ) → P more ≡ text ++ Q more))
+      of_result (Ok x) done = (items, h, λ more. done.2 more ∙ ap (λ l. l ++ Q more) (sym done.1))
+      of_result (Err e) done = tt
+
+  pub put_failed : (a b : Option (List ℕ)) → Appends a b items → OnErr r (WritesFirstPart a b whole)
+  put_failed a b h = of_result r
+    where
+      of_result : (r : Result (Unit {0}) Fault) → OnErr r (WritesFirstPart a b whole)
+      of_result (Ok x) = tt
+      of_result (Err e) = (items, h, put_first)

@@ -39,7 +39,7 @@ pub fn coord_drill<R: Read, W: Write>(
         × WritesFirstPart (W.contents writer.old) (W.contents writer.new) (drilled seen)
         × (fault ≡ TooManyReads → MOST_READS ≤ length seen)) }
 {
-    Console::new(alloc).run(reader, writer)
+    Console::new(alloc).run(alloc, reader, writer)
 }
 
 /// A drill that takes its input in pieces of any length.
@@ -68,7 +68,12 @@ impl Console {
     }
 
     /// Reads to the end of the input.
-    fn run<R: Read, W: Write>(&mut self, reader: &mut R, writer: &mut W) -> Result<(), Fault>
+    fn run<R: Read, W: Write>(
+        &mut self,
+        alloc: Global,
+        reader: &mut R,
+        writer: &mut W,
+    ) -> Result<(), Fault>
         requires { self.old.number ≡ 0 }
         ensures printed { OnOk result (IfSome (R.remaining reader.old) (λ input. Appends (W.contents writer.old) (W.contents writer.new)
             (printed_to self.old.drill 1 (lines_on self.old.line input)))) }
@@ -86,9 +91,27 @@ impl Console {
             if count == 0 {
                 return self.finish(writer);
             }
-            self.take(&bytes[..count], writer)?;
+            self.answer(alloc, &bytes[..count], writer)?;
         }
         Err(Fault::TooManyReads)
+    }
+
+    /// Takes a piece of the input, and prints in one write what its lines print. Where a line wants
+    /// memory, what was printed before it is written.
+    fn answer<W: Write>(&mut self, alloc: Global, piece: &[u8], writer: &mut W) -> Result<(), Fault>
+        requires { self.old.number + length piece.now < 2 ^ 64 - 1 }
+        ensures number { OnOk result (self.new.number ≤ self.old.number + length piece.now) }
+        ensures printed { OnOk result ((text : List ℕ) × Appends (W.contents writer.old) (W.contents writer.new) text
+            × ((more : List ℕ) → printed_to self.old.drill (self.old.number + 1) (lines_on self.old.line (piece.now ++ more))
+            ≡ text ++ printed_to self.new.drill (self.new.number + 1) (lines_on self.new.line more))) }
+        ensures failed { OnErr result (WritesFirstPart (W.contents writer.old) (W.contents writer.new)
+            (printed_to self.old.drill (self.old.number + 1) (lines_on self.old.line piece.now))) }
+        ensures fault { IfErr result IsOfWriting }
+    {
+        let mut text = Vec::new(alloc);
+        let taken = self.take(piece, &mut text);
+        write_text(writer, &text)?;
+        taken
     }
 
     /// Takes a piece of the input.

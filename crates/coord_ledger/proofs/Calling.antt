@@ -1,7 +1,5 @@
 -- What the calls of a ledger and of a flight make of them follows the event machine.
-use Rattle.std.proofs.Common.{◌≡◌, ℕ, zero, suc, ◌+◌, Bool, true, false, List, [], ◌∷◌, ◌++◌, length, take, Option, Some, None, refl, sym, ap, ◌∙◌, subst, append-nil, arith, inl, inr}
-use Rattle.std.specs.Option.{option_map}
-use Rattle.std.specs.Prelude.{is_some}
+use Rattle.std.proofs.Common.{◌≡◌, ℕ, zero, suc, ◌+◌, Bool, true, false, List, [], ◌∷◌, ◌++◌, length, take, Option, Some, None, refl, sym, ap, ◌∙◌, subst, append-nil, inl, inr}
 use Rattle.std.proofs.lemmas.List.{length-take}
 use Rattle.coord_disk.specs.Model.Present.{Present, IsImage}
 use Rattle.coord_store.proofs.OneWorld.{recovered_is_one}
@@ -15,12 +13,12 @@ use Rattle.coord_ledger.specs.declared.mark.Mark.{Mark}
 use Rattle.coord_ledger.specs.declared.mark.Mark.TheVariants.{New, Good, Torn}
 use Rattle.coord_ledger.specs.declared.release.Release.{Release}
 use Rattle.coord_ledger.specs.ledger.Calls.{FlightGives, GivesFlown, GivesSettled, LedgerGives, keeps_store, next_flight, releases_in, taken_back, with_out}
-use Rattle.coord_ledger.specs.ledger.Follows.{Follows, FollowsTo, Held, HoldsFlight, ImagesGive, IsOut, flight_out}
+use Rattle.coord_ledger.specs.ledger.Follows.{Follows, FollowsTo, Held, ImagesGive, IsOut, flight_out}
 use Rattle.coord_ledger.specs.ledger.State.{FlightState, LedgerState, ledger_over}
 use Rattle.coord_ledger.specs.machine.After.{releases_of, settling_releases}
 use Rattle.coord_ledger.specs.machine.Answers.{IsOneOf, kept, kept_by, most_in_flight}
 use Rattle.coord_ledger.specs.machine.Consistent.{IsConsistent}
-use Rattle.coord_ledger.specs.machine.Log.{Log, pending, settled_count, settled_world, world_after}
+use Rattle.coord_ledger.specs.machine.Log.{pending, settled_count, world_after}
 use Rattle.coord_ledger.specs.machine.Machine.{Machine}
 use Rattle.coord_ledger.proofs.Following.{follows_begun, follows_good, follows_opened, follows_stopped, follows_unsettled}
 use Rattle.coord_ledger.proofs.Logs.{world-add}

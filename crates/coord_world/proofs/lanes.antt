@@ -2,7 +2,6 @@
 pub mod Counts
 pub mod EveryLane
 pub mod HasNumber
-pub mod HasRoomFor
 pub mod IsShort
 pub mod LanePairs
 pub mod MessageCounts

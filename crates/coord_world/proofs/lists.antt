@@ -6,3 +6,6 @@ pub mod PutAtPlace
 pub mod SameTables
 pub mod TableEntries
 pub mod TableLen
+pub mod IndexedLanes
+pub mod SortedEntries
+pub mod SlotTables

@@ -5,3 +5,4 @@ mod execute;
 mod judge;
 mod node_step;
 mod outputs;
+mod sending;

@@ -10,9 +10,10 @@ ghost use Rattle.coord_world.specs.protocol.Acceptance.{lane};
 mod equality;
 pub mod lane_table;
 pub mod node_table;
-mod sends;
+mod places;
 pub mod session_table;
-mod sorted;
+mod slots;
+pub mod sorted;
 
 use crate::tables::lane_table::LaneTable;
 use crate::tables::node_table::NodeTable;
@@ -23,8 +24,7 @@ use coord_types::NodeId;
 use std::alloc::{AllocError, Global};
 use std::marker::Model;
 
-/// The parts of a world. A step is carried out on a copy, which becomes the world only once all
-/// of it is done.
+/// The parts of a world.
 #[derive(Drop, Debug)]
 pub struct Tables {
     pub count: u64,

@@ -172,8 +172,7 @@ impl World {
         ensures err { OnErr result (self.new ≡ self.old) }
     {
         step.within_ranges();
-        let (tables, outcome) = self.tables.after(self.alloc, step)?;
-        self.tables = tables;
+        let outcome = self.tables.apply(self.alloc, step)?;
         Ok(outcome)
     }
 

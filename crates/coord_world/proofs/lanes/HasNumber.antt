@@ -8,7 +8,7 @@ use Rattle.coord_link.specs.LaneMachine.{Lane}
 use Rattle.coord_world.specs.protocol.NumberedWorld.{World, pair_cmp, pair_cmp_total}
 use Rattle.coord_world.specs.code.Fronts.{HasNumber}
 use Rattle.coord_world.specs.protocol.Ranges.{InRange}
-use Rattle.coord_world.proofs.lanes.HasRoomFor.{found}
+use Rattle.coord_world.proofs.lists.SortedEntries.{found}
 use Rattle.coord_world.proofs.lists.TableEntries.{is_true}
 
 -- an entry of a table is found at its key

@@ -10,7 +10,7 @@ use Rattle.coord_world.specs.protocol.NumberedWorld.{World, pair_cmp}
 use Rattle.coord_world.specs.protocol.Next.{is_lane, on_lane}
 use Rattle.coord_world.proofs.lists.GetAfter.{same_pair}
 
-antisymmetric : IsAntisymmetric pair_cmp
+pub antisymmetric : IsAntisymmetric pair_cmp
 antisymmetric x y e = same_pair x y (ap is_eq e)
 
 module _ (w : World) (u v : ℕ) (f : Lane → Lane) where

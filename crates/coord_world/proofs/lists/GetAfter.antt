@@ -1,5 +1,5 @@
 -- What is found in a world's tables after each change of the world.
-use Rattle.std.proofs.Common.{◌≡◌, ℕ, ◌+◌, Bool, true, false, Option, Some, None, ap, ◌∙◌, refl, subst, arith, cond, eqb}
+use Rattle.std.proofs.Common.{◌≡◌, ℕ, ◌+◌, Bool, true, false, Option, Some, None, IsSome, sym, ap, ◌∙◌, refl, subst, arith, cond, eqb}
 use Rattle.std.specs.Ordering.{eq_by_cmp, nat_cmp}
 use Rattle.std.specs.Cmp.{nat_cmp_total}
 use Rattle.std.proofs.lemmas.Bool.Decides.{nat_tests}
@@ -30,6 +30,14 @@ get-set m u x q = get-insert m u x q ∙ ap (λ b. cond b (Some x) (get m q)) (s
   where
     same : (q : ℕ) → eq_by_cmp nat_cmp q u ≡ eqb q u
     same q = grind (arith, nat_tests)
+
+-- who is there stays
+pub set_stays : {X : Type 0} (m : Table nat_cmp_total X) (u : ℕ) (x : X) (q : ℕ) → IsSome (get m q) → IsSome (get (table.insert m u x) q)
+set_stays {X} m u x q there = subst IsSome (sym (get-set m u x q)) (stays (eqb q u) (get m q) there)
+  where
+    stays : (b : Bool) (o : Option X) → IsSome o → IsSome (cond b (Some x) o)
+    stays true o there = refl
+    stays false o there = there
 
 -- and after a removal
 pub get-unset : {X : Type 0} (m : Table nat_cmp_total X) (u q : ℕ) → get (table.remove m u) q ≡ cond (eqb q u) None (get m q)

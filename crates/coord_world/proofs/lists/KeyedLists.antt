@@ -67,7 +67,7 @@ not_tied Greater is = cc
 
 module _ {K X : Type 0} {R : K → K → Ordering} (o : IsTotalOrder R) (same : (p q : K) → eq_by_cmp R p q ≡ true → p ≡ q) where
   -- a key below all isn't there
-  find-below : (k : K) (es : List (K × X)) → below_all R k es ≡ true → find R k es ≡ None
+  pub find-below : (k : K) (es : List (K × X)) → below_all R k es ≡ true → find R k es ≡ None
   find-below k [] below = refl
   find-below k (e ∷ es) below =
       let parts = both (is_lt (R k e.0)) (below_all R k es) below in

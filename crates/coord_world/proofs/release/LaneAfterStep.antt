@@ -26,11 +26,11 @@ pub data LaneStep (w : World) (s : Step) (x y : ℕ) (after : Option Lane) : Typ
   is_cleared : (l : Lane) (p : ReceiptPacket) → s ≡ Clear p → (p.from ≡ x) × (p.to ≡ y) → get w.lanes (x, y) ≡ Some l → after ≡ Some (cleared l) → LaneStep w s x y after
 
 -- where nothing is sent, the lane stays
-sent_none : (l : Lane) → l ≡ sent [] l
+pub sent_none : (l : Lane) → l ≡ sent [] l
 sent_none l = let same = sym (append-nil l.queue) in λ i. record l { queue = same i }
 
 -- messages sent one after the other are sent at once
-sent_twice : (ms ns : List Msg) (l : Lane) → sent ns (sent ms l) ≡ sent (ms ++ ns) l
+pub sent_twice : (ms ns : List Msg) (l : Lane) → sent ns (sent ms l) ≡ sent (ms ++ ns) l
 sent_twice ms ns l i = record l { queue = append_assoc l.queue ms ns i }
 
 -- what transitions send on one lane

@@ -1,14 +1,15 @@
 -- What a step that a world is ready for asks of the program is there.
 use Rattle.std.proofs.Common.{◌≡◌, ℕ, ◌-◌, ◌^◌, ◌<◌, Some, IsSome, ap, ◌∙◌, arith, lit<}
 use Rattle.std.specs.Prelude.{is_some}
-use Rattle.coord_types.specs.Table.{get}
+use Rattle.coord_types.specs.Table.{get, len}
 use Rattle.coord_types.specs.declared.packets.DataPacket.{DataPacket}
-use Rattle.coord_types.specs.declared.steps.Command.TheVariants.{Join, Drop, Reset}
+use Rattle.coord_types.specs.declared.steps.Command.TheVariants.{Confirm, Join, Drop, Reset}
 use Rattle.coord_types.specs.declared.steps.Step.TheVariants.{Order, Take}
 use Rattle.coord_link.specs.LaneMachine.{Lane, took}
 use Rattle.coord_node.specs.Rules.{request, lost, transition}
 use Rattle.coord_world.specs.protocol.NumberedWorld.{World, state}
 use Rattle.coord_world.specs.protocol.Next.{on_lane, ordered, applied}
+use Rattle.coord_world.specs.code.Fronts.{AreNumbered}
 use Rattle.coord_world.specs.code.NodeSteps.{CanApply}
 use Rattle.coord_world.specs.code.Ready.{IsReadyFor}
 use Rattle.coord_world.specs.protocol.Ranges.{InRange}
@@ -16,7 +17,6 @@ use Rattle.coord_world.proofs.acceptance.IsFresh.{fresh_take}
 use Rattle.coord_world.proofs.acceptance.FreshOrder.{fresh_order}
 use Rattle.coord_world.proofs.lanes.PlaceForTransition.{room_take, room_reset, room_drop_first, room_drop_second}
 use Rattle.coord_world.proofs.legal.SoundView.{at_each}
-use Rattle.coord_world.proofs.transitions.IsNodeStepOf.{room_for}
 
 module _ (w : World) (range : InRange w) where
   -- an epoch can rise by one
@@ -33,12 +33,27 @@ module _ (w : World) (range : InRange w) where
   pub base_room : (u v : ℕ) (l : Lane) → get w.lanes (u, v) ≡ Some l → l.base < 2 ^ 64 - 1
   base_room u v l there = let most = (range.lanes u v l there).base in let count = range.count in omega arith
 
+  pub front_room : (u v : ℕ) (l : Lane) → get w.lanes (u, v) ≡ Some l → l.base < 2 ^ 64 - 2
+  front_room u v l there = let most = (range.lanes u v l there).base in let count = range.count in omega arith
+
+  pub are_numbered : AreNumbered w.lanes
+  are_numbered = base_room
+
 module _ (w : World) (c n : ℕ) where
   pub reset_there : (u : ℕ) → IsReadyFor w (Order c n (Reset u)) → IsSome (get w.nodes u)
   reset_there u ready = fresh_order w w c n (Reset u) ready.fresh
 
   pub join_there : (a b : ℕ) → IsReadyFor w (Order c n (Join a b)) → IsSome (get w.nodes a) × IsSome (get w.nodes b)
   join_there a b ready = let joinable = fresh_order w w c n (Join a b) ready.fresh in (joinable.first, joinable.second)
+
+  pub join_room : (a b : ℕ) → IsReadyFor w (Order c n (Join a b)) → len w.lanes < 2 ^ 16 - 2
+  join_room a b ready = let few = (fresh_order w w c n (Join a b) ready.fresh).room in omega (arith, few)
+
+  pub confirm_there : (u e : ℕ) → IsReadyFor w (Order c n (Confirm u e)) → IsSome (get w.nodes u)
+  confirm_there u e ready = (fresh_order w w c n (Confirm u e) ready.fresh).there
+
+  pub drop_linked : (a b : ℕ) → IsReadyFor w (Order c n (Drop a b)) → IsSome (get w.lanes (a, b))
+  drop_linked a b ready = (fresh_order w w c n (Drop a b) ready.fresh).linked
 
   pub drop_there : (a b : ℕ) → IsReadyFor w (Order c n (Drop a b)) → IsSome (get w.nodes a) × IsSome (get w.nodes b)
   drop_there a b ready = let droppable = fresh_order w w c n (Drop a b) ready.fresh in (droppable.first, droppable.second)
@@ -47,26 +62,26 @@ module _ (w : World) (c n : ℕ) where
   can_reset u ready = record {
     there = reset_there u ready;
     epoch = epoch_room w ready.ranges u;
-    room = room_for (request (state w u)) u w.lanes (room_reset w w ready.ranges ready.legal c n u ready.fresh);
+    room = room_reset w w ready.ranges ready.legal c n u ready.fresh;
   }
 
   pub can_drop_first : (a b : ℕ) → IsReadyFor w (Order c n (Drop a b)) → CanApply w a (lost (state w a) b) (ordered w (Drop a b)).lanes
   can_drop_first a b ready = record {
     there = (drop_there a b ready).0;
     epoch = epoch_room w ready.ranges a;
-    room = room_for (lost (state w a) b) a _ (room_drop_first w w ready.ranges ready.legal c n a b ready.fresh);
+    room = room_drop_first w w ready.ranges ready.legal c n a b ready.fresh;
   }
 
   pub can_drop_second : (a b : ℕ) → IsReadyFor w (Order c n (Drop a b)) → CanApply w b (lost (state w b) a) (applied (ordered w (Drop a b)) a (lost (state w a) b)).lanes
   can_drop_second a b ready = record {
     there = (drop_there a b ready).1;
     epoch = epoch_room w ready.ranges b;
-    room = room_for (lost (state w b) a) b _ (room_drop_second w w ready.ranges ready.legal c n a b ready.fresh);
+    room = room_drop_second w w ready.ranges ready.legal c n a b ready.fresh;
   }
 
 pub can_take : (w : World) (p : DataPacket) → IsReadyFor w (Take p) → CanApply w p.to (transition p.msg (state w p.to) p.from) (on_lane w p.from p.to took).lanes
 can_take w p ready = record {
   there = ready.ranges.ends p.to p.from (ready.ranges.mirrored p.to p.from ∙ ap is_some (fresh_take w w p ready.fresh).there);
   epoch = epoch_room w ready.ranges p.to;
-  room = room_for (transition p.msg (state w p.to) p.from) p.to _ (room_take w w ready.ranges ready.legal p ready.fresh);
+  room = room_take w w ready.ranges ready.legal p ready.fresh;
 }

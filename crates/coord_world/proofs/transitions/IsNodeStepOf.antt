@@ -1,47 +1,111 @@
--- a node step of the program is the transition that it stands for.
-use Rattle.std.proofs.Common.{◌≡◌, ◌≢◌, ℕ, true, false, Bool, List, [], ◌∷◌, map, length, ◌<◌, Some, Result, Ok, Err, OnOk, refl, sym, ap, ◌∙◌, subst, arith, cond, eqb}
+-- A node step of the program is the transition that it stands for: its messages, sent one after the other, join the lanes.
+use Rattle.std.proofs.Common.{◌≡◌, ℕ, Bool, true, false, ◌&&◌, List, [], ◌∷◌, ◌++◌, map, length, ◌<◌, Option, Some, None, Result, Ok, Err, OnOk, refl, sym, ap, ◌∙◌, subst, arith, cond, eqb}
 use Rattle.std.specs.Prelude.{nat_eq}
-use Rattle.std.specs.List.{list_any}
+use Rattle.std.specs.List.{AllByRecursion, list_any}
+use Rattle.std.specs.List.Sorted.{IsStrictlySortedBy}
+use Rattle.std.specs.Ordering.{nat_cmp}
+use Rattle.std.specs.declared.cmp.Ordering.TheVariants.{Less}
 use Rattle.std.proofs.lemmas.Bool.Decides.{nat_tests}
 use Rattle.coord_types.specs.NodeSet as set
 use Rattle.coord_types.specs.Table.{Table, get, change, insert}
-use Rattle.coord_types.proofs.Sets.{contains-items}
+use Rattle.coord_types.proofs.Sets.{contains-items, items-sorted}
+use Rattle.coord_types.proofs.Tables.{get-change, option_map, same_table}
 use Rattle.coord_types.specs.declared.messages.Msg.{Msg}
 use Rattle.coord_link.specs.LaneMachine.{Lane, sent}
 use Rattle.coord_node.specs.Rules.{Transition, sends_of}
 use Rattle.coord_node.specs.IdealRules.{added}
 use Rattle.coord_world.specs.declared.step.node_step.NodeStep.{NodeStep}
-use Rattle.coord_world.specs.protocol.NumberedWorld.{World, pair_cmp_total}
-use Rattle.coord_world.specs.protocol.Next.{applied}
-use Rattle.coord_world.specs.code.Sends.{sent_to, HasRoomFor}
+use Rattle.coord_world.specs.protocol.NumberedWorld.{World, pair_cmp, pair_cmp_total}
+use Rattle.coord_world.specs.protocol.Next.{applied, is_lane}
+use Rattle.coord_world.specs.code.Sends.{CanSend, sent_lane, sent_lanes}
 use Rattle.coord_world.specs.code.NodeSteps.{IsNodeStepOf, node_stepped}
+use Rattle.coord_world.proofs.Cases.{by_test}
+use Rattle.coord_world.proofs.lanes.OnLane.{antisymmetric}
+use Rattle.coord_world.proofs.lists.GetAfter.{same_pair}
+use Rattle.coord_world.proofs.release.LaneAfterStep.{sent_none, sent_twice}
 
 pub on_ok : {T E P Q : Type 0} (r : Result T E) → (P → Q) → OnOk r P → OnOk r Q
 on_ok (Ok x) f p = f p
 on_ok (Err e) f p = tt
 
-sent-each : (m : Msg) (xs : List ℕ) (y : ℕ) → sent_to (map (λ x. (x, m)) xs) y ≡ cond (list_any (λ x. nat_eq x y) xs) (m ∷ []) []
-sent-each m [] y = refl
-sent-each m (x ∷ xs) y = grind (arith, nat_tests, sent-each m xs y)
+-- all that is sent to y
+abbrev pub all_to : List (ℕ × Msg) → ℕ → List Msg
+all_to [] y = []
+all_to (s ∷ ss) y = cond (eqb y s.0) (s.1 ∷ []) [] ++ all_to ss y
+
+-- a lane after one message was sent
+pub get-sent_lane : (u : ℕ) (s : ℕ × Msg) (lanes : Table pair_cmp_total Lane) (k : ℕ × ℕ) → get (sent_lane u s lanes) k ≡ option_map (λ l. cond (is_lane k u s.0) (sent (s.1 ∷ []) l) l) (get lanes k)
+get-sent_lane u s lanes k = get-change pair_cmp (λ k l. cond (is_lane k u s.0) (sent (s.1 ∷ []) l) l) same_pair lanes k
+
+one_sent : (mine here : Bool) (m : Msg) (ms : List Msg) (o : Option Lane) →
+    option_map (λ l. cond mine (sent ms l) l) (option_map (λ l. cond (mine && here) (sent (m ∷ []) l) l) o) ≡ option_map (λ l. cond mine (sent (cond here (m ∷ []) [] ++ ms) l) l) o
+one_sent mine here m ms None = refl
+one_sent true true m ms (Some l) = ap Some (sent_twice (m ∷ []) ms l)
+one_sent true false m ms (Some l) = refl
+one_sent false here m ms (Some l) = refl
+
+-- and after all of them were
+pub get-sent_lanes : (u : ℕ) (ss : List (ℕ × Msg)) (lanes : Table pair_cmp_total Lane) (k : ℕ × ℕ) → get (sent_lanes u ss lanes) k ≡ option_map (λ l. cond (eqb k.0 u) (sent (all_to ss k.1) l) l) (get lanes k)
+get-sent_lanes u [] lanes k = none_sent (eqb k.0 u) (get lanes k)
+  where
+    none_sent : (mine : Bool) (o : Option Lane) → o ≡ option_map (λ l. cond mine (sent [] l) l) o
+    none_sent mine None = refl
+    none_sent true (Some l) = ap Some (sent_none l)
+    none_sent false (Some l) = refl
+get-sent_lanes u (s ∷ ss) lanes k =
+    get-sent_lanes u ss (sent_lane u s lanes) k ∙ ap (option_map (λ l. cond (eqb k.0 u) (sent (all_to ss k.1) l) l)) (get-sent_lane u s lanes k)
+    ∙ one_sent (eqb k.0 u) (eqb k.1 s.0) s.1 (all_to ss k.1) (get lanes k)
+
+not_among : (x : ℕ) (xs : List ℕ) → AllByRecursion (λ y. nat_cmp x y ≡ Less) xs → list_any (λ y. nat_eq y x) xs ≡ false
+not_among x [] above = refl
+not_among x (y ∷ ys) above =
+    let apart : nat_eq y x ≡ false = let less = above.0 in grind (arith, nat_tests) in
+    grind (arith, nat_tests, apart, not_among x ys above.1)
+
+-- where no node comes twice, one message goes to each
+each_once : (m : Msg) (xs : List ℕ) (y : ℕ) → IsStrictlySortedBy nat_cmp xs → all_to (map (λ x. (x, m)) xs) y ≡ cond (list_any (λ x. nat_eq x y) xs) (m ∷ []) []
+unfolding IsStrictlySortedBy
+each_once m [] y sorted = refl
+each_once m (x ∷ xs) y sorted =
+    by_test (eqb y x) (λ b. cond b (m ∷ []) [] ++ all_to (map (λ x. (x, m)) xs) y ≡ cond (list_any (λ x. nat_eq x y) (x ∷ xs)) (m ∷ []) [])
+    (λ is. let same : y ≡ x = grind (arith, nat_tests) in
+    let here : nat_eq x y ≡ true = grind (arith, nat_tests) in
+    let none : list_any (λ z. nat_eq z y) xs ≡ false = ap (λ q. list_any (λ z. nat_eq z q) xs) same ∙ not_among x xs sorted.0 in
+    ap (λ l. m ∷ l) (each_once m xs y sorted.1 ∙ ap (λ b. cond b (m ∷ []) []) none) ∙ grind (arith, nat_tests, here))
+    (λ isnt. let away : nat_eq x y ≡ false = grind (arith, nat_tests) in each_once m xs y sorted.1 ∙ grind (arith, nat_tests, away))
 
 -- what a transition sends to y
-pub sent_is : (d : Transition) (y : ℕ) → sent_to (sends_of d) y ≡ added d y
-sent_is d y = sent-each d.message (set.items d.to) y ∙ ap (λ b. cond b (d.message ∷ []) []) (sym (contains-items d.to y))
+pub sent_is : (d : Transition) (y : ℕ) → all_to (sends_of d) y ≡ added d y
+sent_is d y = each_once d.message (set.items d.to) y (items-sorted d.to) ∙ ap (λ b. cond b (d.message ∷ []) []) (sym (contains-items d.to y))
 
-done_is : (w : World) (u : ℕ) (d : Transition) → node_stepped w u d.state (sends_of d) ≡ applied w u d
-done_is w u d i = record w { nodes = insert w.nodes u d.state; lanes = change (λ k l. cond (eqb k.0 u) (sent (sent_is d k.1 i) l) l) w.lanes }
+lanes_are : (u : ℕ) (d : Transition) (lanes : Table pair_cmp_total Lane) → sent_lanes u (sends_of d) lanes ≡ change (λ k l. cond (eqb k.0 u) (sent (added d k.1) l) l) lanes
+lanes_are u d lanes = same_table antisymmetric _ _ (λ k. get-sent_lanes u (sends_of d) lanes k ∙ (λ i. option_map (λ l. cond (eqb k.0 u) (sent (sent_is d k.1 i) l) l) (get lanes k))
+    ∙ sym (get-change pair_cmp (λ k l. cond (eqb k.0 u) (sent (added d k.1) l) l) same_pair lanes k))
 
 pub act_done : (w : World) (node_step : NodeStep) (u : ℕ) (d : Transition) → IsNodeStepOf node_step u d → node_stepped w node_step.id node_step.node node_step.deed.sends.items ≡ applied w u d
-act_done w node_step u d is = (λ i. node_stepped w (is.id i) (is.state i) (is.sends i)) ∙ done_is w u d
+act_done w node_step u d is = (λ i. node_stepped w (is.id i) (is.state i) (is.sends i)) ∙ (λ i. record w { nodes = insert w.nodes u d.state; lanes = lanes_are u d w.lanes i })
+
+module _ (u : ℕ) (m : Msg) where
+  can_send_each : (xs : List ℕ) (lanes : Table pair_cmp_total Lane) → IsStrictlySortedBy nat_cmp xs → ((v : ℕ) (l : Lane) → get lanes (u, v) ≡ Some l → list_any (λ x. nat_eq x v) xs ≡ true → length l.queue < 4) →
+      CanSend u (map (λ x. (x, m)) xs) lanes
+  unfolding IsStrictlySortedBy
+  can_send_each [] lanes sorted room = tt
+  can_send_each (x ∷ xs) lanes sorted room = (λ l there. room x l there (grind (arith, nat_tests)), can_send_each xs (sent_lane u (x, m) lanes) sorted.1 later)
+    where
+      later : (v : ℕ) (l : Lane) → get (sent_lane u (x, m) lanes) (u, v) ≡ Some l → list_any (λ y. nat_eq y v) xs ≡ true → length l.queue < 4
+      later v l there among =
+          let away : eqb v x ≡ false = by_test (eqb v x) (λ b. b ≡ false)
+          (λ is. let same : v ≡ x = grind (arith, nat_tests) in let none = ap (λ q. list_any (λ z. nat_eq z q) xs) same ∙ not_among x xs sorted.0 in cc) (λ _. refl) in
+          let other : is_lane (u, v) u x ≡ false = grind (arith, nat_tests, away) in
+          room v l (stays (is_lane (u, v) u x) (get lanes (u, v)) other ∙ sym (get-sent_lane u (x, m) lanes (u, v)) ∙ there) (grind (arith, nat_tests, among))
+        where
+          stays : (b : Bool) (o : Option Lane) → b ≡ false → o ≡ option_map (λ l. cond b (sent (m ∷ []) l) l) o
+          stays b None isnt = refl
+          stays b (Some l) isnt = ap (λ t. Some (cond t (sent (m ∷ []) l) l)) (sym isnt)
 
 -- the room that a transition has is room for the node step
-pub act_room : (node_step : NodeStep) (u : ℕ) (d : Transition) (lanes : Table pair_cmp_total Lane) → IsNodeStepOf node_step u d → HasRoomFor (sends_of d) u lanes → HasRoomFor node_step.deed.sends.items node_step.id lanes
-act_room node_step u d lanes is room = subst (λ x. HasRoomFor node_step.deed.sends.items x lanes) (sym is.id) (subst (λ ss. HasRoomFor ss u lanes) (sym is.sends) room)
-
-by_added : (b : Bool) (m : Msg) → cond b (m ∷ []) [] ≢ [] → b ≡ true
-by_added true m some = refl
-by_added false m some = absurd (some refl)
-
--- room where a transition's messages go is room for what it sends
-pub room_for : (d : Transition) (u : ℕ) (lanes : Table pair_cmp_total Lane) → ((v : ℕ) (l : Lane) → get lanes (u, v) ≡ Some l → set.contains d.to v ≡ true → length l.queue < 4) → HasRoomFor (sends_of d) u lanes
-room_for d u lanes room v l there some = room v l there (by_added (set.contains d.to v) d.message (λ none. some (sent_is d v ∙ none)))
+pub act_room : (node_step : NodeStep) (u : ℕ) (d : Transition) (lanes : Table pair_cmp_total Lane) → IsNodeStepOf node_step u d →
+    ((v : ℕ) (l : Lane) → get lanes (u, v) ≡ Some l → set.contains d.to v ≡ true → length l.queue < 4) → CanSend node_step.id node_step.deed.sends.items lanes
+act_room node_step u d lanes is room =
+    subst (λ x. CanSend x node_step.deed.sends.items lanes) (sym is.id) (subst (λ ss. CanSend u ss lanes) (sym is.sends)
+    (can_send_each u d.message (set.items d.to) lanes (items-sorted d.to) (λ v l there among. room v l there (contains-items d.to v ∙ among))))

@@ -1,7 +1,61 @@
--- Lanes whose front has a number.
-use Rattle.std.specs.Prelude.{ℕ, ◌-◌, ◌^◌, ◌<◌}
-use Rattle.coord_link.specs.LaneMachine.{Lane}
+-- The new fronts of a step, lane by lane: only what the step sends, or clears, makes one.
+use Rattle.std.specs.Prelude.{◌≡◌, ℕ, ◌-◌, ◌^◌, ◌<◌, nat_lt, List, [], ◌∷◌, ◌++◌, Option, Some, None, if◌then◌else◌}
+use Rattle.coord_types.specs.Messages.{is_nil, behind_front}
+use Rattle.coord_types.specs.Table.{Table, get}
+use Rattle.coord_types.specs.declared.messages.Msg.{Msg}
+use Rattle.coord_types.specs.declared.outputs.Output.{Output}
+use Rattle.coord_types.specs.declared.outputs.Output.TheVariants.{Sent}
+use Rattle.coord_types.specs.declared.steps.Command.{Command}
+use Rattle.coord_types.specs.declared.steps.Command.TheVariants.{Add, Remove, Join, Drop, Reset, Confirm}
+use Rattle.coord_types.specs.declared.steps.Step.{Step}
+use Rattle.coord_types.specs.declared.steps.Step.TheVariants.{Order, Take, Clear}
+use Rattle.coord_link.specs.LaneMachine.{Lane, cleared}
+use Rattle.coord_node.specs.Rules.{lost, request, sends_of, transition}
+use Rattle.coord_world.specs.protocol.NumberedWorld.{World, state, pair_cmp_total}
+use Rattle.coord_world.specs.protocol.Outputs.{front_packet}
 
 -- one more than the lane's base is a number that the program holds
 abbrev pub HasNumber : (ℕ × ℕ) × Lane → Type 0
 HasNumber e = e.1.base < 2 ^ 64 - 1
+
+-- so is that of each lane
+abbrev pub AreNumbered : Table pair_cmp_total Lane → Type 0
+AreNumbered lanes = (u v : ℕ) (l : Lane) → get lanes (u, v) ≡ Some l → l.base < 2 ^ 64 - 1
+
+-- the packet of a lane's front, where it has one
+abbrev pub packets_of : ℕ × ℕ → Lane → List Msg → List Output
+packets_of k l [] = []
+packets_of k l (m ∷ ms) = Sent (front_packet k l m) ∷ []
+
+-- a message becomes the front of a lane that is empty
+abbrev pub front_sent : Option Lane → ℕ × ℕ → Msg → List Output
+front_sent None k m = []
+front_sent (Some l) k m = if is_nil l.queue then Sent (front_packet k l m) ∷ [] else []
+
+-- the fronts that u's messages become
+abbrev pub fronts_sent : Table pair_cmp_total Lane → ℕ → List (ℕ × Msg) → List Output
+fronts_sent lanes u [] = []
+fronts_sent lanes u (s ∷ ss) = front_sent (get lanes (u, s.0)) (u, s.0) s.1 ++ fronts_sent lanes u ss
+
+-- the message behind a front becomes the front when that one is cleared
+abbrev pub front_behind : Option Lane → ℕ × ℕ → List Output
+front_behind None k = []
+front_behind (Some l) k = packets_of k (cleared l) (behind_front l.queue)
+
+-- the lesser of a link's two ends has the lesser lanes
+abbrev pub by_lesser : ℕ → ℕ → List Output → List Output → List Output
+by_lesser a b of_a of_b = if nat_lt a b then of_a ++ of_b else of_b ++ of_a
+
+abbrev pub fronts_ordered : World → Command → List Output
+fronts_ordered w (Add u g) = []
+fronts_ordered w (Remove u) = []
+fronts_ordered w (Join a b) = []
+fronts_ordered w (Drop a b) = by_lesser a b (fronts_sent w.lanes a (sends_of (lost (state w a) b))) (fronts_sent w.lanes b (sends_of (lost (state w b) a)))
+fronts_ordered w (Reset u) = fronts_sent w.lanes u (sends_of (request (state w u)))
+fronts_ordered w (Confirm u e) = []
+
+-- the new fronts of a step, in ascending order of their lanes
+abbrev pub new_fronts : World → Step → List Output
+new_fronts w (Order c n x) = fronts_ordered w x
+new_fronts w (Take p) = fronts_sent w.lanes p.to (sends_of (transition p.msg (state w p.to) p.from))
+new_fronts w (Clear p) = front_behind (get w.lanes (p.from, p.to)) (p.from, p.to)

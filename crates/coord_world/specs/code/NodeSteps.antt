@@ -1,15 +1,16 @@
 -- The program's record of what a node does, and the transition that it stands for.
-use Rattle.std.specs.Prelude.{◌≡◌, ℕ, ◌-◌, ◌^◌, ◌<◌, ◌==◌, List, [], ◌∷◌, IsSome, if◌then◌else◌}
-use Rattle.coord_types.specs.Table.{Table, get, insert, change}
+use Rattle.std.specs.Prelude.{◌≡◌, ℕ, ◌-◌, ◌^◌, ◌<◌, true, List, [], ◌∷◌, length, Some, IsSome, if◌then◌else◌}
+use Rattle.coord_types.specs.NodeSet as set
+use Rattle.coord_types.specs.Table.{Table, get, insert}
 use Rattle.coord_types.specs.NodeState.{NodeState}
 use Rattle.coord_types.specs.declared.messages.Msg.{Msg}
 use Rattle.coord_types.specs.declared.outputs.Output.{Output}
 use Rattle.coord_types.specs.declared.outputs.Output.TheVariants.{Signalled}
-use Rattle.coord_link.specs.LaneMachine.{Lane, sent}
+use Rattle.coord_link.specs.LaneMachine.{Lane}
 use Rattle.coord_node.specs.Rules.{Transition, sends_of}
 use Rattle.coord_world.specs.declared.step.node_step.NodeStep.{NodeStep}
 use Rattle.coord_world.specs.protocol.NumberedWorld.{World, state, pair_cmp_total}
-use Rattle.coord_world.specs.code.Sends.{sent_to, HasRoomFor}
+use Rattle.coord_world.specs.code.Sends.{sent_lanes}
 
 -- the node step is u's transition d
 pub record IsNodeStepOf (node_step : NodeStep) (u : ℕ) (d : Transition) : Type 0 where
@@ -20,7 +21,7 @@ pub record IsNodeStepOf (node_step : NodeStep) (u : ℕ) (d : Transition) : Type
 
 -- the world where node u has the state r and has sent these
 abbrev pub node_stepped : World → ℕ → NodeState → List (ℕ × Msg) → World
-node_stepped w u r sends = record w { nodes = insert w.nodes u r; lanes = change (λ k l. if k.0 == u then sent (sent_to sends k.1) l else l) w.lanes }
+node_stepped w u r sends = record w { nodes = insert w.nodes u r; lanes = sent_lanes u sends w.lanes }
 
 -- the signal of a node step that finished
 abbrev pub signal_of : NodeStep → List Output
@@ -30,4 +31,4 @@ signal_of node_step = if node_step.deed.finished then Signalled node_step.id nod
 pub record CanApply (w : World) (u : ℕ) (d : Transition) (lanes : Table pair_cmp_total Lane) : Type 0 where
   pub there : IsSome (get w.nodes u)
   pub epoch : (state w u).epoch < 2 ^ 64 - 1
-  pub room : HasRoomFor (sends_of d) u lanes
+  pub room : (v : ℕ) (l : Lane) → get lanes (u, v) ≡ Some l → set.contains d.to v ≡ true → length l.queue < 4

@@ -1,27 +1,21 @@
--- What is sent on each lane, as a list of messages with those that they go to.
-use Rattle.std.specs.Prelude.{◌≡◌, ◌≢◌, ℕ, ◌==◌, ◌<◌, List, [], ◌∷◌, length, Option, Some, None, if◌then◌else◌}
-use Rattle.coord_types.specs.Table.{Table, get}
+-- What a node sends: a list of messages, each with the node that it goes to.
+use Rattle.std.specs.Prelude.{◌≡◌, ℕ, ◌<◌, List, [], ◌∷◌, length, Some, if◌then◌else◌}
+use Rattle.coord_types.specs.Table.{Table, get, change}
 use Rattle.coord_types.specs.declared.messages.Msg.{Msg}
 use Rattle.coord_link.specs.LaneMachine.{Lane, sent}
+use Rattle.coord_world.specs.protocol.Next.{is_lane}
 use Rattle.coord_world.specs.protocol.NumberedWorld.{pair_cmp_total}
 
--- what is sent to y
-abbrev pub sent_to : List (ℕ × Msg) → ℕ → List Msg
-sent_to [] y = []
-sent_to (s ∷ ss) y = if s.0 == y then s.1 ∷ [] else sent_to ss y
+-- the lanes after u sent one message to v
+abbrev pub sent_lane : ℕ → ℕ × Msg → Table pair_cmp_total Lane → Table pair_cmp_total Lane
+sent_lane u s lanes = change (λ k l. if is_lane k u s.0 then sent (s.1 ∷ []) l else l) lanes
 
-abbrev pub option_list : Option Msg → List Msg
-option_list None = []
-option_list (Some m) = m ∷ []
+-- and after it sent these, one after the other
+abbrev pub sent_lanes : ℕ → List (ℕ × Msg) → Table pair_cmp_total Lane → Table pair_cmp_total Lane
+sent_lanes u [] lanes = lanes
+sent_lanes u (s ∷ ss) lanes = sent_lanes u ss (sent_lane u s lanes)
 
--- a lane after u sent these
-abbrev pub entry_after : List (ℕ × Msg) → ℕ → (ℕ × ℕ) × Lane → (ℕ × ℕ) × Lane
-entry_after sends u e = (e.0, if e.0.0 == u then sent (sent_to sends e.0.1) e.1 else e.1)
-
--- a lane has a free place for what u sends on it
-abbrev pub HasPlaceFor : List (ℕ × Msg) → ℕ → (ℕ × ℕ) × Lane → Type 0
-HasPlaceFor sends u e = e.0.0 ≡ u → sent_to sends e.0.1 ≢ [] → length e.1.queue < 4
-
--- each lane does
-abbrev pub HasRoomFor : List (ℕ × Msg) → ℕ → Table pair_cmp_total Lane → Type 0
-HasRoomFor sends u lanes = (v : ℕ) (l : Lane) → get lanes (u, v) ≡ Some l → sent_to sends v ≢ [] → length l.queue < 4
+-- each lane has a free place for what u sends on it
+abbrev pub CanSend : ℕ → List (ℕ × Msg) → Table pair_cmp_total Lane → Type 0
+CanSend u [] lanes = Unit {0}
+CanSend u (s ∷ ss) lanes = ((l : Lane) → get lanes (u, s.0) ≡ Some l → length l.queue < 4) × CanSend u ss (sent_lane u s lanes)

@@ -2,14 +2,16 @@
 
 ghost use Rattle.std.specs.Prelude.{◌≡◌, IfOk, OnOk, map};
 ghost use Rattle.coord_types.specs.NodeSet as set;
+ghost use Rattle.coord_types.specs.Table as table;
 ghost use Rattle.coord_world.specs.protocol.Rows.{RowsFit, listed};
 ghost use Rattle.coord_world.specs.code.Assembly.{assembled, client_entry, near_with, node_entry, state_of, with_links};
 
 use crate::rows::parts::{ClientRow, LinkRow, NodeRow, Parts};
-use crate::tables::Tables;
 use crate::tables::lane_table::LaneTable;
 use crate::tables::node_table::NodeTable;
 use crate::tables::session_table::SessionTable;
+use crate::tables::{Tables, sorted};
+use coord_link::Lane;
 use coord_node::{Node, NodeFields};
 use coord_types::{Client, NodeId, NodeSet, Session};
 use std::alloc::{AllocError, Global};
@@ -21,14 +23,13 @@ impl Tables {
         ensures { IfOk result (λ tables. tables ≡ assembled (listed parts.now)) }
     {
         let nodes = nodes_of(alloc, &parts.nodes, &parts.links)?;
-        let mut lanes = LaneTable::new(alloc);
-        insert_links(&mut lanes, &parts.links)?;
+        let lanes = LaneTable::from_sorted(lanes_of(alloc, &parts.links)?)?;
         let sessions = sessions_of(alloc, &parts.clients)?;
         Ok(Tables {
             count: parts.count,
-            nodes: NodeTable::from_sorted(nodes),
+            nodes: NodeTable::from_sorted(alloc, &nodes)?,
             lanes,
-            sessions: SessionTable::from_sorted(sessions),
+            sessions: SessionTable::from_sorted(alloc, &sessions)?,
         })
     }
 }
@@ -77,15 +78,16 @@ fn neighbours_of(id: NodeId, links: &[LinkRow]) -> NodeSet
     near
 }
 
-/// Puts the two lanes of each link into a table.
-fn insert_links(lanes: &mut LaneTable, links: &[LinkRow]) -> Result<(), AllocError>
-    ensures { OnOk result (lanes.new ≡ with_links lanes.old links.now) }
+/// The two lanes of each link, in ascending order.
+fn lanes_of(alloc: Global, links: &[LinkRow]) -> Result<Vec<((NodeId, NodeId), Lane)>, AllocError>
+    ensures { IfOk result (λ lanes. lanes.items ≡ table.entries (with_links table.empty links.now)) }
 {
+    let mut lanes = Vec::new(alloc);
     for link in links {
-        lanes.insert(link.a, link.b, link.forth)?;
-        lanes.insert(link.b, link.a, link.back)?;
+        sorted::put(&mut lanes, (link.a, link.b), link.forth)?;
+        sorted::put(&mut lanes, (link.b, link.a), link.back)?;
     }
-    Ok(())
+    Ok(lanes)
 }
 
 fn sessions_of(alloc: Global, rows: &[ClientRow]) -> Result<Vec<(Client, Session)>, AllocError>

@@ -22,9 +22,9 @@ impl Tables {
     {
         Ok(Parts {
             count: self.count,
-            nodes: node_rows(alloc, self.nodes.entries())?,
+            nodes: node_rows(alloc, &self.nodes.entries(alloc)?)?,
             links: link_rows(alloc, &self.lanes)?,
-            clients: client_rows(alloc, self.sessions.entries())?,
+            clients: client_rows(alloc, &self.sessions.entries(alloc)?)?,
         })
     }
 }

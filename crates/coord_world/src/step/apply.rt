@@ -1,33 +1,54 @@
-//! What comes of a world: the one after a step, made beside it, and what is sent again.
+//! What comes of a world: the one after a step, and what is sent again.
 
-ghost use Rattle.std.specs.Prelude.{◌≡◌, IfOk, OnOk};
-ghost use Rattle.coord_world.specs.protocol.Next.{next, reply, noted};
-ghost use Rattle.coord_world.specs.protocol.Outputs.{outputs, again};
+ghost use Rattle.std.specs.Prelude.{◌≡◌, ◌++◌, IfOk, OnOk, OnErr};
+ghost use Rattle.coord_node.specs.Steps.{transitions, transitions_ordered};
+ghost use Rattle.coord_world.specs.protocol.NumberedWorld.{state};
+ghost use Rattle.coord_world.specs.protocol.Next.{all_applied, next, noted, ordered, prepared, reply};
+ghost use Rattle.coord_world.specs.protocol.Outputs.{again, outputs, receipts, signals};
 ghost use Rattle.coord_world.specs.protocol.Ranges.{InRange};
+ghost use Rattle.coord_world.specs.code.Fronts.{fronts_ordered, new_fronts};
 ghost use Rattle.coord_world.specs.code.Ready.{IsReadyFor};
 
 use crate::step::outputs;
 use crate::tables::Tables;
 use crate::world::Outcome;
-use coord_types::{Kind, Output, Reply, Step};
+use coord_types::{Client, Command, Kind, Output, Reply, Session, Step};
 use std::alloc::{AllocError, Global};
 
 impl Tables {
-    /// The world after a step, and what the step gives out.
-    pub fn after(&self, alloc: Global, step: &Step) -> Result<(Tables, Outcome), AllocError>
-        requires { IsReadyFor self.now step.now }
-        ensures world { IfOk result (λ pair. pair.0 ≡ next self.now step.now) }
-        ensures reply { IfOk result (λ pair. pair.1.reply ≡ reply self.now step.now) }
-        ensures outputs { IfOk result (λ pair. pair.1.outputs.items ≡ outputs self.now step.now) }
+    /// Takes a step, and gives what it gives out. All memory is there before anything changes.
+    pub fn apply(&mut self, alloc: Global, step: &Step) -> Result<Outcome, AllocError>
+        requires { IsReadyFor self.old step.now }
+        ensures world { OnOk result (self.new ≡ next self.old step.now) }
+        ensures reply { IfOk result (λ outcome. outcome.reply ≡ reply self.old step.now) }
+        ensures outputs { IfOk result (λ outcome. outcome.outputs.items ≡ outputs self.old step.now) }
+        ensures err { OnErr result (self.new ≡ self.old) }
     {
         let reply = self.reply_to(step);
-        let mut outputs = Vec::new(alloc);
-        let mut tables = self.copy()?;
-        tables.execute(alloc, self, step, &mut outputs)?;
-        tables.note(step, reply)?;
-        tables.count = reply.step;
-        outputs::push_new_fronts(&tables.lanes, &self.lanes, &mut outputs)?;
-        Ok((tables, Outcome { reply, outputs }))
+        let outputs = self.execute(alloc, step, reply)?;
+        self.count = reply.step;
+        Ok(Outcome { reply, outputs })
+    }
+
+    /// Does all of a step but counting it.
+    fn execute(
+        &mut self,
+        alloc: Global,
+        step: &Step,
+        reply: Reply,
+    ) -> Result<Vec<Output>, AllocError>
+        requires { IsReadyFor self.old step.now }
+        ensures world { OnOk result (self.new ≡ noted (all_applied (prepared self.old step.now) (transitions (state self.old) step.now)) reply step.now) }
+        ensures outputs { IfOk result (λ outputs. outputs.items ≡ receipts step.now ++ signals (transitions (state self.old) step.now) ++ new_fronts self.old step.now) }
+        ensures err { OnErr result (self.new ≡ self.old) }
+    {
+        match *step {
+            Step::Order(client, number, command) => {
+                self.order(alloc, client, number, &command, reply)
+            }
+            Step::Take(packet) => self.deliver(alloc, &packet),
+            Step::Clear(packet) => self.clear_front(alloc, packet.from, packet.to),
+        }
     }
 
     /// What is sent again.
@@ -55,13 +76,29 @@ impl Tables {
         }
     }
 
-    /// Makes an order its client's last one, with its reply.
-    fn note(&mut self, step: &Step, reply: Reply) -> Result<(), AllocError>
-        ensures { OnOk result (self.new ≡ noted self.old reply step.now) }
+    /// Carries an order out, and makes it its client's last one.
+    fn order(
+        &mut self,
+        alloc: Global,
+        client: Client,
+        number: u64,
+        command: &Command,
+        reply: Reply,
+    ) -> Result<Vec<Output>, AllocError>
+        requires { IsReadyFor self.old (Step.Order client number command.now) }
+        ensures world { OnOk result (self.new ≡ noted (all_applied (ordered self.old command.now) (transitions_ordered (state self.old) command.now)) reply (Step.Order client number command.now)) }
+        ensures outputs { IfOk result (λ outputs. outputs.items ≡ signals (transitions_ordered (state self.old) command.now) ++ fronts_ordered self.old command.now) }
+        ensures err { OnErr result (self.new ≡ self.old) }
     {
-        let Step::Order(client, number, command) = *step else {
-            return Ok(());
+        let mut sessions = self.sessions.copy()?;
+        let session = Session {
+            number,
+            command: *command,
+            reply,
         };
-        self.sessions.insert(client, number, &command, reply)
+        sessions.insert(client, session)?;
+        let outputs = self.obey(alloc, client, number, command)?;
+        self.sessions = sessions;
+        Ok(outputs)
     }
 }

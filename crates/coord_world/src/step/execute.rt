@@ -1,229 +1,179 @@
-//! How a step is carried out, on a copy of the world as it was before.
+//! How a step is carried out in place, once all memory that it needs is there.
 
-ghost use Rattle.std.specs.Prelude.{◌≡◌, ◌<◌, ◌-◌, ◌^◌, ◌∷◌, [], ◌++◌, length, IsSome, OnOk};
+ghost use Rattle.std.specs.Prelude.{◌≡◌, ◌<◌, ◌-◌, ◌^◌, ◌∷◌, [], ◌++◌, length, IsSome, IfOk, OnOk, OnErr};
 ghost use Rattle.std.specs.Option.{ForSome};
 ghost use Rattle.coord_types.specs.Table as table;
+ghost use Rattle.coord_types.specs.declared.steps.Step.TheVariants.{Order};
 ghost use Rattle.coord_link.specs.LaneMachine.{took, cleared};
-ghost use Rattle.coord_node.specs.Rules.{request, lost, transition};
-ghost use Rattle.coord_node.specs.Steps.{transitions, transitions_ordered};
+ghost use Rattle.coord_node.specs.Rules.{lost, request, sends_of, transition};
+ghost use Rattle.coord_node.specs.Steps.{transitions_ordered};
 ghost use Rattle.coord_world.specs.protocol.NumberedWorld.{state};
-ghost use Rattle.coord_world.specs.protocol.Next.{on_lane, applied, all_applied, ordered, prepared};
-ghost use Rattle.coord_world.specs.protocol.Outputs.{receipts, receipt, signals};
-ghost use Rattle.coord_world.specs.code.Sends.{HasRoomFor};
-ghost use Rattle.coord_world.specs.code.NodeSteps.{node_stepped, signal_of, CanApply};
+ghost use Rattle.coord_world.specs.protocol.Next.{all_applied, applied, on_lane, ordered};
+ghost use Rattle.coord_world.specs.protocol.Outputs.{receipt, signals};
+ghost use Rattle.coord_world.specs.code.Fronts.{AreNumbered, by_lesser, front_behind, fronts_ordered, fronts_sent};
+ghost use Rattle.coord_world.specs.code.NodeSteps.{CanApply};
 ghost use Rattle.coord_world.specs.code.Ready.{IsReadyFor};
 
-use crate::step::node_step::NodeStep;
+use crate::step::outputs::{
+    front_packets, push_fronts, push_fronts_of_both, push_receipt, push_signal,
+};
 use crate::tables::Tables;
 use coord_link::Lane;
 use coord_node::Node;
-use coord_types::{Client, Command, DataPacket, NodeId, Output, ReceiptPacket, Step};
+use coord_types::{Client, Command, DataPacket, NodeId, Output};
 use std::alloc::{AllocError, Global};
 
 impl Tables {
-    /// Carries a step out, and adds its receipt and its signals.
-    pub fn execute(
+    /// Carries a client's order out, and gives its signals and the new fronts.
+    pub fn obey(
         &mut self,
         alloc: Global,
-        before: &Tables,
-        step: &Step,
-        outputs: &mut Vec<Output>,
-    ) -> Result<(), AllocError>
-        requires same { self.old ≡ before.now }
-        requires ready { IsReadyFor before.now step.now }
-        ensures world { OnOk result (self.new ≡ all_applied (prepared before.now step.now) (transitions (state before.now) step.now)) }
-        ensures outputs { OnOk result (outputs.new.items ≡ outputs.old.items ++ (receipts step.now ++ signals (transitions (state before.now) step.now))) }
-    {
-        match *step {
-            Step::Order(client, number, command) => {
-                self.obey(alloc, before, client, number, &command, outputs)
-            }
-            Step::Take(packet) => self.deliver(alloc, before, packet, outputs),
-            Step::Clear(packet) => self.clear_front(packet.from, packet.to),
-        }
-    }
-
-    /// Carries a client's order out.
-    fn obey(
-        &mut self,
-        alloc: Global,
-        before: &Tables,
         client: Client,
         number: u64,
         command: &Command,
-        outputs: &mut Vec<Output>,
-    ) -> Result<(), AllocError>
-        requires same { self.old ≡ before.now }
-        requires ready { IsReadyFor before.now (Step.Order client number command.now) }
-        ensures world { OnOk result (self.new ≡ all_applied (ordered before.now command.now) (transitions_ordered (state before.now) command.now)) }
-        ensures outputs { OnOk result (outputs.new.items ≡ outputs.old.items ++ signals (transitions_ordered (state before.now) command.now)) }
+    ) -> Result<Vec<Output>, AllocError>
+        requires { IsReadyFor self.old (Order client number command.now) }
+        ensures world { OnOk result (self.new ≡ all_applied (ordered self.old command.now) (transitions_ordered (state self.old) command.now)) }
+        ensures outputs { IfOk result (λ outputs. outputs.items ≡ signals (transitions_ordered (state self.old) command.now) ++ fronts_ordered self.old command.now) }
+        ensures err { OnErr result (self.new ≡ self.old) }
     {
         match *command {
-            Command::Add(id, group) => self.nodes.insert(id, Node::new(group)),
-            Command::Remove(id) => {
-                self.nodes.remove(id);
-                Ok(())
-            }
-            Command::Join(a, b) => self.join(alloc, before, a, b),
-            Command::Drop(a, b) => self.drop_link(alloc, before, a, b, outputs),
-            Command::Reset(id) => self.reset(alloc, before, id, outputs),
-            Command::Confirm(id, epoch) => self.confirm(before, id, epoch),
+            Command::Add(id, group) => self.nodes.insert(id, Node::new(group))?,
+            Command::Remove(id) => self.nodes.remove(id),
+            Command::Join(a, b) => self.join(alloc, a, b)?,
+            Command::Drop(a, b) => return self.drop_link(alloc, a, b),
+            Command::Reset(id) => return self.reset(alloc, id),
+            Command::Confirm(id, epoch) => self.confirm(id, epoch),
         }
+        Ok(Vec::new(alloc))
     }
 
     /// A node takes the data packet that came.
-    fn deliver(
-        &mut self,
-        alloc: Global,
-        before: &Tables,
-        packet: DataPacket,
-        outputs: &mut Vec<Output>,
-    ) -> Result<(), AllocError>
-        requires same { self.old ≡ before.now }
-        requires taken { ForSome (table.get self.old.lanes record { 0 = packet.from; 1 = packet.to }) (λ l. l.got < 2 ^ 64 - 1) }
-        requires acts { CanApply before.now packet.to (transition packet.msg (state before.now packet.to) packet.from) (on_lane before.now packet.from packet.to took).lanes }
-        ensures world { OnOk result (self.new ≡ applied (on_lane before.now packet.from packet.to took) packet.to (transition packet.msg (state before.now packet.to) packet.from)) }
-        ensures outputs { OnOk result (outputs.new.items ≡ outputs.old.items ++ (Output.Receipted (receipt packet) ∷ signals (record { 0 = packet.to; 1 = transition packet.msg (state before.now packet.to) packet.from } ∷ []))) }
+    pub fn deliver(&mut self, alloc: Global, packet: &DataPacket) -> Result<Vec<Output>, AllocError>
+        requires taken { ForSome (table.get self.old.lanes record { 0 = packet.now.from; 1 = packet.now.to }) (λ l. l.got < 2 ^ 64 - 1) }
+        requires acts { CanApply self.old packet.now.to (transition packet.now.msg (state self.old packet.now.to) packet.now.from) (on_lane self.old packet.now.from packet.now.to took).lanes }
+        requires numbered { AreNumbered self.old.lanes }
+        ensures world { OnOk result (self.new ≡ applied (on_lane self.old packet.now.from packet.now.to took) packet.now.to (transition packet.now.msg (state self.old packet.now.to) packet.now.from)) }
+        ensures outputs { IfOk result (λ outputs. outputs.items ≡ Output.Receipted (receipt packet.now) ∷ (signals (record { 0 = packet.now.to; 1 = transition packet.now.msg (state self.old packet.now.to) packet.now.from } ∷ []) ++ fronts_sent self.old.lanes packet.now.to (sends_of (transition packet.now.msg (state self.old packet.now.to) packet.now.from)))) }
+        ensures err { OnErr result (self.new ≡ self.old) }
     {
-        outputs.push(Output::Receipted(ReceiptPacket {
-            from: packet.from,
-            to: packet.to,
-            inc: packet.inc,
-            number: packet.number,
-        }))?;
-        self.take_front(packet.from, packet.to)?;
-        let node_step = before.delivered(alloc, packet)?;
-        self.apply_node_step(node_step, outputs)
+        let node_step = self.delivered(alloc, *packet)?;
+        let mut outputs = Vec::with_capacity(alloc, node_step.deed.sends.len() + 2)?;
+        push_receipt(packet, &mut outputs)?;
+        push_signal(&node_step, &mut outputs)?;
+        push_fronts(&self.lanes, &node_step, &mut outputs)?;
+        self.take_front(packet.from, packet.to);
+        self.carry_out(node_step);
+        Ok(outputs)
     }
-
     /// A reset is asked for at a node.
-    fn reset(
-        &mut self,
-        alloc: Global,
-        before: &Tables,
-        id: NodeId,
-        outputs: &mut Vec<Output>,
-    ) -> Result<(), AllocError>
-        requires same { self.old ≡ before.now }
-        requires acts { CanApply before.now id (request (state before.now id)) before.now.lanes }
-        ensures world { OnOk result (self.new ≡ applied before.now id (request (state before.now id))) }
-        ensures outputs { OnOk result (outputs.new.items ≡ outputs.old.items ++ signals (record { 0 = id; 1 = request (state before.now id) } ∷ [])) }
+    fn reset(&mut self, alloc: Global, id: NodeId) -> Result<Vec<Output>, AllocError>
+        requires acts { CanApply self.old id (request (state self.old id)) self.old.lanes }
+        requires numbered { AreNumbered self.old.lanes }
+        ensures world { OnOk result (self.new ≡ applied self.old id (request (state self.old id))) }
+        ensures outputs { IfOk result (λ outputs. outputs.items ≡ signals (record { 0 = id; 1 = request (state self.old id) } ∷ []) ++ fronts_sent self.old.lanes id (sends_of (request (state self.old id)))) }
+        ensures err { OnErr result (self.new ≡ self.old) }
     {
-        let node_step = before.requested(alloc, id)?;
-        self.apply_node_step(node_step, outputs)
+        let node_step = self.requested(alloc, id)?;
+        let mut outputs = Vec::with_capacity(alloc, node_step.deed.sends.len() + 1)?;
+        push_signal(&node_step, &mut outputs)?;
+        push_fronts(&self.lanes, &node_step, &mut outputs)?;
+        self.carry_out(node_step);
+        Ok(outputs)
     }
 
     /// The link of two nodes vanishes, first at `a` and then at `b`.
-    fn drop_link(
-        &mut self,
-        alloc: Global,
-        before: &Tables,
-        a: NodeId,
-        b: NodeId,
-        outputs: &mut Vec<Output>,
-    ) -> Result<(), AllocError>
-        requires same { self.old ≡ before.now }
-        requires first { CanApply before.now a (lost (state before.now a) b) (ordered before.now (Command.Drop a b)).lanes }
-        requires second { CanApply before.now b (lost (state before.now b) a) (applied (ordered before.now (Command.Drop a b)) a (lost (state before.now a) b)).lanes }
-        ensures world { OnOk result (self.new ≡ applied (applied (ordered before.now (Command.Drop a b)) a (lost (state before.now a) b)) b (lost (state before.now b) a)) }
-        ensures outputs { OnOk result (outputs.new.items ≡ outputs.old.items ++ signals (record { 0 = a; 1 = lost (state before.now a) b } ∷ record { 0 = b; 1 = lost (state before.now b) a } ∷ [])) }
+    fn drop_link(&mut self, alloc: Global, a: NodeId, b: NodeId) -> Result<Vec<Output>, AllocError>
+        requires linked { IsSome (table.get self.old.lanes record { 0 = a; 1 = b }) }
+        requires first { CanApply self.old a (lost (state self.old a) b) (ordered self.old (Command.Drop a b)).lanes }
+        requires second { CanApply self.old b (lost (state self.old b) a) (applied (ordered self.old (Command.Drop a b)) a (lost (state self.old a) b)).lanes }
+        requires numbered { AreNumbered self.old.lanes }
+        ensures world { OnOk result (self.new ≡ applied (applied (ordered self.old (Command.Drop a b)) a (lost (state self.old a) b)) b (lost (state self.old b) a)) }
+        ensures outputs { IfOk result (λ outputs. outputs.items ≡ signals (record { 0 = a; 1 = lost (state self.old a) b } ∷ record { 0 = b; 1 = lost (state self.old b) a } ∷ []) ++ fronts_ordered self.old (Command.Drop a b)) }
+        ensures err { OnErr result (self.new ≡ self.old) }
     {
+        let first = self.dropped(alloc, a, b)?;
+        let second = self.dropped(alloc, b, a)?;
+        let mut outputs = Vec::new(alloc);
+        push_signal(&first, &mut outputs)?;
+        push_signal(&second, &mut outputs)?;
+        push_fronts_of_both(&self.lanes, &first, &second, &mut outputs)?;
         self.drop_lanes(a, b);
-        let first = before.dropped(alloc, a, b)?;
-        self.apply_node_step(first, outputs)?;
-        let second = before.dropped(alloc, b, a)?;
-        self.apply_node_step(second, outputs)
+        self.carry_out(first);
+        self.carry_out(second);
+        Ok(outputs)
     }
 
     /// The lanes of a link vanish, with all that is on them.
     fn drop_lanes(&mut self, a: NodeId, b: NodeId)
+        requires { IsSome (table.get self.old.lanes record { 0 = a; 1 = b }) }
         ensures { self.new ≡ ordered self.old (Command.Drop a b) }
     {
-        self.lanes.remove(a, b);
-        self.lanes.remove(b, a);
+        self.lanes.unlink(a, b);
     }
 
     /// Two nodes are linked, by two empty lanes.
-    fn join(
-        &mut self,
-        alloc: Global,
-        before: &Tables,
-        a: NodeId,
-        b: NodeId,
-    ) -> Result<(), AllocError>
-        requires same { self.old ≡ before.now }
-        requires one { IsSome (table.get before.now.nodes a) }
-        requires other { IsSome (table.get before.now.nodes b) }
-        requires room { before.now.count < 2 ^ 64 - 1 }
-        ensures { OnOk result (self.new ≡ ordered before.now (Command.Join a b)) }
+    fn join(&mut self, alloc: Global, a: NodeId, b: NodeId) -> Result<(), AllocError>
+        requires one { IsSome (table.get self.old.nodes a) }
+        requires other { IsSome (table.get self.old.nodes b) }
+        requires count { self.old.count < 2 ^ 64 - 1 }
+        requires room { table.len self.old.lanes < 2 ^ 16 - 2 }
+        ensures ok { OnOk result (self.new ≡ ordered self.old (Command.Join a b)) }
+        ensures err { OnErr result (self.new ≡ self.old) }
     {
-        let mut one = *before.node(a).unwrap();
+        let mut one = *self.node(a).unwrap();
         one.gained(alloc, b);
-        let mut other = *before.node(b).unwrap();
+        let mut other = *self.node(b).unwrap();
         other.gained(alloc, a);
-        self.nodes.insert(a, one)?;
-        self.nodes.insert(b, other)?;
-        let lane = Lane::new(before.count + 1);
-        self.lanes.insert(a, b, lane)?;
-        self.lanes.insert(b, a, lane)
+        self.lanes.link(a, b, Lane::new(self.count + 1))?;
+        self.nodes.replace(a, one);
+        self.nodes.replace(b, other);
+        Ok(())
     }
 
     /// An epoch of a node is confirmed.
-    fn confirm(&mut self, before: &Tables, id: NodeId, epoch: u64) -> Result<(), AllocError>
-        requires same { self.old ≡ before.now }
-        requires there { IsSome (table.get before.now.nodes id) }
-        ensures { OnOk result (self.new ≡ ordered before.now (Command.Confirm id epoch)) }
+    fn confirm(&mut self, id: NodeId, epoch: u64)
+        requires { IsSome (table.get self.old.nodes id) }
+        ensures { self.new ≡ ordered self.old (Command.Confirm id epoch) }
     {
-        let mut node = *before.node(id).unwrap();
+        let mut node = *self.node(id).unwrap();
         node.confirm(epoch);
-        self.nodes.insert(id, node)
+        self.nodes.replace(id, node);
     }
 
     /// Notes on a lane that its front was taken.
-    fn take_front(&mut self, from: NodeId, to: NodeId) -> Result<(), AllocError>
+    fn take_front(&mut self, from: NodeId, to: NodeId)
         requires { ForSome (table.get self.old.lanes record { 0 = from; 1 = to }) (λ l. l.got < 2 ^ 64 - 1) }
-        ensures { OnOk result (self.new ≡ on_lane self.old from to took) }
+        ensures { self.new ≡ on_lane self.old from to took }
     {
         let Some(lane) = self.lanes.get(from, to) else {
-            return Ok(());
+            return;
         };
         let mut lane = *lane;
         lane.take();
-        self.lanes.insert(from, to, lane)?;
-        Ok(())
+        self.lanes.replace(from, to, lane);
     }
 
     /// Clears the front of a lane.
-    fn clear_front(&mut self, from: NodeId, to: NodeId) -> Result<(), AllocError>
+    pub fn clear_front(
+        &mut self,
+        alloc: Global,
+        from: NodeId,
+        to: NodeId,
+    ) -> Result<Vec<Output>, AllocError>
         requires there { ForSome (table.get self.old.lanes record { 0 = from; 1 = to }) (λ l. 0 < length l.queue) }
-        requires room { ForSome (table.get self.old.lanes record { 0 = from; 1 = to }) (λ l. l.base < 2 ^ 64 - 1) }
-        ensures { OnOk result (self.new ≡ on_lane self.old from to cleared) }
+        requires numbered { ForSome (table.get self.old.lanes record { 0 = from; 1 = to }) (λ l. l.base < 2 ^ 64 - 2) }
+        ensures world { OnOk result (self.new ≡ on_lane self.old from to cleared) }
+        ensures outputs { IfOk result (λ outputs. outputs.items ≡ front_behind (table.get self.old.lanes record { 0 = from; 1 = to }) record { 0 = from; 1 = to }) }
+        ensures err { OnErr result (self.new ≡ self.old) }
     {
         let Some(lane) = self.lanes.get(from, to) else {
-            return Ok(());
+            return Ok(Vec::new(alloc));
         };
         let mut lane = *lane;
         lane.clear();
-        self.lanes.insert(from, to, lane)?;
-        Ok(())
-    }
-
-    /// Has a node be as it will be, and puts what it sends into its lanes.
-    fn apply_node_step(
-        &mut self,
-        node_step: NodeStep,
-        outputs: &mut Vec<Output>,
-    ) -> Result<(), AllocError>
-        requires { HasRoomFor node_step.deed.sends.items node_step.id self.old.lanes }
-        ensures world { OnOk result (self.new ≡ node_stepped self.old node_step.id node_step.node node_step.deed.sends.items) }
-        ensures signal { OnOk result (outputs.new.items ≡ outputs.old.items ++ signal_of node_step) }
-    {
-        let NodeStep { id, node, deed } = node_step;
-        if deed.finished {
-            outputs.push(Output::Signalled(id, node.epoch()))?;
-        }
-        self.nodes.insert(id, node)?;
-        self.lanes.send(id, &deed.sends);
-        Ok(())
+        let outputs = front_packets(alloc, from, to, &lane)?;
+        self.lanes.replace(from, to, lane);
+        Ok(outputs)
     }
 }

@@ -1,68 +1,122 @@
-//! The packets of the lanes' fronts: what a step sends, and what is sent again.
+//! What a step gives out, computed before the step is carried out, and what is sent again.
 
-ghost use Rattle.std.specs.Prelude.{◌≡◌, ◌<◌, ◌-◌, ◌++◌, OnOk};
+ghost use Rattle.std.specs.Prelude.{◌≡◌, ◌<◌, ◌-◌, ◌^◌, ◌∷◌, [], ◌++◌, IfOk, OnOk};
 ghost use Rattle.std.specs.List.{All};
-ghost use Rattle.std.specs.Option.{option_copied};
 ghost use Rattle.coord_types.specs.Table as table;
-ghost use Rattle.coord_world.specs.protocol.Outputs.{had_front, sent_by, all_sent, again_by, all_again};
-ghost use Rattle.coord_world.specs.code.Fronts.{HasNumber};
+ghost use Rattle.coord_world.specs.protocol.Outputs.{again_by, all_again, receipt};
+ghost use Rattle.coord_world.specs.code.Fronts.{AreNumbered, HasNumber, by_lesser, front_sent, fronts_sent, packets_of};
+ghost use Rattle.coord_world.specs.code.NodeSteps.{signal_of};
 
+use crate::step::node_step::NodeStep;
 use crate::tables::lane_table::LaneTable;
 use coord_link::Lane;
-use coord_types::{DataPacket, NodeId, Output, ReceiptPacket};
-use std::alloc::AllocError;
+use coord_types::{DataPacket, Msg, NodeId, Output, ReceiptPacket};
+use std::alloc::{AllocError, Global};
 
-/// Whether a lane had the front before that it has now.
-fn had_front(before: Option<&Lane>, lane: &Lane) -> bool
-    ensures { result ≡ had_front (option_copied before.entry) lane.now }
+/// Adds the receipt of a data packet.
+pub fn push_receipt(packet: &DataPacket, outputs: &mut Vec<Output>) -> Result<(), AllocError>
+    ensures { OnOk result (outputs.new.items ≡ outputs.old.items ++ Output.Receipted (receipt packet.now) ∷ []) }
 {
-    match before {
-        None => false,
-        Some(old) => {
-            !old.queue().is_empty() && old.inc() == lane.inc() && old.base() == lane.base()
-        }
+    outputs.push(Output::Receipted(ReceiptPacket {
+        from: packet.from,
+        to: packet.to,
+        inc: packet.inc,
+        number: packet.number,
+    }))?;
+    Ok(())
+}
+
+/// Adds the signal of a node that finished.
+pub fn push_signal(node_step: &NodeStep, outputs: &mut Vec<Output>) -> Result<(), AllocError>
+    ensures { OnOk result (outputs.new.items ≡ outputs.old.items ++ signal_of node_step.now) }
+{
+    if node_step.deed.finished {
+        outputs.push(Output::Signalled(node_step.id, node_step.node.epoch()))?;
+    }
+    Ok(())
+}
+
+/// Adds the new fronts that the messages of a node become, in ascending order of their lanes.
+pub fn push_fronts(
+    lanes: &LaneTable,
+    node_step: &NodeStep,
+    outputs: &mut Vec<Output>,
+) -> Result<(), AllocError>
+    requires { AreNumbered lanes.now }
+    ensures { OnOk result (outputs.new.items ≡ outputs.old.items ++ fronts_sent lanes.now node_step.now.id node_step.now.deed.sends.items) }
+{
+    for send in &node_step.deed.sends {
+        push_front(lanes, node_step.id, send.0, send.1, outputs)?;
+    }
+    Ok(())
+}
+
+/// Adds the new fronts of the two ends of a link, those of the lesser one first.
+pub fn push_fronts_of_both(
+    lanes: &LaneTable,
+    first: &NodeStep,
+    second: &NodeStep,
+    outputs: &mut Vec<Output>,
+) -> Result<(), AllocError>
+    requires { AreNumbered lanes.now }
+    ensures { OnOk result (outputs.new.items ≡ outputs.old.items ++ by_lesser first.now.id second.now.id (fronts_sent lanes.now first.now.id first.now.deed.sends.items) (fronts_sent lanes.now second.now.id second.now.deed.sends.items)) }
+{
+    if first.id < second.id {
+        push_fronts(lanes, first, outputs)?;
+        push_fronts(lanes, second, outputs)
+    } else {
+        push_fronts(lanes, second, outputs)?;
+        push_fronts(lanes, first, outputs)
     }
 }
 
-/// Adds the packet of a lane's front, where that wasn't its front before.
-fn push_new_front(
-    entry: &((NodeId, NodeId), Lane),
-    before: &LaneTable,
+/// Adds the packet of a message that becomes a front: nothing stands before it on its lane.
+fn push_front(
+    lanes: &LaneTable,
+    from: NodeId,
+    to: NodeId,
+    msg: Msg,
     outputs: &mut Vec<Output>,
 ) -> Result<(), AllocError>
-    requires { HasNumber entry.now }
-    ensures { OnOk result (outputs.new.items ≡ outputs.old.items ++ sent_by (table.get before.now entry.now.0) entry.now.0 entry.now.1 entry.now.1.queue) }
+    requires { AreNumbered lanes.now }
+    ensures { OnOk result (outputs.new.items ≡ outputs.old.items ++ front_sent (table.get lanes.now record { 0 = from; 1 = to }) record { 0 = from; 1 = to } msg) }
 {
-    let ((from, to), lane) = *entry;
-    let Some((number, msg)) = lane.current() else {
+    let Some(lane) = lanes.get(from, to) else {
         return Ok(());
     };
-    if !had_front(before.get(from, to), &lane) {
+    if lane.queue().is_empty() {
         outputs.push(Output::Sent(DataPacket {
             from,
             to,
             inc: lane.inc(),
-            number,
+            number: lane.base() + 1,
             msg,
         }))?;
     }
     Ok(())
 }
 
-/// Adds the packets of all fronts that are new since the lanes were as before, in ascending order
-/// of the lanes.
-pub fn push_new_fronts(
-    lanes: &LaneTable,
-    before: &LaneTable,
-    outputs: &mut Vec<Output>,
-) -> Result<(), AllocError>
-    requires { All HasNumber (table.entries lanes.now) }
-    ensures { OnOk result (outputs.new.items ≡ outputs.old.items ++ all_sent before.now (table.entries lanes.now)) }
+/// The packet of a lane's front, where it has one.
+pub fn front_packets(
+    alloc: Global,
+    from: NodeId,
+    to: NodeId,
+    lane: &Lane,
+) -> Result<Vec<Output>, AllocError>
+    requires { lane.now.base < 2 ^ 64 - 1 }
+    ensures { IfOk result (λ outputs. outputs.items ≡ packets_of record { 0 = from; 1 = to } lane.now lane.now.queue) }
 {
-    for entry in lanes.entries() {
-        push_new_front(entry, before, outputs)?;
-    }
-    Ok(())
+    let Some((number, msg)) = lane.current() else {
+        return Ok(Vec::new(alloc));
+    };
+    let packet = DataPacket {
+        from,
+        to,
+        inc: lane.inc(),
+        number,
+        msg,
+    };
+    Ok(vec![in alloc; Output::Sent(packet)]?)
 }
 
 /// Adds what is sent again on a lane: its front, and its receipt where the front was taken.

@@ -1,40 +1,38 @@
 //! The nodes of a world.
 
-ghost use Rattle.std.specs.Prelude.{◌≡◌, true, IfOk, OnOk, OnErr, IsTrue, ◌↔◌};
+ghost use Rattle.std.specs.Prelude.{◌≡◌, true, IsSome, IfOk, OnOk, OnErr, IsTrue, ◌↔◌};
 ghost use Rattle.std.specs.Option.{option_copied};
 ghost use Rattle.std.specs.Ordering.{nat_cmp};
 ghost use Rattle.std.specs.FinMap.Entries.{is_sorted};
 ghost use Rattle.coord_types.specs.Table as table;
 
-use crate::tables::equality::is_same_list;
-use crate::tables::sorted;
+use crate::tables::slots;
 use coord_node::Node;
 use coord_types::NodeId;
 use std::alloc::{AllocError, Global};
 use std::marker::Model;
 
-/// The nodes by their numbers. Contracts see a table.
+/// The nodes in slots: node i stands in slot i - 1. Contracts see a table.
 #[derive(Drop, Debug)]
 pub struct NodeTable {
-    nodes: Vec<(NodeId, Node)>,
+    slots: Vec<Option<Node>>,
 }
 
 impl Model for NodeTable {
-    ghost use Rattle.std.specs.Prelude.{◌≡◌, true};
-    ghost use Rattle.std.specs.Ordering.{nat_cmp};
+    ghost use Rattle.std.specs.Prelude.{◌≤◌, length};
     ghost use Rattle.std.specs.Cmp.{nat_cmp_total};
     ghost use Rattle.std.specs.Coded.{coded_ℕ};
-    ghost use Rattle.std.specs.FinMap.Entries.{is_sorted};
     ghost use Rattle.coord_types.specs.NodeState.{NodeState, state_code};
-    ghost use Rattle.coord_types.specs.Table.{Table, code, from_sorted};
+    ghost use Rattle.coord_types.specs.Table.{Table, code};
+    ghost use Rattle.coord_world.specs.code.Slots.{slot_table};
 
     ghost Value = { Table nat_cmp_total NodeState };
 
     ghost coded = { code coded_ℕ state_code };
 
-    ghost view = { λ a. from_sorted a.nodes.items };
+    ghost view = { λ a. slot_table a.slots.items };
 
-    ghost invariant = { λ a. is_sorted nat_cmp a.nodes.items ≡ true };
+    ghost invariant = { λ a. length a.slots.items ≤ 64 };
 }
 
 impl NodeTable {
@@ -42,29 +40,33 @@ impl NodeTable {
         ensures { result ≡ table.empty }
     {
         NodeTable {
-            nodes: Vec::new(alloc),
+            slots: Vec::new(alloc),
         }
     }
 
     /// The table of entries in ascending order.
-    pub fn from_sorted(nodes: Vec<(NodeId, Node)>) -> Self
-        requires { is_sorted nat_cmp nodes.items ≡ true }
-        ensures { result ≡ table.from_sorted nodes.items }
+    pub fn from_sorted(alloc: Global, entries: &[(NodeId, Node)]) -> Result<Self, AllocError>
+        requires { is_sorted nat_cmp entries.now ≡ true }
+        ensures { IfOk result (λ made. made ≡ table.from_sorted entries.now) }
     {
-        NodeTable { nodes }
+        let mut made = NodeTable::new(alloc);
+        for entry in entries {
+            made.insert(entry.0, entry.1)?;
+        }
+        Ok(made)
     }
 
     /// The nodes with their numbers, in ascending order.
-    pub fn entries(&self) -> &[(NodeId, Node)]
-        ensures { result.now ≡ table.entries self.now }
+    pub fn entries(&self, alloc: Global) -> Result<Vec<(NodeId, Node)>, AllocError>
+        ensures { IfOk result (λ entries. entries.items ≡ table.entries self.now) }
     {
-        &self.nodes
+        slots::entries(alloc, &self.slots)
     }
 
     pub fn get(&self, id: NodeId) -> Option<&Node>
         ensures { option_copied result ≡ table.get self.now id }
     {
-        sorted::value_at(&self.nodes, &id)
+        slots::value_at(&self.slots, id.number() as usize - 1)
     }
 
     /// Puts a node at its number, in place of one that is there.
@@ -72,27 +74,34 @@ impl NodeTable {
         ensures ok { OnOk result (self.new ≡ table.insert self.old id node) }
         ensures err { OnErr result (self.new ≡ self.old) }
     {
-        sorted::put(&mut self.nodes, id, node)?;
-        Ok(())
+        slots::put(&mut self.slots, id.number(), node)
+    }
+
+    /// Puts a node in place of the one that is there.
+    pub fn replace(&mut self, id: NodeId, node: Node)
+        requires { IsSome (table.get self.old id) }
+        ensures { self.new ≡ table.insert self.old id node }
+    {
+        slots::replace(&mut self.slots, id.number(), node);
     }
 
     pub fn remove(&mut self, id: NodeId)
         ensures { self.new ≡ table.remove self.old id }
     {
-        sorted::take_out(&mut self.nodes, &id);
+        slots::take_out(&mut self.slots, id.number());
     }
 
     pub fn is_same(&self, other: &NodeTable) -> bool
         ensures { IsTrue result ↔ (self.now ≡ other.now) }
     {
-        is_same_list(&self.nodes, &other.nodes)
+        slots::is_same_slots(&self.slots, &other.slots)
     }
 
     pub fn copy(&self) -> Result<NodeTable, AllocError>
         ensures { IfOk result (λ copy. copy ≡ self.now) }
     {
-        let alloc = *self.nodes.allocator();
-        let nodes = Vec::from_slice(alloc, &self.nodes)?;
-        Ok(NodeTable { nodes })
+        let alloc = *self.slots.allocator();
+        let slots = Vec::from_slice(alloc, &self.slots)?;
+        Ok(NodeTable { slots })
     }
 }

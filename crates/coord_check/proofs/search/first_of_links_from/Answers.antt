@@ -1,16 +1,25 @@
--- Place by place.
+-- Neighbour by neighbour.
 use Rattle.std.proofs.Common.{sym, ap, ◌∙◌, arith}
-use Rattle.coord_check.specs.Faults.{first, link_faults}
-use Rattle.coord_check.proofs.FirstFault.{passed, met, all_passed}
+use Rattle.std.specs.List.{flat_map}
+use Rattle.coord_types.specs.NodeSet as set
+use Rattle.coord_types.proofs.Sets.{len-first}
+use Rattle.coord_check.specs.Faults.{first}
+use Rattle.coord_check.proofs.Walk.{passed_by, told_above, walk_is}
 use Rattle.coord_check.proofs.search.first_of_links_from.Goals as goal
 
-pub returns-in-Some : goal.returns-in-Some
-returns-in-Some c =
-    sym (met (link_faults c.args.world.now c.args.a) c.loop-number.number c.in-Some.fault (omega arith) (ap (λ u. first (link_faults c.args.world.now c.args.a u)) (sym c.in_ok-b.ensures.value) ∙ sym c.in-Some.ensures)) ∙ c.loop-number.invariant
+pub loop-b-init : goal.loop-b-init
+loop-b-init c =
+    ap (λ s. first (flat_map (told_above c.args.world.now c.args.a) (set.items s))) c.neighbours_of-rest.ensures
+    ∙ ap first (walk_is c.args.world.now c.args.a c.requires (omega arith))
 
-pub loop-number-preserved : goal.loop-number-preserved
-loop-number-preserved c =
-    passed (link_faults c.args.world.now c.args.a) c.loop-number.number (omega arith) (ap (λ u. first (link_faults c.args.world.now c.args.a u)) (sym c.in_ok-b.ensures.value) ∙ sym c.first_of_link.ensures ∙ c.in_default.is) ∙ c.loop-number.invariant
+pub loop-b-smaller : goal.loop-b-smaller
+loop-b-smaller c =
+    let shorter = len-first c.loop-b.rest c.in-Some.b (sym c.in-Some.ensures) in
+    let rest = ap set.len c.without-rest.ensures in
+    omega arith
 
-pub returns : goal.returns
-returns c = sym (all_passed (link_faults c.args.world.now c.args.a) c.loop-number.number (omega arith)) ∙ c.loop-number.invariant
+pub loop-b-preserved : goal.loop-b-preserved
+loop-b-preserved c =
+    ap (λ s. first (flat_map (told_above c.args.world.now c.args.a) (set.items s))) c.without-rest.ensures
+    ∙ passed_by c.args.world.now c.args.a c.loop-b.rest c.in-Some.b (sym c.in-Some.ensures) (sym c.first_of_link_up.ensures ∙ c.in_default-first_of_link_up.is)
+    ∙ c.loop-b.invariant

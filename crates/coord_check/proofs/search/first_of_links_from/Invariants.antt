@@ -1,8 +1,13 @@
--- The links that were passed have no fault.
+-- The neighbours that were passed have no fault.
 use Rattle.std.proofs.Common.{◌≡◌}
 use Rattle.std.specs.List.{flat_map}
-use Rattle.coord_check.specs.Faults.{first, link_faults, faults_from, nodes_from}
+use Rattle.coord_types.specs.NodeSet as set
+use Rattle.coord_check.specs.Faults.{first, faults_from}
+use Rattle.coord_check.proofs.Walk.{told_above}
 use Rattle.coord_check.proofs.search.first_of_links_from.Given as goal
 
-abbrev pub invariant-loop-number : goal.invariant-loop-number
-invariant-loop-number l = first (flat_map (link_faults l.world l.a) (nodes_from l.number)) ≡ first (faults_from l.world l.a)
+abbrev pub invariant-loop-b : goal.invariant-loop-b
+invariant-loop-b l = first (flat_map (told_above l.world l.a) (set.items l.rest)) ≡ first (faults_from l.world l.a)
+
+abbrev pub decreases-loop-b : goal.decreases-loop-b
+decreases-loop-b l = set.len l.rest

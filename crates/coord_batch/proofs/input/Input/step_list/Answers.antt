@@ -5,7 +5,7 @@ use Rattle.coord_batch.proofs.input.Input.step_list.Goals as goal
 
 pub returns-in_err-step : goal.returns-in_err-step
 returns-in_err-step c =
-    let p = err_from_is_err_and c.from_residual.result c.from_residual.ensures.1 in
+    let p = err_from_is_err_and c.from_residual-in_err-step.result c.from_residual-in_err-step.ensures.1 in
     rw (p.1, p.2) (cut_short (λ _. step) _ c.loop.list.items c.args.count c.loop.counter c.loop.self c.in_err-step.field-0.0 c.loop-test.true c.in_err-step.ensures c.loop.invariant)
 
 pub loop-preserved : goal.loop-preserved

@@ -35,8 +35,8 @@ returns-then-count-eq0-clause-failed g c =
     IfErr-of_writing c.finish.result c.finish.ensures.failed c.finish.ensures.fault
     (λ fault kind part. (seen, consumed, first_part-behind _ _ _ inv.1.3.0 _ _ inv.1.3.1 part whole, λ e. absurd (not_of_reading fault kind e)))
 
-pub returns-in_err-take-clause-failed : goal.returns-in_err-take-clause-failed
-returns-in_err-take-clause-failed g c =
+pub returns-in_err-answer-clause-failed : goal.returns-in_err-answer-clause-failed
+returns-in_err-answer-clause-failed g c =
     let inv = c.loop.invariant in
     let seen = inv.1.0 in
     let came = take c.in-Ok.count c.read.new.buf in
@@ -49,7 +49,7 @@ loop-preserved g c =
     let inv = c.loop.invariant in
     let seen = inv.1.0 in
     let text = inv.1.3.0 in
-    let now = c.in_ok-take.ensures in
+    let now = c.in_ok-answer.ensures in
     let came = take c.in-Ok.count c.read.new.buf in
     let first = c.args.self.now in (
       search rules,

@@ -7,14 +7,14 @@ use Rattle.coord_world.specs.protocol.Next.{on_lane}
 use Rattle.coord_world.proofs.lanes.OnLane.{on_lane_absent, on_lane_there}
 use Rattle.coord_world.proofs.tables.Tables.clear_front.Goals as goal
 
-pub returns-in_default : goal.returns-in_default
-returns-in_default c =
+pub returns-in_default-clause-world : goal.returns-in_default-clause-world
+returns-in_default-clause-world c =
     on_lane_absent c.args.self.now c.args.from c.args.to cleared
     (ap (λ (w : World). get w.lanes (c.args.from, c.args.to)) (sym c.self.view_is) ∙ sym c.get.ensures ∙ ap option_copied c.in_default.is)
 
-pub returns : goal.returns
-returns c =
+pub returns-clause-world : goal.returns-clause-world
+returns-clause-world c =
     let before : World = record { count = c.self.inside.count; nodes = c.self.inside.nodes; lanes = c.self.inside.lanes; sessions = c.self.inside.sessions } in
-    ap (λ m. record before { lanes = m }) (c.in_ok-insert.ensures.ok ∙ ap (insert c.self.inside.lanes (c.args.from, c.args.to)) c.clear.ensures)
+    ap (λ m. record before { lanes = m }) (c.replace.ensures ∙ ap (insert c.self.inside.lanes (c.args.from, c.args.to)) c.clear.ensures)
     ∙ on_lane_there before c.args.from c.args.to cleared c.in-Some.lane.now (sym c.in-Some.ensures)
     ∙ ap (λ w. on_lane w c.args.from c.args.to cleared) c.self.view_is

@@ -1,14 +1,23 @@
-use Rattle.std.proofs.Common.{ap, ◌∙◌}
-use Rattle.coord_link.specs.LaneMachine.{took}
+use Rattle.std.proofs.Common.{◌≡◌, ◌<◌, ℕ, Some, true, length, sym, ap, subst, ◌∙◌}
+use Rattle.coord_types.specs.NodeSet as set
+use Rattle.coord_types.specs.Table.{get}
+use Rattle.coord_link.specs.LaneMachine.{Lane}
 use Rattle.coord_node.specs.Rules.{transition}
-use Rattle.coord_world.specs.protocol.NumberedWorld.{state}
-use Rattle.coord_world.specs.protocol.Next.{applied, on_lane}
-use Rattle.coord_world.proofs.transitions.IsNodeStepOf.{on_ok, act_done}
+use Rattle.coord_world.specs.protocol.NumberedWorld.{World, state}
+use Rattle.coord_world.specs.protocol.Next.{applied}
+use Rattle.coord_world.proofs.transitions.IsNodeStepOf.{act_done, act_room}
 use Rattle.coord_world.proofs.tables.Tables.deliver.Goals as goal
+
+pub carry_out-requires-clause-room : goal.carry_out-requires-clause-room
+carry_out-requires-clause-room c =
+    let p = c.args.packet.now in
+    let d = transition p.msg (state c.args.self.now p.to) p.from in
+    let after : World = c.take_front.new.self in
+    act_room c.in_ok-node_step.node_step p.to d after.lanes c.in_ok-node_step.ensures
+    (subst (λ (w : World). (v : ℕ) (l : Lane) → get w.lanes (p.to, v) ≡ Some l → set.contains d.to v ≡ true → length l.queue < 4) (sym c.take_front.ensures) c.requires.acts.room)
 
 pub returns-clause-world : goal.returns-clause-world
 returns-clause-world c =
-    let p = c.args.packet in
-    let d = transition p.msg (state c.args.before.now p.to) p.from in
-    on_ok c.apply_node_step.result (λ node_stepped. node_stepped ∙ act_done _ c.in_ok-node_step.node_step p.to _ c.in_ok-node_step.ensures
-    ∙ ap (λ w. applied w p.to d) (c.in_ok-take_front.ensures ∙ ap (λ w. on_lane w p.from p.to took) c.requires.same)) c.apply_node_step.ensures.world
+    let p = c.args.packet.now in
+    let d = transition p.msg (state c.args.self.now p.to) p.from in
+    c.carry_out.ensures ∙ act_done c.take_front.new.self c.in_ok-node_step.node_step p.to d c.in_ok-node_step.ensures ∙ ap (λ w. applied w p.to d) c.take_front.ensures

@@ -1,32 +1,45 @@
-use Rattle.std.proofs.Common.{◌≡◌, ap, sym, ◌∙◌, subst}
+use Rattle.std.proofs.Common.{◌≡◌, ◌<◌, ℕ, Some, IsSome, true, length, ap, sym, ◌∙◌, subst}
+use Rattle.coord_types.specs.NodeSet as set
+use Rattle.coord_types.specs.Table.{get}
 use Rattle.coord_types.specs.declared.steps.Command.TheVariants.{Drop}
-use Rattle.coord_node.specs.Rules.{Transition, lost, sends_of}
+use Rattle.coord_link.specs.LaneMachine.{Lane}
+use Rattle.coord_node.specs.Rules.{Transition, lost}
 use Rattle.coord_world.specs.protocol.NumberedWorld.{World, state}
 use Rattle.coord_world.specs.protocol.Next.{applied, ordered}
-use Rattle.coord_world.specs.code.Sends.{HasRoomFor}
-use Rattle.coord_world.proofs.transitions.IsNodeStepOf.{on_ok, act_done, act_room}
+use Rattle.coord_world.proofs.lists.GetAfter.{set_stays}
+use Rattle.coord_world.proofs.transitions.IsNodeStepOf.{act_done, act_room}
 use Rattle.coord_world.proofs.tables.Tables.drop_link.Goals as goal
 
-pub apply_node_step-requires : goal.apply_node_step-requires
-apply_node_step-requires c =
-    let d : Transition = lost (state c.args.before.now c.args.a) c.args.b in
-    act_room c.in_ok-first.first c.args.a d _ c.in_ok-first.ensures
-    (subst (λ (w : World). HasRoomFor (sends_of d) c.args.a w.lanes) (sym (c.drop_lanes.ensures ∙ ap (λ w. ordered w (Drop c.args.a c.args.b)) c.requires.same)) c.requires.first.room)
+pub carry_out-requires-clause-room : goal.carry_out-requires-clause-room
+carry_out-requires-clause-room c =
+    let d : Transition = lost (state c.args.self.now c.args.a) c.args.b in
+    let after : World = c.drop_lanes.new.self in
+    act_room c.in_ok-first.first c.args.a d after.lanes c.in_ok-first.ensures
+    (subst (λ (w : World). (v : ℕ) (l : Lane) → get w.lanes (c.args.a, v) ≡ Some l → set.contains d.to v ≡ true → length l.queue < 4) (sym c.drop_lanes.ensures) c.requires.first.room)
 
-pub apply_node_step-requires-2 : goal.apply_node_step-requires-2
-apply_node_step-requires-2 c =
-    let one : Transition = lost (state c.args.before.now c.args.a) c.args.b in
-    let d : Transition = lost (state c.args.before.now c.args.b) c.args.a in
-    let between : c.apply_node_step.new.self ≡ applied (ordered c.args.before.now (Drop c.args.a c.args.b)) c.args.a one =
-    c.in_ok-apply_node_step.ensures.world ∙ act_done _ c.in_ok-first.first c.args.a one c.in_ok-first.ensures
-    ∙ ap (λ w. applied w c.args.a one) (c.drop_lanes.ensures ∙ ap (λ w. ordered w (Drop c.args.a c.args.b)) c.requires.same) in
-    act_room c.in_ok-second.second c.args.b d _ c.in_ok-second.ensures (subst (λ (w : World). HasRoomFor (sends_of d) c.args.b w.lanes) (sym between) c.requires.second.room)
+pub carry_out-requires-2-clause-there : goal.carry_out-requires-2-clause-there
+carry_out-requires-2-clause-there c =
+    let before : World = c.args.self.now in
+    let d : Transition = lost (state before c.args.a) c.args.b in
+    let between : c.carry_out.new.self ≡ applied (ordered before (Drop c.args.a c.args.b)) c.args.a d =
+    c.carry_out.ensures ∙ act_done c.drop_lanes.new.self c.in_ok-first.first c.args.a d c.in_ok-first.ensures ∙ ap (λ w. applied w c.args.a d) c.drop_lanes.ensures in
+    subst (λ u. IsSome (get (c.carry_out.new.self).nodes u)) (sym c.in_ok-second.ensures.id)
+    (subst (λ (w : World). IsSome (get w.nodes c.args.b)) (sym between) (set_stays before.nodes c.args.a d.state c.args.b c.requires.second.there))
+
+pub carry_out-requires-2-clause-room : goal.carry_out-requires-2-clause-room
+carry_out-requires-2-clause-room c =
+    let one : Transition = lost (state c.args.self.now c.args.a) c.args.b in
+    let d : Transition = lost (state c.args.self.now c.args.b) c.args.a in
+    let after : World = c.carry_out.new.self in
+    let between : c.carry_out.new.self ≡ applied (ordered c.args.self.now (Drop c.args.a c.args.b)) c.args.a one =
+    c.carry_out.ensures ∙ act_done c.drop_lanes.new.self c.in_ok-first.first c.args.a one c.in_ok-first.ensures ∙ ap (λ w. applied w c.args.a one) c.drop_lanes.ensures in
+    act_room c.in_ok-second.second c.args.b d after.lanes c.in_ok-second.ensures
+    (subst (λ (w : World). (v : ℕ) (l : Lane) → get w.lanes (c.args.b, v) ≡ Some l → set.contains d.to v ≡ true → length l.queue < 4) (sym between) c.requires.second.room)
 
 pub returns-clause-world : goal.returns-clause-world
 returns-clause-world c =
-    let one : Transition = lost (state c.args.before.now c.args.a) c.args.b in
-    let d : Transition = lost (state c.args.before.now c.args.b) c.args.a in
-    let between : c.apply_node_step.new.self ≡ applied (ordered c.args.before.now (Drop c.args.a c.args.b)) c.args.a one =
-    c.in_ok-apply_node_step.ensures.world ∙ act_done _ c.in_ok-first.first c.args.a one c.in_ok-first.ensures
-    ∙ ap (λ w. applied w c.args.a one) (c.drop_lanes.ensures ∙ ap (λ w. ordered w (Drop c.args.a c.args.b)) c.requires.same) in
-    on_ok c.apply_node_step-2.result (λ node_stepped. node_stepped ∙ act_done _ c.in_ok-second.second c.args.b d c.in_ok-second.ensures ∙ ap (λ w. applied w c.args.b d) between) c.apply_node_step-2.ensures.world
+    let one : Transition = lost (state c.args.self.now c.args.a) c.args.b in
+    let d : Transition = lost (state c.args.self.now c.args.b) c.args.a in
+    let between : c.carry_out.new.self ≡ applied (ordered c.args.self.now (Drop c.args.a c.args.b)) c.args.a one =
+    c.carry_out.ensures ∙ act_done c.drop_lanes.new.self c.in_ok-first.first c.args.a one c.in_ok-first.ensures ∙ ap (λ w. applied w c.args.a one) c.drop_lanes.ensures in
+    c.carry_out-2.ensures ∙ act_done c.carry_out.new.self c.in_ok-second.second c.args.b d c.in_ok-second.ensures ∙ ap (λ w. applied w c.args.b d) between

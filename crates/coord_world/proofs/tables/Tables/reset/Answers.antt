@@ -1,10 +1,15 @@
-use Rattle.std.proofs.Common.{ap, ◌∙◌}
+use Rattle.std.proofs.Common.{◌∙◌}
 use Rattle.coord_node.specs.Rules.{request}
 use Rattle.coord_world.specs.protocol.NumberedWorld.{state}
-use Rattle.coord_world.specs.protocol.Next.{applied}
-use Rattle.coord_world.proofs.transitions.IsNodeStepOf.{on_ok, act_done}
+use Rattle.coord_world.proofs.transitions.IsNodeStepOf.{act_done, act_room}
 use Rattle.coord_world.proofs.tables.Tables.reset.Goals as goal
+
+pub carry_out-requires-clause-room : goal.carry_out-requires-clause-room
+carry_out-requires-clause-room c =
+    let before = c.args.self.now in
+    act_room c.in_ok-node_step.node_step c.args.id (request (state before c.args.id)) before.lanes c.in_ok-node_step.ensures c.requires.acts.room
 
 pub returns-clause-world : goal.returns-clause-world
 returns-clause-world c =
-    on_ok c.apply_node_step.result (λ node_stepped. node_stepped ∙ act_done _ c.in_ok-node_step.node_step c.args.id _ c.in_ok-node_step.ensures ∙ ap (λ w. applied w c.args.id (request (state c.args.before.now c.args.id))) c.requires.same) c.apply_node_step.ensures.world
+    let before = c.args.self.now in
+    c.carry_out.ensures ∙ act_done before c.in_ok-node_step.node_step c.args.id (request (state before c.args.id)) c.in_ok-node_step.ensures

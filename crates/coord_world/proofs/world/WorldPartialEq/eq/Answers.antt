@@ -1,5 +1,4 @@
 -- The comparison's answer is the one of the test that computes, since both decide equality.
-use Rattle.std.proofs.Common.{◌≡◌}
 use Rattle.std.specs.Bool.{one_answer}
 use Rattle.coord_world.specs.code.SameWorlds.{same_world, same_world_decides}
 use Rattle.coord_world.proofs.world.WorldPartialEq.eq.Goals as goal

@@ -5,4 +5,4 @@ use Rattle.coord_world.specs.protocol.NumberedWorld.{pair_cmp_total}
 use Rattle.coord_world.proofs.tables.lane_table.LaneTable.entries.Goals as goal
 
 pub returns : goal.returns
-returns c = c.deref.ensures.value ∙ sym (entries-from_sorted pair_cmp_total c.self.inside.lanes.items c.self.invariant) ∙ ap table.entries c.self.view_is
+returns c = c.deref.ensures.value ∙ sym (entries-from_sorted pair_cmp_total c.self.inside.lanes.items c.self.invariant.sorted) ∙ ap table.entries c.self.view_is

@@ -1,0 +1,39 @@
+#!/usr/bin/env bash
+# How long a step of a wave takes, and copying, writing, reading and checking of worlds and batches:
+# one program that neither parses nor prints while its clock runs, and of several rounds the least
+# counts. The program of bench/measures is proved and built in a scratch repository over copies of
+# the crates with what rt keeps in their out/, and runs ROUNDS times. Its files end in .txt, since the
+# gate refuses a source file that belongs to no crate. Where YARDSTICK names a folder with a program
+# yardstick.rs that prints lines 'NAME NANOSECONDS', that one is built by rustc, runs in between, and
+# its least times stand below.
+set -euo pipefail
+rounds=${1:-5}
+here=$(cd "$(dirname "$0")/.." && pwd)
+scratch=$(mktemp -d)
+trap 'rm -rf "$scratch"' EXIT
+
+crate=$scratch/crates/measures
+mkdir -p "$crate/src" "$crate/proofs/are_numbered"
+libraries='coord_types coord_link coord_node coord_world coord_check coord_batch coord_codec'
+for name in $libraries; do
+  cp -r "$here/crates/$name" "$scratch/crates/$name"
+  grep "^$name:" "$here/crates.txt" >> "$scratch/crates.txt"
+done
+echo "measures: $libraries" >> "$scratch/crates.txt"
+for name in main fault samples wave; do
+  cp "$here/bench/measures/$name.rt.txt" "$crate/src/$name.rt"
+done
+cp "$here/bench/measures/Invariants.antt.txt" "$crate/proofs/are_numbered/Invariants.antt"
+
+(cd "$crate" && "${RT:-rt}" run > "$scratch/build.txt" 2>&1) || { tail -n 40 "$scratch/build.txt"; exit 1; }
+if [ -n "${YARDSTICK:-}" ]; then
+  rustc --edition 2021 -O -C target-cpu=native -o "$scratch/yardstick" "$YARDSTICK/yardstick.rs" 2> "$scratch/yardstick.txt"
+fi
+for ((round = 0; round < rounds; round++)); do
+  "$crate/out/measures" >> "$scratch/ours.txt"
+  [ -z "${YARDSTICK:-}" ] || "$scratch/yardstick" >> "$scratch/theirs.txt"
+done
+least='{ if (!($1 in least)) order[++parts] = $1; if (!($1 in least) || $2 < least[$1]) least[$1] = $2 }
+  END { for (i = 1; i <= parts; i++) printf "%-24s %10.0f ns\n", order[i], least[order[i]] }'
+awk "$least" "$scratch/ours.txt"
+[ -z "${YARDSTICK:-}" ] || { echo 'the yardstick:'; grep '_ns' "$scratch/theirs.txt" | awk "$least"; }

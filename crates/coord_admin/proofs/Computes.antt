@@ -1,0 +1,34 @@
+-- Reply lines, requests and replies computed through the definitions.
+use Rattle.std.proofs.Common.{refl}
+use Rattle.serde_json.proofs.OnLiterals.{serde_json_on_literals}
+use Rattle.std.specs.Str.{is_utf8, chars}
+use Rattle.std.specs.Fmt.{digits}
+use Rattle.coord_admin.specs.Requests.{asked_in}
+use Rattle.coord_admin.specs.WorkedLines.{WorkedRequests, WorkedReplies}
+
+pub requests_compute : WorkedRequests
+unfolding serde_json_on_literals asked_in is_utf8 chars
+requests_compute = record {
+  reset = refl;
+  join = refl;
+  confirm = refl;
+  show = refl;
+  resend = refl;
+  close = refl;
+  repeated_name = refl;
+  too_long = refl;
+  bad_text = refl;
+  empty = refl;
+  unended = refl;
+  no_object = refl;
+  no_name = refl;
+  unknown_op = refl;
+  one_too_many = refl;
+  text_number = refl;
+  negative_number = refl;
+  client_17 = refl;
+}
+
+pub replies_compute : WorkedReplies
+unfolding serde_json_on_literals digits
+replies_compute = record { replied = refl; refused = refl; shown = refl; resent = refl; closed = refl; unfinished = refl }

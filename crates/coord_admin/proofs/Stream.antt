@@ -1,0 +1,176 @@
+-- What was served, where more is read.
+use Rattle.std.proofs.Common.{◌≡◌, ◌≢◌, ℕ, ◌<◌, Bool, true, false, List, [], ◌∷◌, ◌++◌, length, map, Option, Some, Result, Ok, Err, IfOk, String, Global, string_bytes, refl, sym, ap, ◌∙◌, subst, append_assoc, append-nil, arith, take, inl, inr}
+use Rattle.std.specs.Io.KnownBytes.{Appends, Consumes}
+use Rattle.std.specs.List.{slice_split}
+use Rattle.std.proofs.KnownBytes.{Appends-trans, Consumes-trans}
+use Rattle.std.proofs.lemmas.List.Splits.{length-slice_split}
+use Rattle.coord_lines.specs.Lines.{Line, IsWithin, is_line_feed, line_of, lines_of, extended, going_on, lines_on, before_line_feed, behind_line_feed}
+use Rattle.coord_lines.proofs.LinesOn.{lines_on-ended, extended-nothing}
+use Rattle.coord_admin.specs.declared.request.Request.{Request}
+use Rattle.coord_admin.specs.declared.answer.Answer.{Answer}
+use Rattle.coord_admin.specs.declared.answer.Answer.TheVariants.{Replied, Refused, Shown, Resent, Closed, Faulted}
+use Rattle.coord_admin.specs.declared.fault.LineFault.{LineFault}
+use Rattle.coord_admin.specs.declared.fault.LineFault.TheVariants.{Unfinished, TooLong, BadText, BadJson, BadRequest, UnknownOp, OutOfMemory}
+use Rattle.coord_admin.specs.Requests.{asked_by}
+use Rattle.coord_admin.specs.Replies.{made_bytes, reply_line, reply_lines}
+use Rattle.coord_admin.specs.Stream.{is_closed, takes_memory, IsText, MayAnswer, last_answers, IsWritten, WritesFirstPart, Gets, GetsAtLast, AllGet, Reaches, Finishes, Closes, Stops, BreaksOff}
+
+-- ---- lists
+
+pub reply_lines-append : (xs ys : List Answer) → reply_lines (xs ++ ys) ≡ reply_lines xs ++ reply_lines ys
+reply_lines-append [] ys = refl
+reply_lines-append (x ∷ xs) ys = ap (λ l. reply_line x ++ l) (reply_lines-append xs ys) ∙ sym (append_assoc (reply_line x) (reply_lines xs) (reply_lines ys))
+
+pub reply_lines-one : (xs : List Answer) (x : Answer) → reply_lines xs ++ reply_line x ≡ reply_lines (xs ++ x ∷ [])
+reply_lines-one xs x = ap (λ l. reply_lines xs ++ l) (sym (append-nil (reply_line x))) ∙ sym (reply_lines-append xs (x ∷ []))
+
+some_line : (line : Line) (parts : List (List ℕ)) → 0 < length parts → (next : Line) × (left : List Line) × (going_on line parts ≡ next ∷ left)
+some_line line [] h = absurd (omega arith)
+some_line line (part ∷ parts) h = (extended line part, map line_of parts, refl)
+
+-- a text has at least one line
+pub lines_on-some : (line : Line) (text : List ℕ) → (next : Line) × (left : List Line) × (lines_on line text ≡ next ∷ left)
+lines_on-some line text = some_line line (slice_split is_line_feed text) (omega (arith, length-slice_split is_line_feed text))
+
+-- a read that gave no byte
+pub Consumes-none : (a b c : Option (List ℕ)) (seen bytes : List ℕ) (count : ℕ) → Consumes a b seen → Consumes b c (take count bytes) → count ≡ 0 → Consumes a c seen
+Consumes-none a b c seen bytes count first second e =
+    let none : take count bytes ≡ [] = rw e refl in
+    subst (Consumes a c) (ap (λ l. seen ++ l) none ∙ append-nil seen) (Consumes-trans a b c seen (take count bytes) first second)
+
+-- ---- what is told of an answer
+
+stays_open : (answer : Answer) → takes_memory answer ≡ true → is_closed answer ≡ false
+stays_open (Replied r) e = refl
+stays_open (Refused r) e = refl
+stays_open (Shown v) e = refl
+stays_open (Resent n) e = refl
+stays_open Closed e = absurd cc
+stays_open (Faulted f) e = refl
+
+pub closed-told : (answer told : Answer) → IsWritten answer told → is_closed told ≡ is_closed answer
+closed-told answer told (inl same) = ap is_closed same
+closed-told answer told (inr h) = ap is_closed h.0 ∙ sym (stays_open answer h.1)
+
+pub closes-told : (told : Answer) → is_closed told ≡ true → told ≡ Closed
+closes-told (Replied r) e = absurd cc
+closes-told (Refused r) e = absurd cc
+closes-told (Shown v) e = absurd cc
+closes-told (Resent n) e = absurd cc
+closes-told Closed e = refl
+closes-told (Faulted f) e = absurd cc
+
+module _ {D : Type 0} (answers : D → Request → Answer → D → Type 0) where
+  -- a fault that was found is that of the line, or there was no memory
+  pub gets-fault : (d : D) (line : Line) (fault : LineFault) (r : Result Request LineFault) → r ≡ Err fault → (r ≢ Err OutOfMemory → r ≡ asked_by line) → (r ≡ Err OutOfMemory → IsText line) → Gets answers d line (Faulted fault) d
+  gets-fault d line fault r e reads memory = by fault e
+    where
+      answered : (f : LineFault) → r ≡ Err f → r ≢ Err OutOfMemory → Gets answers d line (Faulted f) d
+      answered f is other = inl (subst (λ asked. MayAnswer answers d asked (Faulted f) d) (sym is ∙ reads other) (refl, refl))
+
+      by : (f : LineFault) → r ≡ Err f → Gets answers d line (Faulted f) d
+      by Unfinished is = answered Unfinished is (λ k. absurd cc)
+      by TooLong is = answered TooLong is (λ k. absurd cc)
+      by BadText is = answered BadText is (λ k. absurd cc)
+      by BadJson is = answered BadJson is (λ k. absurd cc)
+      by BadRequest is = answered BadRequest is (λ k. absurd cc)
+      by UnknownOp is = answered UnknownOp is (λ k. absurd cc)
+      by OutOfMemory is = inr (refl, inl (memory is, refl))
+
+  pub gets-told : (d e : D) (line : Line) (answer told : Answer) → Gets answers d line answer e → IsWritten answer told → Gets answers d line told e
+  gets-told d e line answer told h (inl same) = subst (λ a. Gets answers d line a e) (sym same) h
+  gets-told d e line answer told (inl h) (inr w) = inr (w.0, inr (answer, w.1, h))
+  gets-told d e line answer told (inr h) (inr w) = inr (w.0, h.1)
+
+  -- ---- lines behind lines
+
+  pub all-append : (xs ys : List Line) (xas yas : List Answer) (d f e : D) → AllGet answers d xs xas f → AllGet answers f ys yas e → AllGet answers d (xs ++ ys) (xas ++ yas) e
+  all-append [] ys [] yas d f e h k = subst (λ g. AllGet answers g ys yas e) h k
+  all-append [] ys (a ∷ xas) yas d f e h k = absurd h
+  all-append (x ∷ xs) ys [] yas d f e h k = absurd h
+  all-append (x ∷ xs) ys (a ∷ xas) yas d f e h k = (h.0, h.1, h.2, all-append xs ys xas yas h.0 f e h.3 k)
+
+  pub reaches-behind : (d f e : D) (lines later done left : List Line) (told more : List Answer) → AllGet answers d done told f → lines ≡ done ++ later → Reaches answers f later more left e → Reaches answers d lines (told ++ more) left e
+  reaches-behind d f e lines later done left told more h same r =
+      (done ++ r.0, same ∙ ap (λ l. done ++ l) r.1 ∙ sym (append_assoc done r.0 left), all-append done r.0 told more d f e h r.2)
+
+  text-behind : (told more : List Answer) (rest text : List ℕ) → text ≡ reply_lines more ++ rest → reply_lines told ++ text ≡ reply_lines (told ++ more) ++ rest
+  text-behind told more rest text e =
+      ap (λ l. reply_lines told ++ l) e ∙ sym (append_assoc (reply_lines told) (reply_lines more) rest) ∙ ap (λ l. l ++ rest) (sym (reply_lines-append told more))
+
+  pub closes-behind : (d f e : D) (lines later done : List Line) (told : List Answer) (text : List ℕ) → AllGet answers d done told f → lines ≡ done ++ later → Closes answers f later text e → Closes answers d lines (reply_lines told ++ text) e
+  closes-behind d f e lines later done told text h same c =
+      (told ++ c.0, c.1, c.2, c.3, c.4, reaches-behind d f c.4 lines later done _ told c.0 h same c.5, c.6, text-behind told c.0 _ text c.7)
+
+  pub breaks-behind : (d f e : D) (lines later done : List Line) (told : List Answer) (text : List ℕ) → AllGet answers d done told f → lines ≡ done ++ later → BreaksOff answers f later text e → BreaksOff answers d lines (reply_lines told ++ text) e
+  breaks-behind d f e lines later done told text h same c =
+      (told ++ c.0, c.1, c.2, c.3, c.4, c.5, reaches-behind d f c.3 lines later done _ told c.0 h same c.6, c.7, c.8, text-behind told c.0 _ text c.9)
+
+  -- ---- one more line
+
+  -- a line that ended, and those behind it
+  pub line_ended : (line : Line) (piece more behind : List ℕ) (whole : Line) → Some behind ≡ behind_line_feed piece → whole ≡ extended line (before_line_feed piece) → lines_on line (piece ++ more) ≡ whole ∷ lines_on (Some []) (behind ++ more)
+  line_ended line piece more behind whole e f = lines_on-ended line piece more behind (sym e) ∙ ap (λ l. l ∷ lines_on (Some []) (behind ++ more)) (sym f)
+
+  -- what is told of an answer that was written
+  pub told-whole : (d e : D) (line : Line) (answer : Answer) (a b : Option (List ℕ)) (closed : Bool) → closed ≡ is_closed answer → Gets answers d line answer e → (told : Answer) × IsWritten answer told × Appends a b (reply_line told)
+      → (told : Answer) × (closed ≡ is_closed told) × Gets answers d line told e × Appends a b (reply_line told)
+  told-whole d e line answer a b closed is h w = (w.0, is ∙ sym (closed-told answer w.0 w.1), gets-told d e line answer w.0 h w.1, w.2)
+
+  pub told-part : (d e : D) (line : Line) (answer : Answer) (a b : Option (List ℕ)) → Gets answers d line answer e → (told : Answer) × IsWritten answer told × WritesFirstPart a b (reply_line told)
+      → (told : Answer) × Gets answers d line told e × WritesFirstPart a b (reply_line told)
+  told-part d e line answer a b h w = (w.0, gets-told d e line answer w.0 h w.1, w.2)
+
+  pub all-one : (d f e : D) (done : List Line) (told : List Answer) (line : Line) (a : Answer) → AllGet answers d done told f → Gets answers f line a e → is_closed a ≡ false → AllGet answers d (done ++ line ∷ []) (told ++ a ∷ []) e
+  all-one d f e done told line a h gets goes_on = all-append done (line ∷ []) told (a ∷ []) d f e h (e, gets, goes_on, refl)
+
+  -- the reply to the next line was not written whole
+  pub broken-at : (d f e : D) (a b c : Option (List ℕ)) (lines done left : List Line) (line : Line) (told : List Answer) → AllGet answers d done told f → Appends a b (reply_lines told) → lines ≡ done ++ line ∷ left
+      → (x : Answer) × GetsAtLast answers f line x e × WritesFirstPart b c (reply_line x) → (text : List ℕ) × Appends a c text × BreaksOff answers d lines text e
+  broken-at d f e a b c lines done left line told h written same w =
+      (reply_lines told ++ w.2.0, Appends-trans a b c (reply_lines told) w.2.0 written w.2.1, (told, line, left, f, w.0, w.2.0, (done, same, h), w.1, w.2.2, refl))
+
+  pub broken-line : (d f e : D) (a b c : Option (List ℕ)) (lines done left : List Line) (line : Line) (told : List Answer) → AllGet answers d done told f → Appends a b (reply_lines told) → lines ≡ done ++ line ∷ left
+      → (x : Answer) × Gets answers f line x e × WritesFirstPart b c (reply_line x) → (text : List ℕ) × Appends a c text × BreaksOff answers d lines text e
+  broken-line d f e a b c lines done left line told h written same w = broken-at d f e a b c lines done left line told h written same (w.0, inl w.1, w.2)
+
+  -- the next line has closed the desk
+  pub closed-at : (d f e : D) (a b c : Option (List ℕ)) (lines done : List Line) (line : Line) (behind : List ℕ) (told : List Answer) (closed : Bool) → closed ≡ true → AllGet answers d done told f → Appends a b (reply_lines told)
+      → lines ≡ done ++ line ∷ lines_on (Some []) behind
+      → (x : Answer) × (closed ≡ is_closed x) × Gets answers f line x e × Appends b c (reply_line x) → (text : List ℕ) × Appends a c text × Closes answers d lines text e
+  closed-at d f e a b c lines done line behind told closed is h written same w =
+      let other = lines_on-some (Some []) behind in
+      let k = closes-told w.0 (sym w.1 ∙ is) in (
+        reply_lines told ++ reply_line Closed,
+        Appends-trans a b c (reply_lines told) (reply_line Closed) written (subst (λ x. Appends b c (reply_line x)) k w.3),
+        (told, line, other.0, other.1, f, (done, same ∙ ap (λ l. done ++ line ∷ l) other.2, h), subst (λ x. Gets answers f line x e) k w.2, refl),
+      )
+
+  -- ---- a text that was read so far
+
+  -- each line that ended has its reply
+  pub stops-at : (d e : D) (seen : List ℕ) (line : Line) (done : List Line) (told : List Answer) → AllGet answers d done told e → ((more : List ℕ) → lines_of (seen ++ more) ≡ done ++ lines_on line more) → Stops answers d (lines_of seen) (reply_lines told) e
+  stops-at d e seen line done told h lines = (told, extended line [], (done, ap lines_of (sym (append-nil seen)) ∙ lines [], h), refl)
+
+  last_line : (seen : List ℕ) (line : Line) (done : List Line) → IsWithin line → ((more : List ℕ) → lines_of (seen ++ more) ≡ done ++ lines_on line more) → lines_of seen ≡ done ++ line ∷ []
+  last_line seen line done within lines = ap lines_of (sym (append-nil seen)) ∙ lines [] ∙ ap (λ l. done ++ l ∷ []) (extended-nothing line within)
+
+  -- the input has ended
+  pub finishes-at : (d e : D) (seen : List ℕ) (line : Line) (done : List Line) (told : List Answer) → IsWithin line → AllGet answers d done told e → ((more : List ℕ) → lines_of (seen ++ more) ≡ done ++ lines_on line more)
+      → Finishes answers d (lines_of seen) (reply_lines told ++ reply_lines (last_answers line)) e
+  finishes-at d e seen line done told within h lines = (told, line, (done, last_line seen line done within lines, h), refl)
+
+  -- it has ended, but that could not be told
+  pub broken-end : (d e : D) (a b c : Option (List ℕ)) (seen : List ℕ) (line : Line) (done : List Line) (told : List Answer) → IsWithin line → AllGet answers d done told e → Appends a b (reply_lines told)
+      → ((more : List ℕ) → lines_of (seen ++ more) ≡ done ++ lines_on line more) → WritesFirstPart b c (reply_line (Faulted Unfinished)) → (text : List ℕ) × Appends a c text × BreaksOff answers d (lines_of seen) text e
+  broken-end d e a b c seen line done told within h written lines part =
+      broken-at d e e a b c (lines_of seen) done [] line told h written (last_line seen line done within lines) (Faulted Unfinished, inr (refl, refl), part)
+
+-- ---- what is told of an answer, as a line
+
+pub told-made : {E : Type 0} (answer is : Answer) (r : Result (String Global) E) (bytes : List ℕ) → answer ≡ is → takes_memory is ≡ true → IfOk r (λ text. string_bytes text ≡ reply_line is) → bytes ≡ made_bytes r → (told : Answer) × IsWritten answer told × (bytes ≡ reply_line told)
+told-made answer is (Ok text) bytes same takes h e = (is, inl (sym same), e ∙ h)
+told-made answer is (Err x) bytes same takes h e = (Faulted OutOfMemory, inr (refl, ap takes_memory same ∙ takes), e)
+
+pub told-fixed : (answer is : Answer) (bytes : List ℕ) → answer ≡ is → bytes ≡ reply_line is → (told : Answer) × IsWritten answer told × (bytes ≡ reply_line told)
+told-fixed answer is bytes same e = (is, inl (sym same), e)

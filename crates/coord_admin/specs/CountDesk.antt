@@ -1,0 +1,19 @@
+-- The desk that only counts its orders.
+use Rattle.std.specs.Prelude.{ℕ, ◌+◌, ◌^◌, nat_lt, if◌then◌else◌, []}
+use Rattle.coord_types.specs.declared.steps.Kind.TheVariants.{Done}
+use Rattle.coord_types.specs.declared.refusals.Refusal.TheVariants.{Exhausted}
+use Rattle.coord_admin.specs.declared.request.Request.{Request}
+use Rattle.coord_admin.specs.declared.request.Request.TheVariants.{Order, Show, Resend, Close}
+use Rattle.coord_admin.specs.declared.answer.Answer.{Answer}
+use Rattle.coord_admin.specs.declared.answer.Answer.TheVariants as answer
+
+-- the n-th order gets step n, up to the greatest u64
+abbrev pub answer_of : ℕ → Request → Answer
+answer_of n (Order c k x) = if nat_lt (n + 1) (2 ^ 64) then answer.Replied (record { step = n + 1; kind = Done }) else answer.Refused Exhausted
+answer_of n Show = answer.Shown (record { accepted = n; settled = n; nodes = []; links = [] })
+answer_of n Resend = answer.Resent 0
+answer_of n Close = answer.Closed
+
+abbrev pub count_after : ℕ → Request → ℕ
+count_after n (Order c k x) = if nat_lt (n + 1) (2 ^ 64) then n + 1 else n
+count_after n r = n

@@ -1,0 +1,108 @@
+-- What `serve` writes: a reply to each line of a text, in order, by what a desk may answer.
+use Rattle.std.specs.Prelude.{◌≡◌, ◌⊎◌, ℕ, ◌≤◌, ◌^◌, Bool, true, false, List, [], ◌∷◌, ◌++◌, length, IsSome, IfSome, Option, Some, Result, Ok, Err}
+use Rattle.std.specs.Io.KnownBytes.{Appends}
+use Rattle.std.specs.Str.{IsUtf8}
+use Rattle.coord_lines.specs.Lines.{Line, lines_of}
+use Rattle.coord_admin.specs.declared.request.Request.{Request}
+use Rattle.coord_admin.specs.declared.answer.Answer.{Answer}
+use Rattle.coord_admin.specs.declared.answer.Answer.TheVariants.{Closed, Faulted}
+use Rattle.coord_admin.specs.declared.fault.LineFault.{LineFault}
+use Rattle.coord_admin.specs.declared.fault.LineFault.TheVariants.{Unfinished, OutOfMemory}
+use Rattle.coord_admin.specs.declared.fault.ServeFault.{ServeFault}
+use Rattle.coord_admin.specs.declared.fault.ServeFault.TheVariants as serve
+use Rattle.coord_admin.specs.declared.session.Ended.{Ended}
+use Rattle.coord_admin.specs.declared.session.Ended.TheVariants as ended
+use Rattle.coord_admin.specs.Requests.{asked_by}
+use Rattle.coord_admin.specs.Replies.{reply_line, reply_lines}
+
+abbrev pub is_closed : Answer → Bool
+is_closed Closed = true
+is_closed a = false
+
+-- that the desk was closed, and a fault, are told without memory
+abbrev pub takes_memory : Answer → Bool
+takes_memory Closed = false
+takes_memory (Faulted f) = false
+takes_memory a = true
+
+-- the last line, which no line feed ended, is answered if it has a byte
+abbrev pub last_answers : Line → List Answer
+last_answers (Some []) = []
+last_answers line = Faulted Unfinished ∷ []
+
+-- a text, or a first part of it
+abbrev pub IsFirstPart : List ℕ → List ℕ → Type 0
+IsFirstPart part text = (rest : List ℕ) × (text ≡ part ++ rest)
+
+-- of a text a first part was written, and no more
+abbrev pub WritesFirstPart : Option (List ℕ) → Option (List ℕ) → List ℕ → Type 0
+WritesFirstPart old new text = (part : List ℕ) × Appends old new part × IsFirstPart part text
+
+-- what is told of an answer: itself, or that there was no memory to write it
+abbrev pub IsWritten : Answer → Answer → Type 0
+IsWritten answer told = (told ≡ answer) ⊎ ((told ≡ Faulted OutOfMemory) × (takes_memory answer ≡ true))
+
+-- a line within the limit that is a text
+abbrev pub IsText : Line → Type 0
+IsText line = IsSome line × IfSome line IsUtf8
+
+-- `answers d r a e`: the desk d may answer a to the request r, and then is e
+module _ {D : Type 0} (answers : D → Request → Answer → D → Type 0) where
+  -- a line's fault is its answer, and the desk is not asked
+  abbrev pub MayAnswer : D → Result Request LineFault → Answer → D → Type 0
+  MayAnswer d (Ok r) a e = answers d r a e
+  MayAnswer d (Err f) a e = (a ≡ Faulted f) × (e ≡ d)
+
+  abbrev pub Answers : D → Line → Answer → D → Type 0
+  Answers d line a e = MayAnswer d (asked_by line) a e
+
+  -- there was no memory to read the line, or none to write its answer
+  abbrev pub FindsNoMemory : D → Line → D → Type 0
+  FindsNoMemory d line e = (IsText line × (e ≡ d)) ⊎ ((a : Answer) × (takes_memory a ≡ true) × Answers d line a e)
+
+  -- what is replied to a line: its answer, or that there was no memory
+  abbrev pub Gets : D → Line → Answer → D → Type 0
+  Gets d line a e = Answers d line a e ⊎ ((a ≡ Faulted OutOfMemory) × FindsNoMemory d line e)
+
+  -- lines that got replies, one each and in order, none of which closed the desk
+  abbrev pub AllGet : D → List Line → List Answer → D → Type 0
+  AllGet d [] [] e = e ≡ d
+  AllGet d (line ∷ lines) (a ∷ told) e = (f : D) × Gets d line a f × (is_closed a ≡ false) × AllGet f lines told e
+  AllGet d lines told e = ⊥
+
+  -- the first of these lines got these replies, and others are left
+  abbrev pub Reaches : D → List Line → List Answer → List Line → D → Type 0
+  Reaches d lines told left e = (done : List Line) × (lines ≡ done ++ left) × AllGet d done told e
+
+  -- the input has ended
+  abbrev pub Finishes : D → List Line → List ℕ → D → Type 0
+  Finishes d lines text e = (told : List Answer) × (last : Line) × Reaches d lines told (last ∷ []) e × (text ≡ reply_lines told ++ reply_lines (last_answers last))
+
+  -- a line that ended has closed the desk; those behind it are left
+  abbrev pub Closes : D → List Line → List ℕ → D → Type 0
+  Closes d lines text e =
+      (told : List Answer) × (line : Line) × (next : Line) × (left : List Line) × (f : D)
+      × Reaches d lines told (line ∷ next ∷ left) f × Gets f line Closed e × (text ≡ reply_lines told ++ reply_line Closed)
+
+  -- no more was read, and each line that ended has its reply
+  abbrev pub Stops : D → List Line → List ℕ → D → Type 0
+  Stops d lines text e = (told : List Answer) × (last : Line) × Reaches d lines told (last ∷ []) e × (text ≡ reply_lines told)
+
+  -- what a line is replied where it is the last one too
+  abbrev pub GetsAtLast : D → Line → Answer → D → Type 0
+  GetsAtLast d line a e = Gets d line a e ⊎ ((a ≡ Faulted Unfinished) × (e ≡ d))
+
+  -- the reply to a line was not written whole
+  abbrev pub BreaksOff : D → List Line → List ℕ → D → Type 0
+  BreaksOff d lines text e =
+      (told : List Answer) × (line : Line) × (left : List Line) × (f : D) × (a : Answer) × (part : List ℕ)
+      × Reaches d lines told (line ∷ left) f × GetsAtLast f line a e × IsFirstPart part (reply_line a) × (text ≡ reply_lines told ++ part)
+
+  -- what was written to a text that was read, and what the desk then is
+  abbrev pub Served : D → List ℕ → List ℕ → Result Ended ServeFault → D → Type 0
+  Served d seen text (Ok ended.Input) e = Finishes d (lines_of seen) text e
+  Served d seen text (Ok ended.Closed) e = Closes d (lines_of seen) text e
+  Served d seen text (Err serve.Read) e = Stops d (lines_of seen) text e
+  Served d seen text (Err serve.Turns) e = Stops d (lines_of seen) text e × (2 ^ 20 ≤ length seen)
+  Served d seen text (Err serve.Write) e = BreaksOff d (lines_of seen) text e
+  Served d seen text (Err serve.OutOfMemory) e = (seen ≡ []) × (text ≡ []) × (e ≡ d)

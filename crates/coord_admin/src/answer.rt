@@ -1,0 +1,34 @@
+//! The answer to a line.
+
+ghost use Rattle.std.specs.Prelude.{◌≡◌};
+ghost use Rattle.coord_admin.specs.Stream.{is_closed};
+
+use crate::fault::LineFault;
+use crate::view::View;
+use coord_types::{Refusal, Reply};
+
+/// What a line is answered, before it is written.
+#[derive(Drop, Debug)]
+pub enum Answer {
+    /// An order was accepted, now or before; this is its reply.
+    Replied(Reply),
+    /// The desk refused it.
+    Refused(Refusal),
+    /// The settled world.
+    Shown(View),
+    /// So many packets were given out again.
+    Resent(u64),
+    /// The desk was closed.
+    Closed,
+    /// The line has this fault.
+    Faulted(LineFault),
+}
+
+impl Answer {
+    /// Whether it is that the desk was closed.
+    pub fn is_closed(&self) -> bool
+        ensures { result ≡ is_closed self.now }
+    {
+        matches!(self, Answer::Closed)
+    }
+}

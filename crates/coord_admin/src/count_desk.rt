@@ -1,0 +1,69 @@
+//! A desk that only counts its orders.
+
+ghost use Rattle.std.specs.Prelude.{◌≡◌};
+ghost use Rattle.coord_admin.specs.CountDesk.{answer_of, count_after};
+
+use crate::desk::Desk;
+use crate::view::View;
+use coord_types::{Client, Command, Kind, Refusal, Reply};
+use std::alloc::Global;
+use std::marker::Model;
+
+/// A desk in memory that answers the n-th order with step n, Done. Contracts see its count.
+#[derive(Drop, Debug)]
+pub struct CountDesk {
+    alloc: Global,
+    count: u64,
+}
+
+impl Model for CountDesk {
+    ghost use Rattle.std.specs.Prelude.{ℕ};
+
+    ghost Value = { ℕ };
+
+    ghost view = { λ a. a.count };
+}
+
+impl CountDesk {
+    /// A desk that has had so many orders.
+    pub fn new(alloc: Global, count: u64) -> Self
+        ensures { result ≡ count }
+    {
+        CountDesk { alloc, count }
+    }
+}
+
+impl Desk for CountDesk {
+    ghost answers = { λ n request answer m. (answer ≡ answer_of n request) × (m ≡ count_after n request) };
+
+    fn order(
+        &mut self,
+        _client: Client,
+        _number: u64,
+        _command: Command,
+    ) -> Result<Reply, Refusal> {
+        if self.count == u64::MAX {
+            return Err(Refusal::Exhausted);
+        }
+        self.count += 1;
+        Ok(Reply {
+            step: self.count,
+            kind: Kind::Done,
+        })
+    }
+
+    fn show(&mut self) -> Result<View, Refusal> {
+        Ok(View {
+            accepted: self.count,
+            settled: self.count,
+            nodes: Vec::new(self.alloc),
+            links: Vec::new(self.alloc),
+        })
+    }
+
+    fn resend(&mut self) -> Result<u64, Refusal> {
+        Ok(0)
+    }
+
+    fn close(&mut self) {}
+}

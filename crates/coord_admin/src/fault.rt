@@ -1,0 +1,104 @@
+//! Why a line is answered by a fault, and why `serve` ends before its input.
+
+ghost use Rattle.std.specs.Prelude.{◌≡◌, Some};
+ghost use Rattle.coord_admin.specs.Faults.{fault_name, fault_number};
+ghost use Rattle.coord_admin.specs.Replies.{reply_line};
+ghost use Rattle.coord_admin.specs.declared.answer.Answer.TheVariants.{Faulted};
+ghost use Rattle.coord_admin.specs.declared.fault.ServeFault.TheVariants.{OutOfMemory};
+
+use std::alloc::AllocError;
+use std::error::Error;
+use std::fmt;
+
+/// Why a line is not carried out, or has no other reply. The first that applies is told.
+#[derive(Clone, Copy, Debug, PartialEq, Eq)]
+pub enum LineFault {
+    /// The input ended before the line did.
+    Unfinished,
+    /// The line has more than 512 bytes.
+    TooLong,
+    /// It is no UTF-8.
+    BadText,
+    /// It is no JSON that `serde_json` reads.
+    BadJson,
+    /// It is no object with a text as its `op`, or its members are not those of its `op`.
+    BadRequest,
+    /// Its `op` is none of those that there are.
+    UnknownOp,
+    /// There was not enough memory. The request may have been carried out; a repeat tells.
+    OutOfMemory,
+}
+
+impl LineFault {
+    /// The reply line, for which no memory is needed.
+    pub fn line(self) -> &'static str
+        ensures { result.now ≡ reply_line (Faulted self) }
+    {
+        match self {
+            LineFault::Unfinished => "{\"fault\":\"Unfinished\"}\n",
+            LineFault::TooLong => "{\"fault\":\"TooLong\"}\n",
+            LineFault::BadText => "{\"fault\":\"BadText\"}\n",
+            LineFault::BadJson => "{\"fault\":\"BadJson\"}\n",
+            LineFault::BadRequest => "{\"fault\":\"BadRequest\"}\n",
+            LineFault::UnknownOp => "{\"fault\":\"UnknownOp\"}\n",
+            LineFault::OutOfMemory => "{\"fault\":\"OutOfMemory\"}\n",
+        }
+    }
+}
+
+/// What ends a call of `serve` before the end of its input or a close.
+#[derive(Clone, Copy, Debug, PartialEq, Eq)]
+pub enum ServeFault {
+    /// There was not enough memory to begin.
+    OutOfMemory,
+    /// The input could not be read.
+    Read,
+    /// A reply could not be written.
+    Write,
+    /// The end of the input was not met within `MOST_READS` reads.
+    Turns,
+}
+
+impl ServeFault {
+    /// Its number, from 1 to 4.
+    pub fn number(self) -> u8
+        ensures { result ≡ fault_number self }
+    {
+        match self {
+            ServeFault::OutOfMemory => 1,
+            ServeFault::Read => 2,
+            ServeFault::Write => 3,
+            ServeFault::Turns => 4,
+        }
+    }
+
+    /// Its name, as it is printed.
+    pub fn name(self) -> &'static str
+        ensures { result.now ≡ fault_name self }
+    {
+        match self {
+            ServeFault::OutOfMemory => "OutOfMemory",
+            ServeFault::Read => "Read",
+            ServeFault::Write => "Write",
+            ServeFault::Turns => "Turns",
+        }
+    }
+}
+
+impl fmt::Display for ServeFault {
+    ghost output = { λ fault. Some (fault_name fault) };
+
+    fn fmt<W: fmt::Write>(&self, f: &mut fmt::Formatter<W>) -> fmt::Result {
+        f.write_str(self.name())
+    }
+}
+
+impl Error for ServeFault {}
+
+impl From<AllocError> for ServeFault {
+    ghost from_gives = { λ _ fault. fault ≡ OutOfMemory };
+
+    fn from(_: AllocError) -> Self {
+        ServeFault::OutOfMemory
+    }
+}

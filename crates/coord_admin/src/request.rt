@@ -1,0 +1,16 @@
+//! What a line asks for.
+
+use coord_types::{Client, Command};
+
+/// A request to the desk.
+#[derive(Clone, Copy, Debug, PartialEq, Eq)]
+pub enum Request {
+    /// A client's order with its number, which is any u64.
+    Order(Client, u64, Command),
+    /// To show the settled world.
+    Show,
+    /// To give out again what may have been lost.
+    Resend,
+    /// To close the desk.
+    Close,
+}

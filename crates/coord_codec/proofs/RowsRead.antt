@@ -1,0 +1,144 @@
+-- What one more row changes of what the rows that were read say of the next one.
+use Rattle.std.proofs.Common.{◌≡◌, ◌≢◌, ℕ, ◌+◌, ◌-◌, ◌<◌, ◌≤◌, Bool, true, false, ◌||◌, List, [], ◌∷◌, ◌++◌, Option, Some, None, length, get_or, set, cond, eqb, refl, sym, ap, ◌∙◌, subst, arith}
+use Rattle.std.specs.Prelude.{IsSome}
+use Rattle.std.specs.Ordering.{eq_by_cmp, nat_cmp}
+use Rattle.std.specs.FinMap.Entries.{find}
+use Rattle.std.proofs.lemmas.Bool.Decides.{nat_tests}
+use Rattle.std.proofs.Math.ListN.{length-set}
+use Rattle.std.proofs.lemmas.List.{get_or-set_same, get_or-set_other}
+use Rattle.coord_world.specs.protocol.Rows.{by_id, degree, group_in, group_of, is_end}
+use Rattle.coord_world.specs.declared.rows.parts.NodeRow.{NodeRow}
+use Rattle.coord_world.specs.declared.rows.parts.LinkRow.{LinkRow}
+use Rattle.coord_codec.specs.Worlds.{last_ends}
+use Rattle.coord_codec.proofs.Rising.{last_push}
+
+by_test : (t : Bool) (P : Bool → Type 0) → (t ≡ true → P true) → (t ≡ false → P false) → P t
+by_test true P whenever otherwise = whenever refl
+by_test false P whenever otherwise = otherwise refl
+
+-- ---- groups
+
+-- what is there already, else this
+abbrev or_else : {A : Type 0} → Option A → Option A → Option A
+or_else None o = o
+or_else (Some x) o = Some x
+
+else_none : {A : Type 0} (o : Option A) → or_else o None ≡ o
+else_none None = refl
+else_none (Some x) = refl
+
+group_push : (u : ℕ) (rows : List NodeRow) (r : NodeRow) → group_of (rows ++ r ∷ []) u ≡ or_else (group_of rows u) (cond (eqb u r.id) (Some r.group) None)
+group_push u [] r = by_test (eqb u r.id) (λ t. group_in (find nat_cmp u (by_id (r ∷ []))) ≡ cond t (Some r.group) None)
+    (λ is. let tied : eq_by_cmp nat_cmp u r.id ≡ true = grind (arith, nat_tests) in ap (λ b. group_in (cond b (Some r) None)) tied)
+    (λ is. let tied : eq_by_cmp nat_cmp u r.id ≡ false = grind (arith, nat_tests) in ap (λ b. group_in (cond b (Some r) None)) tied)
+group_push u (x ∷ rows) r =
+    elim (eq_by_cmp nat_cmp u x.id) as (λ b. group_in (cond b (Some x) (find nat_cmp u (by_id (rows ++ r ∷ [])))) ≡ or_else (group_in (cond b (Some x) (find nat_cmp u (by_id rows)))) (cond (eqb u r.id) (Some r.group) None)) [
+      | true ↦ refl
+      | false ↦ group_push u rows r
+    ]
+
+module _ (groups : List (Option ℕ)) (rows : List NodeRow) (r : NodeRow) (least : 1 ≤ r.id) (all : length groups ≡ 64) (most : r.id ≤ 64)
+    (known : (u : ℕ) → 1 ≤ u → u ≤ 64 → get_or groups (u - 1) None ≡ group_of rows u) where
+  -- a node that has no group yet gets the row's
+  group_set : get_or groups (r.id - 1) None ≡ None → (u : ℕ) → 1 ≤ u → u ≤ 64 → get_or (set groups (r.id - 1) (Some r.group)) (u - 1) None ≡ group_of (rows ++ r ∷ []) u
+  group_set none u low high = by_test (eqb u r.id) (λ t. get_or (set groups (r.id - 1) (Some r.group)) (u - 1) None ≡ or_else (group_of rows u) (cond t (Some r.group) None))
+      (λ is.
+      let same : u ≡ r.id = grind (arith, nat_tests) in
+      let place : u - 1 ≡ r.id - 1 = omega arith in
+      ap (λ i. get_or (set groups (r.id - 1) (Some r.group)) i None) place ∙ get_or-set_same groups (r.id - 1) (Some r.group) None (omega arith)
+      ∙ ap (λ o. or_else o (Some r.group)) (sym none ∙ known r.id least most ∙ ap (group_of rows) (sym same)))
+      (λ is.
+      let apart : u - 1 ≢ r.id - 1 = λ e. let same : u ≡ r.id = omega arith in let tested : eqb u r.id ≡ true = grind (arith, nat_tests) in cc in
+      get_or-set_other groups (r.id - 1) (u - 1) (Some r.group) None apart ∙ known u low high ∙ sym (else_none (group_of rows u)))
+      ∙ sym (group_push u rows r)
+
+  -- one that has a group keeps it
+  group_kept : (g : ℕ) → get_or groups (r.id - 1) None ≡ Some g → (u : ℕ) → 1 ≤ u → u ≤ 64 → get_or groups (u - 1) None ≡ group_of (rows ++ r ∷ []) u
+  group_kept g some u low high = known u low high ∙ by_test (eqb u r.id) (λ t. group_of rows u ≡ or_else (group_of rows u) (cond t (Some r.group) None))
+      (λ is.
+      let same : u ≡ r.id = grind (arith, nat_tests) in
+      let there : group_of rows u ≡ Some g = ap (group_of rows) same ∙ sym (known r.id least most) ∙ some in
+      there ∙ sym (ap (λ o. or_else o (Some r.group)) there))
+      (λ is. sym (else_none (group_of rows u)))
+      ∙ sym (group_push u rows r)
+
+  -- so the group is known where it was noted in either way
+  pub group_noted : (new : List (Option ℕ)) → (get_or groups (r.id - 1) None ≡ None → new ≡ set groups (r.id - 1) (Some r.group)) → (IsSome (get_or groups (r.id - 1) None) → new ≡ groups) → (u : ℕ) → 1 ≤ u → u ≤ 64 → get_or new (u - 1) None ≡ group_of (rows ++ r ∷ []) u
+  group_noted new fresh kept u low high = of_option (get_or groups (r.id - 1) None) refl
+    where
+      of_option : (o : Option ℕ) → get_or groups (r.id - 1) None ≡ o → get_or new (u - 1) None ≡ group_of (rows ++ r ∷ []) u
+      of_option None is = ap (λ l. get_or l (u - 1) None) (fresh is) ∙ group_set is u low high
+      of_option (Some g) is = ap (λ l. get_or l (u - 1) None) (kept (subst IsSome (sym is) refl)) ∙ group_kept g is u low high
+
+-- ---- the last ends
+
+pub first_push : (rows : List LinkRow) (r : LinkRow) → (last_ends (rows ++ r ∷ [])).0 ≡ r.a
+first_push rows r = ap (λ (e : ℕ × ℕ). e.0) (last_push (λ (l : LinkRow). (l.a, l.b)) (0, 0) rows r)
+
+pub second_push : (rows : List LinkRow) (r : LinkRow) → (last_ends (rows ++ r ∷ [])).1 ≡ r.b
+second_push rows r = ap (λ (e : ℕ × ℕ). e.1) (last_push (λ (l : LinkRow). (l.a, l.b)) (0, 0) rows r)
+
+-- ---- degrees
+
+abbrev one : Bool → ℕ
+one b = cond b 1 0
+
+-- one more at a place
+abbrev pub raised : List ℕ → ℕ → List ℕ
+raised ds i = set ds i (get_or ds i 0 + 1)
+
+degree_push : (u : ℕ) (rows : List LinkRow) (r : LinkRow) → degree u (rows ++ r ∷ []) ≡ degree u rows + one (eqb u r.a || eqb u r.b)
+degree_push u [] r = by_test (is_end u r) (λ t. cond t (1 + 0) 0 ≡ 0 + one t) (λ is. omega arith) (λ is. omega arith)
+degree_push u (x ∷ rows) r =
+    let rest = degree_push u rows r in
+    by_test (is_end u x) (λ t. cond t (1 + degree u (rows ++ r ∷ [])) (degree u (rows ++ r ∷ [])) ≡ cond t (1 + degree u rows) (degree u rows) + one (eqb u r.a || eqb u r.b)) (λ is. omega (arith, rest)) (λ is. rest)
+
+-- no node is an end of more links than there are
+pub degree_most : (u : ℕ) (rows : List LinkRow) → degree u rows ≤ length rows
+degree_most u [] = omega arith
+degree_most u (x ∷ rows) =
+    let rest = degree_most u rows in
+    by_test (is_end u x) (λ t. cond t (1 + degree u rows) (degree u rows) ≤ length (x ∷ rows)) (λ is. omega (arith, rest)) (λ is. omega (arith, rest))
+
+-- what stands at each place then
+pub get_raised : (ds : List ℕ) (i j : ℕ) → i < length ds → get_or (raised ds i) j 0 ≡ get_or ds j 0 + one (eqb j i)
+get_raised ds i j within = by_test (eqb j i) (λ t. get_or (raised ds i) j 0 ≡ get_or ds j 0 + one t)
+    (λ is. let same : j ≡ i = grind (arith, nat_tests) in ap (λ k. get_or (raised ds i) k 0) same ∙ get_or-set_same ds i (get_or ds i 0 + 1) 0 within ∙ ap (λ k. get_or ds k 0 + 1) (sym same))
+    (λ is. let apart : j ≢ i = λ e. let tested : eqb j i ≡ true = grind (arith, nat_tests) in cc in get_or-set_other ds i j (get_or ds i 0 + 1) 0 apart ∙ omega arith)
+
+place : (u a : ℕ) → 1 ≤ u → 1 ≤ a → eqb (u - 1) (a - 1) ≡ eqb u a
+place u a low least = by_test (eqb u a) (λ t. eqb (u - 1) (a - 1) ≡ t) (λ is. let same : u ≡ a = grind (arith, nat_tests) in let e : u - 1 ≡ a - 1 = omega arith in grind (arith, nat_tests))
+    (λ is. by_test (eqb (u - 1) (a - 1)) (λ t. t ≡ false) (λ tied. let e : u - 1 ≡ a - 1 = grind (arith, nat_tests) in let same : u ≡ a = omega arith in let tested : eqb u a ≡ true = grind (arith, nat_tests) in cc) (λ _. refl))
+
+-- one of two tests that do not both hold
+either : (p q : Bool) → (p ≡ true → q ≡ false) → one p + one q ≡ one (p || q)
+either true true apart = let never = apart refl in cc
+either true false apart = omega arith
+either false true apart = omega arith
+either false false apart = omega arith
+
+module _ (ds : List ℕ) (rows : List LinkRow) (r : LinkRow) (all : length ds ≡ 64) (least : 1 ≤ r.a) (most : r.a ≤ 64) (low : 1 ≤ r.b) (high : r.b ≤ 64)
+    (known : (u : ℕ) → 1 ≤ u → u ≤ 64 → get_or ds (u - 1) 0 ≡ degree u rows) where
+  -- both ends have one more link
+  pub both_raised : r.a - 1 ≢ r.b - 1 → (u : ℕ) → 1 ≤ u → u ≤ 64 → get_or (raised (raised ds (r.a - 1)) (r.b - 1)) (u - 1) 0 ≡ degree u (rows ++ r ∷ [])
+  both_raised differ u from to =
+      get_raised (raised ds (r.a - 1)) (r.b - 1) (u - 1) (omega (arith, length-set {A = ℕ}))
+      ∙ ap (λ n. n + one (eqb (u - 1) (r.b - 1))) (get_raised ds (r.a - 1) (u - 1) (omega arith))
+      ∙ (λ i. (known u from to i + one (place u r.a from least i)) + one (place u r.b from low i))
+      ∙ summed (degree u rows) (one (eqb u r.a)) (one (eqb u r.b)) (one (eqb u r.a || eqb u r.b)) (either (eqb u r.a) (eqb u r.b) (λ is. by_test (eqb u r.b) (λ t. t ≡ false) (λ tied. let e : u ≡ r.a = grind (arith, nat_tests) in let f : u ≡ r.b = grind (arith, nat_tests) in absurd (differ (omega arith))) (λ _. refl)))
+      ∙ sym (degree_push u rows r)
+    where
+      summed : (n p q s : ℕ) → p + q ≡ s → (n + p) + q ≡ n + s
+      summed n p q s e = omega arith
+
+  -- a link of a node to itself counts once
+  pub one_raised : r.a - 1 ≡ r.b - 1 → (u : ℕ) → 1 ≤ u → u ≤ 64 → get_or (raised ds (r.a - 1)) (u - 1) 0 ≡ degree u (rows ++ r ∷ [])
+  one_raised same u from to =
+      let ends : r.b ≡ r.a = omega arith in
+      get_raised ds (r.a - 1) (u - 1) (omega arith) ∙ (λ i. known u from to i + one (place u r.a from least i))
+      ∙ ap (λ b. degree u rows + one b) (twice (eqb u r.a)) ∙ ap (λ e. degree u rows + one (eqb u r.a || eqb u e)) (sym ends)
+      ∙ sym (degree_push u rows r)
+    where
+      twice : (b : Bool) → b ≡ (b || b)
+      twice true = refl
+      twice false = refl

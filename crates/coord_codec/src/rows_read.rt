@@ -1,0 +1,161 @@
+//! The rows that were read, and what they say of the next one.
+
+ghost use Rattle.std.specs.Prelude.{◌≡◌, ◌≤◌, ◌<◌, ◌+◌, ◌-◌, ◌++◌, [], ◌∷◌, ℕ, None, Some, IsSome, length, slice_index_or, slice_set, OnOk};
+ghost use Rattle.coord_world.specs.protocol.Rows.{degree, group_of};
+ghost use Rattle.coord_codec.specs.Worlds.{can_link, first_rises, last_by, last_ends, second_rises};
+
+use coord_types::{Group, MAX_DEGREE, NodeId};
+use coord_world::{LinkRow, NodeRow};
+use std::alloc::{AllocError, Global};
+
+/// One place for each node.
+const PLACES: usize = 64;
+
+/// The place of a node, from 0.
+fn place_of(id: NodeId) -> usize
+    ensures { result ≡ id - 1 }
+{
+    usize::from(id.number() - 1)
+}
+
+/// Nodes.
+#[derive(Drop)]
+pub struct NodesRead {
+    pub rows: Vec<NodeRow>,
+    /// The number of the last one, or 0.
+    last: u8,
+    /// The group of each node that is there, at its place.
+    groups: [Option<Group>; PLACES],
+    ghost last_row: { last ≡ last_by (λ r. r.id) 0 rows.items },
+    ghost grouped: { (u : ℕ) → 1 ≤ u → u ≤ 64 → slice_index_or groups (u - 1) None ≡ group_of rows.items u },
+}
+
+impl NodesRead {
+    pub fn new(alloc: Global) -> Self
+        ensures { result.rows.items ≡ [] }
+    {
+        NodesRead {
+            rows: Vec::new(alloc),
+            last: 0,
+            groups: [None; PLACES],
+        }
+    }
+
+    /// The number of the last node, or 0.
+    pub fn last(&self) -> u8
+        ensures { result ≡ last_by (λ r. r.id) 0 self.now.rows.items }
+    {
+        self.last
+    }
+
+    /// The group of the node with this number.
+    fn group_of(&self, id: NodeId) -> Option<Group>
+        ensures { result ≡ group_of self.now.rows.items id }
+    {
+        self.groups[place_of(id)]
+    }
+
+    /// Puts a row behind the others. Of rows of one node the first counts.
+    pub fn push(&mut self, row: NodeRow) -> Result<(), AllocError>
+        ensures { OnOk result (self.new.rows.items ≡ self.old.rows.items ++ row ∷ []) }
+    {
+        let (id, group) = (row.id, row.group);
+        self.rows.push(row)?;
+        self.last = id.number();
+        note_group(&mut self.groups, place_of(id), group);
+        Ok(())
+    }
+}
+
+/// Notes the group of the node at a place, where none was noted before.
+fn note_group(groups: &mut [Option<Group>; PLACES], place: usize, group: Group)
+    requires { place < PLACES }
+    ensures first { slice_index_or groups.old place None ≡ None → groups.new ≡ slice_set groups.old place (Some group) }
+    ensures later { IsSome (slice_index_or groups.old place None) → groups.new ≡ groups.old }
+{
+    if groups[place].is_none() {
+        groups[place] = Some(group);
+    }
+}
+
+/// Links.
+#[derive(Drop)]
+pub struct LinksRead {
+    pub rows: Vec<LinkRow>,
+    /// The ends of the last one, or 0 and 0.
+    last: (u8, u8),
+    /// How many of the links each node is an end of, at its place.
+    degrees: [u8; PLACES],
+    ghost last_first: { last.0 ≡ (last_ends rows.items).0 },
+    ghost last_second: { last.1 ≡ (last_ends rows.items).1 },
+    ghost counted: { (u : ℕ) → 1 ≤ u → u ≤ 64 → slice_index_or degrees (u - 1) 0 ≡ degree u rows.items },
+}
+
+impl LinksRead {
+    pub fn new(alloc: Global) -> Self
+        ensures { result.rows.items ≡ [] }
+    {
+        LinksRead {
+            rows: Vec::new(alloc),
+            last: (0, 0),
+            degrees: [0; PLACES],
+        }
+    }
+
+    /// Whether a link's first end may follow these links.
+    pub fn first_rises(&self, a: NodeId) -> bool
+        ensures { result ≡ first_rises self.now.rows.items a }
+    {
+        self.last.0 <= a.number()
+    }
+
+    /// Whether a link's second end may follow its first one, and the link may follow these links.
+    pub fn second_rises(&self, a: NodeId, b: NodeId) -> bool
+        ensures { result ≡ second_rises self.now.rows.items a b }
+    {
+        a < b && (a.number() != self.last.0 || b.number() > self.last.1)
+    }
+
+    /// How many of the links have this node as an end.
+    fn degree(&self, id: NodeId) -> usize
+        ensures { result ≡ degree id self.now.rows.items }
+    {
+        usize::from(self.degrees[place_of(id)])
+    }
+
+    /// Puts a row behind the others.
+    pub fn push(&mut self, row: LinkRow) -> Result<(), AllocError>
+        requires { length self.old.rows.items < 255 }
+        ensures { OnOk result (self.new.rows.items ≡ self.old.rows.items ++ row ∷ []) }
+    {
+        let (a, b) = (row.a, row.b);
+        let (first, second) = (place_of(a), place_of(b));
+        self.rows.push(row)?;
+        self.last = (a.number(), b.number());
+        raise_degree(&mut self.degrees, first);
+        if first != second {
+            raise_degree(&mut self.degrees, second);
+        }
+        Ok(())
+    }
+}
+
+/// One link more at the node of a place.
+fn raise_degree(degrees: &mut [u8; PLACES], place: usize)
+    requires place { place < PLACES }
+    requires room { slice_index_or degrees.old place 0 < 255 }
+    ensures { degrees.new ≡ slice_set degrees.old place (slice_index_or degrees.old place 0 + 1) }
+{
+    degrees[place] += 1;
+}
+
+/// Whether two nodes are there, in one group, with room for a link behind these.
+pub fn can_link(nodes: &NodesRead, front: &LinksRead, a: NodeId, b: NodeId) -> bool
+    ensures { result ≡ can_link nodes.now.rows.items front.now.rows.items record { 0 = a; 1 = b } }
+{
+    let one_group = match (nodes.group_of(a), nodes.group_of(b)) {
+        (Some(first), Some(second)) => first == second,
+        _ => false,
+    };
+    one_group && front.degree(a) < MAX_DEGREE && front.degree(b) < MAX_DEGREE
+}

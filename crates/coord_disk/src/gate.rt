@@ -1,0 +1,64 @@
+//! A disk whose sync waits at a gate.
+
+ghost use Rattle.std.specs.Prelude.{◌≡◌};
+
+use crate::Disk;
+use crate::failing::{Call, FailingDisk, Rule};
+use std::sync::Arc;
+use std::sync::atomic::{AtomicBool, Ordering};
+
+/// How often a sync looks whether the gate is open.
+const LOOKS: u64 = 100_000_000;
+
+/// Holds each sync until another thread opens the gate.
+#[derive(Drop)]
+pub struct Gate {
+    entered: Arc<AtomicBool>,
+    answered: Arc<AtomicBool>,
+}
+
+/// A disk whose sync waits until another thread opens a gate.
+pub type GateDisk<D> = FailingDisk<D, Gate>;
+
+impl Gate {
+    // Says that a sync stands at the gate, and waits for it to open.
+    fn opens(&self) -> bool {
+        self.entered.store(true, Ordering::SeqCst);
+        for _ in 0..LOOKS {
+            if self.answered.load(Ordering::SeqCst) {
+                return true;
+            }
+        }
+        false
+    }
+}
+
+impl Rule for Gate {
+    ghost use Rattle.coord_disk.specs.Disks.Gate.{GateSays};
+
+    ghost says = { GateSays };
+
+    fn fails(&mut self, call: Call) -> bool {
+        match call {
+            Call::Sync => !self.opens(),
+            Call::Len | Call::Read | Call::Write => false,
+        }
+    }
+}
+
+impl<D: Disk> FailingDisk<D, Gate> {
+    ghost use Rattle.coord_disk.specs.Disks.Failing.{inner_of, rule_of, calls_of, failed_of};
+    ghost use Rattle.coord_disk.specs.Disks.Gate.{entered_of, answered_of};
+
+    /// Over this disk. Each sync sets the first flag, and reads the second up to 100,000,000 times:
+    /// once that is set the sync is passed on, and where it stays clear the sync fails.
+    pub fn new(inner: D, entered: Arc<AtomicBool>, answered: Arc<AtomicBool>) -> Self
+        ensures inner { inner_of result ≡ inner }
+        ensures entered { entered_of (rule_of result) ≡ entered }
+        ensures answered { answered_of (rule_of result) ≡ answered }
+        ensures calls { calls_of result ≡ 0 }
+        ensures failed { failed_of result ≡ 0 }
+    {
+        FailingDisk::over(inner, Gate { entered, answered })
+    }
+}

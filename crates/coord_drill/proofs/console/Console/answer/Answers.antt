@@ -1,0 +1,30 @@
+use Rattle.std.proofs.Common.{◌++◌, ◌+◌, ap, rules, append-nil}
+use Rattle.coord_lines.specs.Lines.{lines_on}
+use Rattle.coord_drill.specs.Drilled.{printed_to}
+use Rattle.coord_drill.proofs.Taken.{put_cut, put_failed, put_printed}
+use Rattle.coord_drill.proofs.console.Console.answer.Goals as goal
+
+pub returns-in_err-write_text-clause-failed : goal.returns-in_err-write_text-clause-failed
+returns-in_err-write_text-clause-failed g c =
+    let old = c.args.self.now in
+    let new = c.take-taken.new.self in
+    let piece = c.args.piece.now in
+    let part = put_cut c.take-taken.result c.take-taken.new.writer.items _ (λ more. printed_to old.drill (old.number + 1) (lines_on old.line (piece ++ more))) (λ more. printed_to new.drill (new.number + 1) (lines_on new.line more))
+    (ap (λ p. printed_to old.drill (old.number + 1) (lines_on old.line p)) (append-nil piece)) (rw c.new-text.ensures.items at c.take-taken.ensures.printed) (rw c.new-text.ensures.items at c.take-taken.ensures.failed) _ _ (rw c.deref.ensures.value at c.in_err-write_text.ensures.err) in
+    search rules
+
+pub returns-clause-printed : goal.returns-clause-printed
+returns-clause-printed g c =
+    let old = c.args.self.now in
+    let new = c.take-taken.new.self in
+    let piece = c.args.piece.now in
+    put_printed c.take-taken.result c.take-taken.new.writer.items _ (λ more. printed_to old.drill (old.number + 1) (lines_on old.line (piece ++ more))) (λ more. printed_to new.drill (new.number + 1) (lines_on new.line more))
+    (ap (λ p. printed_to old.drill (old.number + 1) (lines_on old.line p)) (append-nil piece)) (rw c.new-text.ensures.items at c.take-taken.ensures.printed) (rw c.new-text.ensures.items at c.take-taken.ensures.failed) _ _ (rw c.deref.ensures.value at c.in_ok-write_text.ensures.ok)
+
+pub returns-clause-failed : goal.returns-clause-failed
+returns-clause-failed g c =
+    let old = c.args.self.now in
+    let new = c.take-taken.new.self in
+    let piece = c.args.piece.now in
+    put_failed c.take-taken.result c.take-taken.new.writer.items _ (λ more. printed_to old.drill (old.number + 1) (lines_on old.line (piece ++ more))) (λ more. printed_to new.drill (new.number + 1) (lines_on new.line more))
+    (ap (λ p. printed_to old.drill (old.number + 1) (lines_on old.line p)) (append-nil piece)) (rw c.new-text.ensures.items at c.take-taken.ensures.printed) (rw c.new-text.ensures.items at c.take-taken.ensures.failed) _ _ (rw c.deref.ensures.value at c.in_ok-write_text.ensures.ok)

@@ -1,0 +1,49 @@
+//! Messages that join the lanes.
+
+ghost use Rattle.std.specs.Prelude.{◌≡◌, ◌∷◌, [], ◌<◌, length, IsSome};
+ghost use Rattle.std.specs.Option.{ForSome};
+ghost use Rattle.coord_types.specs.Table as table;
+ghost use Rattle.coord_link.specs.LaneMachine.{sent};
+ghost use Rattle.coord_world.specs.protocol.Next.{on_lane};
+ghost use Rattle.coord_world.specs.code.Sends.{CanSend, sent_lanes};
+ghost use Rattle.coord_world.specs.code.NodeSteps.{node_stepped};
+
+use crate::step::node_step::NodeStep;
+use crate::tables::Tables;
+use coord_types::{Msg, NodeId};
+
+impl Tables {
+    /// Has a node be as it will be, and puts what it sends into its lanes.
+    pub fn carry_out(&mut self, node_step: NodeStep)
+        requires there { IsSome (table.get self.old.nodes node_step.id) }
+        requires room { CanSend node_step.id node_step.deed.sends.items self.old.lanes }
+        ensures { self.new ≡ node_stepped self.old node_step.id node_step.node node_step.deed.sends.items }
+    {
+        let NodeStep { id, node, deed } = node_step;
+        self.nodes.replace(id, node);
+        self.send_all(id, &deed.sends);
+    }
+
+    /// Puts messages into the lanes from one node to those that they go to.
+    fn send_all(&mut self, from: NodeId, sends: &[(NodeId, Msg)])
+        requires { CanSend from sends.now self.old.lanes }
+        ensures { self.new ≡ record self.old { lanes = sent_lanes from sends.now self.old.lanes } }
+    {
+        for send in sends {
+            self.send(from, send.0, send.1);
+        }
+    }
+
+    /// Puts a message into the lane from one node to another.
+    fn send(&mut self, from: NodeId, to: NodeId, msg: Msg)
+        requires { ForSome (table.get self.old.lanes record { 0 = from; 1 = to }) (λ l. length l.queue < 4) }
+        ensures { self.new ≡ on_lane self.old from to (sent (msg ∷ [])) }
+    {
+        let Some(lane) = self.lanes.get(from, to) else {
+            return;
+        };
+        let mut lane = *lane;
+        lane.send(msg);
+        self.lanes.replace(from, to, lane);
+    }
+}

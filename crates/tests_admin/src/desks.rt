@@ -1,0 +1,75 @@
+//! A desk with a fixed answer to each request.
+
+ghost use Rattle.std.specs.Prelude.{⊤};
+
+use coord_admin::{Desk, LinkView, NodeView, View};
+use coord_types::{Client, Command, Group, Mode, NodeId, Refusal, Reply};
+use std::alloc::Global;
+
+/// Shows two linked nodes, refuses to resend, and finds no memory for an order.
+#[derive(Drop)]
+pub struct OneLink {
+    alloc: Global,
+}
+
+impl OneLink {
+    pub fn new(alloc: Global) -> Self {
+        OneLink { alloc }
+    }
+}
+
+fn node(id: NodeId, mode: Mode, parent: Option<NodeId>, epoch: u64) -> NodeView {
+    NodeView {
+        node: id,
+        group: Group::new(1).unwrap(),
+        mode,
+        parent,
+        epoch,
+        confirmed: epoch.saturating_sub(1),
+    }
+}
+
+impl Desk for OneLink {
+    ghost answers = { λ _ _ _ _. ⊤ };
+
+    fn order(
+        &mut self,
+        _client: Client,
+        _number: u64,
+        _command: Command,
+    ) -> Result<Reply, Refusal> {
+        Err(Refusal::OutOfMemory)
+    }
+
+    fn show(&mut self) -> Result<View, Refusal> {
+        let first = NodeId::new(1).unwrap();
+        let second = NodeId::new(2).unwrap();
+        let nodes = [
+            node(first, Mode::Ready, None, 0),
+            node(second, Mode::Converge, Some(first), 5),
+        ];
+        let link = LinkView {
+            a: first,
+            b: second,
+            inc: 3,
+        };
+        let Ok(nodes) = Vec::from_array(self.alloc, nodes) else {
+            return Err(Refusal::OutOfMemory);
+        };
+        let Ok(links) = Vec::from_array(self.alloc, [link]) else {
+            return Err(Refusal::OutOfMemory);
+        };
+        Ok(View {
+            accepted: 3,
+            settled: 3,
+            nodes,
+            links,
+        })
+    }
+
+    fn resend(&mut self) -> Result<u64, Refusal> {
+        Err(Refusal::Stopped)
+    }
+
+    fn close(&mut self) {}
+}

@@ -1,0 +1,11 @@
+//! Tests of the administration lines, as texts read and written.
+#![tactic(auto)]
+
+#[cfg(test)]
+mod desks;
+#[cfg(test)]
+mod hostile;
+#[cfg(test)]
+mod lines;
+#[cfg(test)]
+mod memory;

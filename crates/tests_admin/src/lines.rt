@@ -1,0 +1,238 @@
+//! Lines and their replies.
+
+use crate::desks::OneLink;
+use coord_admin::{CountDesk, Desk, Ended, ServeFault, serve};
+use std::alloc::{AllocError, Global};
+use std::io::Read;
+use std::test::Fail;
+
+/// Whether these lines get these replies from a desk, and the call ends so. Where memory runs out
+/// there is no answer.
+pub fn serves<R: Read, D: Desk>(
+    alloc: Global,
+    desk: &mut D,
+    reader: &mut R,
+    replies: &str,
+    end: Result<Ended, ServeFault>,
+) -> Result<bool, AllocError> {
+    let mut output = Vec::new(alloc);
+    let outcome = serve(alloc, reader, &mut output, desk);
+    if outcome == Err(ServeFault::OutOfMemory) {
+        return Err(AllocError);
+    }
+    Ok(outcome == end && output.as_slice() == replies.as_bytes())
+}
+
+const RESET: &str = "{\"op\":\"reset\",\"client\":1,\"number\":1,\"node\":1}";
+
+/// The same line with 512 bytes, with 513, and what else a line may be; the last has no line feed.
+pub fn worked_lines(alloc: Global) -> Result<Vec<u8>, AllocError> {
+    let mut lines = Vec::new(alloc);
+    for len in [512, 513] {
+        lines.extend_from_slice(RESET.as_bytes())?;
+        for _ in RESET.len()..len {
+            lines.push(b' ')?;
+        }
+        lines.push(b'\n')?;
+    }
+    lines.extend_from_slice(&[0xff, b'\n'])?;
+    lines.extend_from_slice(b"{\n{\"op\":\"fly\"}\n")?;
+    lines.extend_from_slice(
+        b"{\"op\":\"reset\",\"client\":17,\"number\":1,\"node\":1}\n{\"op\":\"show\"}\n{\"op\":\"show\"}",
+    )?;
+    Ok(lines)
+}
+
+pub const WORKED_REPLIES: &str = "{\"kind\":\"done\",\"step\":1}
+{\"fault\":\"TooLong\"}
+{\"fault\":\"BadText\"}
+{\"fault\":\"BadJson\"}
+{\"fault\":\"UnknownOp\"}
+{\"fault\":\"BadRequest\"}
+{\"accepted\":1,\"links\":[],\"nodes\":[],\"settled\":1}
+{\"fault\":\"Unfinished\"}
+";
+
+#[test]
+fn administration_lines(rt: HostRuntime) -> Result<(), Fail> {
+    let lines = worked_lines(rt.alloc())?;
+    let mut desk = CountDesk::new(rt.alloc(), 0);
+    assert!(rt;
+        serves(
+            rt.alloc(),
+            &mut desk,
+            &mut lines.as_slice(),
+            WORKED_REPLIES,
+            Ok(Ended::Input)
+        )?
+    );
+    Ok(())
+}
+
+/// Lines, and the start of the reply to each where nothing was ordered before.
+const SINGLE_LINES: [(&str, &str); 24] = [
+    (
+        "{\"op\":\"show\"}\r",
+        "{\"accepted\":0,\"links\":[],\"nodes\":[],\"settled\":0}",
+    ),
+    ("{\"op\":\"resend\"}", "{\"count\":0,\"kind\":\"resent\"}"),
+    ("", "{\"fault\":\"BadJson\"}"),
+    ("{\"op\":\"show\"} {}", "{\"fault\":\"BadJson\"}"),
+    ("{op:\"show\"}", "{\"fault\":\"BadJson\"}"),
+    ("{\"op\":\"show\",}", "{\"fault\":\"BadJson\"}"),
+    (
+        "{\"op\":\"reset\",\"client\":1,\"number\":1e999,\"node\":1}",
+        "{\"fault\":\"BadJson\"}",
+    ),
+    (
+        "{\"op\":\"reset\",\"client\":1,\"number\":01,\"node\":1}",
+        "{\"fault\":\"BadJson\"}",
+    ),
+    ("[]", "{\"fault\":\"BadRequest\"}"),
+    ("null", "{\"fault\":\"BadRequest\"}"),
+    ("{\"op\":1}", "{\"fault\":\"BadRequest\"}"),
+    ("{\"op\":\"show\",\"x\":1}", "{\"fault\":\"BadRequest\"}"),
+    (
+        "{\"op\":\"reset\",\"client\":1,\"number\":\"1\",\"node\":1}",
+        "{\"fault\":\"BadRequest\"}",
+    ),
+    (
+        "{\"op\":\"reset\",\"client\":1,\"number\":-1,\"node\":1}",
+        "{\"fault\":\"BadRequest\"}",
+    ),
+    (
+        "{\"op\":\"reset\",\"client\":1,\"number\":1.0,\"node\":1}",
+        "{\"fault\":\"BadRequest\"}",
+    ),
+    (
+        "{\"op\":\"reset\",\"client\":1,\"number\":1e0,\"node\":1}",
+        "{\"fault\":\"BadRequest\"}",
+    ),
+    (
+        "{\"op\":\"reset\",\"client\":1,\"number\":-0,\"node\":1}",
+        "{\"fault\":\"BadRequest\"}",
+    ),
+    (
+        "{\"op\":\"reset\",\"client\":1,\"number\":18446744073709551616,\"node\":1}",
+        "{\"fault\":\"BadRequest\"}",
+    ),
+    (
+        "{\"op\":\"reset\",\"client\":1,\"number\":18446744073709551615,\"node\":1}",
+        "{\"kind\":\"done\",\"step\":1}",
+    ),
+    (
+        "{\"op\":\"reset\",\"client\":1,\"number\":1,\"node\":65,\"node\":1}",
+        "{\"kind\":\"done\",\"step\":1}",
+    ),
+    (
+        "{\"op\":\"reset\",\"client\":1,\"number\":1,\"node\":1,\"node\":65}",
+        "{\"fault\":\"BadRequest\"}",
+    ),
+    (
+        "{\"op\":\"fly\",\"op\":\"\\u0073how\"}",
+        "{\"accepted\":0,\"links\":[],\"nodes\":[],\"settled\":0}",
+    ),
+    (
+        "{\"op\":\"confirm\",\"client\":16,\"number\":0,\"node\":64,\"epoch\":0}",
+        "{\"kind\":\"done\",\"step\":1}",
+    ),
+    (
+        "{\"op\":\"drop\",\"client\":1,\"number\":1,\"a\":1,\"b\":0}",
+        "{\"fault\":\"BadRequest\"}",
+    ),
+];
+
+/// Whether a line gets this reply.
+fn replies(alloc: Global, line: &str, reply: &str) -> Result<bool, AllocError> {
+    let mut input = String::from_str(alloc, line)?;
+    input.push('\n')?;
+    let mut expected = String::from_str(alloc, reply)?;
+    expected.push('\n')?;
+    let mut desk = CountDesk::new(alloc, 0);
+    serves(
+        alloc,
+        &mut desk,
+        &mut input.as_bytes(),
+        expected.as_str(),
+        Ok(Ended::Input),
+    )
+}
+
+#[test]
+fn single_lines(rt: HostRuntime) -> Result<(), Fail> {
+    for (line, reply) in SINGLE_LINES {
+        assert!(rt; replies(rt.alloc(), line, reply)?, "{line}");
+    }
+    Ok(())
+}
+
+#[test]
+fn deep_nesting(rt: HostRuntime) -> Result<(), Fail> {
+    let mut line = String::new(rt.alloc());
+    for bracket in ['[', ']'] {
+        for _ in 0..200 {
+            line.push(bracket)?;
+        }
+    }
+    assert!(rt; replies(rt.alloc(), line.as_str(), "{\"fault\":\"BadJson\"}")?);
+    Ok(())
+}
+
+/// What stands behind a close is not answered.
+#[test]
+fn close(rt: HostRuntime) -> Result<(), Fail> {
+    let mut desk = CountDesk::new(rt.alloc(), 0);
+    let mut lines = b"{\"op\":\"resend\"}\n{\"op\":\"close\"}\n{\"op\":\"show\"}\n".as_slice();
+    let expected = "{\"count\":0,\"kind\":\"resent\"}\n{\"kind\":\"closed\"}\n";
+    assert!(rt;
+        serves(
+            rt.alloc(),
+            &mut desk,
+            &mut lines,
+            expected,
+            Ok(Ended::Closed)
+        )?
+    );
+    Ok(())
+}
+
+/// Of a desk past its last step, and of one that shows nodes and a link.
+#[test]
+fn other_desks(rt: HostRuntime) -> Result<(), Fail> {
+    let mut full = CountDesk::new(rt.alloc(), u64::MAX);
+    let mut order = b"{\"op\":\"remove\",\"client\":1,\"number\":1,\"node\":1}\n".as_slice();
+    let expected = "{\"name\":\"Exhausted\",\"refused\":3}\n";
+    assert!(rt;
+        serves(
+            rt.alloc(),
+            &mut full,
+            &mut order,
+            expected,
+            Ok(Ended::Input)
+        )?
+    );
+    let mut linked = OneLink::new(rt.alloc());
+    let mut lines =
+        b"{\"op\":\"show\"}\n{\"op\":\"resend\"}\n{\"op\":\"reset\",\"client\":1,\"number\":1,\"node\":1}\n".as_slice();
+    let expected =
+        "{\"accepted\":3,\"links\":[[1,2,3]],\"nodes\":[[1,1,\"ready\",0,0,0],[2,1,\"converge\",1,5,4]],\"settled\":3}
+{\"name\":\"Stopped\",\"refused\":1}
+{\"fault\":\"OutOfMemory\"}
+";
+    assert!(rt;
+        serves(
+            rt.alloc(),
+            &mut linked,
+            &mut lines,
+            expected,
+            Ok(Ended::Input)
+        )?
+    );
+    Ok(())
+}
+
+#[test]
+fn laws_do_nothing() {
+    coord_admin::worked_requests();
+    coord_admin::worked_replies();
+}
