@@ -12,6 +12,7 @@ pub mod Granted
 pub mod Following
 pub mod Driving
 pub mod Calling
+pub mod Running
 mod WorkedRuns
 pub mod Collecting
 pub mod Holding

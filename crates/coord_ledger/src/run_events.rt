@@ -1,5 +1,6 @@
 //! Runs of events: the one-thread driver of a ledger.
 
+mod crashes;
 mod driver;
 mod flights;
 mod released;

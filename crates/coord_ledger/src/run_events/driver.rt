@@ -44,6 +44,7 @@ impl<D: CrashDisk> Driver<D> {
         ensures model { model_of D.keeps_model self.new ≡ model_of D.keeps_model self.old }
     {
         self.tickets.reserve(1)?;
+        self.ledger.log_is_consistent();
         let front = self.ledger.front();
         front.ranges();
         let before = front.count();
@@ -51,11 +52,12 @@ impl<D: CrashDisk> Driver<D> {
             Ok(ticket) => {
                 let number = ticket.step();
                 self.tickets.push_reserved(Some(ticket));
-                if before < number {
-                    Ok(Answer::Accepted(number))
+                let answer = if before < number {
+                    Answer::Accepted(number)
                 } else {
-                    Ok(Answer::Repeated(number))
-                }
+                    Answer::Repeated(number)
+                };
+                Ok(answer)
             }
             Err(refusal) => Ok(Answer::Refused(refusal)),
         }

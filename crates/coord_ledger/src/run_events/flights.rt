@@ -1,8 +1,8 @@
 //! The events of a run that move the store: a flight goes out and comes back, and the disk crashes.
 
 ghost use Rattle.std.specs.Prelude.{◌≡◌, IfOk, MatchResult};
-ghost use Rattle.coord_ledger.specs.declared.events.Event.TheVariants.{Begin, Crash, Finish};
-ghost use Rattle.coord_ledger.specs.ledger.Driver.{IsPromised, model_of};
+ghost use Rattle.coord_ledger.specs.declared.events.Event.TheVariants.{Begin, Finish};
+ghost use Rattle.coord_ledger.specs.ledger.Driver.{model_of};
 ghost use Rattle.coord_ledger.specs.ledger.Follows.{Follows, FollowsTo};
 ghost use Rattle.coord_ledger.specs.machine.Consistent.{IsConsistent};
 ghost use Rattle.coord_ledger.specs.machine.Machine.{Machine};
@@ -10,10 +10,9 @@ ghost use Rattle.coord_ledger.specs.promises.Headline.{IsCutShort};
 
 use super::driver::Driver;
 use super::released::{forget_all, push_releases};
-use crate::{Answer, Ledger, Release, RunFaultKind, Seen};
+use crate::{Answer, Release, RunFaultKind};
 use coord_disk::CrashDisk;
 use coord_types::Refusal;
-use std::alloc::Global;
 
 /// Why an event was not answered, and what was released until then.
 pub struct Broken {
@@ -91,6 +90,7 @@ impl<D: CrashDisk> Driver<D> {
                         released,
                     });
                 }
+                ledger.log_is_consistent();
                 (Answer::Finished(ledger.settled().count()), None)
             }
             Err((refusal, flight)) => (Answer::Refused(refusal), Some(flight)),
@@ -103,54 +103,5 @@ impl<D: CrashDisk> Driver<D> {
             released,
         };
         Ok((answer, held))
-    }
-
-    /// The disk crashes and is opened again. Tickets and the flight are gone.
-    pub fn crash(self, alloc: Global) -> Result<(Answer, Self), Broken>
-        ensures answered { (s : Machine) → IsConsistent s → Follows self s → IsPromised (model_of D.keeps_model self) Crash
-            → MatchResult result (λ held. FollowsTo s Crash held.0 held.1) (λ broken. IsCutShort s Crash broken.released.items) }
-        ensures model { IfOk result (λ held. model_of D.keeps_model held.1 ≡ model_of D.keeps_model self) }
-    {
-        let Driver {
-            ledger,
-            flight,
-            tickets,
-            seen: _,
-            released,
-        } = self;
-        forget_all(tickets);
-        let disk = match flight {
-            Some(flight) => {
-                flight.images_give_world();
-                flight.into_disk()
-            }
-            None => {
-                ledger.images_give_settled();
-                match ledger.close() {
-                    Ok(store) => store.into_disk(),
-                    Err(_) => unreachable!(),
-                }
-            }
-        };
-        let store = match coord_store::open(alloc, disk.crash()) {
-            Ok(store) => store,
-            Err((fault, _)) => {
-                let kind = RunFaultKind::Store(fault);
-                return Err(Broken { kind, released });
-            }
-        };
-        let Ok(ledger) = Ledger::adopt(alloc, store) else {
-            let kind = RunFaultKind::OutOfMemory;
-            return Err(Broken { kind, released });
-        };
-        let count = ledger.settled().count();
-        let held = Driver {
-            ledger,
-            flight: None,
-            tickets: Vec::new(alloc),
-            seen: Seen::new(),
-            released,
-        };
-        Ok((Answer::Opened(count), held))
     }
 }

@@ -14,7 +14,7 @@ pub fn push_releases(released: &mut Vec<Release>, mut releases: Releases) -> Res
     ensures all { IfOk result (λ _. released.new.items ≡ released.old.items ++ releases) }
     ensures some { OnErr result ((more : List Row) × ((rest : List Row) × ((releases ≡ more ++ rest) × (released.new.items ≡ released.old.items ++ more)))) }
 {
-    let mut count = 0;
+    let before = released.len();
     while let Some(release) = releases.next() {
         let output: Output = release.output;
         let step = release.step;
@@ -22,10 +22,9 @@ pub fn push_releases(released: &mut Vec<Release>, mut releases: Releases) -> Res
             releases.lose_rest();
             return Err(AllocError);
         }
-        count += 1;
     }
     releases.lose_rest();
-    Ok(count)
+    Ok((released.len() - before) as u64)
 }
 
 /// Gives up the replies that were not collected.
