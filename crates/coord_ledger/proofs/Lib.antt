@@ -13,6 +13,7 @@ pub mod Following
 pub mod Driving
 pub mod Calling
 pub mod Running
+pub mod Meeting
 mod WorkedRuns
 pub mod Collecting
 pub mod Holding

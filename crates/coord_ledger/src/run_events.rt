@@ -2,5 +2,6 @@
 
 mod crashes;
 mod driver;
+mod events;
 mod flights;
 mod released;

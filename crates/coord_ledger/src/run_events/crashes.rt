@@ -47,11 +47,11 @@ fn reopen<D: CrashDisk>(alloc: Global, disk: D) -> Result<Ledger<D>, RunFaultKin
 {
     let opened = match Store::open(alloc, disk.crash()) {
         Ok(store) => store,
-        Err((fault, _)) => return Err(RunFaultKind::Store(fault)),
+        Err((fault, _disk)) => return Err(RunFaultKind::Store(fault)),
     };
     match Ledger::adopt(alloc, opened) {
         Ok(ledger) => Ok(ledger),
-        Err(_) => Err(RunFaultKind::OutOfMemory),
+        Err((_, _store)) => Err(RunFaultKind::OutOfMemory),
     }
 }
 

@@ -1,7 +1,8 @@
 //! The events of a run that move the store: a flight goes out and comes back, and the disk crashes.
 
-ghost use Rattle.std.specs.Prelude.{◌≡◌, IfOk, MatchResult};
+ghost use Rattle.std.specs.Prelude.{◌≡◌, IfErr, IfOk, MatchResult};
 ghost use Rattle.coord_ledger.specs.declared.events.Event.TheVariants.{Begin, Finish};
+ghost use Rattle.coord_ledger.specs.declared.trace.RunFaultKind.TheVariants.{OutOfMemory};
 ghost use Rattle.coord_ledger.specs.ledger.Driver.{model_of};
 ghost use Rattle.coord_ledger.specs.ledger.Follows.{Follows, FollowsTo};
 ghost use Rattle.coord_ledger.specs.machine.Consistent.{IsConsistent};
@@ -63,6 +64,7 @@ impl<D: CrashDisk> Driver<D> {
     pub fn finish(self) -> Result<(Answer, Self), Broken>
         ensures answered { (s : Machine) → IsConsistent s → Follows self s → MatchResult result (λ held. FollowsTo s Finish held.0 held.1) (λ broken. IsCutShort s Finish broken.released.items) }
         ensures model { IfOk result (λ held. model_of D.keeps_model held.1 ≡ model_of D.keeps_model self) }
+        ensures kind { IfErr result (λ broken. broken.kind ≡ OutOfMemory) }
     {
         let Driver {
             mut ledger,
