@@ -1,4 +1,0 @@
-use Rattle.coord_ledger.proofs.run_events.released.forget_all.Given as goal
-
-abbrev pub decreases-loop-place : goal.decreases-loop-place
-decreases-loop-place l = goal.left-loop-place l
