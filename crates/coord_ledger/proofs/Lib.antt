@@ -12,6 +12,8 @@ pub mod Granted
 pub mod Following
 pub mod Driving
 pub mod Calling
+pub mod Running
+pub mod Meeting
 mod WorkedRuns
 pub mod Collecting
 pub mod Holding
