@@ -1,5 +1,5 @@
--- The disk that a driver holds, with the ledger or with the flight.
-use Rattle.std.specs.Prelude.{◌≡◌, ◌⊎◌, ℕ, List, Bool, true, false, Option, Some, None}
+-- What a driver holds: the disk, with the ledger or with the flight, and what comes of both.
+use Rattle.std.specs.Prelude.{◌≡◌, ◌⊎◌, ℕ, List, Bool, true, false, Option, Some, None, length}
 use Rattle.std.specs.Option.{option_map}
 use Rattle.coord_disk.specs.Model.Present.{Present, IsImage}
 use Rattle.coord_store.specs.Recovered.{Recovered}
@@ -9,6 +9,7 @@ use Rattle.coord_ledger.specs.declared.events.Event.{Event}
 use Rattle.coord_ledger.specs.declared.events.Event.TheVariants.{Crash}
 use Rattle.coord_ledger.specs.declared.trace.RunFaultKind.{RunFaultKind}
 use Rattle.coord_ledger.specs.declared.trace.RunFaultKind.TheVariants.{OutOfMemory, Store}
+use Rattle.coord_ledger.specs.ledger.Calls.{taken_back}
 use Rattle.coord_ledger.specs.ledger.Follows.{Held}
 use Rattle.coord_ledger.specs.ledger.State.{FlightState, LedgerState, ledger_over}
 use Rattle.coord_ledger.specs.promises.Headline.{is_crash}
@@ -23,6 +24,11 @@ disk_held h = disk_with h.ledger.disk h.flight
 -- whether it keeps the model
 abbrev pub model_of : {D : Type 0} → (D → Bool) → Held D → Option Bool
 model_of keeps_model h = option_map keeps_model (disk_held h)
+
+-- a ledger with the flight that was out of it taken back
+abbrev pub brought_home : {D : Type 0} → LedgerState D → Option (FlightState D) → LedgerState D
+brought_home l None = l
+brought_home l (Some f) = taken_back l (length f.steps) f.mark f.disk
 
 -- an event is followed on a disk that keeps the model; one that isn't a crash, on every disk
 abbrev pub IsPromised : Option Bool → Event → Type 0

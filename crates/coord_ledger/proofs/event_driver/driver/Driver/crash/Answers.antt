@@ -7,7 +7,7 @@ use Rattle.coord_ledger.specs.ledger.Driver.{model_of}
 use Rattle.coord_ledger.specs.ledger.Follows.{Follows, FollowsTo, Held, flight_out}
 use Rattle.coord_ledger.specs.machine.Answers.{kept_by}
 use Rattle.coord_ledger.specs.machine.Log.{settled_world}
-use Rattle.coord_ledger.proofs.Driving.{cut_before}
+use Rattle.coord_ledger.proofs.CutShort.{cut_before}
 use Rattle.coord_ledger.proofs.Following.{images_follow}
 use Rattle.coord_ledger.proofs.Meeting.{crash_fault, crash_promised, follows_reopened}
 use Rattle.coord_ledger.proofs.event_driver.driver.Driver.crash.Goals as goal

@@ -8,7 +8,7 @@ use Rattle.coord_ledger.specs.declared.events.Event.TheVariants.{Finish}
 use Rattle.coord_ledger.specs.ledger.Follows.{Follows, FollowsTo, Held, HoldsFlight}
 use Rattle.coord_ledger.specs.ledger.State.{FlightState, LedgerState}
 use Rattle.coord_ledger.proofs.Calling.{follows_returned}
-use Rattle.coord_ledger.proofs.Driving.{cut_within}
+use Rattle.coord_ledger.proofs.CutShort.{cut_within}
 use Rattle.coord_ledger.proofs.Running.{count_settled, err_gives, follows_unfinished, ok_gives}
 use Rattle.coord_ledger.proofs.event_driver.driver.Driver.finish.Goals as goal
 use Rattle.coord_ledger.proofs.event_driver.driver.Driver.finish.Goals.{in-Ok+else-is_err, in-Err}

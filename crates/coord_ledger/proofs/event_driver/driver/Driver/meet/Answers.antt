@@ -3,7 +3,7 @@ use Rattle.coord_ledger.specs.declared.events.Event.TheVariants.{Collect, Commit
 use Rattle.coord_ledger.specs.ledger.Driver.{model_of}
 use Rattle.coord_ledger.specs.ledger.Follows.{Held}
 use Rattle.coord_ledger.specs.promises.Headline.{IsCutShort}
-use Rattle.coord_ledger.proofs.Driving.{cut_before}
+use Rattle.coord_ledger.proofs.CutShort.{cut_before}
 use Rattle.coord_ledger.proofs.Meeting.{if_err_map, memory_fault, met, met_cut, on_err_map}
 use Rattle.coord_ledger.proofs.event_driver.driver.Driver.meet.Goals as goal
 use Rattle.coord_ledger.proofs.event_driver.driver.Driver.meet.Goals.{in-Submit, in-Commit, in-Collect, in-Resend, in-Show}
