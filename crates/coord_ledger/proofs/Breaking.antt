@@ -46,29 +46,33 @@ broke_behind start events given h drives =
 
 module _ {D : Type 0} (keeps_model : D → Bool) (start : LedgerState D) (events : List Event) (at : ℕ) (given : List Answer) (h : Held D) (way : Underway keeps_model start events at given h) (e : Event) (below : at < length events) (is : e ≡ get_or events at e) where
   -- an event was cut short
-  pub broke_meeting : (released : List Release) → ((s : Machine) → IsConsistent s → Follows h s → IsPromised (model_of keeps_model h) e → IsCutShort s e released) →
-      (before : D) → start.disk ≡ Some before → Promised (keeps_model before) events (Broke (started start) events at given released)
-  broke_meeting released cut before disk promised =
+  pub broke_meeting : (at2 : ℕ) (given2 : List Answer) (released : List Release) → at2 ≡ at → given2 ≡ given → ((s : Machine) → IsConsistent s → Follows h s → IsPromised (model_of keeps_model h) e → IsCutShort s e released) →
+      (before : D) → start.disk ≡ Some before → Promised (keeps_model before) events (Broke (started start) events at2 given2 released)
+  broke_meeting at2 given2 released here same cut before disk promised =
       let drives = way.drives before disk promised in
       let on = event_promised keeps_model start events at given h way e below is before disk promised in
-      broke_at start events at given h e released drives (event_there keeps_model start events at given h way e below is) (cut (run (started start) (take at events) given) drives.consistent drives.follows on)
+      let one = broke_at start events at given h e released drives (event_there keeps_model start events at given h way e below is) (cut (run (started start) (take at events) given) drives.consistent drives.follows on) in
+      subst (λ n. Broke (started start) events n given2 released) (sym here) (subst (λ l. Broke (started start) events at l released) (sym same) one)
 
   -- before it began
-  pub broke_before : (released : List Release) → released ≡ h.released → (before : D) → start.disk ≡ Some before → Promised (keeps_model before) events (Broke (started start) events at given released)
-  broke_before released same = broke_meeting released (λ s consistent follows on. subst (IsCutShort s e) (sym same) (cut_before h s e follows))
+  pub broke_before : (at2 : ℕ) (given2 : List Answer) (released : List Release) → at2 ≡ at → given2 ≡ given → released ≡ h.released →
+      (before : D) → start.disk ≡ Some before → Promised (keeps_model before) events (Broke (started start) events at2 given2 released)
+  broke_before at2 given2 released here same kept = broke_meeting at2 given2 released here same (λ s consistent follows on. subst (IsCutShort s e) (sym kept) (cut_before h s e follows))
 
-  pub caused : (kind : RunFaultKind) → IsEventFault (model_of keeps_model h) e kind → (before : D) → start.disk ≡ Some before → HasCause (keeps_model before) events at kind
-  caused OutOfMemory cause before disk = tt
-  caused (Store fault) cause before disk =
-      (event_there keeps_model start events at given h way e below is ∙ ap Some cause.0, λ on. cause.1 (model_there keeps_model start events at given h way e below is before disk ∙ ap Some on))
+  pub caused : (at2 : ℕ) (kind : RunFaultKind) → at2 ≡ at → IsEventFault (model_of keeps_model h) e kind → (before : D) → start.disk ≡ Some before → HasCause (keeps_model before) events at2 kind
+  caused at2 kind here cause before disk = subst (λ n. HasCause (keeps_model before) events n kind) (sym here) (by_kind kind cause)
+    where
+      by_kind : (k : RunFaultKind) → IsEventFault (model_of keeps_model h) e k → HasCause (keeps_model before) events at k
+      by_kind OutOfMemory cause = tt
+      by_kind (Store fault) cause =
+          (event_there keeps_model start events at given h way e below is ∙ ap Some cause.0, λ on. cause.1 (model_there keeps_model start events at given h way e below is before disk ∙ ap Some on))
 
 -- behind the last event
-pub broke_after : {D : Type 0} (keeps_model : D → Bool) (start : LedgerState D) (events : List Event) (given : List Answer) (h : Held D) (released : List Release) → Underway keeps_model start events (length events) given h → released ≡ h.released →
-    (before : D) → start.disk ≡ Some before → Promised (keeps_model before) events (Broke (started start) events (length events) given released)
-broke_after keeps_model start events given h released way same before disk promised =
+pub broke_after : {D : Type 0} (keeps_model : D → Bool) (start : LedgerState D) (events : List Event) (at at2 : ℕ) (given given2 : List Answer) (h : Held D) (released : List Release) → Underway keeps_model start events at given h → at ≡ length events → at2 ≡ length events → given2 ≡ given → released ≡ h.released →
+    (before : D) → start.disk ≡ Some before → Promised (keeps_model before) events (Broke (started start) events at2 given2 released)
+broke_after keeps_model start events at at2 given given2 h released way last here same kept before disk promised =
     let drives = way.drives before disk promised in
-    subst (Broke (started start) events (length events) given) (sym same) (broke_behind start events given h (subst (λ l. Drives start l given h) (take-length events) drives))
-
--- for want of memory
-pub memory_caused : (keeps_model : Bool) (events : List Event) (at : ℕ) (kind : RunFaultKind) → kind ≡ OutOfMemory → HasCause keeps_model events at kind
-memory_caused keeps_model events at kind is = subst (HasCause keeps_model events at) (sym is) tt
+    let all : take at events ≡ events = ap (λ n. take n events) last ∙ take-length events in
+    let one = broke_behind start events given h (subst (λ l. Drives start l given h) all drives) in
+    subst (λ n. Broke (started start) events n given2 released) (sym here)
+    (subst (λ l. Broke (started start) events (length events) l released) (sym same) (subst (Broke (started start) events (length events) given) (sym kept) one))

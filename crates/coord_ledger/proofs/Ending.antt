@@ -1,7 +1,8 @@
 -- The end of a run: the flight that was out has come back, and the headline holds.
 use Rattle.std.proofs.Common.{◌≡◌, ℕ, ◌++◌, Bool, true, List, Option, Some, None, refl, sym, ap, ◌∙◌, subst}
 use Rattle.std.specs.Option.{option_map}
-use Rattle.std.specs.Prelude.{IfSome, length}
+use Rattle.std.specs.Prelude.{IfSome, length, take}
+use Rattle.std.proofs.Math.Seq.{take-length}
 use Rattle.coord_disk.specs.Model.Present.{Present}
 use Rattle.coord_store.specs.Recovered.{Recovered}
 use Rattle.coord_ledger.specs.declared.events.Answer.{Answer}
@@ -19,8 +20,9 @@ use Rattle.coord_ledger.specs.machine.Consistent.{IsConsistent}
 use Rattle.coord_ledger.specs.machine.Log.{world_after}
 use Rattle.coord_ledger.specs.machine.Machine.{FlightOut, Machine}
 use Rattle.coord_ledger.specs.machine.Runs.{run}
-use Rattle.coord_ledger.specs.promises.Headline.{IsLeft, Ran, ended}
+use Rattle.coord_ledger.specs.promises.Headline.{IsLeft, Promised, Ran, ended}
 use Rattle.coord_ledger.proofs.Calling.{follows_returned, ledger_images}
+use Rattle.coord_ledger.proofs.Driving.{Underway}
 use Rattle.coord_ledger.proofs.Following.{images_follow}
 use Rattle.coord_ledger.proofs.Safe.{finish_keeps_kept, prefix_from_images}
 use Rattle.coord_ledger.proofs.Signals.{signals_once}
@@ -91,8 +93,8 @@ home_images : {D : Type 0} (l : LedgerState D) (s : Machine) (keeps_model : Bool
 home_images {D} l s keeps_model present is back images model image here =
     let t = ended s in
     let of_held : ImagesGive keeps_model present back.held.ledger.log (kept_by back.held.ledger.log.settled (option_map flight_out back.held.flight) back.held.ledger.doubt) =
-      subst (λ o. ImagesGive keeps_model present back.held.ledger.log (kept_by back.held.ledger.log.settled o back.held.ledger.doubt)) (sym (ap (option_map flight_out) back.home))
-      (subst (λ (m : LedgerState D). ImagesGive keeps_model present m.log (kept_by m.log.settled None m.doubt)) back.ledger images) in
+    subst (λ o. ImagesGive keeps_model present back.held.ledger.log (kept_by back.held.ledger.log.settled o back.held.ledger.doubt)) (sym (ap (option_map flight_out) back.home))
+    (subst (λ (m : LedgerState D). ImagesGive keeps_model present m.log (kept_by m.log.settled None m.doubt)) back.ledger images) in
     let one = images_follow back.held t keeps_model present back.follows of_held model image here in
     (one.0, (subst (IsOneOf one.0) (finish_keeps_kept s is) one.1.0, subst (Recovered image) (same_worlds s s.flight one.0) one.1.1))
 
@@ -115,3 +117,10 @@ ran_home {D} start events given h l released keeps_model present disk drives hom
       replied = told.truly;
       ledger = is_left l (ended s) back;
     }
+
+-- once all events were answered
+pub ran_all : {D : Type 0} (keeps_model : D → Bool) (start : LedgerState D) (events : List Event) (at : ℕ) (given : List Answer) (h : Held D) (Promise : Type 0) → Underway keeps_model start events at given h → at ≡ length events → (Drives start events given h → Promise) →
+    (before : D) → start.disk ≡ Some before → Promised (keeps_model before) events Promise
+ran_all keeps_model start events at given h Promise way last gives before disk promised =
+    let all : take at events ≡ events = ap (λ n. take n events) last ∙ take-length events in
+    gives (subst (λ l. Drives start l given h) all (way.drives before disk promised))

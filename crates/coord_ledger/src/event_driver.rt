@@ -26,7 +26,11 @@ use std::alloc::Global;
 /// whatever the disk may then hold gives the world after a prefix of the accepted steps, none
 /// skipped and none in part. That prefix holds every step whose reply, packet or signal had been
 /// released, and every link predicate holds in that world.
-pub fn run_events<D: CrashDisk>(alloc: Global, ledger: Ledger<D>, events: &[Event]) -> Result<(Trace, Ledger<D>), RunFault>
+pub fn run_events<D: CrashDisk>(
+    alloc: Global,
+    ledger: Ledger<D>,
+    events: &[Event],
+) -> Result<(Trace, Ledger<D>), RunFault>
     requires home { ledger.out ≡ None }
     requires going { ledger.doubt ≡ None }
 

@@ -20,6 +20,7 @@
 //! answers are known.
 #![tactic(auto)]
 
+mod event_driver;
 mod events;
 mod flight;
 pub mod laws;
@@ -27,7 +28,6 @@ mod ledger;
 mod mark;
 mod release;
 mod releases;
-mod event_driver;
 pub mod runs;
 mod seen;
 mod settling;
@@ -35,6 +35,7 @@ mod ticket;
 mod trace;
 mod view;
 
+pub use event_driver::run_events;
 pub use events::{Answer, Event};
 pub use flight::Flight;
 pub use ledger::Ledger;
@@ -43,6 +44,5 @@ pub use release::Release;
 pub use releases::Releases;
 pub use seen::Seen;
 pub use ticket::{Note, Ticket};
-pub use event_driver::run_events;
 pub use trace::{RunFault, RunFaultKind, Trace};
 pub use view::{LinkView, NodeView, View};

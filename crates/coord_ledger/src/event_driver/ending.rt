@@ -18,7 +18,10 @@ use coord_disk::CrashDisk;
 use std::alloc::AllocError;
 
 /// Takes back the flight that is out of a ledger. What it releases is lost.
-fn bring_home<D: CrashDisk>(mut ledger: Ledger<D>, flight: Option<Flight<D>>) -> Result<Ledger<D>, AllocError>
+fn bring_home<D: CrashDisk>(
+    mut ledger: Ledger<D>,
+    flight: Option<Flight<D>>,
+) -> Result<Ledger<D>, AllocError>
     ensures { IfOk result (λ home. home ≡ brought_home ledger flight) }
 {
     let Some(flight) = flight else {

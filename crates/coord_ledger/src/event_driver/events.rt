@@ -11,7 +11,7 @@ ghost use Rattle.coord_ledger.specs.promises.Headline.{IsCutShort};
 use super::driver::Driver;
 use super::flights::Broken;
 use super::released::forget_all;
-use crate::{Event, Answer, RunFaultKind};
+use crate::{Answer, Event, RunFaultKind};
 use coord_disk::CrashDisk;
 use std::alloc::Global;
 

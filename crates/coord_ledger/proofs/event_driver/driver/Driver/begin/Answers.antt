@@ -29,7 +29,7 @@ pub returns-clause-answered : goal.returns-clause-answered
 returns-clause-answered g c s is follows =
     let inside : Follows _ s = subst (λ (h : Held g.row.D.Denot). Follows h s) (sym c.self.view_is) follows in
     let empty : Follows (record { ledger = c.self.inside.ledger; flight = None; claims = c.self.inside.tickets.items; seen = c.self.inside.seen; released = c.self.inside.released.items }) s =
-      subst (λ o. Follows {D = g.row.D.Denot} (record { ledger = c.self.inside.ledger; flight = o; claims = c.self.inside.tickets.items; seen = c.self.inside.seen; released = c.self.inside.released.items }) s) c.in_default.is inside in
+    subst (λ o. Follows {D = g.row.D.Denot} (record { ledger = c.self.inside.ledger; flight = o; claims = c.self.inside.tickets.items; seen = c.self.inside.seen; released = c.self.inside.released.items }) s) c.in_default.is inside in
     elim c.match-begin_flush.branch [
       | in-Ok-Some w ↦
           let departs = begun_some c.self.inside.ledger c.begin_flush.new.self c.begin_flush.result c.begin_flush.ensures.nothing c.begin_flush.ensures.begun w.in-Ok-Some.flight (w.in-Ok-Some.is ∙ ap Ok w.in-Ok-Some.field-0-is) in

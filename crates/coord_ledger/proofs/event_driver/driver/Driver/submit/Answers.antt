@@ -31,12 +31,12 @@ returns-after-before-number-clause-answered g c s is follows =
           let low = w.if-before-number.true in
           subst (λ cs. FollowsTo s (Submit c.args.step) c.if-before-number.answer (record { ledger = c.submit.new.self; flight = c.self.inside.flight; claims = cs; seen = c.self.inside.seen; released = c.self.inside.released.items })) (sym items)
           (follows_submitted _ s is inside c.args.step c.in-Ok.ticket c.submit.new.self c.if-before-number.answer c.count-before.result before ranged c.in-Ok.ensures.fresh c.in-Ok.ensures.repeated (λ why judged. let other = c.in-Ok.ensures.refused why judged in cc)
-            (λ _. w.answer-is ∙ ap Accepted number) (λ le. absurd (omega (arith, low, le, number))))
+          (λ _. w.answer-is ∙ ap Accepted number) (λ le. absurd (omega (arith, low, le, number))))
       | else-before-number w ↦
           let high = w.if-before-number.false in
           subst (λ cs. FollowsTo s (Submit c.args.step) c.if-before-number.answer (record { ledger = c.submit.new.self; flight = c.self.inside.flight; claims = cs; seen = c.self.inside.seen; released = c.self.inside.released.items })) (sym items)
           (follows_submitted _ s is inside c.args.step c.in-Ok.ticket c.submit.new.self c.if-before-number.answer c.count-before.result before ranged c.in-Ok.ensures.fresh c.in-Ok.ensures.repeated (λ why judged. let other = c.in-Ok.ensures.refused why judged in cc)
-            (λ lt. absurd (omega (arith, high, lt, number))) (λ _. w.answer-is ∙ ap Repeated number))
+          (λ lt. absurd (omega (arith, high, lt, number))) (λ _. w.answer-is ∙ ap Repeated number))
     ]
 
 pub returns-in-Err-clause-answered : goal.returns-in-Err-clause-answered
