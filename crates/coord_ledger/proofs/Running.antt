@@ -32,7 +32,7 @@ use Rattle.coord_ledger.proofs.Following.{follows_accepted, follows_no_room, fol
 use Rattle.coord_ledger.proofs.Judging.{verdict_repeats}
 use Rattle.coord_ledger.proofs.Logs.{count_after, count_front, pending_with}
 use Rattle.coord_ledger.proofs.Calling.{next_is_out}
-use Rattle.coord_ledger.proofs.Consistent.{reply_is}
+use Rattle.coord_ledger.proofs.ConsistentSteps.{reply_is}
 
 -- ---- tickets by their index
 
