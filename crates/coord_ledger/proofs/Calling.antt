@@ -20,7 +20,8 @@ use Rattle.coord_ledger.specs.machine.Answers.{IsOneOf, kept, kept_by, most_in_f
 use Rattle.coord_ledger.specs.machine.Consistent.{IsConsistent}
 use Rattle.coord_ledger.specs.machine.Log.{pending, settled_count, world_after}
 use Rattle.coord_ledger.specs.machine.Machine.{Machine}
-use Rattle.coord_ledger.proofs.Following.{follows_begun, follows_good, follows_opened, follows_stopped, follows_unsettled}
+use Rattle.coord_ledger.proofs.FollowingCrashes.{follows_opened}
+use Rattle.coord_ledger.proofs.FollowingFlights.{follows_begun, follows_good, follows_stopped, follows_unsettled}
 use Rattle.coord_ledger.proofs.Logs.{world-add}
 
 -- ---- flights go out and come back

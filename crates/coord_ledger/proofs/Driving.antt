@@ -16,38 +16,6 @@ use Rattle.coord_ledger.specs.machine.Runs.{run}
 use Rattle.coord_ledger.specs.promises.Headline.{Promised, is_crash}
 use Rattle.coord_ledger.proofs.Consistent.{run_goes_on, stays_consistent}
 
--- ---- one event after the other
-
--- before the first event
-abbrev pub held_first : {D : Type 0} → LedgerState D → Held D
-held_first l = record { ledger = l; flight = None; claims = []; seen = 0; released = [] }
-
-drives_first : {D : Type 0} (l : LedgerState D) → IsConsistentLog l.log → l.doubt ≡ None → l.out ≡ None → Drives l [] [] (held_first l)
-drives_first l is going home =
-    let none : l.log.settled - 0 ≡ l.log.settled = omega arith in
-    record {
-      answered = tt;
-      consistent = record {
-        log = is;
-        flight = tt;
-        doubt = subst (DoubtFits l.log None) (sym going) tt;
-        seen = omega arith;
-        tickets = tt;
-        told = record { released_settled = tt; once = tt; again = tt; replied_settled = tt; truly = tt };
-      };
-      follows = record {
-        by = 0;
-        within = omega arith;
-        log = λ i. record { base = l.log.base; trail = l.log.trail; settled = sym none i };
-        doubt = refl;
-        flight = refl;
-        own = home;
-        tickets = tt;
-        seen = refl;
-        released = refl;
-      };
-    }
-
 -- one event more
 drives_on : {D : Type 0} (start : LedgerState D) (events : List Event) (given : List Answer) (h new : Held D) (e : Event) (a : Answer) → Drives start events given h → EventInRange e →
     FollowsTo (run (started start) events given) e a new → Drives start (events ++ e ∷ []) (given ++ a ∷ []) new
@@ -60,8 +28,6 @@ drives_on start events given h new e a drives named to =
       follows = subst (Follows new) (sym more.1) to.follows;
     }
 
--- ---- before each event
-
 -- what holds of all items holds of the one at this place
 all_at : {A : Type 0} (P : A → Type 0) (xs : List A) (i : ℕ) (x : A) → slice_get xs i ≡ Some x → AllByRecursion P xs → P x
 all_at P [] i x there all = let no : ⊥ = cc in absurd no
@@ -72,13 +38,6 @@ all_at P (y ∷ ys) (suc i) x there all = all_at P ys i x there all.1
 pub record Underway {D : Type 0} (keeps_model : D → Bool) (start : LedgerState D) (events : List Event) (at : ℕ) (given : List Answer) (h : Held D) : Type 0 where
   pub same_model : model_of keeps_model h ≡ option_map keeps_model start.disk
   pub drives : (before : D) → start.disk ≡ Some before → Promised (keeps_model before) events (Drives start (take at events) given h)
-
-pub underway_first : {D : Type 0} (keeps_model : D → Bool) (start : LedgerState D) (events : List Event) (given : List Answer) (h : Held D) → IsConsistentLog start.log → start.doubt ≡ None → start.out ≡ None → given ≡ [] → h ≡ held_first start →
-    Underway keeps_model start events 0 given h
-underway_first {D} keeps_model start events given h is going home none first =
-    subst (λ l. Underway keeps_model start events 0 l h) (sym none)
-    (subst (Underway keeps_model start events 0 []) (sym first)
-    (record { same_model = refl; drives = λ before disk promised. drives_first start is going home }))
 
 module _ {D : Type 0} (keeps_model : D → Bool) (start : LedgerState D) (events : List Event) (at : ℕ) (given : List Answer) (h : Held D) (way : Underway keeps_model start events at given h) (e : Event) (below : at < length events) (is : e ≡ get_or events at e) where
   pub event_there : slice_get events at ≡ Some e

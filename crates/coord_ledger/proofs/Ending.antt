@@ -23,7 +23,7 @@ use Rattle.coord_ledger.specs.machine.Runs.{run}
 use Rattle.coord_ledger.specs.promises.Headline.{IsLeft, Promised, Ran, ended}
 use Rattle.coord_ledger.proofs.Calling.{follows_returned, ledger_images}
 use Rattle.coord_ledger.proofs.Driving.{Underway}
-use Rattle.coord_ledger.proofs.Following.{images_follow}
+use Rattle.coord_ledger.proofs.FollowingCrashes.{images_follow}
 use Rattle.coord_ledger.proofs.Safe.{finish_keeps_kept, prefix_from_images}
 use Rattle.coord_ledger.proofs.Signals.{signals_once}
 

@@ -13,11 +13,17 @@ pub mod Moving
 pub mod Signals
 pub mod Granted
 pub mod Following
+pub mod FollowingSteps
+pub mod FollowingFlights
+pub mod FollowingTickets
+pub mod FollowingCrashes
 pub mod Calling
 pub mod CutShort
 pub mod Driving
 pub mod Ending
 pub mod Breaking
+pub mod RunningTickets
+pub mod RunningFlights
 pub mod Running
 pub mod Meeting
 mod WorkedRuns

@@ -1,7 +1,7 @@
 -- What a driver makes of each event follows the event machine.
-use Rattle.std.proofs.Common.{◌≡◌, ℕ, zero, suc, ◌+◌, ◌<◌, ◌≤◌, Bool, true, false, List, [], ◌∷◌, ◌++◌, length, min, take, Option, Some, None, Ok, Err, refl, sym, ap, ◌∙◌, subst, arith}
-use Rattle.std.specs.Prelude.{Result, MatchResult, OnErr, IfOk, is_err, IsSomeAnd, is_none, is_some, slice_set, slice_index_or}
-use Rattle.std.proofs.lemmas.List.{length-map, length-take, set-set, set-get_or, take-append-le}
+use Rattle.std.proofs.Common.{◌≡◌, ℕ, ◌+◌, ◌<◌, ◌≤◌, Bool, true, false, [], ◌∷◌, ◌++◌, length, Option, Some, None, Ok, Err, refl, sym, ap, ◌∙◌, subst, arith}
+use Rattle.std.specs.Prelude.{Result, MatchResult, OnErr, IfOk, is_err, is_none, is_some}
+use Rattle.std.proofs.lemmas.List.{length-map}
 use Rattle.coord_types.specs.declared.refusals.Refusal.{Refusal}
 use Rattle.coord_types.specs.declared.refusals.Refusal.TheVariants as why
 use Rattle.coord_types.specs.declared.refusals.Refusal.TheVariants.{OutOfMemory, Stopped}
@@ -10,7 +10,7 @@ use Rattle.coord_types.specs.declared.steps.Reply.{Reply}
 use Rattle.coord_types.specs.declared.steps.Step.{Step}
 use Rattle.coord_world.specs.declared.verdicts.Verdict.{Verdict}
 use Rattle.coord_world.specs.declared.verdicts.Verdict.TheVariants.{Fresh, Repeat}
-use Rattle.coord_world.specs.protocol.Next.{fold, reply}
+use Rattle.coord_world.specs.protocol.Next.{reply}
 use Rattle.coord_world.specs.protocol.NumberedWorld.{World}
 use Rattle.coord_world.specs.protocol.Outputs.{again}
 use Rattle.coord_world.specs.protocol.Ranges.{InRange, SessionInRange}
@@ -19,117 +19,26 @@ use Rattle.coord_ledger.specs.code.Holding.{disk_at, out_of}
 use Rattle.coord_ledger.specs.declared.events.Answer.{Answer}
 use Rattle.coord_ledger.specs.declared.events.Answer.TheVariants.{Accepted, Repeated, Refused, Shown}
 use Rattle.coord_ledger.specs.declared.events.Event.TheVariants.{Finish, Submit, Show}
-use Rattle.coord_ledger.specs.ledger.Calls.{RefusesFlight, claimed, keeps_store, next_flight, said, with_accepted, with_out}
-use Rattle.coord_ledger.specs.ledger.Follows.{Follows, FollowsTo, Held, HoldsFlight, IsOut}
+use Rattle.coord_ledger.specs.ledger.Calls.{RefusesFlight, claimed, said, with_accepted}
+use Rattle.coord_ledger.specs.ledger.Follows.{Follows, FollowsTo, Held, HoldsFlight}
 use Rattle.coord_ledger.specs.ledger.State.{Claim, FlightState, LedgerState}
-use Rattle.coord_ledger.specs.machine.After.{release_of, resent, spent}
-use Rattle.coord_ledger.specs.machine.Answers.{most_in_flight, ticket}
+use Rattle.coord_ledger.specs.machine.After.{release_of, resent}
+use Rattle.coord_ledger.specs.machine.Answers.{ticket}
 use Rattle.coord_ledger.specs.machine.Consistent.{IsConsistent, IsConsistentLog}
-use Rattle.coord_ledger.specs.machine.Log.{Log, accepted_count, front_world, pending, settled_count, settled_world}
+use Rattle.coord_ledger.specs.machine.Log.{Log, accepted_count, front_world, settled_count, settled_world}
 use Rattle.coord_ledger.specs.machine.Machine.{Machine}
 use Rattle.coord_ledger.specs.machine.Shown as view
-use Rattle.coord_ledger.proofs.Following.{follows_accepted, follows_no_room, follows_not_finished, follows_not_shown, follows_refused, follows_repeated, follows_shown, follows_unshown, never_behind}
+use Rattle.coord_ledger.proofs.FollowingFlights.{follows_not_finished}
+use Rattle.coord_ledger.proofs.FollowingSteps.{follows_accepted, follows_no_room, follows_refused, follows_repeated}
+use Rattle.coord_ledger.proofs.FollowingTickets.{follows_not_shown, follows_shown, follows_unshown, never_behind}
 use Rattle.coord_ledger.proofs.Judging.{verdict_repeats}
-use Rattle.coord_ledger.proofs.Logs.{count_after, count_front, pending_with}
-use Rattle.coord_ledger.proofs.Calling.{next_is_out}
+use Rattle.coord_ledger.proofs.Logs.{count_after, count_front}
 use Rattle.coord_ledger.proofs.ConsistentSteps.{reply_is}
-
--- ---- tickets by their index
-
-pub ticket_past : {A : Type 0} (ts : List (Option A)) (i : ℕ) → length ts ≤ i → ticket ts i ≡ None
-ticket_past [] i past = refl
-ticket_past (t ∷ ts) zero past = absurd (omega (arith, past))
-ticket_past (t ∷ ts) (suc i) past = ticket_past ts i (omega (arith, past))
-
-pub ticket_within : {A : Type 0} (ts : List (Option A)) (i : ℕ) (t : Option A) → i < length ts → t ≡ slice_index_or ts i t → ticket ts i ≡ t
-ticket_within [] i t below is = absurd (omega (arith, below))
-ticket_within (x ∷ ts) zero t below is = sym is
-ticket_within (x ∷ ts) (suc i) t below is = ticket_within ts i t (omega (arith, below)) is
-
-pub spent_is : {A : Type 0} (ts : List (Option A)) (i : ℕ) → slice_set ts i None ≡ spent ts i
-spent_is [] i = refl
-spent_is (t ∷ ts) zero = refl
-spent_is (t ∷ ts) (suc i) = ap (λ l. t ∷ l) (spent_is ts i)
-
--- an element that is set to what it was
-pub set_same : {A : Type 0} (ts : List A) (i : ℕ) (t : A) → t ≡ slice_index_or ts i t → slice_set ts i t ≡ ts
-set_same ts i t is = ap (slice_set ts i) is ∙ set-get_or ts i t
-
--- an element that was taken out and put back
-pub put_back : {A : Type 0} (ts : List A) (i : ℕ) (t other back : A) → t ≡ slice_index_or ts i t → back ≡ t → slice_set (slice_set ts i other) i back ≡ ts
-put_back ts i t other back is same = set-set ts i other back ∙ ap (slice_set ts i) same ∙ set_same ts i t is
 
 -- what a show is answered
 abbrev pub shown_as : Result view.Shown Refusal → Answer
 shown_as (Ok v) = Shown v
 shown_as (Err e) = Refused e
-
--- ---- what a ledger's calls leave of its flight and its disk
-
--- a flight that is out stays the ledger's own while a step is accepted
-own_later : {D : Type 0} (l : LedgerState D) (x : Step) (f : Option (FlightState D)) → IsConsistentLog l.log → HoldsFlight l f → HoldsFlight (with_accepted l x) f
-own_later l x None is none = none
-own_later l x (Some f) is own =
-    let size : length f.steps ≡ min (length f.steps) (length (pending l.log)) = ap length own.steps ∙ length-take (length f.steps) (pending l.log) in
-    let le : length f.steps ≤ length (pending l.log) = grind (arith, size) in
-    record {
-      size = own.size;
-      first = own.first;
-      steps = own.steps ∙ sym (ap (take (length f.steps)) (pending_with l.log x is) ∙ take-append-le (length f.steps) (pending l.log) (x ∷ []) le);
-      world = own.world ∙ ap (fold l.log.base) (sym (take-append-le l.log.settled l.log.trail (x ∷ []) is.within));
-    }
-
--- a step that was given a ticket leaves the flight and the disk
-pub record Submitted {D : Type 0} (l new : LedgerState D) (f : Option (FlightState D)) : Type 0 where
-  pub own : HoldsFlight new f
-  pub disk : new.disk ≡ l.disk
-
-pub submitted : {D : Type 0} (l new : LedgerState D) (f : Option (FlightState D)) (x : Step) (claim : Claim) → IsConsistentLog l.log → HoldsFlight l f →
-    ((k : Kind) → said l x ≡ Ok (Fresh k) → (claim ≡ claimed x (reply (front_world l.log) x)) × (new ≡ with_accepted l x)) →
-    ((kept : Reply) → said l x ≡ Ok (Repeat kept) → (claim ≡ claimed x kept) × (new ≡ l)) →
-    ((why : Refusal) → said l x ≡ Err why → ⊥) → Submitted l new f
-submitted {D} l new f x claim is own fresh repeated never = by_verdict (said l x) refl
-  where
-    by_verdict : (v : Result Verdict Refusal) → said l x ≡ v → Submitted l new f
-    by_verdict (Ok (Fresh k)) judged =
-        let now = (fresh k judged).1 in
-        record { own = subst (λ n. HoldsFlight n f) (sym now) (own_later l x f is own); disk = ap (λ (n : LedgerState D). n.disk) now }
-    by_verdict (Ok (Repeat r)) judged =
-        let now = (repeated r judged).1 in
-        record { own = subst (λ n. HoldsFlight n f) (sym now) own; disk = ap (λ (n : LedgerState D). n.disk) now }
-    by_verdict (Err e) judged = absurd (never e judged)
-
--- a flight goes out exactly where the store leaves home
-abbrev pub Departs : {D : Type 0} → LedgerState D → LedgerState D → FlightState D → Type 0
-Departs l left f = (f ≡ next_flight l.log f.disk) × (l.disk ≡ Some f.disk) × (left ≡ with_out l (length f.steps))
-
-pub departs_own : {D : Type 0} (l left : LedgerState D) (f : FlightState D) → Departs l left f → IsOut left f
-departs_own l left f departs =
-    let steps : f.steps ≡ take most_in_flight (pending l.log) = ap (λ (g : FlightState _). g.steps) departs.0 in
-    let same : left ≡ with_out l (length (take most_in_flight (pending l.log))) = departs.2 ∙ ap (λ k. with_out l (length k)) steps in
-    subst (λ m. IsOut m f) (sym same) (subst (IsOut (with_out l (length (take most_in_flight (pending l.log))))) (sym departs.0) (next_is_out l f.disk))
-
-module _ {D E : Type 0} (l left : LedgerState D) (r : Result (Option (FlightState D)) E) (nothing : keeps_store l ≡ true → (r ≡ Ok None) × (left ≡ l)) (begun : keeps_store l ≡ false → IfOk r (λ o. IsSomeAnd o (Departs l left))) where
-  pub begun_some : (f : FlightState D) → r ≡ Ok (Some f) → (keeps_store l ≡ false) × Departs l left f
-  begun_some f is = by_home (keeps_store l) refl
-    where
-      by_home : (b : Bool) → keeps_store l ≡ b → (keeps_store l ≡ false) × Departs l left f
-      by_home true stays = let none = (nothing stays).0 in let no : ⊥ = cc in absurd no
-      by_home false goes = (goes, subst (λ q. IfOk q (λ o. IsSomeAnd o (Departs l left))) is (begun goes))
-
-  pub begun_none : r ≡ Ok None → (keeps_store l ≡ true) × (left ≡ l)
-  begun_none is = by_home (keeps_store l) refl
-    where
-      by_home : (b : Bool) → keeps_store l ≡ b → (keeps_store l ≡ true) × (left ≡ l)
-      by_home true stays = (stays, (nothing stays).1)
-      by_home false goes = absurd (subst (λ q. IfOk q (λ o. IsSomeAnd o (Departs l left))) is (begun goes))
-
-  pub begun_err : (e : E) → r ≡ Err e → keeps_store l ≡ false
-  begun_err e is = by_home (keeps_store l) refl
-    where
-      by_home : (b : Bool) → keeps_store l ≡ b → keeps_store l ≡ false
-      by_home true stays = let none = (nothing stays).0 in let no : ⊥ = cc in absurd no
-      by_home false goes = goes
 
 module _ {D : Type 0} (h : Held D) (s : Machine) (is : IsConsistent s) (follows : Follows h s) where
   -- ---- submit

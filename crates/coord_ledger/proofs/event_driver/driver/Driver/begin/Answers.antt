@@ -6,8 +6,8 @@ use Rattle.coord_ledger.specs.declared.events.Event.TheVariants.{Begin}
 use Rattle.coord_ledger.specs.ledger.Follows.{Follows, FollowsTo, Held, HoldsFlight}
 use Rattle.coord_ledger.specs.ledger.State.{FlightState, LedgerState}
 use Rattle.coord_ledger.proofs.Calling.{follows_next}
-use Rattle.coord_ledger.proofs.Following.{follows_not_begun, follows_nothing}
-use Rattle.coord_ledger.proofs.Running.{begun_err, begun_none, begun_some, departs_own}
+use Rattle.coord_ledger.proofs.FollowingFlights.{follows_not_begun, follows_nothing}
+use Rattle.coord_ledger.proofs.RunningFlights.{begun_err, begun_none, begun_some, departs_own}
 use Rattle.coord_ledger.proofs.event_driver.driver.Driver.begin.Goals as goal
 use Rattle.coord_ledger.proofs.event_driver.driver.Driver.begin.Goals.{in-Ok-Some, in-Ok-None, in-Err}
 

@@ -8,7 +8,7 @@ use Rattle.coord_ledger.specs.ledger.Follows.{Follows, FollowsTo, Held, flight_o
 use Rattle.coord_ledger.specs.machine.Answers.{kept_by}
 use Rattle.coord_ledger.specs.machine.Log.{settled_world}
 use Rattle.coord_ledger.proofs.CutShort.{cut_before}
-use Rattle.coord_ledger.proofs.Following.{images_follow}
+use Rattle.coord_ledger.proofs.FollowingCrashes.{images_follow}
 use Rattle.coord_ledger.proofs.Meeting.{crash_fault, crash_promised, follows_reopened}
 use Rattle.coord_ledger.proofs.event_driver.driver.Driver.crash.Goals as goal
 

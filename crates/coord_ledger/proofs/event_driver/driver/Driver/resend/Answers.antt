@@ -5,7 +5,7 @@ use Rattle.coord_ledger.specs.declared.events.Event.TheVariants.{Resend}
 use Rattle.coord_ledger.specs.ledger.Follows.{Follows, FollowsTo, Held}
 use Rattle.coord_ledger.specs.machine.Log.{settled_world}
 use Rattle.coord_ledger.proofs.CutShort.{cut_within}
-use Rattle.coord_ledger.proofs.Following.{follows_resent}
+use Rattle.coord_ledger.proofs.FollowingTickets.{follows_resent}
 use Rattle.coord_ledger.proofs.Running.{on_err, resent_count}
 use Rattle.coord_ledger.proofs.event_driver.driver.Driver.resend.Goals as goal
 

@@ -6,7 +6,8 @@ use Rattle.coord_ledger.specs.declared.events.Answer.TheVariants.{Accepted, Refu
 use Rattle.coord_ledger.specs.declared.events.Event.TheVariants.{Submit}
 use Rattle.coord_ledger.specs.ledger.Driver.{disk_with, model_of}
 use Rattle.coord_ledger.specs.ledger.Follows.{Follows, FollowsTo, Held}
-use Rattle.coord_ledger.proofs.Running.{follows_submitted, follows_unsubmitted, submitted}
+use Rattle.coord_ledger.proofs.Running.{follows_submitted, follows_unsubmitted}
+use Rattle.coord_ledger.proofs.RunningFlights.{submitted}
 use Rattle.coord_ledger.proofs.event_driver.driver.Driver.submit.Goals as goal
 use Rattle.coord_ledger.proofs.event_driver.driver.Driver.submit.Goals.{then-before-number, else-before-number}
 
