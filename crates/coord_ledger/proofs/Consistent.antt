@@ -3,7 +3,6 @@ use Rattle.std.proofs.Common.{[], ◌∷◌, refl, arith}
 use Rattle.std.specs.List.{AllByRecursion}
 use Rattle.std.proofs.lemmas.List.Elements.{All-nil}
 use Rattle.coord_world.specs.protocol.InTurn.{InTurn}
-use Rattle.coord_world.specs.protocol.Outputs.{again}
 use Rattle.coord_world.specs.protocol.Ranges.{StepInRange}
 use Rattle.coord_ledger.specs.declared.events.Event.{Event}
 use Rattle.coord_ledger.specs.declared.events.Event.TheVariants.{Submit, Begin, Commit, Finish, Collect, Resend, Show, Crash}

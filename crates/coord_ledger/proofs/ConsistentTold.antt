@@ -10,7 +10,7 @@ use Rattle.coord_types.specs.declared.steps.Reply.{Reply}
 use Rattle.coord_types.specs.declared.steps.Step.{Step}
 use Rattle.coord_world.proofs.Facade.{released_grows, resend_law}
 use Rattle.coord_world.specs.laws.Release.{IsReleased}
-use Rattle.coord_world.specs.protocol.Next.{fold, next, reply}
+use Rattle.coord_world.specs.protocol.Next.{fold, next}
 use Rattle.coord_world.specs.protocol.NumberedWorld.{World}
 use Rattle.coord_world.specs.protocol.Outputs.{again, outputs, outs}
 use Rattle.coord_ledger.specs.declared.release.Release.{Release}

@@ -1,5 +1,5 @@
 -- A run of events, from its first to its last: what a driver keeps before each event.
-use Rattle.std.proofs.Common.{◌≡◌, ◌⊎◌, ℕ, ◌+◌, ◌-◌, ◌<◌, Bool, true, false, List, [], ◌∷◌, ◌++◌, length, take, get_or, zero, suc, Some, None, refl, sym, ap, ◌∙◌, subst, arith, inl, inr}
+use Rattle.std.proofs.Common.{◌≡◌, ◌⊎◌, ℕ, ◌+◌, ◌<◌, Bool, true, false, List, [], ◌∷◌, ◌++◌, length, take, get_or, zero, suc, Some, refl, sym, ap, ◌∙◌, subst, inl, inr}
 use Rattle.std.specs.List.{AllByRecursion}
 use Rattle.std.specs.Option.{option_map}
 use Rattle.std.specs.Prelude.{slice_get}
@@ -10,7 +10,7 @@ use Rattle.coord_ledger.specs.declared.events.Event.{Event}
 use Rattle.coord_ledger.specs.ledger.Driver.{IsPromised, model_of}
 use Rattle.coord_ledger.specs.ledger.Follows.{Drives, Follows, FollowsTo, Held}
 use Rattle.coord_ledger.specs.ledger.State.{LedgerState, started}
-use Rattle.coord_ledger.specs.machine.Consistent.{DoubtFits, EventInRange, IsConsistent, IsConsistentLog}
+use Rattle.coord_ledger.specs.machine.Consistent.{EventInRange, IsConsistent}
 use Rattle.coord_ledger.specs.machine.Machine.{Machine}
 use Rattle.coord_ledger.specs.machine.Runs.{run}
 use Rattle.coord_ledger.specs.promises.Headline.{Promised, is_crash}

@@ -13,7 +13,7 @@ use Rattle.coord_ledger.specs.declared.mark.Mark.TheVariants.{New, Good, Torn}
 use Rattle.coord_ledger.specs.declared.release.Release.{Release}
 use Rattle.coord_ledger.specs.ledger.Follows.{Follows, FollowsTo, Held, ImagesGive, flight_out}
 use Rattle.coord_ledger.specs.ledger.State.{ledger_over}
-use Rattle.coord_ledger.specs.machine.After.{after, crashed}
+use Rattle.coord_ledger.specs.machine.After.{crashed}
 use Rattle.coord_ledger.specs.machine.Answers.{IsOneOf, answers, kept, kept_by, kept_with}
 use Rattle.coord_ledger.specs.machine.Consistent.{IsConsistent}
 use Rattle.coord_ledger.specs.machine.Log.{Log, cut_to, log_over, moved, world_after}

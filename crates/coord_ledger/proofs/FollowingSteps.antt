@@ -15,7 +15,7 @@ use Rattle.coord_ledger.specs.ledger.Calls.{with_accepted}
 use Rattle.coord_ledger.specs.ledger.Follows.{Follows, FollowsTo, Held, HoldsFlight, HoldsTickets}
 use Rattle.coord_ledger.specs.ledger.State.{FlightState, LedgerState}
 use Rattle.coord_ledger.specs.machine.After.{after_submit}
-use Rattle.coord_ledger.specs.machine.Answers.{IsOneOf, ticket, to_submit, verdict_on}
+use Rattle.coord_ledger.specs.machine.Answers.{IsOneOf, to_submit, verdict_on}
 use Rattle.coord_ledger.specs.machine.Consistent.{IsConsistent, IsConsistentLog}
 use Rattle.coord_ledger.specs.machine.Log.{Log, accepted_count, pending, with_step}
 use Rattle.coord_ledger.specs.machine.Machine.{Machine}

@@ -23,7 +23,6 @@ use Rattle.coord_ledger.specs.ledger.Calls.{RefusesFlight, claimed, said, with_a
 use Rattle.coord_ledger.specs.ledger.Follows.{Follows, FollowsTo, Held, HoldsFlight}
 use Rattle.coord_ledger.specs.ledger.State.{Claim, FlightState, LedgerState}
 use Rattle.coord_ledger.specs.machine.After.{release_of, resent}
-use Rattle.coord_ledger.specs.machine.Answers.{ticket}
 use Rattle.coord_ledger.specs.machine.Consistent.{IsConsistent, IsConsistentLog}
 use Rattle.coord_ledger.specs.machine.Log.{Log, accepted_count, front_world, settled_count, settled_world}
 use Rattle.coord_ledger.specs.machine.Machine.{Machine}

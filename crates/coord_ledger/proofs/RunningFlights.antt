@@ -11,7 +11,7 @@ use Rattle.coord_world.specs.protocol.Next.{reply}
 use Rattle.coord_ledger.specs.ledger.Calls.{claimed, keeps_store, next_flight, said, with_accepted, with_out}
 use Rattle.coord_ledger.specs.ledger.Follows.{HoldsFlight, IsOut}
 use Rattle.coord_ledger.specs.ledger.State.{Claim, FlightState, LedgerState}
-use Rattle.coord_ledger.specs.machine.Answers.{most_in_flight, ticket}
+use Rattle.coord_ledger.specs.machine.Answers.{most_in_flight}
 use Rattle.coord_ledger.specs.machine.Consistent.{IsConsistentLog}
 use Rattle.coord_ledger.specs.machine.Log.{front_world, pending}
 use Rattle.coord_ledger.proofs.FollowingSteps.{own_later}

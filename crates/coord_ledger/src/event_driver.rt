@@ -26,6 +26,10 @@ use std::alloc::Global;
 /// whatever the disk may then hold gives the world after a prefix of the accepted steps, none
 /// skipped and none in part. That prefix holds every step whose reply, packet or signal had been
 /// released, and every link predicate holds in that world.
+///
+/// A run that is stopped after one of its events is a shorter run. Inside an event only a commit and
+/// the opening after a crash touch the disk: `Flight::commit` and `Store::open` say of each of their
+/// moments what a crash may then leave.
 pub fn run_events<D: CrashDisk>(
     alloc: Global,
     ledger: Ledger<D>,

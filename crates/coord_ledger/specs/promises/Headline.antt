@@ -5,8 +5,9 @@
 -- packet or signal had been released; and every link predicate holds in that world.
 --
 -- A run is a list of events with its answers. `Survives` is the sentence for one image of the disk, `CrashPrefix` for
--- all of them, and `Ran` has it beside what else a run promises: that the answers are the event machine's, and that
--- what was released and collected is true of the steps that are kept.
+-- all of them, and `Ran` has it beside what else a run promises: that the answers are the event machine's, that what
+-- was released and collected is true of the steps that are kept, and which ledger is left. `Broke` and `HasCause` are
+-- what is promised of a run that ends early: what was answered and released until then, and why.
 use Rattle.std.specs.Prelude.{◌≡◌, ◌⊎◌, ℕ, ◌≤◌, ◌==◌, ◌&&◌, Bool, true, false, List, ◌++◌, map, length, take, slice_get, count_by, Some, None}
 use Rattle.std.specs.List.{AllByRecursion}
 use Rattle.coord_disk.specs.Model.Present.{Present, IsImage}
