@@ -26,7 +26,7 @@ use Rattle.coord_ledger.proofs.Logs.{world-add}
 -- ---- flights go out and come back
 
 -- the flight that goes out next is the ledger's own
-next_is_out : {D : Type 0} (l : LedgerState D) (disk : D) → IsOut (with_out l (length (take most_in_flight (pending l.log)))) (next_flight l.log disk)
+pub next_is_out : {D : Type 0} (l : LedgerState D) (disk : D) → IsOut (with_out l (length (take most_in_flight (pending l.log)))) (next_flight l.log disk)
 next_is_out l disk = record { size = refl; first = refl; steps = taken_twice most_in_flight (pending l.log); world = refl }
   where
     taken_twice : {A : Type 0} (n : ℕ) (xs : List A) → take n xs ≡ take (length (take n xs)) xs

@@ -10,8 +10,13 @@ pub mod Moving
 pub mod Signals
 pub mod Granted
 pub mod Following
-pub mod Driving
 pub mod Calling
+pub mod CutShort
+pub mod Driving
+pub mod Ending
+pub mod Breaking
+pub mod Running
+pub mod Meeting
 mod WorkedRuns
 pub mod Collecting
 pub mod Holding

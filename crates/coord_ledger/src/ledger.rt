@@ -1,10 +1,11 @@
 //! The ledger: a base world, the steps that were accepted since, how many of them are settled, and
 //! the store, at home or out with a flight.
 
-ghost use Rattle.std.specs.Prelude.{◌≡◌, ◌^◌, ◌≤◌, false, true, is_some, None, Some, IfErr, IfOk, IfSome};
+ghost use Rattle.std.specs.Prelude.{◌≡◌, ◌^◌, ◌≤◌, false, true, is_none, is_some, None, Some, IfErr, IfOk, IfSome};
 ghost use Rattle.coord_store.specs.Kept.{has_stopped};
 ghost use Rattle.coord_types.specs.Table.{get};
 ghost use Rattle.coord_world.specs.protocol.Acceptance.{last_number};
+ghost use Rattle.coord_ledger.specs.machine.Consistent.{IsConsistentLog};
 ghost use Rattle.coord_ledger.specs.machine.Log.{accepted_count, front_world, settled_count, settled_world};
 
 mod collecting;
@@ -167,6 +168,14 @@ impl<D: Disk> Ledger<D> {
             Some(store) => Ok(store),
             None => unreachable!(),
         }
+    }
+
+    /// Does nothing: its contract is what the type keeps of every ledger's log and store.
+    pub fn log_is_consistent(&self)
+        ensures log { IsConsistentLog self.now.log }
+        ensures home { is_some self.now.out ≡ is_none self.now.disk }
+    {
+        let _ = &self.store;
     }
 
     /// Does nothing: its contract is what the type keeps of every ledger.

@@ -20,6 +20,7 @@
 //! answers are known.
 #![tactic(auto)]
 
+mod event_driver;
 mod events;
 mod flight;
 pub mod laws;
@@ -34,6 +35,7 @@ mod ticket;
 mod trace;
 mod view;
 
+pub use event_driver::run_events;
 pub use events::{Answer, Event};
 pub use flight::Flight;
 pub use ledger::Ledger;
