@@ -33,7 +33,7 @@ use Rattle.coord_ledger.specs.machine.Log.{Log, accepted_count, cut_to, log_over
 use Rattle.coord_ledger.specs.machine.Machine.{FlightOut, Machine, has_stopped}
 use Rattle.coord_ledger.specs.machine.Shown.{shown}
 use Rattle.coord_ledger.specs.machine.Submits.{verdict}
-use Rattle.coord_ledger.proofs.Consistent.{kept_more}
+use Rattle.coord_ledger.proofs.ConsistentFlights.{kept_more}
 use Rattle.coord_ledger.proofs.Granted.{granted_later, granted_new, granted_repeat, granted_settled, holds_at, holds_later, holds_push, holds_spent}
 use Rattle.coord_ledger.proofs.Logs.{count_after, moved_accepted, moved_count, moved_is_consistent, moved_pending, moved_settled, none_behind, pending_with, world-add}
 use Rattle.coord_ledger.proofs.Moving.{moved_more, moved_step, moved_verdict}

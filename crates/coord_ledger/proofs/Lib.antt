@@ -3,6 +3,9 @@ pub mod Judging
 pub mod Logs
 pub mod Released
 pub mod Replies
+pub mod ConsistentTold
+pub mod ConsistentSteps
+pub mod ConsistentFlights
 pub mod Consistent
 pub mod Steady
 pub mod Safe

@@ -1,9 +1,7 @@
 -- What a driver makes of any event, and of a crash.
 use Rattle.std.proofs.Common.{◌≡◌, ℕ, Bool, true, false, List, [], Option, Some, None, Ok, Err, refl, sym, ap, ◌∙◌, subst, inl, inr}
 use Rattle.std.specs.Prelude.{IfErr, IfOk, OnErr, Result}
-use Rattle.coord_disk.specs.Model.Present.{Present, IsImage}
-use Rattle.coord_store.specs.Recovered.{Recovered}
-use Rattle.coord_world.specs.protocol.NumberedWorld.{World}
+use Rattle.coord_disk.specs.Model.Present.{Present}
 use Rattle.coord_ledger.specs.declared.events.Answer.{Answer}
 use Rattle.coord_ledger.specs.declared.events.Answer.TheVariants.{Opened}
 use Rattle.coord_ledger.specs.declared.events.Event.{Event}
@@ -12,7 +10,7 @@ use Rattle.coord_ledger.specs.declared.release.Release.{Release}
 use Rattle.coord_ledger.specs.declared.trace.RunFaultKind.{RunFaultKind}
 use Rattle.coord_ledger.specs.declared.trace.RunFaultKind.TheVariants.{OutOfMemory, Store}
 use Rattle.coord_ledger.specs.ledger.Driver.{IsEventFault, IsPromised, IsReopenFault, IsReopened}
-use Rattle.coord_ledger.specs.ledger.Follows.{Follows, FollowsTo, Held, ImagesGive}
+use Rattle.coord_ledger.specs.ledger.Follows.{FollowsTo, Held, ImagesGive}
 use Rattle.coord_ledger.specs.ledger.State.{LedgerState}
 use Rattle.coord_ledger.specs.machine.Answers.{kept}
 use Rattle.coord_ledger.specs.machine.Consistent.{IsConsistent}

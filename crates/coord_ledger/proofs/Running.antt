@@ -1,5 +1,5 @@
 -- What a driver makes of each event follows the event machine.
-use Rattle.std.proofs.Common.{◌≡◌, ◌⊎◌, ℕ, zero, suc, ◌+◌, ◌<◌, ◌≤◌, Bool, true, false, List, [], ◌∷◌, ◌++◌, map, length, min, take, Option, Some, None, Ok, Err, refl, sym, ap, ◌∙◌, subst, arith, inl, inr}
+use Rattle.std.proofs.Common.{◌≡◌, ℕ, zero, suc, ◌+◌, ◌<◌, ◌≤◌, Bool, true, false, List, [], ◌∷◌, ◌++◌, length, min, take, Option, Some, None, Ok, Err, refl, sym, ap, ◌∙◌, subst, arith}
 use Rattle.std.specs.Prelude.{Result, MatchResult, OnErr, IfOk, is_err, IsSomeAnd, is_none, is_some, slice_set, slice_index_or}
 use Rattle.std.proofs.lemmas.List.{length-map, length-take, set-set, set-get_or, take-append-le}
 use Rattle.coord_types.specs.declared.refusals.Refusal.{Refusal}
@@ -7,7 +7,6 @@ use Rattle.coord_types.specs.declared.refusals.Refusal.TheVariants as why
 use Rattle.coord_types.specs.declared.refusals.Refusal.TheVariants.{OutOfMemory, Stopped}
 use Rattle.coord_types.specs.declared.steps.Kind.{Kind}
 use Rattle.coord_types.specs.declared.steps.Reply.{Reply}
-use Rattle.coord_types.specs.declared.steps.Session.{Session}
 use Rattle.coord_types.specs.declared.steps.Step.{Step}
 use Rattle.coord_world.specs.declared.verdicts.Verdict.{Verdict}
 use Rattle.coord_world.specs.declared.verdicts.Verdict.TheVariants.{Fresh, Repeat}
@@ -20,7 +19,6 @@ use Rattle.coord_ledger.specs.code.Holding.{disk_at, out_of}
 use Rattle.coord_ledger.specs.declared.events.Answer.{Answer}
 use Rattle.coord_ledger.specs.declared.events.Answer.TheVariants.{Accepted, Repeated, Refused, Shown}
 use Rattle.coord_ledger.specs.declared.events.Event.TheVariants.{Finish, Submit, Show}
-use Rattle.coord_ledger.specs.declared.release.Release.{Release}
 use Rattle.coord_ledger.specs.ledger.Calls.{RefusesFlight, claimed, keeps_store, next_flight, said, with_accepted, with_out}
 use Rattle.coord_ledger.specs.ledger.Follows.{Follows, FollowsTo, Held, HoldsFlight, IsOut}
 use Rattle.coord_ledger.specs.ledger.State.{Claim, FlightState, LedgerState}
@@ -34,7 +32,7 @@ use Rattle.coord_ledger.proofs.Following.{follows_accepted, follows_no_room, fol
 use Rattle.coord_ledger.proofs.Judging.{verdict_repeats}
 use Rattle.coord_ledger.proofs.Logs.{count_after, count_front, pending_with}
 use Rattle.coord_ledger.proofs.Calling.{next_is_out}
-use Rattle.coord_ledger.proofs.Consistent.{reply_is}
+use Rattle.coord_ledger.proofs.ConsistentSteps.{reply_is}
 
 -- ---- tickets by their index
 

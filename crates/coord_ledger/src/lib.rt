@@ -16,6 +16,9 @@
 //! Contracts see `LedgerState`, `FlightState` and a `Claim` (`specs/ledger/State.antt`), and what
 //! each call makes of them (`specs/ledger/Calls.antt`).
 //!
+//! [`run_events`] runs a list of events in one thread, with crashes in between: the main theorem is
+//! its contract. `specs/ledger/Follows.antt` has what it keeps from one event to the next.
+//!
 //! [`laws`] proves of the machine what the main theorem stands on, and [`runs`] has runs whose
 //! answers are known.
 #![tactic(auto)]

@@ -1,4 +1,4 @@
-use Rattle.std.proofs.Common.{◌≡◌, ◌+◌, ◌++◌, ◌∷◌, [], length, refl, sym, ap, ◌∙◌, subst, arith}
+use Rattle.std.proofs.Common.{◌≡◌, ◌+◌, ◌++◌, ◌∷◌, [], length, sym, ap, ◌∙◌, subst, arith}
 use Rattle.coord_ledger.specs.ledger.Driver.{IsEventFault, model_of}
 use Rattle.coord_ledger.specs.ledger.State.{started}
 use Rattle.coord_ledger.specs.promises.Headline.{IsCutShort, Ran}

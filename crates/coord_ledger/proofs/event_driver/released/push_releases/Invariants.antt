@@ -1,4 +1,4 @@
-use Rattle.std.proofs.Common.{◌≡◌, ◌++◌, ◌≤◌, List, length}
+use Rattle.std.proofs.Common.{◌≡◌, ◌++◌, List, length}
 use Rattle.coord_ledger.specs.declared.release.Release.{Release as Row}
 use Rattle.coord_ledger.proofs.event_driver.released.push_releases.Given as goal
 

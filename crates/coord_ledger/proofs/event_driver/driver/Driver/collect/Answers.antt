@@ -1,9 +1,9 @@
-use Rattle.std.proofs.Common.{◌≡◌, ◌<◌, ◌≤◌, length, Option, Some, None, refl, sym, ap, ◌∙◌, subst, rules, arith}
+use Rattle.std.proofs.Common.{◌≡◌, ◌<◌, ◌≤◌, length, Option, Some, None, sym, ap, ◌∙◌, subst, rules}
 use Rattle.std.specs.Prelude.{slice_index_or, slice_set}
 use Rattle.coord_ledger.specs.declared.events.Answer.TheVariants.{NoTicket, Collected, Waiting}
 use Rattle.coord_ledger.specs.declared.events.Event.TheVariants.{Collect}
 use Rattle.coord_ledger.specs.ledger.Follows.{Follows, FollowsTo, Held}
-use Rattle.coord_ledger.specs.ledger.State.{Claim, reply_of}
+use Rattle.coord_ledger.specs.ledger.State.{Claim}
 use Rattle.coord_ledger.specs.machine.After.{spent}
 use Rattle.coord_ledger.proofs.Following.{follows_collected, follows_no_ticket, follows_waiting}
 use Rattle.coord_ledger.proofs.Running.{put_back, set_same, spent_is, ticket_past, ticket_within}

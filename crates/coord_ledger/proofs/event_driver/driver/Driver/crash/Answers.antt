@@ -1,4 +1,4 @@
-use Rattle.std.proofs.Common.{◌≡◌, [], None, sym, ap, ◌∙◌, subst}
+use Rattle.std.proofs.Common.{[], None, sym, ap, ◌∙◌, subst}
 use Rattle.std.specs.Option.{option_map}
 use Rattle.coord_world.specs.protocol.NumberedWorld.{World}
 use Rattle.coord_ledger.specs.declared.events.Answer.TheVariants.{Opened}

@@ -1,12 +1,12 @@
-use Rattle.std.proofs.Common.{◌≡◌, ◌++◌, Bool, true, false, Option, Some, None, refl, sym, ap, ◌∙◌, subst, rules}
+use Rattle.std.proofs.Common.{◌≡◌, ◌++◌, true, false, Option, Some, None, sym, ap, ◌∙◌, subst, rules}
 use Rattle.std.specs.Prelude.{is_err}
 use Rattle.std.proofs.lemmas.List.{append_assoc}
 use Rattle.coord_world.specs.protocol.NumberedWorld.{World}
 use Rattle.coord_ledger.specs.declared.events.Answer.{Answer}
 use Rattle.coord_ledger.specs.declared.events.Answer.TheVariants.{Finished, Refused}
 use Rattle.coord_ledger.specs.declared.events.Event.TheVariants.{Finish}
-use Rattle.coord_ledger.specs.ledger.Follows.{Follows, FollowsTo, Held, HoldsFlight}
-use Rattle.coord_ledger.specs.ledger.State.{FlightState, LedgerState}
+use Rattle.coord_ledger.specs.ledger.Follows.{Follows, FollowsTo, Held}
+use Rattle.coord_ledger.specs.ledger.State.{FlightState}
 use Rattle.coord_ledger.proofs.Calling.{follows_returned}
 use Rattle.coord_ledger.proofs.CutShort.{cut_within}
 use Rattle.coord_ledger.proofs.Running.{count_settled, err_gives, follows_unfinished, ok_gives}

@@ -1,5 +1,5 @@
-use Rattle.std.proofs.Common.{◌≡◌, sym, ap, ◌∙◌, subst}
-use Rattle.coord_ledger.specs.declared.events.Event.TheVariants.{Collect, Commit, Resend, Show, Submit}
+use Rattle.std.proofs.Common.{sym, subst}
+use Rattle.coord_ledger.specs.declared.events.Event.TheVariants.{Commit, Resend, Show, Submit}
 use Rattle.coord_ledger.specs.ledger.Driver.{model_of}
 use Rattle.coord_ledger.specs.ledger.Follows.{Held}
 use Rattle.coord_ledger.specs.promises.Headline.{IsCutShort}

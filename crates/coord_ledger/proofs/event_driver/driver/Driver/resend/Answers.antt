@@ -1,4 +1,4 @@
-use Rattle.std.proofs.Common.{◌≡◌, ◌++◌, length, refl, sym, ap, ◌∙◌, subst}
+use Rattle.std.proofs.Common.{◌++◌, length, sym, ap, ◌∙◌, subst}
 use Rattle.std.proofs.lemmas.List.{append_assoc}
 use Rattle.coord_ledger.specs.declared.events.Answer.TheVariants.{Resent}
 use Rattle.coord_ledger.specs.declared.events.Event.TheVariants.{Resend}
