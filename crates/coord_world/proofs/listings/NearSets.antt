@@ -5,7 +5,7 @@ use Rattle.std.proofs.lemmas.List.{length-set, get_or-set_same, get_or-set_other
 use Rattle.coord_types.specs.NodeSet.{NodeSet, contains, empty, insert}
 use Rattle.coord_types.specs.StepRanges.{IsNode}
 use Rattle.coord_types.proofs.Sets.{contains-insert, same_nodes}
-use Rattle.coord_world.specs.code.Assembly.{AreNear, near_in}
+use Rattle.coord_world.specs.code.Assembly.{near_in}
 use Rattle.coord_world.specs.declared.rows.parts.LinkRow.{LinkRow}
 use Rattle.coord_world.proofs.Cases.{by_test}
 
