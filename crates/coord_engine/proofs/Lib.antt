@@ -1,3 +1,3 @@
+pub mod Naming
 pub mod Notes
-pub mod Pigeon
 pub mod Submitting
