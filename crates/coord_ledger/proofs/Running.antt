@@ -1,6 +1,6 @@
 -- What a driver makes of each event follows the event machine.
-use Rattle.std.proofs.Common.{◌≡◌, ℕ, ◌+◌, ◌<◌, ◌≤◌, Bool, true, false, [], ◌∷◌, ◌++◌, length, Option, Some, None, Ok, Err, refl, sym, ap, ◌∙◌, subst, arith}
-use Rattle.std.specs.Prelude.{Result, MatchResult, OnErr, IfOk, is_err, is_none, is_some}
+use Rattle.std.proofs.Common.{◌≡◌, ℕ, ◌+◌, ◌<◌, ◌≤◌, Bool, true, false, [], ◌∷◌, ◌++◌, length, Some, Ok, Err, refl, sym, ap, ◌∙◌, subst, arith}
+use Rattle.std.specs.Prelude.{Result, MatchResult, OnErr, IfOk, is_err, is_some}
 use Rattle.std.proofs.lemmas.List.{length-map}
 use Rattle.coord_types.specs.declared.refusals.Refusal.{Refusal}
 use Rattle.coord_types.specs.declared.refusals.Refusal.TheVariants as why
@@ -14,8 +14,6 @@ use Rattle.coord_world.specs.protocol.Next.{reply}
 use Rattle.coord_world.specs.protocol.NumberedWorld.{World}
 use Rattle.coord_world.specs.protocol.Outputs.{again}
 use Rattle.coord_world.specs.protocol.Ranges.{InRange, SessionInRange}
-use Rattle.coord_store.specs.Kept.{Kept}
-use Rattle.coord_ledger.specs.code.Holding.{disk_at, out_of}
 use Rattle.coord_ledger.specs.declared.events.Answer.{Answer}
 use Rattle.coord_ledger.specs.declared.events.Answer.TheVariants.{Accepted, Repeated, Refused, Shown}
 use Rattle.coord_ledger.specs.declared.events.Event.TheVariants.{Finish, Submit, Show}
@@ -118,11 +116,6 @@ module _ {D : Type 0} (h : Held D) (s : Machine) (is : IsConsistent s) (follows 
 -- so many are released again
 pub resent_count : (w : World) → length (resent w) ≡ length (again w)
 resent_count w = length-map (again w) (release_of 0)
-
--- a store at home is not out
-pub at_home : {D : Type 0} (o : Option (Kept D)) (n : ℕ) → is_some (out_of o n) ≡ is_none (disk_at o)
-at_home None n = refl
-at_home (Some kept) n = refl
 
 -- the settled count is that of the settled world
 pub count_settled : (log : Log) → IsConsistentLog log → (settled_world log).count ≡ settled_count log
