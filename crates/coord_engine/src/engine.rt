@@ -30,7 +30,8 @@ pub struct Engine<D: Disk, L: Count> {
 }
 
 impl<D: Disk, L: Count> Engine<D, L> {
-    /// Over a ledger whose store is at home. The blank has 65,536 parts.
+    /// Over a ledger whose store is at home. The blank has 65,536 parts. No clause can say what lies
+    /// behind a lock; that is `Guarded::new`.
     pub fn new(alloc: Global, blank: Blank, ledger: Ledger<D>) -> Self
         requires name { blank.name ≡ L.name }
         requires parts { (blank.parts ≡ L.parts) × (L.parts ≡ 65536) }

@@ -10,7 +10,7 @@
 //!
 //! `specs/State.antt` is what contracts see of the value under the lock, `specs/Calls.antt` and
 //! `specs/Closing.antt` what its methods answer, and `specs/Threads.antt` what the engine's calls
-//! answer while other threads call too. No contract says that a thread runs, that a waiter wakes or
+//! answer while other threads call too; [`named_rows`] are small cases. No contract says that a thread runs, that a waiter wakes or
 //! that anyone is served.
 #![tactic(auto)]
 
@@ -18,6 +18,7 @@ mod closed;
 mod collected;
 mod engine;
 mod guarded;
+pub mod named_rows;
 mod share;
 
 pub use closed::{CloseFault, Closed};
