@@ -1,1 +1,3 @@
+pub mod Notes
+pub mod Pigeon
 mod Puts

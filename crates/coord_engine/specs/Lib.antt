@@ -1,5 +1,10 @@
+pub mod Calls
+pub mod Closing
+pub mod Named
 pub mod Pacing
 pub mod Port
+pub mod State
+pub mod Threads
 pub mod Waiting
 pub mod WaitingRows
 pub mod code

@@ -1,11 +1,40 @@
-//! The engine: one ledger that many threads share.
+//! An engine: one ledger that many threads share, with one history.
+//!
+//! An [`Engine`] is a lock round a [`Guarded`] and a condition on which callers wait. What each call
+//! does is the contract of a method of `Guarded`, a module without handles; the engine takes the
+//! lock and calls it. A flight is committed by the caller of `flush_once`, outside the lock.
+//!
+//! A caller holds a [`Share`] with the notes of its accepted steps. `Engine::close` gathers all
+//! shares, and takes the engine apart only where the notes are what was accepted since the engine
+//! was made (`specs/Named.antt`): one history, of just the callers' steps.
+//!
+//! `specs/State.antt` is what contracts see of the value under the lock, `specs/Calls.antt` and
+//! `specs/Closing.antt` what its methods answer, and `specs/Threads.antt` what the engine's calls
+//! answer while other threads call too. No contract says that a thread runs, that a waiter wakes or
+//! that anyone is served.
+//!
+//! A [`flusher`] flushes what is accepted and hands what is released to a [`Port`]; a [`worker`]
+//! submits the packets that came for a node. `specs/Pacing.antt` says when a flight starts,
+//! `specs/Waiting.antt` what a worker keeps for another try.
 #![tactic(auto)]
 
-mod pacing;
+mod closed;
+mod collected;
+mod engine;
+mod flusher;
+mod guarded;
 mod port;
 pub mod rows;
+mod share;
 mod waiting;
+mod worker;
 
-pub use pacing::InHand;
+pub use closed::{CloseFault, Closed};
+pub use collected::Collected;
+pub use engine::Engine;
+pub use flusher::{flusher, hand_over};
+pub use guarded::Guarded;
 pub use port::{Delivery, Port, step_of};
+pub use share::Share;
 pub use waiting::Waiting;
+pub use worker::worker;
