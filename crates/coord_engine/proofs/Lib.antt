@@ -1,3 +1,4 @@
 pub mod Notes
 pub mod Pigeon
 mod Puts
+pub mod Submitting

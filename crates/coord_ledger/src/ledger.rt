@@ -117,10 +117,12 @@ impl<D: Disk> Ledger<D> {
         self.settled.count()
     }
 
-    // How many steps are accepted, those before the base counted.
-    fn accepted_count(&self) -> u64
-        ensures { result ≡ accepted_count self.now.log }
+    /// How many steps are accepted, those before the base counted.
+    pub fn accepted_count(&self) -> u64
+        ensures value { result ≡ accepted_count self.now.log }
+        ensures bounded { result ≤ 2 ^ 40 }
     {
+        self.front.ranges();
         self.front.count()
     }
 

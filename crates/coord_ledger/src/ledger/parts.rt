@@ -4,7 +4,7 @@ ghost use Rattle.std.specs.Prelude.{◌≡◌, ◌+◌, ◌≤◌, is_none, is_s
 ghost use Rattle.coord_store.specs.Kept.{has_stopped};
 ghost use Rattle.coord_ledger.specs.machine.Answers.{most_in_flight};
 ghost use Rattle.coord_ledger.specs.machine.Consistent.{IsConsistentLog};
-ghost use Rattle.coord_ledger.specs.machine.Log.{settled_count, settled_world};
+ghost use Rattle.coord_ledger.specs.machine.Log.{pending, settled_count, settled_world};
 
 use super::Ledger;
 use coord_disk::Disk;
@@ -18,6 +18,13 @@ impl<D: Disk> Ledger<D> {
         ensures { result.now ≡ self.now.log.trail }
     {
         &self.trail
+    }
+
+    /// How many steps are accepted and not settled.
+    pub fn pending(&self) -> usize
+        ensures { result ≡ length (pending self.now.log) }
+    {
+        self.trail.len() - self.done
     }
 
     /// Takes the ledger apart into its store, base, trail and settled count, unless the store is
