@@ -7,8 +7,8 @@ use Rattle.coord_types.specs.declared.steps.Step.{Step}
 use Rattle.coord_world.specs.protocol.Outputs.{outs}
 use Rattle.coord_ledger.specs.declared.release.Release.{Release}
 use Rattle.coord_ledger.specs.declared.ticket.Note.{Note}
-use Rattle.coord_ledger.specs.ledger.Calls.{keeps_store}
-use Rattle.coord_ledger.specs.ledger.State.{Claim, LedgerState}
+use Rattle.coord_ledger.specs.ledger.Calls.{keeps_store, next_flight}
+use Rattle.coord_ledger.specs.ledger.State.{Claim, FlightState, LedgerState}
 use Rattle.coord_ledger.specs.machine.After.{releases_of, resent}
 use Rattle.coord_ledger.specs.machine.Answers.{most_in_flight}
 use Rattle.coord_ledger.specs.machine.Consistent.{IsConsistentLog}
@@ -37,6 +37,10 @@ RefusesShow Stopped seen g = is_some g.ledger.doubt ≡ true
 RefusesShow (Behind settled) seen g = (settled ≡ settled_count g.ledger.log) × (settled < seen)
 RefusesShow OutOfMemory seen g = Unit {0}
 RefusesShow refusal seen g = ⊥
+
+-- this flight went out
+abbrev pub Leaves : {D : Type 0} → FlightState D → GuardedState D → Type 0
+Leaves flight g = (keeps_store g.ledger ≡ false) × (flight ≡ next_flight g.ledger.log flight.disk)
 
 -- the next flight went out, was committed, and gave this out
 abbrev pub Flushes : {D : Type 0} → List Release → GuardedState D → Type 0

@@ -3,10 +3,10 @@
 ghost use Rattle.std.specs.Prelude.{◌≡◌, ◌⊎◌, [], false, true, None, IfErr, IfNone, IfOk, IfSome, OnErr};
 ghost use Rattle.coord_types.specs.declared.refusals.Refusal.TheVariants.{Stopped, Stranger};
 ghost use Rattle.coord_store.specs.declared.faults.CommitFault.TheVariants.{Device, OutOfMemory};
-ghost use Rattle.coord_ledger.specs.ledger.Calls.{keeps_store};
+ghost use Rattle.coord_ledger.specs.ledger.Calls.{keeps_store, releases_in};
 ghost use Rattle.coord_engine.specs.Calls.{CollectsAs};
 ghost use Rattle.coord_engine.specs.Closing.{MayClose, RefusesClosing};
-ghost use Rattle.coord_engine.specs.Threads.{AtSomeMoment, Flushes, RefusesShow, SendsAgain, Shows, Submits};
+ghost use Rattle.coord_engine.specs.Threads.{AtSomeMoment, Flushes, Leaves, RefusesShow, SendsAgain, Shows, Submits};
 
 use crate::{CloseFault, Closed, Collected, Guarded, Share};
 use coord_disk::Disk;
@@ -139,8 +139,20 @@ impl<D: Disk, L: Count> Engine<D, L> {
         }
     }
 
+    /// Sends the next flight out.
+    fn begin<R: Wait>(&self, rt: &R) -> Result<Option<Flight<D>>, AllocError>
+        ensures begun { IfOk result (λ begun. IfSome begun (λ flight. AtSomeMoment (Leaves {D = D} flight))) }
+        ensures nothing { IfOk result (λ begun. IfNone begun (AtSomeMoment (λ g. keeps_store {D} g.ledger ≡ true))) }
+    {
+        let mut guarded = self.guarded.lock(rt);
+        guarded.keeps();
+        guarded.begin()
+    }
+
     /// Takes a flight back. Where it is refused, for memory, it is tried again.
-    fn end<R: Wait>(&self, rt: &R, flight: Flight<D>) -> Releases {
+    fn end<R: Wait>(&self, rt: &R, flight: Flight<D>) -> Releases
+        ensures { result ≡ releases_in flight flight.mark }
+    {
         let mut out = flight;
         for _ in rt.forever() {
             match self.guarded.lock(rt).end(out) {

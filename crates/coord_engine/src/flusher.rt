@@ -12,11 +12,11 @@ use std::sync::ledger::Ledger as Count;
 use std::thread;
 use std::time::{Clock, Duration};
 
-/// How long a flight waits for packets that are in hand.
-const PATIENCE: Duration = Duration::from_millis(5);
+/// How many milliseconds a flight waits for packets that are in hand.
+const PATIENCE: u64 = 5;
 
-/// How long a flusher that found no memory waits before it tries again.
-const REST: Duration = Duration::from_millis(1);
+/// How many milliseconds a flusher that found no memory waits before it tries again.
+const REST: u64 = 1;
 
 impl<D: Disk, L: Count> Engine<D, L> {
     /// A packet is handed to a port: it is in hand, unless the port says that it is lost.
@@ -41,12 +41,13 @@ impl<D: Disk, L: Count> Engine<D, L> {
     /// Waits until a flight can start, and then a little for packets that are in hand. False once
     /// none will start any more.
     fn waits_for_flight<R: Wait + Clock>(&self, rt: &R) -> bool {
+        let patience = Duration::from_millis(PATIENCE);
         let guarded = self
             .work
             .wait_while(rt, self.guarded.lock(rt), |guarded| guarded.is_idle());
-        let (mut guarded, waited) =
-            self.work
-                .wait_timeout_while(rt, guarded, PATIENCE, |guarded| !guarded.starts_at_once());
+        let (mut guarded, waited) = self
+            .work
+            .wait_timeout_while(rt, guarded, patience, |guarded| !guarded.starts_at_once());
         if waited.timed_out() {
             guarded.forget_in_hand();
         }
@@ -100,7 +101,7 @@ pub fn flusher<D: Disk, L: Count, P: Port, R: Wait + Clock>(
                 hand_over(rt, engine, port, releases);
             }
             Err(CommitFault::OutOfMemory) => {
-                thread::sleep(rt, REST);
+                thread::sleep(rt, Duration::from_millis(REST));
             }
             Err(_) => return,
         }

@@ -68,7 +68,7 @@ fn await_signals<R: Wait>(ring: &Ring<R>) -> bool {
 fn resend_until_signals<D: Disk, L: Count, R: Wait + Clock>(
     rt: &R,
     engine: &Engine<D, L>,
-    ring: &Ring<R>,
+    ring: &Ring<&R>,
 ) -> bool {
     for _ in 0..RESENDS {
         if ring.signals() >= NODES as u64 {
