@@ -21,20 +21,20 @@
 mod closed;
 mod collected;
 mod engine;
-mod flusher;
+mod flushing;
 mod guarded;
 mod port;
 pub mod rows;
 mod share;
 mod waiting;
-mod worker;
+mod working;
 
 pub use closed::{CloseFault, Closed};
 pub use collected::Collected;
 pub use engine::Engine;
-pub use flusher::{flusher, hand_over};
+pub use flushing::{flusher, hand_over};
 pub use guarded::Guarded;
 pub use port::{Delivery, Port, step_of};
 pub use share::Share;
 pub use waiting::Waiting;
-pub use worker::worker;
+pub use working::worker;
