@@ -1,4 +1,7 @@
+pub mod Counting
+pub mod Moments
+pub mod Naming
 pub mod Notes
-pub mod Pigeon
 mod Puts
+pub mod Showing
 pub mod Submitting

@@ -1,7 +1,7 @@
 -- The notes of callers against the steps that were accepted.
 use Rattle.std.specs.List.{AllAdjacentBelow}
 use Rattle.std.specs.List.Sorted.{IsPermutation}
-use Rattle.std.specs.Prelude.{◌≡◌, ℕ, ◌+◌, ◌-◌, ◌<◌, List, [], ◌∷◌, All, flat_map, length, Some, slice_get}
+use Rattle.std.specs.Prelude.{◌≡◌, ℕ, ◌+◌, ◌-◌, ◌<◌, List, [], ◌∷◌, All, Contains, flat_map, length, Some, slice_get}
 use Rattle.coord_types.specs.declared.steps.Step.{Step}
 use Rattle.coord_ledger.specs.declared.ticket.Note.{Note}
 
@@ -17,6 +17,11 @@ all_notes shares = flat_map (λ notes. notes) shares
 -- each note is older than the next
 abbrev pub IsAscending : List Note → Type 0
 IsAscending notes = AllAdjacentBelow (λ a b. a.step < b.step) notes (length notes)
+
+-- each share noted its steps in order, and each of the steps that come behind n others was noted
+pub record AreNoted (shares : List (List Note)) (n : ℕ) (steps : List Step) : Type 0 where
+  pub ascending : All IsAscending shares
+  pub noted : All (Contains (all_notes shares)) (notes_of n steps)
 
 -- The steps that come behind n others are what the shares noted: each step once, and each share noted its own in order.
 pub record IsNamed (shares : List (List Note)) (n : ℕ) (steps : List Step) : Type 0 where

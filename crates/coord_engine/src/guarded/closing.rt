@@ -1,8 +1,8 @@
 //! The value under the lock taken apart.
 
-ghost use Rattle.std.specs.Prelude.{◌≡◌, ◌+◌, length, is_some, sum_by, IfErr, IfOk, Some};
+ghost use Rattle.std.specs.Prelude.{◌≡◌, ◌↔◌, ◌+◌, drop, length, is_some, sum_by, IfErr, IfOk, IsTrue, Some};
 ghost use Rattle.coord_engine.specs.Closing.{MayClose, RefusesClosing};
-ghost use Rattle.coord_engine.specs.State.{GuardedState};
+ghost use Rattle.coord_engine.specs.Named.{AreNoted};
 ghost use Rattle.coord_ledger.specs.machine.Log.{settled_count, settled_world};
 ghost use Rattle.coord_store.specs.Kept.{has_stopped};
 
@@ -29,12 +29,17 @@ fn gather<L: Count>(book: Book<L>, rest: Part<L>, shares: Vec<Share<L>>)
 }
 
 impl<D: Disk, L: Count> Guarded<D, L> {
-    /// Whether the steps that were accepted since the start are what the shares noted, as far as
-    /// this can be seen without the count.
-    fn are_noted(&self, shares: &[Share<L>]) -> bool {
+    /// Whether the shares noted, each in order, all that was accepted since the start. That they
+    /// noted no more shows in the count.
+    fn are_noted(&self, shares: &[Share<L>]) -> bool
+        ensures { IsTrue result ↔ AreNoted shares.now (self.now.ledger.log.base.count + self.now.start) (drop self.now.start self.now.ledger.log.trail) }
+    {
+        if !all_ascending(shares) {
+            return false;
+        }
         let steps = &self.ledger.trail()[self.start..];
         let others = self.ledger.accepted_count() - steps.len() as u64;
-        all_ascending(shares) && all_noted(shares, others, steps)
+        all_noted(shares, others, steps)
     }
 
     /// Takes the ledger apart, where no flight is out, all shares are there and what they noted is
