@@ -18,6 +18,10 @@ note_at n k [] d x lt = absurd (omega (arith, lt))
 note_at n zero (s ∷ steps) d x lt = let e : n + 1 ≡ n + 0 + 1 = omega arith in (λ i. record { step = e i; what = s })
 note_at n (suc k) (s ∷ steps) d x lt = let e : n + 1 + k + 1 ≡ n + suc k + 1 = omega arith in note_at (n + 1) k steps d x (omega (arith, lt)) ∙ (λ i. record { step = e i; what = get_or steps k x })
 
+-- the note that the next step gets
+pub note_here : (n i number : ℕ) (steps : List Step) (item : Step) (d : Note) → number ≡ n + i → i < length steps → item ≡ get_or steps i item → get_or (notes_of n steps) i d ≡ record { step = number + 1; what = item }
+note_here n i number steps item d is lt here = let e : n + i + 1 ≡ number + 1 = omega arith in note_at n i steps d item lt ∙ (λ j. record { step = e j; what = sym here j })
+
 -- ---- the notes of a share
 
 module _ (notes : List Note) (ascending : IsAscending notes) where
@@ -38,7 +42,7 @@ module _ (notes : List Note) (ascending : IsAscending notes) where
 
     -- a binary search by numbers finds the note, where it is there
     pub searched : (r : Result ℕ ℕ) → IsSearchInRange r (length notes) → IsBinarySearchResult (λ a. nat_cmp a.step note.step) notes r
-        → MatchResult r (λ at. (get_or notes at note ≡ note) ↔ Contains notes note) (λ _. ¬ Contains notes note)
+        → MatchResult r (λ at. (get_or notes at note ≡ note) ↔ Contains notes note) (λ _. Contains notes note → ⊥)
     searched (Ok at) within equal =
         let number : (get_or notes at note).step ≡ note.step = ranked _ note.step _ (sym (equal note)) in (
           λ is. (at, within, is),
@@ -46,7 +50,7 @@ module _ (notes : List Note) (ascending : IsAscending notes) where
               let place : there.0 ≡ at = one_place there.0 at note there.1 within (ap (λ (x : Note). x.step) there.2 ∙ sym number) in
               subst (λ k. get_or notes k note ≡ note) place there.2,
         )
-    searched (Err at) within parted there =
+    searched (Err at) within parted = λ there.
         let number = ap (λ (x : Note). x.step) there.2 in
         let below : there.0 < at → (get_or notes there.0 note).step < note.step = λ lt. ranked _ note.step _ (sym ((parted comparisons_rise).0 there.0 note (omega arith) lt)) in
         let above : at ≤ there.0 → note.step < (get_or notes there.0 note).step = λ le. ranked _ note.step _ (sym ((parted comparisons_rise).1 there.0 note le there.1)) in

@@ -35,10 +35,14 @@ AnswersStep s (Err why) before (Ok claim) after = ⊥
 AnswersStep s (Ok verdict) before (Err refusal) after = (refusal ≡ OutOfMemory) × (after ≡ before)
 AnswersStep s (Err why) before (Err refusal) after = ((refusal ≡ why) ⊎ (refusal ≡ OutOfMemory)) × (after ≡ before)
 
--- What is said to a ticket: its reply once its step is settled here; Stranger where a step with its number is settled, but not so; Stopped where the step will not be settled any more; and else that it has to wait.
+-- why there will be no reply to a ticket: a step with its number is settled, but isn't the ticket's; or its step will not be settled any more
+abbrev pub RefusesTicket : {D : Type 0} → LedgerState D → Claim → Refusal → Type 0
+RefusesTicket l claim Stranger = (claim.step ≤ settled_count l.log) × ¬ IsCollectable l.log claim
+RefusesTicket l claim Stopped = (settled_count l.log < claim.step) × (is_some l.doubt ≡ true)
+RefusesTicket l claim refusal = ⊥
+
+-- what is said to a ticket: its reply once its step is settled, that there will be none, or that it has to wait
 abbrev pub CollectsAs : {D : Type 0} → LedgerState D → Claim → Collected → Type 0
 CollectsAs l claim (Settled reply) = (reply ≡ reply_of claim) × IsCollectable l.log claim
-CollectsAs l claim (Refused Stranger back) = (back ≡ claim) × (claim.step ≤ settled_count l.log) × ¬ IsCollectable l.log claim
-CollectsAs l claim (Refused Stopped back) = (back ≡ claim) × (settled_count l.log < claim.step) × (is_some l.doubt ≡ true)
-CollectsAs l claim (Refused refusal back) = ⊥
+CollectsAs l claim (Refused refusal back) = (back ≡ claim) × RefusesTicket l claim refusal
 CollectsAs l claim (Waiting back) = (back ≡ claim) × (settled_count l.log < claim.step) × (is_some l.doubt ≡ false)

@@ -1,11 +1,10 @@
 //! The engine: the value under a lock, and a condition on which callers wait.
 
 ghost use Rattle.std.specs.Prelude.{◌≡◌, ◌⊎◌, [], false, true, None, IfErr, IfNone, IfOk, IfSome, OnErr};
-ghost use Rattle.coord_types.specs.declared.refusals.Refusal.TheVariants.{Stopped, Stranger};
 ghost use Rattle.coord_store.specs.declared.faults.CommitFault.TheVariants.{Device, OutOfMemory};
 ghost use Rattle.coord_ledger.specs.ledger.Calls.{keeps_store, releases_in};
-ghost use Rattle.coord_engine.specs.Calls.{CollectsAs};
-ghost use Rattle.coord_engine.specs.Closing.{MayClose, RefusesClosing};
+ghost use Rattle.coord_ledger.specs.ledger.State.{IsCollectable, reply_of};
+ghost use Rattle.coord_engine.specs.Calls.{RefusesTicket};
 ghost use Rattle.coord_engine.specs.Threads.{AtSomeMoment, Flushes, Leaves, RefusesShow, SendsAgain, Shows, Submits};
 
 use crate::{CloseFault, Closed, Collected, Guarded, Share};
@@ -75,9 +74,8 @@ impl<D: Disk, L: Count> Engine<D, L> {
     /// of another ledger, and `Stopped` one whose step will not be settled any more; both give it
     /// back.
     pub fn collect<R: Wait>(&self, rt: &R, ticket: Ticket) -> Result<Reply, (Refusal, Ticket)>
-        ensures settled { IfOk result (λ reply. AtSomeMoment (λ g. CollectsAs {D} g.ledger ticket (Collected.Settled reply))) }
-        ensures refused { IfErr result (λ refused. AtSomeMoment (λ g. CollectsAs {D} g.ledger ticket (Collected.Refused refused.0 ticket))) }
-        ensures back { IfErr result (λ refused. refused.1 ≡ ticket) }
+        ensures settled { IfOk result (λ reply. (reply ≡ reply_of ticket) × AtSomeMoment {D = D} (λ g. IsCollectable g.ledger.log ticket)) }
+        ensures refused { IfErr result (λ refused. (refused.1 ≡ ticket) × AtSomeMoment {D = D} (λ g. RefusesTicket g.ledger ticket refused.0)) }
     {
         let mut waiting = ticket;
         let mut guarded = self.guarded.lock(rt);
@@ -119,7 +117,7 @@ impl<D: Disk, L: Count> Engine<D, L> {
     /// After `OutOfMemory` it may be tried again; after `Device` the ledger has stopped.
     pub fn flush_once<R: Wait>(&self, rt: &R) -> Result<Option<Releases>, CommitFault>
         ensures flushed { IfOk result (λ begun. IfSome begun (λ releases. AtSomeMoment (Flushes {D = D} releases))) }
-        ensures nothing { IfOk result (λ begun. IfNone begun (AtSomeMoment (λ g. keeps_store {D} g.ledger ≡ true))) }
+        ensures nothing { IfOk result (λ begun. IfNone begun (AtSomeMoment {D = D} (λ g. keeps_store g.ledger ≡ true))) }
         ensures refused { IfErr result (λ fault. (fault ≡ Device) ⊎ (fault ≡ OutOfMemory)) }
     {
         let mut flight = match self.begin(rt)? {
@@ -142,7 +140,7 @@ impl<D: Disk, L: Count> Engine<D, L> {
     /// Sends the next flight out.
     fn begin<R: Wait>(&self, rt: &R) -> Result<Option<Flight<D>>, AllocError>
         ensures begun { IfOk result (λ begun. IfSome begun (λ flight. AtSomeMoment (Leaves {D = D} flight))) }
-        ensures nothing { IfOk result (λ begun. IfNone begun (AtSomeMoment (λ g. keeps_store {D} g.ledger ≡ true))) }
+        ensures nothing { IfOk result (λ begun. IfNone begun (AtSomeMoment {D = D} (λ g. keeps_store g.ledger ≡ true))) }
     {
         let mut guarded = self.guarded.lock(rt);
         guarded.keeps();

@@ -31,10 +31,11 @@ impl<D: Disk, L: Count> Guarded<D, L> {
             Ok(ticket) => ticket,
             Err(refusal) => return Err(refusal),
         };
-        if self.ledger.trail().len() > before {
-            self.book.add(&mut mine.part, 1);
-            mine.notes.push_reserved(ticket.note());
+        if self.ledger.trail().len() == before {
+            return Ok(ticket);
         }
+        self.book.add(&mut mine.part, 1);
+        mine.notes.push_reserved(ticket.note());
         Ok(ticket)
     }
 }

@@ -1,0 +1,26 @@
+-- Answers at some moment.
+use Rattle.std.proofs.Common.{Option, Some, None, Result, Ok, Err}
+use Rattle.std.specs.Prelude.{IfErr, IfNone, IfOk, IfSome}
+use Rattle.coord_ledger.specs.machine.Consistent.{IsConsistentLog}
+use Rattle.coord_engine.specs.State.{GuardedState}
+use Rattle.coord_engine.specs.Threads.{AtSomeMoment}
+
+module _ {D : Type 0} (g : GuardedState D) (is : IsConsistentLog g.ledger.log) where
+  pub then : (P : GuardedState D → Type 0) → P g → AtSomeMoment P
+  then P p = record { state = g; consistent = is; so = p }
+
+  pub on_ok : {T E : Type 0} (r : Result T E) (P : T → GuardedState D → Type 0) → IfOk r (λ x. P x g) → IfOk r (λ x. AtSomeMoment (P x))
+  on_ok (Ok x) P p = then (P x) p
+  on_ok (Err e) P p = tt
+
+  pub on_err : {T E : Type 0} (r : Result T E) (P : E → GuardedState D → Type 0) → IfErr r (λ e. P e g) → IfErr r (λ e. AtSomeMoment (P e))
+  on_err (Ok x) P p = tt
+  on_err (Err e) P p = then (P e) p
+
+  pub on_some : {T : Type 0} (o : Option T) (P : T → GuardedState D → Type 0) → IfSome o (λ x. P x g) → IfSome o (λ x. AtSomeMoment (P x))
+  on_some None P p = tt
+  on_some (Some x) P p = then (P x) p
+
+  pub on_none : {T : Type 0} (o : Option T) (P : GuardedState D → Type 0) → IfNone o (P g) → IfNone o (AtSomeMoment P)
+  on_none None P p = then P p
+  on_none (Some x) P p = tt
