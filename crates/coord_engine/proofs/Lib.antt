@@ -2,6 +2,7 @@ pub mod Counting
 pub mod Moments
 pub mod Naming
 pub mod Notes
+pub mod PacketNotes
 mod Puts
 pub mod Showing
 pub mod Submitting

@@ -7,4 +7,5 @@ pub mod State
 pub mod Threads
 pub mod Waiting
 pub mod WaitingRows
+pub mod Working
 pub mod code

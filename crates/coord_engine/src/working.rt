@@ -1,5 +1,7 @@
 //! Packets that came, submitted as steps.
 
+ghost use Rattle.coord_engine.specs.Working.{AddsPackets};
+
 use crate::port::step_of;
 use crate::{Engine, Share, Waiting};
 use coord_disk::Disk;
@@ -15,7 +17,9 @@ fn has_to_wait<D: Disk, L: Count, R: Wait>(
     engine: &Engine<D, L>,
     packet: Packet,
     share: &mut Share<L>,
-) -> bool {
+) -> bool
+    ensures { AddsPackets share.old share.new }
+{
     match engine.submit(rt, step_of(packet), share) {
         Ok(ticket) => {
             ticket.forget();
@@ -31,7 +35,9 @@ fn try_waiting<D: Disk, L: Count, R: Wait>(
     engine: &Engine<D, L>,
     waiting: &mut Waiting,
     share: &mut Share<L>,
-) {
+)
+    ensures { AddsPackets share.old share.new }
+{
     for _ in 0..waiting.len() {
         let Some(packet) = waiting.first() else {
             return;
@@ -55,7 +61,9 @@ pub fn worker<D: Disk, L: Count, R: Wait>(
     engine: &Engine<D, L>,
     packets: Receiver<Packet>,
     share: Share<L>,
-) -> Share<L> {
+) -> Share<L>
+    ensures { AddsPackets share result }
+{
     let mut share = share;
     let mut waiting = Waiting::new(alloc);
     for _ in rt.forever() {

@@ -99,14 +99,12 @@ fn is_shown<D: Disk, L: Count, R: Wait>(rt: &R, engine: &Engine<D, L>) -> bool {
     let Ok(view) = engine.show(rt, &mut seen) else {
         return false;
     };
-    let mut nodes = 0u64;
     for node in &view.nodes {
         if node.epoch != RESETS {
             return false;
         }
-        nodes += 1;
     }
-    view.accepted == STEPS as u64 && view.settled == STEPS as u64 && nodes == 2
+    view.accepted == STEPS as u64 && view.settled == STEPS as u64 && view.nodes.len() == 2
 }
 
 // Whether nothing has to be sent again.
