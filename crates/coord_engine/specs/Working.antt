@@ -9,5 +9,7 @@ abbrev pub IsOfPacket : Note → Type 0
 IsOfPacket n = (p : Packet) × (n.what ≡ step_of p)
 
 -- the later notes are these, and then some of packets
-abbrev pub AddsPackets : List Note → List Note → Type 0
-AddsPackets notes later = (added : List Note) × (later ≡ notes ++ added) × All IsOfPacket added
+pub record AddsPackets (notes later : List Note) : Type 0 where
+  pub added : List Note
+  pub are : later ≡ notes ++ added
+  pub packets : All IsOfPacket added

@@ -12,15 +12,16 @@ use std::sync::Wait;
 use std::sync::ledger::Ledger as Count;
 
 /// Submits a packet's step. Whether the packet has to wait: there was no room for the step.
+#[tactic(auto, using(crate::proofs::PacketNotes::adds_packet))]
 fn has_to_wait<D: Disk, L: Count, R: Wait>(
     rt: &R,
     engine: &Engine<D, L>,
-    packet: Packet,
+    packet: &Packet,
     share: &mut Share<L>,
 ) -> bool
     ensures { AddsPackets share.old share.new }
 {
-    match engine.submit(rt, step_of(packet), share) {
+    match engine.submit(rt, step_of(*packet), share) {
         Ok(ticket) => {
             ticket.forget();
             false
@@ -30,6 +31,7 @@ fn has_to_wait<D: Disk, L: Count, R: Wait>(
 }
 
 /// Submits those that wait, in order and up to one that still has to.
+#[tactic(auto, using(crate::proofs::PacketNotes::adds_none, crate::proofs::PacketNotes::adds_more))]
 fn try_waiting<D: Disk, L: Count, R: Wait>(
     rt: &R,
     engine: &Engine<D, L>,
@@ -42,10 +44,25 @@ fn try_waiting<D: Disk, L: Count, R: Wait>(
         let Some(packet) = waiting.first() else {
             return;
         };
-        if has_to_wait(rt, engine, packet, share) {
+        if has_to_wait(rt, engine, &packet, share) {
             return;
         }
         waiting.drop_first();
+    }
+}
+
+/// Submits a packet that came. Where it has to wait it is kept, if there is memory for it.
+fn submit_or_keep<D: Disk, L: Count, R: Wait>(
+    rt: &R,
+    engine: &Engine<D, L>,
+    packet: &Packet,
+    waiting: &mut Waiting,
+    share: &mut Share<L>,
+)
+    ensures { AddsPackets share.old share.new }
+{
+    if has_to_wait(rt, engine, packet, share) {
+        let _ = waiting.put(*packet);
     }
 }
 
@@ -55,6 +72,7 @@ fn try_waiting<D: Disk, L: Count, R: Wait>(
 /// Where no more steps may be pending, or no memory is found, it keeps the packet, and tries those
 /// kept again before it takes the next one. After any other refusal, and where there is no memory
 /// to keep it, it drops the packet: what was needed is sent again.
+#[tactic(auto, using(crate::proofs::PacketNotes::adds_none, crate::proofs::PacketNotes::adds_more))]
 pub fn worker<D: Disk, L: Count, R: Wait>(
     rt: &R,
     alloc: Global,
@@ -71,9 +89,7 @@ pub fn worker<D: Disk, L: Count, R: Wait>(
         let Ok(packet) = packets.recv(rt) else {
             break;
         };
-        if has_to_wait(rt, engine, packet, &mut share) {
-            let _ = waiting.put(packet);
-        }
+        submit_or_keep(rt, engine, &packet, &mut waiting, &mut share);
         engine.put_down(rt);
     }
     share

@@ -77,16 +77,23 @@ fn is_finished<D: Disk, L: Count, R: Wait>(rt: &R, engine: &Engine<D, L>, ticket
     }
 }
 
-// Whether there is a ticket of each reset, and all were.
+// Whether there is a ticket of each reset, and all are. Where not all steps are settled no ticket is
+// collected, since the call would wait.
 fn are_finished<D: Disk, L: Count, R: Wait>(
     rt: &R,
     engine: &Engine<D, L>,
     tickets: Vec<Ticket>,
+    are_settled: bool,
 ) -> bool {
     let mut left = tickets;
     let mut all = left.len() == RESETS as usize;
     while let Some(ticket) = left.pop() {
-        all = is_finished(rt, engine, ticket) && all;
+        if are_settled {
+            all = is_finished(rt, engine, ticket) && all;
+        } else {
+            ticket.forget();
+            all = false;
+        }
     }
     left.destroy_empty();
     all
@@ -128,11 +135,11 @@ fn two_callers<D: Disk + Send, L: Count + Send + Sync, R: Threads + Wait + Sync>
         move || call(rt, alloc, engine, one, 1),
         move || call(rt, alloc, engine, two, 2),
     );
-    let flushed = is_flushed(rt, engine);
-    let first = are_finished(rt, engine, first);
-    let second = are_finished(rt, engine, second);
+    let settled = is_flushed(rt, engine) && is_shown(rt, engine);
+    let first = are_finished(rt, engine, first, settled);
+    let second = are_finished(rt, engine, second, settled);
     let shown = is_shown(rt, engine) && nothing_is_sent_again(rt, engine);
-    Some((one, two, flushed && first && second && shown))
+    Some((one, two, first && second && shown))
 }
 
 // Whether the step stands at this place.
