@@ -1,4 +1,5 @@
 pub mod Counting
+pub mod Flights
 pub mod Moments
 pub mod Naming
 pub mod Notes

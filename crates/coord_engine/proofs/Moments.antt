@@ -17,10 +17,12 @@ module _ {D : Type 0} (g : GuardedState D) (is : IsConsistentLog g.ledger.log) w
   on_err (Ok x) P p = tt
   on_err (Err e) P p = then (P e) p
 
-  pub on_some : {T : Type 0} (o : Option T) (P : T → GuardedState D → Type 0) → IfSome o (λ x. P x g) → IfSome o (λ x. AtSomeMoment (P x))
-  on_some None P p = tt
-  on_some (Some x) P p = then (P x) p
+  pub on_ok_some : {T E : Type 0} (r : Result (Option T) E) (P : T → GuardedState D → Type 0) → IfOk r (λ o. IfSome o (λ x. P x g)) → IfOk r (λ o. IfSome o (λ x. AtSomeMoment (P x)))
+  on_ok_some (Ok (Some x)) P p = then (P x) p
+  on_ok_some (Ok None) P p = tt
+  on_ok_some (Err e) P p = tt
 
-  pub on_none : {T : Type 0} (o : Option T) (P : GuardedState D → Type 0) → IfNone o (P g) → IfNone o (AtSomeMoment P)
-  on_none None P p = then P p
-  on_none (Some x) P p = tt
+  pub on_ok_none : {T E : Type 0} (r : Result (Option T) E) (P : GuardedState D → Type 0) → IfOk r (λ o. IfNone o (P g)) → IfOk r (λ o. IfNone o (AtSomeMoment P))
+  on_ok_none (Ok (Some x)) P p = tt
+  on_ok_none (Ok None) P p = then P p
+  on_ok_none (Err e) P p = tt

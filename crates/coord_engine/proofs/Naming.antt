@@ -11,7 +11,7 @@ use Rattle.coord_types.specs.declared.steps.Step.{Step}
 use Rattle.coord_ledger.specs.declared.ticket.Note.{Note}
 use Rattle.coord_engine.specs.Named.{AreNoted, IsNamed, all_notes, notes_of}
 
-length-notes : (n : ℕ) (steps : List Step) → length (notes_of n steps) ≡ length steps
+pub length-notes : (n : ℕ) (steps : List Step) → length (notes_of n steps) ≡ length steps
 length-notes n [] = refl
 length-notes n (s ∷ steps) = ap suc (length-notes (n + 1) steps)
 

@@ -17,7 +17,7 @@ module _ {D : Type 0} (g : GuardedState D) (seen later : ℕ) where
     pub behind : is_some g.ledger.doubt ≡ false → settled_count g.ledger.log < seen → answer ≡ Err (Behind (settled_count g.ledger.log))
     pub view : is_some g.ledger.doubt ≡ false → seen ≤ settled_count g.ledger.log → MatchResult answer (λ v. (v ≡ shown (accepted_count g.ledger.log) (settled_world g.ledger.log)) × (later ≡ settled_count g.ledger.log)) (λ why. why ≡ OutOfMemory)
 
-  Told : Result Shown Refusal → Type 0
+  abbrev pub Told : Result Shown Refusal → Type 0
   Told answer = IfOk answer (λ v. Shows v seen later g) × IfErr answer (λ why. RefusesShow why seen g)
 
   told_shown : (answer : Result Shown Refusal) → is_some g.ledger.doubt ≡ false → seen ≤ settled_count g.ledger.log

@@ -18,11 +18,11 @@ use Rattle.coord_engine.specs.Calls.{AnswersStep, LedgerAndNotes, note_of, told}
 use Rattle.coord_engine.specs.State.{GuardedState}
 
 -- why, where there is no ticket
-the_refusal : Result Claim Refusal → Refusal
+abbrev the_refusal : Result Claim Refusal → Refusal
 the_refusal (Ok claim) = OutOfMemory
 the_refusal (Err why) = why
 
-is_ticket : Result Claim Refusal → Type 0
+abbrev is_ticket : Result Claim Refusal → Type 0
 is_ticket (Ok claim) = Unit {0}
 is_ticket (Err why) = ⊥
 

@@ -56,6 +56,13 @@ pub struct Closed<D: Disk> {
     pub settled: u64,
 }
 
+/// Whether these are the same step.
+fn is_same(a: &Step, b: &Step) -> bool
+    ensures { IsTrue result ↔ (a.now ≡ b.now) }
+{
+    a == b
+}
+
 /// Whether the steps behind the first `base` have the note's step at its number.
 fn is_among(base: u64, steps: &[Step], note: &Note) -> bool
     ensures { IsTrue result ↔ IsAmong base steps.now note.now }
@@ -63,10 +70,11 @@ fn is_among(base: u64, steps: &[Step], note: &Note) -> bool
     if note.step <= base {
         return false;
     }
-    match steps.get((note.step - base - 1) as usize) {
-        None => false,
-        Some(step) => *step == note.what,
+    let place = note.step - base - 1;
+    if place >= steps.len() as u64 {
+        return false;
     }
+    is_same(&steps[place as usize], &note.what)
 }
 
 impl<D: Disk> Closed<D> {

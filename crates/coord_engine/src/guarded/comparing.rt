@@ -32,13 +32,20 @@ pub fn all_ascending<L: Count>(shares: &[Share<L>]) -> bool
     true
 }
 
+/// Whether these are the same note.
+fn is_same(a: &Note, b: &Note) -> bool
+    ensures { IsTrue result ↔ (a.now ≡ b.now) }
+{
+    a == b
+}
+
 /// Whether the note is one of these, which ascend.
 fn has(notes: &[Note], note: &Note) -> bool
     requires { IsAscending notes.now }
     ensures { IsTrue result ↔ Contains notes.now note.now }
 {
     match notes.binary_search_by_key(&note.step, |other| other.step) {
-        Ok(at) => notes[at] == *note,
+        Ok(at) => is_same(&notes[at], note),
         Err(_) => false,
     }
 }
