@@ -133,6 +133,10 @@ fn is_not_answered<D: Disk, L: Count, R: Wait>(
         }
         Err(fault) => fault == CommitFault::Device,
     };
+    if !failed {
+        ticket.forget();
+        return Some(false);
+    }
     let refused = match engine.collect(rt, ticket) {
         Ok(_) => false,
         Err((refusal, ticket)) => {
@@ -148,7 +152,7 @@ fn is_not_answered<D: Disk, L: Count, R: Wait>(
         }
         Err(refusal) => refusal == Refusal::Stopped,
     };
-    Some(failed && refused && stopped)
+    Some(refused && stopped)
 }
 
 fn refuse_unsettled<D: Disk, L: Count, R: Wait>(
