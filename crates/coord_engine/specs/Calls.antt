@@ -1,5 +1,5 @@
 -- What the value under an engine's lock says to steps and to tickets.
-use Rattle.std.specs.Prelude.{◌≡◌, ◌⊎◌, ℕ, ◌<◌, ◌≤◌, Bool, true, false, List, [], ◌∷◌, ◌++◌, is_some, Result, Ok, Err, if◌then◌else◌}
+use Rattle.std.specs.Prelude.{◌≡◌, ◌⊎◌, ◌<◌, ◌≤◌, true, false, List, [], ◌∷◌, ◌++◌, is_some, Result, Ok, Err, if◌then◌else◌}
 use Rattle.coord_types.specs.declared.refusals.Refusal.{Refusal}
 use Rattle.coord_types.specs.declared.refusals.Refusal.TheVariants.{OutOfMemory, Stopped, Stranger}
 use Rattle.coord_types.specs.declared.steps.Step.{Step}
@@ -9,8 +9,8 @@ use Rattle.coord_world.specs.protocol.Next.{reply}
 use Rattle.coord_ledger.specs.declared.ticket.Note.{Note}
 use Rattle.coord_ledger.specs.ledger.Calls.{claimed, said, with_accepted}
 use Rattle.coord_ledger.specs.ledger.State.{Claim, IsCollectable, LedgerState, reply_of}
-use Rattle.coord_ledger.specs.machine.Log.{Log, front_world, settled_count}
-use Rattle.coord_engine.specs.State.{GuardedState, with_ledger}
+use Rattle.coord_ledger.specs.machine.Log.{front_world, settled_count}
+use Rattle.coord_engine.specs.State.{GuardedState}
 use Rattle.coord_engine.specs.declared.collected.Collected.{Collected}
 use Rattle.coord_engine.specs.declared.collected.Collected.TheVariants.{Settled, Refused, Waiting}
 

@@ -1,9 +1,10 @@
 -- What an engine's calls answer while other threads call too. Nothing is known of what a lock holds when it is taken but what its type keeps, so a call answers as the value under the lock does in some state that it can have.
-use Rattle.std.specs.Prelude.{◌≡◌, ℕ, ◌≤◌, ◌<◌, false, true, List, is_some, take, Result}
-use Rattle.coord_disk.specs.Model.Present.{Present}
+use Rattle.std.specs.Prelude.{◌≡◌, ℕ, ◌≤◌, ◌<◌, false, true, List, is_some, take, Result, Some}
 use Rattle.coord_types.specs.declared.refusals.Refusal.{Refusal}
 use Rattle.coord_types.specs.declared.refusals.Refusal.TheVariants.{Behind, OutOfMemory, Stopped}
 use Rattle.coord_types.specs.declared.steps.Step.{Step}
+use Rattle.coord_store.specs.Kept.{Kept, has_stopped}
+use Rattle.coord_world.specs.protocol.NumberedWorld.{World}
 use Rattle.coord_world.specs.protocol.Outputs.{outs}
 use Rattle.coord_ledger.specs.declared.release.Release.{Release}
 use Rattle.coord_ledger.specs.declared.ticket.Note.{Note}
@@ -15,6 +16,7 @@ use Rattle.coord_ledger.specs.machine.Consistent.{IsConsistentLog}
 use Rattle.coord_ledger.specs.machine.Log.{accepted_count, pending, settled_count, settled_world}
 use Rattle.coord_ledger.specs.machine.Shown.{Shown, shown}
 use Rattle.coord_engine.specs.Calls.{AnswersStep, told}
+use Rattle.coord_engine.specs.Closing.{MayClose}
 use Rattle.coord_engine.specs.State.{GuardedState}
 
 -- so it is in some state that the value under the lock can have
@@ -49,3 +51,10 @@ Flushes released g = (keeps_store g.ledger ≡ false) × (released ≡ releases_
 -- what may have been lost was sent again
 abbrev pub SendsAgain : {D : Type 0} → List Release → GuardedState D → Type 0
 SendsAgain released g = released ≡ resent (settled_world g.ledger.log)
+
+-- the engine was taken apart into these
+abbrev pub Closes : {D : Type 0} → Kept D → World → List Step → ℕ → List (List Note) → GuardedState D → Type 0
+Closes store base trail settled shares g =
+    MayClose g shares
+    × (base ≡ g.ledger.log.base) × (trail ≡ g.ledger.log.trail) × (settled ≡ settled_count g.ledger.log)
+    × (g.ledger.disk ≡ Some store.disk) × (store.world ≡ settled_world g.ledger.log) × (has_stopped store ≡ is_some g.ledger.doubt)

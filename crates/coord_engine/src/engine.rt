@@ -5,7 +5,8 @@ ghost use Rattle.coord_store.specs.declared.faults.CommitFault.TheVariants.{Devi
 ghost use Rattle.coord_ledger.specs.ledger.Calls.{keeps_store, releases_in};
 ghost use Rattle.coord_ledger.specs.ledger.State.{IsCollectable, reply_of};
 ghost use Rattle.coord_engine.specs.Calls.{RefusesTicket};
-ghost use Rattle.coord_engine.specs.Threads.{AtSomeMoment, Flushes, Leaves, RefusesShow, SendsAgain, Shows, Submits};
+ghost use Rattle.coord_engine.specs.Closing.{RefusesClosing};
+ghost use Rattle.coord_engine.specs.Threads.{AtSomeMoment, Closes, Flushes, Leaves, RefusesShow, SendsAgain, Shows, Submits};
 
 use crate::{CloseFault, Closed, Collected, Guarded, Share};
 use coord_disk::Disk;
@@ -144,7 +145,11 @@ impl<D: Disk, L: Count> Engine<D, L> {
     {
         let mut guarded = self.guarded.lock(rt);
         guarded.keeps();
-        guarded.begin()
+        match guarded.begin() {
+            Ok(Some(flight)) => Ok(Some(flight)),
+            Ok(None) => Ok(None),
+            Err(fault) => Err(fault),
+        }
     }
 
     /// Takes a flight back. Where it is refused, for memory, it is tried again.
@@ -176,6 +181,8 @@ impl<D: Disk, L: Count> Engine<D, L> {
         shares: Vec<Share<L>>,
     ) -> Result<Closed<D>, (CloseFault, Self, Vec<Share<L>>)>
         requires { L.parts ≡ 65536 }
+        ensures closed { IfOk result (λ closed. AtSomeMoment {D = D} (Closes closed.store closed.base closed.trail.items closed.settled shares.items)) }
+        ensures refused { IfErr result (λ refused. AtSomeMoment {D = D} (λ g. RefusesClosing g shares.items refused.0)) }
         ensures back { IfErr result (λ refused. refused.2.items ≡ shares.items) }
     {
         let Engine {
@@ -183,7 +190,9 @@ impl<D: Disk, L: Count> Engine<D, L> {
             changed,
             work,
         } = self;
-        match guarded.into_inner().close(shares) {
+        let guarded = guarded.into_inner();
+        guarded.keeps();
+        match guarded.close(shares) {
             Ok(closed) => Ok(closed),
             Err((fault, guarded, shares)) => Err((
                 fault,

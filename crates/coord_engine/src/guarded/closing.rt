@@ -1,6 +1,6 @@
 //! The value under the lock taken apart.
 
-ghost use Rattle.std.specs.Prelude.{◌≡◌, ◌↔◌, ◌+◌, drop, length, is_some, sum_by, IfErr, IfOk, IsTrue, Some};
+ghost use Rattle.std.specs.Prelude.{◌≡◌, ◌↔◌, ◌+◌, ◌≤◌, drop, length, is_some, sum_by, IfErr, IfOk, IsTrue, Some};
 ghost use Rattle.coord_engine.specs.Closing.{MayClose, RefusesClosing};
 ghost use Rattle.coord_engine.specs.Named.{AreNoted};
 ghost use Rattle.coord_ledger.specs.machine.Log.{settled_count, settled_world};
@@ -10,6 +10,7 @@ use super::Guarded;
 use super::comparing::{all_ascending, all_noted};
 use crate::{CloseFault, Closed, Share};
 use coord_disk::Disk;
+use coord_types::Step;
 use std::sync::ledger::{Book, Ledger as Count, Share as Part};
 
 /// With all parts of the count in hand, the shares' notes are as many as the book has counted.
@@ -28,6 +29,14 @@ fn gather<L: Count>(book: Book<L>, rest: Part<L>, shares: Vec<Share<L>>)
     book.audit(&mut all);
 }
 
+/// The steps from this place on.
+fn steps_from(trail: &[Step], start: usize) -> &[Step]
+    requires { start ≤ length trail.now }
+    ensures { result.now ≡ drop start trail.now }
+{
+    &trail[start..]
+}
+
 impl<D: Disk, L: Count> Guarded<D, L> {
     /// Whether the shares noted, each in order, all that was accepted since the start. That they
     /// noted no more shows in the count.
@@ -37,7 +46,7 @@ impl<D: Disk, L: Count> Guarded<D, L> {
         if !all_ascending(shares) {
             return false;
         }
-        let steps = &self.ledger.trail()[self.start..];
+        let steps = steps_from(self.ledger.trail(), self.start);
         let others = self.ledger.accepted_count() - steps.len() as u64;
         all_noted(shares, others, steps)
     }

@@ -1,7 +1,6 @@
-use Rattle.std.proofs.Common.{◌≡◌, sym, subst, ap, ◌∙◌}
-use Rattle.coord_ledger.specs.ledger.State.{LedgerState}
+use Rattle.std.proofs.Common.{sym, subst, ◌∙◌}
 use Rattle.coord_ledger.specs.machine.Consistent.{IsConsistentLog}
-use Rattle.coord_engine.specs.State.{GuardedState, with_ledger}
+use Rattle.coord_engine.specs.State.{GuardedState}
 use Rattle.coord_engine.specs.Threads.{RefusesShow, Shows}
 use Rattle.coord_engine.proofs.Moments.{on_err, on_ok}
 use Rattle.coord_engine.proofs.Showing.{LedgerShows, told}

@@ -1,4 +1,4 @@
-use Rattle.std.proofs.Common.{◌≡◌, sym, subst, ◌∙◌}
+use Rattle.std.proofs.Common.{sym, subst, ◌∙◌}
 use Rattle.coord_ledger.specs.machine.Consistent.{IsConsistentLog}
 use Rattle.coord_engine.specs.State.{GuardedState}
 use Rattle.coord_engine.specs.Threads.{Submits}

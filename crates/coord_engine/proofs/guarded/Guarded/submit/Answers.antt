@@ -1,5 +1,4 @@
 use Rattle.std.proofs.Common.{◌≡◌, ◌++◌, ◌∷◌, [], false, length, Ok, Err, rules, arith, sym, ap, subst, ◌∙◌}
-use Rattle.coord_ledger.specs.declared.ticket.Note.{Note}
 use Rattle.coord_ledger.specs.ledger.Calls.{said}
 use Rattle.coord_engine.specs.Calls.{AnswersStep, note_of}
 use Rattle.coord_engine.specs.State.{GuardedState}
