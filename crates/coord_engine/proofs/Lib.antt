@@ -3,5 +3,7 @@ pub mod Flights
 pub mod Moments
 pub mod Naming
 pub mod Notes
+pub mod PacketNotes
+mod Puts
 pub mod Showing
 pub mod Submitting

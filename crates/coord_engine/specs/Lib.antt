@@ -3,5 +3,10 @@ pub mod Closing
 pub mod Named
 pub mod NamedRows
 pub mod Pacing
+pub mod Port
 pub mod State
 pub mod Threads
+pub mod Waiting
+pub mod WaitingRows
+pub mod Working
+pub mod code

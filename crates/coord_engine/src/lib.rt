@@ -12,17 +12,30 @@
 //! `specs/Closing.antt` what its methods answer, and `specs/Threads.antt` what the engine's calls
 //! answer while other threads call too; [`named_rows`] are small cases. No contract says that a thread runs, that a waiter wakes or
 //! that anyone is served.
+//!
+//! A [`flusher`] flushes what is accepted and hands what is released to a [`Port`]; a [`worker`]
+//! submits the packets that came for a node. `specs/Pacing.antt` says when a flight starts,
+//! `specs/Waiting.antt` what a worker keeps for another try.
 #![tactic(auto)]
 
 mod closed;
 mod collected;
 mod engine;
+mod flushing;
 mod guarded;
 pub mod named_rows;
+mod port;
+pub mod rows;
 mod share;
+mod waiting;
+mod working;
 
 pub use closed::{CloseFault, Closed};
 pub use collected::Collected;
 pub use engine::Engine;
+pub use flushing::{flusher, hand_over};
 pub use guarded::Guarded;
+pub use port::{Delivery, Port, step_of};
 pub use share::Share;
+pub use waiting::Waiting;
+pub use working::worker;

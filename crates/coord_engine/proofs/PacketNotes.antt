@@ -1,0 +1,47 @@
+-- Notes of packets' steps.
+use Rattle.std.proofs.Common.{◌≡◌, List, [], ◌∷◌, ◌++◌, Result, Ok, Err, sym, ap, ◌∙◌}
+use Rattle.std.specs.Prelude.{All}
+use Rattle.std.proofs.lemmas.List.{append-nil, append_assoc}
+use Rattle.std.proofs.lemmas.List.Elements.{All-append, All-nil, All-push}
+use Rattle.coord_types.specs.declared.packets.Packet.{Packet}
+use Rattle.coord_types.specs.declared.refusals.Refusal.{Refusal}
+use Rattle.coord_types.specs.declared.steps.Step.{Step}
+use Rattle.coord_world.specs.declared.verdicts.Verdict.{Verdict}
+use Rattle.coord_world.specs.declared.verdicts.Verdict.TheVariants.{Fresh, Repeat}
+use Rattle.coord_ledger.specs.declared.ticket.Note.{Note}
+use Rattle.coord_ledger.specs.ledger.State.{Claim}
+use Rattle.coord_engine.specs.Calls.{AnswersStep, LedgerAndNotes, note_of, told}
+use Rattle.coord_engine.specs.Port.{step_of}
+use Rattle.coord_engine.specs.Threads.{AtSomeMoment, Submits}
+use Rattle.coord_engine.specs.Working.{AddsPackets, IsOfPacket}
+
+-- no note was added
+pub adds_none : (notes later : List Note) → later ≡ notes → AddsPackets notes later
+adds_none notes later same = record { added = []; are = same ∙ sym (append-nil notes); packets = All-nil IsOfPacket }
+
+-- some were added, and then some more
+pub adds_more : (a b c : List Note) → AddsPackets a b → AddsPackets b c → AddsPackets a c
+adds_more a b c f g =
+    record {
+      added = f.added ++ g.added;
+      are = g.are ∙ ap (λ (l : List Note). l ++ g.added) f.are ∙ append_assoc a f.added g.added;
+      packets = All-append IsOfPacket f.added g.added f.packets g.packets;
+    }
+
+-- what is added with an answer to a packet's step
+answered : (D : Type 0) (p : Packet) (s : Step) → s ≡ step_of p → (v : Result Verdict Refusal) (before : LedgerAndNotes D) (answer : Result Claim Refusal) (after : LedgerAndNotes D) → AnswersStep s v before answer after → AddsPackets before.notes after.notes
+answered D p s is (Ok (Fresh kind)) before (Ok claim) after a =
+    record {
+      added = note_of claim ∷ [];
+      are = ap (λ (x : LedgerAndNotes D). x.notes) a.1;
+      packets = All-push IsOfPacket [] (note_of claim) (All-nil IsOfPacket) (p, ap (λ (c : Claim). c.what) a.0 ∙ is);
+    }
+answered D p s is (Ok (Repeat kept)) before (Ok claim) after a = adds_none before.notes after.notes (ap (λ (x : LedgerAndNotes D). x.notes) a.1)
+answered D p s is (Err why) before (Ok claim) after a = absurd a
+answered D p s is (Ok (Fresh kind)) before (Err refusal) after a = adds_none before.notes after.notes (ap (λ (x : LedgerAndNotes D). x.notes) a.1)
+answered D p s is (Ok (Repeat kept)) before (Err refusal) after a = adds_none before.notes after.notes (ap (λ (x : LedgerAndNotes D). x.notes) a.1)
+answered D p s is (Err why) before (Err refusal) after a = adds_none before.notes after.notes (ap (λ (x : LedgerAndNotes D). x.notes) a.1)
+
+-- what is added where it was submitted
+pub adds_packet : {D : Type 0} (p : Packet) (s : Step) → s ≡ step_of p → (answer : Result Claim Refusal) (notes later : List Note) → AtSomeMoment (Submits {D = D} s answer notes later) → AddsPackets notes later
+adds_packet {D} p s is answer notes later moment = answered D p s is (told moment.state s) (record { ledger = moment.state.ledger; notes = notes }) answer (record { ledger = moment.so.0; notes = later }) moment.so.1

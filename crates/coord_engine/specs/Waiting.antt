@@ -1,0 +1,17 @@
+-- The packets that wait for another try: at most one of each lane and kind, data or receipt, in the
+-- order in which their lanes and kinds came.
+use Rattle.std.specs.Prelude.{ℕ, List, [], ◌∷◌, Bool, false, ◌&&◌, ◌==◌, if◌then◌else◌}
+use Rattle.coord_types.specs.declared.packets.Packet.{Packet}
+use Rattle.coord_types.specs.declared.packets.Packet.TheVariants.{Carried, Receipted}
+
+-- whether two packets are of one lane and of one kind
+abbrev pub is_alike : Packet → Packet → Bool
+is_alike (Carried p) (Carried q) = (p.from == q.from) && (p.to == q.to)
+is_alike (Receipted p) (Receipted q) = (p.from == q.from) && (p.to == q.to)
+is_alike (Carried p) (Receipted q) = false
+is_alike (Receipted p) (Carried q) = false
+
+-- those that wait once a packet has come: it takes the place of the one like it, or else goes last
+abbrev pub with_packet : List Packet → Packet → List Packet
+with_packet [] p = p ∷ []
+with_packet (q ∷ qs) p = if is_alike p q then p ∷ qs else q ∷ with_packet qs p

@@ -1,0 +1,57 @@
+//! Where released packets and signals go.
+
+ghost use Rattle.std.specs.Prelude.{◌≡◌};
+ghost use Rattle.coord_engine.specs.Port.{delivery_of, step_of};
+
+use coord_types::{NodeId, Output, Packet, Step};
+
+/// What carries released packets to the workers of nodes, and signals to their services. No promise
+/// rests on it: what it takes may be lost, come twice or come late, and it answers false where it
+/// knows that something is lost.
+pub trait Port {
+    /// Carries a packet to this node.
+    fn carry(&self, to: NodeId, packet: Packet) -> bool;
+
+    /// Says to the service at this node that a reset has ended there, with the epoch that began.
+    fn signal(&self, node: NodeId, epoch: u64) -> bool;
+}
+
+/// What is asked of a port for an output.
+#[derive(Clone, Copy, Debug, PartialEq, Eq)]
+pub enum Delivery {
+    Carry(NodeId, Packet),
+    Signal(NodeId, u64),
+}
+
+impl Delivery {
+    /// Data goes to its `to`, and a receipt to its `from`, who sent the data.
+    pub fn of(output: Output) -> Self
+        ensures { result ≡ delivery_of output }
+    {
+        match output {
+            Output::Sent(data) => Delivery::Carry(data.to, Packet::Carried(data)),
+            Output::Receipted(receipt) => {
+                Delivery::Carry(receipt.from, Packet::Receipted(receipt))
+            }
+            Output::Signalled(node, epoch) => Delivery::Signal(node, epoch),
+        }
+    }
+
+    /// Asks it of this port.
+    pub(crate) fn reaches<P: Port>(self, port: &P) -> bool {
+        match self {
+            Delivery::Carry(to, packet) => port.carry(to, packet),
+            Delivery::Signal(node, epoch) => port.signal(node, epoch),
+        }
+    }
+}
+
+/// The step that a packet makes where it has come.
+pub fn step_of(packet: Packet) -> Step
+    ensures { result ≡ step_of packet }
+{
+    match packet {
+        Packet::Carried(data) => Step::Take(data),
+        Packet::Receipted(receipt) => Step::Clear(receipt),
+    }
+}

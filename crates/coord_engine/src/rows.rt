@@ -1,0 +1,13 @@
+//! Packets that wait, worked out: functions that do nothing, whose contracts say what waits.
+
+ghost use Rattle.coord_engine.specs.WaitingRows.{BothKinds, LaterInPlace};
+
+/// The later data of a lane takes the place of the earlier.
+pub fn later_in_place()
+    ensures { LaterInPlace }
+{}
+
+/// Data and a receipt of one lane both wait.
+pub fn both_kinds()
+    ensures { BothKinds }
+{}

@@ -1,0 +1,37 @@
+//! A worker's packets that wait.
+
+use coord_engine::Waiting;
+use coord_types::{DataPacket, Msg, NodeId, Packet};
+use std::alloc::Global;
+use std::test::Fail;
+
+fn data(from: NodeId, to: NodeId, number: u64) -> Packet {
+    Packet::Carried(DataPacket {
+        from,
+        to,
+        inc: 3,
+        number,
+        msg: Msg::Abort,
+    })
+}
+
+// Whether the later packet of a lane is the first, and that of the other lane is next.
+fn keeps_the_later(alloc: Global) -> Option<bool> {
+    let one = NodeId::new(1)?;
+    let two = NodeId::new(2)?;
+    let mut waiting = Waiting::new(alloc);
+    waiting.put(data(one, two, 1)).ok()?;
+    waiting.put(data(two, one, 1)).ok()?;
+    waiting.put(data(one, two, 2)).ok()?;
+    let first = waiting.first()?;
+    waiting.drop_first();
+    let second = waiting.first()?;
+    waiting.drop_first();
+    Some(first == data(one, two, 2) && second == data(two, one, 1) && waiting.first().is_none())
+}
+
+#[test]
+fn a_later_packet_takes_its_place(rt: HostRuntime) -> Result<(), Fail> {
+    assert!(rt; keeps_the_later(rt.alloc()).ok_or("memory")?);
+    Ok(())
+}
