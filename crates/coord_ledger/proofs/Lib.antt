@@ -9,3 +9,9 @@ pub mod Safe
 pub mod Moving
 pub mod Signals
 mod WorkedRuns
+pub mod Collecting
+pub mod Holding
+pub mod ReplyKinds
+pub mod SameSteps
+pub mod ReleasedSteps
+pub mod OwnFlight

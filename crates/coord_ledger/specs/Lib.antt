@@ -2,3 +2,4 @@ pub mod machine
 pub mod ledger
 pub mod promises
 pub mod laws
+pub mod code

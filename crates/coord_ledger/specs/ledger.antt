@@ -1,3 +1,4 @@
 -- A ledger, a flight and a ticket as contracts see them, and how they follow the event machine.
 pub mod State
 pub mod Follows
+pub mod Calls

@@ -10,20 +10,37 @@
 //! that was released. `specs/ledger` is what contracts see of a ledger, a flight and a ticket, and
 //! how they follow the machine.
 //!
+//! `Ledger` is the code: `submit` accepts a step and gives a `Ticket` for its reply, `begin_flush`
+//! sends the store out with the next steps as a `Flight`, `Flight::commit` writes them, `end_flush`
+//! takes the flight back and gives the `Releases` of what it settled, and `collect` gives the reply.
+//! Contracts see `LedgerState`, `FlightState` and a `Claim` (`specs/ledger/State.antt`), and what
+//! each call makes of them (`specs/ledger/Calls.antt`).
+//!
 //! [`laws`] proves of the machine what the main theorem stands on, and [`runs`] has runs whose
 //! answers are known.
 #![tactic(auto)]
 
 mod events;
+mod flight;
 pub mod laws;
+mod ledger;
 mod mark;
 mod release;
+mod releases;
 pub mod runs;
+mod seen;
+mod settling;
+mod ticket;
 mod trace;
 mod view;
 
 pub use events::{Answer, Event};
+pub use flight::Flight;
+pub use ledger::Ledger;
 pub use mark::Mark;
 pub use release::Release;
+pub use releases::Releases;
+pub use seen::Seen;
+pub use ticket::{Note, Ticket};
 pub use trace::{RunFault, RunFaultKind, Trace};
 pub use view::{LinkView, NodeView, View};

@@ -1,0 +1,2 @@
+-- What only the bodies here need.
+pub mod Holding

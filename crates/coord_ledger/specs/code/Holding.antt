@@ -1,0 +1,79 @@
+-- What the types of a ledger and of a flight keep of their parts.
+use Rattle.std.specs.Prelude.{◌≡◌, ℕ, ◌+◌, ◌≤◌, List, map, length, Option, Some, None, IfSome, IfNone}
+use Rattle.std.specs.List.{AllByRecursion}
+use Rattle.coord_batch.specs.Batches.{IsNumbered}
+use Rattle.coord_types.specs.declared.steps.Kind.{Kind}
+use Rattle.coord_types.specs.declared.steps.Step.{Step}
+use Rattle.coord_store.specs.Kept.{Kept}
+use Rattle.coord_store.specs.Recovered.{AllFresh}
+use Rattle.coord_world.specs.protocol.Next.{fold}
+use Rattle.coord_world.specs.protocol.NumberedWorld.{World}
+use Rattle.coord_world.specs.protocol.Outputs.{outs}
+use Rattle.coord_ledger.specs.declared.mark.Mark.{Mark}
+use Rattle.coord_ledger.specs.declared.mark.Mark.TheVariants.{New, Good, Torn}
+use Rattle.coord_ledger.specs.machine.Answers.{most_in_flight}
+use Rattle.coord_ledger.specs.machine.Consistent.{IsConsistentLog}
+use Rattle.coord_ledger.specs.machine.Log.{Log, front_world, settled_world, world_after}
+
+-- the kinds of the replies to these steps
+abbrev pub kinds_of : World → List Step → List Kind
+kinds_of w steps = map (λ r. r.reply.kind) (outs w steps)
+
+-- ---- a ledger
+
+-- how many steps are out, which counts only while the store is away
+abbrev pub out_of : {D : Type 0} → Option (Kept D) → ℕ → Option ℕ
+out_of None n = Some n
+out_of (Some kept) n = None
+
+abbrev pub disk_at : {D : Type 0} → Option (Kept D) → Option D
+disk_at None = None
+disk_at (Some kept) = Some kept.disk
+
+-- the world that the flight in doubt was to make
+abbrev pub doubted : Log → Option ℕ → Option World
+doubted log None = None
+doubted log (Some b) = Some (world_after log (log.settled + b))
+
+-- a store at home has the settled world
+pub record IsHome {D : Type 0} (log : Log) (doubt : Option ℕ) (kept : Kept D) : Type 0 where
+  pub world_is : kept.world ≡ settled_world log
+  pub torn_is : kept.torn ≡ doubted log doubt
+
+-- while it is away, so many of the next steps are out, and the ledger goes on
+pub record IsAway (log : Log) (out : ℕ) (doubt : Option ℕ) : Type 0 where
+  pub some : 1 ≤ out
+  pub most : out ≤ most_in_flight
+  pub within : log.settled + out ≤ length log.trail
+  pub going : doubt ≡ None
+
+pub record IsLedger {D : Type 0} (log : Log) (kinds : List Kind) (front settled : World) (out : ℕ) (doubt : Option ℕ) (store : Option (Kept D)) : Type 0 where
+  pub consistent : IsConsistentLog log
+  pub kinds_are : kinds ≡ kinds_of log.base log.trail
+  pub front_is : front ≡ front_world log
+  pub settled_is : settled ≡ settled_world log
+  pub doubt_within : IfSome doubt (λ b. log.settled + b ≤ length log.trail)
+  pub home : IfSome store (IsHome log doubt)
+  pub away : IfNone store (IsAway log out doubt)
+
+-- ---- a flight
+
+-- the world of the store that flies with these steps from this world
+abbrev pub carried_world : Mark → World → List Step → World
+carried_world New w steps = w
+carried_world Good w steps = fold w steps
+carried_world Torn w steps = w
+
+-- and the one that a torn commit was to make
+abbrev pub carried_torn : Mark → World → List Step → Option World
+carried_torn New w steps = None
+carried_torn Good w steps = None
+carried_torn Torn w steps = Some (fold w steps)
+
+pub record IsFlight {D : Type 0} (steps : List Step) (world : World) (mark : Mark) (kept : Kept D) : Type 0 where
+  pub some : 1 ≤ length steps
+  pub most : length steps ≤ most_in_flight
+  pub numbered : AllByRecursion IsNumbered steps
+  pub fresh : AllFresh world world steps
+  pub world_is : kept.world ≡ carried_world mark world steps
+  pub torn_is : kept.torn ≡ carried_torn mark world steps

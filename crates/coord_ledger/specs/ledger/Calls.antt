@@ -1,0 +1,83 @@
+-- What the calls of a ledger make of it.
+use Rattle.std.specs.Prelude.{◌≡◌, ℕ, ◌+◌, Bool, List, [], take, is_some, Option, Some, None, Result}
+use Rattle.coord_disk.specs.Model.Present.{Present, IsImage}
+use Rattle.coord_types.specs.declared.refusals.Refusal.{Refusal}
+use Rattle.coord_types.specs.declared.refusals.Refusal.TheVariants.{OutOfMemory, Stranger}
+use Rattle.coord_types.specs.declared.steps.Reply.{Reply}
+use Rattle.coord_types.specs.declared.steps.Step.{Step}
+use Rattle.coord_store.specs.Kept.{GivesEither}
+use Rattle.coord_store.specs.Recovered.{Recovered}
+use Rattle.coord_world.specs.declared.verdicts.Verdict.{Verdict}
+use Rattle.coord_world.specs.protocol.Next.{fold}
+use Rattle.coord_world.specs.protocol.NumberedWorld.{World}
+use Rattle.coord_world.specs.protocol.Outputs.{outs}
+use Rattle.coord_ledger.specs.declared.mark.Mark.{Mark}
+use Rattle.coord_ledger.specs.declared.mark.Mark.TheVariants.{New, Good, Torn}
+use Rattle.coord_ledger.specs.declared.release.Release.{Release}
+use Rattle.coord_ledger.specs.ledger.Follows.{IsOut}
+use Rattle.coord_ledger.specs.ledger.State.{Claim, FlightState, LedgerState}
+use Rattle.coord_ledger.specs.machine.After.{releases_of}
+use Rattle.coord_ledger.specs.machine.Answers.{most_in_flight, stays_home}
+use Rattle.coord_ledger.specs.machine.Log.{Log, pending, settled_count, settled_world, with_settled, with_step, world_after}
+use Rattle.coord_ledger.specs.machine.Submits.{verdict}
+
+-- that this step has this reply
+abbrev pub claimed : Step → Reply → Claim
+claimed what reply = record { step = reply.step; what = what; kind = reply.kind }
+
+-- what it says to a step, memory aside
+abbrev pub said : {D : Type 0} → LedgerState D → Step → Result Verdict Refusal
+said l s = verdict (is_some l.doubt) l.log s
+
+-- with one more step accepted
+abbrev pub with_accepted : {D : Type 0} → LedgerState D → Step → LedgerState D
+with_accepted l s = record { log = with_step l.log s; out = l.out; doubt = l.doubt; disk = l.disk }
+
+-- no flight goes out of it
+abbrev pub keeps_store : {D : Type 0} → LedgerState D → Bool
+keeps_store l = stays_home (is_some l.doubt) (is_some l.out) l.log
+
+-- the flight that goes out next, with this disk
+abbrev pub next_flight : {D : Type 0} → Log → D → FlightState D
+next_flight log disk = record { first = settled_count log + 1; steps = take most_in_flight (pending log); world = settled_world log; mark = New; disk = disk }
+
+-- its store is out with so many steps
+abbrev pub with_out : {D : Type 0} → LedgerState D → ℕ → LedgerState D
+with_out l n = record { log = l.log; out = Some n; doubt = l.doubt; disk = None }
+
+-- a flight of n steps is back: a good one settles them, a torn one stops the ledger
+abbrev pub taken_back : {D : Type 0} → LedgerState D → ℕ → Mark → D → LedgerState D
+taken_back l n New disk = record { log = l.log; out = None; doubt = l.doubt; disk = Some disk }
+taken_back l n Good disk = record { log = with_settled l.log n; out = None; doubt = l.doubt; disk = Some disk }
+taken_back l n Torn disk = record { log = l.log; out = None; doubt = Some n; disk = Some disk }
+
+-- what a flight releases when it is taken back
+abbrev pub releases_in : {D : Type 0} → FlightState D → Mark → List Release
+releases_in f New = []
+releases_in f Good = releases_of (outs f.world f.steps)
+releases_in f Torn = []
+
+-- why a flight is not taken back: it isn't the one that is out, or the list of its releases finds no memory
+abbrev pub RefusesFlight : {D : Type 0} → LedgerState D → FlightState D → Refusal → Type 0
+RefusesFlight l f Stranger = ¬ IsOut l f
+RefusesFlight l f OutOfMemory = IsOut l f × (f.mark ≡ Good)
+RefusesFlight l f refusal = ⊥
+
+-- these bytes give the world before the steps of a new flight, after those of a good one, and one of both for a torn one
+abbrev pub GivesFlown : Mark → World → List Step → List ℕ → Type 0
+GivesFlown New w steps bytes = Recovered bytes w
+GivesFlown Good w steps bytes = Recovered bytes (fold w steps)
+GivesFlown Torn w steps bytes = GivesEither w (fold w steps) bytes
+
+-- so does each image of its disk
+abbrev pub FlightGives : {D : Type 0} → (D → Present) → FlightState D → Type 0
+FlightGives present f = (image : List ℕ) → IsImage (present f.disk) image → GivesFlown f.mark f.world f.steps image
+
+-- these bytes give the settled world, or after a stop perhaps the one behind the steps in doubt
+abbrev pub GivesSettled : Log → Option ℕ → List ℕ → Type 0
+GivesSettled log None bytes = Recovered bytes (settled_world log)
+GivesSettled log (Some b) bytes = GivesEither (settled_world log) (world_after log (log.settled + b)) bytes
+
+-- so does each image of a ledger's disk, while its store is at home
+abbrev pub LedgerGives : {D : Type 0} → (D → Present) → LedgerState D → D → Type 0
+LedgerGives present l disk = (image : List ℕ) → IsImage (present disk) image → GivesSettled l.log l.doubt image

@@ -1,0 +1,105 @@
+//! Flights: steps on their way to the disk.
+
+ghost use Rattle.std.specs.Prelude.{◌≡◌, ◌⊎◌, ◌+◌, ◌≤◌, true, length, Err, MatchResult};
+ghost use Rattle.coord_disk.specs.Model.Moments.{LeavesOnly};
+ghost use Rattle.coord_store.specs.Faults.{failures_in};
+ghost use Rattle.coord_store.specs.Kept.{GivesEither};
+ghost use Rattle.coord_store.specs.declared.faults.CommitFault.TheVariants.{OutOfMemory, Device, Stopped, Again};
+ghost use Rattle.coord_world.specs.protocol.Next.{fold};
+ghost use Rattle.coord_ledger.specs.declared.mark.Mark.TheVariants.{New, Good, Torn};
+
+use crate::Mark;
+use coord_disk::Disk;
+use coord_store::{CommitFault, Store};
+use coord_types::Step;
+use coord_world::World;
+use std::marker::Model;
+
+/// The store of a ledger, with the next steps to be committed to it, from 1 to 256. It has to be
+/// spent, by the ledger's `end_flush`. Contracts see `FlightState` (`specs/ledger/State.antt`); its
+/// type keeps that the images of its disk give the world from before its steps while it is new, the
+/// world after them once it is good, and one of both where it is torn.
+pub struct Flight<D: Disk> {
+    pub(crate) first: u64,
+    pub(crate) steps: Vec<Step>,
+    pub(crate) world: World,
+    pub(crate) mark: Mark,
+    pub(crate) store: Store<D>,
+}
+
+impl<D: Disk> Model for Flight<D> {
+    ghost use Rattle.coord_ledger.specs.code.Holding.{IsFlight};
+    ghost use Rattle.coord_ledger.specs.ledger.State.{FlightState};
+
+    ghost Value = { FlightState D };
+
+    ghost view = { λ f. record { first = f.first; steps = f.steps.items; world = f.world; mark = f.mark; disk = f.store.disk } };
+
+    ghost invariant = { λ f. IsFlight f.steps.items f.world f.mark f.store };
+}
+
+impl<D: Disk> Flight<D> {
+    ghost use Rattle.coord_ledger.specs.ledger.Calls.{FlightGives};
+
+    /// Commits the steps. It takes no lock and never waits.
+    ///
+    /// After `OutOfMemory` it may be tried again. After `Device` the flight is torn, and each later
+    /// call answers `Stopped`; a flight that was committed answers `Again`.
+    pub fn commit(&mut self) -> Result<(), CommitFault>
+        // A crash at any moment of the call leaves what gives the world from before the steps or from after them.
+        ensures any_moment { D.keeps_model self.old.disk ≡ true → self.old.mark ≡ New
+            → LeavesOnly D.clock D.left_since self.old.disk self.new.disk (GivesEither self.old.world (fold self.old.world self.old.steps)) }
+
+        // What it answers, and what the flight is then.
+        ensures tried { self.old.mark ≡ New → MatchResult result (λ _. self.new.mark ≡ Good) (λ fault. ((fault ≡ Device) × (self.new.mark ≡ Torn)) ⊎ ((fault ≡ OutOfMemory) × (self.new.mark ≡ New))) }
+        ensures again { self.old.mark ≡ Good → (result ≡ Err CommitFault.Again) × (self.new ≡ self.old) }
+        ensures stopped { self.old.mark ≡ Torn → (result ≡ Err CommitFault.Stopped) × (self.new ≡ self.old) }
+        ensures same_first { self.new.first ≡ self.old.first }
+        ensures same_steps { self.new.steps ≡ self.old.steps }
+        ensures same_world { self.new.world ≡ self.old.world }
+
+        // What it does to the disk.
+        ensures failures { D.failures self.new.disk ≡ D.failures self.old.disk + failures_in result }
+        ensures calls { D.keeps_model self.old.disk ≡ true → D.clock self.new.disk ≤ D.clock self.old.disk + 8 }
+        ensures model { D.keeps_model self.new.disk ≡ D.keeps_model self.old.disk }
+    {
+        match self.mark {
+            Mark::Good => Err(CommitFault::Again),
+            Mark::Torn => Err(CommitFault::Stopped),
+            Mark::New => match self.store.commit(&self.steps) {
+                Ok(()) => {
+                    self.mark = Mark::Good;
+                    Ok(())
+                }
+                Err(CommitFault::Device) => {
+                    self.mark = Mark::Torn;
+                    Err(CommitFault::Device)
+                }
+                Err(fault) => Err(fault),
+            },
+        }
+    }
+
+    /// Gives the disk back, and loses what it carried: its ledger stays without its store.
+    pub fn into_disk(self) -> D
+        ensures { result ≡ self.disk }
+    {
+        let Flight {
+            first: _,
+            steps: _,
+            world: _,
+            mark: _,
+            store,
+        } = self;
+        store.into_disk()
+    }
+
+    /// Does nothing: its contract is what the type keeps of every flight.
+    pub fn images_give_world(&self)
+        ensures some { 1 ≤ length self.now.steps }
+        ensures most { length self.now.steps ≤ 256 }
+        ensures images { D.keeps_model self.now.disk ≡ true → FlightGives D.present self.now }
+    {
+        self.store.images_give_world();
+    }
+}

@@ -1,0 +1,180 @@
+//! The ledger: a base world, the steps that were accepted since, how many of them are settled, and
+//! the store, at home or out with a flight.
+
+ghost use Rattle.std.specs.Prelude.{◌≡◌, ◌^◌, ◌≤◌, false, true, is_some, None, Some, IfErr, IfOk, IfSome};
+ghost use Rattle.coord_store.specs.Kept.{has_stopped};
+ghost use Rattle.coord_types.specs.Table.{get};
+ghost use Rattle.coord_world.specs.protocol.Acceptance.{last_number};
+ghost use Rattle.coord_ledger.specs.machine.Log.{accepted_count, front_world, settled_count, settled_world};
+
+mod collecting;
+mod flushing;
+mod showing;
+mod submitting;
+
+use coord_disk::Disk;
+use coord_store::Store;
+use coord_types::{Client, Kind, Step};
+use coord_world::World;
+use std::alloc::{AllocError, Global};
+use std::marker::Model;
+
+/// What was accepted since a base world, and how much of it is settled on the disk. Contracts see
+/// `LedgerState` (`specs/ledger/State.antt`): its log, how many steps are out, the steps in doubt
+/// once it has stopped, and the disk while the store is at home.
+///
+/// It keeps all steps since it was adopted, at most 1,024 of them not settled, and beside them the
+/// front world, after all of them, and the settled world.
+#[derive(Drop)]
+pub struct Ledger<D: Disk> {
+    alloc: Global,
+    base: World,
+    trail: Vec<Step>,
+    /// The kinds of the replies to the steps of the trail.
+    kinds: Vec<Kind>,
+    /// How many steps of the trail are settled.
+    done: usize,
+    front: World,
+    settled: World,
+    /// How many steps are out; it counts only while the store is away.
+    out: usize,
+    doubt: Option<usize>,
+    store: Option<Store<D>>,
+}
+
+impl<D: Disk> Model for Ledger<D> {
+    ghost use Rattle.coord_ledger.specs.code.Holding.{IsLedger, disk_at, out_of};
+    ghost use Rattle.coord_ledger.specs.ledger.State.{LedgerState};
+
+    ghost Value = { LedgerState D };
+
+    ghost view = { λ l. record { log = record { base = l.base; trail = l.trail.items; settled = l.done }; out = out_of l.store l.out; doubt = l.doubt; disk = disk_at l.store } };
+
+    ghost invariant = { λ l. IsLedger (record { base = l.base; trail = l.trail.items; settled = l.done }) l.kinds.items l.front l.settled l.out l.doubt l.store };
+}
+
+/// Three copies of a world: what is the base, the front and the settled world at first.
+fn copies(world: &World) -> Result<(World, World, World), AllocError>
+    ensures base { IfOk result (λ r. r.0 ≡ world.now) }
+    ensures front { IfOk result (λ r. r.1 ≡ world.now) }
+    ensures settled { IfOk result (λ r. r.2 ≡ world.now) }
+{
+    Ok((world.copy()?, world.copy()?, world.copy()?))
+}
+
+impl<D: Disk> Ledger<D> {
+    ghost use Rattle.coord_ledger.specs.ledger.Calls.{LedgerGives};
+    ghost use Rattle.coord_ledger.specs.ledger.State.{ledger_over};
+
+    /// A ledger over a store that has not stopped: its world is the base, and no step is accepted
+    /// since.
+    pub fn adopt(alloc: Global, store: Store<D>) -> Result<Self, (AllocError, Store<D>)>
+        requires { has_stopped store ≡ false }
+        ensures adopted { IfOk result (λ ledger. ledger ≡ ledger_over store.world store.disk) }
+        ensures back { IfErr result (λ refused. refused.1 ≡ store) }
+    {
+        let (base, front, settled) = match copies(store.world()) {
+            Ok(copies) => copies,
+            Err(fault) => return Err((fault, store)),
+        };
+        base.ranges();
+        store.images_give_world();
+        Ok(Ledger {
+            alloc,
+            base,
+            trail: Vec::new(alloc),
+            kinds: Vec::new(alloc),
+            done: 0,
+            front,
+            settled,
+            out: 0,
+            doubt: None,
+            store: Some(store),
+        })
+    }
+
+    /// The world after all accepted steps.
+    pub fn front(&self) -> &World
+        ensures { result.now ≡ front_world self.now.log }
+    {
+        &self.front
+    }
+
+    /// The world after the settled steps.
+    pub fn settled(&self) -> &World
+        ensures { result.now ≡ settled_world self.now.log }
+    {
+        &self.settled
+    }
+
+    // How many steps are settled, those before the base counted.
+    fn settled_count(&self) -> u64
+        ensures value { result ≡ settled_count self.now.log }
+        ensures bounded { result ≤ 2 ^ 40 }
+    {
+        self.settled.ranges();
+        self.settled.count()
+    }
+
+    // How many steps are accepted, those before the base counted.
+    fn accepted_count(&self) -> u64
+        ensures { result ≡ accepted_count self.now.log }
+    {
+        self.front.count()
+    }
+
+    /// Whether the device failed in a flight that has come back. Then nothing more is accepted or
+    /// flushed.
+    pub fn stopped(&self) -> bool
+        ensures { result ≡ is_some self.now.doubt }
+    {
+        self.doubt.is_some()
+    }
+
+    /// The number of a client's last accepted order, 0 at first.
+    pub fn last(&self, client: Client) -> u64
+        ensures { result ≡ last_number (get (front_world self.now.log).sessions client) }
+    {
+        match self.front.last(client) {
+            None => 0,
+            Some(session) => session.number,
+        }
+    }
+
+    /// Gives the store back, unless it is out with a flight. Pending steps are lost.
+    pub fn close(self) -> Result<Store<D>, Self>
+        ensures home { IfOk result (λ store. self.disk ≡ Some store.disk) }
+        ensures world { IfOk result (λ store. store.world ≡ settled_world self.log) }
+        ensures stopped { IfOk result (λ store. has_stopped store ≡ is_some self.doubt) }
+        ensures out { IfErr result (λ ledger. (ledger ≡ self) × (self.disk ≡ None)) }
+    {
+        if self.store.is_none() {
+            return Err(self);
+        }
+        let Ledger {
+            alloc: _,
+            base: _,
+            trail: _,
+            kinds: _,
+            done: _,
+            front: _,
+            settled: _,
+            out: _,
+            doubt: _,
+            store,
+        } = self;
+        match store {
+            Some(store) => Ok(store),
+            None => unreachable!(),
+        }
+    }
+
+    /// Does nothing: its contract is what the type keeps of every ledger.
+    pub fn images_give_settled(&self)
+        ensures { IfSome self.now.disk (λ disk. D.keeps_model disk ≡ true → LedgerGives D.present self.now disk) }
+    {
+        if let Some(store) = &self.store {
+            store.images_give_world();
+        }
+    }
+}

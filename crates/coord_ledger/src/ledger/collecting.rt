@@ -1,0 +1,78 @@
+//! Replies to settled steps.
+
+ghost use Rattle.std.specs.Prelude.{◌≡◌, ◌↔◌, ◌<◌, length, slice_get, IfErr, IfOk, IsTrue, Some};
+ghost use Rattle.coord_ledger.specs.ledger.State.{IsCollectable, IsKeptBy, reply_of};
+
+use super::Ledger;
+use crate::Ticket;
+use crate::settling::is_same;
+use coord_disk::Disk;
+use coord_types::{Kind, Reply, Step};
+use coord_world::World;
+
+/// Whether a world keeps the ticket's reply for the ticket's order.
+fn is_kept(world: &World, ticket: &Ticket) -> bool
+    ensures { IsTrue result ↔ IsKeptBy world.now ticket.now }
+{
+    let Step::Order(client, number, command) = ticket.what else {
+        return false;
+    };
+    match world.last(client) {
+        None => false,
+        Some(last) => {
+            last.number == number && last.command == command && last.reply == ticket.reply()
+        }
+    }
+}
+
+/// Whether the ticket's step stands at this place of a trail, and its kind at that of the kinds.
+fn stands_at(trail: &[Step], kinds: &[Kind], place: usize, ticket: &Ticket) -> bool
+    requires in_trail { place < length trail.now }
+    requires in_kinds { place < length kinds.now }
+    ensures { IsTrue result ↔ ((slice_get trail.now place ≡ Some ticket.now.what) × (slice_get kinds.now place ≡ Some ticket.now.kind)) }
+{
+    if !is_same(&trail[place], &ticket.what) {
+        return false;
+    }
+    kinds[place] == ticket.kind
+}
+
+impl<D: Disk> Ledger<D> {
+    /// Whether the settled part of the trail has the ticket's step at its number, which is greater
+    /// than the base's count, and answers it with the ticket's kind.
+    fn is_settled(&self, ticket: &Ticket) -> bool
+        requires { self.now.log.base.count < ticket.now.step }
+        ensures { IsTrue result ↔ IsCollectable self.now.log ticket.now }
+    {
+        let place = (ticket.step - self.base.count() - 1) as usize;
+        if place >= self.done {
+            return false;
+        }
+        stands_at(&self.trail, &self.kinds, place, ticket)
+    }
+
+    /// Whether the ticket's step is settled here and was answered as the ticket says.
+    fn is_collectable(&self, ticket: &Ticket) -> bool
+        ensures { IsTrue result ↔ IsCollectable self.now.log ticket.now }
+    {
+        if ticket.step <= self.base.count() {
+            is_kept(&self.base, ticket)
+        } else {
+            self.is_settled(ticket)
+        }
+    }
+
+    /// The reply to the ticket's step, once the step is settled; before that, and for a ticket of
+    /// another ledger, the ticket. It answers after a stop too.
+    pub fn collect(&self, ticket: Ticket) -> Result<Reply, Ticket>
+        ensures settled { IfOk result (λ reply. (reply ≡ reply_of ticket) × IsCollectable self.now.log ticket) }
+        ensures waiting { IfErr result (λ back. (back ≡ ticket) × ¬ IsCollectable self.now.log ticket) }
+    {
+        if !self.is_collectable(&ticket) {
+            return Err(ticket);
+        }
+        let reply = ticket.reply();
+        ticket.forget();
+        Ok(reply)
+    }
+}

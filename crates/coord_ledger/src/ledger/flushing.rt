@@ -1,0 +1,150 @@
+//! Flights go out, and come back.
+
+ghost use Rattle.std.specs.Prelude.{◌≡◌, ◌≢◌, ◌+◌, ◌↔◌, ◌≤◌, false, true, None, Ok, Some, drop, length, take, IfErr, IfOk, IsSomeAnd, IsTrue, MatchResult, OnErr, OnOk};
+ghost use Rattle.coord_world.specs.protocol.Next.{fold};
+ghost use Rattle.coord_ledger.specs.ledger.Calls.{RefusesFlight, keeps_store, next_flight, releases_in, taken_back, with_out};
+ghost use Rattle.coord_ledger.specs.ledger.Follows.{IsOut};
+ghost use Rattle.coord_ledger.specs.machine.After.{releases_of};
+
+use super::Ledger;
+use crate::settling::{are_same, is_same_world, settle};
+use crate::{Flight, Mark, Release, Releases};
+use coord_disk::Disk;
+use coord_types::{MAX_BATCH_STEPS, Refusal, Step};
+use coord_world::World;
+use std::alloc::AllocError;
+
+/// So many steps behind the settled ones.
+fn next_steps(trail: &[Step], done: usize, size: usize) -> &[Step]
+    requires { done + size ≤ length trail.now }
+    ensures { result.now ≡ take size (drop done trail.now) }
+{
+    &trail[done..done + size]
+}
+
+impl<D: Disk> Ledger<D> {
+    /// Sends the store out with the next steps that are not settled, at most 256. None where
+    /// nothing is pending, a flight is out or the ledger has stopped.
+    pub fn begin_flush(&mut self) -> Result<Option<Flight<D>>, AllocError>
+        ensures nothing { keeps_store self.old ≡ true → (result ≡ Ok None) × (self.new ≡ self.old) }
+        ensures begun { keeps_store self.old ≡ false → IfOk result (λ begun. IsSomeAnd begun (λ flight. (flight ≡ next_flight self.old.log flight.disk) × (self.old.disk ≡ Some flight.disk) × (self.new ≡ with_out self.old (length flight.steps)))) }
+        ensures err { OnErr result (self.new ≡ self.old) }
+    {
+        if self.doubt.is_some() || self.done >= self.trail.len() {
+            return Ok(None);
+        }
+        if self.store.is_none() {
+            return Ok(None);
+        }
+        let size = MAX_BATCH_STEPS.min(self.trail.len() - self.done);
+        let steps = Vec::from_slice(self.alloc, next_steps(&self.trail, self.done, size))?;
+        let world = self.settled.copy()?;
+        let first = self.settled_count() + 1;
+        let Some(store) = self.store.take() else {
+            return Ok(None);
+        };
+        self.out = size;
+        Ok(Some(Flight {
+            first,
+            steps,
+            world,
+            mark: Mark::New,
+            store,
+        }))
+    }
+
+    /// Whether a flight is the one that is out.
+    fn is_own(&self, flight: &Flight<D>) -> bool
+        ensures { IsTrue result ↔ IsOut self.now flight.now }
+    {
+        if self.store.is_some() || flight.steps.len() != self.out {
+            return false;
+        }
+        if flight.first != self.settled_count() + 1 {
+            return false;
+        }
+        if !is_same_world(&flight.world, &self.settled) {
+            return false;
+        }
+        are_same(&flight.steps, next_steps(&self.trail, self.done, self.out))
+    }
+
+    /// The settled world once a flight is settled, and what its steps release.
+    fn settled_by(&self, flight: &Flight<D>) -> Result<(World, Vec<Release>), AllocError>
+        requires { IsOut self.now flight.now }
+        ensures world { IfOk result (λ r. r.0 ≡ fold flight.now.world flight.now.steps) }
+        ensures released { IfOk result (λ r. r.1.items ≡ releases_in flight.now Mark.Good) }
+    {
+        let mut world = self.settled.copy()?;
+        let rows = settle(self.alloc, &mut world, &flight.steps)?;
+        Ok((world, rows))
+    }
+
+    /// Takes back a flight of its own that was not committed, or was torn.
+    fn take_back(&mut self, flight: Flight<D>)
+        requires own { IsOut self.old flight }
+        requires uncommitted { flight.mark ≢ Mark.Good }
+        ensures { self.new ≡ taken_back self.old (length flight.steps) flight.mark flight.disk }
+    {
+        let Flight {
+            first: _,
+            steps,
+            world: _,
+            mark,
+            store,
+        } = flight;
+        self.store = Some(store);
+        if mark == Mark::Torn {
+            self.doubt = Some(steps.len());
+        }
+    }
+
+    /// Takes back a flight of its own that was committed, once its steps led to this world.
+    fn take_settled(&mut self, flight: Flight<D>, settled: World)
+        requires own { IsOut self.old flight }
+        requires good { flight.mark ≡ Mark.Good }
+        requires led { settled ≡ fold flight.world flight.steps }
+        ensures { self.new ≡ taken_back self.old (length flight.steps) flight.mark flight.disk }
+    {
+        let Flight {
+            first: _,
+            steps,
+            world: _,
+            mark: _,
+            store,
+        } = flight;
+        self.store = Some(store);
+        self.done += steps.len();
+        self.settled = settled;
+    }
+
+    /// Takes back the flight that is out, and its store with it. A good one settles its steps and
+    /// gives what they release; one that was not committed settles nothing; a torn one settles
+    /// nothing and stops the ledger.
+    ///
+    /// A flight whose first number, steps or world are not those that went out is refused as
+    /// `Stranger`. A refusal gives the flight back.
+    pub fn end_flush(&mut self, flight: Flight<D>) -> Result<Releases, (Refusal, Flight<D>)>
+        ensures own { OnOk result (IsOut self.old flight) }
+        ensures taken { OnOk result (self.new ≡ taken_back self.old (length flight.steps) flight.mark flight.disk) }
+        ensures released { IfOk result (λ releases. releases ≡ releases_in flight flight.mark) }
+        ensures refused { IfErr result (λ refused. RefusesFlight self.old flight refused.0) }
+        ensures back { IfErr result (λ refused. refused.1 ≡ flight) }
+        ensures unchanged { OnErr result (self.new ≡ self.old) }
+    {
+        if !self.is_own(&flight) {
+            return Err((Refusal::Stranger, flight));
+        }
+        if flight.mark != Mark::Good {
+            self.take_back(flight);
+            return Ok(Releases::of(Vec::new(self.alloc)));
+        }
+        match self.settled_by(&flight) {
+            Ok((settled, rows)) => {
+                self.take_settled(flight, settled);
+                Ok(Releases::of(rows))
+            }
+            Err(_) => Err((Refusal::OutOfMemory, flight)),
+        }
+    }
+}

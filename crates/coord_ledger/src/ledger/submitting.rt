@@ -1,0 +1,74 @@
+//! How steps are accepted.
+
+ghost use Rattle.std.specs.Prelude.{◌≡◌, Err, IfOk, IsOkAnd, MatchResult, Ok, OnErr};
+ghost use Rattle.coord_types.specs.declared.refusals.Refusal.TheVariants.{OutOfMemory};
+ghost use Rattle.coord_types.specs.declared.refusals.Refusal.{Refusal as Why};
+ghost use Rattle.coord_types.specs.declared.steps.Kind.{Kind as Sort};
+ghost use Rattle.coord_types.specs.declared.steps.Reply.{Reply as Answered};
+ghost use Rattle.coord_world.specs.protocol.Next.{reply};
+ghost use Rattle.coord_ledger.specs.ledger.Calls.{claimed, said, with_accepted};
+ghost use Rattle.coord_ledger.specs.machine.Log.{front_world};
+
+use super::Ledger;
+use crate::Ticket;
+use coord_disk::Disk;
+use coord_types::{Kind, MAX_PENDING, Refusal, Reply, Step};
+use coord_world::Verdict;
+use std::alloc::AllocError;
+
+impl<D: Disk> Ledger<D> {
+    /// What it says to a step, memory aside.
+    fn judge(&self, step: &Step) -> Result<Verdict, Refusal>
+        ensures { result ≡ said self.now step.now }
+    {
+        if self.doubt.is_some() {
+            return Err(Refusal::Stopped);
+        }
+        let verdict = self.front.judge(&self.settled, step);
+        if let Ok(Verdict::Repeat(_)) = verdict {
+            return verdict;
+        }
+        if self.trail.len() - self.done >= MAX_PENDING {
+            return Err(Refusal::PendingFull);
+        }
+        verdict
+    }
+
+    /// Adds a step that is fresh, to be answered with this kind, and gives its reply.
+    fn accept(&mut self, step: Step, kind: Kind) -> Result<Reply, AllocError>
+        requires { said self.old step ≡ Ok (Verdict.Fresh kind) }
+        ensures accepted { IfOk result (λ _. self.new ≡ with_accepted self.old step) }
+        ensures replied { IfOk result (λ r. r ≡ reply (front_world self.old.log) step) }
+        ensures err { OnErr result (self.new ≡ self.old) }
+    {
+        step.within_ranges();
+        self.trail.reserve(1)?;
+        self.kinds.reserve(1)?;
+        let outcome = self.front.apply(&step)?;
+        self.trail.push_reserved(step);
+        self.kinds.push_reserved(kind);
+        Ok(outcome.reply)
+    }
+
+    /// Accepts a step, and gives a ticket for its reply. A client's last order that comes again is
+    /// no step: its ticket is for the reply that was kept.
+    ///
+    /// It refuses with the first that applies of `Stopped`, `PendingFull` (1,024 steps are not
+    /// settled; a repeat comes before it), `Exhausted`, the step's own refusals in the order of
+    /// `World::judge`, and `OutOfMemory`.
+    pub fn submit(&mut self, step: Step) -> Result<Ticket, Refusal>
+        ensures fresh { (kind : Sort) → said self.old step ≡ Ok (Verdict.Fresh kind) → MatchResult result (λ ticket. (ticket ≡ claimed step (reply (front_world self.old.log) step)) × (self.new ≡ with_accepted self.old step)) (λ refusal. refusal ≡ OutOfMemory) }
+        ensures repeated { (kept : Answered) → said self.old step ≡ Ok (Verdict.Repeat kept) → IsOkAnd result (λ ticket. (ticket ≡ claimed step kept) × (self.new ≡ self.old)) }
+        ensures refused { (why : Why) → said self.old step ≡ Err why → result ≡ Err why }
+        ensures unchanged { OnErr result (self.new ≡ self.old) }
+    {
+        match self.judge(&step) {
+            Ok(Verdict::Fresh(kind)) => match self.accept(step, kind) {
+                Ok(reply) => Ok(Ticket::of(step, reply)),
+                Err(_) => Err(Refusal::OutOfMemory),
+            },
+            Ok(Verdict::Repeat(reply)) => Ok(Ticket::of(step, reply)),
+            Err(refusal) => Err(refusal),
+        }
+    }
+}

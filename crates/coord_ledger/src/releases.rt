@@ -1,0 +1,56 @@
+//! Releases that are still to be handed out.
+
+ghost use Rattle.std.specs.Prelude.{◌≡◌, ◌++◌, drop, length, map, slice_get, OnOk};
+
+use crate::Release;
+use coord_types::Output;
+use std::alloc::AllocError;
+use std::marker::Model;
+
+/// What is left to hand out. It has to be spent, by `lose_rest`. Contracts see the list of what is
+/// left.
+pub struct Releases {
+    rows: Vec<Release>,
+    given: usize,
+}
+
+impl Model for Releases {
+    ghost use Rattle.std.specs.Prelude.{◌≤◌, List, drop, length};
+    ghost use Rattle.coord_ledger.specs.declared.release.Release.{Release};
+
+    ghost Value = { List Release };
+
+    ghost view = { λ r. drop r.given r.rows.items };
+
+    ghost invariant = { λ r. r.given ≤ length r.rows.items };
+}
+
+impl Releases {
+    // All of these.
+    pub(crate) fn of(rows: Vec<Release>) -> Self
+        ensures { result ≡ rows.items }
+    {
+        Releases { rows, given: 0 }
+    }
+
+    /// The next one, where there is one.
+    pub fn next(&mut self) -> Option<Release>
+        ensures first { result ≡ slice_get self.old 0 }
+        ensures rest { self.new ≡ drop 1 self.old }
+    {
+        if self.given >= self.rows.len() {
+            return None;
+        }
+        let release = self.rows[self.given];
+        self.given += 1;
+        Some(release)
+    }
+
+    /// How many were not handed out. They are lost.
+    pub fn lose_rest(self) -> u64
+        ensures { result ≡ length self }
+    {
+        let Releases { rows, given } = self;
+        (rows.len() - given) as u64
+    }
+}

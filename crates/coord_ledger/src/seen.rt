@@ -1,0 +1,44 @@
+//! What a caller has seen of a ledger.
+
+ghost use Rattle.std.specs.Prelude.{◌≡◌, max};
+
+use std::marker::Model;
+
+/// The greatest number of a step that its holder knows to be settled, 0 at first. Contracts see the
+/// number.
+#[derive(Debug, Drop)]
+pub struct Seen {
+    count: u64,
+}
+
+impl Model for Seen {
+    ghost use Rattle.std.specs.Prelude.{ℕ};
+
+    ghost Value = { ℕ };
+
+    ghost view = { λ s. s.count };
+}
+
+impl Seen {
+    pub fn new() -> Self
+        ensures { result ≡ 0 }
+    {
+        Seen { count: 0 }
+    }
+
+    /// Notes that this step is settled. It never lowers what was seen.
+    pub fn note(&mut self, step: u64)
+        ensures { self.new ≡ max self.old step }
+    {
+        if self.count < step {
+            self.count = step;
+        }
+    }
+
+    // The number.
+    pub(crate) fn count(&self) -> u64
+        ensures { result ≡ self.now }
+    {
+        self.count
+    }
+}

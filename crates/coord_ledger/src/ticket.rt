@@ -1,0 +1,82 @@
+//! What callers hold of the steps that they submitted.
+
+ghost use Rattle.std.specs.Prelude.{◌≡◌};
+
+use coord_types::{Kind, Reply, Step};
+use std::marker::Model;
+
+/// A step, and its number.
+#[derive(Clone, Copy, Debug, PartialEq, Eq)]
+pub struct Note {
+    pub step: u64,
+    pub what: Step,
+}
+
+/// Stands for the reply to a step until the step is settled. It has to be spent, by `forget` or by
+/// a ledger's `collect`. Contracts see what it claims (`specs/ledger/State.antt`).
+pub struct Ticket {
+    pub(crate) step: u64,
+    pub(crate) what: Step,
+    pub(crate) kind: Kind,
+}
+
+impl Model for Ticket {
+    ghost use Rattle.coord_ledger.specs.ledger.State.{Claim};
+
+    ghost Value = { Claim };
+
+    ghost view = { λ t. record { step = t.step; what = t.what; kind = t.kind } };
+}
+
+impl Ticket {
+    ghost use Rattle.coord_ledger.specs.ledger.Calls.{claimed};
+    ghost use Rattle.coord_ledger.specs.ledger.State.{reply_of};
+
+    // For a step that has this reply.
+    pub(crate) fn of(what: Step, reply: Reply) -> Self
+        ensures { result ≡ claimed what reply }
+    {
+        Ticket {
+            step: reply.step,
+            what,
+            kind: reply.kind,
+        }
+    }
+
+    // The reply that it stands for.
+    pub(crate) fn reply(&self) -> Reply
+        ensures { result ≡ reply_of self.now }
+    {
+        Reply {
+            step: self.step,
+            kind: self.kind,
+        }
+    }
+
+    /// The number of its step.
+    pub fn step(&self) -> u64
+        ensures { result ≡ self.now.step }
+    {
+        self.step
+    }
+
+    /// Its step, with the number.
+    pub fn note(&self) -> Note
+        ensures step { result.step ≡ self.now.step }
+        ensures what { result.what ≡ self.now.what }
+    {
+        Note {
+            step: self.step,
+            what: self.what,
+        }
+    }
+
+    /// Gives up the reply.
+    pub fn forget(self) {
+        let Ticket {
+            step: _,
+            what: _,
+            kind: _,
+        } = self;
+    }
+}
