@@ -6,7 +6,7 @@ help:
 	@echo 'make build     proves every crate, and leaves the program at bin/resetd'
 	@echo 'make test      the gate: every proof from nothing, the must-fail edits, every test and the stored run'
 	@echo 'make refusals  tries the other wrong bodies, which the prover has to refuse (CRATE=NAME for one crate)'
-	@echo 'make bench     measures the drill on a ring of 64 nodes with chords, and the codec'
+	@echo 'make bench     measures the drill on a ring of 64 nodes with chords, the codec and the store'
 	@echo 'make sweep     refuses each allocation of every test and of the program in turn'
 	@echo 'make help      prints this'
 
@@ -25,6 +25,7 @@ refusals:
 bench: build
 	bench/drill.sh 4 bin/resetd
 	bench/codec.sh
+	bench/store.sh
 
 sweep:
 	bench/refused_allocations $$(sed -n 's/^\([a-z][a-z0-9_]*\).*/\1/p' crates.txt)

@@ -1,9 +1,11 @@
 -- What the images of a journal's disk give.
-use Rattle.std.proofs.Common.{◌≡◌, ℕ, ◌+◌, Bool, true, false, List, None, Some, Option, is_some, inl, inr, ⊎_elim, refl, sym, ap, ◌∙◌, subst}
+use Rattle.std.proofs.Common.{◌≡◌, ℕ, ◌+◌, Bool, true, false, List, None, Some, Option, is_some, Result, Ok, Err, IfErr, inl, inr, ⊎_elim, refl, sym, ap, ◌∙◌, subst}
 use Rattle.coord_batch.specs.Batches.{IsBatch, pair}
 use Rattle.coord_batch.specs.Steps.{batch}
 use Rattle.coord_codec.specs.Worlds.{world}
+use Rattle.coord_disk.specs.Model.Moments.{LeavesOnly}
 use Rattle.coord_disk.specs.Model.Present.{Present, IsImage}
+use Rattle.coord_disk.proofs.MomentLemmas.{started}
 use Rattle.coord_disk.proofs.TornWrites.{whole_image}
 use Rattle.coord_journal.specs.Journal.{disk_of, half_of, half_size_of, has_stopped, used_of}
 use Rattle.coord_journal.specs.Text.{Content, IsEitherText, IsText, with_batch, without_batch}
@@ -45,6 +47,11 @@ pub none_of : (o : Option World) (b : Bool) → b ≡ is_some o → b ≡ false 
 none_of None b is clear = refl
 none_of (Some w) b is clear = absurd cc
 
+-- what holds in any case holds where a call is refused
+pub whenever : {T E : Type 0} (r : Result T E) (Q : E → Type 0) (P : Type 0) → P → IfErr r (λ e. Q e → P)
+whenever (Ok x) Q P holds = tt
+whenever (Err e) Q P holds = λ _. holds
+
 -- during an append
 pub appending_gives : (content : Content) (w : World) (body : List ℕ) (steps : List Step) → Gives content w → Takes w body steps → (bytes : List ℕ) → IsEitherText content (with_batch content body) bytes → GivesEither w (fold w steps) bytes
 appending_gives content w body steps gives takes bytes either =
@@ -60,6 +67,11 @@ module _ {D : Type 0} (present : D → Present) (keeps_model : D → Bool) where
   image_gives journal w holds image is =
       text_gives holds.content w image holds.gives
       (subst (IsText holds.content) (sym (whole_image (present (disk_of journal)).read (present (disk_of journal)) holds.ready.synced image is)) (half_size_of journal, half_of journal, used_of journal, holds.ready.text))
+
+  -- before any call
+  pub begun : (clock : D → ℕ) (left_since : D → ℕ → List ℕ → Type 0) (journal : Journal D) (w : World) → Holds present journal w → ((image : List ℕ) → left_since (disk_of journal) (clock (disk_of journal)) image → IsImage (present (disk_of journal)) image)
+      → LeavesOnly clock left_since (disk_of journal) (disk_of journal) (IsOnlyWorld w)
+  begun clock left_since journal w holds now = started clock left_since (disk_of journal) (IsOnlyWorld w) (λ image left. image_gives journal w holds image (now image left))
 
   -- a store that goes on
   pub kept_on : (journal : Journal D) (w : World) (torn : Option World) → torn ≡ None → Legal w → has_stopped journal ≡ false → (keeps_model (disk_of journal) ≡ true → Holds present journal w) → IsKept present keeps_model journal w torn

@@ -1,11 +1,14 @@
 -- A store: what its disk's images give.
 use Rattle.std.specs.Prelude.{◌≡◌, ◌⊎◌, ℕ, Bool, true, List, Option, Some, None, is_some}
-use Rattle.coord_disk.specs.Model.Present.{Present, IsImage}
+use Rattle.coord_codec.specs.Worlds.{world}
+use Rattle.coord_disk.specs.Model.Moments.{LeavesOnly}
+use Rattle.coord_disk.specs.Model.Present.{Present, IsImage, whole}
 use Rattle.coord_journal.specs.Journal.{IsReady, disk_of, has_stopped as journal_has_stopped}
-use Rattle.coord_journal.specs.Text.{Content}
+use Rattle.coord_journal.specs.Text.{Content, formatted}
 use Rattle.coord_journal.specs.declared.journal.Journal.{Journal}
 use Rattle.coord_world.specs.protocol.Legal.{Legal}
-use Rattle.coord_world.specs.protocol.NumberedWorld.{World}
+use Rattle.coord_world.specs.protocol.NumberedWorld.{World, no_world}
+use Rattle.coord_world.specs.protocol.Rows.{rows_of}
 use Rattle.coord_store.specs.Recovered.{Gives, Recovered}
 
 -- its disk, its world, and the world that a torn commit was to make
@@ -46,3 +49,12 @@ pub record IsKept {D : Type 0} (present : D → Present) (keeps_model : D → Bo
 -- these bytes give this world
 abbrev pub IsOnlyWorld : World → List ℕ → Type 0
 IsOnlyWorld w bytes = Recovered bytes w
+
+-- what a disk holds on which a store was just made
+abbrev pub made : ℕ → ℕ → Present
+made half_size version = whole (formatted half_size version (world.text (rows_of no_world)))
+
+-- a call has left the disk as it was, and at each moment of it a crash left nothing that it could not have left before
+pub record IsUntouched {D : Type 0} (present : D → Present) (clock : D → ℕ) (left_since : D → ℕ → List ℕ → Type 0) (old new : D) : Type 0 where
+  pub same : present new ≡ present old
+  pub any_moment : LeavesOnly clock left_since old new (IsImage (present old))

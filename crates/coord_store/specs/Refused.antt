@@ -10,7 +10,7 @@ use Rattle.coord_world.specs.protocol.Next.{fold}
 use Rattle.coord_world.specs.protocol.NumberedWorld.{World}
 use Rattle.coord_store.specs.Recovered.{AllFresh, HasSnapshot, IsBody, Replays}
 use Rattle.coord_store.specs.declared.faults.StoreFault.{StoreFault}
-use Rattle.coord_store.specs.declared.faults.StoreFault.TheVariants.{OutOfMemory, Device, NotEmpty, HalfSize, NoMagic, BadRecord, BadSnapshot, BadBatch, BadStep, Violated}
+use Rattle.coord_store.specs.declared.faults.StoreFault.TheVariants.{OutOfMemory, Device, NotEmpty, HalfSize, NoMagic, BadRecord, BadSnapshot, BadBatch, BadStep, Violated, NotQuiet}
 
 -- the world takes so many of the steps, and not the next one
 pub record StopsAt (w : World) (steps : List Step) (index : ℕ) : Type 0 where
@@ -83,6 +83,23 @@ RefusesCreate bytes half_size fault = ⊥
 -- want of memory, or a failure of the device
 abbrev pub IsPassing : StoreFault → Type 0
 IsPassing fault = (fault ≡ OutOfMemory) ⊎ (fault ≡ Device)
+
+-- the faults that an opening may answer, whatever the device does
+abbrev pub IsOpenFault : StoreFault → Type 0
+IsOpenFault NotEmpty = ⊥
+IsOpenFault HalfSize = ⊥
+IsOpenFault (NotQuiet node) = ⊥
+IsOpenFault fault = Unit {0}
+
+-- and those of a creation; the last two come of a device that does not give back what was written
+abbrev pub IsCreateFault : StoreFault → Type 0
+IsCreateFault OutOfMemory = Unit {0}
+IsCreateFault Device = Unit {0}
+IsCreateFault NotEmpty = Unit {0}
+IsCreateFault HalfSize = Unit {0}
+IsCreateFault NoMagic = Unit {0}
+IsCreateFault BadRecord = Unit {0}
+IsCreateFault fault = ⊥
 
 -- how often the device has failed in a call that is refused so
 abbrev pub failed_in : StoreFault → ℕ

@@ -1,13 +1,11 @@
 //! Makes a store.
 
 ghost use Rattle.std.specs.Prelude.{◌≡◌, ◌⊎◌, ◌+◌, ◌≤◌, true, None, length, MatchResult, IfOk, IfErr};
-ghost use Rattle.coord_codec.specs.Worlds.{world};
-ghost use Rattle.coord_disk.specs.Model.Present.{whole};
-ghost use Rattle.coord_journal.specs.Text.{IsHalfSize, formatted};
-ghost use Rattle.coord_store.specs.Refused.{RefusesCreate, failed_in};
-ghost use Rattle.coord_store.specs.declared.faults.StoreFault.TheVariants.{HalfSize, NotEmpty};
+ghost use Rattle.coord_journal.specs.Text.{IsHalfSize};
+ghost use Rattle.coord_store.specs.Kept.{IsUntouched, made};
+ghost use Rattle.coord_store.specs.Refused.{IsCreateFault, RefusesCreate, failed_in};
+ghost use Rattle.coord_store.specs.declared.faults.StoreFault.TheVariants.{HalfSize, NotEmpty, OutOfMemory};
 ghost use Rattle.coord_world.specs.protocol.NumberedWorld.{no_world};
-ghost use Rattle.coord_world.specs.protocol.Rows.{rows_of};
 
 use crate::opening::told;
 use crate::{Store, StoreFault};
@@ -17,41 +15,48 @@ use coord_journal::format;
 use coord_world::World;
 use std::alloc::Global;
 
-/// Makes a store of the world before any step, on an empty device.
-///
-/// A half has `half_size` bytes, from 32,768 to 16,777,216. There is one version, 1. A refusal
-/// hands the disk back: after `Device` its bytes are open, and `OutOfMemory` may leave the store
-/// made.
-pub fn create<D: Disk>(
-    alloc: Global,
-    mut disk: D,
-    half_size: u64,
-    version: u8,
-) -> Result<Store<D>, (StoreFault, D)>
-    requires { version ≡ 1 }
-    ensures empty { D.keeps_model disk ≡ true → IfOk result (λ store. length (D.present disk).read ≡ 0) }
-    ensures half_size { IfOk result (λ store. IsHalfSize half_size) }
-    ensures bytes { D.keeps_model disk ≡ true → IfOk result (λ store. D.present store.disk ≡ whole (formatted half_size version (world.text (rows_of no_world)))) }
-    ensures world { IfOk result (λ store. store.world ≡ no_world) }
-    ensures going { IfOk result (λ store. store.torn ≡ None) }
-    ensures fault { D.keeps_model disk ≡ true → IfErr result (λ refused. RefusesCreate (D.present disk).read half_size refused.0) }
-    ensures unchanged { D.keeps_model disk ≡ true → IfErr result (λ refused. (refused.0 ≡ NotEmpty) ⊎ (refused.0 ≡ HalfSize) → D.present refused.1 ≡ D.present disk) }
-    ensures model { MatchResult result (λ store. D.keeps_model store.disk ≡ D.keeps_model disk) (λ refused. D.keeps_model refused.1 ≡ D.keeps_model disk) }
-    ensures failures { MatchResult result (λ store. D.failures store.disk ≡ D.failures disk) (λ refused. D.failures refused.1 ≡ D.failures disk + failed_in refused.0) }
-    ensures calls { MatchResult result (λ store. D.keeps_model disk ≡ true → D.clock store.disk ≤ D.clock disk + 6) (λ refused. D.keeps_model disk ≡ true → D.clock refused.1 ≤ D.clock disk + 6) }
-{
-    let world = World::empty(alloc);
-    world.ranges();
-    let snapshot = match write_world(alloc, &world) {
-        Ok(snapshot) => snapshot,
-        Err(_) => return Err((StoreFault::OutOfMemory, disk)),
-    };
-    match format(alloc, &mut disk, half_size, version, &snapshot) {
-        Ok(()) => {}
-        Err(fault) => return Err((told(fault), disk)),
-    }
-    match coord_journal::open(alloc, disk) {
-        Ok((journal, _)) => Ok(Store::over(alloc, journal, world)),
-        Err((fault, disk)) => Err((told(fault), disk)),
+impl<D: Disk> Store<D> {
+    /// Makes a store of the world before any step, on an empty device.
+    ///
+    /// A half has `half_size` bytes, from 32,768 to 16,777,216. There is one version, 1. A refusal
+    /// hands the disk back: after `Device` its bytes are open, and `OutOfMemory` may leave the store
+    /// made.
+    pub fn create(
+        alloc: Global,
+        mut disk: D,
+        half_size: u64,
+        version: u8,
+    ) -> Result<Self, (StoreFault, D)>
+        requires { version ≡ 1 }
+        ensures empty { D.keeps_model disk ≡ true → IfOk result (λ store. length (D.present disk).read ≡ 0) }
+        ensures half_size { IfOk result (λ store. IsHalfSize half_size) }
+        ensures bytes { D.keeps_model disk ≡ true → IfOk result (λ store. D.present store.disk ≡ made half_size version) }
+        ensures world { IfOk result (λ store. store.world ≡ no_world) }
+        ensures going { IfOk result (λ store. store.torn ≡ None) }
+        ensures fault { D.keeps_model disk ≡ true → IfErr result (λ refused. RefusesCreate (D.present disk).read half_size refused.0) }
+        ensures named { IfErr result (λ refused. IsCreateFault refused.0) }
+
+        // What a refusal leaves, the device's own faults aside.
+        ensures unchanged { D.keeps_model disk ≡ true → IfErr result (λ refused. (refused.0 ≡ NotEmpty) ⊎ (refused.0 ≡ HalfSize) → IsUntouched D.present D.clock D.left_since disk refused.1) }
+        ensures memory { D.keeps_model disk ≡ true → IfErr result (λ refused. refused.0 ≡ OutOfMemory → IsUntouched D.present D.clock D.left_since disk refused.1 ⊎ (D.present refused.1 ≡ made half_size version)) }
+
+        ensures model { MatchResult result (λ store. D.keeps_model store.disk ≡ D.keeps_model disk) (λ refused. D.keeps_model refused.1 ≡ D.keeps_model disk) }
+        ensures failures { MatchResult result (λ store. D.failures store.disk ≡ D.failures disk) (λ refused. D.failures refused.1 ≡ D.failures disk + failed_in refused.0) }
+        ensures calls { MatchResult result (λ store. D.keeps_model disk ≡ true → D.clock store.disk ≤ D.clock disk + 6) (λ refused. D.keeps_model disk ≡ true → D.clock refused.1 ≤ D.clock disk + 6) }
+    {
+        let world = World::empty(alloc);
+        world.ranges();
+        let snapshot = match write_world(alloc, &world) {
+            Ok(snapshot) => snapshot,
+            Err(_) => return Err((StoreFault::OutOfMemory, disk)),
+        };
+        match format(alloc, &mut disk, half_size, version, &snapshot) {
+            Ok(()) => {}
+            Err(fault) => return Err((told(fault), disk)),
+        }
+        match coord_journal::open(alloc, disk) {
+            Ok((journal, _)) => Ok(Store::over(alloc, journal, world)),
+            Err((fault, disk)) => Err((told(fault), disk)),
+        }
     }
 }

@@ -7,8 +7,8 @@
 //! `specs/Kept.antt` is what contracts see of a store: its disk, its world, and what a torn commit
 //! was to make.
 //!
-//! `create` makes a store, `open` answers exactly what the bytes of the device give, and
-//! `Store::commit` takes steps. The main theorem stands on these: at each moment of a commit, also
+//! `Store::create` makes a store, `Store::open` answers exactly what the bytes of the device give,
+//! and `Store::commit` takes steps. The main theorem stands on these: at each moment of a commit, also
 //! inside its checkpoint, whatever a crash may leave gives the world from before it or from after
 //! it, and once it has answered Ok the one from after it. The type `Store` keeps that of its
 //! images, so that the layers above speak of its world alone (`Store::images_give_world`).
@@ -24,7 +24,5 @@ mod steps;
 mod store;
 mod writing;
 
-pub use creation::create;
 pub use faults::{CommitFault, StoreFault};
-pub use opening::open;
 pub use store::Store;

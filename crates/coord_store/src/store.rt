@@ -36,6 +36,7 @@ impl<D: Disk> Model for Store<D> {
 
 impl<D: Disk> Store<D> {
     ghost use Rattle.coord_store.specs.Kept.{Holds, ImagesGive, has_stopped};
+    ghost use Rattle.coord_store.specs.Recovered.{Recovered};
 
     // Over a journal whose content gives this world.
     pub(crate) fn over(alloc: Global, journal: Journal<D>, world: World) -> Self
@@ -76,9 +77,10 @@ impl<D: Disk> Store<D> {
         let _ = &self.world;
     }
 
-    /// Gives the disk back.
+    /// Gives the disk back. Where no commit was torn, opening it gives the world again.
     pub fn into_disk(self) -> D
-        ensures { result ≡ self.disk }
+        ensures disk { result ≡ self.disk }
+        ensures reopens { D.keeps_model self.disk ≡ true → self.torn ≡ None → Recovered (D.present result).read self.world }
     {
         self.journal.into_disk()
     }

@@ -78,6 +78,8 @@ fn append<D: Disk>(journal: &mut Journal<D>, body: &[u8]) -> Result<(), CommitFa
         → LeavesOnly D.clock D.left_since (disk_of journal.old) (disk_of journal.new) (GivesEither w (fold w steps)) }
     ensures done { (w : Numbered) (steps : List Taken) → D.keeps_model (disk_of journal.old) ≡ true → Holds D.present journal.old w → Takes w body.now steps
         → OnOk result (Holds D.present journal.new (fold w steps)) }
+    ensures any_moment_refused { (w : Numbered) → D.keeps_model (disk_of journal.old) ≡ true → Holds D.present journal.old w
+        → IfErr result (λ fault. fault ≢ Device → LeavesOnly D.clock D.left_since (disk_of journal.old) (disk_of journal.new) (IsOnlyWorld w)) }
     ensures going { OnOk result (has_stopped journal.new ≡ false) }
     ensures fault { IfErr result (λ fault. (fault ≡ OutOfMemory) ⊎ (fault ≡ Device)) }
     ensures unchanged { IfErr result (λ fault. fault ≢ Device → journal.new ≡ journal.old) }
@@ -106,6 +108,8 @@ pub fn write<D: Disk>(
         → LeavesOnly D.clock D.left_since (disk_of journal.old) (disk_of journal.new) (GivesEither world.now (fold world.now steps)) }
     ensures done { (steps : List Taken) → D.keeps_model (disk_of journal.old) ≡ true → Holds D.present journal.old world.now → Takes world.now body.now steps
         → OnOk result (Holds D.present journal.new (fold world.now steps)) }
+    ensures any_moment_refused { D.keeps_model (disk_of journal.old) ≡ true → Holds D.present journal.old world.now
+        → IfErr result (λ fault. fault ≢ Device → LeavesOnly D.clock D.left_since (disk_of journal.old) (disk_of journal.new) (IsOnlyWorld world.now)) }
     ensures held { D.keeps_model (disk_of journal.old) ≡ true → Holds D.present journal.old world.now
         → IfErr result (λ fault. fault ≢ Device → Holds D.present journal.new world.now) }
     ensures going { OnOk result (has_stopped journal.new ≡ false) }

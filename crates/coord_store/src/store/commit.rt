@@ -6,7 +6,7 @@ ghost use Rattle.coord_batch.specs.Batches.{IsNumbered};
 ghost use Rattle.coord_types.specs.declared.limits.TheConstants.{MAX_BATCH_STEPS};
 ghost use Rattle.coord_disk.specs.Model.Moments.{LeavesOnly};
 ghost use Rattle.coord_store.specs.Faults.{failures_in};
-ghost use Rattle.coord_store.specs.Kept.{GivesEither, has_stopped};
+ghost use Rattle.coord_store.specs.Kept.{GivesEither, IsOnlyWorld, has_stopped};
 ghost use Rattle.coord_store.specs.Recovered.{AllFresh};
 ghost use Rattle.coord_store.specs.declared.faults.CommitFault.TheVariants.{OutOfMemory, Device, Stopped};
 ghost use Rattle.coord_world.specs.protocol.Next.{fold};
@@ -49,9 +49,11 @@ impl<D: Disk> Store<D> {
         requires numbered { AllByRecursion IsNumbered steps.now }
         requires fresh { AllFresh self.old.world self.old.world steps.now }
 
-        // A crash at any moment of the call, also inside a checkpoint, leaves what gives the world from before it or from after it.
+        // A crash at any moment of the call, also inside a checkpoint, leaves what gives the world from before it or from after it, and where it is refused for memory the one from before it.
         ensures any_moment { D.keeps_model self.old.disk ≡ true → self.old.torn ≡ None
             → LeavesOnly D.clock D.left_since self.old.disk self.new.disk (GivesEither self.old.world (fold self.old.world steps.now)) }
+        ensures any_moment_refused { D.keeps_model self.old.disk ≡ true → self.old.torn ≡ None
+            → IfErr result (λ fault. fault ≢ Device → LeavesOnly D.clock D.left_since self.old.disk self.new.disk (IsOnlyWorld self.old.world)) }
 
         // What the store is then: after Device one of both worlds may be on the disk.
         ensures world { OnOk result (self.new.world ≡ fold self.old.world steps.now) }

@@ -1,13 +1,12 @@
 use Rattle.std.proofs.Common.{refl, ◌∙◌}
-use Rattle.coord_disk.proofs.MomentLemmas.{started, weaker}
+use Rattle.coord_disk.proofs.MomentLemmas.{weaker}
 use Rattle.coord_journal.specs.Text.{without_batch}
-use Rattle.coord_store.specs.Kept.{IsOnlyWorld}
-use Rattle.coord_store.proofs.Holding.{image_gives, replacing_gives, snapshot_gives}
+use Rattle.coord_store.proofs.Holding.{begun, replacing_gives, snapshot_gives}
 use Rattle.coord_store.proofs.writing.checkpoint.Goals as goal
 
 pub returns-in-Err-clause-any_moment : goal.returns-in-Err-clause-any_moment
 returns-in-Err-clause-any_moment g c k holds =
-    started g.D.Disk.clock g.D.Disk.left_since _ (IsOnlyWorld c.args.world.now) (λ image left. image_gives g.D.Disk.present g.D.Disk.keeps_model c.args.journal.now c.args.world.now holds image (g.met.D.Disk.only_now c.args.journal.now.disk image k left))
+    begun g.D.Disk.present g.D.Disk.keeps_model g.D.Disk.clock g.D.Disk.left_since c.args.journal.now c.args.world.now holds (λ image. g.met.D.Disk.only_now c.args.journal.now.disk image k)
 
 pub returns-in-Ok-replace-clause-any_moment : goal.returns-in-Ok-replace-clause-any_moment
 returns-in-Ok-replace-clause-any_moment g c k holds =

@@ -1,11 +1,11 @@
-use Rattle.std.proofs.Common.{◌≡◌, ◌≢◌, true, None, rules, arith, sym, ap, ◌∙◌, subst}
+use Rattle.std.proofs.Common.{◌≡◌, ◌≢◌, true, None, IfErr, rules, arith, sym, ap, ◌∙◌, subst}
 use Rattle.coord_disk.specs.Model.Moments.{LeavesOnly}
-use Rattle.coord_store.specs.Kept.{GivesEither, Holds, Kept}
+use Rattle.coord_store.specs.Kept.{GivesEither, Holds, IsOnlyWorld, Kept}
 use Rattle.coord_store.specs.Recovered.{AllFresh}
 use Rattle.coord_store.specs.declared.faults.CommitFault.TheVariants.{Device}
 use Rattle.coord_world.specs.protocol.Next.{fold}
 use Rattle.coord_store.proofs.Freshness.{first_number}
-use Rattle.coord_store.proofs.Holding.{kept_on, kept_torn, none_of, taken}
+use Rattle.coord_store.proofs.Holding.{begun, kept_on, kept_torn, none_of, taken, whenever}
 use Rattle.coord_store.proofs.store.Store.commit.Goals as goal
 use Rattle.coord_store.proofs.store.Store.commit.Goals.{then-eq, else-eq}
 
@@ -64,3 +64,17 @@ returns-clause-any_moment g c =
     let disk : c.write.new.journal.disk ≡ c.if-eq.self.disk = elim c.if-eq.branch [ then-eq w ↦ sym (ap (λ (k : Kept g.row.D.Denot). k.disk) w.self-is) | else-eq w ↦ sym (ap (λ (k : Kept g.row.D.Denot). k.disk) w.self-is) ] in
     let P : Kept g.row.D.Denot → Type 0 = λ o. g.D.Disk.keeps_model o.disk ≡ true → o.torn ≡ None → LeavesOnly g.D.Disk.clock g.D.Disk.left_since o.disk c.if-eq.self.disk (GivesEither o.world (fold o.world steps)) in
     subst P c.self.view_is (λ k none. subst (λ d. LeavesOnly g.D.Disk.clock g.D.Disk.left_since c.self.inside.journal.disk d (GivesEither c.self.inside.world (fold c.self.inside.world steps))) disk (c.write.ensures.any_moment steps k (c.self.invariant.holds k none) takes))
+
+pub returns-in_err-take_all-clause-any_moment_refused : goal.returns-in_err-take_all-clause-any_moment_refused
+returns-in_err-take_all-clause-any_moment_refused g c =
+    let journal = c.self.inside.journal in
+    let answer = c.from_residual-in_err-take_all.result in
+    let P : Kept g.row.D.Denot → Type 0 = λ o. g.D.Disk.keeps_model o.disk ≡ true → o.torn ≡ None → IfErr answer (λ fault. fault ≢ Device → LeavesOnly g.D.Disk.clock g.D.Disk.left_since o.disk o.disk (IsOnlyWorld o.world)) in
+    subst P c.self.view_is (λ k none. whenever answer (λ fault. fault ≢ Device) _ (begun g.D.Disk.present g.D.Disk.keeps_model g.D.Disk.clock g.D.Disk.left_since journal c.self.inside.world (c.self.invariant.holds k none) (λ image. g.met.D.Disk.only_now journal.disk image k)))
+
+pub returns-in_err-body-clause-any_moment_refused : goal.returns-in_err-body-clause-any_moment_refused
+returns-in_err-body-clause-any_moment_refused g c =
+    let journal = c.self.inside.journal in
+    let answer = c.from_residual-in_err-body.result in
+    let P : Kept g.row.D.Denot → Type 0 = λ o. g.D.Disk.keeps_model o.disk ≡ true → o.torn ≡ None → IfErr answer (λ fault. fault ≢ Device → LeavesOnly g.D.Disk.clock g.D.Disk.left_since o.disk o.disk (IsOnlyWorld o.world)) in
+    subst P c.self.view_is (λ k none. whenever answer (λ fault. fault ≢ Device) _ (begun g.D.Disk.present g.D.Disk.keeps_model g.D.Disk.clock g.D.Disk.left_since journal c.self.inside.world (c.self.invariant.holds k none) (λ image. g.met.D.Disk.only_now journal.disk image k)))

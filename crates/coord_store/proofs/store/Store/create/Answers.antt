@@ -4,7 +4,7 @@ use Rattle.coord_journal.specs.Text.{Content, without_batch}
 use Rattle.coord_store.specs.Recovered.{Gives}
 use Rattle.coord_store.proofs.Holding.{snapshot_gives}
 use Rattle.coord_store.proofs.Refusing.{made_refused}
-use Rattle.coord_store.proofs.creation.create.Goals as goal
+use Rattle.coord_store.proofs.store.Store.create.Goals as goal
 
 pub over-requires-clause-holds : goal.over-requires-clause-holds
 over-requires-clause-holds g c k =

@@ -3,7 +3,7 @@ use Rattle.coord_journal.specs.Contents.{content_of}
 use Rattle.coord_store.proofs.Exclusion.{recovered_is_opened}
 use Rattle.coord_store.proofs.OneWorld.{recovered_is_one}
 use Rattle.coord_store.proofs.Refusing.{content_refused, text_refused}
-use Rattle.coord_store.proofs.opening.open.Goals as goal
+use Rattle.coord_store.proofs.store.Store.open.Goals as goal
 
 pub returns-in-Err-clause-only : goal.returns-in-Err-clause-only
 returns-in-Err-clause-only g c w k recovered =

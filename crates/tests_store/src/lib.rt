@@ -1,0 +1,11 @@
+//! Tests of the store. Each is of something that no contract says.
+#![tactic(auto)]
+
+#[cfg(test)]
+mod bytes;
+#[cfg(test)]
+mod checkpoints;
+#[cfg(test)]
+mod faults;
+#[cfg(test)]
+mod scripts;
