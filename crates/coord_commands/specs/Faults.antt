@@ -3,13 +3,14 @@ use Rattle.std.specs.Prelude.{ℕ, List, ◌++◌, codes, Result, Ok, Err}
 use Rattle.coord_drill.specs.declared.fault.Fault.{Fault as DrillFault}
 use Rattle.coord_drill.specs.declared.fault.Fault.TheVariants as of_drill
 use Rattle.coord_commands.specs.declared.fault.Fault.{Fault}
-use Rattle.coord_commands.specs.declared.fault.Fault.TheVariants.{Usage, Read, Write, TooManyReads, OutOfMemory}
+use Rattle.coord_commands.specs.declared.fault.Fault.TheVariants.{Usage, Read, Write, TooManyReads, Device, OutOfMemory}
 
 abbrev pub fault_name : Fault → List ℕ
 fault_name Usage = codes "Usage"
 fault_name Read = codes "Read"
 fault_name Write = codes "Write"
 fault_name TooManyReads = codes "Turns"
+fault_name Device = codes "Device"
 fault_name OutOfMemory = codes "OutOfMemory"
 
 -- the line that is printed of a fault
@@ -21,6 +22,7 @@ fault_status Usage = 2
 fault_status Read = 3
 fault_status Write = 3
 fault_status TooManyReads = 3
+fault_status Device = 3
 fault_status OutOfMemory = 4
 
 abbrev pub status_of : {A : Type 0} → Result A Fault → ℕ
@@ -31,4 +33,5 @@ abbrev pub fault_of_drill : DrillFault → Fault
 fault_of_drill of_drill.Read = Read
 fault_of_drill of_drill.Write = Write
 fault_of_drill of_drill.TooManyReads = TooManyReads
+fault_of_drill of_drill.Device = Device
 fault_of_drill of_drill.OutOfMemory = OutOfMemory

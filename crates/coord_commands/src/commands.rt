@@ -1,8 +1,8 @@
 //! The commands, over readers and writers.
 
-ghost use Rattle.std.specs.Prelude.{◌≡◌, ◌⊎◌, true, false, map, OnOk, IfSome, string_bytes};
+ghost use Rattle.std.specs.Prelude.{◌≡◌, ◌⊎◌, ℕ, List, true, false, map, OnOk, IfSome, string_bytes};
 ghost use Rattle.std.specs.Io.KnownBytes.{Appends, Keeps};
-ghost use Rattle.coord_drill.specs.Drilled.{drilled};
+ghost use Rattle.coord_drill.specs.Drilled.{IsDrilled};
 ghost use Rattle.coord_commands.specs.Faults.{fault_line, status_of};
 ghost use Rattle.coord_commands.specs.Words.{asks_for_drill};
 
@@ -22,7 +22,7 @@ pub fn run<R: Read, W: Write, E: Write>(
     errors: &mut E,
 ) -> u8
     ensures done { result ≡ 0 → (asks_for_drill (map string_bytes words.now) ≡ true)
-        × IfSome (R.remaining input.old) (λ text. Appends (W.contents output.old) (W.contents output.new) (drilled text)) }
+        × IfSome (R.remaining input.old) (λ text. (printed : List ℕ) × IsDrilled text printed × Appends (W.contents output.old) (W.contents output.new) printed) }
     ensures refused { asks_for_drill (map string_bytes words.now) ≡ false → ((result ≡ 2) ⊎ (result ≡ 4))
         × Keeps (R.remaining input.old) (R.remaining input.new) × Keeps (W.contents output.old) (W.contents output.new) }
 {
@@ -39,7 +39,7 @@ pub fn drill<R: Read, W: Write, E: Write>(
     output: &mut W,
     errors: &mut E,
 ) -> u8
-    ensures { result ≡ 0 → IfSome (R.remaining input.old) (λ text. Appends (W.contents output.old) (W.contents output.new) (drilled text)) }
+    ensures { result ≡ 0 → IfSome (R.remaining input.old) (λ text. (printed : List ℕ) × IsDrilled text printed × Appends (W.contents output.old) (W.contents output.new) printed) }
 {
     report(
         coord_drill(alloc, input, output).map_err(Fault::from),

@@ -19,6 +19,8 @@ pub enum Fault {
     Write,
     /// The end of the input was not met within the reads that a command makes.
     TooManyReads,
+    /// A disk failed.
+    Device,
     /// There was not enough memory.
     OutOfMemory,
 }
@@ -44,17 +46,18 @@ impl Fault {
             Fault::Read => "Read",
             Fault::Write => "Write",
             Fault::TooManyReads => "Turns",
+            Fault::Device => "Device",
             Fault::OutOfMemory => "OutOfMemory",
         }
     }
 
-    /// The exit status: 2 for refused words, 3 for reading and writing, 4 for want of memory.
+    /// The exit status: 2 for refused words, 3 for reading, writing and disks, 4 for want of memory.
     pub fn status(self) -> u8
         ensures { result ≡ fault_status self }
     {
         match self {
             Fault::Usage => 2,
-            Fault::Read | Fault::Write | Fault::TooManyReads => 3,
+            Fault::Read | Fault::Write | Fault::TooManyReads | Fault::Device => 3,
             Fault::OutOfMemory => 4,
         }
     }
@@ -93,6 +96,7 @@ impl From<coord_drill::Fault> for Fault {
             coord_drill::Fault::Read => Fault::Read,
             coord_drill::Fault::Write => Fault::Write,
             coord_drill::Fault::TooManyReads => Fault::TooManyReads,
+            coord_drill::Fault::Device => Fault::Device,
             coord_drill::Fault::OutOfMemory => Fault::OutOfMemory,
         }
     }
