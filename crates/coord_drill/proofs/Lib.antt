@@ -1,7 +1,10 @@
+mod Doing
 mod FirstParts
 mod Formats
 mod NextRows
 mod NoText
+mod Quiet
+mod Settling
 mod Spelled
 mod Taken
 mod WordsOf
