@@ -1,29 +1,38 @@
 -- What flights, steps and crashes print, and what becomes of the drill.
-use Rattle.std.proofs.Common.{◌≡◌, ℕ, ◌+◌, Bool, true, false, cond, List, [], ◌++◌, Ok, Err, Option, Some, None, refl, sym, ap, ◌∙◌, subst, append-nil, inl}
-use Rattle.std.specs.Prelude.{is_some}
+use Rattle.std.proofs.Common.{◌≡◌, ℕ, ◌+◌, true, false, cond, List, [], ◌++◌, Ok, Err, Some, None, refl, sym, ap, ◌∙◌, subst, inl}
 use Rattle.std.specs.Option.{option_map_or}
 use Rattle.coord_disk.specs.declared.memory.MemDisk.{MemDisk}
-use Rattle.coord_world.proofs.Facade.{by_test}
-use Rattle.coord_world.specs.protocol.NumberedWorld.{no_world}
-use Rattle.coord_ledger.specs.ledger.Calls.{keeps_store}
-use Rattle.coord_ledger.specs.ledger.State.{LedgerState}
-use Rattle.coord_drill.specs.Holding.{IsReady, IsReadyWith, Tells, state_of}
-use Rattle.coord_drill.specs.declared.drill.Drill.{Drill}
 use Rattle.coord_types.specs.declared.refusals.Refusal.{Refusal}
 use Rattle.coord_types.specs.declared.steps.Kind.{Kind}
 use Rattle.coord_types.specs.declared.steps.Reply.{Reply}
 use Rattle.coord_types.specs.declared.steps.Step.{Step}
 use Rattle.coord_world.specs.declared.verdicts.Verdict.TheVariants.{Fresh, Repeat}
+use Rattle.coord_world.specs.protocol.NumberedWorld.{no_world}
 use Rattle.coord_ledger.specs.declared.events.Answer.{Answer}
 use Rattle.coord_ledger.specs.declared.events.Answer.TheVariants.{Committed}
 use Rattle.coord_ledger.specs.declared.mark.Mark.TheVariants.{New}
-use Rattle.coord_ledger.specs.machine.Answers.{IsOneOf, kept_by, stays_home, to_commit}
+use Rattle.coord_ledger.specs.ledger.State.{LedgerState}
+use Rattle.coord_ledger.specs.machine.Answers.{IsOneOf, kept_by, to_commit}
 use Rattle.coord_ledger.specs.machine.Log.{front_world, log_over, settled_count, settled_world, world_after}
 use Rattle.coord_drill.specs.Answered.{Does, Flies, asked_lines, commit_lines, flight_lines, kept_line, step_lines, verdict_lines}
 use Rattle.coord_drill.specs.Drill.{DrillState, Luck, after_asked, after_commit, after_flight, after_step, after_verdict, drill_over, has_no_flight, said, with_accepted}
+use Rattle.coord_drill.specs.Holding.{IsHeld, IsReady, IsReadyWith, Tells, drill_of, state_of}
 use Rattle.coord_drill.specs.Printed.{count_line, opened_line, pending_line, refusal_line}
 use Rattle.coord_drill.specs.declared.asked.Asked.TheVariants.{Crash, Flush, Submit}
+use Rattle.coord_drill.specs.declared.drill.Drill.{Drill}
 use Rattle.coord_drill.proofs.Quiet.{does_quietly, quiet_luck, settled_kept}
+
+-- ---- drills over a ledger
+
+state_is : (d : Drill) (l : LedgerState MemDisk) → d.ledger ≡ Some l → state_of d ≡ drill_of l d.holds
+state_is d l is = ap (λ o. record { log = option_map_or (λ (k : LedgerState MemDisk). k.log) o (log_over no_world); doubt = option_map_or (λ (k : LedgerState MemDisk). k.doubt) o None; holds = d.holds }) is
+
+pub held_is : (d : Drill) (l : LedgerState MemDisk) → d.ledger ≡ Some l → IsReady d → IsHeld l d.tickets.items
+held_is d l is ready = subst (λ o. IsReadyWith o d.tickets.items) is ready
+
+-- what is told of a ledger is told of its drill
+pub tells_of : (P : DrillState → List ℕ → Type 0) (d : Drill) (l : LedgerState MemDisk) (old new told : List ℕ) → d.ledger ≡ Some l → new ≡ old ++ told → P (drill_of l d.holds) told → Tells old new (P (state_of d))
+tells_of P d l old new told is text done = (told, (text, subst (λ s. P s told) (sym (state_is d l is)) done))
 
 -- ---- flights
 
@@ -36,22 +45,6 @@ stays s home = record {
   printed = ap (λ b. cond b [] (commit_lines s.log Committed)) (sym home);
   goes_on = ap (λ b. cond b s (after_commit s Committed)) (sym home);
 }
-
--- a ledger that keeps its store lets none out
-pub stays_told : (d : Drill) (l new : LedgerState MemDisk) (text : List ℕ) → d.ledger ≡ Some l → IsReady d → (keeps_store l ≡ true → new ≡ l) → (keeps_store l ≡ false → ⊥)
-    → Tells text text (λ told. Flies (state_of d) told (record { log = new.log; doubt = new.doubt; holds = d.holds }))
-stays_told d l new text is ready keeps goes =
-    let held : IsReadyWith (Some l) d.tickets.items = subst (λ o. IsReadyWith o d.tickets.items) is ready in
-    let s : DrillState = record { log = l.log; doubt = l.doubt; holds = d.holds } in
-    let here : state_of d ≡ s = ap (λ o. record { log = option_map_or (λ (k : LedgerState MemDisk). k.log) o (log_over no_world); doubt = option_map_or (λ (k : LedgerState MemDisk). k.doubt) o None; holds = d.holds }) is in
-    by_test (keeps_store l) (λ _. Tells text text (λ told. Flies (state_of d) told (record { log = new.log; doubt = new.doubt; holds = d.holds })))
-    (λ home.
-    let none : has_no_flight s ≡ true = ap (λ o. stays_home (is_some l.doubt) (is_some o) l.log) (sym held.home) ∙ home in
-    let flown : Flies s [] s = stays s none in
-    let t : DrillState = record { log = new.log; doubt = new.doubt; holds = d.holds } in
-    let after : s ≡ t = ap (λ (k : LedgerState MemDisk). record { log = k.log; doubt = k.doubt; holds = d.holds }) (sym (keeps home)) in
-    ([], (sym (append-nil text), subst (λ u. Flies u [] t) (sym here) (subst (λ u. Flies s [] u) after flown))))
-    (λ away. absurd (goes away))
 
 -- where one goes out, by the answer to its commit
 pub flies : (s : DrillState) (answer : Answer) → has_no_flight s ≡ false → IsOneOf answer (to_commit New) → Flies s (commit_lines s.log answer) (after_commit s answer)

@@ -1,6 +1,9 @@
+mod Crashing
 mod Doing
 mod FirstParts
+mod Flying
 mod Formats
+mod Handing
 mod NextRows
 mod NoText
 mod Quiet

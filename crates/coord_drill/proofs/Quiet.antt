@@ -7,7 +7,7 @@ use Rattle.coord_world.specs.protocol.Outputs.{again}
 use Rattle.coord_ledger.specs.declared.events.Answer.TheVariants.{Committed}
 use Rattle.coord_ledger.specs.machine.Answers.{IsOneOf, kept_by}
 use Rattle.coord_ledger.specs.machine.Log.{front_world, settled_world}
-use Rattle.coord_drill.specs.Answered.{Does, Responds, asked_lines}
+use Rattle.coord_drill.specs.Answered.{Does, Responds, asked_lines, shown_lines}
 use Rattle.coord_drill.specs.Asked.{asked}
 use Rattle.coord_drill.specs.Drill.{DrillState, IsAllowed, Luck, after_asked}
 use Rattle.coord_drill.specs.Drilled.{LineResponds, Prints, UnlessSkipped, asked_by, is_skipped}
@@ -53,6 +53,10 @@ tells_check s old new is = (fault_line (first (faults (front_world s.log))), (is
 pub tells_resent : (s : DrillState) (old new : List ℕ) → new ≡ old ++ output_lines (again (settled_world s.log)) → Tells old new (λ told. Does s ask.Resend told s)
 unfolding asked_lines after_asked
 tells_resent s old new is = (output_lines (again (settled_world s.log)), (is, does_quietly s ask.Resend _ s refl refl))
+
+pub tells_show : (s : DrillState) (old new : List ℕ) → new ≡ old ++ shown_lines s.log s.doubt → Tells old new (λ told. Does s ask.Show told s)
+unfolding asked_lines after_asked
+tells_show s old new is = (shown_lines s.log s.doubt, (is, does_quietly s ask.Show _ s refl refl))
 
 -- ---- there is always something to print
 

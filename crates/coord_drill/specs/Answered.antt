@@ -48,13 +48,17 @@ step_lines luck s x = verdict_lines luck s x (said s x)
 
 -- ---- all that may be asked
 
+-- the settled world, unless the ledger has stopped
+abbrev pub shown_lines : Log → Option ℕ → List ℕ
+shown_lines log doubt = if is_some doubt then refusal_line Stopped else view_lines (shown (accepted_count log) (settled_world log))
+
 unfoldable pub asked_lines : Luck → DrillState → Asked → List ℕ
 asked_lines luck s (Submit x) = step_lines luck s x
 asked_lines luck s (Refuse refusal) = refusal_line refusal
 asked_lines luck s Nothing = idle_line
 asked_lines luck s Resend = output_lines (again (settled_world s.log))
 asked_lines luck s Check = fault_line (first (faults (front_world s.log)))
-asked_lines luck s Show = if is_some s.doubt then refusal_line Stopped else view_lines (shown (accepted_count s.log) (settled_world s.log))
+asked_lines luck s Show = shown_lines s.log s.doubt
 asked_lines luck s Hold = []
 asked_lines luck s Flush = flight_lines luck.commit s ++ count_line (settled_world (after_flight luck.commit s).log).count
 asked_lines luck s Crash = opened_line (world_after s.log luck.kept).count

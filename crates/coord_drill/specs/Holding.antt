@@ -1,26 +1,37 @@
 -- What the code holds: a ledger with its store at home, and a ticket for each pending step; and what it prints of these.
-use Rattle.std.specs.Prelude.{◌≡◌, ℕ, ◌==◌, nat_le, true, List, [], ◌∷◌, ◌++◌, IsSome, Option, Some, None, if◌then◌else◌}
+use Rattle.std.specs.Prelude.{◌≡◌, ℕ, ◌==◌, ◌≤◌, nat_le, false, true, List, [], ◌∷◌, ◌++◌, length, Option, Some, None, Ok, Err, if◌then◌else◌, Bool}
 use Rattle.std.specs.Option.{option_map_or}
 use Rattle.coord_disk.specs.declared.memory.MemDisk.{MemDisk}
+use Rattle.coord_store.specs.declared.faults.CommitFault.TheVariants.{Device, OutOfMemory}
+use Rattle.coord_types.specs.declared.steps.Kind.{Kind}
+use Rattle.coord_types.specs.declared.steps.Reply.{Reply as Answered}
 use Rattle.coord_types.specs.declared.steps.Step.{Step}
+use Rattle.coord_world.specs.declared.verdicts.Verdict.TheVariants.{Fresh, Repeat}
 use Rattle.coord_world.specs.protocol.Next.{next, reply}
 use Rattle.coord_world.specs.protocol.NumberedWorld.{World, no_world}
 use Rattle.coord_ledger.specs.declared.release.Release.{Release}
-use Rattle.coord_ledger.specs.ledger.State.{Claim, LedgerState, reply_of}
-use Rattle.coord_ledger.specs.machine.Answers.{IsOneOf, kept_by}
-use Rattle.coord_ledger.specs.machine.Log.{front_world, log_over, pending, settled_world, world_after}
+use Rattle.coord_ledger.specs.ledger.Calls.{claimed, keeps_store, said, with_accepted}
+use Rattle.coord_ledger.specs.ledger.State.{Claim, LedgerState, ledger_over, reply_of}
+use Rattle.coord_ledger.specs.machine.After.{settling_releases}
+use Rattle.coord_ledger.specs.machine.Answers.{IsOneOf, kept_by, next_size}
+use Rattle.coord_ledger.specs.machine.Log.{Log, front_world, log_over, pending, settled_world, with_settled, world_after}
 use Rattle.coord_drill.specs.Drill.{DrillState}
 use Rattle.coord_drill.specs.Printed.{output_line, reply_line}
 use Rattle.coord_drill.specs.declared.drill.Drill.{Drill}
+use Rattle.coord_drill.specs.declared.drill.flying.Flown.{Flown}
+use Rattle.coord_drill.specs.declared.drill.flying.Flown.TheVariants as flown
+use Rattle.coord_drill.specs.declared.drill.submitting.Outcome.{Outcome}
+use Rattle.coord_drill.specs.declared.drill.submitting.Outcome.TheVariants as outcome
 
 -- the claims of tickets for steps from a world on
 abbrev pub claims_of : World → List Step → List Claim
 claims_of w [] = []
-claims_of w (s ∷ ss) = record { step = (reply w s).step; what = s; kind = (reply w s).kind } ∷ claims_of (next w s) ss
+claims_of w (s ∷ ss) = claimed s (reply w s) ∷ claims_of (next w s) ss
 
 pub record IsHeld (l : LedgerState MemDisk) (claims : List Claim) : Type 0 where
   pub home : l.out ≡ None
-  pub here : IsSome l.disk
+  pub here : (disk : MemDisk) × (l.disk ≡ Some disk)
+  pub within : l.log.settled ≤ length l.log.trail
   pub tickets : claims ≡ claims_of (settled_world l.log) (pending l.log)
 
 -- a drill holds these; it goes without only once it has ended with a fault
@@ -31,15 +42,43 @@ IsReadyWith (Some l) claims = IsHeld l claims
 abbrev pub IsReady : Drill → Type 0
 IsReady d = IsReadyWith d.ledger d.tickets.items
 
+-- the state of a drill over this ledger
+abbrev pub drill_of : LedgerState MemDisk → Bool → DrillState
+drill_of l holds = record { log = l.log; doubt = l.doubt; holds = holds }
+
 abbrev pub state_of : Drill → DrillState
 state_of d = record { log = option_map_or (λ l. l.log) d.ledger (log_over no_world); doubt = option_map_or (λ l. l.doubt) d.ledger None; holds = d.holds }
 
 abbrev pub front_of : Drill → World
 front_of d = front_world (state_of d).log
 
--- a crash of its disk may leave this world
-abbrev pub Keeps : LedgerState MemDisk → World → Type 0
-Keeps l w = (n : ℕ) × (IsOneOf n (kept_by l.log.settled None l.doubt) × (w ≡ world_after l.log n))
+-- ---- what calls make of a ledger
+
+-- a flight went out and is back, with this log and this doubt
+pub record IsBack (l : LedgerState MemDisk) (log : Log) (doubt : Option ℕ) (new : LedgerState MemDisk) : Type 0 where
+  pub away : keeps_store l ≡ false
+  pub home : new.out ≡ None
+  pub here : (disk : MemDisk) × (new.disk ≡ Some disk)
+  pub log_is : new.log ≡ log
+  pub doubt_is : new.doubt ≡ doubt
+
+-- a flight of the next steps, if one may go out
+abbrev pub FlownTo : LedgerState MemDisk → Flown → LedgerState MemDisk → Type 0
+FlownTo l flown.Nothing new = (keeps_store l ≡ true) × (new ≡ l)
+FlownTo l (flown.Settled releases) new = IsBack l (with_settled l.log (next_size l.log)) l.doubt new × (releases ≡ settling_releases l.log (next_size l.log))
+FlownTo l (flown.Failed Device) new = IsBack l l.log (Some (next_size l.log)) new
+FlownTo l (flown.Failed OutOfMemory) new = IsBack l l.log l.doubt new
+FlownTo l (flown.Failed fault) new = ⊥
+
+-- a step that is handed in
+abbrev pub HandedTo : LedgerState MemDisk → Step → Outcome → LedgerState MemDisk → Type 0
+HandedTo l x (outcome.Accepted ticket) new = (kind : Kind) × (said l x ≡ Ok (Fresh kind)) × (ticket ≡ claimed x (reply (front_world l.log) x)) × (new ≡ with_accepted l x)
+HandedTo l x (outcome.Repeated ticket) new = (kept : Answered) × (said l x ≡ Ok (Repeat kept)) × (ticket ≡ claimed x kept) × (new ≡ l)
+HandedTo l x (outcome.Refused refusal) new = (said l x ≡ Err refusal) × (new ≡ l)
+
+-- a ledger that was made of the disk of another one after a crash: over a world that the crash may leave
+abbrev pub ReopenedTo : LedgerState MemDisk → LedgerState MemDisk → Type 0
+ReopenedTo l new = (n : ℕ) × IsOneOf n (kept_by l.log.settled None l.doubt) × ((disk : MemDisk) × (new ≡ ledger_over (world_after l.log n) disk))
 
 -- ---- texts
 

@@ -17,7 +17,6 @@ mod telling;
 
 use crate::asked::{Asked, wanted_by};
 use crate::fault::Fault;
-use crate::print::{print_idle, print_refusal};
 use crate::request::Request;
 use coord_disk::{Choice, MemDisk};
 use coord_ledger::{Ledger, Ticket};
@@ -78,8 +77,8 @@ impl Drill {
             Asked::Flush => self.flush(text),
             Asked::Crash => self.crash(text),
             Asked::Hold => self.hold(),
-            Asked::Refuse(refusal) => Ok(print_refusal(text, refusal)?),
-            Asked::Nothing => Ok(print_idle(text)?),
+            Asked::Refuse(refusal) => self.refuse(refusal, text),
+            Asked::Nothing => self.idle(text),
             Asked::Resend => self.resend(text),
             Asked::Check => self.check(text),
             Asked::Show => self.show(text),

@@ -2,7 +2,7 @@
 
 use crate::program::ends;
 use crate::scripts::{BAD_LINES, RUNS};
-use std::alloc::AllocError;
+use std::alloc::{AllocError, Global};
 use std::fs::File;
 use std::io;
 use std::io::{Read, Write};
@@ -13,7 +13,7 @@ use std::test::Fail;
 fn prints<S: Files<File = File> + AllocGlobal>(
     rt: &S,
     script: &[u8],
-    expected: &'static str,
+    expected: &str,
 ) -> Result<bool, AllocError> {
     let mut input = script;
     ends(rt, "resetd drill", &mut input, (0, expected, ""))
@@ -227,30 +227,30 @@ fn push_settled(printed: &mut String, first: u64, last: u64) -> Result<(), Alloc
 }
 
 /// Whether a flight takes 256 steps and the next one the rest.
-fn flies_in_full_batches(alloc: Global) -> Result<bool, AllocError> {
-    let (mut script, mut printed) = held_resets(alloc, 257)?;
+fn flies_in_full_batches<S: Files<File = File> + AllocGlobal>(rt: &S) -> Result<bool, AllocError> {
+    let (mut script, mut printed) = held_resets(rt.alloc(), 257)?;
     script.push_str("flush\nflush\n")?;
     push_settled(&mut printed, 2, 257)?;
     push_settled(&mut printed, 258, 258)?;
-    prints(alloc, script.as_bytes(), &printed)
+    prints(rt, script.as_bytes(), &printed)
 }
 
 /// Whether no more than 1,024 steps are held.
-fn holds_no_more(alloc: Global) -> Result<bool, AllocError> {
-    let (mut script, mut printed) = held_resets(alloc, 1_024)?;
+fn holds_no_more<S: Files<File = File> + AllocGlobal>(rt: &S) -> Result<bool, AllocError> {
+    let (mut script, mut printed) = held_resets(rt.alloc(), 1_024)?;
     script.push_str("reset 1\n")?;
     printed.push_str("no 20 PendingFull\n")?;
-    prints(alloc, script.as_bytes(), &printed)
+    prints(rt, script.as_bytes(), &printed)
 }
 
 #[test]
 fn full_batches(rt: HostRuntime) -> Result<(), Fail> {
-    assert!(rt; flies_in_full_batches(rt.alloc())?);
+    assert!(rt; flies_in_full_batches(&rt)?);
     Ok(())
 }
 
 #[test]
 fn pending_full(rt: HostRuntime) -> Result<(), Fail> {
-    assert!(rt; holds_no_more(rt.alloc())?);
+    assert!(rt; holds_no_more(&rt)?);
     Ok(())
 }

@@ -1,12 +1,10 @@
 //! The disk crashes, and is opened again.
 
-ghost use Rattle.std.specs.Prelude.{◌≡◌, false, None, IfOk, IsSome, OnOk, string_bytes, IfErr};
-ghost use Rattle.coord_store.specs.Kept.{has_stopped};
-ghost use Rattle.coord_ledger.specs.machine.Answers.{IsOneOf, kept_by};
-ghost use Rattle.coord_ledger.specs.machine.Log.{world_after};
+ghost use Rattle.std.specs.Prelude.{◌≡◌, Some, IfOk, OnOk, string_bytes, IfErr};
+ghost use Rattle.coord_disk.specs.declared.memory.MemDisk.{MemDisk as Disk};
 ghost use Rattle.coord_drill.specs.Answered.{Does};
 ghost use Rattle.coord_drill.specs.Drilled.{IsOfWork};
-ghost use Rattle.coord_drill.specs.Holding.{IsReady, Keeps, Tells, state_of};
+ghost use Rattle.coord_drill.specs.Holding.{IsReady, ReopenedTo, Tells, state_of};
 ghost use Rattle.coord_drill.specs.declared.asked.Asked.TheVariants.{Crash};
 
 use super::{Drill, forget_all};
@@ -28,23 +26,19 @@ impl Drill {
         let Some(ledger) = self.ledger.take() else {
             unreachable!()
         };
-        let store = reopened(self.alloc, ledger)?;
-        print_opened(text, store.world().count())?;
-        match Ledger::adopt(self.alloc, store) {
-            Ok(ledger) => self.ledger = Some(ledger),
-            Err((fault, _disk)) => return Err(fault.into()),
-        }
+        let ledger = reopened(self.alloc, ledger)?;
+        print_opened(text, ledger.front().count())?;
+        self.ledger = Some(ledger);
         forget_all(&mut self.tickets);
         self.holds = false;
         Ok(())
     }
 }
 
-/// The store that is opened after a crash of a ledger's disk.
-fn reopened(alloc: Global, ledger: Ledger<MemDisk>) -> Result<Store<MemDisk>, Fault>
-    requires { IsSome ledger.disk }
-    ensures world { IfOk result (λ store. Keeps ledger store.world) }
-    ensures going { IfOk result (λ store. has_stopped store ≡ false) }
+/// What is opened after a crash of a ledger's disk.
+fn reopened(alloc: Global, ledger: Ledger<MemDisk>) -> Result<Ledger<MemDisk>, Fault>
+    requires { (disk : Disk) × (ledger.disk ≡ Some disk) }
+    ensures reopened { IfOk result (ReopenedTo ledger) }
     ensures fault { IfErr result IsOfWork }
 {
     ledger.images_give_settled();
@@ -52,8 +46,12 @@ fn reopened(alloc: Global, ledger: Ledger<MemDisk>) -> Result<Store<MemDisk>, Fa
         Ok(store) => store.into_disk().crash(),
         Err(_) => unreachable!(),
     };
-    match Store::open(alloc, disk) {
-        Ok(store) => Ok(store),
-        Err((fault, _disk)) => Err(fault.into()),
+    let store = match Store::open(alloc, disk) {
+        Ok(store) => store,
+        Err((fault, _disk)) => return Err(fault.into()),
+    };
+    match Ledger::adopt(alloc, store) {
+        Ok(ledger) => Ok(ledger),
+        Err((fault, _store)) => Err(fault.into()),
     }
 }

@@ -9,7 +9,7 @@ ghost use Rattle.coord_ledger.specs.ledger.State.{IsGranted, reply_of};
 ghost use Rattle.coord_ledger.specs.machine.Log.{settled_world};
 ghost use Rattle.coord_drill.specs.Answered.{Does, Flies};
 ghost use Rattle.coord_drill.specs.Drilled.{IsOfWork};
-ghost use Rattle.coord_drill.specs.Holding.{IsReady, Tells, behind, collected_lines, left, released_lines, state_of, waiting};
+ghost use Rattle.coord_drill.specs.Holding.{FlownTo, IsReady, Tells, behind, collected_lines, left, released_lines, state_of, waiting};
 ghost use Rattle.coord_drill.specs.declared.asked.Asked.TheVariants.{Flush};
 
 use super::Drill;
@@ -17,13 +17,23 @@ use crate::fault::Fault;
 use crate::print::{print_commit_fault, print_count, print_output, print_reply};
 use coord_disk::MemDisk;
 use coord_ledger::{Flight, Ledger, Release, Releases, Ticket};
+use coord_store::CommitFault;
 use coord_types::Reply;
 use std::alloc::AllocError;
 use std::collections::VecDeque;
 
+/// What became of a flight.
+enum Flown {
+    /// None went out.
+    Nothing,
+    /// Its steps are settled.
+    Settled(Releases),
+    /// It was not committed.
+    Failed(CommitFault),
+}
+
 impl Drill {
     /// Settles pending steps in one flight, and prints how many steps are settled then.
-    #[tactic(auto, using(crate::proofs::Doing::does_flush))]
     pub(super) fn flush(&mut self, text: &mut String) -> Result<(), Fault>
         requires ready { IsReady self.old }
         ensures ready { OnOk result (IsReady self.new) }
@@ -40,7 +50,6 @@ impl Drill {
 
     /// Sends the next pending steps out in one flight, if any may go, and takes it back. Prints what
     /// it settled, or why it was not committed.
-    #[tactic(auto, using(crate::proofs::Doing::stays, crate::proofs::Doing::flies))]
     pub(super) fn fly(&mut self, text: &mut String) -> Result<(), Fault>
         requires ready { IsReady self.old }
         ensures ready { OnOk result (IsReady self.new) }
@@ -50,18 +59,30 @@ impl Drill {
         let Some(ledger) = &mut self.ledger else {
             unreachable!()
         };
-        let Some(mut flight) = ledger.begin_flush()? else {
-            return Ok(());
-        };
-        let committed = flight.commit();
-        let mut releases = take_back(ledger, flight)?;
-        let printed = match committed {
-            Ok(()) => print_settled(ledger, &mut self.tickets, &mut releases, text),
-            Err(fault) => print_commit_fault(text, fault),
-        };
-        releases.lose_rest();
-        printed?;
-        Ok(())
+        match send_out(ledger)? {
+            Flown::Nothing => Ok(()),
+            Flown::Settled(releases) => {
+                Ok(print_settled(ledger, &mut self.tickets, releases, text)?)
+            }
+            Flown::Failed(fault) => Ok(print_commit_fault(text, fault)?),
+        }
+    }
+}
+
+/// Sends the next steps out, commits them, and takes the flight back.
+fn send_out(ledger: &mut Ledger<MemDisk>) -> Result<Flown, Fault>
+    ensures flown { IfOk result (λ flown. FlownTo ledger.old flown ledger.new) }
+    ensures fault { IfErr result IsOfWork }
+{
+    let Some(mut flight) = ledger.begin_flush()? else {
+        return Ok(Flown::Nothing);
+    };
+    match flight.commit() {
+        Ok(()) => Ok(Flown::Settled(take_back(ledger, flight)?)),
+        Err(fault) => {
+            take_back(ledger, flight)?.lose_rest();
+            Ok(Flown::Failed(fault))
+        }
     }
 }
 
@@ -86,6 +107,22 @@ fn take_back(ledger: &mut Ledger<MemDisk>, flight: Flight<MemDisk>) -> Result<Re
 /// released.
 #[tactic(auto, using(crate::proofs::Settling::looked_at))]
 fn print_settled(
+    ledger: &Ledger<MemDisk>,
+    tickets: &mut VecDeque<Ticket>,
+    mut releases: Releases,
+    text: &mut String,
+) -> Result<(), AllocError>
+    requires granted { AllByRecursion (IsGranted ledger.now.log) tickets.old.items }
+    ensures printed { OnOk result (string_bytes text.new ≡ string_bytes text.old ++ collected_lines (settled_world ledger.now.log).count tickets.old.items releases) }
+    ensures waiting { OnOk result (tickets.new.items ≡ waiting (settled_world ledger.now.log).count tickets.old.items) }
+{
+    let printed = print_collected(ledger, tickets, &mut releases, text);
+    releases.lose_rest();
+    printed
+}
+
+#[tactic(auto, using(crate::proofs::Settling::looked_at))]
+fn print_collected(
     ledger: &Ledger<MemDisk>,
     tickets: &mut VecDeque<Ticket>,
     releases: &mut Releases,

@@ -1,13 +1,12 @@
 //! Steps are handed in.
 
-ghost use Rattle.std.specs.Prelude.{◌≡◌, ◌++◌, OnOk, string_bytes, IfErr};
-ghost use Rattle.coord_ledger.specs.ledger.State.{IsGranted};
+ghost use Rattle.std.specs.Prelude.{◌≡◌, ◌++◌, IfOk, OnOk, string_bytes, IfErr};
+ghost use Rattle.coord_ledger.specs.ledger.State.{IsGranted, reply_of};
 ghost use Rattle.coord_ledger.specs.machine.Log.{settled_count};
 ghost use Rattle.coord_drill.specs.Answered.{Does, kept_line};
 ghost use Rattle.coord_drill.specs.Drilled.{IsOfWork};
-ghost use Rattle.coord_drill.specs.Holding.{IsReady, Tells, state_of};
+ghost use Rattle.coord_drill.specs.Holding.{HandedTo, IsReady, Tells, state_of};
 ghost use Rattle.coord_drill.specs.declared.asked.Asked.TheVariants.{Submit};
-ghost use Rattle.coord_ledger.specs.ledger.State.{reply_of};
 
 use super::Drill;
 use crate::fault::Fault;
@@ -16,6 +15,14 @@ use coord_disk::MemDisk;
 use coord_ledger::{Ledger, Ticket};
 use coord_types::{Refusal, Step};
 use std::alloc::AllocError;
+
+/// What became of a step that was handed in.
+enum Outcome {
+    Accepted(Ticket),
+    /// It is a client's last order, which came again.
+    Repeated(Ticket),
+    Refused(Refusal),
+}
 
 impl Drill {
     /// Hands a step in. An accepted one is settled at once, unless steps are held.
@@ -29,23 +36,37 @@ impl Drill {
             unreachable!()
         };
         self.tickets.reserve(1)?;
-        // A repeat is of a step among these.
-        let accepted = ledger.front().count();
-        ledger.front().ranges();
-        let ticket = match ledger.submit(step) {
-            Ok(ticket) => ticket,
-            Err(Refusal::OutOfMemory) => return Err(Fault::OutOfMemory),
-            Err(refusal) => return Ok(print_refusal(text, refusal)?),
-        };
-        let number = ticket.step();
-        if number <= accepted {
-            return Ok(print_kept(ledger, ticket, text)?);
+        match handed_in(ledger, step)? {
+            Outcome::Accepted(ticket) => {
+                let number = ticket.step();
+                self.tickets.push_back_reserved(ticket);
+                if self.holds {
+                    return Ok(print_pending(text, number)?);
+                }
+                self.fly(text)
+            }
+            Outcome::Repeated(ticket) => Ok(print_kept(ledger, ticket, text)?),
+            Outcome::Refused(refusal) => Ok(print_refusal(text, refusal)?),
         }
-        self.tickets.push_back_reserved(ticket);
-        if self.holds {
-            return Ok(print_pending(text, number)?);
+    }
+}
+
+/// Hands a step to a ledger. A repeat is no new step.
+fn handed_in(ledger: &mut Ledger<MemDisk>, step: Step) -> Result<Outcome, Fault>
+    ensures handed { IfOk result (λ outcome. HandedTo ledger.old step outcome ledger.new) }
+    ensures fault { IfErr result IsOfWork }
+{
+    let accepted = ledger.front().count();
+    match ledger.submit(step) {
+        Ok(ticket) => {
+            if ledger.front().count() > accepted {
+                Ok(Outcome::Accepted(ticket))
+            } else {
+                Ok(Outcome::Repeated(ticket))
+            }
         }
-        self.fly(text)
+        Err(Refusal::OutOfMemory) => Err(Fault::OutOfMemory),
+        Err(refusal) => Ok(Outcome::Refused(refusal)),
     }
 }
 

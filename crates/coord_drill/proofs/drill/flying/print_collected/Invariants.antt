@@ -2,7 +2,7 @@ use Rattle.std.proofs.Common.{◌≡◌, ◌++◌, length, string_bytes}
 use Rattle.std.specs.List.{AllByRecursion}
 use Rattle.coord_ledger.specs.ledger.State.{IsGranted}
 use Rattle.coord_drill.specs.Holding.{collected_lines, left, waiting}
-use Rattle.coord_drill.proofs.drill.flying.print_settled.Given as goal
+use Rattle.coord_drill.proofs.drill.flying.print_collected.Given as goal
 
 -- what is printed and what is still to be printed, and the tickets that stay
 abbrev pub invariant-loop-ticket : goal.invariant-loop-ticket
