@@ -1,11 +1,11 @@
 -- What a crash of the disk leaves, and what is printed of it.
-use Rattle.std.proofs.Common.{◌≡◌, ℕ, ◌+◌, Bool, false, true, List, [], ◌++◌, Option, Some, None, refl, sym, ap, ◌∙◌, subst, inl, inr, arith, IfSome}
+use Rattle.std.proofs.Common.{◌≡◌, ℕ, ◌+◌, Bool, false, true, List, [], ◌++◌, Option, Some, None, refl, sym, ap, ◌∙◌, subst, inl, inr, IfSome}
 use Rattle.coord_disk.specs.Model.Present.{Present, IsImage}
 use Rattle.coord_disk.specs.declared.memory.MemDisk.{MemDisk}
 use Rattle.coord_store.specs.Recovered.{Recovered}
 use Rattle.coord_world.specs.protocol.NumberedWorld.{World}
 use Rattle.coord_ledger.specs.ledger.Calls.{GivesSettled, LedgerGives}
-use Rattle.coord_ledger.specs.ledger.State.{LedgerState, ledger_over}
+use Rattle.coord_ledger.specs.ledger.State.{Claim, LedgerState, ledger_over}
 use Rattle.coord_ledger.specs.machine.Answers.{IsOneOf, kept_by}
 use Rattle.coord_ledger.specs.machine.Log.{Log, front_world, world_after}
 use Rattle.coord_drill.specs.Answered.{Does}
@@ -13,7 +13,7 @@ use Rattle.coord_drill.specs.Drill.{drill_over}
 use Rattle.coord_drill.specs.Holding.{IsHeld, ReopenedTo, drill_of}
 use Rattle.coord_drill.specs.Printed.{opened_line}
 use Rattle.coord_drill.specs.declared.asked.Asked.TheVariants.{Crash}
-use Rattle.coord_drill.proofs.Doing.{does_crash}
+use Rattle.coord_drill.proofs.Doing.{does_crash, new_held}
 
 kept_world : (log : Log) (doubt : Option ℕ) (bytes : List ℕ) (w : World) → GivesSettled log doubt bytes → ((v : World) → Recovered bytes v → w ≡ v) → (n : ℕ) × IsOneOf n (kept_by log.settled None doubt) × (w ≡ world_after log n)
 kept_world log None bytes w gives only = (log.settled, inl refl, only _ gives)
@@ -29,8 +29,8 @@ reopens present l new disk gone opened w image gives home same is_image only is 
     let kept = kept_world l.log l.doubt image w (there refl image (subst (λ d. IsImage (present d) image) same is_image)) only in
     (kept.0, kept.1, (opened, is ∙ ap (λ v. ledger_over v opened) kept.2))
 
-pub crash_held : (l new : LedgerState MemDisk) → ReopenedTo l new → IsHeld new []
-crash_held l new to = subst (λ m. IsHeld m []) (sym to.2.1) (record { home = refl; here = (to.2.0, refl); within = omega arith; tickets = refl })
+pub crash_held : (l new : LedgerState MemDisk) (claims : List Claim) → ReopenedTo l new → claims ≡ [] → IsHeld new claims
+crash_held l new claims to none = new_held new (world_after l.log to.0) to.2.0 claims to.2.1 none
 
 pub crash_told : (l new : LedgerState MemDisk) (holds : Bool) → ReopenedTo l new → Does (drill_of l holds) Crash (opened_line (front_world new.log).count) (drill_of new false)
 crash_told l new holds to =

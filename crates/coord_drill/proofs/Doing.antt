@@ -1,5 +1,5 @@
 -- What flights, steps and crashes print, and what becomes of the drill.
-use Rattle.std.proofs.Common.{◌≡◌, ℕ, ◌+◌, true, false, cond, List, [], ◌++◌, Ok, Err, Some, None, refl, sym, ap, ◌∙◌, subst, inl}
+use Rattle.std.proofs.Common.{◌≡◌, ℕ, ◌+◌, true, false, cond, List, [], ◌++◌, Ok, Err, Some, None, refl, sym, ap, ◌∙◌, subst, arith, inl}
 use Rattle.std.specs.Option.{option_map_or}
 use Rattle.coord_disk.specs.declared.memory.MemDisk.{MemDisk}
 use Rattle.coord_types.specs.declared.refusals.Refusal.{Refusal}
@@ -7,11 +7,11 @@ use Rattle.coord_types.specs.declared.steps.Kind.{Kind}
 use Rattle.coord_types.specs.declared.steps.Reply.{Reply}
 use Rattle.coord_types.specs.declared.steps.Step.{Step}
 use Rattle.coord_world.specs.declared.verdicts.Verdict.TheVariants.{Fresh, Repeat}
-use Rattle.coord_world.specs.protocol.NumberedWorld.{no_world}
+use Rattle.coord_world.specs.protocol.NumberedWorld.{World, no_world}
 use Rattle.coord_ledger.specs.declared.events.Answer.{Answer}
 use Rattle.coord_ledger.specs.declared.events.Answer.TheVariants.{Committed}
 use Rattle.coord_ledger.specs.declared.mark.Mark.TheVariants.{New}
-use Rattle.coord_ledger.specs.ledger.State.{LedgerState}
+use Rattle.coord_ledger.specs.ledger.State.{Claim, LedgerState, ledger_over}
 use Rattle.coord_ledger.specs.machine.Answers.{IsOneOf, kept_by, to_commit}
 use Rattle.coord_ledger.specs.machine.Log.{front_world, log_over, settled_count, settled_world, world_after}
 use Rattle.coord_drill.specs.Answered.{Does, Flies, asked_lines, commit_lines, flight_lines, kept_line, step_lines, verdict_lines}
@@ -29,6 +29,10 @@ state_is d l is = ap (λ o. record { log = option_map_or (λ (k : LedgerState Me
 
 pub held_is : (d : Drill) (l : LedgerState MemDisk) → d.ledger ≡ Some l → IsReady d → IsHeld l d.tickets.items
 held_is d l is ready = subst (λ o. IsReadyWith o d.tickets.items) is ready
+
+-- nothing is pending in a ledger that was just made
+pub new_held : (l : LedgerState MemDisk) (w : World) (disk : MemDisk) (claims : List Claim) → l ≡ ledger_over w disk → claims ≡ [] → IsHeld l claims
+new_held l w disk claims is none = subst (λ cs. IsHeld l cs) (sym none) (subst (λ m. IsHeld m []) (sym is) (record { home = refl; here = (disk, refl); within = omega arith; tickets = refl }))
 
 -- what is told of a ledger is told of its drill
 pub tells_of : (P : DrillState → List ℕ → Type 0) (d : Drill) (l : LedgerState MemDisk) (old new told : List ℕ) → d.ledger ≡ Some l → new ≡ old ++ told → P (drill_of l d.holds) told → Tells old new (P (state_of d))

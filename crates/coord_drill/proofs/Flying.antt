@@ -1,13 +1,15 @@
 -- What a flight makes of a ledger, what is printed of it, and the tickets that stay.
-use Rattle.std.proofs.Common.{◌≡◌, ◌⊎◌, ℕ, ◌+◌, ◌≤◌, Bool, true, false, List, [], ◌++◌, length, take, drop, Option, Some, None, refl, sym, ap, ◌∙◌, subst, arith, inl, inr}
+use Rattle.std.proofs.Common.{◌≡◌, ◌⊎◌, ℕ, ◌+◌, ◌≤◌, Bool, true, false, List, [], ◌++◌, length, take, drop, Option, Some, None, Result, Ok, IfOk, refl, sym, ap, ◌∙◌, subst, arith, inl, inr}
 use Rattle.std.proofs.Math.Nat.{min-le_right}
 use Rattle.std.proofs.lemmas.List.{drop-drop, length-drop, length-take, take-append-drop, take_min}
 use Rattle.std.specs.List.{AllByRecursion}
+use Rattle.std.specs.Option.{IsSomeAnd}
 use Rattle.std.specs.Prelude.{is_some}
 use Rattle.coord_disk.specs.declared.memory.MemDisk.{MemDisk}
 use Rattle.coord_store.specs.declared.faults.CommitFault.{CommitFault}
 use Rattle.coord_store.specs.declared.faults.CommitFault.TheVariants as commit
 use Rattle.coord_types.specs.declared.steps.Step.{Step}
+use Rattle.coord_world.proofs.Facade.{by_test}
 use Rattle.coord_world.specs.protocol.Next.{fold}
 use Rattle.coord_world.specs.protocol.NumberedWorld.{World}
 use Rattle.coord_world.specs.protocol.Outputs.{outs}
@@ -32,6 +34,18 @@ use Rattle.coord_drill.proofs.Doing.{flies, stays}
 use Rattle.coord_drill.proofs.Settling.{collected_are, granted_from, waiting_are}
 
 -- ---- out and back
+
+-- what is known of a flight that went out
+pub flight_begun : {E : Type 0} (l out : LedgerState MemDisk) (r : Result (Option (FlightState MemDisk)) E) (f : FlightState MemDisk) → r ≡ Ok (Some f)
+    → (keeps_store l ≡ true → (r ≡ Ok None) × (out ≡ l))
+    → (keeps_store l ≡ false → IfOk r (λ begun. IsSomeAnd begun (λ g. (g ≡ next_flight l.log g.disk) × (l.disk ≡ Some g.disk) × (out ≡ with_out l (length g.steps)))))
+    → (keeps_store l ≡ false) × (f ≡ next_flight l.log f.disk) × (out ≡ with_out l (length f.steps))
+flight_begun l out r f is nothing begun =
+    by_test (keeps_store l) (λ b. (keeps_store l ≡ false) × (f ≡ next_flight l.log f.disk) × (out ≡ with_out l (length f.steps)))
+    (λ keeps. let clash : Ok (Some f) ≡ Ok None = sym is ∙ (nothing keeps).0 in absurd cc)
+    (λ away.
+    let known = subst (λ q. IfOk q (λ given. IsSomeAnd given (λ g. (g ≡ next_flight l.log g.disk) × (l.disk ≡ Some g.disk) × (out ≡ with_out l (length g.steps))))) is (begun away) in
+    (away, known.0, known.2))
 
 -- the flight that went out, committed or not, is the ledger's own
 pub own_flight : (l out : LedgerState MemDisk) (f g : FlightState MemDisk) → f ≡ next_flight l.log f.disk → out ≡ with_out l (length f.steps) → g.first ≡ f.first → g.steps ≡ f.steps → g.world ≡ f.world → IsOut out g

@@ -1,15 +1,15 @@
 -- What may be printed where a piece of the input is taken.
-use Rattle.std.proofs.Common.{refl, ◌≡◌, ℕ, ◌+◌, List, [], ◌∷◌, ◌++◌, Option, Some, None, sym, ap, ◌∙◌, subst, append_assoc, append-nil, take, Result, Ok, Err, OnOk, OnErr, IfErr}
-use Rattle.std.specs.Io.KnownBytes.{Appends, Consumes}
-use Rattle.std.proofs.KnownBytes.{Consumes-trans}
+use Rattle.std.proofs.Common.{refl, ◌≡◌, ℕ, ◌+◌, List, [], ◌∷◌, ◌++◌, Option, Some, None, sym, ap, ◌∙◌, subst, append_assoc, append-nil, take, Result, Ok, Err, OnOk, OnErr, IfErr, IfSome}
+use Rattle.std.specs.Io.KnownBytes.{Appends, Consumes, IsAtEnd}
+use Rattle.std.proofs.KnownBytes.{Appends-trans, Consumes-trans, Consumes-whole}
 use Rattle.coord_lines.specs.Lines.{Line, extended, lines_on, before_line_feed, behind_line_feed, IsWithin}
 use Rattle.coord_lines.proofs.LinesOn.{lines_on-ended, lines_on-unended, extended-nothing}
 use Rattle.coord_drill.specs.declared.fault.Fault.{Fault}
 use Rattle.coord_drill.specs.declared.fault.Fault.TheVariants.{TooManyReads}
 use Rattle.coord_drill.specs.Drill.{DrillState}
 use Rattle.coord_drill.specs.Drilled.{LineResponds, Prints, IsOfWork, WritesFirstPart}
-use Rattle.coord_drill.proofs.FirstParts.{first_part-after, first_part-longer, first_part-whole}
-use Rattle.coord_drill.proofs.Quiet.{prints_somehow}
+use Rattle.coord_drill.proofs.FirstParts.{first_part-longer, first_part-none}
+use Rattle.coord_drill.proofs.Quiet.{line_somehow}
 
 -- a line feed ends the line
 pub prints-ended : (s : DrillState) (n : ℕ) (line : Line) (piece more behind : List ℕ) (whole : Line) → Some behind ≡ behind_line_feed piece → whole ≡ extended line (before_line_feed piece)
@@ -29,9 +29,34 @@ pub prints-end : (s : DrillState) (n : ℕ) (line : Line) → IsWithin line → 
 prints-end s n line within told t responds =
     subst (λ l. Prints s n (l ∷ []) told) (sym (extended-nothing line within)) (told, t, [], responds, refl, sym (append-nil told))
 
+-- of what it prints a first part was written
+pub end_failed : (s : DrillState) (n : ℕ) (line : Line) → IsWithin line → (a b : Option (List ℕ)) → ((told : List ℕ) × (t : DrillState) × LineResponds s n line told t × WritesFirstPart a b told) → (text : List ℕ) × Prints s n (lines_on line []) text × WritesFirstPart a b text
+end_failed s n line within a b ended = (ended.0, prints-end s n line within ended.0 ended.1 ended.2, ended.3)
+
+-- where its answer was not written whole
+pub line_failed : {T : Type 0} (r : Result T Fault) (s : DrillState) (n : ℕ) (line : Line) (told : List ℕ) (t : DrillState) (a b : Option (List ℕ)) → LineResponds s n line told t → OnErr r (WritesFirstPart a b told)
+    → OnErr r ((told : List ℕ) × (t : DrillState) × LineResponds s n line told t × WritesFirstPart a b told)
+line_failed (Ok x) s n line told t a b responds part = tt
+line_failed (Err e) s n line told t a b responds part = (told, t, responds, part)
+
+-- where nothing of it was written
+pub line_unwritten : {T : Type 0} (r : Result T Fault) (s : DrillState) (n : ℕ) (line : Line) (a : Option (List ℕ)) → OnErr r ((told : List ℕ) × (t : DrillState) × LineResponds s n line told t × WritesFirstPart a a told)
+line_unwritten (Ok x) s n line a = tt
+line_unwritten (Err e) s n line a = let one = line_somehow s n line in (one.0, one.1, one.2, first_part-none a one.0)
+
 -- so much may be printed for a line so far, where nothing more comes
 pub prints-so_far : (s : DrillState) (n : ℕ) (line : Line) (piece text : List ℕ) → Prints s n (lines_on line (piece ++ [])) text → Prints s n (lines_on line piece) text
 prints-so_far s n line piece text prints = subst (λ p. Prints s n (lines_on line p) text) (append-nil piece) prints
+
+-- what was written for a whole input
+pub prints-whole : (r : Result (Unit {0}) Fault) (first s : DrillState) (line now : Line) (n : ℕ) (old rest old_text mid_text new_text : Option (List ℕ)) (seen before : List ℕ)
+    → OnOk r ((text : List ℕ) × Prints s n (lines_on now []) text × Appends mid_text new_text text) → Consumes old rest seen → IsAtEnd rest → Appends old_text mid_text before
+    → ((more text : List ℕ) → Prints s n (lines_on now more) text → Prints first 1 (lines_on line (seen ++ more)) (before ++ text))
+    → OnOk r (IfSome old (λ input. (text : List ℕ) × Prints first 1 (lines_on line input) text × Appends old_text new_text text))
+prints-whole (Ok x) first s line now n old rest old_text mid_text new_text seen before done consumed end wrote goes =
+    Consumes-whole old rest seen (λ input. (text : List ℕ) × Prints first 1 (lines_on line input) text × Appends old_text new_text text) consumed end
+    (before ++ done.0, prints-so_far first 1 line seen (before ++ done.0) (goes [] done.0 done.1), Appends-trans old_text mid_text new_text before done.0 wrote done.2)
+prints-whole (Err e) first s line now n old rest old_text mid_text new_text seen before done consumed end wrote goes = tt
 
 -- a read that gave no byte
 pub Consumes-none : (a b c : Option (List ℕ)) (seen bytes : List ℕ) (count : ℕ) → Consumes a b seen → Consumes b c (take count bytes) → count ≡ 0 → Consumes a c seen
@@ -46,6 +71,17 @@ not_of_reading fault work e = subst IsOfWork e work
 pub IfErr-of_work : {P : Type 0} {Q : Fault → Type 0} (r : Result (Unit {0}) Fault) → OnErr r P → IfErr r IsOfWork → ((fault : Fault) → IsOfWork fault → P → Q fault) → IfErr r Q
 IfErr-of_work (Ok x) part kind make = tt
 IfErr-of_work (Err fault) part kind make = make fault kind part
+
+-- the same of what failed in a piece of the input
+pub IfErr-of_piece : {Q : Fault → Type 0} {a b : Option (List ℕ)} (r : Result (Unit {0}) Fault) (s : DrillState) (n : ℕ) (line : Line) (piece : List ℕ) → OnErr r ((text : List ℕ) × Prints s n (lines_on line piece) text × WritesFirstPart a b text) → IfErr r IsOfWork
+    → ((fault : Fault) → IsOfWork fault → ((text : List ℕ) × Prints s n (lines_on line piece) text × WritesFirstPart a b text) → Q fault) → IfErr r Q
+IfErr-of_piece (Ok x) s n line piece part kind make = tt
+IfErr-of_piece (Err fault) s n line piece part kind make = make fault kind part
+
+-- and where nothing is known but the fault
+pub IfErr-by_work : {Q : Fault → Type 0} {T : Type 0} (r : Result T Fault) → IfErr r IsOfWork → ((fault : Fault) → IsOfWork fault → Q fault) → IfErr r Q
+IfErr-by_work (Ok x) kind make = tt
+IfErr-by_work (Err fault) kind make = make fault kind
 
 -- What was put into an empty list for a piece of the input. `Piece` are the texts that may be printed to it; `Whole` those to it and
 -- what comes behind it, and `Rest` those that may still be printed then.

@@ -183,6 +183,21 @@ impl Console {
         ensures line { OnOk result (self.new.line ≡ Some []) }
         ensures within { IsWithin self.old.line }
     {
+        self.answer_line()?;
+        write_text(writer, self.text.as_bytes())
+    }
+
+    /// Carries out the line that has come in, with its answer as the text, and begins the next one.
+    fn answer_line(&mut self) -> Result<(), Fault>
+        requires ready { IsReady self.old.drill }
+        requires number { self.old.number < 2 ^ 64 - 1 }
+        ensures ready { OnOk result (IsReady self.new.drill) }
+        ensures told { OnOk result (LineResponds (state_of self.old.drill) (self.old.number + 1) self.old.line (string_bytes self.new.text) (state_of self.new.drill)) }
+        ensures fault { IfErr result IsOfWork }
+        ensures number { OnOk result (self.new.number ≡ self.old.number + 1) }
+        ensures line { OnOk result (self.new.line ≡ Some []) }
+        ensures within { IsWithin self.old.line }
+    {
         self.number += 1;
         self.text.clear();
         match self.line.get() {
@@ -195,7 +210,7 @@ impl Console {
             )?,
         }
         self.line.clear();
-        write_text(writer, self.text.as_bytes())
+        Ok(())
     }
 
     /// Ends the drill.

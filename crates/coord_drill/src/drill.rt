@@ -76,7 +76,10 @@ impl Drill {
             Asked::Submit(step) => self.submit(step, text),
             Asked::Flush => self.flush(text),
             Asked::Crash => self.crash(text),
-            Asked::Hold => self.hold(),
+            Asked::Hold => {
+                self.hold();
+                Ok(())
+            }
             Asked::Refuse(refusal) => self.refuse(refusal, text),
             Asked::Nothing => self.idle(text),
             Asked::Resend => self.resend(text),
@@ -87,13 +90,12 @@ impl Drill {
 
     /// From now on accepted steps are not settled at once.
     #[tactic(auto, using(crate::proofs::Quiet::does_hold))]
-    fn hold(&mut self) -> Result<(), Fault>
+    fn hold(&mut self)
         requires ready { IsReady self.old }
         ensures ready { IsReady self.new }
         ensures told { Does (state_of self.old) ask.Hold [] (state_of self.new) }
     {
         self.holds = true;
-        Ok(())
     }
 
     /// Ends the drill. What is pending is lost.

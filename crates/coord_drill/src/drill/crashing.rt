@@ -27,10 +27,11 @@ impl Drill {
             unreachable!()
         };
         let ledger = reopened(self.alloc, ledger)?;
-        print_opened(text, ledger.front().count())?;
+        let count = ledger.front().count();
         self.ledger = Some(ledger);
         forget_all(&mut self.tickets);
         self.holds = false;
+        print_opened(text, count)?;
         Ok(())
     }
 }

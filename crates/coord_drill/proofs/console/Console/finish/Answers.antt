@@ -1,15 +1,15 @@
-use Rattle.std.proofs.Common.{◌+◌}
+use Rattle.std.proofs.Common.{◌+◌, rules}
 use Rattle.std.proofs.KnownBytes.{Appends-kept}
 use Rattle.coord_drill.specs.Holding.{state_of}
-use Rattle.coord_drill.proofs.Taken.{prints-end}
+use Rattle.coord_drill.proofs.Taken.{end_failed, prints-end}
 use Rattle.coord_drill.proofs.FirstParts.{first_part-all}
 use Rattle.coord_drill.proofs.console.Console.finish.Goals as goal
 
 pub returns-in_err-end_line-clause-failed : goal.returns-in_err-end_line-clause-failed
 returns-in_err-end_line-clause-failed g c =
     let s = c.args.self.now in
-    let ended = c.in_err-end_line.ensures.failed in
-    (ended.0, prints-end (state_of s.drill) (s.number + 1) s.line c.end_line.ensures.within ended.0 ended.1 ended.2, ended.3)
+    let part = end_failed (state_of s.drill) (s.number + 1) s.line c.end_line.ensures.within _ _ c.in_err-end_line.ensures.failed in
+    search rules
 
 pub returns-in-Err-clause-failed : goal.returns-in-Err-clause-failed
 returns-in-Err-clause-failed g c =

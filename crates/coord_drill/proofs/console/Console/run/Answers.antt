@@ -1,12 +1,35 @@
-use Rattle.std.proofs.Common.{◌++◌, [], take, arith, rules, sym, ap, subst, append_assoc, length-append, length-take-le}
-use Rattle.std.proofs.KnownBytes.{Appends-trans, Consumes-trans, Consumes-kept}
+use Rattle.std.proofs.Common.{◌++◌, ◌+◌, [], take, arith, rules, sym, ap, subst, append_assoc, length-append, length-take-le}
+use Rattle.std.proofs.KnownBytes.{Appends-nil, Appends-trans, Consumes-nil, Consumes-trans, Consumes-kept}
+use Rattle.std.specs.Io.KnownBytes.{IsAtEnd}
 use Rattle.coord_lines.specs.Lines.{lines_on}
 use Rattle.coord_drill.specs.Drilled.{Prints}
 use Rattle.coord_drill.specs.Holding.{state_of}
 use Rattle.coord_drill.proofs.FirstParts.{first_part-after, first_part-whole}
 use Rattle.coord_drill.proofs.Quiet.{prints_somehow}
-use Rattle.coord_drill.proofs.Taken.{prints-so_far, Consumes-none, not_of_reading, IfErr-of_work}
+use Rattle.coord_drill.proofs.Taken.{prints-so_far, prints-whole, Consumes-none, not_of_reading, IfErr-of_piece, IfErr-of_work}
 use Rattle.coord_drill.proofs.console.Console.run.Goals as goal
+
+pub loop-init : goal.loop-init
+loop-init g c = (
+  c.requires.ready,
+  omega (arith, c.requires.number),
+  (
+    [],
+    Consumes-nil _,
+    omega arith,
+    ([], Appends-nil _, λ more rest prints. subst (λ n. Prints (state_of c.args.self.now.drill) (n + 1) (lines_on c.args.self.now.line more) rest) c.requires.number prints),
+  ),
+)
+
+pub returns-then-count-eq0-clause-printed : goal.returns-then-count-eq0-clause-printed
+returns-then-count-eq0-clause-printed g c =
+    let inv = c.loop.invariant in
+    let first = c.args.self.now in
+    let now = c.loop.self in
+    let seen = inv.2.0 in
+    let consumed = Consumes-none _ _ _ seen c.read.new.buf c.in-Ok.count inv.2.1 c.in-Ok.ensures.bytes.0 c.if-count-eq0.true in
+    let ended : IsAtEnd (g.R.Read.remaining c.read.new.self) = search rules in
+    prints-whole c.finish.result (state_of first.drill) (state_of now.drill) first.line now.line (now.number + 1) _ _ _ _ _ seen inv.2.3.0 c.finish.ensures.printed consumed ended inv.2.3.1 inv.2.3.2
 
 pub returns-in_default-clause-failed : goal.returns-in_default-clause-failed
 returns-in_default-clause-failed g c =
@@ -53,7 +76,8 @@ returns-in_err-answer-clause-failed g c =
     let seen = inv.2.0 in
     let came = take c.in-Ok.count c.read.new.buf in
     let consumed = Consumes-trans _ _ _ seen came inv.2.1 c.in-Ok.ensures.bytes.0 in
-    IfErr-of_work c.from_residual.result (search rules) (search rules)
+    let now = c.loop.self in
+    IfErr-of_piece c.from_residual.result (state_of now.drill) (now.number + 1) now.line came (search rules) (search rules)
     (λ fault kind part. (
       seen ++ came,
       consumed,

@@ -17,7 +17,7 @@ returns-in_err-end_line-clause-failed g c =
     let ended = c.in_err-end_line.ensures.failed in
     let behind = c.in-Some.behind.now in
     let later = prints_somehow ended.1 (s.number + 1 + 1) (lines_on (Some []) (behind ++ [])) in
-    let told = prints-ended (state_of s.drill) (s.number + 1) s.line c.loop-behind.rest.now [] behind c.take.new.self.line c.in-Some.ensures.behind c.take.ensures.line ended.0 ended.1 later.0 ended.2 later.1 in (
+    let told = prints-ended (state_of s.drill) (s.number + 1) s.line c.loop-behind.rest.now [] behind c.take.new.self c.in-Some.ensures.behind c.take.ensures.line ended.0 ended.1 later.0 ended.2 later.1 in (
       inv.2.0 ++ (ended.0 ++ later.0),
       prints-so_far (state_of first.drill) (first.number + 1) first.line c.args.piece.now _ (inv.2.2 [] (ended.0 ++ later.0) told),
       first_part-after _ _ _ inv.2.0 (ended.0 ++ later.0) inv.2.1 (first_part-longer _ _ ended.0 later.0 ended.3),
@@ -42,7 +42,7 @@ loop-behind-preserved g c =
         λ more others prints.
             let numbered = subst (λ n. Prints (state_of new.drill) (n + 1) (lines_on new.line (behind ++ more)) others) now.number prints in
             let begun = subst (λ l. Prints (state_of new.drill) (s.number + 1 + 1) (lines_on l (behind ++ more)) others) now.line numbered in
-            let whole = prints-ended (state_of s.drill) (s.number + 1) s.line rest more behind c.take.new.self.line c.in-Some.ensures.behind c.take.ensures.line told (state_of new.drill) others now.printed.1 begun in
+            let whole = prints-ended (state_of s.drill) (s.number + 1) s.line rest more behind c.take.new.self c.in-Some.ensures.behind c.take.ensures.line told (state_of new.drill) others now.printed.1 begun in
             subst (Prints (state_of first.drill) (first.number + 1) (lines_on first.line (c.args.piece.now ++ more))) (sym (append_assoc inv.2.0 told others)) (inv.2.2 more (told ++ others) whole),
       ),
     )
@@ -51,4 +51,4 @@ pub returns-clause-printed : goal.returns-clause-printed
 returns-clause-printed g c =
     let inv = c.loop-behind.invariant in
     let s = c.loop-behind.self in
-    (inv.2.0, inv.2.1, λ more others prints. inv.2.2 more others (prints-unended (state_of s.drill) (s.number + 1) s.line c.loop-behind.rest.now more c.take.new.self.line c.in_default.ensures.behind c.take.ensures.line others prints))
+    (inv.2.0, inv.2.1, λ more others prints. inv.2.2 more others (prints-unended (state_of s.drill) (s.number + 1) s.line c.loop-behind.rest.now more c.take.new.self c.in_default.ensures.behind c.take.ensures.line others prints))
