@@ -38,13 +38,13 @@ use Rattle.coord_drill.proofs.Settling.{collected_are, granted_from, waiting_are
 -- what is known of a flight that went out
 pub flight_begun : {E : Type 0} (l out : LedgerState MemDisk) (r : Result (Option (FlightState MemDisk)) E) (f : FlightState MemDisk) → r ≡ Ok (Some f)
     → (keeps_store l ≡ true → (r ≡ Ok None) × (out ≡ l))
-    → (keeps_store l ≡ false → IfOk r (λ begun. IsSomeAnd begun (λ g. (g ≡ next_flight l.log g.disk) × (l.disk ≡ Some g.disk) × (out ≡ with_out l (length g.steps)))))
+    → (keeps_store l ≡ false → IfOk r (λ begun. IsSomeAnd begun (λ (g : FlightState MemDisk). (g ≡ next_flight l.log g.disk) × (l.disk ≡ Some g.disk) × (out ≡ with_out l (length g.steps)))))
     → (keeps_store l ≡ false) × (f ≡ next_flight l.log f.disk) × (out ≡ with_out l (length f.steps))
-flight_begun l out r f is nothing begun =
+flight_begun {E} l out r f is nothing begun =
     by_test (keeps_store l) (λ b. (keeps_store l ≡ false) × (f ≡ next_flight l.log f.disk) × (out ≡ with_out l (length f.steps)))
     (λ keeps. let clash : Ok (Some f) ≡ Ok None = sym is ∙ (nothing keeps).0 in absurd cc)
     (λ away.
-    let known = subst (λ q. IfOk q (λ given. IsSomeAnd given (λ g. (g ≡ next_flight l.log g.disk) × (l.disk ≡ Some g.disk) × (out ≡ with_out l (length g.steps))))) is (begun away) in
+    let known = subst (λ (q : Result (Option (FlightState MemDisk)) E). IfOk q (λ given. IsSomeAnd given (λ (g : FlightState MemDisk). (g ≡ next_flight l.log g.disk) × (l.disk ≡ Some g.disk) × (out ≡ with_out l (length g.steps))))) is (begun away) in
     (away, known.0, known.2))
 
 -- the flight that went out, committed or not, is the ledger's own
