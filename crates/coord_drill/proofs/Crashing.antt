@@ -1,5 +1,5 @@
 -- What a crash of the disk leaves, and what is printed of it.
-use Rattle.std.proofs.Common.{◌≡◌, ℕ, ◌+◌, Bool, false, true, List, [], ◌++◌, Option, Some, None, refl, sym, ap, ◌∙◌, subst, inl, inr, IfSome}
+use Rattle.std.proofs.Common.{◌≡◌, ℕ, ◌+◌, Bool, false, true, List, [], Option, Some, None, refl, sym, ap, ◌∙◌, subst, inl, inr, IfSome}
 use Rattle.coord_disk.specs.Model.Present.{Present, IsImage}
 use Rattle.coord_disk.specs.declared.memory.MemDisk.{MemDisk}
 use Rattle.coord_store.specs.Recovered.{Recovered}
@@ -9,7 +9,6 @@ use Rattle.coord_ledger.specs.ledger.State.{Claim, LedgerState, ledger_over}
 use Rattle.coord_ledger.specs.machine.Answers.{IsOneOf, kept_by}
 use Rattle.coord_ledger.specs.machine.Log.{Log, front_world, world_after}
 use Rattle.coord_drill.specs.Answered.{Does}
-use Rattle.coord_drill.specs.Drill.{drill_over}
 use Rattle.coord_drill.specs.Holding.{IsHeld, ReopenedTo, drill_of}
 use Rattle.coord_drill.specs.Printed.{opened_line}
 use Rattle.coord_drill.specs.declared.asked.Asked.TheVariants.{Crash}

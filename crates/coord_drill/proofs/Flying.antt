@@ -1,5 +1,5 @@
 -- What a flight makes of a ledger, what is printed of it, and the tickets that stay.
-use Rattle.std.proofs.Common.{◌≡◌, ◌⊎◌, ℕ, ◌+◌, ◌≤◌, Bool, true, false, List, [], ◌++◌, length, take, drop, Option, Some, None, Result, Ok, IfOk, refl, sym, ap, ◌∙◌, subst, arith, inl, inr}
+use Rattle.std.proofs.Common.{◌≡◌, ◌⊎◌, ℕ, ◌≤◌, Bool, true, false, List, [], length, take, drop, Option, Some, None, Result, Ok, IfOk, refl, sym, ap, ◌∙◌, subst, arith, inl, inr}
 use Rattle.std.proofs.Math.Nat.{min-le_right}
 use Rattle.std.proofs.lemmas.List.{drop-drop, length-drop, length-take, take-append-drop, take_min}
 use Rattle.std.specs.List.{AllByRecursion}
@@ -8,7 +8,6 @@ use Rattle.std.specs.Prelude.{is_some}
 use Rattle.coord_disk.specs.declared.memory.MemDisk.{MemDisk}
 use Rattle.coord_store.specs.declared.faults.CommitFault.{CommitFault}
 use Rattle.coord_store.specs.declared.faults.CommitFault.TheVariants as commit
-use Rattle.coord_types.specs.declared.steps.Step.{Step}
 use Rattle.coord_world.proofs.Facade.{by_test}
 use Rattle.coord_world.specs.protocol.Next.{fold}
 use Rattle.coord_world.specs.protocol.NumberedWorld.{World}
@@ -22,7 +21,7 @@ use Rattle.coord_ledger.specs.declared.release.Release.{Release}
 use Rattle.coord_ledger.specs.ledger.Calls.{keeps_store, next_flight, releases_in, taken_back, with_out}
 use Rattle.coord_ledger.specs.ledger.Follows.{IsOut}
 use Rattle.coord_ledger.specs.ledger.State.{Claim, FlightState, IsGranted, LedgerState}
-use Rattle.coord_ledger.specs.machine.After.{releases_of, settling_releases}
+use Rattle.coord_ledger.specs.machine.After.{releases_of}
 use Rattle.coord_ledger.specs.machine.Answers.{IsOneOf, most_in_flight, next_size, stays_home, to_commit}
 use Rattle.coord_ledger.specs.machine.Log.{Log, pending, settled_world, with_settled}
 use Rattle.coord_drill.specs.Answered.{Flies, commit_lines}

@@ -1,5 +1,5 @@
 -- What a step that is handed in makes of a ledger, what is printed of it, and the tickets then.
-use Rattle.std.proofs.Common.{◌≡◌, ◌≢◌, ℕ, ◌+◌, ◌<◌, ◌≤◌, Bool, true, false, List, [], ◌∷◌, ◌++◌, length, take, drop, Result, Ok, Err, refl, sym, ap, ◌∙◌, subst, arith}
+use Rattle.std.proofs.Common.{◌≡◌, ◌≢◌, ℕ, ◌<◌, ◌≤◌, Bool, true, false, List, [], ◌∷◌, ◌++◌, drop, Result, Ok, Err, refl, sym, ap, ◌∙◌, subst, arith}
 use Rattle.std.proofs.lemmas.List.{drop-append-le, length-append, take-append-le}
 use Rattle.std.proofs.lemmas.Result.{MatchResult-at_err, MatchResult-at_ok}
 use Rattle.std.specs.Prelude.{is_some}
@@ -18,7 +18,7 @@ use Rattle.coord_world.specs.protocol.NumberedWorld.{World}
 use Rattle.coord_ledger.proofs.Granted.{granted_repeat}
 use Rattle.coord_ledger.specs.ledger.Calls.{claimed, said, with_accepted}
 use Rattle.coord_ledger.specs.ledger.State.{Claim, IsGranted, LedgerState, reply_of}
-use Rattle.coord_ledger.specs.machine.Log.{Log, front_world, pending, settled_count, settled_world, with_step}
+use Rattle.coord_ledger.specs.machine.Log.{front_world, pending, settled_count, settled_world, with_step}
 use Rattle.coord_drill.specs.Answered.{Does, Flies, kept_line}
 use Rattle.coord_drill.specs.Drill.{DrillState}
 use Rattle.coord_drill.specs.Holding.{HandedTo, IsHeld, claims_of, drill_of}

@@ -1,5 +1,5 @@
 -- What may be printed where a piece of the input is taken.
-use Rattle.std.proofs.Common.{refl, ◌≡◌, ℕ, ◌+◌, List, [], ◌∷◌, ◌++◌, Option, Some, None, sym, ap, ◌∙◌, subst, append_assoc, append-nil, take, Result, Ok, Err, OnOk, OnErr, IfErr, IfSome}
+use Rattle.std.proofs.Common.{refl, ◌≡◌, ℕ, ◌+◌, List, [], ◌∷◌, ◌++◌, Option, Some, None, sym, ap, ◌∙◌, subst, append-nil, take, Result, Ok, Err, OnOk, OnErr, IfErr, IfSome}
 use Rattle.std.specs.Io.KnownBytes.{Appends, Consumes, IsAtEnd}
 use Rattle.std.proofs.KnownBytes.{Appends-trans, Consumes-trans, Consumes-whole}
 use Rattle.coord_lines.specs.Lines.{Line, extended, lines_on, before_line_feed, behind_line_feed, IsWithin}
@@ -72,11 +72,15 @@ pub IfErr-of_work : {P : Type 0} {Q : Fault → Type 0} (r : Result (Unit {0}) F
 IfErr-of_work (Ok x) part kind make = tt
 IfErr-of_work (Err fault) part kind make = make fault kind part
 
+-- what may be printed to a piece, of which a first part was written
+pub piece_part : (s : DrillState) (n : ℕ) (line : Line) (piece text : List ℕ) (a b : Option (List ℕ)) → Prints s n (lines_on line piece) text → WritesFirstPart a b text → (text : List ℕ) × Prints s n (lines_on line piece) text × WritesFirstPart a b text
+piece_part s n line piece text a b prints part = (text, prints, part)
+
 -- the same of what failed in a piece of the input
-pub IfErr-of_piece : {Q : Fault → Type 0} {a b : Option (List ℕ)} (r : Result (Unit {0}) Fault) (s : DrillState) (n : ℕ) (line : Line) (piece : List ℕ) → OnErr r ((text : List ℕ) × Prints s n (lines_on line piece) text × WritesFirstPart a b text) → IfErr r IsOfWork
+pub IfErr-of_piece : {Q : Fault → Type 0} (r : Result (Unit {0}) Fault) (a b : Option (List ℕ)) (s : DrillState) (n : ℕ) (line : Line) (piece : List ℕ) → OnErr r ((text : List ℕ) × Prints s n (lines_on line piece) text × WritesFirstPart a b text) → IfErr r IsOfWork
     → ((fault : Fault) → IsOfWork fault → ((text : List ℕ) × Prints s n (lines_on line piece) text × WritesFirstPart a b text) → Q fault) → IfErr r Q
-IfErr-of_piece (Ok x) s n line piece part kind make = tt
-IfErr-of_piece (Err fault) s n line piece part kind make = make fault kind part
+IfErr-of_piece (Ok x) a b s n line piece part kind make = tt
+IfErr-of_piece (Err fault) a b s n line piece part kind make = make fault kind part
 
 -- and where nothing is known but the fault
 pub IfErr-by_work : {Q : Fault → Type 0} {T : Type 0} (r : Result T Fault) → IfErr r IsOfWork → ((fault : Fault) → IsOfWork fault → Q fault) → IfErr r Q

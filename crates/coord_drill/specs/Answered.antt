@@ -1,5 +1,5 @@
 -- What a drill prints to what is asked of it. Each line comes from the call of the ledger that it tells of.
-use Rattle.std.specs.Prelude.{◌≡◌, ℕ, ◌+◌, nat_le, true, List, [], ◌++◌, take, is_some, Option, Some, None, Result, Ok, Err, if◌then◌else◌}
+use Rattle.std.specs.Prelude.{◌≡◌, ℕ, ◌+◌, nat_le, List, [], ◌++◌, take, is_some, Option, Some, None, Result, Ok, Err, if◌then◌else◌}
 use Rattle.coord_types.specs.declared.refusals.Refusal.{Refusal}
 use Rattle.coord_types.specs.declared.refusals.Refusal.TheVariants.{Stopped}
 use Rattle.coord_types.specs.declared.steps.Reply.{Reply}

@@ -1,5 +1,5 @@
 -- The lines that a drill prints, each ended by a line feed.
-use Rattle.std.specs.Prelude.{ℕ, List, ◌++◌, codes, decimal, map, Option, Some, None}
+use Rattle.std.specs.Prelude.{ℕ, List, ◌++◌, codes, decimal, Option, Some, None}
 use Rattle.std.specs.List.{flat_map}
 use Rattle.std.specs.Option.{option_map_or}
 use Rattle.coord_types.specs.Names.{kind_name, mode_name, msg_name, refusal_text}

@@ -1,5 +1,4 @@
 use Rattle.std.proofs.Common.{◌+◌, rules, string_bytes}
-use Rattle.coord_drill.specs.Drilled.{WritesFirstPart}
 use Rattle.coord_drill.specs.Holding.{state_of}
 use Rattle.coord_drill.proofs.Taken.{line_failed, line_unwritten}
 use Rattle.coord_drill.proofs.console.Console.end_line.Goals as goal

@@ -1,4 +1,4 @@
-use Rattle.std.proofs.Common.{◌++◌, ◌+◌, [], take, arith, rules, sym, ap, subst, append_assoc, length-append, length-take-le}
+use Rattle.std.proofs.Common.{◌++◌, ◌+◌, [], take, arith, rules, sym, subst, append_assoc, length-append, length-take-le}
 use Rattle.std.proofs.KnownBytes.{Appends-nil, Appends-trans, Consumes-nil, Consumes-trans, Consumes-kept}
 use Rattle.std.specs.Io.KnownBytes.{IsAtEnd}
 use Rattle.coord_lines.specs.Lines.{lines_on}
@@ -77,7 +77,7 @@ returns-in_err-answer-clause-failed g c =
     let came = take c.in-Ok.count c.read.new.buf in
     let consumed = Consumes-trans _ _ _ seen came inv.2.1 c.in-Ok.ensures.bytes.0 in
     let now = c.loop.self in
-    IfErr-of_piece c.from_residual.result (state_of now.drill) (now.number + 1) now.line came (search rules) (search rules)
+    IfErr-of_piece c.from_residual.result _ _ (state_of now.drill) (now.number + 1) now.line came (search rules) (search rules)
     (λ fault kind part. (
       seen ++ came,
       consumed,

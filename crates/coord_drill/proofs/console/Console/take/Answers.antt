@@ -1,4 +1,4 @@
-use Rattle.std.proofs.Common.{◌≡◌, ◌++◌, ◌+◌, ◌<◌, [], List, Some, length, arith, sym, subst, append_assoc}
+use Rattle.std.proofs.Common.{◌++◌, ◌+◌, ◌<◌, [], Some, length, arith, rules, sym, subst, append_assoc}
 use Rattle.std.proofs.KnownBytes.{Appends-trans}
 use Rattle.coord_lines.specs.Lines.{lines_on}
 use Rattle.coord_lines.proofs.LinesOn.{behind-shorter}
@@ -6,7 +6,7 @@ use Rattle.coord_drill.specs.Drilled.{Prints}
 use Rattle.coord_drill.specs.Holding.{state_of}
 use Rattle.coord_drill.proofs.FirstParts.{first_part-after, first_part-longer}
 use Rattle.coord_drill.proofs.Quiet.{prints_somehow}
-use Rattle.coord_drill.proofs.Taken.{prints-ended, prints-so_far, prints-unended}
+use Rattle.coord_drill.proofs.Taken.{piece_part, prints-ended, prints-so_far, prints-unended}
 use Rattle.coord_drill.proofs.console.Console.take.Goals as goal
 
 pub returns-in_err-end_line-clause-failed : goal.returns-in_err-end_line-clause-failed
@@ -17,11 +17,11 @@ returns-in_err-end_line-clause-failed g c =
     let ended = c.in_err-end_line.ensures.failed in
     let behind = c.in-Some.behind.now in
     let later = prints_somehow ended.1 (s.number + 1 + 1) (lines_on (Some []) (behind ++ [])) in
-    let told = prints-ended (state_of s.drill) (s.number + 1) s.line c.loop-behind.rest.now [] behind c.take.new.self c.in-Some.ensures.behind c.take.ensures.line ended.0 ended.1 later.0 ended.2 later.1 in (
-      inv.2.0 ++ (ended.0 ++ later.0),
-      prints-so_far (state_of first.drill) (first.number + 1) first.line c.args.piece.now _ (inv.2.2 [] (ended.0 ++ later.0) told),
-      first_part-after _ _ _ inv.2.0 (ended.0 ++ later.0) inv.2.1 (first_part-longer _ _ ended.0 later.0 ended.3),
-    )
+    let told = prints-ended (state_of s.drill) (s.number + 1) s.line c.loop-behind.rest.now [] behind c.take.new.self c.in-Some.ensures.behind c.take.ensures.line ended.0 ended.1 later.0 ended.2 later.1 in
+    let part = piece_part (state_of first.drill) (first.number + 1) first.line c.args.piece.now (inv.2.0 ++ (ended.0 ++ later.0)) _ _
+    (prints-so_far (state_of first.drill) (first.number + 1) first.line c.args.piece.now _ (inv.2.2 [] (ended.0 ++ later.0) told))
+    (first_part-after _ _ _ inv.2.0 (ended.0 ++ later.0) inv.2.1 (first_part-longer _ _ ended.0 later.0 ended.3)) in
+    search rules
 
 pub loop-behind-preserved : goal.loop-behind-preserved
 loop-behind-preserved g c =

@@ -1,7 +1,7 @@
-use Rattle.std.proofs.Common.{◌≡◌, ◌++◌, List, ℕ, Some, false, ap, sym, ◌∙◌, rules, string_bytes}
+use Rattle.std.proofs.Common.{◌≡◌, ◌++◌, Some, false, rules, string_bytes}
 use Rattle.coord_ledger.specs.machine.Log.{front_world}
 use Rattle.coord_drill.specs.Answered.{Does}
-use Rattle.coord_drill.specs.Holding.{ReopenedTo, drill_of}
+use Rattle.coord_drill.specs.Holding.{drill_of}
 use Rattle.coord_drill.specs.Printed.{opened_line}
 use Rattle.coord_drill.specs.declared.asked.Asked.TheVariants.{Crash}
 use Rattle.coord_drill.proofs.Crashing.{crash_held, crash_told}

@@ -1,7 +1,6 @@
-use Rattle.std.proofs.Common.{◌≡◌, ◌++◌, [], List, ℕ, sym, subst, append-nil, string_bytes}
+use Rattle.std.proofs.Common.{[], sym, subst, append-nil, string_bytes}
 use Rattle.coord_ledger.specs.machine.Log.{settled_world}
 use Rattle.coord_drill.specs.Answered.{Flies}
-use Rattle.coord_drill.specs.Drill.{DrillState}
 use Rattle.coord_drill.specs.Holding.{FlownTo, collected_lines, drill_of}
 use Rattle.coord_drill.specs.Printed.{commit_line}
 use Rattle.coord_drill.specs.declared.drill.flying.Flown.TheVariants.{Failed, Nothing, Settled}
