@@ -48,6 +48,7 @@ abbrev pub fault_of_drill : DrillFault → Fault
 fault_of_drill of_drill.Read = Read
 fault_of_drill of_drill.Write = Write
 fault_of_drill of_drill.TooManyReads = TooManyReads
+fault_of_drill of_drill.Device = Store of_store.Device
 fault_of_drill of_drill.OutOfMemory = OutOfMemory
 
 -- a commit is refused for want of memory, or since the device fails or has failed

@@ -1,8 +1,8 @@
 //! The commands, over files, readers and writers.
 
-ghost use Rattle.std.specs.Prelude.{◌≡◌, ◌⊎◌, ◌≤◌, ℕ, map, true, OnOk, IfOk, IfSome, Some, None, string_bytes};
+ghost use Rattle.std.specs.Prelude.{◌≡◌, ◌⊎◌, ◌≤◌, ℕ, List, map, true, OnOk, IfOk, IfSome, Some, None, string_bytes};
 ghost use Rattle.std.specs.Io.KnownBytes.{Appends, Keeps};
-ghost use Rattle.coord_drill.specs.Drilled.{drilled};
+ghost use Rattle.coord_drill.specs.Drilled.{IsDrilled};
 ghost use Rattle.coord_commands.specs.Faults.{fault_line, status_of};
 ghost use Rattle.coord_commands.specs.Printed.{created_line, legal_line, shown};
 ghost use Rattle.coord_commands.specs.Words.{task_of};
@@ -33,7 +33,7 @@ pub fn run<S: Files<File = File> + AllocGlobal, R: Read, W: Write, E: Write>(
     errors: &mut E,
 ) -> u8
     ensures drilled { result ≡ 0 → task_of (map string_bytes words.now) ≡ Some Drill
-        → IfSome (R.remaining input.old) (λ text. Appends (W.contents output.old) (W.contents output.new) (drilled text)) }
+        → IfSome (R.remaining input.old) (λ text. (printed : List ℕ) × IsDrilled text printed × Appends (W.contents output.old) (W.contents output.new) printed) }
     ensures refused { task_of (map string_bytes words.now) ≡ None → ((result ≡ 2) ⊎ (result ≡ 4))
         × Keeps (R.remaining input.old) (R.remaining input.new) × Keeps (W.contents output.old) (W.contents output.new) }
 {
@@ -53,7 +53,7 @@ pub fn drill<R: Read, W: Write, E: Write>(
     output: &mut W,
     errors: &mut E,
 ) -> u8
-    ensures { result ≡ 0 → IfSome (R.remaining input.old) (λ text. Appends (W.contents output.old) (W.contents output.new) (drilled text)) }
+    ensures { result ≡ 0 → IfSome (R.remaining input.old) (λ text. (printed : List ℕ) × IsDrilled text printed × Appends (W.contents output.old) (W.contents output.new) printed) }
 {
     report(
         coord_drill(alloc, input, output).map_err(Fault::from),

@@ -1,7 +1,13 @@
+mod Crashing
+mod Doing
 mod FirstParts
+mod Flying
 mod Formats
+mod Handing
 mod NextRows
 mod NoText
+mod Quiet
+mod Settling
 mod Spelled
 mod Taken
 mod WordsOf

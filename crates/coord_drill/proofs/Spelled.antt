@@ -15,7 +15,7 @@ use Rattle.coord_types.specs.declared.messages.Msg.TheVariants as msg
 use Rattle.coord_types.specs.declared.steps.Command.{Command}
 use Rattle.coord_types.specs.declared.steps.Command.TheVariants.{Add, Remove, Join, Drop, Reset, Confirm}
 use Rattle.coord_drill.specs.declared.request.Request.{Request}
-use Rattle.coord_drill.specs.declared.request.Request.TheVariants.{Next, Order, Take, Clear, Data, Receipt, Resend, Check}
+use Rattle.coord_drill.specs.declared.request.Request.TheVariants.{Next, Order, Take, Clear, Data, Receipt, Resend, Check, Show, Hold, Flush, Crash}
 use Rattle.coord_drill.specs.Format.{◌>>=◌, Word, Format, Row, ◌&◌, made, one_of, read_by, read_first}
 use Rattle.coord_drill.specs.Grammar.{is_space, words_of, number_of, up_to, message_of, number, number_to, node, group, client, message, commands, next_row, order_fields, data_fields, receipt_fields, other_requests, requests, request_of, spelled, all_read}
 use Rattle.coord_drill.specs.Laws.{SpelledIsRead}
@@ -221,6 +221,22 @@ check_parts : (y : Request) (x : Unit {0}) → (elim y [ Check ↦ Some tt | _ �
 check_parts Check x e = refl
 check_parts _ x e = absurd cc
 
+show_parts : (y : Request) (x : Unit {0}) → (elim y [ Show ↦ Some tt | _ ↦ None ]) ≡ Some x → Show ≡ y
+show_parts Show x e = refl
+show_parts _ x e = absurd cc
+
+hold_parts : (y : Request) (x : Unit {0}) → (elim y [ Hold ↦ Some tt | _ ↦ None ]) ≡ Some x → Hold ≡ y
+hold_parts Hold x e = refl
+hold_parts _ x e = absurd cc
+
+flush_parts : (y : Request) (x : Unit {0}) → (elim y [ Flush ↦ Some tt | _ ↦ None ]) ≡ Some x → Flush ≡ y
+flush_parts Flush x e = refl
+flush_parts _ x e = absurd cc
+
+crash_parts : (y : Request) (x : Unit {0}) → (elim y [ Crash ↦ Some tt | _ ↦ None ]) ≡ Some x → Crash ≡ y
+crash_parts Crash x e = refl
+crash_parts _ x e = absurd cc
+
 -- so do those of requests
 requests_table : IsTable requests
 unfolding other_requests commands
@@ -248,7 +264,22 @@ requests_table = (
             by_parts _ _ resend_parts nothing_format,
             refl,
             refl,
-            (by_parts _ _ check_parts nothing_format, refl, refl, next_table commands commands_table),
+            (
+              by_parts _ _ check_parts nothing_format,
+              refl,
+              refl,
+              (
+                by_parts _ _ show_parts nothing_format,
+                refl,
+                refl,
+                (
+                  by_parts _ _ hold_parts nothing_format,
+                  refl,
+                  refl,
+                  (by_parts _ _ flush_parts nothing_format, refl, refl, (by_parts _ _ crash_parts nothing_format, refl, refl, next_table commands commands_table)),
+                ),
+              ),
+            ),
           ),
         ),
       ),

@@ -1,47 +1,62 @@
--- What is printed where a piece of the input is taken.
-use Rattle.std.proofs.Common.{refl, ◌≡◌, ℕ, ◌+◌, List, [], ◌++◌, Option, Some, None, sym, ap, ◌∙◌, subst, append-nil, take, inl, inr, Result, Ok, Err, OnOk, OnErr, IfErr}
-use Rattle.std.specs.Io.KnownBytes.{Appends, Consumes}
-use Rattle.std.proofs.KnownBytes.{Consumes-trans}
+-- What may be printed where a piece of the input is taken.
+use Rattle.std.proofs.Common.{refl, ◌≡◌, ℕ, ◌+◌, List, [], ◌∷◌, ◌++◌, Option, Some, None, sym, ap, ◌∙◌, subst, append-nil, take, Result, Ok, Err, OnOk, OnErr, IfErr, IfSome}
+use Rattle.std.specs.Io.KnownBytes.{Appends, Consumes, IsAtEnd}
+use Rattle.std.proofs.KnownBytes.{Appends-trans, Consumes-trans, Consumes-whole}
 use Rattle.coord_lines.specs.Lines.{Line, extended, lines_on, before_line_feed, behind_line_feed, IsWithin}
 use Rattle.coord_lines.proofs.LinesOn.{lines_on-ended, lines_on-unended, extended-nothing}
-use Rattle.coord_world.specs.protocol.NumberedWorld.{World}
 use Rattle.coord_drill.specs.declared.fault.Fault.{Fault}
 use Rattle.coord_drill.specs.declared.fault.Fault.TheVariants.{TooManyReads}
-use Rattle.coord_drill.specs.Drilled.{line_response, after_line, printed_to, IsOfWriting, WritesFirstPart}
-use Rattle.coord_drill.proofs.FirstParts.{first_part-after, first_part-longer}
+use Rattle.coord_drill.specs.Drill.{DrillState}
+use Rattle.coord_drill.specs.Drilled.{LineResponds, Prints, IsOfWork, WritesFirstPart}
+use Rattle.coord_drill.proofs.FirstParts.{first_part-longer, first_part-none}
+use Rattle.coord_drill.proofs.Quiet.{line_somehow}
 
 -- a line feed ends the line
-pub printed_to-ended : (w : World) (n : ℕ) (line : Line) (piece more behind : List ℕ) (whole : Line) → Some behind ≡ behind_line_feed piece → whole ≡ extended line (before_line_feed piece)
-    → printed_to w n (lines_on line (piece ++ more)) ≡ line_response w n whole ++ printed_to (after_line w whole) (n + 1) (lines_on (Some []) (behind ++ more))
-printed_to-ended w n line piece more behind whole e f =
-    ap (printed_to w n) (lines_on-ended line piece more behind (sym e))
-    ∙ ap (λ l. line_response w n l ++ printed_to (after_line w l) (n + 1) (lines_on (Some []) (behind ++ more))) (sym f)
+pub prints-ended : (s : DrillState) (n : ℕ) (line : Line) (piece more behind : List ℕ) (whole : Line) → Some behind ≡ behind_line_feed piece → whole ≡ extended line (before_line_feed piece)
+    → (told : List ℕ) (t : DrillState) (rest : List ℕ) → LineResponds s n whole told t → Prints t (n + 1) (lines_on (Some []) (behind ++ more)) rest → Prints s n (lines_on line (piece ++ more)) (told ++ rest)
+prints-ended s n line piece more behind whole e f told t rest responds later =
+    let lines = lines_on-ended line piece more behind (sym e) ∙ ap (λ l. l ∷ lines_on (Some []) (behind ++ more)) (sym f) in
+    subst (λ ls. Prints s n ls (told ++ rest)) (sym lines) (told, t, rest, responds, later, refl)
 
 -- with none the line goes on
-pub printed_to-unended : (w : World) (n : ℕ) (line : Line) (piece more : List ℕ) (longer : Line) → None ≡ behind_line_feed piece → longer ≡ extended line (before_line_feed piece)
-    → printed_to w n (lines_on line (piece ++ more)) ≡ printed_to w n (lines_on longer more)
-printed_to-unended w n line piece more longer e f = ap (printed_to w n) (lines_on-unended line piece more (sym e) ∙ ap (λ l. lines_on l more) (sym f))
+pub prints-unended : (s : DrillState) (n : ℕ) (line : Line) (piece more : List ℕ) (longer : Line) → None ≡ behind_line_feed piece → longer ≡ extended line (before_line_feed piece)
+    → (text : List ℕ) → Prints s n (lines_on longer more) text → Prints s n (lines_on line (piece ++ more)) text
+prints-unended s n line piece more longer e f text prints =
+    subst (λ ls. Prints s n ls text) (sym (lines_on-unended line piece more (sym e) ∙ ap (λ l. lines_on l more) (sym f))) prints
 
 -- the end of the input ends the line
-pub printed_to-end : (w : World) (n : ℕ) (line : Line) → IsWithin line → printed_to w n (lines_on line []) ≡ line_response w n line
-printed_to-end w n line within = append-nil _ ∙ ap (line_response w n) (extended-nothing line within)
+pub prints-end : (s : DrillState) (n : ℕ) (line : Line) → IsWithin line → (told : List ℕ) (t : DrillState) → LineResponds s n line told t → Prints s n (lines_on line []) told
+prints-end s n line within told t responds =
+    subst (λ l. Prints s n (l ∷ []) told) (sym (extended-nothing line within)) (told, t, [], responds, refl, sym (append-nil told))
 
--- a first part of the response was written, behind what was written before it
-pub first_part-response : (a b c : Option (List ℕ)) (text response later whole : List ℕ) → Appends a b text → WritesFirstPart b c response → whole ≡ text ++ (response ++ later) → WritesFirstPart a c whole
-first_part-response a b c text response later whole h part e =
-    subst (WritesFirstPart a c) (sym e) (first_part-after a b c text (response ++ later) h (first_part-longer b c response later part))
+-- of what it prints a first part was written
+pub end_failed : (s : DrillState) (n : ℕ) (line : Line) → IsWithin line → (a b : Option (List ℕ)) → ((told : List ℕ) × (t : DrillState) × LineResponds s n line told t × WritesFirstPart a b told) → (text : List ℕ) × Prints s n (lines_on line []) text × WritesFirstPart a b text
+end_failed s n line within a b ended = (ended.0, prints-end s n line within ended.0 ended.1 ended.2, ended.3)
 
--- a first part of the response to the last line was written
-pub first_part-end : (w : World) (n : ℕ) (line : Line) → IsWithin line → (a b : Option (List ℕ)) → WritesFirstPart a b (line_response w n line) → WritesFirstPart a b (printed_to w n (lines_on line []))
-first_part-end w n line within a b part = subst (WritesFirstPart a b) (sym (printed_to-end w n line within)) part
+-- where its answer was not written whole
+pub line_failed : {T : Type 0} (r : Result T Fault) (s : DrillState) (n : ℕ) (line : Line) (told : List ℕ) (t : DrillState) (a b : Option (List ℕ)) → LineResponds s n line told t → OnErr r (WritesFirstPart a b told)
+    → OnErr r ((told : List ℕ) × (t : DrillState) × LineResponds s n line told t × WritesFirstPart a b told)
+line_failed (Ok x) s n line told t a b responds part = tt
+line_failed (Err e) s n line told t a b responds part = (told, t, responds, part)
 
--- all was written for the lines that have ended
-pub first_part-seen : (w : World) (line : Line) (seen : List ℕ) (a b : Option (List ℕ)) (text later : List ℕ) → Appends a b text → printed_to w 1 (lines_on line (seen ++ [])) ≡ text ++ later → WritesFirstPart a b (printed_to w 1 (lines_on line seen))
-first_part-seen w line seen a b text later h e = (text, h, (later, ap (λ s. printed_to w 1 (lines_on line s)) (sym (append-nil seen)) ∙ e))
+-- where nothing of it was written
+pub line_unwritten : {T : Type 0} (r : Result T Fault) (s : DrillState) (n : ℕ) (line : Line) (a : Option (List ℕ)) → OnErr r ((told : List ℕ) × (t : DrillState) × LineResponds s n line told t × WritesFirstPart a a told)
+line_unwritten (Ok x) s n line a = tt
+line_unwritten (Err e) s n line a = let one = line_somehow s n line in (one.0, one.1, one.2, first_part-none a one.0)
 
--- a first part was written of what comes behind that
-pub first_part-behind : (a b c : Option (List ℕ)) (text later whole : List ℕ) → Appends a b text → WritesFirstPart b c later → whole ≡ text ++ later → WritesFirstPart a c whole
-first_part-behind a b c text later whole h part e = subst (WritesFirstPart a c) (sym e) (first_part-after a b c text later h part)
+-- so much may be printed for a line so far, where nothing more comes
+pub prints-so_far : (s : DrillState) (n : ℕ) (line : Line) (piece text : List ℕ) → Prints s n (lines_on line (piece ++ [])) text → Prints s n (lines_on line piece) text
+prints-so_far s n line piece text prints = subst (λ p. Prints s n (lines_on line p) text) (append-nil piece) prints
+
+-- what was written for a whole input
+pub prints-whole : (r : Result (Unit {0}) Fault) (first s : DrillState) (line now : Line) (n : ℕ) (old rest old_text mid_text new_text : Option (List ℕ)) (seen before : List ℕ)
+    → OnOk r ((text : List ℕ) × Prints s n (lines_on now []) text × Appends mid_text new_text text) → Consumes old rest seen → IsAtEnd rest → Appends old_text mid_text before
+    → ((more text : List ℕ) → Prints s n (lines_on now more) text → Prints first 1 (lines_on line (seen ++ more)) (before ++ text))
+    → OnOk r (IfSome old (λ input. (text : List ℕ) × Prints first 1 (lines_on line input) text × Appends old_text new_text text))
+prints-whole (Ok x) first s line now n old rest old_text mid_text new_text seen before done consumed end wrote goes =
+    Consumes-whole old rest seen (λ input. (text : List ℕ) × Prints first 1 (lines_on line input) text × Appends old_text new_text text) consumed end
+    (before ++ done.0, prints-so_far first 1 line seen (before ++ done.0) (goes [] done.0 done.1), Appends-trans old_text mid_text new_text before done.0 wrote done.2)
+prints-whole (Err e) first s line now n old rest old_text mid_text new_text seen before done consumed end wrote goes = tt
 
 -- a read that gave no byte
 pub Consumes-none : (a b c : Option (List ℕ)) (seen bytes : List ℕ) (count : ℕ) → Consumes a b seen → Consumes b c (take count bytes) → count ≡ 0 → Consumes a c seen
@@ -50,40 +65,57 @@ Consumes-none a b c seen bytes count first second e =
     subst (Consumes a c) (ap (λ l. seen ++ l) none ∙ append-nil seen) (Consumes-trans a b c seen (take count bytes) first second)
 
 -- what may end the printing of a line is not that there were too many reads
-pub not_of_reading : (fault : Fault) → IsOfWriting fault → fault ≡ TooManyReads → ⊥
-not_of_reading fault (inl e) f = cc
-not_of_reading fault (inr e) f = cc
+pub not_of_reading : (fault : Fault) → IsOfWork fault → fault ≡ TooManyReads → ⊥
+not_of_reading fault work e = subst IsOfWork e work
 
-pub IfErr-of_writing : {P : Type 0} {Q : Fault → Type 0} (r : Result (Unit {0}) Fault) → OnErr r P → IfErr r IsOfWriting → ((fault : Fault) → IsOfWriting fault → P → Q fault) → IfErr r Q
-IfErr-of_writing (Ok x) part kind make = tt
-IfErr-of_writing (Err fault) part kind make = make fault kind part
+pub IfErr-of_work : {P : Type 0} {Q : Fault → Type 0} (r : Result (Unit {0}) Fault) → OnErr r P → IfErr r IsOfWork → ((fault : Fault) → IsOfWork fault → P → Q fault) → IfErr r Q
+IfErr-of_work (Ok x) part kind make = tt
+IfErr-of_work (Err fault) part kind make = make fault kind part
 
--- What was put into an empty list for a piece of the input: P is what is printed to it and what comes behind it, Q what is still to be printed.
-module _ (r : Result (Unit {0}) Fault) (items whole : List ℕ) (P Q : List ℕ → List ℕ) (piece : P [] ≡ whole)
-    (printed : OnOk r ((text : List ℕ) × Appends (Some []) (Some items) text × ((more : List ℕ) → P more ≡ text ++ Q more))) (failed : OnErr r (WritesFirstPart (Some []) (Some items) whole)) where
-  -- it is a first part, also where a line was cut short
-  put_first : (rest : List ℕ) × (whole ≡ items ++ rest)
+-- what may be printed to a piece, of which a first part was written
+pub piece_part : (s : DrillState) (n : ℕ) (line : Line) (piece text : List ℕ) (a b : Option (List ℕ)) → Prints s n (lines_on line piece) text → WritesFirstPart a b text → (text : List ℕ) × Prints s n (lines_on line piece) text × WritesFirstPart a b text
+piece_part s n line piece text a b prints part = (text, prints, part)
+
+-- the same of what failed in a piece of the input
+pub IfErr-of_piece : {Q : Fault → Type 0} (r : Result (Unit {0}) Fault) (a b : Option (List ℕ)) (s : DrillState) (n : ℕ) (line : Line) (piece : List ℕ) → OnErr r ((text : List ℕ) × Prints s n (lines_on line piece) text × WritesFirstPart a b text) → IfErr r IsOfWork
+    → ((fault : Fault) → IsOfWork fault → ((text : List ℕ) × Prints s n (lines_on line piece) text × WritesFirstPart a b text) → Q fault) → IfErr r Q
+IfErr-of_piece (Ok x) a b s n line piece part kind make = tt
+IfErr-of_piece (Err fault) a b s n line piece part kind make = make fault kind part
+
+-- and where nothing is known but the fault
+pub IfErr-by_work : {Q : Fault → Type 0} {T : Type 0} (r : Result T Fault) → IfErr r IsOfWork → ((fault : Fault) → IsOfWork fault → Q fault) → IfErr r Q
+IfErr-by_work (Ok x) kind make = tt
+IfErr-by_work (Err fault) kind make = make fault kind
+
+-- What was put into an empty list for a piece of the input. `Piece` are the texts that may be printed to it; `Whole` those to it and
+-- what comes behind it, and `Rest` those that may still be printed then.
+module _ (r : Result (Unit {0}) Fault) (items : List ℕ) (Piece : List ℕ → Type 0) (Whole Rest : List ℕ → List ℕ → Type 0)
+    (alone : (text : List ℕ) → Whole [] text → Piece text) (somehow : (rest : List ℕ) × Rest [] rest)
+    (printed : OnOk r ((text : List ℕ) × Appends (Some []) (Some items) text × ((more rest : List ℕ) → Rest more rest → Whole more (text ++ rest))))
+    (failed : OnErr r ((text : List ℕ) × Piece text × WritesFirstPart (Some []) (Some items) text)) where
+  -- it is a first part of a text that may be printed, also where a line failed
+  put_first : (text : List ℕ) × Piece text × ((rest : List ℕ) × (text ≡ items ++ rest))
   put_first = of_result r printed failed
     where
-      of_result : (r : Result (Unit {0}) Fault) → OnOk r ((text : List ℕ) × Appends (Some []) (Some items) text × ((more : List ℕ) → P more ≡ text ++ Q more)) → OnErr r (WritesFirstPart (Some []) (Some items) whole) → (rest : List ℕ) × (whole ≡ items ++ rest)
-      of_result (Ok x) done cut = (Q [], sym piece ∙ done.2 [] ∙ ap (λ l. l ++ Q []) (sym done.1))
-      of_result (Err e) done cut = (cut.2.0, cut.2.1 ∙ ap (λ l. l ++ cut.2.0) (sym cut.1))
+      of_result : (r : Result (Unit {0}) Fault) → OnOk r ((text : List ℕ) × Appends (Some []) (Some items) text × ((more rest : List ℕ) → Rest more rest → Whole more (text ++ rest))) → OnErr r ((text : List ℕ) × Piece text × WritesFirstPart (Some []) (Some items) text) → (text : List ℕ) × Piece text × ((rest : List ℕ) × (text ≡ items ++ rest))
+      of_result (Ok x) done cut = (done.0 ++ somehow.0, alone _ (done.2 [] somehow.0 somehow.1), (somehow.0, ap (λ l. l ++ somehow.0) (sym done.1)))
+      of_result (Err e) done cut = (cut.0, cut.1, (cut.2.2.0, cut.2.2.1 ∙ ap (λ l. l ++ cut.2.2.0) (sym cut.2.1)))
 
   -- so is what was written of it
-  pub put_cut : (a b : Option (List ℕ)) → WritesFirstPart a b items → WritesFirstPart a b whole
-  put_cut a b part = subst (WritesFirstPart a b) (sym put_first.1) (first_part-longer a b items put_first.0 part)
+  pub put_cut : (a b : Option (List ℕ)) → WritesFirstPart a b items → (text : List ℕ) × Piece text × WritesFirstPart a b text
+  put_cut a b part = (put_first.0, put_first.1, subst (WritesFirstPart a b) (sym put_first.2.1) (first_part-longer a b items put_first.2.0 part))
 
   -- where it was written whole, that is what was to be printed
-  pub put_printed : (a b : Option (List ℕ)) → Appends a b items → OnOk r ((text : List ℕ) × Appends a b text × ((more : List ℕ) → P more ≡ text ++ Q more))
+  pub put_printed : (a b : Option (List ℕ)) → Appends a b items → OnOk r ((text : List ℕ) × Appends a b text × ((more rest : List ℕ) → Rest more rest → Whole more (text ++ rest)))
   put_printed a b h = of_result r printed
     where
-      of_result : (r : Result (Unit {0}) Fault) → OnOk r ((text : List ℕ) × Appends (Some []) (Some items) text × ((more : List ℕ) → P more ≡ text ++ Q more)) → OnOk r ((text : List ℕ) × Appends a b text × ((more : List ℕ) → P more ≡ text ++ Q more))
-      of_result (Ok x) done = (items, h, λ more. done.2 more ∙ ap (λ l. l ++ Q more) (sym done.1))
+      of_result : (r : Result (Unit {0}) Fault) → OnOk r ((text : List ℕ) × Appends (Some []) (Some items) text × ((more rest : List ℕ) → Rest more rest → Whole more (text ++ rest))) → OnOk r ((text : List ℕ) × Appends a b text × ((more rest : List ℕ) → Rest more rest → Whole more (text ++ rest)))
+      of_result (Ok x) done = (items, h, λ more rest may. subst (λ t. Whole more (t ++ rest)) (sym done.1) (done.2 more rest may))
       of_result (Err e) done = tt
 
-  pub put_failed : (a b : Option (List ℕ)) → Appends a b items → OnErr r (WritesFirstPart a b whole)
+  pub put_failed : (a b : Option (List ℕ)) → Appends a b items → OnErr r ((text : List ℕ) × Piece text × WritesFirstPart a b text)
   put_failed a b h = of_result r
     where
-      of_result : (r : Result (Unit {0}) Fault) → OnErr r (WritesFirstPart a b whole)
+      of_result : (r : Result (Unit {0}) Fault) → OnErr r ((text : List ℕ) × Piece text × WritesFirstPart a b text)
       of_result (Ok x) = tt
-      of_result (Err e) = (items, h, put_first)
+      of_result (Err e) = (put_first.0, put_first.1, (items, h, put_first.2))

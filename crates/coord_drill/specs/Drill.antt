@@ -1,120 +1,85 @@
--- What a request asks of a world, and what becomes of it where every step is settled at once.
-use Rattle.std.specs.Prelude.{ℕ, ◌+◌, List, [], ◌∷◌, Option, Some, None, Result, Ok, Err}
-use Rattle.coord_types.specs.Table.{get}
-use Rattle.coord_types.specs.declared.messages.Msg.{Msg}
-use Rattle.coord_types.specs.declared.packets.DataPacket.{DataPacket}
-use Rattle.coord_types.specs.declared.steps.Step.{Step}
-use Rattle.coord_types.specs.declared.steps.Step.TheVariants as step
-use Rattle.coord_types.specs.declared.steps.Reply.{Reply}
+-- The state of a drill, and what becomes of it.
+--
+-- It is the event machine's, without its tickets: a drill holds one for each pending step. A line is a few events of
+-- the machine, and where the machine has several answers to one of these, the luck of the line says which it was.
+use Rattle.std.specs.Prelude.{ℕ, Bool, false, true, Option, Some, None, is_some, Result, Ok, Err, if◌then◌else◌}
 use Rattle.coord_types.specs.declared.refusals.Refusal.{Refusal}
-use Rattle.coord_types.specs.declared.refusals.Refusal.TheVariants.{NoLink}
-use Rattle.coord_types.specs.declared.outputs.Output.{Output}
-use Rattle.coord_link.specs.LaneMachine.{Lane}
+use Rattle.coord_types.specs.declared.steps.Step.{Step}
+use Rattle.coord_store.specs.declared.faults.CommitFault.TheVariants as fault
 use Rattle.coord_world.specs.declared.verdicts.Verdict.{Verdict}
 use Rattle.coord_world.specs.declared.verdicts.Verdict.TheVariants.{Fresh, Repeat}
 use Rattle.coord_world.specs.protocol.NumberedWorld.{World}
-use Rattle.coord_world.specs.protocol.Next.{next, reply}
-use Rattle.coord_world.specs.protocol.Acceptance.{accepts, last_number}
-use Rattle.coord_world.specs.protocol.Outputs.{outputs, again, receipt, front_packet}
-use Rattle.coord_check.specs.Faults.{first, faults}
-use Rattle.coord_check.specs.declared.violation.Violation.{Violation}
-use Rattle.coord_drill.specs.declared.request.Request.{Request}
-use Rattle.coord_drill.specs.declared.request.Request.TheVariants as request
-use Rattle.coord_drill.specs.declared.answer.Answer.{Answer}
-use Rattle.coord_drill.specs.declared.answer.Answer.TheVariants as answer
-use Rattle.coord_drill.specs.declared.drill.Asked.{Asked}
-use Rattle.coord_drill.specs.declared.drill.Asked.TheVariants.{Submit, Refuse, Nothing, Resend, Check}
+use Rattle.coord_ledger.specs.declared.events.Answer.{Answer}
+use Rattle.coord_ledger.specs.declared.events.Answer.TheVariants.{Committed, Failed}
+use Rattle.coord_ledger.specs.declared.mark.Mark.TheVariants.{New}
+use Rattle.coord_ledger.specs.machine.Answers.{IsOneOf, kept_by, next_size, stays_home, to_commit}
+use Rattle.coord_ledger.specs.machine.Log.{Log, log_over, with_settled, with_step, world_after}
+use Rattle.coord_ledger.specs.machine.Submits.{verdict}
+use Rattle.coord_drill.specs.declared.asked.Asked.{Asked}
+use Rattle.coord_drill.specs.declared.asked.Asked.TheVariants.{Submit, Refuse, Nothing, Resend, Check, Show, Hold, Flush, Crash}
 
--- the packet of the front of a lane from u to v, if there is one
-abbrev pub packet_of : ℕ → ℕ → Lane → List Msg → Option DataPacket
-packet_of u v l [] = None
-packet_of u v l (m ∷ ms) = Some (front_packet (u, v) l m)
+pub record DrillState : Type 0 where
+  pub log : Log
+  pub doubt : Option ℕ  -- it has stopped, and so many steps behind the settled ones are on the disk, or none of them
+  pub holds : Bool  -- accepted steps are not settled at once
 
-abbrev pub packet_on : ℕ → ℕ → Option Lane → Result (Option DataPacket) Refusal
-packet_on u v None = Err NoLink
-packet_on u v (Some l) = Ok (packet_of u v l l.queue)
+-- over a ledger of this world, that goes on
+abbrev pub drill_over : World → DrillState
+drill_over w = record { log = log_over w; doubt = None; holds = false }
 
--- the packet that travels from u to v; an error where they are not linked
-unfoldable pub front : World → ℕ → ℕ → Result (Option DataPacket) Refusal
-front w u v = packet_on u v (get w.lanes (u, v))
+-- ---- luck
 
-abbrev pub asked_of_front : (DataPacket → Step) → Result (Option DataPacket) Refusal → Asked
-asked_of_front f (Err refusal) = Refuse refusal
-asked_of_front f (Ok None) = Nothing
-asked_of_front f (Ok (Some p)) = Submit (f p)
+-- the answer to the commit of a line's flight, and how many steps its crash keeps; a line without them leaves its luck unused
+pub record Luck : Type 0 where
+  pub commit : Answer
+  pub kept : ℕ
 
--- the operator is client 1
-abbrev pub operator : ℕ
-operator = 1
+-- the event machine allows both
+pub record IsAllowed (s : DrillState) (luck : Luck) : Type 0 where
+  pub commit : IsOneOf luck.commit (to_commit New)
+  pub kept : IsOneOf luck.kept (kept_by s.log.settled None s.doubt)
 
-unfoldable pub next_number : World → ℕ → ℕ
-next_number w c = last_number (get w.sessions c) + 1
+-- ---- flights
 
--- what a request asks for
-abbrev pub asked : World → Request → Asked
-asked w (request.Next x) = Submit (step.Order operator (next_number w operator) x)
-asked w (request.Order c n x) = Submit (step.Order c n x)
-asked w (request.Take u v) = asked_of_front (λ p. step.Take p) (front w u v)
-asked w (request.Clear u v) = asked_of_front (λ p. step.Clear (receipt p)) (front w u v)
-asked w (request.Data p) = Submit (step.Take p)
-asked w (request.Receipt p) = Submit (step.Clear p)
-asked w request.Resend = Resend
-asked w request.Check = Check
+-- no flight goes out: it has stopped, or nothing is pending
+abbrev pub has_no_flight : DrillState → Bool
+has_no_flight s = stays_home (is_some s.doubt) false s.log
 
-abbrev pub after_verdict : World → Step → Result Verdict Refusal → World
-after_verdict w s (Ok (Fresh k)) = next w s
-after_verdict w s (Ok (Repeat r)) = w
-after_verdict w s (Err refusal) = w
+-- a flight of the next steps was committed, or not
+abbrev pub after_commit : DrillState → Answer → DrillState
+after_commit s Committed = record { log = with_settled s.log (next_size s.log); doubt = s.doubt; holds = s.holds }
+after_commit s (Failed fault.Device) = record { log = s.log; doubt = Some (next_size s.log); holds = s.holds }
+after_commit s answer = s
 
--- the world after a step was submitted: the next one where it is taken, and else the same one
-unfoldable pub after_step : World → Step → World
-after_step w s = after_verdict w s (accepts w w s)
+unfoldable pub after_flight : Answer → DrillState → DrillState
+after_flight answer s = if has_no_flight s then s else after_commit s answer
 
--- the world after what was asked for
-unfoldable pub after_asked : World → Asked → World
-after_asked w (Submit s) = after_step w s
-after_asked w (Refuse refusal) = w
-after_asked w Nothing = w
-after_asked w Resend = w
-after_asked w Check = w
+-- ---- lines
 
--- the world after a request
-abbrev pub after : World → Request → World
-after w r = after_asked w (asked w r)
+abbrev pub with_accepted : DrillState → Step → DrillState
+with_accepted s x = record { log = with_step s.log x; doubt = s.doubt; holds = s.holds }
 
--- what an answer says
-pub data Said : Type 0 where
-  Settled : Reply → List Output → Said
-  Kept : Reply → Said
-  Refused : Refusal → Said
-  Idle : Said
-  Resent : List Output → Said
-  Checked : Option Violation → Said
+-- a step that is accepted is settled at once, unless steps are held
+abbrev pub after_verdict : Luck → DrillState → Step → Result Verdict Refusal → DrillState
+after_verdict luck s x (Ok (Fresh kind)) = if s.holds then with_accepted s x else after_flight luck.commit (with_accepted s x)
+after_verdict luck s x (Ok (Repeat reply)) = s
+after_verdict luck s x (Err refusal) = s
 
-abbrev pub said : Answer → Said
-said (answer.Settled o) = Settled o.reply o.outputs.items
-said (answer.Kept r) = Kept r
-said (answer.Refused refusal) = Refused refusal
-said answer.Idle = Idle
-said (answer.Resent os) = Resent os.items
-said (answer.Checked fault) = Checked fault
+-- what the ledger says to a step
+abbrev pub said : DrillState → Step → Result Verdict Refusal
+said s x = verdict (is_some s.doubt) s.log x
 
-abbrev pub said_on_verdict : World → Step → Result Verdict Refusal → Said
-said_on_verdict w s (Ok (Fresh k)) = Settled (reply w s) (outputs w s)
-said_on_verdict w s (Ok (Repeat r)) = Kept r
-said_on_verdict w s (Err refusal) = Refused refusal
+unfoldable pub after_step : Luck → DrillState → Step → DrillState
+after_step luck s x = after_verdict luck s x (said s x)
 
--- what is to be said to a step
-unfoldable pub said_to_step : World → Step → Said
-said_to_step w s = said_on_verdict w s (accepts w w s)
-
-unfoldable pub said_to_asked : World → Asked → Said
-said_to_asked w (Submit s) = said_to_step w s
-said_to_asked w (Refuse refusal) = Refused refusal
-said_to_asked w Nothing = Idle
-said_to_asked w Resend = Resent (again w)
-said_to_asked w Check = Checked (first (faults w))
-
--- what is to be said to a request
-abbrev pub said_to : World → Request → Said
-said_to w r = said_to_asked w (asked w r)
+-- after a crash a drill goes on from the world that was opened
+unfoldable pub after_asked : Luck → DrillState → Asked → DrillState
+after_asked luck s (Submit x) = after_step luck s x
+after_asked luck s Hold = record { log = s.log; doubt = s.doubt; holds = true }
+after_asked luck s Flush = after_flight luck.commit s
+after_asked luck s Crash = drill_over (world_after s.log luck.kept)
+after_asked luck s (Refuse refusal) = s
+after_asked luck s Nothing = s
+after_asked luck s Resend = s
+after_asked luck s Check = s
+after_asked luck s Show = s

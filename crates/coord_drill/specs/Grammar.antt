@@ -9,7 +9,7 @@ use Rattle.coord_types.specs.declared.messages.Msg.TheVariants as msg
 use Rattle.coord_types.specs.declared.steps.Command.{Command}
 use Rattle.coord_types.specs.declared.steps.Command.TheVariants.{Add, Remove, Join, Drop, Reset, Confirm}
 use Rattle.coord_drill.specs.declared.request.Request.{Request}
-use Rattle.coord_drill.specs.declared.request.Request.TheVariants.{Next, Order, Take, Clear, Data, Receipt, Resend, Check}
+use Rattle.coord_drill.specs.declared.request.Request.TheVariants.{Next, Order, Take, Clear, Data, Receipt, Resend, Check, Show, Hold, Flush, Crash}
 use Rattle.coord_drill.specs.Format.{◌>>=◌, Word, Format, field, nothing, ◌&◌, made, Row, one_of}
 
 -- ---- words
@@ -100,6 +100,10 @@ other_requests =
     ∷ record { verb = codes "receipt"; fields = receipt_fields }
     ∷ row (codes "resend") nothing (λ _. Resend) (λ x. elim x [ Resend ↦ Some tt | _ ↦ None ])
     ∷ row (codes "check") nothing (λ _. Check) (λ x. elim x [ Check ↦ Some tt | _ ↦ None ])
+    ∷ row (codes "show") nothing (λ _. Show) (λ x. elim x [ Show ↦ Some tt | _ ↦ None ])
+    ∷ row (codes "hold") nothing (λ _. Hold) (λ x. elim x [ Hold ↦ Some tt | _ ↦ None ])
+    ∷ row (codes "flush") nothing (λ _. Flush) (λ x. elim x [ Flush ↦ Some tt | _ ↦ None ])
+    ∷ row (codes "crash") nothing (λ _. Crash) (λ x. elim x [ Crash ↦ Some tt | _ ↦ None ])
     ∷ []
 
 abbrev pub requests : List (Row Request)

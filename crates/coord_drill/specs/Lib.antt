@@ -1,7 +1,10 @@
 pub mod Format
 pub mod Grammar
+pub mod Asked
 pub mod Drill
 pub mod Printed
+pub mod Answered
 pub mod Drilled
 pub mod Laws
 pub mod WorkedLines
+pub mod Holding

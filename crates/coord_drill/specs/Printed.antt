@@ -1,16 +1,20 @@
 -- The lines that a drill prints, each ended by a line feed.
 use Rattle.std.specs.Prelude.{ℕ, List, ◌++◌, codes, decimal, Option, Some, None}
 use Rattle.std.specs.List.{flat_map}
-use Rattle.coord_types.specs.Names.{kind_name, msg_name, refusal_text}
+use Rattle.std.specs.Option.{option_map_or}
+use Rattle.coord_types.specs.Names.{kind_name, mode_name, msg_name, refusal_text}
 use Rattle.coord_types.specs.declared.steps.Reply.{Reply}
 use Rattle.coord_types.specs.declared.refusals.Refusal.{Refusal}
 use Rattle.coord_types.specs.declared.outputs.Output.{Output}
 use Rattle.coord_types.specs.declared.outputs.Output.TheVariants.{Receipted, Signalled, Sent}
-use Rattle.coord_world.specs.protocol.NumberedWorld.{World}
 use Rattle.coord_check.specs.Names.{violation_text}
 use Rattle.coord_check.specs.declared.violation.Violation.{Violation}
-use Rattle.coord_drill.specs.declared.request.Request.{Request}
-use Rattle.coord_drill.specs.Drill.{Said, Settled, Kept, Refused, Idle, Resent, Checked, said_to, after}
+use Rattle.coord_store.specs.Faults.{commit_name, commit_number}
+use Rattle.coord_store.specs.declared.faults.CommitFault.{CommitFault}
+use Rattle.coord_world.specs.protocol.Outputs.{StepOutcome}
+use Rattle.coord_ledger.specs.declared.view.LinkView.{LinkView}
+use Rattle.coord_ledger.specs.declared.view.NodeView.{NodeView}
+use Rattle.coord_ledger.specs.machine.Shown.{Shown}
 
 abbrev pub bad_line : ℕ → List ℕ
 bad_line n = codes "bad line " ++ (decimal n ++ codes "\n")
@@ -18,8 +22,14 @@ bad_line n = codes "bad line " ++ (decimal n ++ codes "\n")
 abbrev pub reply_line : Reply → List ℕ
 reply_line r = kind_name r.kind ++ (codes " " ++ (decimal r.step ++ codes "\n"))
 
+abbrev pub pending_line : ℕ → List ℕ
+pending_line step = codes "pending " ++ (decimal step ++ codes "\n")
+
 abbrev pub refusal_line : Refusal → List ℕ
 refusal_line r = codes "no " ++ (refusal_text r ++ codes "\n")
+
+abbrev pub idle_line : List ℕ
+idle_line = codes "idle\n"
 
 abbrev pub output_line : Output → List ℕ
 output_line (Receipted p) = codes "receipt " ++ (decimal p.from ++ (codes " " ++ (decimal p.to ++ (codes " " ++ (decimal p.number ++ codes "\n")))))
@@ -29,24 +39,31 @@ output_line (Sent p) = codes "data " ++ (decimal p.from ++ (codes " " ++ (decima
 abbrev pub output_lines : List Output → List ℕ
 output_lines os = flat_map output_line os
 
+-- the steps in order, and for each its reply before what it gives out
+abbrev pub settled_lines : List StepOutcome → List ℕ
+settled_lines outcomes = flat_map (λ o. reply_line o.reply ++ output_lines o.outputs) outcomes
+
+abbrev pub commit_line : CommitFault → List ℕ
+commit_line fault = codes "commit " ++ (decimal (commit_number fault) ++ (codes " " ++ (commit_name fault ++ codes "\n")))
+
+abbrev pub count_line : ℕ → List ℕ
+count_line settled = codes "settled " ++ (decimal settled ++ codes "\n")
+
+abbrev pub opened_line : ℕ → List ℕ
+opened_line count = codes "opened " ++ (decimal count ++ codes "\n")
+
 abbrev pub fault_line : Option Violation → List ℕ
 fault_line None = codes "legal\n"
 fault_line (Some v) = codes "violated " ++ (violation_text v ++ codes "\n")
 
--- a reply stands before what is given out after it
-abbrev pub said_lines : Said → List ℕ
-said_lines (Settled r os) = reply_line r ++ output_lines os
-said_lines (Kept r) = reply_line r
-said_lines (Refused refusal) = refusal_line refusal
-said_lines Idle = codes "idle\n"
-said_lines (Resent os) = output_lines os
-said_lines (Checked fault) = fault_line fault
+-- 0 stands for no parent
+abbrev pub node_line : NodeView → List ℕ
+node_line v =
+    codes "node " ++ (decimal v.node ++ (codes " " ++ (decimal v.group ++ (codes " " ++ (mode_name v.mode ++ (codes " "
+    ++ (decimal (option_map_or (λ u. u) v.parent 0) ++ (codes " " ++ (decimal v.epoch ++ (codes " " ++ (decimal v.confirmed ++ codes "\n")))))))))))
 
--- what is printed for the line of this number, by what it asks for; a bad line asks for nothing
-abbrev pub response_to : World → ℕ → Option Request → List ℕ
-response_to w n None = bad_line n
-response_to w n (Some r) = said_lines (said_to w r)
+abbrev pub link_line : LinkView → List ℕ
+link_line v = codes "link " ++ (decimal v.a ++ (codes " " ++ (decimal v.b ++ (codes " " ++ (decimal v.inc ++ codes "\n")))))
 
-abbrev pub after_response : World → Option Request → World
-after_response w None = w
-after_response w (Some r) = after w r
+abbrev pub view_lines : Shown → List ℕ
+view_lines v = codes "view " ++ (decimal v.accepted ++ (codes " " ++ (decimal v.settled ++ codes "\n"))) ++ (flat_map node_line v.nodes ++ flat_map link_line v.links)

@@ -3,7 +3,7 @@ use Rattle.std.specs.Prelude.{◌≡◌, ℕ, List, codes, Some}
 use Rattle.coord_types.specs.declared.messages.Msg.TheVariants as msg
 use Rattle.coord_types.specs.declared.steps.Command.TheVariants.{Add, Remove, Join, Drop, Reset, Confirm}
 use Rattle.coord_drill.specs.declared.request.Request.{Request}
-use Rattle.coord_drill.specs.declared.request.Request.TheVariants.{Next, Order, Take, Clear, Data, Receipt, Resend, Check}
+use Rattle.coord_drill.specs.declared.request.Request.TheVariants.{Next, Order, Take, Clear, Data, Receipt, Resend, Check, Show, Hold, Flush, Crash}
 use Rattle.coord_drill.specs.Grammar.{request_of, spelled}
 
 -- a request is spelled so, and the line is read as it
@@ -25,3 +25,7 @@ WorkedLines =
     × IsSpelled (Receipt (record { from = 1; to = 2; inc = 3; number = 4 })) (codes "receipt 1 2 3 4")
     × IsSpelled Resend (codes "resend")
     × IsSpelled Check (codes "check")
+    × IsSpelled Show (codes "show")
+    × IsSpelled Hold (codes "hold")
+    × IsSpelled Flush (codes "flush")
+    × IsSpelled Crash (codes "crash")

@@ -1,21 +1,23 @@
 //! A drill over a reader and a writer.
 
-ghost use Rattle.std.specs.Prelude.{◌≡◌, ◌++◌, ◌<◌, ◌≤◌, ◌+◌, ◌-◌, ◌^◌, ℕ, List, [], OnOk, OnErr, IfErr, IfSome, Some, length, string_bytes};
+ghost use Rattle.std.specs.Prelude.{◌≡◌, ◌++◌, ◌<◌, ◌≤◌, ◌+◌, ◌-◌, ◌^◌, ℕ, List, [], OnOk, OnErr, IfErr, IfOk, IfSome, Some, length, string_bytes};
 ghost use Rattle.std.specs.Io.KnownBytes.{Appends, Consumes, IsAtEnd};
 ghost use Rattle.coord_lines.specs.Lines.{lines_on, IsWithin};
 ghost use Rattle.coord_world.specs.protocol.NumberedWorld.{no_world};
-ghost use Rattle.coord_drill.specs.Printed.{response_to, after_response};
-ghost use Rattle.coord_drill.specs.Drilled.{is_skipped, line_response, after_line, printed_to, drilled, IsOfWriting, WritesFirstPart};
+ghost use Rattle.coord_drill.specs.Answered.{Responds};
+ghost use Rattle.coord_drill.specs.Drill.{DrillState, drill_over};
+ghost use Rattle.coord_drill.specs.Drilled.{is_skipped, IsDrilled, IsOfWork, LineResponds, Prints, WritesFirstPart};
+ghost use Rattle.coord_drill.specs.Holding.{IsReady, Tells, state_of};
 ghost use Rattle.coord_drill.specs.declared.fault.Fault.TheVariants.{TooManyReads};
 
 use crate::drill::Drill;
 use crate::fault::Fault;
-use crate::print::{print_answer, print_bad_line};
+use crate::print::print_bad_line;
 use crate::reading::parse;
 use crate::request::Request;
 use crate::writing::{fault_of, write_text};
 use coord_lines::LineBuffer;
-use std::alloc::{AllocError, Global};
+use std::alloc::Global;
 use std::io::{Read, Write};
 
 /// The most reads of one drill.
@@ -25,25 +27,28 @@ pub const MOST_READS: u64 = 1_048_576;
 const READ_LEN: usize = 512;
 
 /// Reads requests to the end of the input, a line each, and prints what becomes of each. Where it
-/// fails, a first part is printed of what is to be printed for the input that was read.
+/// fails, a first part is printed of what may be printed for the input that was read.
 pub fn coord_drill<R: Read, W: Write>(
     alloc: Global,
     reader: &mut R,
     writer: &mut W,
 ) -> Result<(), Fault>
     ensures printed { OnOk result (IfSome (R.remaining reader.old)
-        (λ input. Appends (W.contents writer.old) (W.contents writer.new) (drilled input))) }
+        (λ input. (text : List ℕ) × IsDrilled input text × Appends (W.contents writer.old) (W.contents writer.new) text)) }
     ensures end { OnOk result (IsAtEnd (R.remaining reader.new)) }
     ensures failed { IfErr result (λ fault. (seen : List ℕ)
         × Consumes (R.remaining reader.old) (R.remaining reader.new) seen
-        × WritesFirstPart (W.contents writer.old) (W.contents writer.new) (drilled seen)
+        × ((text : List ℕ) × IsDrilled seen text × WritesFirstPart (W.contents writer.old) (W.contents writer.new) text)
         × (fault ≡ TooManyReads → MOST_READS ≤ length seen)) }
 {
-    Console::new(alloc).run(alloc, reader, writer)
+    let mut console = Console::new(alloc)?;
+    let ended = console.run(alloc, reader, writer);
+    console.end();
+    ended
 }
 
-/// A drill that takes its input in pieces of any length.
-#[derive(Drop)]
+/// A drill that takes its input in pieces of any length. It has to be spent, by `end`. Once a call
+/// has failed it serves for nothing else.
 struct Console {
     drill: Drill,
     line: LineBuffer,
@@ -54,17 +59,19 @@ struct Console {
 }
 
 impl Console {
-    fn new(alloc: Global) -> Self
-        ensures drill { result.drill ≡ no_world }
-        ensures line { result.line ≡ Some [] }
-        ensures number { result.number ≡ 0 }
+    fn new(alloc: Global) -> Result<Self, Fault>
+        ensures ready { IfOk result (λ console. IsReady console.drill) }
+        ensures drill { IfOk result (λ console. state_of console.drill ≡ drill_over no_world) }
+        ensures line { IfOk result (λ console. console.line ≡ Some []) }
+        ensures number { IfOk result (λ console. console.number ≡ 0) }
+        ensures fault { IfErr result IsOfWork }
     {
-        Console {
-            drill: Drill::new(alloc),
+        Ok(Console {
+            drill: Drill::new(alloc)?,
             line: LineBuffer::new(),
             number: 0,
             text: String::new(alloc),
-        }
+        })
     }
 
     /// Reads to the end of the input.
@@ -74,13 +81,15 @@ impl Console {
         reader: &mut R,
         writer: &mut W,
     ) -> Result<(), Fault>
-        requires { self.old.number ≡ 0 }
-        ensures printed { OnOk result (IfSome (R.remaining reader.old) (λ input. Appends (W.contents writer.old) (W.contents writer.new)
-            (printed_to self.old.drill 1 (lines_on self.old.line input)))) }
+        requires ready { IsReady self.old.drill }
+        requires number { self.old.number ≡ 0 }
+        ensures printed { OnOk result (IfSome (R.remaining reader.old) (λ input. (text : List ℕ)
+            × Prints (state_of self.old.drill) 1 (lines_on self.old.line input) text
+            × Appends (W.contents writer.old) (W.contents writer.new) text)) }
         ensures end { OnOk result (IsAtEnd (R.remaining reader.new)) }
         ensures failed { IfErr result (λ fault. (seen : List ℕ)
             × Consumes (R.remaining reader.old) (R.remaining reader.new) seen
-            × WritesFirstPart (W.contents writer.old) (W.contents writer.new) (printed_to self.old.drill 1 (lines_on self.old.line seen))
+            × ((text : List ℕ) × Prints (state_of self.old.drill) 1 (lines_on self.old.line seen) text × WritesFirstPart (W.contents writer.old) (W.contents writer.new) text)
             × (fault ≡ TooManyReads → MOST_READS ≤ length seen)) }
     {
         let mut bytes = [0; READ_LEN];
@@ -96,17 +105,20 @@ impl Console {
         Err(Fault::TooManyReads)
     }
 
-    /// Takes a piece of the input, and prints in one write what its lines print. Where a line wants
-    /// memory, what was printed before it is written.
+    /// Takes a piece of the input, and prints in one write what its lines print. Where a line fails,
+    /// what was printed before it is written.
     fn answer<W: Write>(&mut self, alloc: Global, piece: &[u8], writer: &mut W) -> Result<(), Fault>
-        requires { self.old.number + length piece.now < 2 ^ 64 - 1 }
+        requires ready { IsReady self.old.drill }
+        requires number { self.old.number + length piece.now < 2 ^ 64 - 1 }
+        ensures ready { OnOk result (IsReady self.new.drill) }
         ensures number { OnOk result (self.new.number ≤ self.old.number + length piece.now) }
         ensures printed { OnOk result ((text : List ℕ) × Appends (W.contents writer.old) (W.contents writer.new) text
-            × ((more : List ℕ) → printed_to self.old.drill (self.old.number + 1) (lines_on self.old.line (piece.now ++ more))
-            ≡ text ++ printed_to self.new.drill (self.new.number + 1) (lines_on self.new.line more))) }
-        ensures failed { OnErr result (WritesFirstPart (W.contents writer.old) (W.contents writer.new)
-            (printed_to self.old.drill (self.old.number + 1) (lines_on self.old.line piece.now))) }
-        ensures fault { IfErr result IsOfWriting }
+            × ((more rest : List ℕ) → Prints (state_of self.new.drill) (self.new.number + 1) (lines_on self.new.line more) rest
+            → Prints (state_of self.old.drill) (self.old.number + 1) (lines_on self.old.line (piece.now ++ more)) (text ++ rest))) }
+        ensures failed { OnErr result ((text : List ℕ)
+            × Prints (state_of self.old.drill) (self.old.number + 1) (lines_on self.old.line piece.now) text
+            × WritesFirstPart (W.contents writer.old) (W.contents writer.new) text) }
+        ensures fault { IfErr result IsOfWork }
     {
         let mut text = Vec::new(alloc);
         let taken = self.take(piece, &mut text);
@@ -116,14 +128,17 @@ impl Console {
 
     /// Takes a piece of the input.
     fn take<W: Write>(&mut self, piece: &[u8], writer: &mut W) -> Result<(), Fault>
-        requires { self.old.number + length piece.now < 2 ^ 64 - 1 }
+        requires ready { IsReady self.old.drill }
+        requires number { self.old.number + length piece.now < 2 ^ 64 - 1 }
+        ensures ready { OnOk result (IsReady self.new.drill) }
         ensures number { OnOk result (self.new.number ≤ self.old.number + length piece.now) }
         ensures printed { OnOk result ((text : List ℕ) × Appends (W.contents writer.old) (W.contents writer.new) text
-            × ((more : List ℕ) → printed_to self.old.drill (self.old.number + 1) (lines_on self.old.line (piece.now ++ more))
-            ≡ text ++ printed_to self.new.drill (self.new.number + 1) (lines_on self.new.line more))) }
-        ensures failed { OnErr result (WritesFirstPart (W.contents writer.old) (W.contents writer.new)
-            (printed_to self.old.drill (self.old.number + 1) (lines_on self.old.line piece.now))) }
-        ensures fault { IfErr result IsOfWriting }
+            × ((more rest : List ℕ) → Prints (state_of self.new.drill) (self.new.number + 1) (lines_on self.new.line more) rest
+            → Prints (state_of self.old.drill) (self.old.number + 1) (lines_on self.old.line (piece.now ++ more)) (text ++ rest))) }
+        ensures failed { OnErr result ((text : List ℕ)
+            × Prints (state_of self.old.drill) (self.old.number + 1) (lines_on self.old.line piece.now) text
+            × WritesFirstPart (W.contents writer.old) (W.contents writer.new) text) }
+        ensures fault { IfErr result IsOfWork }
     {
         let mut rest = piece;
         while let Some(behind) = self.line.take(rest) {
@@ -135,12 +150,15 @@ impl Console {
 
     /// Ends the input. Its last line may lack its line feed.
     fn finish<W: Write>(&mut self, writer: &mut W) -> Result<(), Fault>
-        requires { self.old.number < 2 ^ 64 - 1 }
-        ensures printed { OnOk result (Appends (W.contents writer.old) (W.contents writer.new)
-            (printed_to self.old.drill (self.old.number + 1) (lines_on self.old.line []))) }
-        ensures failed { OnErr result (WritesFirstPart (W.contents writer.old) (W.contents writer.new)
-            (printed_to self.old.drill (self.old.number + 1) (lines_on self.old.line []))) }
-        ensures fault { IfErr result IsOfWriting }
+        requires ready { IsReady self.old.drill }
+        requires number { self.old.number < 2 ^ 64 - 1 }
+        ensures printed { OnOk result ((text : List ℕ)
+            × Prints (state_of self.old.drill) (self.old.number + 1) (lines_on self.old.line []) text
+            × Appends (W.contents writer.old) (W.contents writer.new) text) }
+        ensures failed { OnErr result ((text : List ℕ)
+            × Prints (state_of self.old.drill) (self.old.number + 1) (lines_on self.old.line []) text
+            × WritesFirstPart (W.contents writer.old) (W.contents writer.new) text) }
+        ensures fault { IfErr result IsOfWork }
     {
         self.end_line(writer)?;
         if let Err(error) = writer.flush() {
@@ -151,13 +169,31 @@ impl Console {
 
     /// Carries out the line that has come in, prints its answer, and begins the next one.
     fn end_line<W: Write>(&mut self, writer: &mut W) -> Result<(), Fault>
-        requires { self.old.number < 2 ^ 64 - 1 }
-        ensures printed { OnOk result (Appends (W.contents writer.old) (W.contents writer.new)
-            (line_response self.old.drill (self.old.number + 1) self.old.line)) }
-        ensures failed { OnErr result (WritesFirstPart (W.contents writer.old) (W.contents writer.new)
-            (line_response self.old.drill (self.old.number + 1) self.old.line)) }
-        ensures fault { IfErr result IsOfWriting }
-        ensures world { OnOk result (self.new.drill ≡ after_line self.old.drill self.old.line) }
+        requires ready { IsReady self.old.drill }
+        requires number { self.old.number < 2 ^ 64 - 1 }
+        ensures ready { OnOk result (IsReady self.new.drill) }
+        ensures printed { OnOk result ((told : List ℕ)
+            × LineResponds (state_of self.old.drill) (self.old.number + 1) self.old.line told (state_of self.new.drill)
+            × Appends (W.contents writer.old) (W.contents writer.new) told) }
+        ensures failed { OnErr result ((told : List ℕ) × (t : DrillState)
+            × LineResponds (state_of self.old.drill) (self.old.number + 1) self.old.line told t
+            × WritesFirstPart (W.contents writer.old) (W.contents writer.new) told) }
+        ensures fault { IfErr result IsOfWork }
+        ensures number { OnOk result (self.new.number ≡ self.old.number + 1) }
+        ensures line { OnOk result (self.new.line ≡ Some []) }
+        ensures within { IsWithin self.old.line }
+    {
+        self.answer_line()?;
+        write_text(writer, self.text.as_bytes())
+    }
+
+    /// Carries out the line that has come in, with its answer as the text, and begins the next one.
+    fn answer_line(&mut self) -> Result<(), Fault>
+        requires ready { IsReady self.old.drill }
+        requires number { self.old.number < 2 ^ 64 - 1 }
+        ensures ready { OnOk result (IsReady self.new.drill) }
+        ensures told { OnOk result (LineResponds (state_of self.old.drill) (self.old.number + 1) self.old.line (string_bytes self.new.text) (state_of self.new.drill)) }
+        ensures fault { IfErr result IsOfWork }
         ensures number { OnOk result (self.new.number ≡ self.old.number + 1) }
         ensures line { OnOk result (self.new.line ≡ Some []) }
         ensures within { IsWithin self.old.line }
@@ -174,7 +210,18 @@ impl Console {
             )?,
         }
         self.line.clear();
-        write_text(writer, self.text.as_bytes())
+        Ok(())
+    }
+
+    /// Ends the drill.
+    fn end(self) {
+        let Console {
+            drill,
+            line: _,
+            number: _,
+            text: _,
+        } = self;
+        drill.end();
     }
 }
 
@@ -185,14 +232,16 @@ fn respond(
     request: Option<Request>,
     number: u64,
     text: &mut String,
-) -> Result<(), AllocError>
-    ensures printed { OnOk result (string_bytes text.new
-        ≡ string_bytes text.old ++ response_to drill.old number request) }
-    ensures world { OnOk result (drill.new ≡ after_response drill.old request) }
+) -> Result<(), Fault>
+    requires ready { IsReady drill.old }
+    ensures ready { OnOk result (IsReady drill.new) }
+    ensures told { OnOk result (Tells (string_bytes text.old) (string_bytes text.new)
+        (λ told. Responds (state_of drill.old) number request told (state_of drill.new))) }
+    ensures fault { IfErr result IsOfWork }
 {
     match request {
-        Some(request) => print_answer(text, &drill.answer(&request)?),
-        None => print_bad_line(text, number),
+        Some(request) => drill.answer(&request, text),
+        None => Ok(print_bad_line(text, number)?),
     }
 }
 

@@ -1,174 +1,121 @@
-//! A drill: one world, in which each step is settled at once.
+//! A drill: a ledger over a disk in memory, and a ticket for each step that is not settled.
 
-ghost use Rattle.std.specs.Prelude.{◌≡◌, IfOk, OnOk, OnErr};
+ghost use Rattle.std.specs.Prelude.{◌≡◌, ◌++◌, ◌+◌, ◌≤◌, [], false, IfOk, OnOk, string_bytes, IfErr};
+ghost use Rattle.coord_store.specs.Kept.{has_stopped};
 ghost use Rattle.coord_world.specs.protocol.NumberedWorld.{no_world};
-ghost use Rattle.coord_world.specs.protocol.Legal.{Legal};
-ghost use Rattle.coord_world.specs.protocol.Outputs.{receipt};
-ghost use Rattle.coord_drill.specs.Drill.{front, operator, next_number, asked, after, after_step, said, said_to, said_to_step};
+ghost use Rattle.coord_drill.specs.Answered.{Does};
+ghost use Rattle.coord_drill.specs.Asked.{asked};
+ghost use Rattle.coord_drill.specs.Drill.{drill_over};
+ghost use Rattle.coord_drill.specs.Drilled.{IsOfWork};
+ghost use Rattle.coord_drill.specs.Holding.{IsReady, Tells, front_of, state_of};
+ghost use Rattle.coord_drill.specs.declared.asked.Asked.TheVariants as ask;
 
-use crate::answer::Answer;
+mod crashing;
+mod flying;
+mod submitting;
+mod telling;
+
+use crate::asked::{Asked, wanted_by};
+use crate::fault::Fault;
 use crate::request::Request;
-use coord_check::check;
-use coord_types::{Client, DataPacket, NodeId, ReceiptPacket, Refusal, Step};
-use coord_world::{Verdict, World};
-use std::alloc::{AllocError, Global};
-use std::marker::Model;
+use coord_disk::{Choice, MemDisk};
+use coord_ledger::{Ledger, Ticket};
+use coord_store::Store;
+use std::alloc::Global;
+use std::collections::VecDeque;
 
-/// The world of a drill, which is legal. Contracts see that world.
-#[derive(Drop, Debug)]
+/// The bytes of a half of the drill's disk.
+const HALF_SIZE: u64 = 65_536;
+
+/// A ledger, with the tickets of its pending steps in order. It has to be spent, by `end`. Once a
+/// call has failed it serves for nothing else: its ledger may be gone.
 pub struct Drill {
-    world: World,
-}
-
-impl Model for Drill {
-    ghost use Rattle.coord_world.specs.protocol.NumberedWorld.{World as Numbered, world_code};
-    ghost use Rattle.coord_world.specs.protocol.Legal.{Legal};
-
-    ghost Value = { Numbered };
-
-    ghost coded = { world_code };
-
-    ghost view = { λ a. a.world };
-
-    ghost invariant = { λ a. Legal a.world };
-}
-
-/// What a request asks of a world.
-#[derive(Clone, Copy, Debug, PartialEq, Eq)]
-pub enum Asked {
-    /// To take a step.
-    Submit(Step),
-    /// Nothing: it names a lane that is not there.
-    Refuse(Refusal),
-    /// Nothing: no message waits on its lane.
-    Nothing,
-    /// To give out again what may have been lost.
-    Resend,
-    /// To be checked.
-    Check,
+    alloc: Global,
+    ledger: Option<Ledger<MemDisk>>,
+    tickets: VecDeque<Ticket>,
+    /// Accepted steps are not settled at once.
+    holds: bool,
 }
 
 impl Drill {
-    /// A drill in the world before any step.
-    pub fn new(alloc: Global) -> Self
-        ensures { result ≡ no_world }
+    /// A drill in the world before any step, over a disk that keeps in a crash what a read gives.
+    pub fn new(alloc: Global) -> Result<Self, Fault>
+        ensures ready { IfOk result IsReady }
+        ensures state { IfOk result (λ drill. state_of drill ≡ drill_over no_world) }
+        ensures fault { IfErr result IsOfWork }
     {
-        Drill {
-            world: World::empty(alloc),
-        }
-    }
-
-    /// Carries a request out. Where memory is wanted, the world is unchanged.
-    #[tactic(auto, unfolding(crate::specs::Drill::after_asked, crate::specs::Drill::said_to_asked))]
-    pub fn answer(&mut self, request: &Request) -> Result<Answer, AllocError>
-        ensures said { IfOk result (λ answer. said answer ≡ said_to self.old request.now) }
-        ensures world { OnOk result (self.new ≡ after self.old request.now) }
-        ensures legal { Legal self.new }
-        ensures err { OnErr result (self.new ≡ self.old) }
-    {
-        match self.asked(request) {
-            Asked::Submit(step) => self.submit(&step),
-            Asked::Refuse(refusal) => Ok(Answer::Refused(refusal)),
-            Asked::Nothing => Ok(Answer::Idle),
-            Asked::Resend => Ok(Answer::Resent(self.world.resend()?)),
-            Asked::Check => Ok(Answer::Checked(check(&self.world))),
-        }
-    }
-
-    /// Takes a step, if the world takes it, and settles it.
-    #[tactic(auto, unfolding(crate::specs::Drill::after_step, crate::specs::Drill::said_to_step))]
-    fn submit(&mut self, step: &Step) -> Result<Answer, AllocError>
-        ensures said { IfOk result (λ answer. said answer ≡ said_to_step self.old step.now) }
-        ensures world { OnOk result (self.new ≡ after_step self.old step.now) }
-        ensures legal { Legal self.new }
-        ensures err { OnErr result (self.new ≡ self.old) }
-    {
-        match self.world.judge(&self.world, step) {
-            Ok(Verdict::Fresh(_)) => Ok(Answer::Settled(self.world.apply(step)?)),
-            Ok(Verdict::Repeat(reply)) => Ok(Answer::Kept(reply)),
-            Err(refusal) => Ok(Answer::Refused(refusal)),
-        }
-    }
-
-    fn asked(&self, request: &Request) -> Asked
-        ensures { result ≡ asked self.now request.now }
-    {
-        match *request {
-            Request::Next(command) => {
-                let operator = operator();
-                let number = self.next_number(operator);
-                Asked::Submit(Step::Order(operator, number, command))
-            }
-            Request::Order(client, number, command) => {
-                Asked::Submit(Step::Order(client, number, command))
-            }
-            Request::Take(from, to) => match self.front(from, to) {
-                Ok(Some(packet)) => Asked::Submit(Step::Take(packet)),
-                Ok(None) => Asked::Nothing,
-                Err(refusal) => Asked::Refuse(refusal),
-            },
-            Request::Clear(from, to) => match self.front(from, to) {
-                Ok(Some(packet)) => Asked::Submit(Step::Clear(receipt_of(packet))),
-                Ok(None) => Asked::Nothing,
-                Err(refusal) => Asked::Refuse(refusal),
-            },
-            Request::Data(packet) => Asked::Submit(Step::Take(packet)),
-            Request::Receipt(packet) => Asked::Submit(Step::Clear(packet)),
-            Request::Resend => Asked::Resend,
-            Request::Check => Asked::Check,
-        }
-    }
-
-    /// The number after a client's last one.
-    #[tactic(auto, unfolding(crate::specs::Drill::next_number))]
-    fn next_number(&self, client: Client) -> u64
-        ensures { result ≡ next_number self.now client }
-    {
-        // No client's last number is above the count.
-        self.world.ranges();
-        match self.world.last(client) {
-            Some(session) => session.number + 1,
-            None => 1,
-        }
-    }
-
-    /// The packet at the front of a lane; None where nothing waits there.
-    #[tactic(auto, unfolding(crate::specs::Drill::front))]
-    fn front(&self, from: NodeId, to: NodeId) -> Result<Option<DataPacket>, Refusal>
-        ensures { result ≡ front self.now from to }
-    {
-        // No lane's numbers are above the count.
-        self.world.ranges();
-        let Some(lane) = self.world.lane(from, to) else {
-            return Err(Refusal::NoLink);
+        let mut disk = MemDisk::new(alloc);
+        disk.choose(Choice::Kept);
+        let store = match Store::create(alloc, disk, HALF_SIZE, 1) {
+            Ok(store) => store,
+            Err((fault, _disk)) => return Err(fault.into()),
         };
-        let Some((number, msg)) = lane.current() else {
-            return Ok(None);
+        match Ledger::adopt(alloc, store) {
+            Ok(ledger) => Ok(Drill {
+                alloc,
+                ledger: Some(ledger),
+                tickets: VecDeque::new(alloc),
+                holds: false,
+            }),
+            Err((fault, _store)) => Err(fault.into()),
+        }
+    }
+
+    /// Carries out what a request asks for, and adds the answer's lines to a text.
+    pub fn answer(&mut self, request: &Request, text: &mut String) -> Result<(), Fault>
+        requires ready { IsReady self.old }
+        ensures ready { OnOk result (IsReady self.new) }
+        ensures told { OnOk result (Tells (string_bytes text.old) (string_bytes text.new) (λ told. Does (state_of self.old) (asked (front_of self.old) request.now) told (state_of self.new))) }
+        ensures fault { IfErr result IsOfWork }
+    {
+        let wanted = match &self.ledger {
+            Some(ledger) => wanted_by(ledger.front(), request),
+            None => unreachable!(),
         };
-        Ok(Some(DataPacket {
-            from,
-            to,
-            inc: lane.inc(),
-            number,
-            msg,
-        }))
+        match wanted {
+            Asked::Submit(step) => self.submit(step, text),
+            Asked::Flush => self.flush(text),
+            Asked::Crash => self.crash(text),
+            Asked::Hold => {
+                self.hold();
+                Ok(())
+            }
+            Asked::Refuse(refusal) => self.refuse(refusal, text),
+            Asked::Nothing => self.idle(text),
+            Asked::Resend => self.resend(text),
+            Asked::Check => self.check(text),
+            Asked::Show => self.show(text),
+        }
+    }
+
+    /// From now on accepted steps are not settled at once.
+    #[tactic(auto, using(crate::proofs::Quiet::does_hold))]
+    fn hold(&mut self)
+        requires ready { IsReady self.old }
+        ensures ready { IsReady self.new }
+        ensures told { Does (state_of self.old) ask.Hold [] (state_of self.new) }
+    {
+        self.holds = true;
+    }
+
+    /// Ends the drill. What is pending is lost.
+    pub fn end(self) {
+        let Drill {
+            alloc: _,
+            ledger: _,
+            mut tickets,
+            holds: _,
+        } = self;
+        forget_all(&mut tickets);
+        tickets.destroy_empty();
     }
 }
 
-/// The client whose orders the short lines are.
-fn operator() -> Client
-    ensures { result ≡ operator }
+/// Gives all tickets up.
+fn forget_all(tickets: &mut VecDeque<Ticket>)
+    ensures { tickets.new.items ≡ [] }
 {
-    Client::new(1).unwrap()
-}
-
-fn receipt_of(packet: DataPacket) -> ReceiptPacket
-    ensures { result ≡ receipt packet }
-{
-    ReceiptPacket {
-        from: packet.from,
-        to: packet.to,
-        inc: packet.inc,
-        number: packet.number,
+    while let Some(ticket) = tickets.pop_front() {
+        ticket.forget();
     }
 }

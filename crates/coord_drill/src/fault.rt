@@ -1,5 +1,6 @@
 //! Why a drill ends before the end of its input.
 
+use coord_store::StoreFault;
 use std::alloc::AllocError;
 
 /// What ends a drill early.
@@ -11,8 +12,25 @@ pub enum Fault {
     Write,
     /// The end of the input was not met within `MOST_READS` reads.
     TooManyReads,
+    /// The disk failed while it was made or opened.
+    Device,
     /// There was not enough memory.
     OutOfMemory,
+}
+
+impl From<StoreFault> for Fault {
+    ghost use Rattle.std.specs.Prelude.{◌≡◌, ◌⊎◌};
+    ghost use Rattle.coord_drill.specs.declared.fault.Fault.TheVariants.{Device, OutOfMemory};
+
+    ghost from_gives = { λ _ fault. (fault ≡ OutOfMemory) ⊎ (fault ≡ Device) };
+
+    // The bytes of a drill's disk are a store's, so no other fault is met.
+    fn from(fault: StoreFault) -> Fault {
+        match fault {
+            StoreFault::OutOfMemory => Fault::OutOfMemory,
+            _ => Fault::Device,
+        }
+    }
 }
 
 impl From<AllocError> for Fault {

@@ -1,11 +1,19 @@
 //! The drill: requests read line by line from a reader, and what becomes of each printed to a
 //! writer.
 //!
-//! `specs/Drilled.antt` says what is printed to a whole input, `specs/Grammar.antt` what a line asks
-//! for, `specs/Drill.antt` what becomes of it, and `specs/Printed.antt` the lines that are printed.
+//! It stands on a ledger over a disk in memory. Each accepted step is settled at once by one flight,
+//! unless steps are held; a crash loses what is not settled.
+//!
+//! `specs/Grammar.antt` says what a line asks for and `specs/Asked.antt` what that is by the front
+//! world; `specs/Drill.antt` what becomes of a drill, a few events of the event machine for each
+//! line; `specs/Answered.antt` what is printed to it, and `specs/Printed.antt` the lines themselves.
+//! Memory, the device and a crash choose among the machine's answers: that is the luck of a line.
+//! `specs/Drilled.antt` says what may be printed to a whole input, for some luck at each line. The
+//! main theorem is the contract of [`coord_drill`]: what was written may be printed to all that was
+//! read.
 #![tactic(auto)]
 
-mod answer;
+mod asked;
 mod console;
 mod drill;
 mod fault;

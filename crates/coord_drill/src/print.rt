@@ -1,31 +1,15 @@
 //! The lines that a drill prints.
 
 ghost use Rattle.std.specs.Prelude.{◌≡◌, ◌++◌, OnOk, string_bytes};
-ghost use Rattle.coord_drill.specs.Printed.{bad_line, reply_line, output_line, output_lines, fault_line, said_lines};
-ghost use Rattle.coord_drill.specs.Drill.{said};
+ghost use Rattle.std.specs.List.{flat_map};
+ghost use Rattle.coord_drill.specs.Printed.{bad_line, commit_line, count_line, fault_line, idle_line, link_line, node_line, opened_line, output_line, pending_line, refusal_line, reply_line, view_lines};
 ghost use Rattle.coord_types.specs.declared.outputs.Output.TheVariants.{Receipted, Sent};
 
-use crate::answer::Answer;
 use coord_check::Violation;
-use coord_types::{DataPacket, Output, ReceiptPacket, Reply};
+use coord_ledger::{LinkView, NodeView, View};
+use coord_store::CommitFault;
+use coord_types::{DataPacket, Output, ReceiptPacket, Refusal, Reply};
 use std::alloc::AllocError;
-
-/// Adds the lines of an answer to a text: its reply first, and then what is given out, in order.
-pub fn print_answer(text: &mut String, answer: &Answer) -> Result<(), AllocError>
-    ensures { OnOk result (string_bytes text.new ≡ string_bytes text.old ++ said_lines (said answer.now)) }
-{
-    match answer {
-        Answer::Settled(outcome) => {
-            print_reply(text, outcome.reply)?;
-            print_outputs(text, &outcome.outputs)
-        }
-        Answer::Kept(reply) => print_reply(text, *reply),
-        Answer::Refused(refusal) => writeln!(text, "no {refusal}"),
-        Answer::Idle => text.push_str("idle\n"),
-        Answer::Resent(outputs) => print_outputs(text, outputs),
-        Answer::Checked(fault) => print_fault(text, *fault),
-    }
-}
 
 /// Adds the line for a bad line, of which the number is given, counted from 1.
 pub fn print_bad_line(text: &mut String, number: u64) -> Result<(), AllocError>
@@ -34,7 +18,7 @@ pub fn print_bad_line(text: &mut String, number: u64) -> Result<(), AllocError>
     writeln!(text, "bad line {number}")
 }
 
-fn print_reply(text: &mut String, reply: Reply) -> Result<(), AllocError>
+pub fn print_reply(text: &mut String, reply: Reply) -> Result<(), AllocError>
     ensures { OnOk result (string_bytes text.new ≡ string_bytes text.old ++ reply_line reply) }
 {
     let kind = reply.kind.name();
@@ -42,7 +26,7 @@ fn print_reply(text: &mut String, reply: Reply) -> Result<(), AllocError>
     writeln!(text, "{kind} {step}")
 }
 
-fn print_fault(text: &mut String, fault: Option<Violation>) -> Result<(), AllocError>
+pub fn print_fault(text: &mut String, fault: Option<Violation>) -> Result<(), AllocError>
     ensures { OnOk result (string_bytes text.new ≡ string_bytes text.old ++ fault_line fault) }
 {
     match fault {
@@ -51,16 +35,87 @@ fn print_fault(text: &mut String, fault: Option<Violation>) -> Result<(), AllocE
     }
 }
 
-fn print_outputs(text: &mut String, outputs: &[Output]) -> Result<(), AllocError>
-    ensures { OnOk result (string_bytes text.new ≡ string_bytes text.old ++ output_lines outputs.now) }
+pub fn print_pending(text: &mut String, step: u64) -> Result<(), AllocError>
+    ensures { OnOk result (string_bytes text.new ≡ string_bytes text.old ++ pending_line step) }
 {
-    for output in outputs {
-        print_output(text, output)?;
+    writeln!(text, "pending {step}")
+}
+
+pub fn print_refusal(text: &mut String, refusal: Refusal) -> Result<(), AllocError>
+    ensures { OnOk result (string_bytes text.new ≡ string_bytes text.old ++ refusal_line refusal) }
+{
+    writeln!(text, "no {refusal}")
+}
+
+pub fn print_idle(text: &mut String) -> Result<(), AllocError>
+    ensures { OnOk result (string_bytes text.new ≡ string_bytes text.old ++ idle_line) }
+{
+    text.push_str("idle\n")
+}
+
+pub fn print_commit_fault(text: &mut String, fault: CommitFault) -> Result<(), AllocError>
+    ensures { OnOk result (string_bytes text.new ≡ string_bytes text.old ++ commit_line fault) }
+{
+    let number = fault.number();
+    writeln!(text, "commit {number} {fault}")
+}
+
+/// How many steps are settled.
+pub fn print_count(text: &mut String, settled: u64) -> Result<(), AllocError>
+    ensures { OnOk result (string_bytes text.new ≡ string_bytes text.old ++ count_line settled) }
+{
+    writeln!(text, "settled {settled}")
+}
+
+pub fn print_opened(text: &mut String, count: u64) -> Result<(), AllocError>
+    ensures { OnOk result (string_bytes text.new ≡ string_bytes text.old ++ opened_line count) }
+{
+    writeln!(text, "opened {count}")
+}
+
+pub fn print_view(text: &mut String, view: &View) -> Result<(), AllocError>
+    ensures { OnOk result (string_bytes text.new ≡ string_bytes text.old ++ view_lines view.now) }
+{
+    let accepted = view.accepted;
+    let settled = view.settled;
+    writeln!(text, "view {accepted} {settled}")?;
+    for node in &view.nodes {
+        print_node(text, node)?;
+    }
+    for link in &view.links {
+        print_link(text, link)?;
     }
     Ok(())
 }
 
-fn print_output(text: &mut String, output: &Output) -> Result<(), AllocError>
+fn print_node(text: &mut String, view: &NodeView) -> Result<(), AllocError>
+    ensures { OnOk result (string_bytes text.new ≡ string_bytes text.old ++ node_line view.now) }
+{
+    let node = view.node.number();
+    let group = view.group.number();
+    let mode = view.mode.name();
+    let parent = match view.parent {
+        Some(parent) => parent.number(),
+        None => 0,
+    };
+    let epoch = view.epoch;
+    let confirmed = view.confirmed;
+    writeln!(
+        text,
+        "node {node} {group} {mode} {parent} {epoch} {confirmed}"
+    )
+}
+
+fn print_link(text: &mut String, view: &LinkView) -> Result<(), AllocError>
+    ensures { OnOk result (string_bytes text.new ≡ string_bytes text.old ++ link_line view.now) }
+{
+    let a = view.a.number();
+    let b = view.b.number();
+    let inc = view.inc;
+    writeln!(text, "link {a} {b} {inc}")
+}
+
+pub fn print_output(text: &mut String, output: &Output) -> Result<(), AllocError>
     ensures { OnOk result (string_bytes text.new ≡ string_bytes text.old ++ output_line output.now) }
 {
     match *output {

@@ -45,6 +45,10 @@ fn read_request(verb: &str, words: &mut Words<'_>) -> Option<Request>
         "receipt" => read_receipt(words),
         "resend" => Some(Request::Resend),
         "check" => Some(Request::Check),
+        "show" => Some(Request::Show),
+        "hold" => Some(Request::Hold),
+        "flush" => Some(Request::Flush),
+        "crash" => Some(Request::Crash),
         _ => read_next(verb, words),
     }
 }

@@ -19,6 +19,14 @@ pub enum Request {
     Receipt(ReceiptPacket),
     /// What may have been lost is given out again.
     Resend,
-    /// The world is checked.
+    /// The front world is checked.
     Check,
+    /// The settled world is shown.
+    Show,
+    /// From now on accepted steps are not settled at once.
+    Hold,
+    /// One flight settles pending steps.
+    Flush,
+    /// The disk crashes and is opened again; pending steps are lost.
+    Crash,
 }

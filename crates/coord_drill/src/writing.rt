@@ -3,7 +3,7 @@
 ghost use Rattle.std.specs.Prelude.{◌≡◌, ◌≢◌, OnOk, OnErr, IfErr};
 ghost use Rattle.std.specs.Io.KnownBytes.{Appends};
 ghost use Rattle.std.specs.IoError.{error_kind};
-ghost use Rattle.coord_drill.specs.Drilled.{IsOfWriting, WritesFirstPart};
+ghost use Rattle.coord_drill.specs.Drilled.{IsOfWork, WritesFirstPart};
 
 use crate::fault::Fault;
 use std::io::{Error, ErrorKind, Write};
@@ -15,7 +15,7 @@ const MOST_WRITES: u64 = 1_048_576;
 pub fn write_text<W: Write>(writer: &mut W, text: &[u8]) -> Result<(), Fault>
     ensures ok { OnOk result (Appends (W.contents writer.old) (W.contents writer.new) text.now) }
     ensures err { OnErr result (WritesFirstPart (W.contents writer.old) (W.contents writer.new) text.now) }
-    ensures fault { IfErr result IsOfWriting }
+    ensures fault { IfErr result IsOfWork }
 {
     let mut rest = text;
     for _ in 0..MOST_WRITES {

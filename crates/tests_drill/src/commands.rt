@@ -6,7 +6,7 @@ use std::test::Fail;
 use std::{env, fs, io};
 
 /// Words, in which `@` stands for the folder of the run, and what a run with them ends with.
-type Run = (&'static str, Ending);
+type Run = (&'static str, Ending<'static>);
 
 /// A folder of its own for the files of a test.
 fn make_folder(rt: &HostRuntime, name: &str) -> io::Result<String> {

@@ -2,7 +2,7 @@
 
 use crate::program::ends;
 use crate::scripts::{BAD_LINES, RUNS};
-use std::alloc::AllocError;
+use std::alloc::{AllocError, Global};
 use std::fs::File;
 use std::io;
 use std::io::{Read, Write};
@@ -13,7 +13,7 @@ use std::test::Fail;
 fn prints<S: Files<File = File> + AllocGlobal>(
     rt: &S,
     script: &[u8],
-    expected: &'static str,
+    expected: &str,
 ) -> Result<bool, AllocError> {
     let mut input = script;
     ends(rt, "resetd drill", &mut input, (0, expected, ""))
@@ -204,4 +204,53 @@ fn failed_write(rt: HostRuntime) -> Result<(), Fail> {
 fn laws_do_nothing() {
     coord_lines::pieces_have_the_lines_of_the_whole();
     coord_drill::worked_lines();
+}
+
+/// A script that holds so many resets of one node, and what is printed to it up to there.
+fn held_resets(alloc: Global, count: u64) -> Result<(String, String), AllocError> {
+    let mut script = String::from_str(alloc, "add 1 1\nhold\n")?;
+    let mut printed = String::from_str(alloc, "done 1\n")?;
+    for step in 2..count + 2 {
+        script.push_str("reset 1\n")?;
+        writeln!(&mut printed, "pending {step}")?;
+    }
+    Ok((script, printed))
+}
+
+/// Adds what a flush prints of resets with these numbers.
+fn push_settled(printed: &mut String, first: u64, last: u64) -> Result<(), AllocError> {
+    for step in first..last + 1 {
+        let epoch = step - 1;
+        writeln!(printed, "finished {step}\nsignal 1 {epoch}")?;
+    }
+    writeln!(printed, "settled {last}")
+}
+
+/// Whether a flight takes 256 steps and the next one the rest.
+fn flies_in_full_batches<S: Files<File = File> + AllocGlobal>(rt: &S) -> Result<bool, AllocError> {
+    let (mut script, mut printed) = held_resets(rt.alloc(), 257)?;
+    script.push_str("flush\nflush\n")?;
+    push_settled(&mut printed, 2, 257)?;
+    push_settled(&mut printed, 258, 258)?;
+    prints(rt, script.as_bytes(), &printed)
+}
+
+/// Whether no more than 1,024 steps are held.
+fn holds_no_more<S: Files<File = File> + AllocGlobal>(rt: &S) -> Result<bool, AllocError> {
+    let (mut script, mut printed) = held_resets(rt.alloc(), 1_024)?;
+    script.push_str("reset 1\n")?;
+    printed.push_str("no 20 PendingFull\n")?;
+    prints(rt, script.as_bytes(), &printed)
+}
+
+#[test]
+fn full_batches(rt: HostRuntime) -> Result<(), Fail> {
+    assert!(rt; flies_in_full_batches(&rt)?);
+    Ok(())
+}
+
+#[test]
+fn pending_full(rt: HostRuntime) -> Result<(), Fail> {
+    assert!(rt; holds_no_more(&rt)?);
+    Ok(())
 }

@@ -7,7 +7,7 @@ use std::io::Read;
 use std::rt::Files;
 
 /// What a run of the program is to end with: its exit status, what it prints, and its fault line.
-pub type Ending = (u8, &'static str, &'static str);
+pub type Ending<'a> = (u8, &'a str, &'a str);
 
 /// Whether a run of the program with these words, over a reader, ends so. Where memory runs out
 /// there is no answer.
@@ -15,7 +15,7 @@ pub fn ends<S: Files<File = File> + AllocGlobal, R: Read>(
     rt: &S,
     words: &str,
     input: &mut R,
-    ending: Ending,
+    ending: Ending<'_>,
 ) -> Result<bool, AllocError> {
     let mut given = Vec::new(rt.alloc());
     for word in words.split(' ') {

@@ -3,7 +3,7 @@
 /// A name, a script, and the lines that it prints.
 pub type Run = (&'static str, &'static str, &'static str);
 
-pub const RUNS: [Run; 19] = [
+pub const RUNS: [Run; 24] = [
     ("empty input", "", ""),
     (
         "comments and empty lines",
@@ -527,6 +527,117 @@ pub const RUNS: [Run; 19] = [
          done 181\ndone 182\ndone 183\ndone 184\ndone 185\ndone 186\ndone 187\ndone 188\n\
          done 189\ndone 190\ndone 191\ndone 192\nno 14 LinksFull\n",
     ),
+    (
+        "not released",
+        "add 1 1\n\
+         add 2 1\n\
+         join 1 2\n\
+         hold\n\
+         reset 1\n\
+         take 1 2\n\
+         flush\n",
+        "done 1\n\
+         done 2\n\
+         done 3\n\
+         pending 4\n\
+         no 19 NotReleased\n\
+         started 4\n\
+         data 1 2 1 abort\n\
+         settled 4\n",
+    ),
+    (
+        "crash loses pending",
+        "add 1 1\n\
+         hold\n\
+         add 2 1\n\
+         add 3 1\n\
+         join 2 3\n\
+         crash\n\
+         show\n\
+         add 2 2\n",
+        "done 1\n\
+         pending 2\n\
+         pending 3\n\
+         pending 4\n\
+         opened 1\n\
+         view 1 1\n\
+         node 1 1 ready 0 0 0\n\
+         done 2\n",
+    ),
+    (
+        "sessions after a crash",
+        "add 1 1\n\
+         add 2 1\n\
+         join 1 2\n\
+         reset 1\n\
+         crash\n\
+         order 1 4 reset 1\n\
+         order 1 4 reset 2\n\
+         order 1 6 reset 1\n\
+         order 2 1 confirm 1 1\n",
+        "done 1\n\
+         done 2\n\
+         done 3\n\
+         started 4\n\
+         data 1 2 1 abort\n\
+         opened 4\n\
+         started 4\n\
+         no 5 NumberReused\n\
+         no 4 OutOfTurn\n\
+         no 15 BadEpoch\n",
+    ),
+    (
+        "hostile packets while steps are held",
+        "add 1 1\n\
+         add 2 1\n\
+         join 1 2\n\
+         reset 1\n\
+         hold\n\
+         take 1 2\n\
+         take 1 2\n\
+         receipt 1 2 3 1\n\
+         data 2 1 3 1 ack\n\
+         data 1 2 18446744073709551615 1 abort\n\
+         data 1 2 3 18446744073709551615 abort\n\
+         data 1 2 3 0 abort\n\
+         flush\n\
+         receipt 1 2 3 1\n",
+        "done 1\n\
+         done 2\n\
+         done 3\n\
+         started 4\n\
+         data 1 2 1 abort\n\
+         pending 5\n\
+         no 16 Old\n\
+         no 19 NotReleased\n\
+         no 19 NotReleased\n\
+         no 12 NoLink\n\
+         no 17 Early\n\
+         no 16 Old\n\
+         taken 5\n\
+         receipt 1 2 1\n\
+         data 2 1 1 ack\n\
+         settled 5\n\
+         pending 6\n",
+    ),
+    (
+        "a repeat of a held step",
+        "hold\n\
+         order 1 1 add 1 1\n\
+         order 1 1 add 1 1\n\
+         flush\n\
+         order 1 1 add 1 1\n\
+         flush\n\
+         show\n",
+        "pending 1\n\
+         pending 1\n\
+         done 1\n\
+         settled 1\n\
+         done 1\n\
+         settled 1\n\
+         view 1 1\n\
+         node 1 1 ready 0 0 0\n",
+    ),
 ];
 
 /// Lines that ask for nothing.
@@ -572,10 +683,10 @@ pub const BAD_LINES: [&str; 48] = [
     "receipt 1 2 3 1 1",
     "resend ",
     "resend 1",
-    "hold",
-    "flush",
-    "crash",
-    "show",
+    "hold 1",
+    "flush 1",
+    "crash 1",
+    "show 1",
     "check 1",
     "version 1",
     "add 1 \u{e9}",

@@ -19,4 +19,8 @@ returns c = (
   (refl, refl),
   (refl, refl),
   (refl, refl),
+  (refl, refl),
+  (refl, refl),
+  (refl, refl),
+  (refl, refl),
 )

@@ -1,7 +1,9 @@
-use Rattle.std.proofs.Common.{◌++◌, ◌+◌, ap, rules, append-nil}
+use Rattle.std.proofs.Common.{◌++◌, ◌+◌, [], rules}
 use Rattle.coord_lines.specs.Lines.{lines_on}
-use Rattle.coord_drill.specs.Drilled.{printed_to}
-use Rattle.coord_drill.proofs.Taken.{put_cut, put_failed, put_printed}
+use Rattle.coord_drill.specs.Drilled.{Prints}
+use Rattle.coord_drill.specs.Holding.{state_of}
+use Rattle.coord_drill.proofs.Quiet.{prints_somehow}
+use Rattle.coord_drill.proofs.Taken.{prints-so_far, put_cut, put_failed, put_printed}
 use Rattle.coord_drill.proofs.console.Console.answer.Goals as goal
 
 pub returns-in_err-write_text-clause-failed : goal.returns-in_err-write_text-clause-failed
@@ -9,8 +11,10 @@ returns-in_err-write_text-clause-failed g c =
     let old = c.args.self.now in
     let new = c.take-taken.new.self in
     let piece = c.args.piece.now in
-    let part = put_cut c.take-taken.result c.take-taken.new.writer.items _ (λ more. printed_to old.drill (old.number + 1) (lines_on old.line (piece ++ more))) (λ more. printed_to new.drill (new.number + 1) (lines_on new.line more))
-    (ap (λ p. printed_to old.drill (old.number + 1) (lines_on old.line p)) (append-nil piece)) (rw c.new-text.ensures.items at c.take-taken.ensures.printed) (rw c.new-text.ensures.items at c.take-taken.ensures.failed) _ _ (rw c.deref.ensures.value at c.in_err-write_text.ensures.err) in
+    let part = put_cut c.take-taken.result c.take-taken.new.writer.items (Prints (state_of old.drill) (old.number + 1) (lines_on old.line piece))
+    (λ more. Prints (state_of old.drill) (old.number + 1) (lines_on old.line (piece ++ more))) (λ more. Prints (state_of new.drill) (new.number + 1) (lines_on new.line more))
+    (prints-so_far (state_of old.drill) (old.number + 1) old.line piece) (prints_somehow (state_of new.drill) (new.number + 1) (lines_on new.line []))
+    (rw c.new-text.ensures.items at c.take-taken.ensures.printed) (rw c.new-text.ensures.items at c.take-taken.ensures.failed) _ _ (rw c.deref.ensures.value at c.in_err-write_text.ensures.err) in
     search rules
 
 pub returns-clause-printed : goal.returns-clause-printed
@@ -18,13 +22,17 @@ returns-clause-printed g c =
     let old = c.args.self.now in
     let new = c.take-taken.new.self in
     let piece = c.args.piece.now in
-    put_printed c.take-taken.result c.take-taken.new.writer.items _ (λ more. printed_to old.drill (old.number + 1) (lines_on old.line (piece ++ more))) (λ more. printed_to new.drill (new.number + 1) (lines_on new.line more))
-    (ap (λ p. printed_to old.drill (old.number + 1) (lines_on old.line p)) (append-nil piece)) (rw c.new-text.ensures.items at c.take-taken.ensures.printed) (rw c.new-text.ensures.items at c.take-taken.ensures.failed) _ _ (rw c.deref.ensures.value at c.in_ok-write_text.ensures.ok)
+    put_printed c.take-taken.result c.take-taken.new.writer.items (Prints (state_of old.drill) (old.number + 1) (lines_on old.line piece))
+    (λ more. Prints (state_of old.drill) (old.number + 1) (lines_on old.line (piece ++ more))) (λ more. Prints (state_of new.drill) (new.number + 1) (lines_on new.line more))
+    (prints-so_far (state_of old.drill) (old.number + 1) old.line piece) (prints_somehow (state_of new.drill) (new.number + 1) (lines_on new.line []))
+    (rw c.new-text.ensures.items at c.take-taken.ensures.printed) (rw c.new-text.ensures.items at c.take-taken.ensures.failed) _ _ (rw c.deref.ensures.value at c.in_ok-write_text.ensures.ok)
 
 pub returns-clause-failed : goal.returns-clause-failed
 returns-clause-failed g c =
     let old = c.args.self.now in
     let new = c.take-taken.new.self in
     let piece = c.args.piece.now in
-    put_failed c.take-taken.result c.take-taken.new.writer.items _ (λ more. printed_to old.drill (old.number + 1) (lines_on old.line (piece ++ more))) (λ more. printed_to new.drill (new.number + 1) (lines_on new.line more))
-    (ap (λ p. printed_to old.drill (old.number + 1) (lines_on old.line p)) (append-nil piece)) (rw c.new-text.ensures.items at c.take-taken.ensures.printed) (rw c.new-text.ensures.items at c.take-taken.ensures.failed) _ _ (rw c.deref.ensures.value at c.in_ok-write_text.ensures.ok)
+    put_failed c.take-taken.result c.take-taken.new.writer.items (Prints (state_of old.drill) (old.number + 1) (lines_on old.line piece))
+    (λ more. Prints (state_of old.drill) (old.number + 1) (lines_on old.line (piece ++ more))) (λ more. Prints (state_of new.drill) (new.number + 1) (lines_on new.line more))
+    (prints-so_far (state_of old.drill) (old.number + 1) old.line piece) (prints_somehow (state_of new.drill) (new.number + 1) (lines_on new.line []))
+    (rw c.new-text.ensures.items at c.take-taken.ensures.printed) (rw c.new-text.ensures.items at c.take-taken.ensures.failed) _ _ (rw c.deref.ensures.value at c.in_ok-write_text.ensures.ok)

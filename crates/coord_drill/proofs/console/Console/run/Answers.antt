@@ -1,27 +1,57 @@
-use Rattle.std.proofs.Common.{◌++◌, [], take, arith, rules, sym, ap, ◌∙◌, append_assoc, append-nil, length-append, length-take-le}
-use Rattle.std.proofs.KnownBytes.{Appends-trans, Consumes-trans, Consumes-kept}
+use Rattle.std.proofs.Common.{◌++◌, ◌+◌, [], take, arith, rules, sym, subst, append_assoc, length-append, length-take-le}
+use Rattle.std.proofs.KnownBytes.{Appends-nil, Appends-trans, Consumes-nil, Consumes-trans, Consumes-kept}
+use Rattle.std.specs.Io.KnownBytes.{IsAtEnd}
 use Rattle.coord_lines.specs.Lines.{lines_on}
-use Rattle.coord_drill.specs.Drilled.{printed_to}
-use Rattle.coord_drill.proofs.Taken.{first_part-seen, first_part-behind, Consumes-none, not_of_reading, IfErr-of_writing}
+use Rattle.coord_drill.specs.Drilled.{Prints}
+use Rattle.coord_drill.specs.Holding.{state_of}
+use Rattle.coord_drill.proofs.FirstParts.{first_part-after, first_part-whole}
+use Rattle.coord_drill.proofs.Quiet.{prints_somehow}
+use Rattle.coord_drill.proofs.Taken.{prints-so_far, prints-whole, Consumes-none, not_of_reading, IfErr-of_piece, IfErr-of_work}
 use Rattle.coord_drill.proofs.console.Console.run.Goals as goal
+
+pub loop-init : goal.loop-init
+loop-init g c = (
+  c.requires.ready,
+  omega (arith, c.requires.number),
+  (
+    [],
+    Consumes-nil _,
+    omega arith,
+    ([], Appends-nil _, λ more rest prints. subst (λ n. Prints (state_of c.args.self.now.drill) (n + 1) (lines_on c.args.self.now.line more) rest) c.requires.number prints),
+  ),
+)
+
+pub returns-then-count-eq0-clause-printed : goal.returns-then-count-eq0-clause-printed
+returns-then-count-eq0-clause-printed g c =
+    let inv = c.loop.invariant in
+    let first = c.args.self.now in
+    let now = c.loop.self in
+    let seen = inv.2.0 in
+    let consumed = Consumes-none _ _ _ seen c.read.new.buf c.in-Ok.count inv.2.1 c.in-Ok.ensures.bytes.0 c.if-count-eq0.true in
+    let ended : IsAtEnd (g.R.Read.remaining c.read.new.self) = search rules in
+    prints-whole c.finish.result (state_of first.drill) (state_of now.drill) first.line now.line (now.number + 1) _ _ _ _ _ seen inv.2.3.0 c.finish.ensures.printed consumed ended inv.2.3.1 inv.2.3.2
 
 pub returns-in_default-clause-failed : goal.returns-in_default-clause-failed
 returns-in_default-clause-failed g c =
     let inv = c.loop.invariant in
-    let first = c.args.self.now in (
-      inv.1.0,
-      Consumes-kept _ _ _ inv.1.0 inv.1.1 c.in_default.ensures.bytes,
-      first_part-seen first.drill first.line inv.1.0 _ _ inv.1.3.0 _ inv.1.3.1 (inv.1.3.2 []),
+    let first = c.args.self.now in
+    let now = c.loop.self in
+    let later = prints_somehow (state_of now.drill) (now.number + 1) (lines_on now.line []) in (
+      inv.2.0,
+      Consumes-kept _ _ _ inv.2.0 inv.2.1 c.in_default.ensures.bytes,
+      (inv.2.3.0 ++ later.0, prints-so_far (state_of first.drill) 1 first.line inv.2.0 _ (inv.2.3.2 [] later.0 later.1), first_part-whole _ _ inv.2.3.0 later.0 inv.2.3.1),
       λ e. absurd cc,
     )
 
 pub returns-clause-failed : goal.returns-clause-failed
 returns-clause-failed g c =
     let inv = c.loop.invariant in
-    let first = c.args.self.now in (
-      inv.1.0,
-      inv.1.1,
-      first_part-seen first.drill first.line inv.1.0 _ _ inv.1.3.0 _ inv.1.3.1 (inv.1.3.2 []),
+    let first = c.args.self.now in
+    let now = c.loop.self in
+    let later = prints_somehow (state_of now.drill) (now.number + 1) (lines_on now.line []) in (
+      inv.2.0,
+      inv.2.1,
+      (inv.2.3.0 ++ later.0, prints-so_far (state_of first.drill) 1 first.line inv.2.0 _ (inv.2.3.2 [] later.0 later.1), first_part-whole _ _ inv.2.3.0 later.0 inv.2.3.1),
       λ e. search rules,
     )
 
@@ -29,38 +59,53 @@ pub returns-then-count-eq0-clause-failed : goal.returns-then-count-eq0-clause-fa
 returns-then-count-eq0-clause-failed g c =
     let inv = c.loop.invariant in
     let first = c.args.self.now in
-    let seen = inv.1.0 in
-    let consumed = Consumes-none _ _ _ seen c.read.new.buf c.in-Ok.count inv.1.1 c.in-Ok.ensures.bytes.0 c.if-count-eq0.true in
-    let whole = ap (λ s. printed_to first.drill 1 (lines_on first.line s)) (sym (append-nil seen)) ∙ inv.1.3.2 [] in
-    IfErr-of_writing c.finish.result c.finish.ensures.failed c.finish.ensures.fault
-    (λ fault kind part. (seen, consumed, first_part-behind _ _ _ inv.1.3.0 _ _ inv.1.3.1 part whole, λ e. absurd (not_of_reading fault kind e)))
+    let seen = inv.2.0 in
+    let consumed = Consumes-none _ _ _ seen c.read.new.buf c.in-Ok.count inv.2.1 c.in-Ok.ensures.bytes.0 c.if-count-eq0.true in
+    IfErr-of_work c.finish.result c.finish.ensures.failed c.finish.ensures.fault
+    (λ fault kind part. (
+      seen,
+      consumed,
+      (inv.2.3.0 ++ part.0, prints-so_far (state_of first.drill) 1 first.line seen _ (inv.2.3.2 [] part.0 part.1), first_part-after _ _ _ inv.2.3.0 part.0 inv.2.3.1 part.2),
+      λ e. absurd (not_of_reading fault kind e),
+    ))
 
 pub returns-in_err-answer-clause-failed : goal.returns-in_err-answer-clause-failed
 returns-in_err-answer-clause-failed g c =
     let inv = c.loop.invariant in
-    let seen = inv.1.0 in
+    let first = c.args.self.now in
+    let seen = inv.2.0 in
     let came = take c.in-Ok.count c.read.new.buf in
-    let consumed = Consumes-trans _ _ _ seen came inv.1.1 c.in-Ok.ensures.bytes.0 in
-    IfErr-of_writing c.from_residual.result (search rules) (search rules)
-    (λ fault kind part. (seen ++ came, consumed, first_part-behind _ _ _ inv.1.3.0 _ _ inv.1.3.1 part (inv.1.3.2 came), λ e. absurd (not_of_reading fault kind e)))
+    let consumed = Consumes-trans _ _ _ seen came inv.2.1 c.in-Ok.ensures.bytes.0 in
+    let now = c.loop.self in
+    IfErr-of_piece c.from_residual.result _ _ (state_of now.drill) (now.number + 1) now.line came (search rules) (search rules)
+    (λ fault kind part. (
+      seen ++ came,
+      consumed,
+      (inv.2.3.0 ++ part.0, inv.2.3.2 came part.0 part.1, first_part-after _ _ _ inv.2.3.0 part.0 inv.2.3.1 part.2),
+      λ e. absurd (not_of_reading fault kind e),
+    ))
 
 pub loop-preserved : goal.loop-preserved
 loop-preserved g c =
     let inv = c.loop.invariant in
-    let seen = inv.1.0 in
-    let text = inv.1.3.0 in
+    let seen = inv.2.0 in
+    let text = inv.2.3.0 in
     let now = c.in_ok-answer.ensures in
     let came = take c.in-Ok.count c.read.new.buf in
     let first = c.args.self.now in (
+      now.ready,
       search rules,
       (
         seen ++ came,
-        Consumes-trans _ _ _ seen came inv.1.1 (search rules),
-        omega (arith, inv.1.2, length-append seen came, length-take-le c.in-Ok.count c.read.new.buf (search rules)),
+        Consumes-trans _ _ _ seen came inv.2.1 (search rules),
+        omega (arith, inv.2.2, length-append seen came, length-take-le c.in-Ok.count c.read.new.buf (search rules)),
         (
           text ++ now.printed.0,
-          Appends-trans _ _ _ text now.printed.0 inv.1.3.1 now.printed.1,
-          λ more. ap (λ l. printed_to first.drill 1 (lines_on first.line l)) (append_assoc seen came more) ∙ inv.1.3.2 (came ++ more) ∙ ap (λ l. text ++ l) (now.printed.2 more) ∙ sym (append_assoc text now.printed.0 _),
+          Appends-trans _ _ _ text now.printed.0 inv.2.3.1 now.printed.1,
+          λ more rest prints.
+              let whole = inv.2.3.2 (came ++ more) (now.printed.0 ++ rest) (now.printed.2 more rest prints) in
+              let lined = subst (λ l. Prints (state_of first.drill) 1 (lines_on first.line l) (text ++ (now.printed.0 ++ rest))) (sym (append_assoc seen came more)) whole in
+              subst (Prints (state_of first.drill) 1 (lines_on first.line ((seen ++ came) ++ more))) (sym (append_assoc text now.printed.0 rest)) lined,
         ),
       ),
     )

@@ -1,5 +1,5 @@
 use Rattle.std.proofs.Common.{sym, arith}
-use Rattle.coord_drill.proofs.drill.Drill.next_number.Goals as goal
+use Rattle.coord_drill.proofs.asked.next_number.Goals as goal
 
 pub overflow_add-result : goal.overflow_add-result
 overflow_add-result c =

@@ -1,0 +1,137 @@
+-- What a flight settles: of each step the reply and the releases, in order, and the tickets behind.
+use Rattle.std.proofs.Common.{◌≡◌, ℕ, zero, suc, ◌+◌, ◌≤◌, ◌==◌, true, cond, List, [], ◌∷◌, ◌++◌, map, length, take, drop, Some, refl, sym, ap, ◌∙◌, subst, append-nil, append_assoc, arith, inl}
+use Rattle.std.proofs.lemmas.Bool.Decides.{nat_tests}
+use Rattle.std.proofs.Math.Seq.{take-append_seam}
+use Rattle.std.specs.List.{AllByRecursion}
+use Rattle.std.specs.Prelude.{nat_le, slice_get}
+use Rattle.coord_types.specs.declared.outputs.Output.{Output}
+use Rattle.coord_types.specs.declared.steps.Step.{Step}
+use Rattle.coord_world.proofs.Facade.{by_test, fold-append, fold_counts}
+use Rattle.coord_world.specs.protocol.Next.{fold, next, reply}
+use Rattle.coord_world.specs.protocol.NumberedWorld.{World}
+use Rattle.coord_world.specs.protocol.Outputs.{again, outputs, outs}
+use Rattle.coord_ledger.specs.declared.release.Release.{Release}
+use Rattle.coord_ledger.specs.ledger.State.{Claim, IsCollectable, IsGranted}
+use Rattle.coord_ledger.specs.machine.After.{release_of, releases_of, resent}
+use Rattle.coord_ledger.specs.machine.Log.{Log, settled_world}
+use Rattle.coord_drill.specs.Holding.{behind, claims_of, collected_lines, left, released_lines, waiting}
+use Rattle.coord_drill.specs.Printed.{output_line, output_lines, reply_line, settled_lines}
+
+-- ---- the releases of one step
+
+-- later steps have later numbers
+none_later : (v : World) (steps : List Step) (n : ℕ) → n ≤ v.count → released_lines n (releases_of (outs v steps)) ≡ []
+none_later v [] n le = refl
+none_later v (s ∷ ss) n le = first (none_later (next v s) ss n (omega (arith, le))) (outputs v s)
+  where
+    first : released_lines n (releases_of (outs (next v s) ss)) ≡ [] → (os : List Output) → released_lines n (map (release_of (v.count + 1)) os ++ releases_of (outs (next v s) ss)) ≡ []
+    first none [] = none
+    first none (o ∷ os) =
+        by_test ((v.count + 1) == n) (λ b. cond b (output_line o ++ released_lines n (map (release_of (v.count + 1)) os ++ releases_of (outs (next v s) ss))) [] ≡ [])
+        (λ same. absurd (grind (arith, nat_tests, same, le)))
+        (λ _. refl)
+
+all_later : (v : World) (steps : List Step) (n : ℕ) → n ≤ v.count → behind n (releases_of (outs v steps)) ≡ releases_of (outs v steps)
+all_later v [] n le = refl
+all_later v (s ∷ ss) n le = first (all_later (next v s) ss n (omega (arith, le))) (outputs v s)
+  where
+    first : behind n (releases_of (outs (next v s) ss)) ≡ releases_of (outs (next v s) ss) → (os : List Output) → behind n (map (release_of (v.count + 1)) os ++ releases_of (outs (next v s) ss)) ≡ map (release_of (v.count + 1)) os ++ releases_of (outs (next v s) ss)
+    first all [] = all
+    first all (o ∷ os) =
+        let rest = map (release_of (v.count + 1)) os ++ releases_of (outs (next v s) ss) in
+        by_test ((v.count + 1) == n) (λ b. cond b (behind n rest) (release_of (v.count + 1) o ∷ rest) ≡ release_of (v.count + 1) o ∷ rest)
+        (λ same. absurd (grind (arith, nat_tests, same, le)))
+        (λ _. refl)
+
+-- those of a step, before later ones
+pub own_lines : (n : ℕ) (os : List Output) (rest : List Release) → released_lines n rest ≡ [] → released_lines n (map (release_of n) os ++ rest) ≡ output_lines os
+own_lines n [] rest none = none
+own_lines n (o ∷ os) rest none =
+    by_test (n == n) (λ b. cond b (output_line o ++ released_lines n (map (release_of n) os ++ rest)) [] ≡ output_line o ++ output_lines os)
+    (λ _. ap (λ l. output_line o ++ l) (own_lines n os rest none))
+    (λ apart. absurd (grind (arith, nat_tests, apart)))
+
+own_behind : (n : ℕ) (os : List Output) (rest : List Release) → behind n rest ≡ rest → behind n (map (release_of n) os ++ rest) ≡ rest
+own_behind n [] rest all = all
+own_behind n (o ∷ os) rest all =
+    by_test (n == n) (λ b. cond b (behind n (map (release_of n) os ++ rest)) (release_of n o ∷ (map (release_of n) os ++ rest)) ≡ rest)
+    (λ _. own_behind n os rest all)
+    (λ apart. absurd (grind (arith, nat_tests, apart)))
+
+-- ---- the steps of a flight
+
+after_first : (w : World) (b : ℕ) (s : Step) (ss : List Step) → nat_le (w.count + 1) (fold (next w s) (take b ss)).count ≡ true
+after_first w b s ss = grind (arith, nat_tests, fold_counts (next w s) (take b ss))
+
+-- what is collected is what the steps that are settled gave out
+pub collected_are : (w : World) (b : ℕ) (steps : List Step) → collected_lines (fold w (take b steps)).count (claims_of w steps) (releases_of (outs w (take b steps))) ≡ settled_lines (outs w (take b steps))
+collected_are w zero [] = refl
+collected_are w zero (s ∷ ss) =
+    let lines = reply_line (reply w s) ++ (released_lines (w.count + 1) [] ++ collected_lines w.count (claims_of (next w s) ss) (behind (w.count + 1) [])) in
+    by_test (nat_le (w.count + 1) w.count) (λ b. cond b lines [] ≡ [])
+    (λ le. absurd (grind (arith, nat_tests, le)))
+    (λ _. refl)
+collected_are w (suc b) [] = refl
+collected_are w (suc b) (s ∷ ss) =
+    let v = next w s in
+    let n = w.count + 1 in
+    let rest = releases_of (outs v (take b ss)) in
+    let count = (fold v (take b ss)).count in
+    let own = own_lines n (outputs w s) rest (none_later v (take b ss) n (omega arith)) in
+    let later = own_behind n (outputs w s) rest (all_later v (take b ss) n (omega arith)) in
+    let told = reply_line (reply w s) ++ (released_lines n (map (release_of n) (outputs w s) ++ rest) ++ collected_lines count (claims_of v ss) (behind n (map (release_of n) (outputs w s) ++ rest))) in
+    ap (λ t. cond t told []) (after_first w b s ss)
+    ∙ ap (λ l. reply_line (reply w s) ++ (l ++ collected_lines count (claims_of v ss) (behind n (map (release_of n) (outputs w s) ++ rest)))) own
+    ∙ ap (λ l. reply_line (reply w s) ++ (output_lines (outputs w s) ++ collected_lines count (claims_of v ss) l)) later
+    ∙ ap (λ l. reply_line (reply w s) ++ (output_lines (outputs w s) ++ l)) (collected_are v b ss)
+    ∙ sym (append_assoc (reply_line (reply w s)) (output_lines (outputs w s)) _)
+
+-- and the tickets of the others are left
+pub waiting_are : (w : World) (b : ℕ) (steps : List Step) → waiting (fold w (take b steps)).count (claims_of w steps) ≡ claims_of (fold w (take b steps)) (drop b steps)
+waiting_are w zero [] = refl
+waiting_are w zero (s ∷ ss) =
+    by_test (nat_le (w.count + 1) w.count) (λ b. cond b (waiting w.count (claims_of (next w s) ss)) (claims_of w (s ∷ ss)) ≡ claims_of w (s ∷ ss))
+    (λ le. absurd (grind (arith, nat_tests, le)))
+    (λ _. refl)
+waiting_are w (suc b) [] = refl
+waiting_are w (suc b) (s ∷ ss) =
+    let count = (fold (next w s) (take b ss)).count in
+    ap (λ t. cond t (waiting count (claims_of (next w s) ss)) (claims_of w (s ∷ ss))) (after_first w b s ss) ∙ waiting_are (next w s) b ss
+
+-- ---- grants
+
+at_middle : {A : Type 0} (xs ys : List A) (x : A) → slice_get (xs ++ x ∷ ys) (length xs) ≡ Some x
+at_middle [] ys x = refl
+at_middle (y ∷ xs) ys x = at_middle xs ys x
+
+-- the tickets of the last steps are granted
+pub granted_from : (log : Log) (before after : List Step) → log.trail ≡ before ++ after → AllByRecursion (IsGranted log) (claims_of (fold log.base before) after)
+granted_from log before [] is = tt
+granted_from log before (s ∷ after) is =
+    let first : take (length before) log.trail ≡ before = ap (take (length before)) is ∙ take-append_seam before (s ∷ after) in
+    let one : fold log.base (before ++ s ∷ []) ≡ next (fold log.base before) s = fold-append before (s ∷ []) log.base in (
+      inl (record {
+        place = length before;
+        there = ap (λ l. slice_get l (length before)) is ∙ at_middle before after s;
+        answered = ap (λ l. reply (fold log.base l) s) first;
+      }),
+      subst (λ w. AllByRecursion (IsGranted log) (claims_of w after)) one (granted_from log (before ++ s ∷ []) after (is ∙ sym (append_assoc before (s ∷ []) after))),
+    )
+
+short : {A : Type 0} (n : ℕ) (xs : List A) → length (take n xs) ≤ n
+short zero xs = omega arith
+short (suc n) [] = omega arith
+short (suc n) (x ∷ xs) = omega (arith, short n xs)
+
+-- what is granted may be collected once its step is settled
+pub collectable : (log : Log) (claim : Claim) → IsGranted log claim → claim.step ≤ (settled_world log).count → IsCollectable log claim
+collectable log claim granted le = record { settled = omega (arith, le, fold_counts log.base (take log.settled log.trail), short log.settled log.trail); granted = granted }
+
+-- the release that is looked at first
+pub looked_at : (rs : List Release) → left (slice_get rs 0) (drop 1 rs) ≡ rs
+looked_at [] = refl
+looked_at (r ∷ rs) = refl
+
+-- what is sent again is all of one step, 0
+pub resent_lines : (w : World) → released_lines 0 (resent w) ≡ output_lines (again w)
+resent_lines w = ap (released_lines 0) (sym (append-nil (resent w))) ∙ own_lines 0 (again w) [] refl

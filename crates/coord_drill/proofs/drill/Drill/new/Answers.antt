@@ -1,0 +1,5 @@
+use Rattle.coord_drill.proofs.Doing.{new_held}
+use Rattle.coord_drill.proofs.drill.Drill.new.Goals as goal
+
+pub returns-in-Ok-adopt-clause-ready : goal.returns-in-Ok-adopt-clause-ready
+returns-in-Ok-adopt-clause-ready c = new_held c.in-Ok-adopt.ledger c.in-Ok.store.world c.in-Ok.store.disk c.new.result.items c.in-Ok-adopt.ensures.adopted c.new.ensures.items

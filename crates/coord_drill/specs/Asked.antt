@@ -1,0 +1,57 @@
+-- What a request asks of a drill, by the front world of its ledger.
+use Rattle.std.specs.Prelude.{ℕ, ◌+◌, List, [], ◌∷◌, Option, Some, None, Result, Ok, Err}
+use Rattle.coord_types.specs.Table.{get}
+use Rattle.coord_types.specs.declared.messages.Msg.{Msg}
+use Rattle.coord_types.specs.declared.packets.DataPacket.{DataPacket}
+use Rattle.coord_types.specs.declared.steps.Step.{Step}
+use Rattle.coord_types.specs.declared.steps.Step.TheVariants as step
+use Rattle.coord_types.specs.declared.refusals.Refusal.{Refusal}
+use Rattle.coord_types.specs.declared.refusals.Refusal.TheVariants.{NoLink}
+use Rattle.coord_link.specs.LaneMachine.{Lane}
+use Rattle.coord_world.specs.protocol.NumberedWorld.{World}
+use Rattle.coord_world.specs.protocol.Acceptance.{last_number}
+use Rattle.coord_world.specs.protocol.Outputs.{receipt, front_packet}
+use Rattle.coord_drill.specs.declared.request.Request.{Request}
+use Rattle.coord_drill.specs.declared.request.Request.TheVariants as request
+use Rattle.coord_drill.specs.declared.asked.Asked.{Asked}
+use Rattle.coord_drill.specs.declared.asked.Asked.TheVariants.{Submit, Refuse, Nothing, Resend, Check, Show, Hold, Flush, Crash}
+
+-- the packet of the front of a lane from u to v, if there is one
+abbrev pub packet_of : ℕ → ℕ → Lane → List Msg → Option DataPacket
+packet_of u v l [] = None
+packet_of u v l (m ∷ ms) = Some (front_packet (u, v) l m)
+
+abbrev pub packet_on : ℕ → ℕ → Option Lane → Result (Option DataPacket) Refusal
+packet_on u v None = Err NoLink
+packet_on u v (Some l) = Ok (packet_of u v l l.queue)
+
+-- the packet that travels from u to v; an error where they are not linked
+unfoldable pub front : World → ℕ → ℕ → Result (Option DataPacket) Refusal
+front w u v = packet_on u v (get w.lanes (u, v))
+
+abbrev pub asked_of_front : (DataPacket → Step) → Result (Option DataPacket) Refusal → Asked
+asked_of_front f (Err refusal) = Refuse refusal
+asked_of_front f (Ok None) = Nothing
+asked_of_front f (Ok (Some p)) = Submit (f p)
+
+-- the operator is client 1
+abbrev pub operator : ℕ
+operator = 1
+
+unfoldable pub next_number : World → ℕ → ℕ
+next_number w c = last_number (get w.sessions c) + 1
+
+-- what a request asks for
+abbrev pub asked : World → Request → Asked
+asked w (request.Next x) = Submit (step.Order operator (next_number w operator) x)
+asked w (request.Order c n x) = Submit (step.Order c n x)
+asked w (request.Take u v) = asked_of_front (λ p. step.Take p) (front w u v)
+asked w (request.Clear u v) = asked_of_front (λ p. step.Clear (receipt p)) (front w u v)
+asked w (request.Data p) = Submit (step.Take p)
+asked w (request.Receipt p) = Submit (step.Clear p)
+asked w request.Resend = Resend
+asked w request.Check = Check
+asked w request.Show = Show
+asked w request.Hold = Hold
+asked w request.Flush = Flush
+asked w request.Crash = Crash

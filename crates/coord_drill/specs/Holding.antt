@@ -1,0 +1,112 @@
+-- What the code holds: a ledger with its store at home, and a ticket for each pending step; and what it prints of these.
+use Rattle.std.specs.Prelude.{◌≡◌, ℕ, ◌==◌, ◌≤◌, nat_le, false, true, List, [], ◌∷◌, ◌++◌, length, Option, Some, None, Ok, Err, if◌then◌else◌, Bool}
+use Rattle.std.specs.Option.{option_map_or}
+use Rattle.coord_disk.specs.declared.memory.MemDisk.{MemDisk}
+use Rattle.coord_store.specs.declared.faults.CommitFault.TheVariants.{Device, OutOfMemory}
+use Rattle.coord_types.specs.declared.steps.Kind.{Kind}
+use Rattle.coord_types.specs.declared.steps.Reply.{Reply as Answered}
+use Rattle.coord_types.specs.declared.steps.Step.{Step}
+use Rattle.coord_world.specs.declared.verdicts.Verdict.TheVariants.{Fresh, Repeat}
+use Rattle.coord_world.specs.protocol.Next.{next, reply}
+use Rattle.coord_world.specs.protocol.NumberedWorld.{World, no_world}
+use Rattle.coord_ledger.specs.declared.release.Release.{Release}
+use Rattle.coord_ledger.specs.ledger.Calls.{claimed, keeps_store, said, with_accepted}
+use Rattle.coord_ledger.specs.ledger.State.{Claim, LedgerState, ledger_over, reply_of}
+use Rattle.coord_ledger.specs.machine.After.{settling_releases}
+use Rattle.coord_ledger.specs.machine.Answers.{IsOneOf, kept_by, next_size}
+use Rattle.coord_ledger.specs.machine.Log.{Log, front_world, log_over, pending, settled_world, with_settled, world_after}
+use Rattle.coord_drill.specs.Drill.{DrillState}
+use Rattle.coord_drill.specs.Printed.{output_line, reply_line}
+use Rattle.coord_drill.specs.declared.drill.Drill.{Drill}
+use Rattle.coord_drill.specs.declared.drill.flying.Flown.{Flown}
+use Rattle.coord_drill.specs.declared.drill.flying.Flown.TheVariants as flown
+use Rattle.coord_drill.specs.declared.drill.submitting.Outcome.{Outcome}
+use Rattle.coord_drill.specs.declared.drill.submitting.Outcome.TheVariants as outcome
+
+-- the claims of tickets for steps from a world on
+abbrev pub claims_of : World → List Step → List Claim
+claims_of w [] = []
+claims_of w (s ∷ ss) = claimed s (reply w s) ∷ claims_of (next w s) ss
+
+pub record IsHeld (l : LedgerState MemDisk) (claims : List Claim) : Type 0 where
+  pub home : l.out ≡ None
+  pub here : (disk : MemDisk) × (l.disk ≡ Some disk)
+  pub within : l.log.settled ≤ length l.log.trail
+  pub tickets : claims ≡ claims_of (settled_world l.log) (pending l.log)
+
+-- a drill holds these; it goes without only once it has ended with a fault
+abbrev pub IsReadyWith : Option (LedgerState MemDisk) → List Claim → Type 0
+IsReadyWith None claims = ⊥
+IsReadyWith (Some l) claims = IsHeld l claims
+
+abbrev pub IsReady : Drill → Type 0
+IsReady d = IsReadyWith d.ledger d.tickets.items
+
+-- the state of a drill over this ledger
+abbrev pub drill_of : LedgerState MemDisk → Bool → DrillState
+drill_of l holds = record { log = l.log; doubt = l.doubt; holds = holds }
+
+abbrev pub state_of : Drill → DrillState
+state_of d = record { log = option_map_or (λ l. l.log) d.ledger (log_over no_world); doubt = option_map_or (λ l. l.doubt) d.ledger None; holds = d.holds }
+
+abbrev pub front_of : Drill → World
+front_of d = front_world (state_of d).log
+
+-- ---- what calls make of a ledger
+
+-- a flight went out and is back, with this log and this doubt
+pub record IsBack (l : LedgerState MemDisk) (log : Log) (doubt : Option ℕ) (new : LedgerState MemDisk) : Type 0 where
+  pub away : keeps_store l ≡ false
+  pub home : new.out ≡ None
+  pub here : (disk : MemDisk) × (new.disk ≡ Some disk)
+  pub log_is : new.log ≡ log
+  pub doubt_is : new.doubt ≡ doubt
+
+-- a flight of the next steps, if one may go out
+abbrev pub FlownTo : LedgerState MemDisk → Flown → LedgerState MemDisk → Type 0
+FlownTo l flown.Nothing new = (keeps_store l ≡ true) × (new ≡ l)
+FlownTo l (flown.Settled releases) new = IsBack l (with_settled l.log (next_size l.log)) l.doubt new × (releases ≡ settling_releases l.log (next_size l.log))
+FlownTo l (flown.Failed Device) new = IsBack l l.log (Some (next_size l.log)) new
+FlownTo l (flown.Failed OutOfMemory) new = IsBack l l.log l.doubt new
+FlownTo l (flown.Failed fault) new = ⊥
+
+-- a step that is handed in
+abbrev pub HandedTo : LedgerState MemDisk → Step → Outcome → LedgerState MemDisk → Type 0
+HandedTo l x (outcome.Accepted ticket) new = (kind : Kind) × (said l x ≡ Ok (Fresh kind)) × (ticket ≡ claimed x (reply (front_world l.log) x)) × (new ≡ with_accepted l x)
+HandedTo l x (outcome.Repeated ticket) new = (kept : Answered) × (said l x ≡ Ok (Repeat kept)) × (ticket ≡ claimed x kept) × (new ≡ l)
+HandedTo l x (outcome.Refused refusal) new = (said l x ≡ Err refusal) × (new ≡ l)
+
+-- a ledger that was made of the disk of another one after a crash: over a world that the crash may leave
+abbrev pub ReopenedTo : LedgerState MemDisk → LedgerState MemDisk → Type 0
+ReopenedTo l new = (n : ℕ) × IsOneOf n (kept_by l.log.settled None l.doubt) × ((disk : MemDisk) × (new ≡ ledger_over (world_after l.log n) disk))
+
+-- ---- texts
+
+-- a text goes on with one of these
+abbrev pub Tells : List ℕ → List ℕ → (List ℕ → Type 0) → Type 0
+Tells old new P = (told : List ℕ) × ((new ≡ old ++ told) × P told)
+
+-- the release that was looked at and those behind it
+abbrev pub left : Option Release → List Release → List Release
+left None rs = []
+left (Some r) rs = r ∷ rs
+
+-- the lines of the first releases, as long as they are of this step
+abbrev pub released_lines : ℕ → List Release → List ℕ
+released_lines n [] = []
+released_lines n (r ∷ rs) = if r.step == n then output_line r.output ++ released_lines n rs else []
+
+-- and the releases behind them
+abbrev pub behind : ℕ → List Release → List Release
+behind n [] = []
+behind n (r ∷ rs) = if r.step == n then behind n rs else r ∷ rs
+
+-- the lines of the first claims, as long as their steps are among the first so many: of each its reply, and its releases
+abbrev pub collected_lines : ℕ → List Claim → List Release → List ℕ
+collected_lines count [] rs = []
+collected_lines count (c ∷ cs) rs = if nat_le c.step count then reply_line (reply_of c) ++ (released_lines c.step rs ++ collected_lines count cs (behind c.step rs)) else []
+
+-- and the claims behind them
+abbrev pub waiting : ℕ → List Claim → List Claim
+waiting count [] = []
+waiting count (c ∷ cs) = if nat_le c.step count then waiting count cs else c ∷ cs

@@ -1,0 +1,119 @@
+//! What requests ask for.
+
+ghost use Rattle.std.specs.Prelude.{◌≡◌};
+ghost use Rattle.coord_world.specs.protocol.Outputs.{receipt};
+ghost use Rattle.coord_drill.specs.Asked.{front, operator, next_number, asked};
+
+use crate::request::Request;
+use coord_types::{Client, DataPacket, NodeId, ReceiptPacket, Refusal, Step};
+use coord_world::World;
+
+/// What a request asks of a drill.
+#[derive(Clone, Copy, Debug, PartialEq, Eq)]
+pub enum Asked {
+    /// To take a step.
+    Submit(Step),
+    /// Nothing: it names a lane that is not there.
+    Refuse(Refusal),
+    /// Nothing: no message waits on its lane.
+    Nothing,
+    /// To give out again what may have been lost.
+    Resend,
+    /// To check the front world.
+    Check,
+    /// To show the settled world.
+    Show,
+    /// To hold accepted steps back.
+    Hold,
+    /// To settle pending steps in one flight.
+    Flush,
+    /// To crash the disk and open it again.
+    Crash,
+}
+
+/// What a request asks for where this is the front world.
+pub fn wanted_by(front: &World, request: &Request) -> Asked
+    ensures { result ≡ asked front.now request.now }
+{
+    match *request {
+        Request::Next(command) => {
+            let operator = operator();
+            let number = next_number(front, operator);
+            Asked::Submit(Step::Order(operator, number, command))
+        }
+        Request::Order(client, number, command) => {
+            Asked::Submit(Step::Order(client, number, command))
+        }
+        Request::Take(from, to) => match front_packet(front, from, to) {
+            Ok(Some(packet)) => Asked::Submit(Step::Take(packet)),
+            Ok(None) => Asked::Nothing,
+            Err(refusal) => Asked::Refuse(refusal),
+        },
+        Request::Clear(from, to) => match front_packet(front, from, to) {
+            Ok(Some(packet)) => Asked::Submit(Step::Clear(receipt_of(packet))),
+            Ok(None) => Asked::Nothing,
+            Err(refusal) => Asked::Refuse(refusal),
+        },
+        Request::Data(packet) => Asked::Submit(Step::Take(packet)),
+        Request::Receipt(packet) => Asked::Submit(Step::Clear(packet)),
+        Request::Resend => Asked::Resend,
+        Request::Check => Asked::Check,
+        Request::Show => Asked::Show,
+        Request::Hold => Asked::Hold,
+        Request::Flush => Asked::Flush,
+        Request::Crash => Asked::Crash,
+    }
+}
+
+/// The number after a client's last one.
+#[tactic(auto, unfolding(crate::specs::Asked::next_number))]
+fn next_number(world: &World, client: Client) -> u64
+    ensures { result ≡ next_number world.now client }
+{
+    // No client's last number is above the count.
+    world.ranges();
+    match world.last(client) {
+        Some(session) => session.number + 1,
+        None => 1,
+    }
+}
+
+/// The packet at the front of a lane; None where nothing waits there.
+#[tactic(auto, unfolding(crate::specs::Asked::front))]
+fn front_packet(world: &World, from: NodeId, to: NodeId) -> Result<Option<DataPacket>, Refusal>
+    ensures { result ≡ front world.now from to }
+{
+    // No lane's numbers are above the count.
+    world.ranges();
+    let Some(lane) = world.lane(from, to) else {
+        return Err(Refusal::NoLink);
+    };
+    let Some((number, msg)) = lane.current() else {
+        return Ok(None);
+    };
+    Ok(Some(DataPacket {
+        from,
+        to,
+        inc: lane.inc(),
+        number,
+        msg,
+    }))
+}
+
+/// The client whose orders the short lines are.
+fn operator() -> Client
+    ensures { result ≡ operator }
+{
+    Client::new(1).unwrap()
+}
+
+fn receipt_of(packet: DataPacket) -> ReceiptPacket
+    ensures { result ≡ receipt packet }
+{
+    ReceiptPacket {
+        from: packet.from,
+        to: packet.to,
+        inc: packet.inc,
+        number: packet.number,
+    }
+}

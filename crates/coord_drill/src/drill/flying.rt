@@ -1,0 +1,191 @@
+//! Flights: pending steps are settled, and what they gave out is printed.
+
+ghost use Rattle.std.specs.Prelude.{◌≡◌, ◌≤◌, ◌∷◌, ◌++◌, List, [], OnOk, IfOk, IfSome, IfNone, length, string_bytes, IfErr};
+ghost use Rattle.std.specs.List.{AllByRecursion};
+ghost use Rattle.coord_ledger.specs.declared.release.Release.{Release as Row};
+ghost use Rattle.coord_ledger.specs.ledger.Calls.{releases_in, taken_back};
+ghost use Rattle.coord_ledger.specs.ledger.Follows.{IsOut};
+ghost use Rattle.coord_ledger.specs.ledger.State.{IsGranted, reply_of};
+ghost use Rattle.coord_ledger.specs.machine.Log.{settled_world};
+ghost use Rattle.coord_drill.specs.Answered.{Does, Flies};
+ghost use Rattle.coord_drill.specs.Drilled.{IsOfWork};
+ghost use Rattle.coord_drill.specs.Holding.{FlownTo, IsReady, Tells, behind, collected_lines, left, released_lines, state_of, waiting};
+ghost use Rattle.coord_drill.specs.declared.asked.Asked.TheVariants.{Flush};
+
+use super::Drill;
+use crate::fault::Fault;
+use crate::print::{print_commit_fault, print_count, print_output, print_reply};
+use coord_disk::MemDisk;
+use coord_ledger::{Flight, Ledger, Release, Releases, Ticket};
+use coord_store::CommitFault;
+use coord_types::Reply;
+use std::alloc::AllocError;
+use std::collections::VecDeque;
+
+/// What became of a flight.
+enum Flown {
+    /// None went out.
+    Nothing,
+    /// Its steps are settled.
+    Settled(Releases),
+    /// It was not committed.
+    Failed(CommitFault),
+}
+
+impl Drill {
+    /// Settles pending steps in one flight, and prints how many steps are settled then.
+    pub(super) fn flush(&mut self, text: &mut String) -> Result<(), Fault>
+        requires ready { IsReady self.old }
+        ensures ready { OnOk result (IsReady self.new) }
+        ensures told { OnOk result (Tells (string_bytes text.old) (string_bytes text.new) (λ told. Does (state_of self.old) Flush told (state_of self.new))) }
+        ensures fault { IfErr result IsOfWork }
+    {
+        self.fly(text)?;
+        let Some(ledger) = &self.ledger else {
+            unreachable!()
+        };
+        print_count(text, ledger.settled().count())?;
+        Ok(())
+    }
+
+    /// Sends the next pending steps out in one flight, if any may go, and takes it back. Prints what
+    /// it settled, or why it was not committed.
+    pub(super) fn fly(&mut self, text: &mut String) -> Result<(), Fault>
+        requires ready { IsReady self.old }
+        ensures ready { OnOk result (IsReady self.new) }
+        ensures told { OnOk result (Tells (string_bytes text.old) (string_bytes text.new) (λ told. Flies (state_of self.old) told (state_of self.new))) }
+        ensures fault { IfErr result IsOfWork }
+    {
+        let Some(ledger) = &mut self.ledger else {
+            unreachable!()
+        };
+        match send_out(ledger)? {
+            Flown::Nothing => Ok(()),
+            Flown::Settled(releases) => {
+                Ok(print_settled(ledger, &mut self.tickets, releases, text)?)
+            }
+            Flown::Failed(fault) => Ok(print_commit_fault(text, fault)?),
+        }
+    }
+}
+
+/// Sends the next steps out, commits them, and takes the flight back.
+fn send_out(ledger: &mut Ledger<MemDisk>) -> Result<Flown, Fault>
+    ensures flown { IfOk result (λ flown. FlownTo ledger.old flown ledger.new) }
+    ensures fault { IfErr result IsOfWork }
+{
+    let Some(mut flight) = ledger.begin_flush()? else {
+        return Ok(Flown::Nothing);
+    };
+    match flight.commit() {
+        Ok(()) => Ok(Flown::Settled(take_back(ledger, flight)?)),
+        Err(fault) => {
+            take_back(ledger, flight)?.lose_rest();
+            Ok(Flown::Failed(fault))
+        }
+    }
+}
+
+/// Takes a ledger's own flight back. Where there is no memory for what it releases, the flight is
+/// lost.
+fn take_back(ledger: &mut Ledger<MemDisk>, flight: Flight<MemDisk>) -> Result<Releases, Fault>
+    requires own { IsOut ledger.old flight }
+    ensures taken { OnOk result (ledger.new ≡ taken_back ledger.old (length flight.steps) flight.mark flight.disk) }
+    ensures released { IfOk result (λ releases. releases ≡ releases_in flight flight.mark) }
+    ensures fault { IfErr result IsOfWork }
+{
+    match ledger.end_flush(flight) {
+        Ok(releases) => Ok(releases),
+        Err((_, flight)) => {
+            let _ = flight.into_disk();
+            Err(Fault::OutOfMemory)
+        }
+    }
+}
+
+/// Collects the replies of the steps that are settled, and prints each before what its step
+/// released.
+#[tactic(auto, using(crate::proofs::Settling::looked_at))]
+fn print_settled(
+    ledger: &Ledger<MemDisk>,
+    tickets: &mut VecDeque<Ticket>,
+    mut releases: Releases,
+    text: &mut String,
+) -> Result<(), AllocError>
+    requires granted { AllByRecursion (IsGranted ledger.now.log) tickets.old.items }
+    ensures printed { OnOk result (string_bytes text.new ≡ string_bytes text.old ++ collected_lines (settled_world ledger.now.log).count tickets.old.items releases) }
+    ensures waiting { OnOk result (tickets.new.items ≡ waiting (settled_world ledger.now.log).count tickets.old.items) }
+{
+    let printed = print_collected(ledger, tickets, &mut releases, text);
+    releases.lose_rest();
+    printed
+}
+
+#[tactic(auto, using(crate::proofs::Settling::looked_at))]
+fn print_collected(
+    ledger: &Ledger<MemDisk>,
+    tickets: &mut VecDeque<Ticket>,
+    releases: &mut Releases,
+    text: &mut String,
+) -> Result<(), AllocError>
+    requires granted { AllByRecursion (IsGranted ledger.now.log) tickets.old.items }
+    ensures printed { OnOk result (string_bytes text.new ≡ string_bytes text.old ++ collected_lines (settled_world ledger.now.log).count tickets.old.items releases.old) }
+    ensures waiting { OnOk result (tickets.new.items ≡ waiting (settled_world ledger.now.log).count tickets.old.items) }
+{
+    let settled = ledger.settled().count();
+    let mut ahead = releases.next();
+    while let Some(ticket) = next_settled(tickets, settled) {
+        let reply = collected(ledger, ticket);
+        print_reply(text, reply)?;
+        print_released(text, reply.step, &mut ahead, releases)?;
+    }
+    Ok(())
+}
+
+/// Takes the next ticket out, if its step is among the first so many.
+fn next_settled(tickets: &mut VecDeque<Ticket>, settled: u64) -> Option<Ticket>
+    ensures some { IfSome result (λ ticket. (tickets.old.items ≡ ticket ∷ tickets.new.items) × (ticket.step ≤ settled)) }
+    ensures none { IfNone result ((waiting settled tickets.old.items ≡ tickets.old.items) × (tickets.new.items ≡ tickets.old.items)) }
+    ensures nothing { IfNone result ((releases : List Row) → collected_lines settled tickets.old.items releases ≡ []) }
+{
+    match tickets.front() {
+        Some(ticket) if ticket.step() <= settled => tickets.pop_front(),
+        _ => None,
+    }
+}
+
+/// The reply to a step that is settled.
+#[tactic(auto, using(crate::proofs::Settling::collectable))]
+fn collected(ledger: &Ledger<MemDisk>, ticket: Ticket) -> Reply
+    requires granted { IsGranted ledger.now.log ticket }
+    requires settled { ticket.step ≤ (settled_world ledger.now.log).count }
+    ensures { result ≡ reply_of ticket }
+{
+    match ledger.collect(ticket) {
+        Ok(reply) => reply,
+        Err(ticket) => {
+            ticket.forget();
+            unreachable!()
+        }
+    }
+}
+
+/// Prints the next releases, as long as they are of one step.
+pub(super) fn print_released(
+    text: &mut String,
+    step: u64,
+    ahead: &mut Option<Release>,
+    releases: &mut Releases,
+) -> Result<(), AllocError>
+    ensures printed { OnOk result (string_bytes text.new ≡ string_bytes text.old ++ released_lines step (left ahead.old releases.old)) }
+    ensures rest { OnOk result (left ahead.new releases.new ≡ behind step (left ahead.old releases.old)) }
+{
+    while let Some(release) = *ahead {
+        if release.step != step {
+            return Ok(());
+        }
+        print_output(text, &release.output)?;
+        *ahead = releases.next();
+    }
+    Ok(())
+}

@@ -1,0 +1,86 @@
+//! Steps are handed in.
+
+ghost use Rattle.std.specs.Prelude.{◌≡◌, ◌++◌, IfOk, OnOk, string_bytes, IfErr};
+ghost use Rattle.coord_ledger.specs.ledger.State.{IsGranted, reply_of};
+ghost use Rattle.coord_ledger.specs.machine.Log.{settled_count};
+ghost use Rattle.coord_drill.specs.Answered.{Does, kept_line};
+ghost use Rattle.coord_drill.specs.Drilled.{IsOfWork};
+ghost use Rattle.coord_drill.specs.Holding.{HandedTo, IsReady, Tells, state_of};
+ghost use Rattle.coord_drill.specs.declared.asked.Asked.TheVariants.{Submit};
+
+use super::Drill;
+use crate::fault::Fault;
+use crate::print::{print_pending, print_refusal, print_reply};
+use coord_disk::MemDisk;
+use coord_ledger::{Ledger, Ticket};
+use coord_types::{Refusal, Step};
+use std::alloc::AllocError;
+
+/// What became of a step that was handed in.
+enum Outcome {
+    Accepted(Ticket),
+    /// It is a client's last order, which came again.
+    Repeated(Ticket),
+    Refused(Refusal),
+}
+
+impl Drill {
+    /// Hands a step in. An accepted one is settled at once, unless steps are held.
+    pub(super) fn submit(&mut self, step: Step, text: &mut String) -> Result<(), Fault>
+        requires ready { IsReady self.old }
+        ensures ready { OnOk result (IsReady self.new) }
+        ensures told { OnOk result (Tells (string_bytes text.old) (string_bytes text.new) (λ told. Does (state_of self.old) (Submit step) told (state_of self.new))) }
+        ensures fault { IfErr result IsOfWork }
+    {
+        let Some(ledger) = &mut self.ledger else {
+            unreachable!()
+        };
+        self.tickets.reserve(1)?;
+        match handed_in(ledger, step)? {
+            Outcome::Accepted(ticket) => {
+                let number = ticket.step();
+                self.tickets.push_back_reserved(ticket);
+                if self.holds {
+                    return Ok(print_pending(text, number)?);
+                }
+                self.fly(text)
+            }
+            Outcome::Repeated(ticket) => Ok(print_kept(ledger, ticket, text)?),
+            Outcome::Refused(refusal) => Ok(print_refusal(text, refusal)?),
+        }
+    }
+}
+
+/// Hands a step to a ledger. A repeat is no new step.
+fn handed_in(ledger: &mut Ledger<MemDisk>, step: Step) -> Result<Outcome, Fault>
+    ensures handed { IfOk result (λ outcome. HandedTo ledger.old step outcome ledger.new) }
+    ensures fault { IfErr result IsOfWork }
+{
+    let accepted = ledger.front().count();
+    match ledger.submit(step) {
+        Ok(ticket) => {
+            if ledger.front().count() > accepted {
+                Ok(Outcome::Accepted(ticket))
+            } else {
+                Ok(Outcome::Repeated(ticket))
+            }
+        }
+        Err(Refusal::OutOfMemory) => Err(Fault::OutOfMemory),
+        Err(refusal) => Ok(Outcome::Refused(refusal)),
+    }
+}
+
+/// Prints the reply that is kept for a repeat, once its step is settled.
+fn print_kept(ledger: &Ledger<MemDisk>, ticket: Ticket, text: &mut String) -> Result<(), AllocError>
+    requires { IsGranted ledger.now.log ticket }
+    ensures { OnOk result (string_bytes text.new ≡ string_bytes text.old ++ kept_line (settled_count ledger.now.log) (reply_of ticket)) }
+{
+    match ledger.collect(ticket) {
+        Ok(reply) => print_reply(text, reply),
+        Err(ticket) => {
+            let step = ticket.step();
+            ticket.forget();
+            print_pending(text, step)
+        }
+    }
+}

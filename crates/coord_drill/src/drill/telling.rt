@@ -1,0 +1,97 @@
+//! What changes nothing: refusals, what is sent again, the check, and what is shown.
+
+ghost use Rattle.std.specs.Prelude.{◌≡◌, ◌++◌, OnOk, string_bytes, IfErr};
+ghost use Rattle.coord_drill.specs.Answered.{Does, shown_lines};
+ghost use Rattle.coord_drill.specs.Drilled.{IsOfWork};
+ghost use Rattle.coord_drill.specs.Holding.{IsReady, Tells, state_of};
+ghost use Rattle.coord_drill.specs.declared.asked.Asked.TheVariants as ask;
+
+use super::Drill;
+use super::flying::print_released;
+use crate::fault::Fault;
+use crate::print::{print_fault, print_idle, print_refusal, print_view};
+use coord_check::check;
+use coord_disk::MemDisk;
+use coord_ledger::{Ledger, Seen};
+use coord_types::Refusal;
+
+impl Drill {
+    /// Prints that a lane is not there.
+    #[tactic(auto, using(crate::proofs::Quiet::tells_refusal))]
+    pub(super) fn refuse(&self, refusal: Refusal, text: &mut String) -> Result<(), Fault>
+        ensures told { OnOk result (Tells (string_bytes text.old) (string_bytes text.new) (λ told. Does (state_of self.now) (ask.Refuse refusal) told (state_of self.now))) }
+        ensures fault { IfErr result IsOfWork }
+    {
+        print_refusal(text, refusal)?;
+        Ok(())
+    }
+
+    /// Prints that nothing waits on a lane.
+    #[tactic(auto, using(crate::proofs::Quiet::tells_idle))]
+    pub(super) fn idle(&self, text: &mut String) -> Result<(), Fault>
+        ensures told { OnOk result (Tells (string_bytes text.old) (string_bytes text.new) (λ told. Does (state_of self.now) ask.Nothing told (state_of self.now))) }
+        ensures fault { IfErr result IsOfWork }
+    {
+        print_idle(text)?;
+        Ok(())
+    }
+
+    /// Prints what is sent again of the settled world.
+    #[tactic(auto, using(crate::proofs::Quiet::tells_resent, crate::proofs::Settling::resent_lines, crate::proofs::Settling::looked_at))]
+    pub(super) fn resend(&self, text: &mut String) -> Result<(), Fault>
+        requires ready { IsReady self.now }
+        ensures told { OnOk result (Tells (string_bytes text.old) (string_bytes text.new) (λ told. Does (state_of self.now) ask.Resend told (state_of self.now))) }
+        ensures fault { IfErr result IsOfWork }
+    {
+        let Some(ledger) = &self.ledger else {
+            unreachable!()
+        };
+        let mut releases = ledger.resend()?;
+        let mut ahead = releases.next();
+        // All of it is as of step 0.
+        let printed = print_released(text, 0, &mut ahead, &mut releases);
+        releases.lose_rest();
+        printed?;
+        Ok(())
+    }
+
+    /// Checks the front world.
+    #[tactic(auto, using(crate::proofs::Quiet::tells_check))]
+    pub(super) fn check(&self, text: &mut String) -> Result<(), Fault>
+        requires ready { IsReady self.now }
+        ensures told { OnOk result (Tells (string_bytes text.old) (string_bytes text.new) (λ told. Does (state_of self.now) ask.Check told (state_of self.now))) }
+        ensures fault { IfErr result IsOfWork }
+    {
+        let Some(ledger) = &self.ledger else {
+            unreachable!()
+        };
+        print_fault(text, check(ledger.front()))?;
+        Ok(())
+    }
+
+    /// Shows the settled world.
+    #[tactic(auto, using(crate::proofs::Quiet::tells_show))]
+    pub(super) fn show(&self, text: &mut String) -> Result<(), Fault>
+        requires ready { IsReady self.now }
+        ensures told { OnOk result (Tells (string_bytes text.old) (string_bytes text.new) (λ told. Does (state_of self.now) ask.Show told (state_of self.now))) }
+        ensures fault { IfErr result IsOfWork }
+    {
+        let Some(ledger) = &self.ledger else {
+            unreachable!()
+        };
+        print_shown(ledger, text)
+    }
+}
+
+/// Prints what a ledger shows.
+fn print_shown(ledger: &Ledger<MemDisk>, text: &mut String) -> Result<(), Fault>
+    ensures printed { OnOk result (string_bytes text.new ≡ string_bytes text.old ++ shown_lines ledger.now.log ledger.now.doubt) }
+    ensures fault { IfErr result IsOfWork }
+{
+    match ledger.show(&mut Seen::new()) {
+        Ok(view) => print_view(text, &view)?,
+        Err(Refusal::OutOfMemory) => return Err(Fault::OutOfMemory),
+        Err(refusal) => print_refusal(text, refusal)?,
+    }
+    Ok(())
+}
