@@ -8,12 +8,12 @@ use std::alloc::Global;
 
 /// Shows two linked nodes, refuses to resend, and finds no memory for an order.
 #[derive(Drop)]
-pub struct OneLink {
+pub(crate) struct OneLink {
     alloc: Global,
 }
 
 impl OneLink {
-    pub fn new(alloc: Global) -> Self {
+    pub(crate) fn new(alloc: Global) -> Self {
         OneLink { alloc }
     }
 }

@@ -8,7 +8,7 @@ use std::test::Fail;
 
 /// Whether these lines get these replies from a desk, and the call ends so. Where memory runs out
 /// there is no answer.
-pub fn serves<R: Read, D: Desk>(
+pub(crate) fn serves<R: Read, D: Desk>(
     alloc: Global,
     desk: &mut D,
     reader: &mut R,
@@ -26,7 +26,7 @@ pub fn serves<R: Read, D: Desk>(
 const RESET: &str = "{\"op\":\"reset\",\"client\":1,\"number\":1,\"node\":1}";
 
 /// The same line with 512 bytes, with 513, and what else a line may be; the last has no line feed.
-pub fn worked_lines(alloc: Global) -> Result<Vec<u8>, AllocError> {
+pub(crate) fn worked_lines(alloc: Global) -> Result<Vec<u8>, AllocError> {
     let mut lines = Vec::new(alloc);
     for len in [512, 513] {
         lines.extend_from_slice(RESET.as_bytes())?;
@@ -43,7 +43,7 @@ pub fn worked_lines(alloc: Global) -> Result<Vec<u8>, AllocError> {
     Ok(lines)
 }
 
-pub const WORKED_REPLIES: &str = "{\"kind\":\"done\",\"step\":1}
+pub(crate) const WORKED_REPLIES: &str = "{\"kind\":\"done\",\"step\":1}
 {\"fault\":\"TooLong\"}
 {\"fault\":\"BadText\"}
 {\"fault\":\"BadJson\"}

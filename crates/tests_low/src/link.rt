@@ -19,8 +19,7 @@ fn sent_unless_full(lane: &mut Lane, msg: Msg) -> bool {
 
 // The lane from the initiator of a reset to its only neighbour, with packets and receipts that
 // come again and too early.
-#[test]
-fn reset_lane(rt: HostRuntime) {
+fn is_reset_lane() -> bool {
     let mut lane = Lane::new(3);
     let has_none = lane.current().is_none()
         && lane.judge_take(1, Msg::Abort) == Err(Refusal::Early);
@@ -42,38 +41,37 @@ fn reset_lane(rt: HostRuntime) {
         && lane.current() == Some((2, Msg::Ready))
         && is_lane(&lane, (3, 1, 1), &[Msg::Ready])
         && is_lane(&before, (3, 0, 1), &[Msg::Abort, Msg::Ready]);
-    assert!(rt; has_none && waits && is_taken && waits_for_receipt && is_cleared);
+    has_none && waits && is_taken && waits_for_receipt && is_cleared
 }
 
-// A lane whose front was taken and not cleared.
-#[test]
-fn restored(rt: HostRuntime) {
+// A lane whose front was taken and not cleared; and two whose front is on the way, since not just
+// it was taken.
+fn are_restored() -> bool {
     let lane = Lane::restore(3, 6, 7, &[Msg::Ack, Msg::Ready]);
     let goes_on = lane.current() == Some((7, Msg::Ack))
         && lane.is_front_taken()
         && lane.transit() == [Msg::Ready].as_slice();
-    assert!(rt; goes_on && is_lane(&lane, (3, 6, 7), &[Msg::Ack, Msg::Ready]));
-}
-
-// The front is on the way unless just it was taken.
-#[test]
-fn numbers_apart(rt: HostRuntime) {
-    let behind = Lane::restore(3, 7, 6, &[Msg::Ack]);
-    let ahead = Lane::restore(3, 6, 8, &[Msg::Ack]);
     let on_the_way = [Msg::Ack];
-    assert!(rt;
-        behind.transit() == on_the_way.as_slice() && ahead.transit() == on_the_way.as_slice()
-    );
+    let behind = Lane::restore(3, 7, 6, &on_the_way);
+    let ahead = Lane::restore(3, 6, 8, &on_the_way);
+    goes_on
+        && is_lane(&lane, (3, 6, 7), &[Msg::Ack, Msg::Ready])
+        && behind.transit() == on_the_way.as_slice()
+        && ahead.transit() == on_the_way.as_slice()
 }
 
-#[test]
-fn holds_four(rt: HostRuntime) {
+fn holds_four() -> bool {
     let four = [Msg::Abort, Msg::Ack, Msg::Ready, Msg::Abort];
     let mut lane = Lane::new(1);
     let mut all_sent = true;
     for msg in four {
         all_sent = sent_unless_full(&mut lane, msg) && all_sent;
     }
-    assert!(rt; all_sent && lane.is_full() && !sent_unless_full(&mut lane, Msg::Ack));
-    assert!(rt; lane.queue() == four.as_slice());
+    let holds = all_sent && lane.is_full() && lane.queue() == four.as_slice();
+    holds && !sent_unless_full(&mut lane, Msg::Ack) && lane.queue() == four.as_slice()
+}
+
+#[test]
+fn runs_of_a_lane(rt: HostRuntime) {
+    assert!(rt; is_reset_lane() && are_restored() && holds_four());
 }

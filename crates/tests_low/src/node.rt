@@ -1,88 +1,88 @@
 //! Tests of coord_node: runs of one node, at the values that the reset rules give.
 
-use coord_node::{Deed, Node, NodeFields, NodeSet};
+use coord_node::{Node, NodeFields, NodeSet};
 use coord_types::{Group, Mode, Msg, NodeId};
-use std::alloc::Global;
+use std::alloc::{AllocError, Global};
 use std::test::Fail;
 
 /// The nodes 1, 2 and 3.
-fn ids() -> Result<[NodeId; 3], Fail> {
-    let one = NodeId::new(1).ok_or("1 is in range")?;
-    let two = NodeId::new(2).ok_or("2 is in range")?;
-    let three = NodeId::new(3).ok_or("3 is in range")?;
-    Ok([one, two, three])
+fn ids() -> (NodeId, NodeId, NodeId) {
+    (
+        NodeId::new(1).unwrap(),
+        NodeId::new(2).unwrap(),
+        NodeId::new(3).unwrap(),
+    )
 }
 
 /// A node of group 1, as it is added, with these two neighbours.
-fn between(alloc: Global, near: NodeId, far: NodeId) -> Result<Node, Fail> {
-    let mut node = Node::new(Group::new(1).ok_or("1 is in range")?);
+fn between(alloc: Global, near: NodeId, far: NodeId) -> Node {
+    let mut node = Node::new(Group::new(1).unwrap());
     node.gained(alloc, near);
     node.gained(alloc, far);
-    Ok(node)
+    node
 }
 
-/// A reset is asked for.
-fn asked(alloc: Global, node: &mut Node) -> Result<Deed, Fail> {
-    if node.epoch() > 1000 {
-        return Err("the node was in few resets".into());
-    }
-    Ok(node.request(alloc)?)
+/// What happens at a node.
+#[derive(Clone, Copy)]
+enum Event {
+    /// A reset is asked for, whoever the neighbour is.
+    Asked,
+    /// A message comes from a neighbour.
+    Heard(Msg),
+    /// The link to a neighbour is dropped.
+    Lost,
 }
 
-/// A message comes from a neighbour.
-fn heard(alloc: Global, node: &mut Node, msg: Msg, from: NodeId) -> Result<Deed, Fail> {
-    if node.epoch() > 1000 {
-        return Err("the node was in few resets".into());
+use Event::{Asked, Heard, Lost};
+
+/// Whether this is sent when it happens with a neighbour, the node has this mode, parent and epoch
+/// then, and it finished only where its epoch is a new one.
+fn goes(
+    alloc: Global,
+    node: &mut Node,
+    event: Event,
+    other: NodeId,
+    sends: &[(NodeId, Msg)],
+    after: (Mode, Option<NodeId>, u64),
+) -> Result<bool, AllocError> {
+    let before = node.epoch();
+    if before > 1000 {
+        return Ok(false);
     }
-    let deed = match msg {
-        Msg::Abort => node.on_abort(alloc, from)?,
-        Msg::Ack => node.on_ack(alloc, from)?,
-        Msg::Ready => node.on_ready(alloc, from)?,
+    let deed = match event {
+        Asked => node.request(alloc)?,
+        Heard(Msg::Abort) => node.on_abort(alloc, other)?,
+        Heard(Msg::Ack) => node.on_ack(alloc, other)?,
+        Heard(Msg::Ready) => node.on_ready(alloc, other)?,
+        Lost => node.lost(alloc, other)?,
     };
-    Ok(deed)
+    let (mode, parent, epoch) = after;
+    let is_after = node.mode() == mode && node.parent() == parent && node.epoch() == epoch;
+    let is_finished = deed.finished == (node.epoch() > before);
+    Ok(is_after && is_finished && deed.sends.as_slice() == sends)
 }
 
-/// The link to a neighbour is dropped.
-fn lost(alloc: Global, node: &mut Node, other: NodeId) -> Result<Deed, Fail> {
-    if node.epoch() > 1000 {
-        return Err("the node was in few resets".into());
-    }
-    Ok(node.lost(alloc, other)?)
-}
-
-/// Whether this is what was to be sent, and the node did not finish.
-fn sends(deed: Deed, sends: &[(NodeId, Msg)]) -> bool {
-    deed.sends.as_slice() == sends && !deed.finished
-}
-
-/// Whether this is what was to be sent, and the node finished its first reset.
-fn finishes(node: &Node, deed: Deed, sends: &[(NodeId, Msg)]) -> bool {
-    let is_ready = node.mode() == Mode::Ready && node.parent().is_none() && node.epoch() == 1;
-    deed.sends.as_slice() == sends && deed.finished && is_ready
-}
-
-#[test]
-fn a_new_node_is_ready(rt: HostRuntime) -> Result<(), Fail> {
-    let [_, two, three] = ids()?;
-    let mut node = between(rt.alloc(), three, two)?;
+/// Whether a new node is Ready.
+fn is_new(alloc: Global) -> bool {
+    let (_, two, three) = ids();
+    let mut node = between(alloc, three, two);
     node.confirm(7);
-    let expected = Node::restore(NodeFields {
-        group: Group::new(1).ok_or("1 is in range")?,
+    let expected = NodeFields {
+        group: Group::new(1).unwrap(),
         mode: Mode::Ready,
         parent: None,
         pend: NodeSet::new(),
         neighbours: NodeSet::new().with(two).with(three),
         epoch: 0,
         confirmed: 7,
-    });
-    assert!(rt; node == expected);
-    Ok(())
+    };
+    node == Node::restore(expected)
 }
 
-#[test]
-fn a_restored_node_goes_on(rt: HostRuntime) -> Result<(), Fail> {
-    let [_, two, three] = ids()?;
-    let group = Group::new(4).ok_or("4 is in range")?;
+/// Whether a restored node has its fields, and goes on.
+fn is_restored(alloc: Global) -> Result<bool, AllocError> {
+    let (_, two, three) = ids();
+    let group = Group::new(4).unwrap();
     let awaited = NodeSet::new().with(three);
     let mut node = Node::restore(NodeFields {
         group,
@@ -99,58 +99,68 @@ fn a_restored_node_goes_on(rt: HostRuntime) -> Result<(), Fail> {
         && node.pend() == awaited
         && node.neighbours() == awaited.with(two)
         && (node.epoch(), node.confirmed()) == (7, 5);
-    let deed = heard(rt.alloc(), &mut node, Msg::Ack, three)?;
-    assert!(rt; is_restored && sends(deed, &[(two, Msg::Ack)]));
-    Ok(())
+    let after = (Mode::Converge, Some(two), 7);
+    Ok(
+        is_restored
+            && goes(
+                alloc,
+                &mut node,
+                Heard(Msg::Ack),
+                three,
+                &[(two, Msg::Ack)],
+                after,
+            )?,
+    )
 }
 
 #[test]
-fn an_initiator_awaits_all(rt: HostRuntime) -> Result<(), Fail> {
-    let alloc = rt.alloc();
-    let [_, two, three] = ids()?;
-    let mut node = between(alloc, two, three)?;
+fn nodes_are_new_or_restored(rt: HostRuntime) -> Result<(), Fail> {
+    assert!(rt; is_new(rt.alloc()) && is_restored(rt.alloc())?);
+    Ok(())
+}
+
+/// Whether an initiator awaits all.
+fn initiates(alloc: Global) -> Result<bool, AllocError> {
+    let (_, two, three) = ids();
+    let mut node = between(alloc, two, three);
     let aborts = [(two, Msg::Abort), (three, Msg::Abort)];
-    let begins = sends(asked(alloc, &mut node)?, &aborts) && node.epoch() == 0;
-    let waits = sends(heard(alloc, &mut node, Msg::Ack, three)?, &[]) && node.epoch() == 0;
-    let last = heard(alloc, &mut node, Msg::Ack, two)?;
-    let ends = finishes(&node, last, &[(two, Msg::Ready), (three, Msg::Ready)]);
-    assert!(rt; begins && waits && ends);
-    Ok(())
+    let readies = [(two, Msg::Ready), (three, Msg::Ready)];
+    let waits = (Mode::Abort, None, 0);
+    let ends = (Mode::Ready, None, 1);
+    Ok(
+        goes(alloc, &mut node, Asked, two, &aborts, waits)?
+            && goes(alloc, &mut node, Heard(Msg::Ack), three, &[], waits)?
+            && goes(alloc, &mut node, Heard(Msg::Ack), two, &readies, ends)?,
+    )
+}
+
+/// Whether a child waits for its own neighbour and then for its parent. Where both links are
+/// dropped, that counts as the neighbour's Ack and as the parent's Ready.
+fn follows(alloc: Global, are_lost: bool) -> Result<bool, AllocError> {
+    let (one, _, three) = ids();
+    let mut node = between(alloc, one, three);
+    let (answer, end) = if are_lost {
+        (Lost, Lost)
+    } else {
+        (Heard(Msg::Ack), Heard(Msg::Ready))
+    };
+    let aborts = [(three, Msg::Abort)];
+    let acks = [(one, Msg::Ack)];
+    let ready = [(three, Msg::Ready)];
+    let readies = if are_lost { &ready[..0] } else { &ready[..] };
+    let waits = (Mode::Abort, Some(one), 0);
+    let converges = (Mode::Converge, Some(one), 0);
+    let ends = (Mode::Ready, None, 1);
+    Ok(
+        goes(alloc, &mut node, Heard(Msg::Abort), one, &aborts, waits)?
+            && goes(alloc, &mut node, answer, three, &acks, converges)?
+            && goes(alloc, &mut node, end, one, readies, ends)?,
+    )
 }
 
 #[test]
-fn a_child_waits_for_its_parent(rt: HostRuntime) -> Result<(), Fail> {
+fn resets_of_a_node(rt: HostRuntime) -> Result<(), Fail> {
     let alloc = rt.alloc();
-    let [one, _, three] = ids()?;
-    let mut node = between(alloc, one, three)?;
-    let passes_on = sends(
-        heard(alloc, &mut node, Msg::Abort, one)?,
-        &[(three, Msg::Abort)],
-    ) && node.parent() == Some(one)
-        && node.epoch() == 0;
-    let answers = sends(
-        heard(alloc, &mut node, Msg::Ack, three)?,
-        &[(one, Msg::Ack)],
-    ) && node.mode() == Mode::Converge
-        && node.epoch() == 0;
-    let last = heard(alloc, &mut node, Msg::Ready, one)?;
-    let ends = finishes(&node, last, &[(three, Msg::Ready)]);
-    assert!(rt; passes_on && answers && ends);
-    Ok(())
-}
-
-#[test]
-fn a_lost_child_is_acknowledged(rt: HostRuntime) -> Result<(), Fail> {
-    let alloc = rt.alloc();
-    let [one, _, three] = ids()?;
-    let mut node = between(alloc, one, three)?;
-    let passes_on = sends(
-        heard(alloc, &mut node, Msg::Abort, one)?,
-        &[(three, Msg::Abort)],
-    ) && node.epoch() == 0;
-    let answers = sends(lost(alloc, &mut node, three)?, &[(one, Msg::Ack)]) && node.epoch() == 0;
-    let last = lost(alloc, &mut node, one)?;
-    let ends = finishes(&node, last, &[]);
-    assert!(rt; passes_on && answers && ends);
+    assert!(rt; initiates(alloc)? && follows(alloc, false)? && follows(alloc, true)?);
     Ok(())
 }

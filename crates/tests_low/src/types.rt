@@ -1,6 +1,7 @@
 //! Tests of coord_types: the ends of the ranges, the printed texts, and sets of nodes.
 
 use coord_types::{Client, Group, Kind, Mode, Msg, NodeId, NodeSet, Refusal};
+use std::alloc::{AllocError, Global};
 use std::test::Fail;
 
 /// Whether 1 to 64 are the numbers of nodes, and 1 to 16 those of groups and clients.
@@ -36,50 +37,51 @@ fn is_listed(set: NodeSet, numbers: &[u8]) -> bool {
     rest.is_empty() && rest.first().is_none() && set.len() == numbers.len()
 }
 
+/// Whether a set is in order, and loses what is taken out of it alone.
+fn is_a_set() -> bool {
+    let (one, two) = (NodeId::new(1).unwrap(), NodeId::new(2).unwrap());
+    let pair = set_of(&[3, 1]);
+    let all = pair.with(two);
+    let is_in_order = is_listed(all, &[1, 2, 3]) && all.contains(two) && !pair.contains(two);
+    let is_larger = pair.is_subset(all) && !all.is_subset(pair);
+    let lone = set_of(&[2]);
+    let empty = NodeSet::new();
+    let is_lost = lone.without(two) == empty && lone.without(one) == lone;
+    is_in_order && is_larger && is_lost && lone != empty && is_listed(lone.without(two), &[])
+}
+
+/// Whether a set is its mask.
+fn is_a_mask() -> bool {
+    let mask = 9_223_372_036_854_775_811;
+    set_of(&[64, 1, 2]).bits() == mask && is_listed(NodeSet::from_bits(mask), &[1, 2, 64])
+}
+
 #[test]
-fn numbers_stay_in_range(rt: HostRuntime) {
-    assert!(rt; are_ranges_kept());
+fn numbers_and_sets(rt: HostRuntime) {
+    assert!(rt; are_ranges_kept() && is_a_set() && is_a_mask());
+}
+
+const PRINTED: &str = "converge ack joined, ready ready started, \
+20 PendingFull, 21 Behind, 22 Stranger";
+
+/// Whether each is printed so.
+fn are_printed(alloc: Global) -> Result<bool, AllocError> {
+    let (one, two) = (Mode::Converge, Mode::Ready);
+    let full = Refusal::PendingFull;
+    let behind = Refusal::Behind { settled: 7 };
+    let stranger = Refusal::Stranger;
+    let text = format!(in alloc;
+        "{one} {} {}, {two} {} {}, {full}, {behind}, {stranger}",
+        Msg::Ack,
+        Kind::Joined,
+        Msg::Ready,
+        Kind::Started
+    )?;
+    Ok(text.as_str() == PRINTED)
 }
 
 #[test]
 fn texts_are_printed(rt: HostRuntime) -> Result<(), Fail> {
-    let alloc = rt.alloc();
-    let words = format!(in alloc; "{} {} {}", Mode::Converge, Msg::Ack, Kind::Joined)?;
-    assert!(rt; words.as_str() == "converge ack joined");
-    let words = format!(in alloc; "{} {} {}", Mode::Ready, Msg::Ready, Kind::Started)?;
-    assert!(rt; words.as_str() == "ready ready started");
-    let full = format!(in alloc; "{}", Refusal::PendingFull)?;
-    assert!(rt; full.as_str() == "20 PendingFull");
-    let behind = format!(in alloc; "{}", Refusal::Behind { settled: 7 })?;
-    assert!(rt; behind.as_str() == "21 Behind");
-    let stranger = format!(in alloc; "{}", Refusal::Stranger)?;
-    assert!(rt; stranger.as_str() == "22 Stranger");
+    assert!(rt; are_printed(rt.alloc())?);
     Ok(())
-}
-
-#[test]
-fn a_set_is_in_order(rt: HostRuntime) -> Result<(), Fail> {
-    let two = NodeId::new(2).ok_or("2 is a node")?;
-    let pair = set_of(&[3, 1]);
-    assert!(rt; is_listed(pair.with(two), &[1, 2, 3]));
-    assert!(rt; pair.with(two).contains(two) && !pair.contains(two));
-    assert!(rt; pair.is_subset(pair.with(two)) && !pair.with(two).is_subset(pair));
-    Ok(())
-}
-
-#[test]
-fn a_set_loses_a_node(rt: HostRuntime) -> Result<(), Fail> {
-    let one = NodeId::new(1).ok_or("1 is a node")?;
-    let two = NodeId::new(2).ok_or("2 is a node")?;
-    let set = set_of(&[2]);
-    assert!(rt; set.without(two) == NodeSet::new() && set.without(one) == set);
-    assert!(rt; set != NodeSet::new() && is_listed(set.without(two), &[]));
-    Ok(())
-}
-
-#[test]
-fn a_set_is_its_mask(rt: HostRuntime) {
-    let mask = 9_223_372_036_854_775_811;
-    assert!(rt; set_of(&[64, 1, 2]).bits() == mask);
-    assert!(rt; is_listed(NodeSet::from_bits(mask), &[1, 2, 64]));
 }

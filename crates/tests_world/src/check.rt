@@ -1,38 +1,42 @@
 //! Tests of coord_check: a reset has no fault, and of worlds as bytes each letter is told, and
 //! printed.
 
+ghost use Rattle.std.specs.Prelude.{◌≤◌};
 ghost use Rattle.coord_world.specs.protocol.Legal.{Legal};
 
 use coord_check::{Letter, Violation, check};
 use coord_codec::read_world;
 use coord_types::{Client, Command, DataPacket, Group, Msg, NodeId, Step};
 use coord_world::{Verdict, World};
-use std::alloc::Global;
+use std::alloc::{AllocError, Global};
 use std::test::Fail;
 
-fn id(number: u8) -> Result<NodeId, Fail> {
-    Ok(NodeId::new(number).ok_or("a node's number is from 1 to 64")?)
+fn id(number: u8) -> NodeId
+    requires least { 1 ≤ number }
+    requires greatest { number ≤ 64 }
+{
+    NodeId::new(number).unwrap()
 }
 
 /// Takes a step that the world judges fresh, and says whether the checker finds no fault then.
-fn stays_legal(world: &mut World, step: &Step) -> Result<bool, Fail>
+fn stays_legal(world: &mut World, step: &Step) -> Result<bool, AllocError>
     requires { Legal world.old }
     ensures { Legal world.new }
 {
     let Ok(Verdict::Fresh(_)) = world.judge(world, step) else {
-        return Err("the step is not fresh")?;
+        return Ok(false);
     };
     let _ = world.apply(step)?;
     Ok(check(world).is_none())
 }
 
 /// Two nodes that are linked, one that is reset, and the other one that takes its Abort.
-fn reset_has_no_fault(alloc: Global) -> Result<bool, Fail> {
+fn reset_has_no_fault(alloc: Global) -> Result<bool, AllocError> {
     let mut world = World::empty(alloc);
     let is_legal_at_first = check(&world).is_none();
-    let client = Client::new(1).ok_or("a client's number is from 1 to 16")?;
-    let group = Group::new(1).ok_or("a group's number is from 1 to 16")?;
-    let (one, two) = (id(1)?, id(2)?);
+    let client = Client::new(1).unwrap();
+    let group = Group::new(1).unwrap();
+    let (one, two) = (id(1), id(2));
     let steps = [
         Step::Order(client, 1, Command::Add(one, group)),
         Step::Order(client, 2, Command::Add(two, group)),
@@ -60,7 +64,7 @@ fn a_reset_has_no_fault(rt: HostRuntime) -> Result<(), Fail> {
 }
 
 /// The bytes of a text of hexadecimal digits, two for each byte, and spaces between them.
-fn bytes_of(alloc: Global, text: &str) -> Result<Vec<u8>, Fail> {
+fn bytes_of(alloc: Global, text: &str) -> Result<Vec<u8>, AllocError> {
     let mut bytes = Vec::new(alloc);
     let mut high = None;
     for symbol in text.as_bytes() {
@@ -94,107 +98,92 @@ fn is_told(alloc: Global, world: &str, line: &str) -> Result<bool, Fail> {
 // mode, parent, whom it awaits, and its epochs, then the link with its lanes, each with what is
 // receipted, what was taken, and its queue.
 
-#[test]
-fn an_unsound_node_is_told(rt: HostRuntime) -> Result<(), Fail> {
-    // node 2 is Abort and awaits nobody
-    let world = "0000000000000003 02
+// What is told of each.
+const TOLD: [(&str, &str); 9] = [
+    // an unsound node: node 2 is Abort and awaits nobody
+    (
+        "2 2 N",
+        "0000000000000003 02
         01 01 00 00 0000000000000000 0000000000000000 0000000000000000
         02 01 01 00 0000000000000000 0000000000000000 0000000000000000
         01 01 02 0000000000000003
         0000000000000000 0000000000000000 00
-        0000000000000000 0000000000000000 00 00";
-    assert!(rt; is_told(rt.alloc(), world, "2 2 N")?);
-    Ok(())
-}
-
-#[test]
-fn a_miscount_is_told(rt: HostRuntime) -> Result<(), Fail> {
-    // a message was taken on an empty lane
-    let world = "0000000000000003 02
+        0000000000000000 0000000000000000 00 00",
+    ),
+    // a miscount: a message was taken on an empty lane
+    (
+        "2 1 A",
+        "0000000000000003 02
         01 01 00 00 0000000000000000 0000000000000000 0000000000000000
         02 01 00 00 0000000000000000 0000000000000000 0000000000000000
         01 01 02 0000000000000003
         0000000000000000 0000000000000000 00
-        0000000000000000 0000000000000001 00 00";
-    assert!(rt; is_told(rt.alloc(), world, "2 1 A")?);
-    Ok(())
-}
-
-#[test]
-fn an_ack_that_nobody_awaits_is_told(rt: HostRuntime) -> Result<(), Fail> {
-    // it is a fault as the node sees it to which it goes
-    let world = "0000000000000003 02
+        0000000000000000 0000000000000001 00 00",
+    ),
+    // an Ack that nobody awaits: it is a fault as the node sees it to which it goes
+    (
+        "1 2 B",
+        "0000000000000003 02
         01 01 00 00 0000000000000000 0000000000000000 0000000000000000
         02 01 00 00 0000000000000000 0000000000000000 0000000000000000
         01 01 02 0000000000000003
         0000000000000000 0000000000000000 00
-        0000000000000000 0000000000000000 01 01 00";
-    assert!(rt; is_told(rt.alloc(), world, "1 2 B")?);
-    Ok(())
-}
-
-#[test]
-fn two_readies_are_told(rt: HostRuntime) -> Result<(), Fail> {
-    let world = "0000000000000003 02
+        0000000000000000 0000000000000000 01 01 00",
+    ),
+    // two Readies
+    (
+        "1 2 C",
+        "0000000000000003 02
         01 01 00 00 0000000000000000 0000000000000000 0000000000000000
         02 01 00 00 0000000000000000 0000000000000000 0000000000000000
         01 01 02 0000000000000003
         0000000000000000 0000000000000000 02 02 02
-        0000000000000000 0000000000000000 00 00";
-    assert!(rt; is_told(rt.alloc(), world, "1 2 C")?);
-    Ok(())
-}
-
-#[test]
-fn a_late_ready_is_told(rt: HostRuntime) -> Result<(), Fail> {
-    // behind the Abort that node 1 sent
-    let late = "0000000000000003 02
+        0000000000000000 0000000000000000 00 00",
+    ),
+    // a late Ready: behind the Abort that node 1 sent
+    (
+        "1 2 D",
+        "0000000000000003 02
         01 01 01 00 0000000000000002 0000000000000000 0000000000000000
         02 01 00 00 0000000000000000 0000000000000000 0000000000000000
         01 01 02 0000000000000003
         0000000000000000 0000000000000000 02 00 02
-        0000000000000000 0000000000000000 00 00";
-    assert!(rt; is_told(rt.alloc(), late, "1 2 D")?);
+        0000000000000000 0000000000000000 00 00",
+    ),
     // before it, a Ready is right
-    let early = "0000000000000003 02
+    (
+        "legal",
+        "0000000000000003 02
         01 01 01 00 0000000000000002 0000000000000000 0000000000000000
         02 01 02 01 0000000000000000 0000000000000000 0000000000000000
         01 01 02 0000000000000003
         0000000000000000 0000000000000000 02 02 00
-        0000000000000000 0000000000000000 00 00";
-    assert!(rt; is_told(rt.alloc(), early, "legal")?);
-    Ok(())
-}
-
-#[test]
-fn a_child_without_ready_is_told(rt: HostRuntime) -> Result<(), Fail> {
-    // node 2 is Converge with parent 1, which is Ready and has no Ready on the way
-    let world = "0000000000000003 02
+        0000000000000000 0000000000000000 00 00",
+    ),
+    // a child without Ready: node 2 is Converge with parent 1, which is Ready and has no Ready on the way
+    (
+        "1 2 E",
+        "0000000000000003 02
         01 01 00 00 0000000000000000 0000000000000000 0000000000000000
         02 01 02 01 0000000000000000 0000000000000000 0000000000000000
         01 01 02 0000000000000003
         0000000000000000 0000000000000000 00
-        0000000000000000 0000000000000000 00 00";
-    assert!(rt; is_told(rt.alloc(), world, "1 2 E")?);
-    Ok(())
-}
-
-#[test]
-fn mutual_parents_are_told(rt: HostRuntime) -> Result<(), Fail> {
-    let world = "0000000000000003 02
+        0000000000000000 0000000000000000 00 00",
+    ),
+    // mutual parents
+    (
+        "1 2 F",
+        "0000000000000003 02
         01 01 02 02 0000000000000000 0000000000000000 0000000000000000
         02 01 02 01 0000000000000000 0000000000000000 0000000000000000
         01 01 02 0000000000000003
         0000000000000000 0000000000000000 00
-        0000000000000000 0000000000000000 00 00";
-    assert!(rt; is_told(rt.alloc(), world, "1 2 F")?);
-    Ok(())
-}
-
-#[test]
-fn an_early_ready_is_told(rt: HostRuntime) -> Result<(), Fail> {
-    // node 1 is in a reset, with parent 3, and has a Ready on the way to node 2
-    let world = "0000000000000005 03
+        0000000000000000 0000000000000000 00 00",
+    ),
+    // an early Ready: node 1 is in a reset, with parent 3, and has a Ready on the way to node 2
+    (
+        "1 2 G",
+        "0000000000000005 03
         01 01 02 03 0000000000000000 0000000000000000 0000000000000000
         02 01 00 00 0000000000000000 0000000000000000 0000000000000000
         03 01 01 00 0000000000000001 0000000000000000 0000000000000000
@@ -204,18 +193,39 @@ fn an_early_ready_is_told(rt: HostRuntime) -> Result<(), Fail> {
         0000000000000000 0000000000000000 00
         01 03 0000000000000005
         0000000000000000 0000000000000000 01 01
-        0000000000000000 0000000000000000 00 00";
-    assert!(rt; is_told(rt.alloc(), world, "1 2 G")?);
+        0000000000000000 0000000000000000 00 00",
+    ),
+];
+
+/// What is to be told of the first world of which something else is.
+fn first_wrong(alloc: Global) -> Result<Option<&'static str>, Fail> {
+    for (line, world) in TOLD {
+        if !is_told(alloc, world, line)? {
+            return Ok(Some(line));
+        }
+    }
+    Ok(None)
+}
+
+#[test]
+fn each_letter_is_told(rt: HostRuntime) -> Result<(), Fail> {
+    let wrong = first_wrong(rt.alloc())?;
+    assert!(rt; wrong.is_none(), "{wrong:?}");
     Ok(())
+}
+
+/// Whether a violation is printed in a line.
+fn is_printed(alloc: Global) -> Result<bool, AllocError> {
+    let node = Violation {
+        a: id(64),
+        b: id(64),
+        letter: Letter::N,
+    };
+    Ok(format!(in alloc; "{node}")?.as_str() == "64 64 N" && Letter::G.name() == "G")
 }
 
 #[test]
 fn violations_are_printed_in_a_line(rt: HostRuntime) -> Result<(), Fail> {
-    let node = Violation {
-        a: id(64)?,
-        b: id(64)?,
-        letter: Letter::N,
-    };
-    assert!(rt; format!(in rt.alloc(); "{node}")?.as_str() == "64 64 N" && Letter::G.name() == "G");
+    assert!(rt; is_printed(rt.alloc())?);
     Ok(())
 }

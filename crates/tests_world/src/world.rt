@@ -10,7 +10,7 @@ use coord_types::{
     Client, Command, DataPacket, Group, Kind, Mode, Msg, NodeId, Output, ReceiptPacket, Refusal,
     Reply, Session, Step,
 };
-use coord_world::{Outcome, Parts, Verdict, World};
+use coord_world::{Parts, Verdict, World};
 use std::alloc::{AllocError, Global};
 use std::test::Fail;
 
@@ -54,23 +54,27 @@ fn receipt(packet: DataPacket) -> ReceiptPacket {
     }
 }
 
-/// Takes a step that the world judges fresh, and gives what comes of it.
-fn take(world: &mut World, step: &Step) -> Result<Outcome, Fail>
+/// Takes a step where the world judges it fresh, and says whether it does.
+fn takes(world: &mut World, step: &Step) -> Result<bool, AllocError>
     requires { Legal world.old }
     ensures { Legal world.new }
 {
     let Ok(Verdict::Fresh(_)) = world.judge(world, step) else {
-        return Err("the step is not fresh")?;
+        return Ok(false);
     };
-    Ok(world.apply(step)?)
+    let _ = world.apply(step)?;
+    Ok(true)
 }
 
 /// Whether the world takes a step and answers it with this kind and these outputs.
-fn gives(world: &mut World, step: &Step, kind: Kind, outputs: &[Output]) -> Result<bool, Fail>
+fn gives(world: &mut World, step: &Step, kind: Kind, outputs: &[Output]) -> Result<bool, AllocError>
     requires { Legal world.old }
     ensures { Legal world.new }
 {
-    let outcome = take(world, step)?;
+    let Ok(Verdict::Fresh(_)) = world.judge(world, step) else {
+        return Ok(false);
+    };
+    let outcome = world.apply(step)?;
     Ok(outcome.reply.kind == kind && outcome.outputs.as_slice() == outputs)
 }
 
@@ -80,19 +84,19 @@ fn sends_again(world: &World, outputs: &[Output]) -> Result<bool, AllocError> {
 }
 
 /// Two linked nodes, of which the first was asked for a reset.
-fn asked(alloc: Global) -> Result<World, Fail>
+fn asked(alloc: Global) -> Result<World, AllocError>
     ensures { IfOk result Legal }
 {
     let mut world = World::empty(alloc);
-    let _ = take(&mut world, &order(1, Command::Add(id(1), group())))?;
-    let _ = take(&mut world, &order(2, Command::Add(id(2), group())))?;
-    let _ = take(&mut world, &order(3, Command::Join(id(1), id(2))))?;
-    let _ = take(&mut world, &order(4, Command::Reset(id(1))))?;
+    let _ = takes(&mut world, &order(1, Command::Add(id(1), group())))?;
+    let _ = takes(&mut world, &order(2, Command::Add(id(2), group())))?;
+    let _ = takes(&mut world, &order(3, Command::Join(id(1), id(2))))?;
+    let _ = takes(&mut world, &order(4, Command::Reset(id(1))))?;
     Ok(world)
 }
 
 /// Whether the reset's Abort is taken, answered by an Ack, and both are sent again.
-fn goes_out(alloc: Global) -> Result<bool, Fail> {
+fn goes_out(alloc: Global) -> Result<bool, AllocError> {
     let mut world = asked(alloc)?;
     let abort = packet(true, 1, Msg::Abort);
     let came = Output::Receipted(receipt(abort));
@@ -101,19 +105,12 @@ fn goes_out(alloc: Global) -> Result<bool, Fail> {
     Ok(took && sends_again(&world, &[Output::Sent(abort), came, answer])?)
 }
 
-#[test]
-fn a_reset_goes_out(rt: HostRuntime) -> Result<(), Fail> {
-    let went_out = goes_out(rt.alloc())?;
-    assert!(rt; went_out);
-    Ok(())
-}
-
 /// Whether the reset finishes with the Ack, and the Ready is sent once the Abort was cleared.
-fn comes_back(alloc: Global) -> Result<bool, Fail> {
+fn comes_back(alloc: Global) -> Result<bool, AllocError> {
     let mut world = asked(alloc)?;
     let abort = packet(true, 1, Msg::Abort);
     let ack = packet(false, 1, Msg::Ack);
-    let _ = take(&mut world, &Step::Take(abort))?;
+    let _ = takes(&mut world, &Step::Take(abort))?;
     let finished = [Output::Receipted(receipt(ack)), Output::Signalled(id(1), 1)];
     let took = gives(&mut world, &Step::Take(ack), Kind::Taken, &finished)?;
     let ready = [Output::Sent(packet(true, 2, Msg::Ready))];
@@ -127,9 +124,8 @@ fn comes_back(alloc: Global) -> Result<bool, Fail> {
 }
 
 #[test]
-fn a_reset_comes_back(rt: HostRuntime) -> Result<(), Fail> {
-    let came_back = comes_back(rt.alloc())?;
-    assert!(rt; came_back);
+fn a_reset_goes_out_and_comes_back(rt: HostRuntime) -> Result<(), Fail> {
+    assert!(rt; goes_out(rt.alloc())? && comes_back(rt.alloc())?);
     Ok(())
 }
 
@@ -168,35 +164,25 @@ fn is_asked(world: &World) -> bool {
         && world.last(client()) == Some(last)
 }
 
-#[test]
-fn a_world_is_read(rt: HostRuntime) -> Result<(), Fail> {
-    let world = asked(rt.alloc())?;
-    assert!(rt; is_asked(&world));
-    Ok(())
-}
-
-/// Whether a copy of a world is the same world, until it takes a step.
-fn is_copied(alloc: Global) -> Result<bool, Fail> {
+/// Whether a world is read as its steps made it, and a copy of it is the same world, until that
+/// takes a step.
+fn is_copied(alloc: Global) -> Result<bool, AllocError> {
     let world = asked(alloc)?;
     let mut copy = asked(alloc)?.copy()?;
     let was_same = copy == world;
-    let _ = take(&mut copy, &Step::Take(packet(true, 1, Msg::Abort)))?;
-    Ok(was_same && copy != world)
+    let _ = takes(&mut copy, &Step::Take(packet(true, 1, Msg::Abort)))?;
+    Ok(is_asked(&world) && was_same && copy != world)
+}
+
+/// Whether the nodes, lanes and orders of a world come back from its rows.
+fn is_put_together(alloc: Global) -> Result<bool, Fail> {
+    let parts = asked(alloc)?.parts()?;
+    Ok(is_asked(&World::assemble(alloc, parts)?))
 }
 
 #[test]
-fn a_world_is_copied(rt: HostRuntime) -> Result<(), Fail> {
-    let copied = is_copied(rt.alloc())?;
-    assert!(rt; copied);
-    Ok(())
-}
-
-/// The nodes, lanes and orders of a world come back from its rows.
-#[test]
-fn a_world_comes_back(rt: HostRuntime) -> Result<(), Fail> {
-    let parts = asked(rt.alloc())?.parts()?;
-    let world = World::assemble(rt.alloc(), parts)?;
-    assert!(rt; is_asked(&world));
+fn a_world_is_copied_and_comes_back(rt: HostRuntime) -> Result<(), Fail> {
+    assert!(rt; is_copied(rt.alloc())? && is_put_together(rt.alloc())?);
     Ok(())
 }
 
@@ -213,20 +199,13 @@ fn is_exhausted(alloc: Global) -> Result<bool, Fail> {
     Ok(verdict == Err(Refusal::Exhausted))
 }
 
-#[test]
-fn at_most_2_to_the_40_steps(rt: HostRuntime) -> Result<(), Fail> {
-    let exhausted = is_exhausted(rt.alloc())?;
-    assert!(rt; exhausted);
-    Ok(())
-}
-
 /// 64 nodes in a ring, each linked with the next one and the one after that.
-fn ring(alloc: Global) -> Result<World, Fail>
+fn ring(alloc: Global) -> Result<World, AllocError>
     ensures { IfOk result Legal }
 {
     let mut world = World::empty(alloc);
     for number in 1..=64u8 {
-        let _ = take(
+        let _ = takes(
             &mut world,
             &order(number as u64, Command::Add(id(number), group())),
         )?;
@@ -235,9 +214,9 @@ fn ring(alloc: Global) -> Result<World, Fail>
         let a = id(number + 1);
         let next = id((number + 1) % 64 + 1);
         let orders = 64 + 2 * number as u64;
-        let _ = take(&mut world, &order(orders + 1, Command::Join(a, next)))?;
+        let _ = takes(&mut world, &order(orders + 1, Command::Join(a, next)))?;
         let next_but_one = id((number + 2) % 64 + 1);
-        let _ = take(
+        let _ = takes(
             &mut world,
             &order(orders + 2, Command::Join(a, next_but_one)),
         )?;
@@ -245,10 +224,15 @@ fn ring(alloc: Global) -> Result<World, Fail>
     Ok(world)
 }
 
-#[test]
-fn at_most_128_links(rt: HostRuntime) -> Result<(), Fail> {
-    let ring = ring(rt.alloc())?;
+/// Whether a ring with as many links as a world can have refuses one more.
+fn is_full(alloc: Global) -> Result<bool, AllocError> {
+    let ring = ring(alloc)?;
     let verdict = ring.judge(&ring, &order(193, Command::Join(id(1), id(4))));
-    assert!(rt; verdict == Err(Refusal::LinksFull));
+    Ok(verdict == Err(Refusal::LinksFull))
+}
+
+#[test]
+fn at_most_2_to_the_40_steps_and_128_links(rt: HostRuntime) -> Result<(), Fail> {
+    assert!(rt; is_exhausted(rt.alloc())? && is_full(rt.alloc())?);
     Ok(())
 }

@@ -8,7 +8,7 @@ use std::test::Fail;
 
 const CHOICES: usize = 5;
 
-fn choice(alloc: Global, which: usize) -> Result<Choice, Fail> {
+fn choice(alloc: Global, which: usize) -> Result<Choice, JournalFault> {
     Ok(match which {
         0 => Choice::Lost,
         1 => Choice::Kept,
@@ -39,7 +39,7 @@ fn done<D: Disk>(journal: &mut Journal<D>, act: Act) -> Result<(), JournalFault>
 }
 
 // The device before the act: version 1 in the first half, or version 2 in the second.
-fn before(alloc: Global, act: Act, which: usize) -> Result<MemDisk, Fail> {
+fn before(alloc: Global, act: Act, which: usize) -> Result<MemDisk, JournalFault> {
     let (mut journal, _contents) = opened(alloc, MemDisk::from_bytes(alloc, &CREATED)?)?;
     if let Act::ReplaceAgain = act {
         journal.replace(2, &[])?;
@@ -60,17 +60,13 @@ fn want(act: Act, is_done: bool) -> (u8, usize) {
 }
 
 // Those that are read once the disk has crashed.
-fn left(alloc: Global, disk: MemDisk) -> Result<(u8, usize), Fail> {
+fn left(alloc: Global, disk: MemDisk) -> Result<(u8, usize), JournalFault> {
     let (_journal, contents) = opened(alloc, disk.crash())?;
     Ok((contents.version, contents.batches.len()))
 }
 
-// How many calls of the device an opening takes.
-fn calls_to_open(alloc: Global) -> Result<u64, Fail> {
-    let disk = FuseDisk::new(MemDisk::from_bytes(alloc, &CREATED)?, u64::MAX);
-    let (journal, _contents) = opened(alloc, disk)?;
-    Ok(journal.into_disk().calls())
-}
+/// How many calls of the device an opening takes.
+const OPENING: u64 = 3;
 
 // Whether a crash by a choice leaves the act done, for each number of its calls that were passed and each choice.
 // A gate that is not 0 is open, and a selector names a half by its parity: the first act makes a 1 of a 0, the last a 0 of a 1.
@@ -87,8 +83,8 @@ fn is_left(act: Act, passed: u64, which: usize) -> bool {
 }
 
 // Whether it is so where all calls behind some fail.
-fn fuse_leaves(alloc: Global, act: Act, passed: u64, which: usize) -> Result<bool, Fail> {
-    let calls = calls_to_open(alloc)?.saturating_add(passed);
+fn fuse_leaves(alloc: Global, act: Act, passed: u64, which: usize) -> Result<bool, JournalFault> {
+    let calls = passed.saturating_add(OPENING);
     let disk = FuseDisk::new(before(alloc, act, which)?, calls);
     let (mut journal, _contents) = opened(alloc, disk)?;
     let answer = done(&mut journal, act);
@@ -104,25 +100,30 @@ fn fuse_leaves(alloc: Global, act: Act, passed: u64, which: usize) -> Result<boo
     Ok(is_answered && left(alloc, disk.into_inner())? == want(act, is_left(act, passed, which)))
 }
 
-#[test]
-fn a_crash_leaves_it_done_or_not(rt: HostRuntime) -> Result<(), Fail> {
-    let alloc = rt.alloc();
+// The first act, number of calls passed and choice for which it is not so.
+fn first_wrong_fuse(alloc: Global) -> Result<Option<(Act, u64, usize)>, JournalFault> {
     for act in ACTS {
         for passed in 0..5 {
             for which in 0..CHOICES {
-                assert!(rt;
-                    fuse_leaves(alloc, act, passed, which)?,
-                    "{act:?}, {passed} passed, choice {which}"
-                );
+                if !fuse_leaves(alloc, act, passed, which)? {
+                    return Ok(Some((act, passed, which)));
+                }
             }
         }
     }
+    Ok(None)
+}
+
+#[test]
+fn a_crash_leaves_it_done_or_not(rt: HostRuntime) -> Result<(), Fail> {
+    let wrong = first_wrong_fuse(rt.alloc())?;
+    assert!(rt; wrong.is_none(), "{wrong:?}");
     Ok(())
 }
 
 // Whether it is so where one call fails, and the journal has stopped then.
-fn blip_leaves(alloc: Global, act: Act, failed: u64, which: usize) -> Result<bool, Fail> {
-    let call = calls_to_open(alloc)?.saturating_add(failed);
+fn blip_leaves(alloc: Global, act: Act, failed: u64, which: usize) -> Result<bool, JournalFault> {
+    let call = failed.saturating_add(OPENING);
     let disk = BlipDisk::new(before(alloc, act, which)?, call);
     let (mut journal, _contents) = opened(alloc, disk)?;
     let answer = done(&mut journal, act);
@@ -141,18 +142,23 @@ fn blip_leaves(alloc: Global, act: Act, failed: u64, which: usize) -> Result<boo
     Ok(is_answered && left(alloc, disk.into_inner())? == want(act, is_left(act, failed, which)))
 }
 
-#[test]
-fn a_call_that_fails_once_stops_the_journal(rt: HostRuntime) -> Result<(), Fail> {
-    let alloc = rt.alloc();
+// The first act, call that fails and choice for which it is not so.
+fn first_wrong_blip(alloc: Global) -> Result<Option<(Act, u64, usize)>, JournalFault> {
     for act in ACTS {
         for failed in 0..4 {
             for which in 0..CHOICES {
-                assert!(rt;
-                    blip_leaves(alloc, act, failed, which)?,
-                    "{act:?}, call {failed}, choice {which}"
-                );
+                if !blip_leaves(alloc, act, failed, which)? {
+                    return Ok(Some((act, failed, which)));
+                }
             }
         }
     }
+    Ok(None)
+}
+
+#[test]
+fn a_call_that_fails_once_stops_the_journal(rt: HostRuntime) -> Result<(), Fail> {
+    let wrong = first_wrong_blip(rt.alloc())?;
+    assert!(rt; wrong.is_none(), "{wrong:?}");
     Ok(())
 }

@@ -1,31 +1,33 @@
 //! Calls of the device that fail in an opening and a format, and how a fault is printed.
 
 use super::{COMMITTED, opened};
-use coord_disk::{BlipDisk, Disk, FuseDisk, MemDisk};
+use coord_disk::{BlipDisk, FailingDisk, FuseDisk, MemDisk, Rule};
 use coord_journal::{JournalFault, format, open};
-use std::alloc::Global;
+use std::alloc::{AllocError, Global};
 use std::test::Fail;
 
 // Whether an opening was refused for the device. A call that was not reached was not there for want of memory, which is an error here.
-fn is_device(fault: JournalFault, calls: u64, fails: u64) -> Result<bool, Fail> {
+fn is_device(fault: JournalFault, calls: u64, fails: u64) -> Result<bool, JournalFault> {
     if calls <= fails {
-        return Err(fault)?;
+        return Err(fault);
     }
     Ok(fault == JournalFault::Device)
 }
 
 // Whether an opening with one call that fails is refused, and the next one finds the batch.
-fn blip_refuses(alloc: Global, call: u64) -> Result<bool, Fail> {
+fn blip_refuses(alloc: Global, call: u64) -> Result<bool, JournalFault> {
     let disk = BlipDisk::new(MemDisk::from_bytes(alloc, &COMMITTED)?, call);
-    let Err((fault, disk)) = open(alloc, disk) else {
-        return Ok(false);
-    };
-    let refused = is_device(fault, disk.calls(), call)?;
-    let (_journal, contents) = opened(alloc, disk)?;
-    Ok(refused && contents.batches.len() == 1)
+    match open(alloc, disk) {
+        Ok(_) => Ok(false),
+        Err((fault, disk)) => {
+            let refused = is_device(fault, disk.calls(), call)?;
+            let (_journal, contents) = opened(alloc, disk)?;
+            Ok(refused && contents.batches.len() == 1)
+        }
+    }
 }
 
-fn fuse_refuses(alloc: Global, call: u64) -> Result<bool, Fail> {
+fn fuse_refuses(alloc: Global, call: u64) -> Result<bool, JournalFault> {
     let disk = FuseDisk::new(MemDisk::from_bytes(alloc, &COMMITTED)?, call);
     match open(alloc, disk) {
         Ok(_) => Ok(false),
@@ -33,39 +35,38 @@ fn fuse_refuses(alloc: Global, call: u64) -> Result<bool, Fail> {
     }
 }
 
-// An opening takes three calls of the device: a sync, its length and a read.
-#[test]
-fn each_call_of_an_opening_may_fail(rt: HostRuntime) -> Result<(), Fail> {
-    let alloc = rt.alloc();
-    for call in 0..3 {
-        let blip = blip_refuses(alloc, call)?;
-        assert!(rt; blip && fuse_refuses(alloc, call)?, "call {call}");
-    }
-    Ok(())
-}
-
-fn is_refused(answer: Result<(), JournalFault>, calls: u64, fails: u64) -> Result<bool, Fail> {
-    match answer {
+// Whether a format of a device that fails by a rule, from or at this call, is refused.
+fn refuses_format<R: Rule>(
+    alloc: Global,
+    disk: &mut FailingDisk<MemDisk, R>,
+    call: u64,
+) -> Result<bool, JournalFault> {
+    match format(alloc, disk, 32_768, 1, &[]) {
         Ok(()) => Ok(false),
-        Err(fault) => is_device(fault, calls, fails),
+        Err(fault) => is_device(fault, disk.calls(), call),
     }
 }
 
-// A format takes three: the length, a write and a sync.
-#[test]
-fn each_call_of_a_format_may_fail(rt: HostRuntime) -> Result<(), Fail> {
-    let alloc = rt.alloc();
+// The first call of the device whose failure is told otherwise. An opening takes three: a sync, its
+// length and a read; and so does a format: the length, a write and a sync.
+fn first_wrong(alloc: Global) -> Result<Option<u64>, JournalFault> {
     for call in 0..3 {
+        let opens = blip_refuses(alloc, call)? && fuse_refuses(alloc, call)?;
         let mut blip = BlipDisk::new(MemDisk::new(alloc), call);
-        let answer = format(alloc, &mut blip, 32_768, 1, &[]);
-        let once = is_refused(answer, blip.calls(), call)?;
         let mut fuse = FuseDisk::new(MemDisk::new(alloc), call);
-        let answer = format(alloc, &mut fuse, 32_768, 1, &[]);
-        assert!(rt;
-            once && is_refused(answer, fuse.calls(), call)?,
-            "call {call}"
-        );
+        let formats = refuses_format(alloc, &mut blip, call)?
+            && refuses_format(alloc, &mut fuse, call)?;
+        if !opens || !formats {
+            return Ok(Some(call));
+        }
     }
+    Ok(None)
+}
+
+#[test]
+fn each_call_of_an_opening_or_a_format_may_fail(rt: HostRuntime) -> Result<(), Fail> {
+    let wrong = first_wrong(rt.alloc())?;
+    assert!(rt; wrong.is_none(), "{wrong:?}");
     Ok(())
 }
 
@@ -80,12 +81,18 @@ const FAULTS: [(JournalFault, &str); 8] = [
     (JournalFault::Stopped, "8 Stopped"),
 ];
 
+// Whether each is printed so.
+fn are_printed(alloc: Global) -> Result<bool, AllocError> {
+    let mut are_printed = true;
+    for (fault, want) in FAULTS {
+        let text = format!(in alloc; "{} {fault}", fault.number())?;
+        are_printed = are_printed && text.as_str() == want;
+    }
+    Ok(are_printed)
+}
+
 #[test]
 fn a_fault_has_its_number_and_name(rt: HostRuntime) -> Result<(), Fail> {
-    for (fault, want) in FAULTS {
-        let number = fault.number();
-        let text = format!(in rt.alloc(); "{number} {fault}")?;
-        assert!(rt; text.as_str() == want);
-    }
+    assert!(rt; are_printed(rt.alloc())?);
     Ok(())
 }

@@ -1,81 +1,142 @@
-//! A journal moves into its other half, and back.
+//! Journals that are added to, move into their other half and are opened again.
 
 use super::{BODY, COMMITTED, CREATED, opened};
 use coord_disk::MemDisk;
-use coord_journal::{Contents, Journal};
+use coord_journal::{Contents, Journal, JournalFault, MAX_BODY};
 use std::alloc::Global;
 use std::test::Fail;
 
-// One thing after another is done to a new journal, which is opened anew each time.
-const TURNS: [Turn; 6] = [
-    Turn::Append,
-    Turn::Replace(2),
-    Turn::Append,
-    Turn::Append,
-    Turn::Replace(3),
-    Turn::Append,
-];
-
-// The version that is read after each, and how many batches.
-const READ: [(u8, usize); 6] = [(1, 1), (2, 0), (2, 1), (2, 2), (3, 0), (3, 1)];
-
-/// What is done to a journal.
+/// What is done to a journal, and the room that it has then.
 #[derive(Clone, Copy)]
 enum Turn {
-    Append,
+    /// A body of this length is added.
+    Append(usize, u64),
+    /// None of this length fits.
+    Refuse(usize, u64),
     /// By this version, and a snapshot of three bytes.
-    Replace(u8),
+    Replace(u8, u64),
 }
 
-fn takes(journal: &mut Journal<MemDisk>, turn: Turn) -> Result<(), Fail> {
+use Turn::{Append, Refuse, Replace};
+
+/// What is found in an opening, a version and so many batches, and then done.
+type Stay<'a> = ((u8, usize), &'a [Turn]);
+
+/// Bodies one after another, up to one that fills the half.
+const FILLED: [Stay<'static>; 2] = [
+    (
+        (1, 0),
+        &[
+            Append(8_192, 24_549),
+            Append(8_192, 16_352),
+            Append(8_192, 8_155),
+            Refuse(8_156, 8_155),
+            Append(8_150, 0),
+            Append(0, 0),
+            Refuse(0, 0),
+        ],
+    ),
+    ((1, 5), &[]),
+];
+
+/// A body of exactly the room fits, and none after it.
+const FILLED_EXACTLY: [Stay<'static>; 1] = [(
+    (1, 0),
+    &[
+        Append(8_192, 24_549),
+        Append(8_192, 16_352),
+        Append(8_192, 8_155),
+        Append(8_155, 0),
+        Refuse(0, 0),
+    ],
+)];
+
+/// Into the second half and back.
+const MOVED: [Stay<'static>; 7] = [
+    ((1, 0), &[Append(23, 32_718)]),
+    ((1, 1), &[Replace(2, 32_754)]),
+    ((2, 0), &[Append(23, 32_726)]),
+    ((2, 1), &[Append(23, 32_698)]),
+    ((2, 2), &[Replace(3, 32_754)]),
+    ((3, 0), &[Append(23, 32_726)]),
+    ((3, 1), &[]),
+];
+
+// Does it, and says whether it was possible as told.
+fn takes(journal: &mut Journal<MemDisk>, turn: Turn) -> Result<bool, JournalFault> {
+    let body = [7u8; MAX_BODY];
     match turn {
-        Turn::Append if journal.fits(BODY.len()) => journal.append(&BODY)?,
-        Turn::Append => {}
-        Turn::Replace(version) => journal.replace(version, &[version; 3])?,
+        Append(len, room) => match body.get(..len) {
+            Some(body) if journal.fits(body.len()) => {
+                journal.append(body)?;
+                Ok(journal.room() == room)
+            }
+            _ => Ok(false),
+        },
+        Refuse(len, room) => Ok(!journal.fits(len) && journal.room() == room),
+        Replace(version, room) => {
+            journal.replace(version, &[version; 3])?;
+            Ok(journal.room() == room)
+        }
     }
-    Ok(())
 }
 
-fn is_read(contents: &Contents, version: u8, batches: usize) -> bool {
-    let snapshot = contents.snapshot.as_slice();
+fn is_read(contents: &Contents, found: (u8, usize)) -> bool {
+    let (version, batches) = found;
     contents.version == version
         && contents.batches.len() == batches
-        && (version == 1 || snapshot == [version; 3].as_slice())
+        && (version == 1 || contents.snapshot.as_slice() == [version; 3].as_slice())
+}
+
+// The device after a stay, unless that goes otherwise.
+fn left(alloc: Global, disk: MemDisk, stay: Stay<'_>) -> Result<Option<MemDisk>, JournalFault> {
+    let (mut journal, contents) = opened(alloc, disk)?;
+    if !is_read(&contents, stay.0) {
+        return Ok(None);
+    }
+    for turn in stay.1 {
+        if !takes(&mut journal, *turn)? {
+            return Ok(None);
+        }
+    }
+    Ok(Some(journal.into_disk()))
+}
+
+// Whether a new journal goes through these stays.
+fn goes(alloc: Global, stays: &[Stay<'_>]) -> Result<bool, JournalFault> {
+    let mut disk = MemDisk::from_bytes(alloc, &CREATED)?;
+    for stay in stays {
+        match left(alloc, disk, *stay)? {
+            Some(after) => disk = after,
+            None => return Ok(false),
+        }
+    }
+    Ok(true)
 }
 
 #[test]
-fn a_journal_moves_into_its_other_half(rt: HostRuntime) -> Result<(), Fail> {
-    let alloc = rt.alloc();
-    let mut disk = MemDisk::from_bytes(alloc, &CREATED)?;
-    for (turn, (version, batches)) in TURNS.into_iter().zip(READ) {
-        let (mut journal, _contents) = opened(alloc, disk)?;
-        takes(&mut journal, turn)?;
-        let (journal, contents) = opened(alloc, journal.into_disk())?;
-        assert!(rt;
-            is_read(&contents, version, batches),
-            "{version} with {batches}"
-        );
-        disk = journal.into_disk();
-    }
+fn a_half_is_filled(rt: HostRuntime) -> Result<(), Fail> {
+    assert!(rt; goes(rt.alloc(), &FILLED)? && goes(rt.alloc(), &FILLED_EXACTLY)?);
     Ok(())
 }
 
 // Whether a replace leaves all that was written but the selector, and writes the second half behind zeros.
-fn moves(alloc: Global) -> Result<bool, Fail> {
+fn moves(alloc: Global) -> Result<bool, JournalFault> {
     let (mut journal, _contents) = opened(alloc, MemDisk::from_bytes(alloc, &COMMITTED)?)?;
     journal.replace(1, &[0; 11])?;
-    let disk = journal.into_disk();
-    let bytes = disk.bytes();
-    if bytes.len() != 32_802 {
-        return Ok(false);
-    }
-    let kept = bytes[0] == 1 && bytes[1..62] == COMMITTED[1..];
-    let between = bytes[62..32_785].iter().all(|byte| *byte == 0);
-    Ok(kept && between && bytes[32_785..] == CREATED[17..])
+    Ok(is_moved(journal.into_disk().bytes()))
+}
+
+fn is_moved(bytes: &[u8]) -> bool {
+    bytes.len() == 32_802
+        && bytes[0] == 1
+        && bytes[1..62] == COMMITTED[1..]
+        && bytes[62..32_785].iter().all(|byte| *byte == 0)
+        && bytes[32_785..] == CREATED[17..]
 }
 
 #[test]
-fn a_replace_writes_the_second_half(rt: HostRuntime) -> Result<(), Fail> {
-    assert!(rt; moves(rt.alloc())?);
+fn a_journal_moves_into_its_other_half(rt: HostRuntime) -> Result<(), Fail> {
+    assert!(rt; moves(rt.alloc())? && goes(rt.alloc(), &MOVED)?);
     Ok(())
 }

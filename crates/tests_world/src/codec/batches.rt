@@ -1,4 +1,4 @@
-ghost use Rattle.std.specs.Prelude.{◌≡◌, true};
+ghost use Rattle.std.specs.Prelude.{◌≡◌, ◌≤◌, true};
 ghost use Rattle.std.specs.List.{AllByRecursion};
 ghost use Rattle.coord_batch.specs.Batches.{IsNumbered};
 
@@ -28,65 +28,63 @@ const EVERY_FORM: [u8; 172] = [
     2, 2, 1, 0, 0, 0, 0, 0, 0, 0, 3, 255, 255, 255, 255, 255, 255, 255, 255,
 ];
 
-fn id(number: u8) -> Result<NodeId, Fail> {
-    Ok(NodeId::new(number).ok_or("a node's number is from 1 to 64")?)
+fn id(number: u8) -> NodeId
+    requires least { 1 ≤ number }
+    requires greatest { number ≤ 64 }
+{
+    NodeId::new(number).unwrap()
 }
 
-fn order(client: u8, number: u64, command: Command) -> Result<Step, Fail> {
-    let client = Client::new(client).ok_or("a client's number is from 1 to 16")?;
-    Ok(Step::Order(client, number, command))
+fn order(client: u8, number: u64, command: Command) -> Step
+    requires least { 1 ≤ client }
+    requires greatest { client ≤ 16 }
+{
+    Step::Order(Client::new(client).unwrap(), number, command)
 }
 
-fn data(from: u8, to: u8, number: u64, msg: Msg) -> Result<Step, Fail> {
-    Ok(Step::Take(DataPacket {
-        from: id(from)?,
-        to: id(to)?,
+// On the link that step 3 made, from 1 to 2 where it goes out, else from 2 to 1.
+fn data(goes_out: bool, number: u64, msg: Msg) -> Step {
+    Step::Take(DataPacket {
+        from: if goes_out { id(1) } else { id(2) },
+        to: if goes_out { id(2) } else { id(1) },
         inc: 3,
         number,
         msg,
-    }))
+    })
 }
 
-fn receipt(from: u8, to: u8, number: u64) -> Result<Step, Fail> {
-    Ok(Step::Clear(ReceiptPacket {
-        from: id(from)?,
-        to: id(to)?,
+// From 2 to 1.
+fn receipt(number: u64) -> Step {
+    Step::Clear(ReceiptPacket {
+        from: id(2),
+        to: id(1),
         inc: 3,
         number,
-    }))
+    })
 }
 
-// The six commands, as `EVERY_FORM` spells them.
-fn orders() -> Result<[Step; 6], Fail> {
-    let group = Group::new(16).ok_or("16 is in range")?;
-    Ok([
-        order(16, 1, Command::Add(id(64)?, group))?,
-        order(2, 258, Command::Remove(id(3)?))?,
-        order(1, 3, Command::Join(id(4)?, id(5)?))?,
-        order(1, 4, Command::Drop(id(7)?, id(6)?))?,
-        order(1, 5, Command::Reset(id(8)?))?,
-        order(1, 6, Command::Confirm(id(9)?, 0x0102_0304_0506_0708))?,
-    ])
-}
-
-// What is delivered, as `EVERY_FORM` spells it.
-fn deliveries() -> Result<[Step; 4], Fail> {
-    Ok([
-        data(1, 2, 1, Msg::Abort)?,
-        data(2, 1, 1, Msg::Ack)?,
-        data(1, 2, 2, Msg::Ready)?,
-        receipt(2, 1, u64::MAX)?,
-    ])
+// The six commands and what is delivered, as `EVERY_FORM` spells them.
+fn every_form() -> [Step; 10] {
+    let group = Group::new(16).unwrap();
+    [
+        order(16, 1, Command::Add(id(64), group)),
+        order(2, 258, Command::Remove(id(3))),
+        order(1, 3, Command::Join(id(4), id(5))),
+        order(1, 4, Command::Drop(id(7), id(6))),
+        order(1, 5, Command::Reset(id(8))),
+        order(1, 6, Command::Confirm(id(9), 0x0102_0304_0506_0708)),
+        data(true, 1, Msg::Abort),
+        data(false, 1, Msg::Ack),
+        data(true, 2, Msg::Ready),
+        receipt(u64::MAX),
+    ]
 }
 
 // A Confirm by each client in turn, of each node in turn.
-fn confirm(place: u8) -> Result<Step, Fail> {
+fn confirm(place: u8) -> Step {
     let number = u64::from(place) + 1;
-    order(
-        place % 16 + 1,
-        number,
-        Command::Confirm(id(place % 64 + 1)?, u64::MAX - number),
-    )
+    let command = Command::Confirm(id(place % 64 + 1), u64::MAX - number);
+    order(place % 16 + 1, number, command)
 }
 
 fn is_numbered(step: &Step) -> bool
@@ -109,85 +107,91 @@ fn are_numbered(steps: &[Step]) -> bool
     true
 }
 
-// The spelling of these steps, if they are a batch.
-fn spelled(alloc: Global, first: u64, steps: &[Step]) -> Result<Vec<u8>, Fail> {
-    if !(1..=1 << 40).contains(&first) {
-        return Err("the first number is out of range")?;
-    }
-    if !(1..=MAX_BATCH_STEPS).contains(&steps.len()) || !are_numbered(steps) {
-        return Err("these steps are no batch")?;
-    }
-    Ok(write_batch(alloc, first, steps)?)
-}
-
 // Whether these bytes are read as this batch, and it is written as these bytes.
-fn is_spelling(alloc: Global, bytes: &[u8], first: u64, steps: &[Step]) -> Result<bool, Fail> {
-    let batch = read_batch(alloc, 1, bytes).map_err(|fault| fault.kind)?;
-    let written = spelled(alloc, first, steps)?;
-    Ok(batch.first == first && batch.steps.as_slice() == steps && written.as_slice() == bytes)
+fn is_spelling(
+    alloc: Global,
+    bytes: &[u8],
+    first: u64,
+    steps: &[Step],
+) -> Result<bool, AllocError> {
+    match read_batch(alloc, 1, bytes) {
+        Ok(batch) => {
+            let is_read = batch.first == first && batch.steps.as_slice() == steps;
+            Ok(is_read && are_written(alloc, bytes, first, steps)?)
+        }
+        Err(fault) if fault.kind == FaultKind::OutOfMemory => Err(AllocError),
+        Err(_) => Ok(false),
+    }
 }
 
-#[test]
-fn a_batch_is_read_and_written(rt: HostRuntime) -> Result<(), Fail> {
-    let group = Group::new(1).ok_or("1 is in range")?;
-    let step = order(1, 1, Command::Add(id(1)?, group))?;
-    assert!(rt; is_spelling(rt.alloc(), &BATCH, 1, &[step])?);
-    Ok(())
+// Whether these steps are a batch, and it is written as these bytes.
+fn are_written(
+    alloc: Global,
+    bytes: &[u8],
+    first: u64,
+    steps: &[Step],
+) -> Result<bool, AllocError> {
+    let is_first = (1..=1 << 40).contains(&first);
+    if !is_first || !(1..=MAX_BATCH_STEPS).contains(&steps.len()) || !are_numbered(steps) {
+        return Ok(false);
+    }
+    Ok(write_batch(alloc, first, steps)?.as_slice() == bytes)
 }
 
-#[test]
-fn every_form_is_read_and_written(rt: HostRuntime) -> Result<(), Fail> {
-    let alloc = rt.alloc();
-    let mut steps = Vec::new(alloc);
-    steps.extend_from_slice(&orders()?)?;
-    steps.extend_from_slice(&deliveries()?)?;
-    assert!(rt; is_spelling(alloc, &EVERY_FORM, 1 << 40, &steps)?);
-    Ok(())
-}
-
-#[test]
-fn a_full_batch_is_read_and_written(rt: HostRuntime) -> Result<(), Fail> {
-    let alloc = rt.alloc();
+// A batch of 256 steps.
+fn full(alloc: Global) -> Result<Vec<Step>, AllocError> {
     let mut steps = Vec::new(alloc);
     for place in 0..=255 {
-        steps.extend_from_slice(&[confirm(place)?])?;
+        steps.extend_from_slice(&[confirm(place)])?;
     }
-    let bytes = spelled(alloc, 7, &steps)?;
-    assert_eq!(rt; bytes.len(), 5_130);
-    assert!(rt; is_spelling(alloc, &bytes, 7, &steps)?);
+    Ok(steps)
+}
+
+// Whether the full batch is written with 5,130 bytes, and read from them.
+fn is_full_batch_spelled(alloc: Global) -> Result<bool, AllocError> {
+    let steps = full(alloc)?;
+    if !(1..=MAX_BATCH_STEPS).contains(&steps.len()) || !are_numbered(steps.as_slice()) {
+        return Ok(false);
+    }
+    let bytes = write_batch(alloc, 7, steps.as_slice())?;
+    Ok(bytes.len() == 5_130 && is_spelling(alloc, bytes.as_slice(), 7, steps.as_slice())?)
+}
+
+#[test]
+fn batches_are_read_and_written(rt: HostRuntime) -> Result<(), Fail> {
+    let alloc = rt.alloc();
+    let step = order(1, 1, Command::Add(id(1), Group::new(1).unwrap()));
+    let first = is_spelling(alloc, &BATCH, 1, &[step])?;
+    let every = is_spelling(alloc, &EVERY_FORM, 1 << 40, &every_form())?;
+    assert!(rt; first && every && is_full_batch_spelled(alloc)?);
     Ok(())
 }
+
+const CHANGES: [Change; 13] = [
+    Change(2, 1, FaultKind::BadByte, 0),
+    Change(7, 0, FaultKind::BadByte, 0),
+    Change(8, 1, FaultKind::BadByte, 8),
+    Change(9, 0, FaultKind::BadByte, 8),
+    Change(9, 2, FaultKind::Short, 23),
+    Change(10, 3, FaultKind::BadByte, 10),
+    Change(11, 0, FaultKind::BadByte, 11),
+    Change(11, 0x11, FaultKind::BadByte, 11),
+    Change(19, 0, FaultKind::BadByte, 12),
+    Change(20, 6, FaultKind::BadByte, 20),
+    Change(21, 0, FaultKind::BadByte, 21),
+    Change(21, 0x41, FaultKind::BadByte, 21),
+    Change(22, 0x11, FaultKind::BadByte, 22),
+];
 
 #[test]
 fn a_wrong_byte_is_found(rt: HostRuntime) -> Result<(), Fail> {
-    let changes = [
-        Change(2, 1, FaultKind::BadByte, 0),
-        Change(7, 0, FaultKind::BadByte, 0),
-        Change(8, 1, FaultKind::BadByte, 8),
-        Change(9, 0, FaultKind::BadByte, 8),
-        Change(9, 2, FaultKind::Short, 23),
-        Change(10, 3, FaultKind::BadByte, 10),
-        Change(11, 0, FaultKind::BadByte, 11),
-        Change(11, 0x11, FaultKind::BadByte, 11),
-        Change(19, 0, FaultKind::BadByte, 12),
-        Change(20, 6, FaultKind::BadByte, 20),
-        Change(21, 0, FaultKind::BadByte, 21),
-        Change(21, 0x41, FaultKind::BadByte, 21),
-        Change(22, 0x11, FaultKind::BadByte, 22),
-    ];
-    assert_eq!(rt; missed(rt.alloc(), Form::Batch, &BATCH, &changes)?, None);
+    let wrong = missed(rt.alloc(), Form::Batch, &BATCH, &CHANGES)?;
+    assert!(rt; wrong.is_none(), "{wrong:?}");
     Ok(())
 }
 
 #[test]
-fn a_wrong_length_is_found(rt: HostRuntime) -> Result<(), Fail> {
-    assert!(rt; are_short_when_cut(rt.alloc(), Form::Batch, &BATCH)?);
-    assert!(rt; are_long_with_one_more(rt.alloc(), Form::Batch, &BATCH)?);
-    Ok(())
-}
-
-#[test]
-fn there_is_one_version(rt: HostRuntime) -> Result<(), Fail> {
-    assert!(rt; have_one_version(rt.alloc(), Form::Batch, &BATCH)?);
+fn a_wrong_length_or_version_is_found(rt: HostRuntime) -> Result<(), Fail> {
+    assert!(rt; is_of_one_length_and_version(rt.alloc(), Form::Batch, &BATCH)?);
     Ok(())
 }

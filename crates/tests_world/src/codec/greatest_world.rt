@@ -1,11 +1,11 @@
 use super::*;
 
-fn put_u64(out: &mut Vec<u8>, number: u64) -> Result<(), Fail> {
+fn put_u64(out: &mut Vec<u8>, number: u64) -> Result<(), AllocError> {
     Ok(out.extend_from_slice(&number.to_be_bytes())?)
 }
 
 // Nodes from 1 on, each with numbers of its own.
-fn put_nodes(out: &mut Vec<u8>, count: u8) -> Result<(), Fail> {
+fn put_nodes(out: &mut Vec<u8>, count: u8) -> Result<(), AllocError> {
     out.push(count)?;
     for id in 1..=count {
         out.extend_from_slice(&[id, 1, id % 3, id - 1])?;
@@ -17,7 +17,7 @@ fn put_nodes(out: &mut Vec<u8>, count: u8) -> Result<(), Fail> {
 }
 
 // A link of numbers that are its own, with the same queue each way.
-fn put_link(out: &mut Vec<u8>, a: u8, b: u8, queue: &[u8]) -> Result<(), Fail> {
+fn put_link(out: &mut Vec<u8>, a: u8, b: u8, queue: &[u8]) -> Result<(), AllocError> {
     let number = 64 * u64::from(a) + u64::from(b);
     out.extend_from_slice(&[a, b])?;
     put_u64(out, number)?;
@@ -30,7 +30,7 @@ fn put_link(out: &mut Vec<u8>, a: u8, b: u8, queue: &[u8]) -> Result<(), Fail> {
 }
 
 // Each node is linked to the next and the next but one, round in a ring of 64.
-fn put_ring(out: &mut Vec<u8>) -> Result<(), Fail> {
+fn put_ring(out: &mut Vec<u8>) -> Result<(), AllocError> {
     out.push(128)?;
     for a in 1..=64u8 {
         for b in a..=64u8 {
@@ -43,7 +43,7 @@ fn put_ring(out: &mut Vec<u8>) -> Result<(), Fail> {
 }
 
 // Each of 16 clients confirmed a node.
-fn put_clients(out: &mut Vec<u8>) -> Result<(), Fail> {
+fn put_clients(out: &mut Vec<u8>) -> Result<(), AllocError> {
     out.push(16)?;
     for client in 1..=16 {
         out.push(client)?;
@@ -57,7 +57,7 @@ fn put_clients(out: &mut Vec<u8>) -> Result<(), Fail> {
 }
 
 // 64 nodes, 128 links with full queues, and 16 clients whose commands are of the longest form.
-fn greatest(alloc: Global) -> Result<Vec<u8>, Fail> {
+fn greatest(alloc: Global) -> Result<Vec<u8>, AllocError> {
     let mut out = Vec::new(alloc);
     put_u64(&mut out, 1 << 40)?;
     put_nodes(&mut out, 64)?;
@@ -67,7 +67,7 @@ fn greatest(alloc: Global) -> Result<Vec<u8>, Fail> {
 }
 
 // A node that is linked to each of the others.
-fn star(alloc: Global, nodes: u8) -> Result<Vec<u8>, Fail> {
+fn star(alloc: Global, nodes: u8) -> Result<Vec<u8>, AllocError> {
     let mut out = Vec::new(alloc);
     put_u64(&mut out, 1 << 40)?;
     put_nodes(&mut out, nodes)?;
@@ -79,23 +79,27 @@ fn star(alloc: Global, nodes: u8) -> Result<Vec<u8>, Fail> {
     Ok(out)
 }
 
-#[test]
-fn the_greatest_world_is_read_and_written(rt: HostRuntime) -> Result<(), Fail> {
-    let bytes = greatest(rt.alloc())?;
-    assert_eq!(rt; bytes.len(), 8_907);
-    assert!(rt; spells_world(rt.alloc(), &bytes)?);
-    Ok(())
+// Whether the greatest world has 8,907 bytes, and is read and written.
+fn is_greatest(alloc: Global) -> Result<bool, AllocError> {
+    let bytes = greatest(alloc)?;
+    Ok(bytes.len() == 8_907 && spells_world(alloc, bytes.as_slice())?)
 }
 
-// Rows of nodes end at 8 + 1 + 18 * 28, and a link with empty queues has 44 bytes.
+// Whether a node has at most 16 links. Rows of nodes end at 8 + 1 + 18 * 28, and a link with empty
+// queues has 44 bytes.
+fn is_degree_limited(alloc: Global) -> Result<bool, AllocError> {
+    let most = star(alloc, 17)?;
+    let more = star(alloc, 18)?;
+    let kind = FaultKind::BadByte;
+    let fault = CodecFault { kind, at: 1_218 };
+    Ok(
+        spells_world(alloc, most.as_slice())?
+            && finds(alloc, Form::World, 1, more.as_slice(), fault)?,
+    )
+}
+
 #[test]
-fn a_node_has_at_most_16_links(rt: HostRuntime) -> Result<(), Fail> {
-    let alloc = rt.alloc();
-    assert!(rt; spells_world(alloc, &star(alloc, 17)?)?);
-    let fault = CodecFault {
-        kind: FaultKind::BadByte,
-        at: 1_218,
-    };
-    assert!(rt; finds(alloc, Form::World, 1, &star(alloc, 18)?, fault)?);
+fn the_greatest_world_and_star(rt: HostRuntime) -> Result<(), Fail> {
+    assert!(rt; is_greatest(rt.alloc())? && is_degree_limited(rt.alloc())?);
     Ok(())
 }
