@@ -207,20 +207,21 @@ fn laws_do_nothing() {
 }
 
 /// A script that holds so many resets of one node, and what is printed to it up to there.
-fn held_resets(alloc: Global, count: u64) -> Result<(String, String), AllocError> {
+fn held_resets(alloc: Global, count: u16) -> Result<(String, String), AllocError> {
     let mut script = String::from_str(alloc, "add 1 1\nhold\n")?;
     let mut printed = String::from_str(alloc, "done 1\n")?;
-    for step in 2..count + 2 {
+    for held in 0..count {
+        let step = u32::from(held) + 2;
         script.push_str("reset 1\n")?;
         writeln!(&mut printed, "pending {step}")?;
     }
     Ok((script, printed))
 }
 
-/// Adds what a flush prints of resets with these numbers.
-fn push_settled(printed: &mut String, first: u64, last: u64) -> Result<(), AllocError> {
-    for step in first..last + 1 {
-        let epoch = step - 1;
+/// Adds what a flush prints of the resets behind step `settled` up to step `last`.
+fn push_settled(printed: &mut String, settled: u16, last: u16) -> Result<(), AllocError> {
+    for epoch in settled..last {
+        let step = u32::from(epoch) + 1;
         writeln!(printed, "finished {step}\nsignal 1 {epoch}")?;
     }
     writeln!(printed, "settled {last}")
@@ -230,8 +231,8 @@ fn push_settled(printed: &mut String, first: u64, last: u64) -> Result<(), Alloc
 fn flies_in_full_batches<S: Files<File = File> + AllocGlobal>(rt: &S) -> Result<bool, AllocError> {
     let (mut script, mut printed) = held_resets(rt.alloc(), 257)?;
     script.push_str("flush\nflush\n")?;
-    push_settled(&mut printed, 2, 257)?;
-    push_settled(&mut printed, 258, 258)?;
+    push_settled(&mut printed, 1, 257)?;
+    push_settled(&mut printed, 257, 258)?;
     prints(rt, script.as_bytes(), &printed)
 }
 
