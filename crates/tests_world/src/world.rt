@@ -14,7 +14,7 @@ use coord_world::{Outcome, Parts, Verdict, World};
 use std::alloc::{AllocError, Global};
 use std::test::Fail;
 
-fn id(number: u8) -> NodeId
+pub(crate) fn id(number: u8) -> NodeId
     requires least { 1 ≤ number }
     requires greatest { number ≤ 64 }
 {
@@ -30,7 +30,7 @@ fn group() -> Group {
 }
 
 /// Client 1's order with this number.
-fn order(number: u64, command: Command) -> Step {
+pub(crate) fn order(number: u64, command: Command) -> Step {
     Step::Order(client(), number, command)
 }
 
@@ -45,7 +45,7 @@ fn packet(goes_out: bool, number: u64, msg: Msg) -> DataPacket {
     }
 }
 
-fn receipt(packet: DataPacket) -> ReceiptPacket {
+pub(crate) fn receipt(packet: DataPacket) -> ReceiptPacket {
     ReceiptPacket {
         from: packet.from,
         to: packet.to,
@@ -66,7 +66,12 @@ fn take(world: &mut World, step: &Step) -> Result<Outcome, Fail>
 }
 
 /// Whether the world takes a step and answers it with this kind and these outputs.
-fn gives(world: &mut World, step: &Step, kind: Kind, outputs: &[Output]) -> Result<bool, Fail>
+pub(crate) fn gives(
+    world: &mut World,
+    step: &Step,
+    kind: Kind,
+    outputs: &[Output],
+) -> Result<bool, Fail>
     requires { Legal world.old }
     ensures { Legal world.new }
 {
