@@ -1,5 +1,5 @@
 -- A world's rows are those that are met by number.
-use Rattle.std.proofs.Common.{◌≡◌, ℕ, zero, suc, ◌+◌, ◌-◌, ◌<◌, ◌≤◌, true, false, ◌&&◌, List, [], ◌∷◌, ◌++◌, Option, Some, None, ⊥, map, cond, eqb, refl, sym, ap, ◌∙◌, append_assoc, append-nil, length, length-append, subst, arith, T}
+use Rattle.std.proofs.Common.{◌≡◌, ℕ, zero, suc, ◌+◌, ◌-◌, ◌<◌, ◌≤◌, true, false, ◌&&◌, List, [], ◌∷◌, ◌++◌, Option, Some, None, map, cond, eqb, refl, sym, ap, ◌∙◌, append_assoc, append-nil, length, length-append, subst, arith, T}
 use Rattle.std.specs.Prelude.{is_some, nat_lt}
 use Rattle.std.specs.Cmp.{nat_cmp_total}
 use Rattle.std.specs.Option.{option_map}

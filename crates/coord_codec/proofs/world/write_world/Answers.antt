@@ -6,5 +6,5 @@ use Rattle.coord_codec.proofs.world.write_world.Goals as goal
 
 pub returns-clause-len : goal.returns-clause-len
 returns-clause-len c =
-    let most = length-world (rows_of c.args.written.now) (rows_of_world_fit c.args.written.now c.ranges.ensures) in
+    let most = length-world (rows_of c.args.written.now) (rows_of_world_fit c.args.written.now c.ranges-2.ensures) in
     rw (c.in_ok-put_world.ensures, c.new-out.ensures.items) (omega (arith, most))

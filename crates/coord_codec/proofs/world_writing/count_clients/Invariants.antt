@@ -1,5 +1,5 @@
 -- What the numbers that are left give is not counted.
-use Rattle.std.proofs.Common.{◌≡◌, ℕ, ◌+◌, ◌<◌, List, length}
+use Rattle.std.proofs.Common.{◌≡◌, ℕ, ◌+◌, ◌<◌, length}
 use Rattle.coord_world.specs.protocol.NumberedWorld.{World}
 use Rattle.coord_world.specs.protocol.Rows.{rows_of}
 use Rattle.coord_codec.specs.ByNumber.{clients_from}

@@ -1,5 +1,5 @@
 -- Number by number.
-use Rattle.std.proofs.Common.{◌≡◌, ◌+◌, ◌≤◌, cond, length, sym, ap, ◌∙◌, arith}
+use Rattle.std.proofs.Common.{◌≡◌, ◌+◌, cond, length, sym, ap, ◌∙◌, arith}
 use Rattle.std.specs.Option.{option_map}
 use Rattle.coord_types.specs.Table.{get}
 use Rattle.coord_world.specs.protocol.Rows.{node_row}
@@ -9,7 +9,7 @@ use Rattle.coord_codec.proofs.world_writing.count_nodes.Goals as goal
 use Rattle.coord_codec.proofs.world_writing.count_nodes.Goals.{then-has_node, else-has_node}
 
 pub loop-number-init : goal.loop-number-init
-loop-number-init c = record { few = omega arith; left = ap length (all_nodes c.args.world.now c.requires) }
+loop-number-init c = record { few = omega arith; left = (let same = ap length (all_nodes c.args.world.now c.requires) in omega (arith, same)) }
 
 pub has_node-requires : goal.has_node-requires
 has_node-requires c = (c.loop-number.auto.number, omega (arith, c.loop-number-test.true))

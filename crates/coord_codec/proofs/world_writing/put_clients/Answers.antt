@@ -1,5 +1,5 @@
 -- Number by number.
-use Rattle.std.proofs.Common.{◌≡◌, ◌+◌, ◌++◌, [], ◌∷◌, length, ap, ◌∙◌, append_assoc, arith}
+use Rattle.std.proofs.Common.{◌+◌, ◌++◌, [], ◌∷◌, length, ap, ◌∙◌, append_assoc, arith}
 use Rattle.std.specs.List.{flat_map}
 use Rattle.coord_world.specs.protocol.Rows.{rows_of}
 use Rattle.coord_batch.specs.Fields.{how_many}

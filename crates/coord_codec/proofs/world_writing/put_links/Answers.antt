@@ -19,20 +19,22 @@ pub count_up-requires : goal.count_up-requires
 count_up-requires c =
     let w = c.args.world.now in
     let fit = rows_of_world_fit w c.requires in
-    let same = ap (λ es. length (links_in w es)) c.lanes.ensures in
-    omega (arith, fit.most_links, same, length-map (rows.link_row w) (where_key pair_cmp goes_up c.lanes.result.now))
+    let same = ap (λ es. length (links_in w es)) c.lanes-lanes.ensures in
+    omega (arith, fit.most_links, same, length-map (where_key pair_cmp goes_up c.lanes-lanes.result.now) (rows.link_row w))
 
 pub loop-entry-init : goal.loop-entry-init
 loop-entry-init c =
     let w = c.args.world.now in
-    let many : c.count_up.result ≡ length (rows_of w).links = c.count_up.ensures ∙ sym (length-map (rows.link_row w) (where_key pair_cmp goes_up c.lanes.result.now)) ∙ ap (λ es. length (links_in w es)) c.lanes.ensures in
+    let long = length-map (where_key pair_cmp goes_up c.lanes-lanes.result.now) (rows.link_row w) in
+    let same = ap (λ es. length (links_in w es)) c.lanes-lanes.ensures in
+    let many : c.count_up.result ≡ length (rows_of w).links = c.count_up.ensures ∙ omega (arith, long, same) in
     let begun = c.in_ok-push.ensures.items ∙ ap (λ n. c.args.out.now.items ++ n ∷ []) many in
-    λ i. begun i ++ flat_map (link_row 0 [] []).text (links_in w (c.lanes.ensures i))
+    λ i. begun i ++ flat_map (link_row 0 [] []).text (links_in w (c.lanes-lanes.ensures i))
 
 pub loop-entry-preserved : goal.loop-entry-preserved
 loop-entry-preserved c =
     let w = c.args.world.now in
-    let es = c.lanes.result.now in
+    let es = c.lanes-lanes.result.now in
     let n = c.loop-entry.entry-index in
     let e : (ℕ × ℕ) × Lane = c.entry-item.result in
     let text = (link_row 0 [] []).text in
@@ -48,7 +50,7 @@ pub returns : goal.returns
 unfolding links how_many
 returns c =
     let w = c.args.world.now in
-    let es = c.lanes.result.now in
+    let es = c.lanes-lanes.result.now in
     let text = (link_row 0 [] []).text in
     let out = c.loop-entry.out.items in
     sym (append-nil out) ∙ ap (λ l. out ++ flat_map text (links_in w l)) (sym (drop_all c.loop-entry.entry-index es c.loop-entry-test.false)) ∙ c.loop-entry.invariant
