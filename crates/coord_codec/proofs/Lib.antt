@@ -1,3 +1,4 @@
+pub mod ByNumber
 pub mod WorldGrammars
 pub mod Rising
 pub mod RowsRead

@@ -67,19 +67,19 @@ pub fn write_world(alloc: Global, written: &World) -> Result<Vec<u8>, AllocError
     ensures spelled { IfOk result (λ v. v.items ≡ world.text (rows_of written.now)) }
     ensures len { IfOk result (λ v. length v.items ≤ MAX_SNAPSHOT_BYTES) }
 {
-    let parts = written.parts()?;
+    written.ranges();
     let mut out = Vec::new(alloc);
-    put_world(&mut out, &parts)?;
+    put_world(&mut out, written)?;
     Ok(out)
 }
 
-fn put_world(out: &mut Vec<u8>, parts: &Parts) -> Result<(), AllocError>
-    requires { RowsFit (listed parts.now) }
-    ensures { OnOk result (out.new.items ≡ out.old.items ++ world.text (listed parts.now)) }
+fn put_world(out: &mut Vec<u8>, written: &World) -> Result<(), AllocError>
+    requires { InRange written.now }
+    ensures { OnOk result (out.new.items ≡ out.old.items ++ world.text (rows_of written.now)) }
 {
-    out.extend_from_slice(&parts.count.to_be_bytes())?;
-    put_nodes(out, &parts.nodes)?;
-    put_links(out, &parts.links)?;
-    put_clients(out, &parts.clients)?;
+    out.extend_from_slice(&written.count().to_be_bytes())?;
+    put_nodes(out, written)?;
+    put_links(out, written)?;
+    put_clients(out, written)?;
     Ok(())
 }

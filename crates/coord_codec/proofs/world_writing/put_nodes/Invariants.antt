@@ -1,7 +1,11 @@
-use Rattle.std.proofs.Common.{◌≡◌, ◌++◌, [], ◌∷◌, length, take}
+-- What the numbers that are left give is missing.
+use Rattle.std.proofs.Common.{◌≡◌, ◌++◌, [], ◌∷◌, length}
 use Rattle.std.specs.List.{flat_map}
+use Rattle.coord_world.specs.protocol.Rows.{rows_of}
+use Rattle.coord_codec.specs.ByNumber.{nodes_from}
 use Rattle.coord_codec.specs.Worlds.{node_row}
 use Rattle.coord_codec.proofs.world_writing.put_nodes.Given as goal
 
-abbrev pub invariant-loop-row : goal.invariant-loop-row
-invariant-loop-row l = l.out.items ≡ (l.fn.out.items ++ length l.rows ∷ []) ++ flat_map (node_row 0 []).text (take l.row-index l.rows)
+abbrev pub invariant-loop-number : goal.invariant-loop-number
+invariant-loop-number l =
+    l.out.items ++ flat_map (node_row 0 []).text (nodes_from l.world l.number) ≡ (l.fn.out.items ++ length (rows_of l.world).nodes ∷ []) ++ flat_map (node_row 0 []).text (rows_of l.world).nodes
