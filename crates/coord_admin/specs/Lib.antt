@@ -1,4 +1,3 @@
-pub mod Shown
 pub mod Faults
 pub mod Requests
 pub mod Replies

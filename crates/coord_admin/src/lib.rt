@@ -17,7 +17,6 @@ mod reading;
 mod replies;
 mod request;
 mod session;
-mod view;
 mod writing;
 
 pub use answer::Answer;
@@ -27,4 +26,3 @@ pub use fault::{LineFault, ServeFault};
 pub use laws::{worked_replies, worked_requests};
 pub use request::Request;
 pub use session::{Ended, MOST_READS, serve};
-pub use view::{LinkView, NodeView, View};
