@@ -18,6 +18,7 @@ use crate::topology::topology_from;
 use crate::words::{Task, read_words};
 use coord_disk::FileDisk;
 use coord_drill::coord_drill;
+use coord_store::StoreFault;
 use std::alloc::Global;
 use std::fs::File;
 use std::io;
@@ -123,7 +124,7 @@ fn check_file<S: Files<File = File> + AllocGlobal, W: Write>(
 ) -> Result<bool, Fault>
     ensures { IfOk result (λ legal. legal ≡ true → (w : Numbered) × Legal w × Appends (W.contents output.old) (W.contents output.new) (legal_line w.count)) }
 {
-    let disk = FileDisk::open_to_read(rt, file)?;
+    let disk = open_to_read(rt, file)?;
     check_store(rt.alloc(), disk, output)
 }
 
@@ -146,8 +147,17 @@ fn show_file<S: Files<File = File> + AllocGlobal, W: Write>(
 ) -> Result<(), Fault>
     ensures { OnOk result ((w : Numbered) × Appends (W.contents output.old) (W.contents output.new) (shown w)) }
 {
-    let disk = FileDisk::open_to_read(rt, file)?;
+    let disk = open_to_read(rt, file)?;
     show_store(rt.alloc(), disk, output)
+}
+
+/// The file of a store, to be read alone. Of a file that is not there it says what it says of an
+/// empty one.
+fn open_to_read<S: Files<File = File>>(rt: &S, file: &str) -> Result<FileDisk, Fault> {
+    match FileDisk::open_to_read(rt, file)? {
+        Some(disk) => Ok(disk),
+        None => Err(Fault::Store(StoreFault::NoMagic)),
+    }
 }
 
 /// Prints the line of a fault, if a command ended with one, and answers the exit status. A line

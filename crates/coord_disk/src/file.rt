@@ -1,6 +1,6 @@
 //! A disk that is a file.
 
-ghost use Rattle.std.specs.Prelude.{◌≡◌, ◌↔◌, ◌+◌, ◌<◌, ◌≤◌, ◌^◌, false, true, length, Ok, IfOk, IsErr, OnOk, OnErr};
+ghost use Rattle.std.specs.Prelude.{◌≡◌, ◌↔◌, ◌+◌, ◌<◌, ◌≤◌, ◌^◌, false, true, length, Ok, IfOk, IfSome, IsErr, OnOk, OnErr};
 ghost use Rattle.coord_disk.specs.Disks.File.{failures_of, has_lost};
 ghost use Rattle.coord_disk.specs.Model.Moments.{HasCause};
 
@@ -46,11 +46,14 @@ impl FileDisk {
         opening::open_locked(rt, path).map_err(|_| DiskFault)
     }
 
-    /// Opens a file for reading alone, without a lock: writes fail. Where there is none, an empty
-    /// one is made, as by `open`.
-    pub fn open_to_read<R: Files<File = File>>(rt: &R, path: &str) -> Result<FileDisk, DiskFault>
-        ensures failures { IfOk result (λ disk. failures_of disk ≡ 0) }
-        ensures whole { IfOk result (λ disk. has_lost disk ≡ false) }
+    /// Opens a file for reading alone, without a lock: writes fail. None where its folder has no
+    /// such file; none is made.
+    pub fn open_to_read<R: Files<File = File>>(
+        rt: &R,
+        path: &str,
+    ) -> Result<Option<FileDisk>, DiskFault>
+        ensures failures { IfOk result (λ found. IfSome found (λ disk. failures_of disk ≡ 0)) }
+        ensures whole { IfOk result (λ found. IfSome found (λ disk. has_lost disk ≡ false)) }
     {
         opening::open_unlocked(rt, path).map_err(|_| DiskFault)
     }

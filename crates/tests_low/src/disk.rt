@@ -4,6 +4,7 @@ use coord_disk::{
     BlipDisk, Choice, CrashDisk, Disk, DiskFault, FileDisk, FuseDisk, GateDisk, MemDisk,
 };
 use std::alloc::Global;
+use std::fs::File;
 use std::sync::Arc;
 use std::sync::atomic::{AtomicBool, Ordering};
 use std::test::Fail;
@@ -120,6 +121,7 @@ fn a_sync_waits_at_a_gate(rt: HostRuntime) -> Result<(), Fail> {
 
 // Whether a file is made, and read as it was written, while no other process may open it for writing.
 fn is_a_disk(rt: &HostRuntime, path: &str) -> Result<bool, Fail> {
+    let is_absent = FileDisk::open_to_read(rt, path)?.is_none() && File::open(rt, path).is_err();
     let mut disk = FileDisk::open(rt, path)?;
     let is_empty = disk.len() == Ok(0);
     disk.write_at(2, &[7, 8])?;
@@ -131,12 +133,15 @@ fn is_a_disk(rt: &HostRuntime, path: &str) -> Result<bool, Fail> {
         && disk.write_at(1 << 63, &[1]) == Err(DiskFault)
         && disk.len() == Ok(4);
     let is_locked = FileDisk::open(rt, path).is_err();
-    let mut reader = FileDisk::open_to_read(rt, path)?;
+    let Some(mut reader) = FileDisk::open_to_read(rt, path)? else {
+        return Ok(false);
+    };
     let is_read = reader.len() == Ok(4) && reader.read(0, &mut buf) == Ok(());
     let is_kept = reader.write_at(0, &[1]) == Err(DiskFault) && disk.len() == Ok(4);
     drop(disk);
     Ok(
-        is_empty
+        is_absent
+            && is_empty
             && is_written
             && past_the_end
             && is_locked

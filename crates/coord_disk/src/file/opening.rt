@@ -1,6 +1,6 @@
 //! How a file is opened.
 
-ghost use Rattle.std.specs.Prelude.{◌≡◌, false, IfOk};
+ghost use Rattle.std.specs.Prelude.{◌≡◌, false, IfOk, IfSome};
 ghost use Rattle.coord_disk.specs.Disks.File.{failures_of, has_lost};
 
 use super::FileDisk;
@@ -26,18 +26,17 @@ pub fn open_locked<R: Files<File = File>>(rt: &R, path: &str) -> io::Result<File
     over(file, Some(folder))
 }
 
-/// The file, to be read alone. The entry of a file that is made here is still to be synced.
-pub fn open_unlocked<R: Files<File = File>>(rt: &R, path: &str) -> io::Result<FileDisk>
-    ensures failures { IfOk result (λ disk. failures_of disk ≡ 0) }
-    ensures whole { IfOk result (λ disk. has_lost disk ≡ false) }
+/// The file, to be read alone; None where its folder is there and has no such file.
+pub fn open_unlocked<R: Files<File = File>>(rt: &R, path: &str) -> io::Result<Option<FileDisk>>
+    ensures failures { IfOk result (λ found. IfSome found (λ disk. failures_of disk ≡ 0)) }
+    ensures whole { IfOk result (λ found. IfSome found (λ disk. has_lost disk ≡ false)) }
 {
     match File::open(rt, path) {
         Err(error) if error.kind() == ErrorKind::NotFound => {
-            let file = make(rt, path)?;
-            let folder = open_folder(rt, path)?;
-            over(file, Some(folder))
+            open_folder(rt, path)?;
+            Ok(None)
         }
-        opened => over(opened?, None),
+        opened => Ok(Some(over(opened?, None)?)),
     }
 }
 
