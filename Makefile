@@ -1,5 +1,7 @@
 # What a person would ask for. The toolchain's command `rt` has to be on the PATH.
-.PHONY: help demo build test refusals bench sweep
+.PHONY: help demo build test refusals bench sweep install uninstall
+
+PREFIX ?= /usr/local
 
 help:
 	@echo 'make demo      one reset of two nodes through the program, each line read beside what it prints'
@@ -8,6 +10,7 @@ help:
 	@echo 'make refusals  tries the other wrong bodies, which the prover has to refuse (CRATE=NAME for one crate)'
 	@echo 'make bench     measures the drill on a ring of 64 nodes with chords, its parts, and the store'
 	@echo 'make sweep     refuses each allocation of every test and of the program in turn'
+	@echo 'make install   copies bin/resetd and its manual page below PREFIX (/usr/local); make uninstall takes them away'
 	@echo 'make help      prints this'
 
 demo:
@@ -32,3 +35,14 @@ sweep:
 
 test:
 	rt ci
+
+install: bin/resetd
+	install -D -m 755 bin/resetd $(DESTDIR)$(PREFIX)/bin/resetd
+	install -D -m 644 docs/resetd.8 $(DESTDIR)$(PREFIX)/share/man/man8/resetd.8
+
+bin/resetd:
+	@echo 'there is no proved program yet: make build makes it' >&2
+	@exit 1
+
+uninstall:
+	rm -f $(DESTDIR)$(PREFIX)/bin/resetd $(DESTDIR)$(PREFIX)/share/man/man8/resetd.8

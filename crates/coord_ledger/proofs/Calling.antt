@@ -20,13 +20,14 @@ use Rattle.coord_ledger.specs.machine.Answers.{IsOneOf, kept, kept_by, most_in_f
 use Rattle.coord_ledger.specs.machine.Consistent.{IsConsistent}
 use Rattle.coord_ledger.specs.machine.Log.{pending, settled_count, world_after}
 use Rattle.coord_ledger.specs.machine.Machine.{Machine}
-use Rattle.coord_ledger.proofs.Following.{follows_begun, follows_good, follows_opened, follows_stopped, follows_unsettled}
+use Rattle.coord_ledger.proofs.FollowingCrashes.{follows_opened}
+use Rattle.coord_ledger.proofs.FollowingFlights.{follows_begun, follows_good, follows_stopped, follows_unsettled}
 use Rattle.coord_ledger.proofs.Logs.{world-add}
 
 -- ---- flights go out and come back
 
 -- the flight that goes out next is the ledger's own
-next_is_out : {D : Type 0} (l : LedgerState D) (disk : D) → IsOut (with_out l (length (take most_in_flight (pending l.log)))) (next_flight l.log disk)
+pub next_is_out : {D : Type 0} (l : LedgerState D) (disk : D) → IsOut (with_out l (length (take most_in_flight (pending l.log)))) (next_flight l.log disk)
 next_is_out l disk = record { size = refl; first = refl; steps = taken_twice most_in_flight (pending l.log); world = refl }
   where
     taken_twice : {A : Type 0} (n : ℕ) (xs : List A) → take n xs ≡ take (length (take n xs)) xs

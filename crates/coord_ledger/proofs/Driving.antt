@@ -1,75 +1,23 @@
--- A run of events, from its first to its last: what a driver keeps, and what it has shown at the end.
-use Rattle.std.proofs.Common.{◌≡◌, ℕ, ◌+◌, ◌-◌, ◌<◌, Bool, List, [], ◌∷◌, ◌++◌, length, take, Option, Some, None, Ok, Err, refl, sym, ap, ◌∙◌, subst, arith, append-nil, cond, inl, inr}
+-- A run of events, from its first to its last: what a driver keeps before each event.
+use Rattle.std.proofs.Common.{◌≡◌, ◌⊎◌, ℕ, ◌+◌, ◌<◌, Bool, true, false, List, [], ◌∷◌, ◌++◌, length, take, get_or, zero, suc, Some, refl, sym, ap, ◌∙◌, subst, inl, inr}
+use Rattle.std.specs.List.{AllByRecursion}
 use Rattle.std.specs.Option.{option_map}
-use Rattle.std.specs.Prelude.{Result, is_some, map, nat_le, slice_get}
-use Rattle.std.proofs.Math.Seq.{take-length}
-use Rattle.std.proofs.lemmas.Option.{slice_get_past, slice_get_within}
-use Rattle.coord_disk.specs.Model.Present.{Present}
-use Rattle.coord_types.specs.declared.refusals.Refusal.TheVariants.{OutOfMemory, Stopped}
-use Rattle.coord_types.specs.declared.refusals.Refusal.{Refusal}
-use Rattle.coord_types.specs.declared.steps.Reply.{Reply}
-use Rattle.coord_types.specs.declared.steps.Step.{Step}
-use Rattle.coord_store.specs.Recovered.{Recovered}
-use Rattle.coord_store.specs.declared.faults.CommitFault.TheVariants as fault
-use Rattle.coord_world.proofs.Facade.{by_test}
-use Rattle.coord_world.specs.declared.verdicts.Verdict.{Verdict}
-use Rattle.coord_world.specs.declared.verdicts.Verdict.TheVariants.{Fresh, Repeat}
+use Rattle.std.specs.Prelude.{slice_get}
+use Rattle.std.proofs.lemmas.Option.{slice_get_read}
+use Rattle.coord_store.proofs.Freshness.{take-push}
 use Rattle.coord_ledger.specs.declared.events.Answer.{Answer}
-use Rattle.coord_ledger.specs.declared.events.Answer.TheVariants.{Repeated, Refused, Begun, Nothing, Failed, Finished, NoFlight, NoTicket, Collected, Waiting, Shown, Opened}
 use Rattle.coord_ledger.specs.declared.events.Event.{Event}
-use Rattle.coord_ledger.specs.declared.events.Event.TheVariants.{Submit, Begin, Commit, Finish, Collect, Resend, Show, Crash}
-use Rattle.coord_ledger.specs.declared.mark.Mark.{Mark}
-use Rattle.coord_ledger.specs.declared.mark.Mark.TheVariants.{New, Good, Torn}
-use Rattle.coord_ledger.specs.declared.release.Release.{Release}
-use Rattle.coord_ledger.specs.ledger.Follows.{Drives, Follows, FollowsTo, Held, ImagesGive, flight_out}
+use Rattle.coord_ledger.specs.ledger.Driver.{IsPromised, model_of}
+use Rattle.coord_ledger.specs.ledger.Follows.{Drives, Follows, FollowsTo, Held}
 use Rattle.coord_ledger.specs.ledger.State.{LedgerState, started}
-use Rattle.coord_ledger.specs.machine.After.{after, after_finish, after_submit, finished}
-use Rattle.coord_ledger.specs.machine.Answers.{IsOneOf, answers, kept, kept_by, kept_with, next_size, stays_home, ticket, to_collect, to_commit, to_finish, to_submit, verdict_on, with_flight}
-use Rattle.coord_ledger.specs.machine.Consistent.{DoubtFits, EventInRange, IsConsistent, IsConsistentLog}
-use Rattle.coord_ledger.specs.machine.Log.{accepted_count, settled_count, settled_world, world_after}
-use Rattle.coord_ledger.specs.machine.Machine.{FlightOut, Machine, has_stopped}
-use Rattle.coord_ledger.specs.machine.Runs.{Answered, run}
-use Rattle.coord_ledger.specs.machine.Shown.{shown}
-use Rattle.coord_ledger.specs.promises.Headline.{Broke, IsCutShort, Ran}
+use Rattle.coord_ledger.specs.machine.Consistent.{EventInRange, IsConsistent}
+use Rattle.coord_ledger.specs.machine.Machine.{Machine}
+use Rattle.coord_ledger.specs.machine.Runs.{run}
+use Rattle.coord_ledger.specs.promises.Headline.{Promised, is_crash}
 use Rattle.coord_ledger.proofs.Consistent.{run_goes_on, stays_consistent}
-use Rattle.coord_ledger.proofs.Following.{images_follow}
-use Rattle.coord_ledger.proofs.Safe.{finish_keeps_kept, prefix_from_images}
-use Rattle.coord_ledger.proofs.Signals.{signals_once}
-
--- ---- one event after the other
-
--- before the first event
-abbrev pub held_first : {D : Type 0} → LedgerState D → Held D
-held_first l = record { ledger = l; flight = None; claims = []; seen = 0; released = [] }
-
-pub drives_first : {D : Type 0} (l : LedgerState D) → IsConsistentLog l.log → l.doubt ≡ None → l.out ≡ None → Drives l [] [] (held_first l)
-drives_first l is going home =
-    let none : l.log.settled - 0 ≡ l.log.settled = omega arith in
-    record {
-      answered = tt;
-      consistent = record {
-        log = is;
-        flight = tt;
-        doubt = subst (DoubtFits l.log None) (sym going) tt;
-        seen = omega arith;
-        tickets = tt;
-        told = record { released_settled = tt; once = tt; again = tt; replied_settled = tt; truly = tt };
-      };
-      follows = record {
-        by = 0;
-        within = omega arith;
-        log = λ i. record { base = l.log.base; trail = l.log.trail; settled = sym none i };
-        doubt = refl;
-        flight = refl;
-        own = home;
-        tickets = tt;
-        seen = refl;
-        released = refl;
-      };
-    }
 
 -- one event more
-pub drives_on : {D : Type 0} (start : LedgerState D) (events : List Event) (given : List Answer) (h new : Held D) (e : Event) (a : Answer) → Drives start events given h → EventInRange e →
+drives_on : {D : Type 0} (start : LedgerState D) (events : List Event) (given : List Answer) (h new : Held D) (e : Event) (a : Answer) → Drives start events given h → EventInRange e →
     FollowsTo (run (started start) events given) e a new → Drives start (events ++ e ∷ []) (given ++ a ∷ []) new
 drives_on start events given h new e a drives named to =
     let s = run (started start) events given in
@@ -80,184 +28,37 @@ drives_on start events given h new e a drives named to =
       follows = subst (Follows new) (sym more.1) to.follows;
     }
 
--- ---- at the end
+-- what holds of all items holds of the one at this place
+all_at : {A : Type 0} (P : A → Type 0) (xs : List A) (i : ℕ) (x : A) → slice_get xs i ≡ Some x → AllByRecursion P xs → P x
+all_at P [] i x there all = let no : ⊥ = cc in absurd no
+all_at P (y ∷ ys) zero x there all = let same : y ≡ x = cc in subst P same all.0
+all_at P (y ∷ ys) (suc i) x there all = all_at P ys i x there all.1
 
--- what has come of the events is what was promised
-ran_of : {D : Type 0} (start : LedgerState D) (events : List Event) (given : List Answer) (h : Held D) (keeps_model : Bool) (present : Present) → Drives start events given h →
-    ImagesGive keeps_model present (run (started start) events given).log (kept (run (started start) events given)) → Ran (started start) events given h.released keeps_model present
-ran_of start events given h keeps_model present drives images =
-    let s = run (started start) events given in
-    let told = drives.consistent.told in
-    record {
-      answered = drives.answered;
-      released_is = drives.follows.released;
-      prefix = prefix_from_images s keeps_model present drives.consistent images;
-      once = told.once;
-      again = told.again;
-      signalled = signals_once s drives.consistent;
-      replied = told.truly;
-    }
+-- what the loop of a run keeps before the event at this index
+pub record Underway {D : Type 0} (keeps_model : D → Bool) (start : LedgerState D) (events : List Event) (at : ℕ) (given : List Answer) (h : Held D) : Type 0 where
+  pub same_model : model_of keeps_model h ≡ option_map keeps_model start.disk
+  pub drives : (before : D) → start.disk ≡ Some before → Promised (keeps_model before) events (Drives start (take at events) given h)
 
--- no flight is out
-pub ran_home : {D : Type 0} (start : LedgerState D) (events : List Event) (given : List Answer) (h : Held D) (keeps_model : Bool) (present : Present) → Drives start events given h → h.flight ≡ None →
-    ImagesGive keeps_model present h.ledger.log (kept_by h.ledger.log.settled None h.ledger.doubt) → Ran (started start) events given h.released keeps_model present
-ran_home start events given h keeps_model present drives none images =
-    ran_of start events given h keeps_model present drives
-    (images_follow h (run (started start) events given) keeps_model present drives.follows (subst (λ o. ImagesGive keeps_model present h.ledger.log (kept_by h.ledger.log.settled o h.ledger.doubt)) (sym (ap (option_map flight_out) none)) images))
+module _ {D : Type 0} (keeps_model : D → Bool) (start : LedgerState D) (events : List Event) (at : ℕ) (given : List Answer) (h : Held D) (way : Underway keeps_model start events at given h) (e : Event) (below : at < length events) (is : e ≡ get_or events at e) where
+  pub event_there : slice_get events at ≡ Some e
+  event_there = slice_get_read events (length events) at e refl below is
 
--- a flight that comes back leaves all worlds on the way
-same_worlds : (s : Machine) (f : Option FlightOut) (n : ℕ) → world_after (finished s f).log n ≡ world_after s.log n
-same_worlds s None n = refl
-same_worlds s (Some f) n = by_mark f.mark
-  where
-    by_mark : (m : Mark) → world_after (after_finish s f.size m).log n ≡ world_after s.log n
-    by_mark New = refl
-    by_mark Good = refl
-    by_mark Torn = refl
+  pub model_there : (before : D) → start.disk ≡ Some before → model_of keeps_model h ≡ Some (keeps_model before)
+  model_there before disk = way.same_model ∙ ap (option_map keeps_model) disk
 
--- the flight that was out has come back, and what it released is lost
-pub ran_back : {D : Type 0} (start : LedgerState D) (events : List Event) (given : List Answer) (h back : Held D) (count : ℕ) (keeps_model : Bool) (present : Present) → Drives start events given h →
-    FollowsTo (run (started start) events given) Finish (Finished count) back → back.flight ≡ None → ImagesGive keeps_model present back.ledger.log (kept_by back.ledger.log.settled None back.ledger.doubt) →
-    Ran (started start) events given h.released keeps_model present
-ran_back start events given h back count keeps_model present drives to none images =
-    let s = run (started start) events given in
-    let t = finished s s.flight in
-    let home = subst (λ o. ImagesGive keeps_model present back.ledger.log (kept_by back.ledger.log.settled o back.ledger.doubt)) (sym (ap (option_map flight_out) none)) images in
-    let gives : ImagesGive keeps_model present t.log (kept t) = images_follow back t keeps_model present to.follows home in
-    ran_of start events given h keeps_model present drives (λ model image here.
-    let one = gives model image here in
-    (one.0, (subst (IsOneOf one.0) (finish_keeps_kept s drives.consistent) one.1.0, subst (Recovered image) (same_worlds s s.flight one.0) one.1.1)))
+  -- what is promised of a run is promised of each of its events
+  pub event_promised : (before : D) → start.disk ≡ Some before → (keeps_model before ≡ true) ⊎ AllByRecursion (λ x. is_crash x ≡ false) events → IsPromised (model_of keeps_model h) e
+  event_promised before disk (inl on) = inl (model_there before disk ∙ ap Some on)
+  event_promised before disk (inr none) = inr (all_at (λ x. is_crash x ≡ false) events at e event_there none)
 
--- ---- a run that ends early
-
--- an answer that releases nothing
-record Silent (s : Machine) (e : Event) : Type 0 where
-  answer : Answer
-  allowed : IsOneOf answer (answers s e)
-  silent : (after s e answer).released ≡ s.released
-
--- to a step with this verdict
-abbrev SilentSubmit : Machine → Step → Result Verdict Refusal → Type 0
-SilentSubmit s x v = (a : Answer) × (IsOneOf a (to_submit (accepted_count s.log + 1) v) × ((after_submit s x v a).released ≡ s.released))
-
-silent_submit : (s : Machine) (x : Step) (v : Result Verdict Refusal) → SilentSubmit s x v
-silent_submit s x (Ok (Fresh k)) = (Refused OutOfMemory, (inr (inl refl), refl))
-silent_submit s x (Ok (Repeat r)) = (Repeated r.step, (inl refl, refl))
-silent_submit s x (Err e) = (Refused e, (inl refl, refl))
-
-silent_commit : (s : Machine) (f : Option FlightOut) → s.flight ≡ f → Silent s Commit
-silent_commit s None out = record { answer = NoFlight; allowed = subst (λ o. IsOneOf NoFlight (with_flight o (λ f. to_commit f.mark))) (sym out) (inl refl); silent = refl }
-silent_commit s (Some f) out = by_mark f.mark refl
-  where
-    may : (a : Answer) (m : Mark) → f.mark ≡ m → IsOneOf a (to_commit m) → IsOneOf a (answers s Commit)
-    may a m mark one = subst (λ o. IsOneOf a (with_flight o (λ f. to_commit f.mark))) (sym out) (subst (λ x. IsOneOf a (to_commit x)) (sym mark) one)
-
-    by_mark : (m : Mark) → f.mark ≡ m → Silent s Commit
-    by_mark New mark = record { answer = Failed fault.OutOfMemory; allowed = may (Failed fault.OutOfMemory) New mark (inr (inr (inl refl))); silent = refl }
-    by_mark Good mark = record { answer = Failed fault.Again; allowed = may (Failed fault.Again) Good mark (inl refl); silent = refl }
-    by_mark Torn mark = record { answer = Failed fault.Stopped; allowed = may (Failed fault.Stopped) Torn mark (inl refl); silent = refl }
-
-silent_finish : (s : Machine) (f : Option FlightOut) → s.flight ≡ f → Silent s Finish
-silent_finish s None out = record { answer = NoFlight; allowed = subst (λ o. IsOneOf NoFlight (with_flight o (λ f. to_finish (settled_count s.log) f.size f.mark))) (sym out) (inl refl); silent = refl }
-silent_finish s (Some f) out = by_mark f.mark refl
-  where
-    may : (a : Answer) (m : Mark) → f.mark ≡ m → IsOneOf a (to_finish (settled_count s.log) f.size m) → IsOneOf a (answers s Finish)
-    may a m mark one = subst (λ o. IsOneOf a (with_flight o (λ f. to_finish (settled_count s.log) f.size f.mark))) (sym out) (subst (λ x. IsOneOf a (to_finish (settled_count s.log) f.size x)) (sym mark) one)
-
-    is : (m : Mark) → f.mark ≡ m → (finished s s.flight).released ≡ (after_finish s f.size m).released
-    is m mark = ap (λ o. (finished s o).released) out ∙ ap (λ x. (after_finish s f.size x).released) mark
-
-    by_mark : (m : Mark) → f.mark ≡ m → Silent s Finish
-    by_mark New mark = record { answer = Finished (settled_count s.log); allowed = may (Finished (settled_count s.log)) New mark (inl refl); silent = is New mark }
-    by_mark Good mark = record { answer = Refused OutOfMemory; allowed = may (Refused OutOfMemory) Good mark (inr (inl refl)); silent = refl }
-    by_mark Torn mark = record { answer = Finished (settled_count s.log); allowed = may (Finished (settled_count s.log)) Torn mark (inl refl); silent = is Torn mark }
-
-silent_collect : (s : Machine) (i : ℕ) (t : Option Reply) → ticket s.tickets i ≡ t → Silent s (Collect i)
-silent_collect s i t is = by_ticket t is
-  where
-    may : (a : Answer) (t : Option Reply) → ticket s.tickets i ≡ t → IsOneOf a (to_collect (settled_count s.log) t) → IsOneOf a (answers s (Collect i))
-    may a t is one = subst (λ o. IsOneOf a (to_collect (settled_count s.log) o)) (sym is) one
-
-    by_ticket : (t : Option Reply) → ticket s.tickets i ≡ t → Silent s (Collect i)
-    by_ticket None is = record { answer = NoTicket; allowed = may NoTicket None is (inl refl); silent = refl }
-    by_ticket (Some r) is =
-        by_test (nat_le r.step (settled_count s.log)) (λ b. ((a : Answer) → IsOneOf a (cond b (Collected r) Waiting ∷ []) → IsOneOf a (answers s (Collect i))) → Silent s (Collect i))
-        (λ _ on. record { answer = Collected r; allowed = on (Collected r) (inl refl); silent = refl })
-        (λ _ on. record { answer = Waiting; allowed = on Waiting (inl refl); silent = refl })
-        (λ a one. may a (Some r) is one)
-
-silent_crash : (s : Machine) (f : Option FlightOut) (o : Option ℕ) → kept s ≡ kept_by s.log.settled f o → Silent s Crash
-silent_crash s f o is = by_flight f o is
-  where
-    with_first : (n : ℕ) (ns : List ℕ) → kept s ≡ n ∷ ns → Silent s Crash
-    with_first n ns is = record { answer = Opened (s.log.base.count + n); allowed = subst (λ l. IsOneOf (Opened (s.log.base.count + n)) (map (λ k. Opened (s.log.base.count + k)) l)) (sym is) (inl refl); silent = refl }
-
-    by_mark : (b : ℕ) (m : Mark) → kept s ≡ kept_with s.log.settled b m → Silent s Crash
-    by_mark b New is = with_first s.log.settled [] is
-    by_mark b Good is = with_first (s.log.settled + b) [] is
-    by_mark b Torn is = with_first s.log.settled ((s.log.settled + b) ∷ []) is
-
-    by_flight : (f : Option FlightOut) (o : Option ℕ) → kept s ≡ kept_by s.log.settled f o → Silent s Crash
-    by_flight None None is = with_first s.log.settled [] is
-    by_flight None (Some b) is = with_first s.log.settled ((s.log.settled + b) ∷ []) is
-    by_flight (Some f) o is = by_mark f.size f.mark is
-
-silent : (s : Machine) (e : Event) → Silent s e
-silent s (Submit x) = let one = silent_submit s x (verdict_on s x) in record { answer = one.0; allowed = one.1.0; silent = one.1.1 }
-silent s Begin =
-    by_test (stays_home (has_stopped s) (is_some s.flight) s.log) (λ b. ((a : Answer) → IsOneOf a (cond b (Nothing ∷ []) (Begun (next_size s.log) ∷ Refused OutOfMemory ∷ [])) → IsOneOf a (answers s Begin)) → Silent s Begin)
-    (λ _ on. record { answer = Nothing; allowed = on Nothing (inl refl); silent = refl })
-    (λ _ on. record { answer = Refused OutOfMemory; allowed = on (Refused OutOfMemory) (inr (inl refl)); silent = refl })
-    (λ a one. one)
-silent s Commit = silent_commit s s.flight refl
-silent s Finish = silent_finish s s.flight refl
-silent s (Collect i) = silent_collect s i (ticket s.tickets i) refl
-silent s Resend = record { answer = Refused OutOfMemory; allowed = inr (inl refl); silent = refl }
-silent s Show =
-    by_test (has_stopped s) (λ b. ((a : Answer) → IsOneOf a (cond b (Refused Stopped ∷ []) (Shown (shown (accepted_count s.log) (settled_world s.log)) ∷ Refused OutOfMemory ∷ [])) → IsOneOf a (answers s Show)) → Silent s Show)
-    (λ _ on. record { answer = Refused Stopped; allowed = on (Refused Stopped) (inl refl); silent = refl })
-    (λ _ on. record { answer = Refused OutOfMemory; allowed = on (Refused OutOfMemory) (inr (inl refl)); silent = refl })
-    (λ a one. one)
-silent s Crash = silent_crash s s.flight s.doubt refl
-
--- nothing of the event was released
-pub cut_before : {D : Type 0} (h : Held D) (s : Machine) (e : Event) → Follows h s → IsCutShort s e h.released
-cut_before h s e follows =
-    let one = silent s e in
-    record {
-      answer = one.answer;
-      allowed = one.allowed;
-      more = [];
-      rest = [];
-      begins = follows.released ∙ sym (append-nil s.released);
-      ends = one.silent ∙ sym follows.released ∙ sym (append-nil h.released);
-    }
-
--- some of it was
-pub cut_within : {D : Type 0} (h new : Held D) (s : Machine) (e : Event) (a : Answer) (released more rest : List Release) → Follows h s → FollowsTo s e a new → released ≡ h.released ++ more → new.released ≡ released ++ rest → IsCutShort s e released
-cut_within h new s e a released more rest follows to begins ends =
-    record { answer = a; allowed = to.allowed; more = more; rest = rest; begins = begins ∙ ap (λ l. l ++ more) follows.released; ends = sym to.follows.released ∙ ends }
-
--- at an event
-pub broke_at : {D : Type 0} (start : LedgerState D) (events : List Event) (at : ℕ) (given : List Answer) (h : Held D) (e : Event) (released : List Release) → Drives start (take at events) given h → slice_get events at ≡ Some e →
-    IsCutShort (run (started start) (take at events) given) e released → Broke (started start) events at given released
-broke_at start events at given h e released drives there cut =
-    let below : at < length events = slice_get_within events at e there in
-    record {
-      within = omega (arith, below);
-      answered = drives.answered;
-      during = λ x is. let same : e ≡ x = cc in subst (λ y. IsCutShort (run (started start) (take at events) given) y released) same cut;
-      behind = λ end. let no : ⊥ = omega (arith, below, end) in absurd no;
-    }
-
--- behind the last one
-pub broke_behind : {D : Type 0} (start : LedgerState D) (events : List Event) (given : List Answer) (h : Held D) → Drives start events given h → Broke (started start) events (length events) given h.released
-broke_behind start events given h drives =
-    let all = take-length events in
-    let past = slice_get_past events (length events) (omega arith) in
-    record {
-      within = omega arith;
-      answered = subst (λ l. Answered (started start) l given) (sym all) drives.answered;
-      during = λ x is. let no : ⊥ = cc in absurd no;
-      behind = λ _. drives.follows.released;
-    }
+  -- the event was answered
+  pub underway_on : (new : Held D) (a : Answer) → EventInRange e → ((s : Machine) → IsConsistent s → Follows h s → IsPromised (model_of keeps_model h) e → FollowsTo s e a new) → model_of keeps_model new ≡ model_of keeps_model h →
+      Underway keeps_model start events (at + 1) (given ++ a ∷ []) new
+  underway_on new a named answered same =
+      record {
+        same_model = same ∙ way.same_model;
+        drives = λ before disk promised.
+            let drives = way.drives before disk promised in
+            let to = answered (run (started start) (take at events) given) drives.consistent drives.follows (event_promised before disk promised) in
+            subst (λ l. Drives start l (given ++ a ∷ []) new) (sym (take-push events at e below is)) (drives_on start (take at events) given h new e a drives named to);
+      }

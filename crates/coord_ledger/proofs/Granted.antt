@@ -20,7 +20,7 @@ use Rattle.coord_ledger.specs.machine.After.{spent}
 use Rattle.coord_ledger.specs.machine.Answers.{ticket}
 use Rattle.coord_ledger.specs.machine.Log.{Log, accepted_count, with_settled, with_step}
 use Rattle.coord_ledger.specs.machine.Submits.{verdict}
-use Rattle.coord_ledger.proofs.Consistent.{reply_is}
+use Rattle.coord_ledger.proofs.ConsistentSteps.{reply_is}
 use Rattle.coord_ledger.proofs.Judging.{KeepsReply, verdict_repeats}
 
 -- ---- places in lists

@@ -25,7 +25,7 @@ use Rattle.coord_ledger.specs.machine.Answers.{most_in_flight}
 use Rattle.coord_ledger.specs.machine.Consistent.{IsConsistentLog}
 use Rattle.coord_ledger.specs.machine.Log.{Log, accepted_count, front_world, log_over, pending, settled_count, settled_world, with_settled, with_step, world_after}
 use Rattle.coord_ledger.specs.machine.Submits.{verdict}
-use Rattle.coord_ledger.proofs.Consistent.{accepted_stays}
+use Rattle.coord_ledger.proofs.ConsistentSteps.{accepted_stays}
 use Rattle.coord_ledger.proofs.Judging.{verdict_accepts}
 use Rattle.coord_ledger.proofs.ReplyKinds.{kinds_of-length, kinds_of-push}
 use Rattle.coord_ledger.proofs.Logs.{count_after, count_front, fresh_first, log_stays, world-add}

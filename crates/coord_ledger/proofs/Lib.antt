@@ -3,6 +3,9 @@ pub mod Judging
 pub mod Logs
 pub mod Released
 pub mod Replies
+pub mod ConsistentTold
+pub mod ConsistentSteps
+pub mod ConsistentFlights
 pub mod Consistent
 pub mod Steady
 pub mod Safe
@@ -10,8 +13,19 @@ pub mod Moving
 pub mod Signals
 pub mod Granted
 pub mod Following
-pub mod Driving
+pub mod FollowingSteps
+pub mod FollowingFlights
+pub mod FollowingTickets
+pub mod FollowingCrashes
 pub mod Calling
+pub mod CutShort
+pub mod Driving
+pub mod Ending
+pub mod Breaking
+pub mod RunningTickets
+pub mod RunningFlights
+pub mod Running
+pub mod Meeting
 mod WorkedRuns
 pub mod Collecting
 pub mod Holding

@@ -20,7 +20,7 @@ use Rattle.coord_ledger.specs.machine.Consistent.{DoubtFits}
 use Rattle.coord_ledger.specs.machine.Log.{accepted_count, settled_count, settled_world, world_after}
 use Rattle.coord_ledger.specs.machine.Machine.{FlightOut, Machine, has_stopped}
 use Rattle.coord_ledger.specs.machine.Shown.{shown}
-use Rattle.coord_ledger.proofs.Consistent.{kept_more, no_doubt}
+use Rattle.coord_ledger.proofs.ConsistentFlights.{kept_more, no_doubt}
 use Rattle.coord_ledger.proofs.Lists.{all_raised}
 use Rattle.coord_ledger.proofs.Logs.{count_after}
 

@@ -23,7 +23,7 @@ use Rattle.coord_ledger.specs.machine.Consistent.{IsConsistent}
 use Rattle.coord_ledger.specs.machine.Log.{accepted_count, settled_count, settled_world}
 use Rattle.coord_ledger.specs.machine.Machine.{FlightOut, Machine, has_stopped}
 use Rattle.coord_ledger.specs.machine.Shown.{shown}
-use Rattle.coord_ledger.proofs.Consistent.{KeepsMore, all_keep_more}
+use Rattle.coord_ledger.proofs.ConsistentFlights.{KeepsMore, all_keep_more}
 use Rattle.coord_ledger.proofs.Lists.{each_one}
 
 -- where log and settled steps are as they were

@@ -2,3 +2,4 @@
 pub mod State
 pub mod Follows
 pub mod Calls
+pub mod Driver

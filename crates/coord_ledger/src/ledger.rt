@@ -9,6 +9,7 @@ ghost use Rattle.coord_ledger.specs.machine.Log.{accepted_count, front_world, se
 
 mod collecting;
 mod flushing;
+mod parts;
 mod showing;
 mod submitting;
 
@@ -107,8 +108,8 @@ impl<D: Disk> Ledger<D> {
         &self.settled
     }
 
-    // How many steps are settled, those before the base counted.
-    fn settled_count(&self) -> u64
+    /// How many steps are settled, those before the base counted.
+    pub fn settled_count(&self) -> u64
         ensures value { result ≡ settled_count self.now.log }
         ensures bounded { result ≤ 2 ^ 40 }
     {
@@ -116,10 +117,12 @@ impl<D: Disk> Ledger<D> {
         self.settled.count()
     }
 
-    // How many steps are accepted, those before the base counted.
-    fn accepted_count(&self) -> u64
-        ensures { result ≡ accepted_count self.now.log }
+    /// How many steps are accepted, those before the base counted.
+    pub fn accepted_count(&self) -> u64
+        ensures value { result ≡ accepted_count self.now.log }
+        ensures bounded { result ≤ 2 ^ 40 }
     {
+        self.front.ranges();
         self.front.count()
     }
 
@@ -148,25 +151,8 @@ impl<D: Disk> Ledger<D> {
         ensures stopped { IfOk result (λ store. has_stopped store ≡ is_some self.doubt) }
         ensures out { IfErr result (λ ledger. (ledger ≡ self) × (self.disk ≡ None)) }
     {
-        if self.store.is_none() {
-            return Err(self);
-        }
-        let Ledger {
-            alloc: _,
-            base: _,
-            trail: _,
-            kinds: _,
-            done: _,
-            front: _,
-            settled: _,
-            out: _,
-            doubt: _,
-            store,
-        } = self;
-        match store {
-            Some(store) => Ok(store),
-            None => unreachable!(),
-        }
+        let (store, _base, _trail, _count) = self.into_parts()?;
+        Ok(store)
     }
 
     /// Does nothing: its contract is what the type keeps of every ledger.

@@ -16,10 +16,14 @@
 //! Contracts see `LedgerState`, `FlightState` and a `Claim` (`specs/ledger/State.antt`), and what
 //! each call makes of them (`specs/ledger/Calls.antt`).
 //!
+//! [`run_events`] runs a list of events in one thread, with crashes in between: the main theorem is
+//! its contract. `specs/ledger/Follows.antt` has what it keeps from one event to the next.
+//!
 //! [`laws`] proves of the machine what the main theorem stands on, and [`runs`] has runs whose
 //! answers are known.
 #![tactic(auto)]
 
+mod event_driver;
 mod events;
 mod flight;
 pub mod laws;
@@ -34,6 +38,7 @@ mod ticket;
 mod trace;
 mod view;
 
+pub use event_driver::run_events;
 pub use events::{Answer, Event};
 pub use flight::Flight;
 pub use ledger::Ledger;

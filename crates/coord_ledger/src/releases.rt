@@ -33,6 +33,13 @@ impl Releases {
         Releases { rows, given: 0 }
     }
 
+    /// How many are left.
+    pub fn len(&self) -> u64
+        ensures { result ≡ length self.now }
+    {
+        (self.rows.len() - self.given) as u64
+    }
+
     /// The next one, where there is one.
     pub fn next(&mut self) -> Option<Release>
         ensures first { result ≡ slice_get self.old 0 }

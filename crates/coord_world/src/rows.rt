@@ -2,4 +2,6 @@
 
 mod assembly;
 mod listing;
+mod neighbours;
+mod ordering;
 pub mod parts;

@@ -10,7 +10,7 @@ ghost use Rattle.coord_world.specs.protocol.Acceptance.{lane};
 mod equality;
 pub mod lane_table;
 pub mod node_table;
-mod places;
+pub mod places;
 pub mod session_table;
 mod slots;
 pub mod sorted;

@@ -1,7 +1,7 @@
 //! The world of nodes, lanes and sessions.
 
 ghost use Rattle.std.specs.Prelude.{◌≡◌, ◌↔◌, IsTrue, Ok, IfOk, OnOk, OnErr};
-ghost use Rattle.std.specs.Option.{option_copied};
+ghost use Rattle.std.specs.Option.{option_copied, option_map};
 ghost use Rattle.coord_types.specs.Table as table;
 ghost use Rattle.coord_types.specs.declared.steps.Kind.{Kind};
 ghost use Rattle.coord_node.specs.Steps.{kind};
@@ -11,9 +11,9 @@ ghost use Rattle.coord_world.specs.protocol.Acceptance.{accepts, IsFresh};
 ghost use Rattle.coord_world.specs.protocol.Outputs.{outputs, again};
 ghost use Rattle.coord_world.specs.protocol.Legal.{Legal};
 ghost use Rattle.coord_world.specs.protocol.Ranges.{InRange};
-ghost use Rattle.coord_world.specs.protocol.Rows.{RowsFit, listed, rows_of};
+ghost use Rattle.coord_world.specs.protocol.Rows.{RowsFit, listed, node_row, rows_of};
 
-use crate::rows::parts::Parts;
+use crate::rows::parts::{NodeRow, Parts};
 use crate::tables::Tables;
 use crate::verdicts::Verdict;
 use coord_link::Lane;
@@ -139,6 +139,20 @@ impl World {
         ensures { option_copied result ≡ table.get self.now.lanes record { 0 = from; 1 = to } }
     {
         self.tables.lanes.get(from, to)
+    }
+
+    /// The lanes with their ends, in ascending order.
+    pub fn lanes(&self) -> &[((NodeId, NodeId), Lane)]
+        ensures { result.now ≡ table.entries self.now.lanes }
+    {
+        self.tables.lanes.entries()
+    }
+
+    /// The row of a node.
+    pub fn node_row(&self, id: NodeId) -> Option<NodeRow>
+        ensures { result ≡ option_map (λ r. node_row record { 0 = id; 1 = r }) (table.get self.now.nodes id) }
+    {
+        self.tables.row_of(id)
     }
 
     /// A client's last order.

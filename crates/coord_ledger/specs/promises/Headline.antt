@@ -5,9 +5,10 @@
 -- packet or signal had been released; and every link predicate holds in that world.
 --
 -- A run is a list of events with its answers. `Survives` is the sentence for one image of the disk, `CrashPrefix` for
--- all of them, and `Ran` has it beside what else a run promises: that the answers are the event machine's, and that
--- what was released and collected is true of the steps that are kept.
-use Rattle.std.specs.Prelude.{◌≡◌, ◌⊎◌, ℕ, ◌≤◌, ◌==◌, ◌&&◌, Bool, true, false, List, ◌++◌, map, length, take, slice_get, count_by, Some}
+-- all of them, and `Ran` has it beside what else a run promises: that the answers are the event machine's, that what
+-- was released and collected is true of the steps that are kept, and which ledger is left. `Broke` and `HasCause` are
+-- what is promised of a run that ends early: what was answered and released until then, and why.
+use Rattle.std.specs.Prelude.{◌≡◌, ◌⊎◌, ℕ, ◌≤◌, ◌==◌, ◌&&◌, Bool, true, false, List, ◌++◌, map, length, take, slice_get, count_by, Some, None}
 use Rattle.std.specs.List.{AllByRecursion}
 use Rattle.coord_disk.specs.Model.Present.{Present, IsImage}
 use Rattle.coord_types.specs.Table.{get}
@@ -27,9 +28,10 @@ use Rattle.coord_ledger.specs.declared.events.Event.TheVariants.{Crash}
 use Rattle.coord_ledger.specs.declared.release.Release.{Release}
 use Rattle.coord_ledger.specs.declared.trace.RunFaultKind.{RunFaultKind}
 use Rattle.coord_ledger.specs.declared.trace.RunFaultKind.TheVariants.{OutOfMemory, Store}
-use Rattle.coord_ledger.specs.machine.After.{after, releases_of}
+use Rattle.coord_ledger.specs.ledger.State.{LedgerState}
+use Rattle.coord_ledger.specs.machine.After.{after, finished, releases_of}
 use Rattle.coord_ledger.specs.machine.Answers.{IsOneOf, answers, kept}
-use Rattle.coord_ledger.specs.machine.Log.{Log, accepted_count, settled_steps, world_after}
+use Rattle.coord_ledger.specs.machine.Log.{Log, accepted_count, moved, settled_steps, world_after}
 use Rattle.coord_ledger.specs.machine.Machine.{Machine}
 use Rattle.coord_ledger.specs.machine.Runs.{Answered, run}
 use Rattle.coord_ledger.specs.promises.Parts.{IsPartOf, released_first}
@@ -93,9 +95,22 @@ is_crash event = false
 abbrev pub Promised : Bool → List Event → Type 0 → Type 0
 Promised keeps_model events Promise = (keeps_model ≡ true) ⊎ AllByRecursion (λ e. is_crash e ≡ false) events → Promise
 
--- A run from a ledger at home that hasn't stopped: the answers are the machine's, these were released, and wherever it
--- is stopped, the headline holds. It is what `run_events` ensures where it answers a trace and a ledger.
-pub record Ran (start : Machine) (events : List Event) (given : List Answer) (released : List Release) (keeps_model : Bool) (present : Present) : Type 0 where
+-- the machine once the flight that is out of it has come back
+abbrev pub ended : Machine → Machine
+ended s = finished s s.flight
+
+-- a ledger at home that is where the machine is, seen from the world after some settled steps
+pub record IsLeft {D : Type 0} (s : Machine) (l : LedgerState D) : Type 0 where
+  pub by : ℕ
+  pub within : by ≤ s.log.settled
+  pub log : l.log ≡ moved s.log by
+  pub doubt : l.doubt ≡ s.doubt
+  pub home : l.out ≡ None
+
+-- A run from a ledger at home that hasn't stopped: the answers are the machine's, these were released, wherever it is
+-- stopped, the headline holds, and this ledger is left. It is what `run_events` ensures where it answers a trace and a
+-- ledger.
+pub record Ran {D : Type 0} (start : Machine) (events : List Event) (given : List Answer) (released : List Release) (left : LedgerState D) (keeps_model : Bool) (present : Present) : Type 0 where
   pub answered : Answered start events given
   pub released_is : released ≡ (run start events given).released
   pub prefix : CrashPrefix (run start events given) keeps_model present
@@ -103,6 +118,7 @@ pub record Ran (start : Machine) (events : List Event) (given : List Answer) (re
   pub again : AgainTruly (run start events given)
   pub signalled : SignalledOnce (run start events given)
   pub replied : RepliedTruly (run start events given)
+  pub ledger : IsLeft (ended (run start events given)) left
 
 -- these begin as what was released before, and go no further than an answer to the event would
 pub record IsCutShort (before : Machine) (e : Event) (released : List Release) : Type 0 where

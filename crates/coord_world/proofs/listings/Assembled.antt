@@ -14,7 +14,7 @@ use Rattle.coord_types.proofs.Sets.{contains-empty, len-empty}
 use Rattle.coord_types.proofs.Tables as tables
 use Rattle.coord_types.proofs.Tables.{entries-from_sorted, get-empty, get-from_sorted, option_map}
 use Rattle.coord_link.specs.LaneMachine.{Lane}
-use Rattle.coord_world.specs.code.Assembly.{assembled, client_entry, node_entry, state_of}
+use Rattle.coord_world.specs.code.Assembly.{AreNodes, LinksRise, assembled, client_entry, node_entry, state_of}
 use Rattle.coord_world.specs.protocol.NumberedWorld.{is_linked, pair_cmp, pair_cmp_total, state, state_or_none}
 use Rattle.coord_world.specs.protocol.Rows.{by_client, by_id, client_row, goes_up, group_in, link_row, node_row, rows_of, HasEnds, LinkRowFits, NodeRowFits, Rows, RowsFit}
 use Rattle.coord_world.specs.protocol.Ranges.{InRange, IsNode, LaneInRange, NodeInRange, SessionInRange}
@@ -58,6 +58,21 @@ module _ (rows : Rows) (fit : RowsFit rows) where
 
   node_fits : (u : ℕ) (s : NodeRow) → row_at u ≡ Some s → NodeRowFits rows.count s × (u ≡ s.id)
   node_fits u s there = found nat_cmp (λ r. r.id) same_number (NodeRowFits rows.count) u rows.nodes s fit.nodes there
+
+  -- the ends of links are nodes
+  node_of_group : (u g : ℕ) (o : Option NodeRow) → row_at u ≡ o → group_in o ≡ Some g → IsNode u
+  node_of_group u g None there is = cc
+  node_of_group u g (Some s) there is = let at = node_fits u s there in (omega (arith, at.0.least, at.1), omega (arith, at.0.greatest, at.1))
+
+  pub ends_are_nodes : AreNodes rows.links
+  ends_are_nodes = all_weaker (LinkRowFits rows.count rows.nodes) (λ r. IsNode r.a × IsNode r.b)
+      (λ r fits. (node_of_group r.a fits.ends.group (row_at r.a) refl fits.ends.first, node_of_group r.b fits.ends.group (row_at r.b) refl fits.ends.second)) rows.links fit.links
+
+  pub ids_are_nodes : AllByRecursion (λ r. IsNode r.id) rows.nodes
+  ids_are_nodes = all_weaker (NodeRowFits rows.count) (λ r. IsNode r.id) (λ r fits. (fits.least, fits.greatest)) rows.nodes fit.nodes
+
+  pub links_in_order : LinksRise rows.links
+  links_in_order = record { turned = turned; rise = fit.links_rise }
 
   client_fits : (c : ℕ) (s : ClientRow) → find nat_cmp c (by_client rows.clients) ≡ Some s → SessionInRange rows.count s.client s.session × (c ≡ s.client)
   client_fits c s there = found nat_cmp (λ r. r.client) same_number (λ r. SessionInRange rows.count r.client r.session) c rows.clients s fit.clients there

@@ -51,7 +51,7 @@ settled true false later before forth back apart none = ap (λ o. first_or o (So
 settled false true later before forth back apart none = ap (λ o. first_or o (Some back)) (none refl)
 settled false false later before forth back apart none = refl
 
-same_key : (x y a b : ℕ) → eq_by_cmp pair_cmp (x, y) (a, b) ≡ (eqb x a && eqb y b)
+pub same_key : (x y a b : ℕ) → eq_by_cmp pair_cmp (x, y) (a, b) ≡ (eqb x a && eqb y b)
 same_key x y a b = grind (arith, nat_tests)
 
 -- the lanes of links that rise

@@ -79,11 +79,11 @@ all_noted places es index = record {
   absent = λ u v p q is. ap (find pair_cmp (u, v)) (sym (take_all (length es) es (omega arith))) ∙ index.absent u v p q is;
 }
 
-noted : (n i : ℕ) → noted_place n ≡ Some i → n ≡ suc i
+pub noted : (n i : ℕ) → noted_place n ≡ Some i → n ≡ suc i
 noted zero i is = cc
 noted (suc n) i is = let same : n ≡ i = cc in ap suc same
 
-none_noted : (n : ℕ) → noted_place n ≡ None → n ≡ 0
+pub none_noted : (n : ℕ) → noted_place n ≡ None → n ≡ 0
 none_noted zero is = refl
 none_noted (suc n) is = cc
 

@@ -1,0 +1,28 @@
+use Rattle.std.proofs.Common.{◌≡◌, ◌+◌, false, drop, length, refl, rules, sym, ap, subst, arith}
+use Rattle.std.proofs.lemmas.Bool.{false≢true}
+use Rattle.std.proofs.lemmas.List.{length-drop}
+use Rattle.std.specs.Prelude.{is_none, sum_by}
+use Rattle.coord_engine.specs.Named.{AreNoted}
+use Rattle.coord_engine.specs.State.{GuardedState}
+use Rattle.coord_engine.proofs.Naming.{named, named_noted}
+use Rattle.coord_engine.proofs.guarded.Guarded.close.Goals as goal
+
+pub returns-then-not-are_noted-clause-refused : goal.returns-then-not-are_noted-clause-refused
+returns-then-not-are_noted-clause-refused g c =
+    let home : is_none c.args.self.ledger.disk ≡ false = search rules in
+    let all : length c.args.shares.items ≡ c.args.self.given = search rules in
+    let n = c.args.self.ledger.log.base.count + c.args.self.start in
+    let steps = drop c.args.self.start c.args.self.ledger.log.trail in
+    (home, all, λ is. false≢true (c.if-not-are_noted.ensures.1 (subst (λ s. AreNoted s n steps) (sym c.deref.ensures.value) (named_noted c.args.shares.items n steps is))))
+
+pub returns-clause-may : goal.returns-clause-may
+returns-clause-may g c =
+    let home : is_none c.args.self.ledger.disk ≡ false = search rules in
+    let all : length c.args.shares.items ≡ c.args.self.given = search rules in
+    let n = c.args.self.ledger.log.base.count + c.args.self.start in
+    let steps = drop c.args.self.start c.args.self.ledger.log.trail in
+    let are : AreNoted c.args.shares.items n steps = subst (λ s. AreNoted s n steps) c.deref.ensures.value (c.if-not-are_noted.ensures.0 refl) in
+    let start = ap (λ (x : GuardedState g.row.D.Denot). x.start) c.self.view_is in
+    let trail = ap (λ (x : GuardedState g.row.D.Denot). length x.ledger.log.trail) c.self.view_is in
+    let count : sum_by (λ notes. length notes) c.args.shares.items ≡ length steps = omega (arith, c.gather.ensures, c.self.invariant.3, start, trail, length-drop c.args.self.start c.args.self.ledger.log.trail) in
+    record { home = home; all = all; named = named c.args.shares.items n steps are count }

@@ -1,0 +1,8 @@
+use Rattle.std.proofs.Common.{◌≡◌, ◌+◌, ◌<◌, ℕ, get_or}
+use Rattle.std.specs.Prelude.{Contains}
+use Rattle.coord_ledger.specs.declared.ticket.Note.{Note}
+use Rattle.coord_engine.specs.Named.{all_notes, notes_of}
+use Rattle.coord_engine.proofs.guarded.comparing.all_noted.Given as goal
+
+abbrev pub invariant-loop-step : goal.invariant-loop-step
+invariant-loop-step g l = (l.number ≡ l.others + l.step-index) × ((k : ℕ) → k < l.step-index → (d : Note) → Contains (all_notes l.shares) (get_or (notes_of l.others l.steps) k d))

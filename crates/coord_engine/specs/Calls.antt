@@ -1,0 +1,48 @@
+-- What the value under an engine's lock says to steps and to tickets.
+use Rattle.std.specs.Prelude.{◌≡◌, ◌⊎◌, ◌<◌, ◌≤◌, true, false, List, [], ◌∷◌, ◌++◌, is_some, Result, Ok, Err, if◌then◌else◌}
+use Rattle.coord_types.specs.declared.refusals.Refusal.{Refusal}
+use Rattle.coord_types.specs.declared.refusals.Refusal.TheVariants.{OutOfMemory, Stopped, Stranger}
+use Rattle.coord_types.specs.declared.steps.Step.{Step}
+use Rattle.coord_world.specs.declared.verdicts.Verdict.{Verdict}
+use Rattle.coord_world.specs.declared.verdicts.Verdict.TheVariants.{Fresh, Repeat}
+use Rattle.coord_world.specs.protocol.Next.{reply}
+use Rattle.coord_ledger.specs.declared.ticket.Note.{Note}
+use Rattle.coord_ledger.specs.ledger.Calls.{claimed, said, with_accepted}
+use Rattle.coord_ledger.specs.ledger.State.{Claim, IsCollectable, LedgerState, reply_of}
+use Rattle.coord_ledger.specs.machine.Log.{front_world, settled_count}
+use Rattle.coord_engine.specs.State.{GuardedState}
+use Rattle.coord_engine.specs.declared.collected.Collected.{Collected}
+use Rattle.coord_engine.specs.declared.collected.Collected.TheVariants.{Settled, Refused, Waiting}
+
+-- the note of a claim's step
+abbrev pub note_of : Claim → Note
+note_of claim = record { step = claim.step; what = claim.what }
+
+-- what is said to a step, memory aside: none is accepted once the engine is finishing
+abbrev pub told : {D : Type 0} → GuardedState D → Step → Result Verdict Refusal
+told g s = if g.finishing then Err Stopped else said g.ledger s
+
+-- what submitting a step changes
+pub record LedgerAndNotes (D : Type 0) : Type 0 where
+  pub ledger : LedgerState D
+  pub notes : List Note
+
+-- An accepted step is added to the trail, and its note to the caller's; a repeat gets the reply that was kept. Want of memory may stand in the place of any answer, and after a refusal nothing has changed.
+abbrev pub AnswersStep : {D : Type 0} → Step → Result Verdict Refusal → LedgerAndNotes D → Result Claim Refusal → LedgerAndNotes D → Type 0
+AnswersStep s (Ok (Fresh kind)) before (Ok claim) after = (claim ≡ claimed s (reply (front_world before.ledger.log) s)) × (after ≡ record { ledger = with_accepted before.ledger s; notes = before.notes ++ note_of claim ∷ [] })
+AnswersStep s (Ok (Repeat kept)) before (Ok claim) after = (claim ≡ claimed s kept) × (after ≡ before)
+AnswersStep s (Err why) before (Ok claim) after = ⊥
+AnswersStep s (Ok verdict) before (Err refusal) after = (refusal ≡ OutOfMemory) × (after ≡ before)
+AnswersStep s (Err why) before (Err refusal) after = ((refusal ≡ why) ⊎ (refusal ≡ OutOfMemory)) × (after ≡ before)
+
+-- why there will be no reply to a ticket: a step with its number is settled, but isn't the ticket's; or its step will not be settled any more
+abbrev pub RefusesTicket : {D : Type 0} → LedgerState D → Claim → Refusal → Type 0
+RefusesTicket l claim Stranger = (claim.step ≤ settled_count l.log) × ¬ IsCollectable l.log claim
+RefusesTicket l claim Stopped = (settled_count l.log < claim.step) × (is_some l.doubt ≡ true)
+RefusesTicket l claim refusal = ⊥
+
+-- what is said to a ticket: its reply once its step is settled, that there will be none, or that it has to wait
+abbrev pub CollectsAs : {D : Type 0} → LedgerState D → Claim → Collected → Type 0
+CollectsAs l claim (Settled reply) = (reply ≡ reply_of claim) × IsCollectable l.log claim
+CollectsAs l claim (Refused refusal back) = (back ≡ claim) × RefusesTicket l claim refusal
+CollectsAs l claim (Waiting back) = (back ≡ claim) × (settled_count l.log < claim.step) × (is_some l.doubt ≡ false)

@@ -1,0 +1,33 @@
+-- Why an engine isn't taken apart, and the numbers and names of these faults.
+use Rattle.std.specs.Prelude.{◌≡◌, ◌≢◌, ℕ, ◌+◌, true, false, List, codes, drop, is_none, length}
+use Rattle.coord_ledger.specs.declared.ticket.Note.{Note}
+use Rattle.coord_engine.specs.Named.{IsNamed}
+use Rattle.coord_engine.specs.State.{GuardedState}
+use Rattle.coord_engine.specs.declared.closed.CloseFault.{CloseFault}
+use Rattle.coord_engine.specs.declared.closed.CloseFault.TheVariants.{FlightOut, SharesMissing, NotNamed}
+
+abbrev pub fault_number : CloseFault → ℕ
+fault_number FlightOut = 1
+fault_number SharesMissing = 2
+fault_number NotNamed = 3
+
+abbrev pub fault_name : CloseFault → List ℕ
+fault_name FlightOut = codes "FlightOut"
+fault_name SharesMissing = codes "SharesMissing"
+fault_name NotNamed = codes "NotNamed"
+
+-- the steps that were accepted since the engine was made are what the shares noted
+abbrev pub IsNamedBy : {D : Type 0} → GuardedState D → List (List Note) → Type 0
+IsNamedBy g shares = IsNamed shares (g.ledger.log.base.count + g.start) (drop g.start g.ledger.log.trail)
+
+-- no flight is out, each share that was given out is there, and they noted what was accepted
+pub record MayClose {D : Type 0} (g : GuardedState D) (shares : List (List Note)) : Type 0 where
+  pub home : is_none g.ledger.disk ≡ false
+  pub all : length shares ≡ g.given
+  pub named : IsNamedBy g shares
+
+-- why that isn't so: the first that applies
+abbrev pub RefusesClosing : {D : Type 0} → GuardedState D → List (List Note) → CloseFault → Type 0
+RefusesClosing g shares FlightOut = is_none g.ledger.disk ≡ true
+RefusesClosing g shares SharesMissing = (is_none g.ledger.disk ≡ false) × (length shares ≢ g.given)
+RefusesClosing g shares NotNamed = (is_none g.ledger.disk ≡ false) × (length shares ≡ g.given) × ¬ IsNamedBy g shares

@@ -1,0 +1,36 @@
+-- Notes against steps, worked out.
+use Rattle.std.specs.Prelude.{List, [], ◌∷◌}
+use Rattle.coord_types.specs.declared.steps.Command.TheVariants.{Reset}
+use Rattle.coord_types.specs.declared.steps.Step.{Step}
+use Rattle.coord_types.specs.declared.steps.Step.TheVariants.{Order}
+use Rattle.coord_ledger.specs.declared.ticket.Note.{Note}
+use Rattle.coord_engine.specs.Named.{IsAmong, IsNamed}
+
+-- two steps that come behind two others, and their notes
+abbrev pub first : Step
+first = Order 1 3 (Reset 1)
+
+abbrev pub second : Step
+second = Order 2 1 (Reset 2)
+
+abbrev pub third_note : Note
+third_note = record { step = 3; what = first }
+
+abbrev pub fourth_note : Note
+fourth_note = record { step = 4; what = second }
+
+-- two shares noted one each
+abbrev pub NamedByTwo : Type 0
+NamedByTwo = IsNamed ((fourth_note ∷ []) ∷ (third_note ∷ []) ∷ []) 2 (first ∷ second ∷ [])
+
+-- a share that noted both in the other order
+abbrev pub NotInOrder : Type 0
+NotInOrder = ¬ IsNamed ((fourth_note ∷ third_note ∷ []) ∷ []) 2 (first ∷ second ∷ [])
+
+-- one that was not noted
+abbrev pub NotOneShort : Type 0
+NotOneShort = ¬ IsNamed ((third_note ∷ []) ∷ []) 2 (first ∷ second ∷ [])
+
+-- behind a base of two steps, the fourth note's step stands second, and a note with another number isn't among them
+abbrev pub NamesInPlace : Type 0
+NamesInPlace = IsAmong 2 (first ∷ second ∷ []) fourth_note × ¬ IsAmong 2 (first ∷ second ∷ []) (record { step = 2; what = second })

@@ -1,0 +1,60 @@
+-- What an engine's calls answer while other threads call too. Nothing is known of what a lock holds when it is taken but what its type keeps, so a call answers as the value under the lock does in some state that it can have.
+use Rattle.std.specs.Prelude.{◌≡◌, ℕ, ◌≤◌, ◌<◌, false, true, List, is_some, take, Result, Some}
+use Rattle.coord_types.specs.declared.refusals.Refusal.{Refusal}
+use Rattle.coord_types.specs.declared.refusals.Refusal.TheVariants.{Behind, OutOfMemory, Stopped}
+use Rattle.coord_types.specs.declared.steps.Step.{Step}
+use Rattle.coord_store.specs.Kept.{Kept, has_stopped}
+use Rattle.coord_world.specs.protocol.NumberedWorld.{World}
+use Rattle.coord_world.specs.protocol.Outputs.{outs}
+use Rattle.coord_ledger.specs.declared.release.Release.{Release}
+use Rattle.coord_ledger.specs.declared.ticket.Note.{Note}
+use Rattle.coord_ledger.specs.ledger.Calls.{keeps_store, next_flight}
+use Rattle.coord_ledger.specs.ledger.State.{Claim, FlightState, LedgerState}
+use Rattle.coord_ledger.specs.machine.After.{releases_of, resent}
+use Rattle.coord_ledger.specs.machine.Answers.{most_in_flight}
+use Rattle.coord_ledger.specs.machine.Consistent.{IsConsistentLog}
+use Rattle.coord_ledger.specs.machine.Log.{accepted_count, pending, settled_count, settled_world}
+use Rattle.coord_ledger.specs.machine.Shown.{Shown, shown}
+use Rattle.coord_engine.specs.Calls.{AnswersStep, told}
+use Rattle.coord_engine.specs.Closing.{MayClose}
+use Rattle.coord_engine.specs.State.{GuardedState}
+
+-- so it is in some state that the value under the lock can have
+pub record AtSomeMoment {D : Type 0} (P : GuardedState D → Type 0) : Type 0 where
+  pub state : GuardedState D
+  pub consistent : IsConsistentLog state.ledger.log
+  pub so : P state
+
+-- a step was submitted
+abbrev pub Submits : {D : Type 0} → Step → Result Claim Refusal → List Note → List Note → GuardedState D → Type 0
+Submits {D} s answer notes later g = (l : LedgerState D) × AnswersStep s (told g s) (record { ledger = g.ledger; notes = notes }) answer (record { ledger = l; notes = later })
+
+-- the settled world was shown to a caller that had seen so much of it
+abbrev pub Shows : {D : Type 0} → Shown → ℕ → ℕ → GuardedState D → Type 0
+Shows view seen later g = (is_some g.ledger.doubt ≡ false) × (seen ≤ settled_count g.ledger.log) × (view ≡ shown (accepted_count g.ledger.log) (settled_world g.ledger.log)) × (later ≡ settled_count g.ledger.log)
+
+-- or it was not, for this reason
+abbrev pub RefusesShow : {D : Type 0} → Refusal → ℕ → GuardedState D → Type 0
+RefusesShow Stopped seen g = is_some g.ledger.doubt ≡ true
+RefusesShow (Behind settled) seen g = (settled ≡ settled_count g.ledger.log) × (settled < seen)
+RefusesShow OutOfMemory seen g = Unit {0}
+RefusesShow refusal seen g = ⊥
+
+-- this flight went out
+abbrev pub Leaves : {D : Type 0} → FlightState D → GuardedState D → Type 0
+Leaves flight g = (keeps_store g.ledger ≡ false) × (flight ≡ next_flight g.ledger.log flight.disk)
+
+-- the next flight went out, was committed, and gave this out
+abbrev pub Flushes : {D : Type 0} → List Release → GuardedState D → Type 0
+Flushes released g = (keeps_store g.ledger ≡ false) × (released ≡ releases_of (outs (settled_world g.ledger.log) (take most_in_flight (pending g.ledger.log))))
+
+-- what may have been lost was sent again
+abbrev pub SendsAgain : {D : Type 0} → List Release → GuardedState D → Type 0
+SendsAgain released g = released ≡ resent (settled_world g.ledger.log)
+
+-- the engine was taken apart into these
+abbrev pub Closes : {D : Type 0} → Kept D → World → List Step → ℕ → List (List Note) → GuardedState D → Type 0
+Closes store base trail settled shares g =
+    MayClose g shares
+    × (base ≡ g.ledger.log.base) × (trail ≡ g.ledger.log.trail) × (settled ≡ settled_count g.ledger.log)
+    × (g.ledger.disk ≡ Some store.disk) × (store.world ≡ settled_world g.ledger.log) × (has_stopped store ≡ is_some g.ledger.doubt)

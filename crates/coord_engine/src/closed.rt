@@ -1,0 +1,87 @@
+//! What is left of an engine.
+
+ghost use Rattle.std.specs.Prelude.{◌≡◌, ◌↔◌, IsTrue, Some};
+ghost use Rattle.coord_engine.specs.Closing.{fault_name, fault_number};
+ghost use Rattle.coord_engine.specs.Named.{IsAmong};
+
+use coord_disk::Disk;
+use coord_ledger::Note;
+use coord_store::Store;
+use coord_types::Step;
+use coord_world::World;
+use std::error::Error;
+use std::fmt;
+
+/// Why an engine was not taken apart.
+#[derive(Clone, Copy, Debug, PartialEq, Eq, Drop)]
+pub enum CloseFault {
+    /// A flight is out. Every call of this crate gives its flight back.
+    FlightOut,
+    /// A share was given out and is not handed in.
+    SharesMissing,
+    /// The shares' notes are not the steps that were accepted since the engine was made.
+    NotNamed,
+}
+
+impl CloseFault {
+    /// From 1 to 3.
+    pub fn number(self) -> u8
+        ensures { result ≡ fault_number self }
+    {
+        self as u8 + 1
+    }
+}
+
+impl fmt::Display for CloseFault {
+    ghost output = { λ fault. Some (fault_name fault) };
+
+    fn fmt<W: fmt::Write>(&self, f: &mut fmt::Formatter<W>) -> fmt::Result {
+        f.write_str(match self {
+            CloseFault::FlightOut => "FlightOut",
+            CloseFault::SharesMissing => "SharesMissing",
+            CloseFault::NotNamed => "NotNamed",
+        })
+    }
+}
+
+impl Error for CloseFault {}
+
+/// What is left of an engine: its store, the base world, the steps that were accepted since, and
+/// the settled count.
+#[derive(Drop)]
+pub struct Closed<D: Disk> {
+    pub store: Store<D>,
+    pub base: World,
+    pub trail: Vec<Step>,
+    pub settled: u64,
+}
+
+/// Whether these are the same step.
+fn is_same(a: &Step, b: &Step) -> bool
+    ensures { IsTrue result ↔ (a.now ≡ b.now) }
+{
+    a == b
+}
+
+/// Whether the steps behind the first `base` have the note's step at its number.
+fn is_among(base: u64, steps: &[Step], note: &Note) -> bool
+    ensures { IsTrue result ↔ IsAmong base steps.now note.now }
+{
+    if note.step <= base {
+        return false;
+    }
+    let place = note.step - base - 1;
+    if place >= steps.len() as u64 {
+        return false;
+    }
+    is_same(&steps[place as usize], &note.what)
+}
+
+impl<D: Disk> Closed<D> {
+    /// Whether the note's step stands in the trail at its number.
+    pub fn names(&self, note: &Note) -> bool
+        ensures { IsTrue result ↔ IsAmong self.now.base.count self.now.trail.items note.now }
+    {
+        is_among(self.base.count(), &self.trail, note)
+    }
+}

@@ -1,0 +1,209 @@
+//! The engine: the value under a lock, and a condition on which callers wait.
+
+ghost use Rattle.std.specs.Prelude.{◌≡◌, ◌⊎◌, [], false, true, None, IfErr, IfNone, IfOk, IfSome, OnErr};
+ghost use Rattle.coord_store.specs.declared.faults.CommitFault.TheVariants.{Device, OutOfMemory};
+ghost use Rattle.coord_ledger.specs.ledger.Calls.{keeps_store, releases_in};
+ghost use Rattle.coord_ledger.specs.ledger.State.{IsCollectable, reply_of};
+ghost use Rattle.coord_engine.specs.Calls.{RefusesTicket};
+ghost use Rattle.coord_engine.specs.Closing.{RefusesClosing};
+ghost use Rattle.coord_engine.specs.Threads.{AtSomeMoment, Closes, Flushes, Leaves, RefusesShow, SendsAgain, Shows, Submits};
+
+use crate::{CloseFault, Closed, Collected, Guarded, Share};
+use coord_disk::Disk;
+use coord_ledger::{Flight, Ledger, Releases, Seen, Ticket, View};
+use coord_store::CommitFault;
+use coord_types::{Refusal, Reply, Step};
+use std::alloc::{AllocError, Global};
+use std::sync::ledger::{Blank, Ledger as Count};
+use std::sync::{Condvar, Mutex, Wait};
+use std::thread;
+
+/// One ledger that threads share. Each call but `collect` and `flush_once` is one call of the value
+/// under the lock.
+#[derive(Drop)]
+pub struct Engine<D: Disk, L: Count> {
+    pub(crate) guarded: Mutex<Guarded<D, L>>,
+    /// On which callers wait for their replies.
+    pub(crate) changed: Condvar,
+    /// On which flushers wait for steps.
+    pub(crate) work: Condvar,
+}
+
+impl<D: Disk, L: Count> Engine<D, L> {
+    /// Over a ledger whose store is at home. The blank has 65,536 parts. No clause can say what lies
+    /// behind a lock; that is `Guarded::new`.
+    pub fn new(alloc: Global, blank: Blank, ledger: Ledger<D>) -> Self
+        requires name { blank.name ≡ L.name }
+        requires parts { (blank.parts ≡ L.parts) × (L.parts ≡ 65536) }
+        requires home { ledger.out ≡ None }
+    {
+        Engine {
+            guarded: Mutex::new(Guarded::new(alloc, blank, ledger)),
+            changed: Condvar::new(),
+            work: Condvar::new(),
+        }
+    }
+
+    /// A share without notes, where not all 65,535 were given out.
+    pub fn share<R: Wait>(&self, rt: &R) -> Option<Share<L>>
+        ensures { IfSome result (λ share. share ≡ []) }
+    {
+        self.guarded.lock(rt).share()
+    }
+
+    /// Accepts a step as the ledger does, and notes it at the end of the caller's share. A repeat is
+    /// not noted. Once the engine is finishing, it is refused as `Stopped`.
+    pub fn submit<R: Wait>(
+        &self,
+        rt: &R,
+        step: Step,
+        mine: &mut Share<L>,
+    ) -> Result<Ticket, Refusal>
+        ensures { AtSomeMoment (Submits {D = D} step result mine.old mine.new) }
+    {
+        let mut guarded = self.guarded.lock(rt);
+        guarded.keeps();
+        let answer = guarded.submit(step, mine);
+        let wakes = guarded.wakes_flusher();
+        drop(guarded);
+        if wakes {
+            self.work.notify_all();
+        }
+        answer
+    }
+
+    /// Waits until the ticket's step is settled, and gives its reply. `Stranger` refuses a ticket
+    /// of another ledger, and `Stopped` one whose step will not be settled any more; both give it
+    /// back.
+    pub fn collect<R: Wait>(&self, rt: &R, ticket: Ticket) -> Result<Reply, (Refusal, Ticket)>
+        ensures settled { IfOk result (λ reply. (reply ≡ reply_of ticket) × AtSomeMoment {D = D} (λ g. IsCollectable g.ledger.log ticket)) }
+        ensures refused { IfErr result (λ refused. (refused.1 ≡ ticket) × AtSomeMoment {D = D} (λ g. RefusesTicket g.ledger ticket refused.0)) }
+    {
+        let mut waiting = ticket;
+        let mut guarded = self.guarded.lock(rt);
+        for _ in rt.forever() {
+            guarded.keeps();
+            match guarded.collect(waiting) {
+                Collected::Settled(reply) => return Ok(reply),
+                Collected::Refused(refusal, back) => return Err((refusal, back)),
+                Collected::Waiting(back) => waiting = back,
+            }
+            guarded = self.changed.wait(rt, guarded);
+        }
+        unreachable!()
+    }
+
+    /// Shows the settled world, of which the caller must not have seen more.
+    pub fn show<R: Wait>(&self, rt: &R, seen: &mut Seen) -> Result<View, Refusal>
+        ensures shown { IfOk result (λ view. AtSomeMoment (Shows {D = D} view seen.old seen.new)) }
+        ensures refused { IfErr result (λ refusal. AtSomeMoment (RefusesShow {D = D} refusal seen.old)) }
+        ensures unseen { OnErr result (seen.new ≡ seen.old) }
+    {
+        let guarded = self.guarded.lock(rt);
+        guarded.keeps();
+        guarded.ledger().show(seen)
+    }
+
+    /// The packets that may have been lost, to be sent again as of step 0.
+    pub fn resend<R: Wait>(&self, rt: &R) -> Result<Releases, AllocError>
+        ensures { IfOk result (λ releases. AtSomeMoment (SendsAgain {D = D} releases)) }
+    {
+        let guarded = self.guarded.lock(rt);
+        guarded.keeps();
+        guarded.ledger().resend()
+    }
+
+    /// Sends a flight out under the lock, commits it outside the lock, and takes it back under it.
+    /// None where nothing is pending, a flight is out or the ledger has stopped.
+    ///
+    /// After `OutOfMemory` it may be tried again; after `Device` the ledger has stopped.
+    pub fn flush_once<R: Wait>(&self, rt: &R) -> Result<Option<Releases>, CommitFault>
+        ensures flushed { IfOk result (λ begun. IfSome begun (λ releases. AtSomeMoment (Flushes {D = D} releases))) }
+        ensures nothing { IfOk result (λ begun. IfNone begun (AtSomeMoment {D = D} (λ g. keeps_store g.ledger ≡ true))) }
+        ensures refused { IfErr result (λ fault. (fault ≡ Device) ⊎ (fault ≡ OutOfMemory)) }
+    {
+        let mut flight = match self.begin(rt)? {
+            None => return Ok(None),
+            Some(flight) => flight,
+        };
+        let committed = flight.commit();
+        let releases = self.end(rt, flight);
+        self.changed.notify_all();
+        self.work.notify_all();
+        match committed {
+            Ok(()) => Ok(Some(releases)),
+            Err(fault) => {
+                releases.lose_rest();
+                Err(fault)
+            }
+        }
+    }
+
+    /// Sends the next flight out.
+    fn begin<R: Wait>(&self, rt: &R) -> Result<Option<Flight<D>>, AllocError>
+        ensures begun { IfOk result (λ begun. IfSome begun (λ flight. AtSomeMoment (Leaves {D = D} flight))) }
+        ensures nothing { IfOk result (λ begun. IfNone begun (AtSomeMoment {D = D} (λ g. keeps_store g.ledger ≡ true))) }
+    {
+        let mut guarded = self.guarded.lock(rt);
+        guarded.keeps();
+        match guarded.begin() {
+            Ok(Some(flight)) => Ok(Some(flight)),
+            Ok(None) => Ok(None),
+            Err(fault) => Err(fault),
+        }
+    }
+
+    /// Takes a flight back. Where it is refused, for memory, it is tried again.
+    fn end<R: Wait>(&self, rt: &R, flight: Flight<D>) -> Releases
+        ensures { result ≡ releases_in flight flight.mark }
+    {
+        let mut out = flight;
+        for _ in rt.forever() {
+            match self.guarded.lock(rt).end(out) {
+                Ok(releases) => return releases,
+                Err((_, back)) => out = back,
+            }
+            thread::yield_now();
+        }
+        unreachable!()
+    }
+
+    /// From now on no step is accepted. What is pending is still settled.
+    pub fn finish<R: Wait>(&self, rt: &R) {
+        self.guarded.lock(rt).finish();
+        self.changed.notify_all();
+        self.work.notify_all();
+    }
+
+    /// Takes the engine apart, where no flight is out, all shares are there and what they noted is
+    /// what was accepted since the engine was made. It takes no memory.
+    pub fn close(
+        self,
+        shares: Vec<Share<L>>,
+    ) -> Result<Closed<D>, (CloseFault, Self, Vec<Share<L>>)>
+        requires { L.parts ≡ 65536 }
+        ensures closed { IfOk result (λ closed. AtSomeMoment {D = D} (Closes closed.store closed.base closed.trail.items closed.settled shares.items)) }
+        ensures refused { IfErr result (λ refused. AtSomeMoment {D = D} (λ g. RefusesClosing g shares.items refused.0)) }
+        ensures back { IfErr result (λ refused. refused.2.items ≡ shares.items) }
+    {
+        let Engine {
+            guarded,
+            changed,
+            work,
+        } = self;
+        let guarded = guarded.into_inner();
+        guarded.keeps();
+        match guarded.close(shares) {
+            Ok(closed) => Ok(closed),
+            Err((fault, guarded, shares)) => Err((
+                fault,
+                Engine {
+                    guarded: Mutex::new(guarded),
+                    changed,
+                    work,
+                },
+                shares,
+            )),
+        }
+    }
+}

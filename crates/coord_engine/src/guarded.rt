@@ -1,0 +1,126 @@
+//! The value under an engine's lock: the ledger, and a count of the callers' accepted steps.
+//!
+//! What each call of an engine does is the contract of a method here; the engine takes the lock and
+//! calls it.
+
+ghost use Rattle.std.specs.Prelude.{◌≡◌, ◌<◌, ◌≤◌, ◌+◌, [], is_some, length, IfNone, IfSome, None};
+ghost use Rattle.coord_engine.specs.State.{guarded_over, most_shares, with_finish, with_share};
+ghost use Rattle.coord_ledger.specs.machine.Answers.{most_in_flight};
+ghost use Rattle.coord_ledger.specs.machine.Consistent.{IsConsistentLog};
+
+mod closing;
+mod collecting;
+mod comparing;
+mod flushing;
+mod pacing;
+mod submitting;
+
+use crate::Share;
+use coord_disk::Disk;
+use coord_ledger::Ledger;
+use std::alloc::Global;
+use std::marker::Model;
+use std::sync::ledger::{Blank, Book, Ledger as Count, Share as Part};
+
+/// How many shares an engine gives out; one more part of the count stays with it.
+const MOST_SHARES: u32 = 65_535;
+
+/// The value under the lock. Contracts see `GuardedState` (`specs/State.antt`).
+///
+/// Its type keeps, beside what the ledger's type keeps, that the trail has grown by as many steps
+/// as all shares have noted.
+#[derive(Drop)]
+pub struct Guarded<D: Disk, L: Count> {
+    alloc: Global,
+    ledger: Ledger<D>,
+    /// Counts the steps that were accepted for shares.
+    book: Book<L>,
+    /// The parts of the count that were not given out.
+    rest: Part<L>,
+    given: u32,
+    start: usize,
+    finishing: bool,
+    in_hand: u64,
+}
+
+impl<D: Disk, L: Count> Model for Guarded<D, L> {
+    ghost use Rattle.std.specs.Prelude.{◌≡◌, ◌+◌, ◌≤◌, length};
+    ghost use Rattle.coord_engine.specs.State.{GuardedState, most_shares};
+
+    ghost Value = { GuardedState D };
+
+    ghost view = { λ g. record { ledger = g.ledger; start = g.start; given = g.given; finishing = g.finishing; in_hand = g.in_hand } };
+
+    ghost invariant = { λ g. (g.given ≤ most_shares) × (g.rest.parts + g.given ≡ most_shares + 1) × (g.rest.amount ≡ 0) × (length g.ledger.log.trail ≡ g.start + g.book.total) };
+}
+
+impl<D: Disk, L: Count> Guarded<D, L> {
+    /// Over a ledger whose store is at home. The blank has 65,536 parts.
+    pub fn new(alloc: Global, blank: Blank, ledger: Ledger<D>) -> Self
+        requires name { blank.name ≡ L.name }
+        requires parts { (blank.parts ≡ L.parts) × (L.parts ≡ 65536) }
+        requires home { ledger.out ≡ None }
+        ensures { result ≡ guarded_over ledger }
+    {
+        let (book, rest) = blank.open::<L>();
+        let start = ledger.trail().len();
+        Guarded {
+            alloc,
+            ledger,
+            book,
+            rest,
+            given: 0,
+            start,
+            finishing: false,
+            in_hand: 0,
+        }
+    }
+
+    /// A share without notes, where not all 65,535 were given out.
+    pub fn share(&mut self) -> Option<Share<L>>
+        ensures some { IfSome result (λ share. (share ≡ []) × (self.old.given < most_shares) × (self.new ≡ with_share self.old)) }
+        ensures none { IfNone result ((self.old.given ≡ most_shares) × (self.new ≡ self.old)) }
+    {
+        if self.given >= MOST_SHARES {
+            return None;
+        }
+        let part = self.rest.split_off(1, 0);
+        self.given += 1;
+        Some(Share {
+            part,
+            notes: Vec::new(self.alloc),
+        })
+    }
+
+    /// The ledger.
+    pub fn ledger(&self) -> &Ledger<D>
+        ensures { result.now ≡ self.now.ledger }
+    {
+        &self.ledger
+    }
+
+    /// From now on no step is accepted.
+    pub fn finish(&mut self)
+        ensures { self.new ≡ with_finish self.old }
+    {
+        self.finishing = true;
+    }
+
+    /// Whether `finish` was called.
+    pub fn is_finishing(&self) -> bool
+        ensures { result ≡ self.now.finishing }
+    {
+        self.finishing
+    }
+
+    /// Does nothing: its contract is what holds whenever the lock is free.
+    pub fn keeps(&self)
+        ensures log { IsConsistentLog self.now.ledger.log }
+        ensures out { IfSome self.now.ledger.out (λ size. (1 ≤ size) × (size ≤ most_in_flight) × (self.now.ledger.log.settled + size ≤ length self.now.ledger.log.trail)) }
+        ensures doubt { IfSome self.now.ledger.doubt (λ size. self.now.ledger.log.settled + size ≤ length self.now.ledger.log.trail) }
+        ensures grown { self.now.start ≤ length self.now.ledger.log.trail }
+        ensures shares { self.now.given ≤ most_shares }
+    {
+        self.ledger.log_is_consistent();
+    }
+}

@@ -1,0 +1,97 @@
+//! The value under the lock taken apart.
+
+ghost use Rattle.std.specs.Prelude.{◌≡◌, ◌↔◌, ◌+◌, ◌≤◌, drop, length, is_some, sum_by, IfErr, IfOk, IsTrue, Some};
+ghost use Rattle.coord_engine.specs.Closing.{MayClose, RefusesClosing};
+ghost use Rattle.coord_engine.specs.Named.{AreNoted};
+ghost use Rattle.coord_ledger.specs.machine.Log.{settled_count, settled_world};
+ghost use Rattle.coord_store.specs.Kept.{has_stopped};
+
+use super::Guarded;
+use super::comparing::{all_ascending, all_noted};
+use crate::{CloseFault, Closed, Share};
+use coord_disk::Disk;
+use coord_types::Step;
+use std::sync::ledger::{Book, Ledger as Count, Share as Part};
+
+/// With all parts of the count in hand, the shares' notes are as many as the book has counted.
+fn gather<L: Count>(book: Book<L>, rest: Part<L>, shares: Vec<Share<L>>)
+    requires parts { rest.parts + length shares.items ≡ L.parts }
+    requires amount { rest.amount ≡ 0 }
+    ensures { sum_by (λ notes. length notes) shares.items ≡ book.total }
+{
+    let mut left = shares;
+    let mut all = rest;
+    let mut book = book;
+    while let Some(share) = left.pop() {
+        let Share { part, notes: _ } = share;
+        all.merge(part);
+    }
+    book.audit(&mut all);
+}
+
+/// The steps from this place on.
+fn steps_from(trail: &[Step], start: usize) -> &[Step]
+    requires { start ≤ length trail.now }
+    ensures { result.now ≡ drop start trail.now }
+{
+    &trail[start..]
+}
+
+impl<D: Disk, L: Count> Guarded<D, L> {
+    /// Whether the shares noted, each in order, all that was accepted since the start. That they
+    /// noted no more shows in the count.
+    fn are_noted(&self, shares: &[Share<L>]) -> bool
+        ensures { IsTrue result ↔ AreNoted shares.now (self.now.ledger.log.base.count + self.now.start) (drop self.now.start self.now.ledger.log.trail) }
+    {
+        if !all_ascending(shares) {
+            return false;
+        }
+        let steps = steps_from(self.ledger.trail(), self.start);
+        let others = self.ledger.accepted_count() - steps.len() as u64;
+        all_noted(shares, others, steps)
+    }
+
+    /// Takes the ledger apart, where no flight is out, all shares are there and what they noted is
+    /// what was accepted since the start. It takes no memory.
+    pub fn close(
+        self,
+        shares: Vec<Share<L>>,
+    ) -> Result<Closed<D>, (CloseFault, Self, Vec<Share<L>>)>
+        requires { L.parts ≡ 65536 }
+        ensures may { IfOk result (λ closed. MayClose self shares.items) }
+        ensures store { IfOk result (λ closed. (self.ledger.disk ≡ Some closed.store.disk) × (closed.store.world ≡ settled_world self.ledger.log) × (has_stopped closed.store ≡ is_some self.ledger.doubt)) }
+        ensures log { IfOk result (λ closed. (closed.base ≡ self.ledger.log.base) × (closed.trail.items ≡ self.ledger.log.trail) × (closed.settled ≡ settled_count self.ledger.log)) }
+        ensures refused { IfErr result (λ refused. RefusesClosing self shares.items refused.0) }
+        ensures back { IfErr result (λ refused. (refused.1 ≡ self) × (refused.2.items ≡ shares.items)) }
+    {
+        if self.ledger.is_out() {
+            return Err((CloseFault::FlightOut, self, shares));
+        }
+        if shares.len() != self.given as usize {
+            return Err((CloseFault::SharesMissing, self, shares));
+        }
+        if !self.are_noted(&shares) {
+            return Err((CloseFault::NotNamed, self, shares));
+        }
+        let Guarded {
+            alloc: _,
+            ledger,
+            book,
+            rest,
+            given: _,
+            start: _,
+            finishing: _,
+            in_hand: _,
+        } = self;
+        gather(book, rest, shares);
+        match ledger.into_parts() {
+            Ok((store, base, trail, settled)) => Ok(Closed {
+                store,
+                base,
+                trail,
+                settled,
+            }),
+            Err(_) => unreachable!(),
+        }
+    }
+}

@@ -1,0 +1,84 @@
+//! The notes of shares against the steps that were accepted. It takes no memory.
+
+ghost use Rattle.std.specs.Prelude.{◌≡◌, ◌↔◌, ◌+◌, ◌^◌, ◌<◌, length, All, Contains, IsTrue};
+ghost use Rattle.coord_engine.specs.Named.{IsAscending, all_notes, notes_of};
+
+use crate::Share;
+use coord_ledger::Note;
+use coord_types::Step;
+use std::sync::ledger::Ledger as Count;
+
+/// Whether each note is older than the next.
+fn is_ascending(notes: &[Note]) -> bool
+    ensures { IsTrue result ↔ IsAscending notes.now }
+{
+    for i in 1..notes.len() {
+        if notes[i].step <= notes[i - 1].step {
+            return false;
+        }
+    }
+    true
+}
+
+/// Whether each share noted its steps in order.
+pub fn all_ascending<L: Count>(shares: &[Share<L>]) -> bool
+    ensures { IsTrue result ↔ All IsAscending shares.now }
+{
+    for share in shares {
+        if !is_ascending(share.notes()) {
+            return false;
+        }
+    }
+    true
+}
+
+/// Whether these are the same note.
+fn is_same(a: &Note, b: &Note) -> bool
+    ensures { IsTrue result ↔ (a.now ≡ b.now) }
+{
+    a == b
+}
+
+/// Whether the note is one of these, which ascend.
+fn has(notes: &[Note], note: &Note) -> bool
+    requires { IsAscending notes.now }
+    ensures { IsTrue result ↔ Contains notes.now note.now }
+{
+    match notes.binary_search_by_key(&note.step, |other| other.step) {
+        Ok(at) => is_same(&notes[at], note),
+        Err(_) => false,
+    }
+}
+
+/// Whether the note stands in some share.
+fn some_has<L: Count>(shares: &[Share<L>], note: &Note) -> bool
+    requires { All IsAscending shares.now }
+    ensures { IsTrue result ↔ Contains (all_notes shares.now) note.now }
+{
+    for share in shares {
+        if has(share.notes(), note) {
+            return true;
+        }
+    }
+    false
+}
+
+/// Whether each of these steps, which come behind some others, was noted in some share.
+pub fn all_noted<L: Count>(shares: &[Share<L>], others: u64, steps: &[Step]) -> bool
+    requires ascending { All IsAscending shares.now }
+    requires few { others + length steps.now < 2 ^ 64 }
+    ensures { IsTrue result ↔ All (Contains (all_notes shares.now)) (notes_of others steps.now) }
+{
+    let mut number = others;
+    for step in steps {
+        number += 1;
+        let note = Note {
+            step: number,
+            what: *step,
+        };
+        if !some_has(shares, &note) {
+            return false;
+        }
+    }
+    true
+}

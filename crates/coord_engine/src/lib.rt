@@ -1,0 +1,28 @@
+//! An engine: one ledger that many threads share, with one history.
+//!
+//! An [`Engine`] is a lock round a [`Guarded`] and a condition on which callers wait. What each call
+//! does is the contract of a method of `Guarded`, a module without handles; the engine takes the
+//! lock and calls it. A flight is committed by the caller of `flush_once`, outside the lock.
+//!
+//! A caller holds a [`Share`] with the notes of its accepted steps. `Engine::close` gathers all
+//! shares, and takes the engine apart only where the notes are what was accepted since the engine
+//! was made (`specs/Named.antt`): one history, of just the callers' steps.
+//!
+//! `specs/State.antt` is what contracts see of the value under the lock, `specs/Calls.antt` and
+//! `specs/Closing.antt` what its methods answer, and `specs/Threads.antt` what the engine's calls
+//! answer while other threads call too; [`named_rows`] are small cases. No contract says that a thread runs, that a waiter wakes or
+//! that anyone is served.
+#![tactic(auto)]
+
+mod closed;
+mod collected;
+mod engine;
+mod guarded;
+pub mod named_rows;
+mod share;
+
+pub use closed::{CloseFault, Closed};
+pub use collected::Collected;
+pub use engine::Engine;
+pub use guarded::Guarded;
+pub use share::Share;

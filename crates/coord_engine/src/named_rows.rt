@@ -1,0 +1,23 @@
+//! Notes against steps, worked out: functions that do nothing, whose contracts say what is named.
+
+ghost use Rattle.coord_engine.specs.NamedRows.{NamedByTwo, NamesInPlace, NotInOrder, NotOneShort};
+
+/// Two shares noted a step each.
+pub fn named_by_two()
+    ensures { NamedByTwo }
+{}
+
+/// A share that noted its two steps in the other order names nothing.
+pub fn not_in_order()
+    ensures { NotInOrder }
+{}
+
+/// Where one of two steps was not noted, the steps are not named.
+pub fn not_one_short()
+    ensures { NotOneShort }
+{}
+
+/// A note's number says at which place its step stands.
+pub fn names_in_place()
+    ensures { NamesInPlace }
+{}

@@ -1,0 +1,38 @@
+//! What a caller had accepted.
+
+ghost use Rattle.std.specs.Prelude.{◌≡◌};
+
+use coord_ledger::Note;
+use std::marker::Model;
+use std::sync::ledger::{Ledger as Count, Share as Part};
+
+/// A caller's share in an engine: the notes of its accepted steps, in order. Contracts see the
+/// notes.
+///
+/// Beside them it has one part of the engine's count of accepted steps, so that no share can be
+/// made up, and the notes of all shares are as many as the steps.
+#[derive(Drop)]
+pub struct Share<L: Count> {
+    pub(crate) part: Part<L>,
+    pub(crate) notes: Vec<Note>,
+}
+
+impl<L: Count> Model for Share<L> {
+    ghost use Rattle.std.specs.Prelude.{◌≡◌, List, vec_len};
+    ghost use Rattle.coord_ledger.specs.declared.ticket.Note.{Note};
+
+    ghost Value = { List Note };
+
+    ghost view = { λ s. s.notes.items };
+
+    ghost invariant = { λ s. (s.part.parts ≡ 1) × (s.part.amount ≡ vec_len s.notes) };
+}
+
+impl<L: Count> Share<L> {
+    /// The notes.
+    pub fn notes(&self) -> &[Note]
+        ensures { result.now ≡ self.now }
+    {
+        &self.notes
+    }
+}

@@ -1,0 +1,77 @@
+//! Runs of events: the one-thread driver of a ledger.
+
+ghost use Rattle.std.specs.Prelude.{◌≡◌, IfErr, IfOk, None, Some};
+ghost use Rattle.std.specs.Option.{option_map};
+ghost use Rattle.coord_ledger.specs.ledger.State.{started};
+ghost use Rattle.coord_ledger.specs.promises.Headline.{Broke, HasCause, Promised, Ran};
+
+mod crashes;
+mod driver;
+mod ending;
+mod events;
+mod flights;
+mod released;
+
+use crate::{Event, Ledger, RunFault, Seen, Trace};
+use coord_disk::CrashDisk;
+use driver::Driver;
+use std::alloc::Global;
+
+/// Runs events on a ledger in one thread, and gives an answer to each, all that was released, and
+/// the ledger. Tickets are numbered from 0 as they are given. A crash forgets the tickets, the
+/// flight and what was shown, crashes the disk and opens it again. At the end a flight that is out
+/// comes back, and what it releases is lost.
+///
+/// The main theorem: wherever the run is stopped, before, within or after any write, opening
+/// whatever the disk may then hold gives the world after a prefix of the accepted steps, none
+/// skipped and none in part. That prefix holds every step whose reply, packet or signal had been
+/// released, and every link predicate holds in that world.
+///
+/// A run that is stopped after one of its events is a shorter run. Inside an event only a commit and
+/// the opening after a crash touch the disk: `Flight::commit` and `Store::open` say of each of their
+/// moments what a crash may then leave.
+pub fn run_events<D: CrashDisk>(
+    alloc: Global,
+    ledger: Ledger<D>,
+    events: &[Event],
+) -> Result<(Trace, Ledger<D>), RunFault>
+    requires home { ledger.out ≡ None }
+    requires going { ledger.doubt ≡ None }
+
+    // A run that is answered: the main theorem, and the ledger that is left.
+    ensures ran { IfOk result (λ r. (before : D) → (after : D) → ledger.disk ≡ Some before → r.1.disk ≡ Some after
+        → Promised (D.keeps_model before) events.now (Ran (started ledger) events.now r.0.answers.items r.0.released.items r.1 (D.keeps_model after) (D.present after))) }
+    ensures at_home { IfOk result (λ r. r.1.out ≡ None) }
+    ensures same_model { IfOk result (λ r. option_map D.keeps_model r.1.disk ≡ option_map D.keeps_model ledger.disk) }
+
+    // A run that ended early.
+    ensures broke { IfErr result (λ fault. (before : D) → ledger.disk ≡ Some before
+        → Promised (D.keeps_model before) events.now (Broke (started ledger) events.now fault.at fault.trace.answers.items fault.trace.released.items)) }
+    ensures cause { IfErr result (λ fault. (before : D) → ledger.disk ≡ Some before → HasCause (D.keeps_model before) events.now fault.at fault.kind) }
+{
+    ledger.log_is_consistent();
+    let mut held = Driver {
+        ledger,
+        flight: None,
+        tickets: Vec::new(alloc),
+        seen: Seen::new(),
+        released: Vec::new(alloc),
+    };
+    let mut answers = Vec::new(alloc);
+    for (at, event) in events.iter().enumerate() {
+        if answers.reserve(1).is_err() {
+            return Err(held.lose().at(at, answers));
+        }
+        match held.meet(alloc, *event) {
+            Ok((answer, next)) => {
+                answers.push_reserved(answer);
+                held = next;
+            }
+            Err(broken) => return Err(broken.at(at, answers)),
+        }
+    }
+    match held.end() {
+        Ok((released, ledger)) => Ok((Trace { answers, released }, ledger)),
+        Err(broken) => Err(broken.at(events.len(), answers)),
+    }
+}

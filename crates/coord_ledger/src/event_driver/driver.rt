@@ -1,0 +1,127 @@
+//! What a run of events holds between two events.
+
+ghost use Rattle.std.specs.Prelude.{◌≡◌, IfOk, OnErr, None, Some};
+ghost use Rattle.coord_ledger.specs.declared.events.Event.TheVariants.{Submit, Collect, Resend, Show, Commit};
+ghost use Rattle.coord_ledger.specs.ledger.Driver.{model_of};
+ghost use Rattle.coord_ledger.specs.ledger.Follows.{Follows, FollowsTo};
+ghost use Rattle.coord_ledger.specs.machine.Consistent.{IsConsistent};
+ghost use Rattle.coord_ledger.specs.machine.Machine.{Machine};
+ghost use Rattle.coord_ledger.specs.promises.Headline.{IsCutShort};
+
+use super::released::push_releases;
+use crate::{Answer, Flight, Ledger, Release, Seen, Ticket};
+use coord_disk::CrashDisk;
+use coord_types::{Refusal, Step};
+use std::alloc::AllocError;
+use std::marker::Model;
+
+/// A ledger, its flight, the tickets as they were given, what was shown last, and what was released.
+/// Contracts see `Held` (`specs/ledger/Follows.antt`); its type keeps that the flight is the
+/// ledger's own.
+pub struct Driver<D: CrashDisk> {
+    pub ledger: Ledger<D>,
+    pub flight: Option<Flight<D>>,
+    pub tickets: Vec<Option<Ticket>>,
+    pub seen: Seen,
+    pub released: Vec<Release>,
+}
+
+impl<D: CrashDisk> Model for Driver<D> {
+    ghost use Rattle.coord_ledger.specs.ledger.Follows.{Held, HoldsFlight};
+
+    ghost Value = { Held D };
+
+    ghost view = { λ d. record { ledger = d.ledger; flight = d.flight; claims = d.tickets.items; seen = d.seen; released = d.released.items } };
+
+    ghost invariant = { λ d. HoldsFlight d.ledger d.flight };
+}
+
+impl<D: CrashDisk> Driver<D> {
+    /// A step is handed in.
+    pub fn submit(&mut self, step: Step) -> Result<Answer, AllocError>
+        ensures answered { (s : Machine) → IsConsistent s → Follows self.old s → IfOk result (λ answer. FollowsTo s (Submit step) answer self.new) }
+        ensures err { OnErr result (self.new ≡ self.old) }
+        ensures model { model_of D.keeps_model self.new ≡ model_of D.keeps_model self.old }
+    {
+        self.tickets.reserve(1)?;
+        self.ledger.log_is_consistent();
+        let front = self.ledger.front();
+        front.ranges();
+        let before = front.count();
+        match self.ledger.submit(step) {
+            Ok(ticket) => {
+                let number = ticket.step();
+                self.tickets.push_reserved(Some(ticket));
+                let answer = if before < number {
+                    Answer::Accepted(number)
+                } else {
+                    Answer::Repeated(number)
+                };
+                Ok(answer)
+            }
+            Err(refusal) => Ok(Answer::Refused(refusal)),
+        }
+    }
+
+    /// A ticket is collected.
+    pub fn collect(&mut self, index: usize) -> Answer
+        ensures answered { (s : Machine) → IsConsistent s → Follows self.old s → FollowsTo s (Collect index) result self.new }
+        ensures model { model_of D.keeps_model self.new ≡ model_of D.keeps_model self.old }
+    {
+        if index >= self.tickets.len() {
+            return Answer::NoTicket;
+        }
+        let Some(ticket) = self.tickets[index].take() else {
+            return Answer::NoTicket;
+        };
+        match self.ledger.collect(ticket) {
+            Ok(reply) => Answer::Collected(reply),
+            Err(ticket) => {
+                if let Some(other) = self.tickets[index].replace(ticket) {
+                    other.forget();
+                }
+                Answer::Waiting
+            }
+        }
+    }
+
+    /// The flight that is out is committed.
+    pub fn commit(&mut self) -> Answer
+        ensures answered { (s : Machine) → IsConsistent s → Follows self.old s → FollowsTo s Commit result self.new }
+        ensures model { model_of D.keeps_model self.new ≡ model_of D.keeps_model self.old }
+    {
+        match &mut self.flight {
+            None => Answer::NoFlight,
+            Some(flight) => match flight.commit() {
+                Ok(()) => Answer::Committed,
+                Err(fault) => Answer::Failed(fault),
+            },
+        }
+    }
+
+    /// What may have been lost is released again.
+    pub fn resend(&mut self) -> Result<Answer, AllocError>
+        ensures answered { (s : Machine) → IsConsistent s → Follows self.old s → IfOk result (λ answer. FollowsTo s Resend answer self.new) }
+        ensures cut { (s : Machine) → IsConsistent s → Follows self.old s → OnErr result (IsCutShort s Resend self.new.released) }
+        ensures model { model_of D.keeps_model self.new ≡ model_of D.keeps_model self.old }
+    {
+        match self.ledger.resend() {
+            Ok(releases) => {
+                let count = push_releases(&mut self.released, releases)?;
+                Ok(Answer::Resent(count))
+            }
+            Err(_) => Ok(Answer::Refused(Refusal::OutOfMemory)),
+        }
+    }
+
+    /// The settled world is shown.
+    pub fn show(&mut self) -> Answer
+        ensures answered { (s : Machine) → IsConsistent s → Follows self.old s → FollowsTo s Show result self.new }
+        ensures model { model_of D.keeps_model self.new ≡ model_of D.keeps_model self.old }
+    {
+        match self.ledger.show(&mut self.seen) {
+            Ok(view) => Answer::Shown(view),
+            Err(refusal) => Answer::Refused(refusal),
+        }
+    }
+}

@@ -1,0 +1,69 @@
+//! Any event of a run.
+
+ghost use Rattle.std.specs.Prelude.{◌≡◌, IfErr, IfOk, MatchResult};
+ghost use Rattle.coord_ledger.specs.declared.trace.RunFaultKind.TheVariants.{OutOfMemory};
+ghost use Rattle.coord_ledger.specs.ledger.Driver.{IsEventFault, IsPromised, model_of};
+ghost use Rattle.coord_ledger.specs.ledger.Follows.{Follows, FollowsTo};
+ghost use Rattle.coord_ledger.specs.machine.Consistent.{EventInRange, IsConsistent};
+ghost use Rattle.coord_ledger.specs.machine.Machine.{Machine};
+ghost use Rattle.coord_ledger.specs.promises.Headline.{IsCutShort};
+
+use super::driver::Driver;
+use super::flights::Broken;
+use super::released::forget_all;
+use crate::{Answer, Event, RunFaultKind};
+use coord_disk::CrashDisk;
+use std::alloc::Global;
+
+impl<D: CrashDisk> Driver<D> {
+    /// Gives up all but what was released, for want of memory.
+    pub fn lose(self) -> Broken
+        ensures kind { result.kind ≡ OutOfMemory }
+        ensures released { result.released.items ≡ self.released }
+    {
+        let Driver {
+            ledger: _ledger,
+            flight,
+            tickets,
+            seen: _,
+            released,
+        } = self;
+        forget_all(tickets);
+        if let Some(flight) = flight {
+            let _disk = flight.into_disk();
+        }
+        Broken {
+            kind: RunFaultKind::OutOfMemory,
+            released,
+        }
+    }
+
+    /// One event. Where the driver's own lists find no memory, or the disk isn't opened after a
+    /// crash, all but what was released is gone.
+    pub fn meet(self, alloc: Global, event: Event) -> Result<(Answer, Self), Broken>
+        ensures answered { (s : Machine) → IsConsistent s → Follows self s → IsPromised (model_of D.keeps_model self) event
+            → MatchResult result (λ held. FollowsTo s event held.0 held.1) (λ broken. IsCutShort s event broken.released.items) }
+        ensures named { EventInRange event }
+        ensures model { IfOk result (λ held. model_of D.keeps_model held.1 ≡ model_of D.keeps_model self) }
+        ensures cause { IfErr result (λ broken. IsEventFault (model_of D.keeps_model self) event broken.kind) }
+    {
+        let mut held = self;
+        let answer = match event {
+            Event::Submit(step) => {
+                step.within_ranges();
+                held.submit(step)
+            }
+            Event::Begin => return Ok(held.begin()),
+            Event::Commit => Ok(held.commit()),
+            Event::Finish => return held.finish(),
+            Event::Collect(index) => Ok(held.collect(index)),
+            Event::Resend => held.resend(),
+            Event::Show => Ok(held.show()),
+            Event::Crash => return held.crash(alloc),
+        };
+        match answer {
+            Ok(answer) => Ok((answer, held)),
+            Err(_) => Err(held.lose()),
+        }
+    }
+}

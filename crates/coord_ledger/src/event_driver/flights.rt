@@ -1,0 +1,123 @@
+//! The events of a run that move the store: a flight goes out and comes back, and the disk crashes.
+
+ghost use Rattle.std.specs.Prelude.{◌≡◌, IfErr, IfOk, MatchResult};
+ghost use Rattle.coord_ledger.specs.declared.events.Event.TheVariants.{Begin, Finish};
+ghost use Rattle.coord_ledger.specs.declared.trace.RunFaultKind.TheVariants.{OutOfMemory};
+ghost use Rattle.coord_ledger.specs.ledger.Driver.{model_of};
+ghost use Rattle.coord_ledger.specs.ledger.Follows.{Follows, FollowsTo};
+ghost use Rattle.coord_ledger.specs.machine.Consistent.{IsConsistent};
+ghost use Rattle.coord_ledger.specs.machine.Machine.{Machine};
+ghost use Rattle.coord_ledger.specs.promises.Headline.{IsCutShort};
+
+use super::driver::Driver;
+use super::released::{forget_all, push_releases};
+use crate::{Answer, Release, RunFault, RunFaultKind, Trace};
+use coord_disk::CrashDisk;
+use coord_types::Refusal;
+
+/// Why an event was not answered, and what was released until then.
+pub struct Broken {
+    pub kind: RunFaultKind,
+    pub released: Vec<Release>,
+}
+
+impl Broken {
+    /// The fault of a run that ended at this event, with the answers before it.
+    pub fn at(self, at: usize, answers: Vec<Answer>) -> RunFault
+        ensures at { result.at ≡ at }
+        ensures answers { result.trace.answers.items ≡ answers.items }
+        ensures released { result.trace.released.items ≡ self.released.items }
+        ensures kind { result.kind ≡ self.kind }
+    {
+        let Broken { kind, released } = self;
+        let trace = Trace { answers, released };
+        RunFault { at, trace, kind }
+    }
+}
+
+impl<D: CrashDisk> Driver<D> {
+    /// A flight goes out. While one is out, none does.
+    pub fn begin(self) -> (Answer, Self)
+        ensures answered { (s : Machine) → IsConsistent s → Follows self s → FollowsTo s Begin result.0 result.1 }
+        ensures model { model_of D.keeps_model result.1 ≡ model_of D.keeps_model self }
+    {
+        let Driver {
+            mut ledger,
+            flight,
+            tickets,
+            seen,
+            released,
+        } = self;
+        if let Some(flight) = flight {
+            let flight = Some(flight);
+            let held = Driver {
+                ledger,
+                flight,
+                tickets,
+                seen,
+                released,
+            };
+            return (Answer::Nothing, held);
+        }
+        let (answer, flight) = match ledger.begin_flush() {
+            Ok(Some(flight)) => (Answer::Begun(flight.steps.len() as u64), Some(flight)),
+            Ok(None) => (Answer::Nothing, None),
+            Err(_) => (Answer::Refused(Refusal::OutOfMemory), None),
+        };
+        let held = Driver {
+            ledger,
+            flight,
+            tickets,
+            seen,
+            released,
+        };
+        (answer, held)
+    }
+
+    /// The flight comes back, and what it releases is kept.
+    pub fn finish(self) -> Result<(Answer, Self), Broken>
+        ensures answered { (s : Machine) → IsConsistent s → Follows self s → MatchResult result (λ held. FollowsTo s Finish held.0 held.1) (λ broken. IsCutShort s Finish broken.released.items) }
+        ensures model { IfOk result (λ held. model_of D.keeps_model held.1 ≡ model_of D.keeps_model self) }
+        ensures kind { IfErr result (λ broken. broken.kind ≡ OutOfMemory) }
+    {
+        let Driver {
+            mut ledger,
+            flight,
+            tickets,
+            seen,
+            mut released,
+        } = self;
+        let Some(flight) = flight else {
+            let held = Driver {
+                ledger,
+                flight: None,
+                tickets,
+                seen,
+                released,
+            };
+            return Ok((Answer::NoFlight, held));
+        };
+        let (answer, flight) = match ledger.end_flush(flight) {
+            Ok(releases) => {
+                if push_releases(&mut released, releases).is_err() {
+                    forget_all(tickets);
+                    return Err(Broken {
+                        kind: RunFaultKind::OutOfMemory,
+                        released,
+                    });
+                }
+                ledger.log_is_consistent();
+                (Answer::Finished(ledger.settled().count()), None)
+            }
+            Err((refusal, flight)) => (Answer::Refused(refusal), Some(flight)),
+        };
+        let held = Driver {
+            ledger,
+            flight,
+            tickets,
+            seen,
+            released,
+        };
+        Ok((answer, held))
+    }
+}

@@ -1,0 +1,38 @@
+//! What a run has released.
+
+ghost use Rattle.std.specs.Prelude.{◌≡◌, ◌++◌, List, length, IfOk, OnErr};
+ghost use Rattle.coord_ledger.specs.declared.release.Release.{Release as Row};
+
+use crate::{Release, Releases, Ticket};
+use coord_types::Output;
+use std::alloc::AllocError;
+
+/// Adds releases to a list, and says how many they were. Where it finds no memory the others are
+/// lost.
+pub fn push_releases(released: &mut Vec<Release>, mut releases: Releases) -> Result<u64, AllocError>
+    ensures count { IfOk result (λ n. n ≡ length releases) }
+    ensures all { IfOk result (λ _. released.new.items ≡ released.old.items ++ releases) }
+    ensures some { OnErr result ((more : List Row) × ((rest : List Row) × ((releases ≡ more ++ rest) × (released.new.items ≡ released.old.items ++ more)))) }
+{
+    let before = released.len();
+    while let Some(release) = releases.next() {
+        let output: Output = release.output;
+        let step = release.step;
+        if released.push(Release { step, output }).is_err() {
+            releases.lose_rest();
+            return Err(AllocError);
+        }
+    }
+    releases.lose_rest();
+    Ok((released.len() - before) as u64)
+}
+
+/// Gives up the replies that were not collected.
+pub fn forget_all(mut tickets: Vec<Option<Ticket>>) {
+    while let Some(place) = tickets.pop() {
+        if let Some(ticket) = place {
+            ticket.forget();
+        }
+    }
+    tickets.destroy_empty();
+}

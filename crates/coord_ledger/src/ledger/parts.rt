@@ -1,0 +1,81 @@
+//! The ledger's trail, and the ledger taken apart.
+
+ghost use Rattle.std.specs.Prelude.{◌≡◌, ◌+◌, ◌≤◌, is_none, is_some, length, None, Some, IfErr, IfOk, IfSome};
+ghost use Rattle.coord_store.specs.Kept.{has_stopped};
+ghost use Rattle.coord_ledger.specs.machine.Answers.{most_in_flight};
+ghost use Rattle.coord_ledger.specs.machine.Consistent.{IsConsistentLog};
+ghost use Rattle.coord_ledger.specs.machine.Log.{pending, settled_count, settled_world};
+
+use super::Ledger;
+use coord_disk::Disk;
+use coord_store::Store;
+use coord_types::Step;
+use coord_world::World;
+
+impl<D: Disk> Ledger<D> {
+    /// The steps that were accepted since the base.
+    pub fn trail(&self) -> &[Step]
+        ensures { result.now ≡ self.now.log.trail }
+    {
+        &self.trail
+    }
+
+    /// How many steps are accepted and not settled.
+    pub fn pending(&self) -> usize
+        ensures { result ≡ length (pending self.now.log) }
+    {
+        self.trail.len() - self.done
+    }
+
+    /// Takes the ledger apart into its store, base, trail and settled count, unless the store is
+    /// out with a flight. It takes no memory.
+    pub fn into_parts(self) -> Result<(Store<D>, World, Vec<Step>, u64), Self>
+        ensures home { IfOk result (λ parts. self.disk ≡ Some parts.0.disk) }
+        ensures world { IfOk result (λ parts. parts.0.world ≡ settled_world self.log) }
+        ensures stopped { IfOk result (λ parts. has_stopped parts.0 ≡ is_some self.doubt) }
+        ensures base { IfOk result (λ parts. parts.1 ≡ self.log.base) }
+        ensures trail { IfOk result (λ parts. parts.2.items ≡ self.log.trail) }
+        ensures settled { IfOk result (λ parts. parts.3 ≡ settled_count self.log) }
+        ensures out { IfErr result (λ ledger. (ledger ≡ self) × (self.disk ≡ None)) }
+    {
+        if self.store.is_none() {
+            return Err(self);
+        }
+        let count = self.settled_count();
+        let Ledger {
+            alloc: _,
+            base,
+            trail,
+            kinds: _,
+            done: _,
+            front: _,
+            settled: _,
+            out: _,
+            doubt: _,
+            store,
+        } = self;
+        match store {
+            Some(store) => Ok((store, base, trail, count)),
+            None => unreachable!(),
+        }
+    }
+
+    /// Whether the store is out with a flight.
+    pub fn is_out(&self) -> bool
+        ensures out { result ≡ is_some self.now.out }
+        ensures disk { result ≡ is_none self.now.disk }
+    {
+        self.store.is_none()
+    }
+
+    /// Does nothing: its contract is what the type keeps of every ledger's log, of the steps that
+    /// are out and of those in doubt, and that the store is out with them.
+    pub fn log_is_consistent(&self)
+        ensures log { IsConsistentLog self.now.log }
+        ensures out { IfSome self.now.out (λ size. (1 ≤ size) × (size ≤ most_in_flight) × (self.now.log.settled + size ≤ length self.now.log.trail)) }
+        ensures doubt { IfSome self.now.doubt (λ size. self.now.log.settled + size ≤ length self.now.log.trail) }
+        ensures home { is_some self.now.out ≡ is_none self.now.disk }
+    {
+        let _ = &self.base;
+    }
+}

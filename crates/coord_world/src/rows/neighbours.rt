@@ -1,0 +1,48 @@
+//! Whom links make neighbours.
+
+ghost use Rattle.std.specs.Prelude.{◌≡◌, ◌-◌, slice_set};
+ghost use Rattle.coord_types.specs.NodeSet as set;
+ghost use Rattle.coord_types.specs.StepRanges.{IsNode};
+ghost use Rattle.coord_world.specs.code.Assembly.{AreNear, near_in};
+
+use crate::rows::parts::LinkRow;
+use coord_types::{NodeId, NodeSet};
+
+/// One place for each node.
+const PLACES: usize = 64;
+
+/// Each node's neighbours: those of node k stand at place k - 1.
+#[derive(Drop)]
+pub struct Neighbours {
+    pub sets: [NodeSet; PLACES],
+}
+
+impl Neighbours {
+    /// Those that links make, met in one walk over the links.
+    pub fn by(links: &[LinkRow]) -> Self
+        ensures { AreNear links.now result.sets }
+    {
+        let mut sets = [NodeSet::new(); PLACES];
+        for link in links {
+            note(&mut sets, link.a, link.b);
+            note(&mut sets, link.b, link.a);
+        }
+        Neighbours { sets }
+    }
+
+    /// The neighbours of a node.
+    pub fn of(&self, id: NodeId) -> NodeSet
+        ensures { result ≡ near_in self.now.sets id }
+    {
+        self.sets[usize::from(id.number() - 1)]
+    }
+}
+
+/// Notes a neighbour of a node.
+fn note(sets: &mut [NodeSet; PLACES], id: NodeId, neighbour: NodeId)
+    ensures set { sets.new ≡ slice_set sets.old (id - 1) (set.insert (near_in sets.old id) neighbour) }
+    ensures node { IsNode id }
+{
+    let place = usize::from(id.number() - 1);
+    sets[place] = sets[place].with(neighbour);
+}
