@@ -1,4 +1,4 @@
-use Rattle.std.proofs.Common.{List, [], ◌∷◌, ◌++◌, sym, ◌∙◌}
+use Rattle.std.proofs.Common.{[], ◌∷◌, ◌++◌, sym, ◌∙◌}
 use Rattle.coord_admin.specs.Connections.{Connection}
 use Rattle.coord_admin.proofs.Served.{served_on}
 use Rattle.coord_admin.proofs.connections.serve_connections.Goals as goal

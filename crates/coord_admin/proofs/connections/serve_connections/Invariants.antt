@@ -1,4 +1,3 @@
-use Rattle.std.proofs.Common.{◌≡◌}
 use Rattle.coord_admin.specs.Connections.{ServedOpen}
 use Rattle.coord_admin.proofs.connections.serve_connections.Given as goal
 
