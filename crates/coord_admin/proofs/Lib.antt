@@ -1,3 +1,4 @@
 pub mod Computes
 pub mod NoFloats
 pub mod Stream
+pub mod Served

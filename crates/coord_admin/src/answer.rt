@@ -4,7 +4,7 @@ ghost use Rattle.std.specs.Prelude.{◌≡◌};
 ghost use Rattle.coord_admin.specs.Stream.{is_closed};
 
 use crate::fault::LineFault;
-use crate::view::View;
+use coord_ledger::View;
 use coord_types::{Refusal, Reply};
 
 /// What a line is answered, before it is written.

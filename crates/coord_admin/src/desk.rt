@@ -8,7 +8,7 @@ ghost use Rattle.coord_admin.specs.declared.answer.Answer.{Answer};
 ghost use Rattle.coord_admin.specs.declared.answer.Answer.TheVariants as answer;
 ghost use Rattle.coord_admin.specs.Replies.{order_answer, show_answer, resend_answer};
 
-use crate::view::View;
+use coord_ledger::View;
 use coord_types::{Client, Command, Refusal, Reply};
 
 /// Whom `serve` asks. Its meaning is what it may answer to each request, and what it then is.

@@ -2,7 +2,8 @@
 
 ghost use Rattle.std.specs.Prelude.{⊤};
 
-use coord_admin::{Desk, LinkView, NodeView, View};
+use coord_admin::Desk;
+use coord_ledger::{LinkView, NodeView, View};
 use coord_types::{Client, Command, Group, Mode, NodeId, Refusal, Reply};
 use std::alloc::Global;
 

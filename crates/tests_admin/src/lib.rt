@@ -1,6 +1,8 @@
-//! Tests of the administration lines, as texts read and written.
+//! Tests of the administration lines, as texts read and written and over connections.
 #![tactic(auto)]
 
+#[cfg(test)]
+mod connections;
 #[cfg(test)]
 mod desks;
 #[cfg(test)]
