@@ -3,7 +3,7 @@
 /// A name, a script, and the lines that it prints.
 pub type Run = (&'static str, &'static str, &'static str);
 
-pub const RUNS: [Run; 24] = [
+pub const RUNS: [Run; 25] = [
     ("empty input", "", ""),
     (
         "comments and empty lines",
@@ -276,6 +276,42 @@ pub const RUNS: [Run; 24] = [
          no 12 NoLink\n\
          no 17 Early\n\
          idle\n",
+    ),
+    (
+        "slot reuse",
+        "add 64 1\n\
+         add 63 1\n\
+         join 63 64\n\
+         reset 64\n\
+         take 64 63\n\
+         take 63 64\n\
+         clear 64 63\n\
+         check\n\
+         drop 63 64\n\
+         remove 63\n\
+         add 63 2\n\
+         show\n",
+        "done 1\n\
+         done 2\n\
+         done 3\n\
+         started 4\n\
+         data 64 63 1 abort\n\
+         taken 5\n\
+         receipt 64 63 1\n\
+         data 63 64 1 ack\n\
+         taken 6\n\
+         receipt 63 64 1\n\
+         signal 64 1\n\
+         cleared 7\n\
+         data 64 63 2 ready\n\
+         legal\n\
+         done 8\n\
+         signal 63 1\n\
+         done 9\n\
+         done 10\n\
+         view 10 10\n\
+         node 63 2 ready 0 0 0\n\
+         node 64 1 ready 0 1 0\n",
     ),
     (
         "confirm",
