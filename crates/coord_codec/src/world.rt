@@ -14,6 +14,10 @@ use coord_types::MAX_SNAPSHOT_BYTES;
 use coord_world::{Parts, World};
 use std::alloc::{AllocError, Global};
 
+/// The bytes of the greatest world: the count of its steps and three lengths, 64 nodes of 28 bytes,
+/// 128 links of 52 and 16 clients of 28.
+const MOST_WORLD_BYTES: usize = 8_907;
+
 /// The rows that all of the bytes spell.
 fn decode(alloc: Global, version: u8, bytes: &[u8]) -> Result<Parts, CodecFault>
     ensures exact { Answers (λ p. listed p) result (decoded world version bytes.now) }
@@ -68,7 +72,7 @@ pub fn write_world(alloc: Global, written: &World) -> Result<Vec<u8>, AllocError
     ensures len { IfOk result (λ v. length v.items ≤ MAX_SNAPSHOT_BYTES) }
 {
     written.ranges();
-    let mut out = Vec::new(alloc);
+    let mut out = Vec::with_capacity(alloc, MOST_WORLD_BYTES)?;
     put_world(&mut out, written)?;
     Ok(out)
 }

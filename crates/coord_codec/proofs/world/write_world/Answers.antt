@@ -7,4 +7,4 @@ use Rattle.coord_codec.proofs.world.write_world.Goals as goal
 pub returns-clause-len : goal.returns-clause-len
 returns-clause-len c =
     let most = length-world (rows_of c.args.written.now) (rows_of_world_fit c.args.written.now c.ranges-2.ensures) in
-    rw (c.in_ok-put_world.ensures, c.new-out.ensures.items) (omega (arith, most))
+    rw (c.in_ok-put_world.ensures, c.in_ok-out.ensures.items) (omega (arith, most))
