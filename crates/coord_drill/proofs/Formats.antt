@@ -96,6 +96,18 @@ module _ {A B : Type 0} (make : A → B) (parts : B → Option A) (f : Format A)
   pub made_format : IsFormat (made make parts f)
   made_format = record { again = λ y ws rest e. made_again y ws rest _ refl e; plain = λ y ws e. made_plain y ws _ refl e }
 
+-- values are made of their parts
+pub made_of : {A B : Type 0} (make : A → B) (p x : A) → Some p ≡ Some x → make x ≡ make p
+made_of make p x e = let same : p ≡ x = cc in ap make (sym same)
+
+-- one after the other
+pub both : {A B : Type 0} {f : Format A} {g : Format B} → IsFormat f → IsFormat g → IsFormat (f & g)
+both first second = and_format _ _ first second
+
+-- by its parts
+pub by_parts : {A B : Type 0} {f : Format A} (make : A → B) (parts : B → Option A) → ((y : B) (x : A) → parts y ≡ Some x → make x ≡ y) → IsFormat f → IsFormat (made make parts f)
+by_parts make parts h format = made_format make parts _ format h
+
 -- ---- tables
 
 -- a row of another verb than these

@@ -9,5 +9,8 @@ mod NoText
 mod Quiet
 mod Settling
 mod Spelled
+mod SpelledCommands
+mod SpelledFields
+mod SpelledRequests
 mod Taken
 mod WordsOf

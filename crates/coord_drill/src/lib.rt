@@ -10,7 +10,9 @@
 //! Memory, the device and a crash choose among the machine's answers: that is the luck of a line.
 //! `specs/Drilled.antt` says what may be printed to a whole input, for some luck at each line. The
 //! main theorem is the contract of [`coord_drill`]: what was written may be printed to all that was
-//! read.
+//! read. The grammar's law is that of [`spelled_is_read`]: no two requests share a line.
+//!
+//! [`print_view`] adds the lines of `show`, for other callers too.
 #![tactic(auto)]
 
 mod asked;
@@ -26,4 +28,5 @@ mod writing;
 
 pub use console::{MOST_READS, coord_drill};
 pub use fault::Fault;
-pub use laws::worked_lines;
+pub use laws::{spelled_is_read, worked_lines};
+pub use print::print_view;

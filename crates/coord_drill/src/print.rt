@@ -73,6 +73,7 @@ pub fn print_opened(text: &mut String, count: u64) -> Result<(), AllocError>
     writeln!(text, "opened {count}")
 }
 
+/// Adds the lines that show a world: how many steps are accepted and settled, and its nodes and links.
 pub fn print_view(text: &mut String, view: &View) -> Result<(), AllocError>
     ensures { OnOk result (string_bytes text.new ≡ string_bytes text.old ++ view_lines view.now) }
 {
