@@ -78,11 +78,16 @@ const ANSWERS: [(&str, u8); 25] = [
     ("half 32768", 2),
 ];
 
+/// They stand behind a call, so that a proof about the walk over them does not carry their texts.
+fn answers() -> &'static [(&'static str, u8)] {
+    &ANSWERS
+}
+
 /// The first text that is answered otherwise.
 fn first_wrong(alloc: Global) -> Result<Option<&'static str>, ConfigFault> {
-    for (text, number) in ANSWERS {
-        if fault_of(alloc, text)? != number {
-            return Ok(Some(text));
+    for (text, number) in answers() {
+        if fault_of(alloc, text)? != *number {
+            return Ok(Some(*text));
         }
     }
     Ok(None)

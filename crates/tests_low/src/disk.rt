@@ -1,48 +1,67 @@
 //! Tests of coord_disk.
 
+ghost use Rattle.std.specs.Prelude.{◌+◌, ◌<◌, ◌^◌, length};
+
 use coord_disk::{
     BlipDisk, Choice, CrashDisk, Disk, DiskFault, FileDisk, FuseDisk, GateDisk, MemDisk,
 };
-use std::alloc::Global;
+use std::alloc::{AllocError, Global};
 use std::sync::Arc;
 use std::sync::atomic::{AtomicBool, Ordering};
 use std::test::Fail;
 use std::{env, fs};
 
 // Whether a crash by this choice leaves these bytes of three synced ones and, behind a gap of two places, two that are not.
-fn leaves(alloc: Global, choice: Choice, want: &[u8]) -> Result<bool, Fail> {
+fn leaves(alloc: Global, choice: Choice, want: &[u8]) -> Result<bool, AllocError> {
     let mut disk = MemDisk::from_bytes(alloc, &[1, 2, 3])?;
-    disk.write_at(5, &[9, 8])?;
+    written(&mut disk, 5, &[9, 8])?;
     disk.choose(choice);
     Ok(disk.crash().bytes() == want)
 }
 
-#[test]
-fn a_crash_leaves_what_was_chosen(rt: HostRuntime) -> Result<(), Fail> {
-    let alloc = rt.alloc();
+// Writes to a disk in memory, which fails for want of memory alone.
+fn written<D: Disk>(disk: &mut D, at: u64, bytes: &[u8]) -> Result<(), AllocError>
+    requires { at + length bytes.now < 2 ^ 64 }
+{
+    match disk.write_at(at, bytes) {
+        Ok(()) => Ok(()),
+        Err(DiskFault) => Err(AllocError),
+    }
+}
+
+// The same where unsynced bytes are filled with these, in turn. The zeros of a gap are not synced
+// either, so they are filled first.
+fn leaves_filled(alloc: Global, filler: &[u8], want: &[u8]) -> Result<bool, AllocError> {
+    leaves(alloc, Choice::Filled(filler.to_vec(alloc)?), want)
+}
+
+// Whether it is so for each choice.
+fn leaves_what_was_chosen(alloc: Global) -> Result<bool, AllocError> {
     let lost = leaves(alloc, Choice::Lost, &[1, 2, 3])?;
     let kept = leaves(alloc, Choice::Kept, &[1, 2, 3, 0, 0, 9, 8])?;
-    // The zeros between are not synced either, so they are filled first.
-    let filler = [4, 5, 6].to_vec(alloc)?;
-    let filled = leaves(alloc, Choice::Filled(filler), &[1, 2, 3, 4, 5, 6, 4])?;
-    let none = Choice::Filled(Vec::new(alloc));
-    let zeros = leaves(alloc, none, &[1, 2, 3, 0, 0, 0, 0])?;
-    assert!(rt; lost && kept && filled && zeros);
+    let filled = leaves_filled(alloc, &[4, 5, 6], &[1, 2, 3, 4, 5, 6, 4])?;
+    let zeros = leaves_filled(alloc, &[], &[1, 2, 3, 0, 0, 0, 0])?;
+    Ok(lost && kept && filled && zeros)
+}
+
+#[test]
+fn a_crash_leaves_what_was_chosen(rt: HostRuntime) -> Result<(), Fail> {
+    assert!(rt; leaves_what_was_chosen(rt.alloc())?);
     Ok(())
 }
 
 // Whether a write that was synced is there after a crash, and all of it after another.
-fn outlives(alloc: Global) -> Result<bool, Fail> {
+fn outlives(alloc: Global) -> Result<bool, AllocError> {
     let mut disk = MemDisk::new(alloc);
     disk.choose(Choice::Filled([7].to_vec(alloc)?));
-    disk.write_at(0, &[1, 2, 3, 4])?;
-    disk.sync()?;
-    disk.write_at(1, &[5])?;
-    disk.write_at(9, &[])?;
+    written(&mut disk, 0, &[1, 2, 3, 4])?;
+    let is_synced = disk.sync().is_ok();
+    written(&mut disk, 1, &[5])?;
+    written(&mut disk, 9, &[])?;
     let read = disk.bytes() == [1, 5, 3, 4].as_slice();
     let disk = disk.crash();
     let once = disk.bytes() == [1, 7, 3, 4].as_slice();
-    Ok(read && once && disk.crash().bytes() == [1, 7, 3, 4].as_slice())
+    Ok(is_synced && read && once && disk.crash().bytes() == [1, 7, 3, 4].as_slice())
 }
 
 #[test]
@@ -51,19 +70,24 @@ fn a_synced_write_outlives_a_crash(rt: HostRuntime) -> Result<(), Fail> {
     Ok(())
 }
 
+// Whether a read gives the bytes from a place on.
+fn reads(alloc: Global) -> Result<bool, AllocError> {
+    let mut disk = MemDisk::from_bytes(alloc, &[1, 2, 3])?;
+    let mut buf = [0u8; 2];
+    let is_read = disk.read(1, &mut buf).is_ok();
+    Ok(is_read && disk.len() == Ok(3) && buf == [2, 3])
+}
+
 #[test]
 fn a_read_gives_what_was_written(rt: HostRuntime) -> Result<(), Fail> {
-    let mut disk = MemDisk::from_bytes(rt.alloc(), &[1, 2, 3])?;
-    let mut buf = [0u8; 2];
-    disk.read(1, &mut buf)?;
-    assert!(rt; disk.len() == Ok(3) && buf == [2, 3]);
+    assert!(rt; reads(rt.alloc())?);
     Ok(())
 }
 
 // Whether two calls pass, and each one after them fails and changes nothing.
-fn fuse_blows(alloc: Global) -> Result<bool, Fail> {
+fn fuse_blows(alloc: Global) -> Result<bool, AllocError> {
     let mut disk = FuseDisk::new(MemDisk::new(alloc), 2);
-    disk.write_at(0, &[1])?;
+    written(&mut disk, 0, &[1])?;
     let passed = disk.len() == Ok(1);
     let failed = disk.write_at(0, &[2]) == Err(DiskFault)
         && disk.sync() == Err(DiskFault)
@@ -81,15 +105,16 @@ fn a_fuse_fails_each_call_from_one_on(rt: HostRuntime) -> Result<(), Fail> {
 }
 
 // Whether one call fails and changes nothing, and the others pass.
-fn blip_fails(alloc: Global) -> Result<bool, Fail> {
+fn blip_fails(alloc: Global) -> Result<bool, AllocError> {
     let mut disk = BlipDisk::new(MemDisk::new(alloc), 1);
-    disk.write_at(0, &[1])?;
+    written(&mut disk, 0, &[1])?;
     let failed = disk.write_at(0, &[2]) == Err(DiskFault);
-    disk.write_at(1, &[3])?;
-    disk.sync()?;
+    written(&mut disk, 1, &[3])?;
+    let is_synced = disk.sync().is_ok();
     let passed = disk.len() == Ok(2) && disk.read(0, &mut []) == Ok(());
     let counted = disk.calls() == 6;
-    Ok(failed && passed && counted && disk.crash().into_inner().bytes() == [1, 3].as_slice())
+    let is_left = disk.crash().into_inner().bytes() == [1, 3].as_slice();
+    Ok(failed && is_synced && passed && counted && is_left)
 }
 
 #[test]
@@ -156,9 +181,13 @@ fn a_file_is_a_disk(rt: HostRuntime) -> Result<(), Fail> {
     Ok(())
 }
 
+// Whether a fault is printed so.
+fn is_printed(alloc: Global) -> Result<bool, AllocError> {
+    Ok(format!(in alloc; "{DiskFault}")?.as_str() == "the device failed")
+}
+
 #[test]
 fn a_fault_says_so(rt: HostRuntime) -> Result<(), Fail> {
-    let text = format!(in rt.alloc(); "{DiskFault}")?;
-    assert!(rt; text.as_str() == "the device failed");
+    assert!(rt; is_printed(rt.alloc())?);
     Ok(())
 }

@@ -197,11 +197,16 @@ const TOLD: [(&str, &str); 9] = [
     ),
 ];
 
+/// They stand behind a call, so that a proof about the walk over them does not carry their texts.
+fn told() -> &'static [(&'static str, &'static str)] {
+    &TOLD
+}
+
 /// What is to be told of the first world of which something else is.
 fn first_wrong(alloc: Global) -> Result<Option<&'static str>, Fail> {
-    for (line, world) in TOLD {
+    for (line, world) in told() {
         if !is_told(alloc, world, line)? {
-            return Ok(Some(line));
+            return Ok(Some(*line));
         }
     }
     Ok(None)
