@@ -5,6 +5,9 @@ ghost use Rattle.std.specs.Io.KnownBytes.{Appends};
 ghost use Rattle.coord_check.specs.declared.violation.Violation.{Violation};
 ghost use Rattle.coord_commands.specs.Inspection.{IsOfOpening};
 ghost use Rattle.coord_commands.specs.Printed.{legal_line, shown, violated_line};
+ghost use Rattle.coord_commands.specs.declared.fault.Fault.TheVariants.{OutOfMemory};
+ghost use Rattle.coord_ledger.specs.machine.Shown.{shown as view_of};
+ghost use Rattle.coord_store.specs.Kept.{has_stopped};
 ghost use Rattle.coord_store.specs.Recovered.{Recovered};
 ghost use Rattle.coord_store.specs.Refused.{RefusesOpen};
 ghost use Rattle.coord_store.specs.declared.faults.StoreFault.TheVariants.{Violated};
@@ -12,8 +15,10 @@ ghost use Rattle.coord_world.specs.protocol.Legal.{Legal};
 ghost use Rattle.coord_world.specs.protocol.NumberedWorld.{World as Numbered};
 
 use crate::fault::Fault;
-use crate::lines::{print, show_world};
+use crate::lines::print;
 use coord_disk::Disk;
+use coord_drill::print_view;
+use coord_ledger::{Ledger, Seen, View};
 use coord_store::{Store, StoreFault};
 use std::alloc::Global;
 use std::io::Write;
@@ -54,9 +59,26 @@ pub fn show_store<D: Disk, W: Write>(alloc: Global, disk: D, output: &mut W) -> 
 {
     match Store::open(alloc, disk) {
         Ok(store) => {
-            let text = show_world(alloc, store.world())?;
+            let mut text = String::new(alloc);
+            print_view(&mut text, &view_of(alloc, store)?)?;
             print(output, &text)
         }
         Err((fault, _disk)) => Err(Fault::Store(fault)),
+    }
+}
+
+/// What a ledger over a store shows: the store's world, with no step that is not settled.
+fn view_of<D: Disk>(alloc: Global, store: Store<D>) -> Result<View, Fault>
+    requires { has_stopped store ≡ false }
+    ensures view { IfOk result (λ view. view ≡ view_of store.world.count store.world) }
+    ensures fault { IfErr result (λ fault. fault ≡ OutOfMemory) }
+{
+    let Ok(ledger) = Ledger::adopt(alloc, store) else {
+        return Err(Fault::OutOfMemory);
+    };
+    match ledger.show(&mut Seen::new()) {
+        Ok(view) => Ok(view),
+        // A ledger that has just begun refuses for nothing else.
+        Err(_) => Err(Fault::OutOfMemory),
     }
 }
