@@ -1,0 +1,127 @@
+//! What a device that stops or fails once in a commit leaves of a ledger: after an opening its steps
+//! are those that were settled, or those of the flight too.
+
+use crate::cases::{self, Case, full, small};
+use crate::devices::{OPENING, device};
+use crate::runs::{are, ran};
+use crate::scene::Scene;
+use coord_disk::{BlipDisk, CrashDisk, FailingDisk, FuseDisk, MemDisk, Rule};
+use coord_ledger::{Event, Trace};
+use coord_store::{CommitFault, Store};
+use std::alloc::Global;
+use std::test::Fail;
+
+// The flight of a case, and a step behind it.
+fn events(alloc: Global, case: &Case) -> Result<Vec<Event>, Fail> {
+    let scene = Scene::new()?;
+    let mut events = Vec::new(alloc);
+    cases::push(&mut events, &case.steps)?;
+    let last = case.settled.saturating_add(case.steps.len() as u64);
+    let next = scene.reset(last.saturating_add(1), scene.first);
+    events.extend_from_slice(&[Event::Submit(next), Event::Begin])?;
+    Ok(events)
+}
+
+// How many steps are there after a crash, where so many calls of the commit were passed. A crash
+// that loses what is not synced, or fills it with zeros, leaves a gate closed that is being opened;
+// any other byte opens it.
+fn count(case: &Case, calls: u64, which: usize) -> u64 {
+    let is_opened = which != 0 && which != 3;
+    let steps = case.steps.len() as u64;
+    if calls >= case.calls || (calls.saturating_add(1) == case.calls && is_opened) {
+        case.settled.saturating_add(steps)
+    } else {
+        case.settled
+    }
+}
+
+// Whether the flight is answered as it should be where so many calls of its commit were passed. A
+// ledger whose flight was torn has stopped.
+fn is_answered(alloc: Global, case: &Case, trace: &Trace, calls: u64) -> Result<bool, Fail> {
+    let steps = case.steps.len();
+    let settled = case.settled;
+    let after = settled.saturating_add(steps as u64);
+    let wanted = if calls >= case.calls {
+        format!(in alloc;
+            "[Begun({steps}), Committed, Finished({after}), Accepted({}), Begun(1)]",
+            after.saturating_add(1)
+        )?
+    } else {
+        format!(in alloc;
+            "[Begun({steps}), Failed(Device), Finished({settled}), Refused(Stopped), Nothing]"
+        )?
+    };
+    are(alloc, trace, steps, &wanted, calls < case.calls)
+}
+
+// How many steps there are after a crash.
+fn left(alloc: Global, disk: MemDisk) -> Result<u64, Fail> {
+    match Store::open(alloc, disk.crash()) {
+        Ok(store) => Ok(store.world().count()),
+        Err((fault, _disk)) => Err(fault)?,
+    }
+}
+
+// Whether the device that fails a commit after so many calls gives these steps. No call of the
+// device is made after a fault; a device in memory may find none, and then fails an earlier call.
+fn is_left<R: Rule>(
+    alloc: Global,
+    disk: FailingDisk<MemDisk, R>,
+    case: &Case,
+    events: &[Event],
+    calls: u64,
+    which: usize,
+) -> Result<bool, Fail> {
+    let (trace, disk) = ran(alloc, disk, events)?;
+    let made = disk.calls().saturating_sub(OPENING);
+    let want = case.calls.min(calls.saturating_add(1));
+    if made < want {
+        return Err(CommitFault::Device)?;
+    }
+    let is_right = is_answered(alloc, case, &trace, calls)? && made == want;
+    Ok(is_right && left(alloc, disk.into_inner())? == count(case, calls, which))
+}
+
+// Whether it is so with a device that stops after so many calls, and with one that fails one call.
+fn are_left(
+    alloc: Global,
+    case: &Case,
+    events: &[Event],
+    calls: u64,
+    which: usize,
+) -> Result<bool, Fail> {
+    let at = calls.saturating_add(OPENING);
+    let fuse = FuseDisk::new(device(alloc, case.disk.bytes(), which)?, at);
+    if !is_left(alloc, fuse, case, events, calls, which)? {
+        return Ok(false);
+    }
+    let blip = BlipDisk::new(device(alloc, case.disk.bytes(), which)?, at);
+    is_left(alloc, blip, case, events, calls, which)
+}
+
+// The first number of calls and choice, of so many, for which it is not so.
+fn first_wrong(alloc: Global, case: &Case, choices: usize) -> Result<Option<(u64, usize)>, Fail> {
+    let events = events(alloc, case)?;
+    for calls in 0..=case.calls.min(8) {
+        for which in 0..choices {
+            if !are_left(alloc, case, &events, calls, which)? {
+                return Ok(Some((calls, which)));
+            }
+        }
+    }
+    Ok(None)
+}
+
+#[test]
+fn a_commit_leaves_all_its_steps_or_none(rt: HostRuntime) -> Result<(), Fail> {
+    let wrong = first_wrong(rt.alloc(), &small(rt.alloc())?, 5)?;
+    assert!(rt; wrong.is_none(), "{wrong:?}");
+    Ok(())
+}
+
+#[test]
+fn so_does_one_that_makes_a_checkpoint(rt: HostRuntime) -> Result<(), Fail> {
+    let wrong = first_wrong(rt.alloc(), &full(rt.alloc())?, 3)?;
+    assert!(rt; wrong.is_none(), "{wrong:?}");
+    Ok(())
+}

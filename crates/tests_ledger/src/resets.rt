@@ -1,0 +1,107 @@
+//! A reset of two linked nodes: what it releases, in order, and what is kept of it.
+
+use crate::devices::made;
+use crate::runs::{are, are_answered, ran};
+use crate::scene::{LINK, Scene};
+use coord_ledger::{Event, Release};
+use coord_types::{Msg, Output, ReceiptPacket};
+use std::alloc::Global;
+use std::test::Fail;
+
+// Two nodes are linked, and a reset of the first is settled.
+fn reset(scene: &Scene) -> [Event; 7] {
+    let [first, second, link] = scene.linking();
+    [
+        Event::Submit(first),
+        Event::Submit(second),
+        Event::Submit(link),
+        Event::Submit(scene.reset(4, scene.first)),
+        Event::Begin,
+        Event::Commit,
+        Event::Finish,
+    ]
+}
+
+fn release(step: u64, output: Output) -> Release {
+    Release { step, output }
+}
+
+// The packet of the reset.
+fn sent(scene: &Scene) -> Output {
+    Output::Sent(scene.packet(scene.first, scene.second, Msg::Abort))
+}
+
+// What is given out once it is taken.
+fn answered(scene: &Scene) -> Output {
+    Output::Sent(scene.packet(scene.second, scene.first, Msg::Ack))
+}
+
+fn receipted(scene: &Scene) -> Output {
+    Output::Receipted(ReceiptPacket {
+        from: scene.first,
+        to: scene.second,
+        inc: LINK,
+        number: 1,
+    })
+}
+
+// What that and its packet, once it is taken, release, and what is sent again then.
+fn released(scene: &Scene) -> [Release; 6] {
+    [
+        release(4, sent(scene)),
+        release(5, receipted(scene)),
+        release(5, answered(scene)),
+        release(0, sent(scene)),
+        release(0, receipted(scene)),
+        release(0, answered(scene)),
+    ]
+}
+
+fn releases_in_order(alloc: Global) -> Result<bool, Fail> {
+    let scene = Scene::new()?;
+    let mut events = reset(&scene).to_vec(alloc)?;
+    events.extend_from_slice(&[
+        Event::Submit(scene.take_abort()),
+        Event::Begin,
+        Event::Commit,
+        Event::Finish,
+        Event::Resend,
+    ])?;
+    let (trace, _disk) = ran(alloc, made(alloc)?, &events)?;
+    let answers =
+        "[Accepted(1), Accepted(2), Accepted(3), Accepted(4), Begun(4), Committed, Finished(4), \
+                   Accepted(5), Begun(1), Committed, Finished(5), Resent(3)]";
+    Ok(
+        are(alloc, &trace, 0, answers, false)?
+            && trace.released.as_slice() == released(&scene).as_slice(),
+    )
+}
+
+#[test]
+fn releases_come_in_order(rt: HostRuntime) -> Result<(), Fail> {
+    assert!(rt; releases_in_order(rt.alloc())?);
+    Ok(())
+}
+
+// The last order comes again after a crash, and then others of its number and out of turn.
+fn keeps_reply(alloc: Global) -> Result<bool, Fail> {
+    let scene = Scene::new()?;
+    let mut events = reset(&scene).to_vec(alloc)?;
+    events.extend_from_slice(&[
+        Event::Crash,
+        Event::Submit(scene.reset(4, scene.first)),
+        Event::Collect(0),
+        Event::Submit(scene.reset(4, scene.second)),
+        Event::Submit(scene.reset(6, scene.first)),
+    ])?;
+    let answers =
+        "[Accepted(1), Accepted(2), Accepted(3), Accepted(4), Begun(4), Committed, Finished(4), Opened(4), \
+                   Repeated(4), Collected(Reply { step: 4, kind: Started }), Refused(NumberReused), Refused(OutOfTurn)]";
+    are_answered(alloc, made(alloc)?, &events, answers)
+}
+
+#[test]
+fn a_ledger_made_anew_keeps_the_last_reply(rt: HostRuntime) -> Result<(), Fail> {
+    assert!(rt; keeps_reply(rt.alloc())?);
+    Ok(())
+}

@@ -1,0 +1,69 @@
+//! Runs of events, and what they are answered.
+
+use crate::devices::{disk_of, opened};
+use coord_disk::{CrashDisk, MemDisk};
+use coord_ledger::{Answer, Event, RunFault, Trace, run_events};
+use coord_store::CommitFault;
+use coord_types::Refusal;
+use std::alloc::Global;
+use std::test::Fail;
+
+/// Runs events on the store of a device. Gives what came of them, and the device.
+pub(crate) fn ran<D: CrashDisk>(
+    alloc: Global,
+    disk: D,
+    events: &[Event],
+) -> Result<(Trace, D), Fail> {
+    match run_events(alloc, opened(alloc, disk)?, events) {
+        Ok((trace, ledger)) => Ok((trace, disk_of(ledger)?)),
+        Err(fault) => {
+            let RunFault {
+                at: _,
+                trace: _trace,
+                kind,
+            } = fault;
+            Err(kind)?
+        }
+    }
+}
+
+fn lacks_memory(answer: &Answer) -> bool {
+    matches!(
+        answer,
+        Answer::Refused(Refusal::OutOfMemory) | Answer::Failed(CommitFault::OutOfMemory)
+    )
+}
+
+fn is_failed(answer: &Answer) -> bool {
+    matches!(answer, Answer::Failed(CommitFault::Device))
+}
+
+/// Whether the answers behind so many are these. Where memory was refused, to the ledger or to a
+/// device that is to fail no call, they say nothing of that.
+pub(crate) fn are(
+    alloc: Global,
+    trace: &Trace,
+    behind: usize,
+    wanted: &str,
+    may_fail: bool,
+) -> Result<bool, Fail> {
+    if trace.answers.iter().any(lacks_memory) {
+        return Err(Refusal::OutOfMemory)?;
+    }
+    if !may_fail && trace.answers.iter().any(is_failed) {
+        return Err(CommitFault::Device)?;
+    }
+    let last = trace.answers.get(behind..).ok_or("answers")?;
+    Ok(format!(in alloc; "{last:?}")?.as_str() == wanted)
+}
+
+/// Whether events on the store of a device in memory are answered so.
+pub(crate) fn are_answered(
+    alloc: Global,
+    disk: MemDisk,
+    events: &[Event],
+    wanted: &str,
+) -> Result<bool, Fail> {
+    let (trace, _disk) = ran(alloc, disk, events)?;
+    are(alloc, &trace, 0, wanted, false)
+}
