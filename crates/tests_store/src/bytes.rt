@@ -1,12 +1,12 @@
 //! The bytes of a store, and devices that are refused.
 
-use crate::scripts::{HALF, adding, committed, created};
+use crate::scripts::{HALF, begun, count_on, created};
 use coord_check::{Letter, Violation};
 use coord_disk::MemDisk;
 use coord_journal::format;
 use coord_store::{Store, StoreFault};
 use coord_types::NodeId;
-use std::alloc::Global;
+use std::alloc::{AllocError, Global};
 use std::test::Fail;
 
 /// A store that was just made.
@@ -30,109 +30,136 @@ const VIOLATED: [u8; 112] = [
     0, 0, 0, 0, 0, 0, 0, 0, 0, 0, 0, 0, 0, 1, 1, 0,
 ];
 
-/// What an opening answers: the count of its world, or a fault.
-#[derive(Clone, Copy, Debug, PartialEq, Eq)]
-enum Answer {
-    Count(u64),
-    Fault(StoreFault),
+// The count of the world that an opening finds on these bytes, or why it is refused. A disk in memory fails for want of memory alone, and that is an error here.
+fn told(alloc: Global, bytes: &[u8]) -> Result<Result<u64, StoreFault>, StoreFault> {
+    match count_on(alloc, MemDisk::from_bytes(alloc, bytes)?) {
+        Err(fault @ (StoreFault::OutOfMemory | StoreFault::Device)) => Err(fault),
+        answer => Ok(answer),
+    }
 }
 
-fn told(alloc: Global, disk: MemDisk) -> Answer {
-    match Store::open(alloc, disk) {
-        Ok(store) => Answer::Count(store.world().count()),
-        Err((fault, _disk)) => Answer::Fault(fault),
-    }
+// Whether a store is made of these bytes.
+fn is_created(alloc: Global) -> Result<bool, StoreFault> {
+    Ok(created(alloc)?.into_disk().bytes() == CREATED.as_slice())
+}
+
+// Whether a commit leaves these.
+fn is_committed(alloc: Global) -> Result<bool, Fail> {
+    Ok(begun(alloc)?.bytes() == COMMITTED.as_slice())
 }
 
 #[test]
 fn a_store_is_made_and_committed_to(rt: HostRuntime) -> Result<(), Fail> {
-    let alloc = rt.alloc();
-    let made = created(alloc, MemDisk::new(alloc))?.into_disk();
-    let mut store = created(alloc, MemDisk::new(alloc))?;
-    committed(&mut store, &[adding()?])??;
-    let disk = store.into_disk();
-    assert!(rt; made.bytes() == CREATED.as_slice() && disk.bytes() == COMMITTED.as_slice());
+    assert!(rt; is_created(rt.alloc())? && is_committed(rt.alloc())?);
     Ok(())
 }
 
-// Why no store is made.
-fn refused(alloc: Global, disk: MemDisk, half: u64) -> Result<StoreFault, Fail> {
+// Why no store is made on these bytes with a half of this size, if so.
+fn refusal(alloc: Global, bytes: &[u8], half: u64) -> Result<Option<StoreFault>, AllocError> {
+    let disk = MemDisk::from_bytes(alloc, bytes)?;
     match Store::create(alloc, disk, half, 1) {
-        Ok(_store) => Err("made")?,
-        Err((fault, _disk)) => Ok(fault),
+        Ok(_store) => Ok(None),
+        Err((fault, _disk)) => Ok(Some(fault)),
+    }
+}
+
+// Whether it is for this reason. Want of memory is an error here.
+fn is_refused(alloc: Global, bytes: &[u8], half: u64, why: StoreFault) -> Result<bool, StoreFault> {
+    match refusal(alloc, bytes, half)? {
+        Some(StoreFault::OutOfMemory) => Err(StoreFault::OutOfMemory),
+        fault => Ok(fault == Some(why)),
     }
 }
 
 #[test]
 fn a_store_is_made_once_and_not_too_small(rt: HostRuntime) -> Result<(), Fail> {
     let alloc = rt.alloc();
-    let made = created(alloc, MemDisk::new(alloc))?.into_disk();
-    let again = refused(alloc, made, HALF)?;
-    let small = refused(alloc, MemDisk::new(alloc), HALF - 1)?;
-    assert!(rt; again == StoreFault::NotEmpty && small == StoreFault::HalfSize);
+    let again = is_refused(alloc, &CREATED, HALF, StoreFault::NotEmpty)?;
+    assert!(rt; again && is_refused(alloc, &[], HALF - 1, StoreFault::HalfSize)?);
     Ok(())
 }
 
-// A device that is cut is refused for its header, and then for its half.
-fn is_cut_refused(alloc: Global, len: usize) -> Result<bool, Fail> {
-    let cut = COMMITTED.get(..len).ok_or("length")?;
-    let fault = if len < 17 {
-        StoreFault::NoMagic
-    } else {
-        StoreFault::BadRecord
-    };
-    Ok(told(alloc, MemDisk::from_bytes(alloc, cut)?) == Answer::Fault(fault))
-}
-
-#[test]
-fn cut_devices_are_refused(rt: HostRuntime) -> Result<(), Fail> {
+// The first length at which a device that is cut there is told otherwise: it is refused for its
+// header, and then for its half.
+fn first_wrong_cut(alloc: Global) -> Result<Option<usize>, StoreFault> {
     for len in 0..62 {
-        assert!(rt; is_cut_refused(rt.alloc(), len)?, "{len} bytes");
+        let fault = if len < 17 {
+            StoreFault::NoMagic
+        } else {
+            StoreFault::BadRecord
+        };
+        if told(alloc, &COMMITTED[..len])? != Err(fault) {
+            return Ok(Some(len));
+        }
     }
-    Ok(())
+    Ok(None)
 }
 
-// The device with one byte changed.
-fn changed(alloc: Global, place: usize, byte: u8) -> Result<Answer, Fail> {
-    let mut bytes = COMMITTED.to_vec(alloc)?;
-    let changed = bytes.get_mut(place).ok_or("place")?;
-    *changed = byte;
-    Ok(told(alloc, MemDisk::from_bytes(alloc, &bytes)?))
+// A byte that is put at a place, and what is told of the device then.
+const CHANGED: [(usize, u8, Result<u64, StoreFault>); 10] = [
+    (0, 2, Ok(1)),
+    (33, 0xff, Ok(1)),
+    (33, 0, Ok(0)),
+    (0, 1, Err(StoreFault::BadRecord)),
+    (61, 1, Err(StoreFault::BadRecord)),
+    (17, 3, Err(StoreFault::BadSnapshot)),
+    (45, 2, Err(StoreFault::BadBatch)),
+    (47, 2, Err(StoreFault::BadBatch)),
+    (60, 0x11, Err(StoreFault::BadBatch)),
+    (57, 2, Err(StoreFault::BadStep { batch: 0, index: 0 })),
+];
+
+// What is told of the device with this byte put there.
+fn told_of_change(
+    alloc: Global,
+    place: usize,
+    byte: u8,
+) -> Result<Result<u64, StoreFault>, StoreFault> {
+    let mut bytes = COMMITTED;
+    if let Some(old) = bytes.get_mut(place) {
+        *old = byte;
+    }
+    told(alloc, &bytes)
+}
+
+// The first place at which a change is told otherwise.
+fn first_wrong_change(
+    alloc: Global,
+    changes: &[(usize, u8, Result<u64, StoreFault>)],
+) -> Result<Option<usize>, StoreFault> {
+    for (place, byte, want) in changes {
+        if told_of_change(alloc, *place, *byte)? != *want {
+            return Ok(Some(*place));
+        }
+    }
+    Ok(None)
 }
 
 #[test]
-fn changed_bytes_are_told(rt: HostRuntime) -> Result<(), Fail> {
-    for (place, byte, want) in [
-        (0, 2, Answer::Count(1)),
-        (33, 0xff, Answer::Count(1)),
-        (33, 0, Answer::Count(0)),
-        (0, 1, Answer::Fault(StoreFault::BadRecord)),
-        (61, 1, Answer::Fault(StoreFault::BadRecord)),
-        (17, 3, Answer::Fault(StoreFault::BadSnapshot)),
-        (45, 2, Answer::Fault(StoreFault::BadBatch)),
-        (47, 2, Answer::Fault(StoreFault::BadBatch)),
-        (60, 0x11, Answer::Fault(StoreFault::BadBatch)),
-        (
-            57,
-            2,
-            Answer::Fault(StoreFault::BadStep { batch: 0, index: 0 }),
-        ),
-    ] {
-        assert!(rt; changed(rt.alloc(), place, byte)? == want, "byte {place}");
-    }
+fn cut_and_changed_devices_are_told(rt: HostRuntime) -> Result<(), Fail> {
+    let cut = first_wrong_cut(rt.alloc())?;
+    let changed = first_wrong_change(rt.alloc(), &CHANGED)?;
+    assert!(rt;
+        cut.is_none() && changed.is_none(),
+        "cut at {cut:?}, changed at {changed:?}"
+    );
     Ok(())
+}
+
+// Whether a snapshot that is not legal is refused.
+fn is_violated(alloc: Global) -> Result<bool, Fail> {
+    let mut disk = MemDisk::new(alloc);
+    format(alloc, &mut disk, HALF, 1, &VIOLATED)?;
+    let violation = Violation {
+        a: NodeId::new(1).unwrap(),
+        b: NodeId::new(2).unwrap(),
+        letter: Letter::B,
+    };
+    Ok(told(alloc, disk.bytes())? == Err(StoreFault::Violated(violation)))
 }
 
 #[test]
 fn a_violated_snapshot_is_refused(rt: HostRuntime) -> Result<(), Fail> {
-    let alloc = rt.alloc();
-    let mut disk = MemDisk::new(alloc);
-    format(alloc, &mut disk, HALF, 1, &VIOLATED)?;
-    let violation = Violation {
-        a: NodeId::new(1).ok_or("node")?,
-        b: NodeId::new(2).ok_or("node")?,
-        letter: Letter::B,
-    };
-    assert!(rt; told(alloc, disk) == Answer::Fault(StoreFault::Violated(violation)));
+    assert!(rt; is_violated(rt.alloc())?);
     Ok(())
 }

@@ -1,10 +1,9 @@
 //! What a device that stops or fails once leaves of a run of thirteen commits, of which the
 //! twelfth makes a checkpoint.
 
-use crate::scripts::{adding, choice, committed, created, opened, orders};
+use crate::scripts::{adding, choice, commits, count_on, created, opened, resets};
 use coord_disk::{BlipDisk, CrashDisk, Disk, FuseDisk, MemDisk};
 use coord_store::{CommitFault, Store, StoreFault};
-use coord_types::{Client, Command, NodeId};
 use std::alloc::Global;
 use std::test::Fail;
 
@@ -16,32 +15,29 @@ const OPENING: u64 = 3;
 
 const CHOICES: usize = 5;
 
-// One step, and then twelve times 256 steps, up to the first commit that fails.
-fn run<D: Disk>(alloc: Global, store: &mut Store<D>) -> Result<Result<(), CommitFault>, Fail> {
-    if let Err(fault) = committed(store, &[adding()?])? {
-        return Ok(Err(fault));
+// Commits one step, and then twelve times 256 steps, and says whether they are fresh.
+fn run<D: Disk>(alloc: Global, store: &mut Store<D>) -> Result<bool, CommitFault> {
+    if !commits(store, &[adding()])? {
+        return Ok(false);
     }
-    let client = Client::new(1).ok_or("client")?;
-    let reset = Command::Reset(NodeId::new(1).ok_or("node")?);
     for batch in 0..12u64 {
-        let steps = orders(alloc, client, &reset, 2 + 256 * batch, 256)?;
-        if let Err(fault) = committed(store, &steps)? {
-            return Ok(Err(fault));
+        if !commits(store, &resets(alloc, 2 + 256 * batch, 256)?)? {
+            return Ok(false);
         }
     }
-    Ok(Ok(()))
+    Ok(true)
 }
 
 // A device with a store of no steps, and what its next crash leaves.
-fn fresh(alloc: Global, which: usize) -> Result<MemDisk, Fail> {
-    let mut disk = created(alloc, MemDisk::new(alloc))?.into_disk();
+fn fresh(alloc: Global, which: usize) -> Result<MemDisk, StoreFault> {
+    let mut disk = created(alloc)?.into_disk();
     disk.choose(choice(alloc, which)?);
     Ok(disk)
 }
 
 // How many steps are there after a crash.
-fn left(alloc: Global, disk: MemDisk) -> Result<u64, Fail> {
-    Ok(opened(alloc, disk.crash())?.world().count())
+fn left(alloc: Global, disk: MemDisk) -> Result<u64, StoreFault> {
+    count_on(alloc, disk.crash())
 }
 
 // How many steps there are, where so many calls were passed. A crash that loses what is not
@@ -63,72 +59,110 @@ fn count(calls: u64, which: usize) -> u64 {
 }
 
 // Whether the device that stops after so many calls leaves these steps.
-fn is_left_by_fuse(alloc: Global, calls: u64, which: usize) -> Result<bool, Fail> {
+fn is_left_by_fuse(alloc: Global, calls: u64, which: usize) -> Result<bool, StoreFault> {
     let disk = FuseDisk::new(fresh(alloc, which)?, calls.saturating_add(OPENING));
     let mut store = opened(alloc, disk)?;
-    let is_answered = match run(alloc, &mut store)? {
-        Ok(()) => calls == CALLS && !store.stopped(),
-        Err(fault) => calls < CALLS && fault == CommitFault::Device && store.stopped(),
-    };
-    Ok(is_answered && left(alloc, store.into_disk().into_inner())? == count(calls, which))
+    let answer = run(alloc, &mut store);
+    let has_stopped = store.stopped();
+    let steps = left(alloc, store.into_disk().into_inner())?;
+    Ok(
+        is_told(answer, calls < CALLS)?
+            && has_stopped == (calls < CALLS)
+            && steps == count(calls, which),
+    )
+}
+
+// Whether a run of fresh steps tells a fault of the device, if there is one, and else ends. Want of
+// memory is an error here.
+fn is_told(answer: Result<bool, CommitFault>, is_fault: bool) -> Result<bool, StoreFault> {
+    match answer {
+        Err(CommitFault::OutOfMemory) => Err(StoreFault::OutOfMemory),
+        Err(fault) => Ok(is_fault && fault == CommitFault::Device),
+        Ok(are_fresh) => Ok(!is_fault && are_fresh),
+    }
+}
+
+// The same where one call fails. Nothing is written after it.
+fn is_left_by_blip(alloc: Global, call: u64, which: usize) -> Result<bool, StoreFault> {
+    let disk = BlipDisk::new(fresh(alloc, which)?, call.saturating_add(OPENING));
+    let mut store = opened(alloc, disk)?;
+    let answer = run(alloc, &mut store);
+    let has_stopped = store.stopped();
+    let disk = store.into_disk();
+    let is_last = disk.calls() == call.saturating_add(OPENING + 1);
+    let steps = left(alloc, disk.into_inner())?;
+    Ok(is_told(answer, true)? && has_stopped && is_last && steps == count(call, which))
+}
+
+// The first number of calls and choice for which a stop leaves something else.
+fn first_wrong_stop(alloc: Global) -> Result<Option<(u64, usize)>, StoreFault> {
+    for calls in 0..57 {
+        for which in 0..CHOICES {
+            if !is_left_by_fuse(alloc, calls, which)? {
+                return Ok(Some((calls, which)));
+            }
+        }
+    }
+    Ok(None)
 }
 
 #[test]
 fn a_stop_at_each_call_leaves_what_was_committed(rt: HostRuntime) -> Result<(), Fail> {
-    for calls in 0..57 {
-        for which in 0..CHOICES {
-            assert!(rt;
-                is_left_by_fuse(rt.alloc(), calls, which)?,
-                "{calls} calls, choice {which}"
-            );
-        }
-    }
+    let wrong = first_wrong_stop(rt.alloc())?;
+    assert!(rt; wrong.is_none(), "{wrong:?}");
     Ok(())
 }
 
-// The same where one call fails. Nothing is written after it.
-fn is_left_by_blip(alloc: Global, call: u64, which: usize) -> Result<bool, Fail> {
-    let disk = BlipDisk::new(fresh(alloc, which)?, call.saturating_add(OPENING));
-    let mut store = opened(alloc, disk)?;
-    let failed = run(alloc, &mut store)? == Err(CommitFault::Device);
-    let store_stopped = store.stopped();
-    let disk = store.into_disk();
-    let is_stopped = store_stopped && disk.calls() == call.saturating_add(OPENING + 1);
-    Ok(failed && is_stopped && left(alloc, disk.into_inner())? == count(call, which))
+// The first call and choice for which a fault leaves something else.
+fn first_wrong_fault(alloc: Global) -> Result<Option<(u64, usize)>, StoreFault> {
+    for call in 0..56 {
+        for which in 0..CHOICES {
+            if !is_left_by_blip(alloc, call, which)? {
+                return Ok(Some((call, which)));
+            }
+        }
+    }
+    Ok(None)
 }
 
 #[test]
 fn a_fault_at_each_call_leaves_what_was_committed(rt: HostRuntime) -> Result<(), Fail> {
-    for call in 0..56 {
-        for which in 0..CHOICES {
-            assert!(rt;
-                is_left_by_blip(rt.alloc(), call, which)?,
-                "call {call}, choice {which}"
-            );
-        }
-    }
+    let wrong = first_wrong_fault(rt.alloc())?;
+    assert!(rt; wrong.is_none(), "{wrong:?}");
     Ok(())
 }
 
 // Whether a fault at a call of an opening hands the disk back, which opens then.
-fn opens_after_blip(alloc: Global, bytes: &[u8], call: u64) -> Result<bool, Fail> {
+fn opens_after_blip(alloc: Global, bytes: &[u8], call: u64) -> Result<bool, StoreFault> {
     let disk = BlipDisk::new(MemDisk::from_bytes(alloc, bytes)?, call);
     match Store::open(alloc, disk) {
         Ok(_store) => Ok(false),
         Err((fault, disk)) => {
-            Ok(fault == StoreFault::Device && opened(alloc, disk)?.world().count() == 3_073)
+            let steps = count_on(alloc, disk)?;
+            Ok(fault == StoreFault::Device && steps == 3_073)
         }
     }
 }
 
+// Whether it is so at each call.
+fn opens_after_each_blip(alloc: Global, bytes: &[u8]) -> Result<bool, StoreFault> {
+    let mut opens = true;
+    for call in 0..OPENING {
+        opens = opens_after_blip(alloc, bytes, call)? && opens;
+    }
+    Ok(opens)
+}
+
+// Whether it is so of the device that the run leaves.
+fn is_opened_again(alloc: Global) -> Result<bool, StoreFault> {
+    let mut store = opened(alloc, fresh(alloc, 0)?)?;
+    let answer = run(alloc, &mut store);
+    let disk = store.into_disk();
+    Ok(opens_after_each_blip(alloc, disk.bytes())? && is_told(answer, false)?)
+}
+
 #[test]
 fn an_opening_may_fail_at_each_call(rt: HostRuntime) -> Result<(), Fail> {
-    let alloc = rt.alloc();
-    let mut store = opened(alloc, fresh(alloc, 0)?)?;
-    run(alloc, &mut store)??;
-    let disk = store.into_disk();
-    for call in 0..OPENING {
-        assert!(rt; opens_after_blip(alloc, disk.bytes(), call)?, "call {call}");
-    }
+    assert!(rt; is_opened_again(rt.alloc())?);
     Ok(())
 }

@@ -1,4 +1,7 @@
 //! What the tests commit and open.
+//!
+//! No call that may fail returns early while a store is at hand: each such return costs the proof
+//! the letting go of all that a store holds.
 
 ghost use Rattle.std.specs.Prelude.{◌≡◌, ◌+◌, ◌<◌, ◌≤◌, ◌^◌, IfOk, length};
 ghost use Rattle.std.specs.List.{AllByRecursion};
@@ -11,60 +14,87 @@ use std::alloc::{AllocError, Global};
 use std::test::Fail;
 
 /// The least size of a half.
-pub const HALF: u64 = 32_768;
+pub(crate) const HALF: u64 = 32_768;
 
-/// A store that was just made, with halves of the least size.
-pub fn created<D: Disk>(alloc: Global, disk: D) -> Result<Store<D>, Fail> {
-    match Store::create(alloc, disk, HALF, 1) {
+/// A store that was just made in memory, with halves of the least size.
+pub(crate) fn created(alloc: Global) -> Result<Store<MemDisk>, StoreFault> {
+    match Store::create(alloc, MemDisk::new(alloc), HALF, 1) {
         Ok(store) => Ok(store),
-        Err((fault, _disk)) => Err(fault)?,
+        Err((fault, _disk)) => Err(fault),
     }
 }
 
 /// The store on a device.
-pub fn opened<D: Disk>(alloc: Global, disk: D) -> Result<Store<D>, Fail> {
+pub(crate) fn opened<D: Disk>(alloc: Global, disk: D) -> Result<Store<D>, StoreFault> {
     match Store::open(alloc, disk) {
         Ok(store) => Ok(store),
-        Err((fault, _disk)) => Err(fault)?,
+        Err((fault, _disk)) => Err(fault),
+    }
+}
+
+/// How many steps the store on a device holds.
+pub(crate) fn count_on<D: Disk>(alloc: Global, disk: D) -> Result<u64, StoreFault> {
+    Ok(opened(alloc, disk)?.world().count())
+}
+
+/// A device with a store in which node 1 was added.
+pub(crate) fn begun(alloc: Global) -> Result<MemDisk, Fail> {
+    let mut store = created(alloc)?;
+    let is_fresh = commits(&mut store, &[adding()]);
+    let disk = store.into_disk();
+    if is_fresh? {
+        Ok(disk)
+    } else {
+        Err("not fresh")?
     }
 }
 
 /// Node 1 is added, by the first order of client 1.
-pub fn adding() -> Result<Step, Fail>
-    ensures { IfOk result IsNumbered }
+pub(crate) fn adding() -> Step
+    ensures { IsNumbered result }
 {
-    let client = Client::new(1).ok_or("client")?;
-    let node = NodeId::new(1).ok_or("node")?;
-    let group = Group::new(1).ok_or("group")?;
-    Ok(Step::Order(client, 1, Command::Add(node, group)))
+    let group = Group::new(1).unwrap();
+    order(1, &Command::Add(NodeId::new(1).unwrap(), group))
 }
 
 /// It is reset, by an order of this number.
-pub fn resetting(number: u64) -> Result<Step, Fail>
-    requires { 1 ≤ number }
-    ensures { IfOk result IsNumbered }
-{
-    let client = Client::new(1).ok_or("client")?;
-    let node = NodeId::new(1).ok_or("node")?;
-    Ok(Step::Order(client, number, Command::Reset(node)))
-}
-
-fn order(client: Client, number: u64, command: &Command) -> Step
+pub(crate) fn resetting(number: u64) -> Step
     requires { 1 ≤ number }
     ensures { IsNumbered result }
 {
-    Step::Order(client, number, *command)
+    order(number, &Command::Reset(NodeId::new(1).unwrap()))
 }
 
-/// So many orders of one command by one client, numbered from this one on.
+fn order(number: u64, command: &Command) -> Step
+    requires { 1 ≤ number }
+    ensures { IsNumbered result }
+{
+    Step::Order(Client::new(1).unwrap(), number, *command)
+}
+
+/// So many resets of it, by orders numbered from this one on.
+pub(crate) fn resets(alloc: Global, first: u64, count: usize) -> Result<Vec<Step>, AllocError>
+    requires first { 1 ≤ first }
+    requires few { first + count < 2 ^ 64 }
+    ensures numbered { IfOk result (λ steps. AllByRecursion IsNumbered steps.items) }
+    ensures count { IfOk result (λ steps. length steps.items ≡ count) }
+{
+    orders(
+        alloc,
+        &Command::Reset(NodeId::new(1).unwrap()),
+        first,
+        count,
+    )
+}
+
+/// So many orders of one command, numbered from this one on.
 #[tactic(auto, using(crate::proofs::Numbered::numbered_push))]
-pub fn orders(
+fn orders(
     alloc: Global,
-    client: Client,
     command: &Command,
     first: u64,
     count: usize,
-) -> Result<Vec<Step>, Fail>
+) -> Result<Vec<Step>, AllocError>
     requires first { 1 ≤ first }
     requires few { first + count < 2 ^ 64 }
     ensures numbered { IfOk result (λ steps. AllByRecursion IsNumbered steps.items) }
@@ -72,27 +102,25 @@ pub fn orders(
 {
     let mut steps = Vec::new(alloc);
     for i in 0..count {
-        steps.push(order(client, first + i as u64, command))?;
+        steps.push(order(first + i as u64, command))?;
     }
     Ok(steps)
 }
 
-/// What a commit of steps answers that are fresh; of other steps the test fails.
-pub fn committed<D: Disk>(
-    store: &mut Store<D>,
-    steps: &[Step],
-) -> Result<Result<(), CommitFault>, Fail>
+/// Commits steps, and says whether they are fresh.
+pub(crate) fn commits<D: Disk>(store: &mut Store<D>, steps: &[Step]) -> Result<bool, CommitFault>
     requires some { (1 ≤ length steps.now) × (length steps.now ≤ 256) }
     requires numbered { AllByRecursion IsNumbered steps.now }
 {
-    if !store.takes(steps)? {
-        return Err("not fresh")?;
+    let are_fresh = store.takes(steps)?;
+    if are_fresh {
+        store.commit(steps)?;
     }
-    Ok(store.commit(steps))
+    Ok(are_fresh)
 }
 
 /// What a crash leaves: at the last sync, as read, or filled with bytes.
-pub fn choice(alloc: Global, which: usize) -> Result<Choice, Fail> {
+pub(crate) fn choice(alloc: Global, which: usize) -> Result<Choice, AllocError> {
     Ok(match which {
         0 => Choice::Lost,
         1 => Choice::Kept,
