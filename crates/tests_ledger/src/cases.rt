@@ -1,7 +1,7 @@
 //! Devices with settled steps, and the steps of a flight that goes out next.
 
 use crate::devices::made;
-use crate::runs::ran;
+use crate::runs::{had_memory, ran};
 use crate::scene::Scene;
 use coord_disk::MemDisk;
 use coord_ledger::Event;
@@ -27,21 +27,35 @@ pub(crate) fn push(events: &mut Vec<Event>, steps: &[Step]) -> Result<(), Fail> 
     Ok(())
 }
 
+// The device that a run from no steps leaves, where it lacked no memory.
+fn settled(alloc: Global, events: &[Event]) -> Result<MemDisk, Fail> {
+    let (trace, disk) = ran(alloc, made(alloc)?, events)?;
+    let had_memory = had_memory(&trace, false);
+    drop(trace);
+    match had_memory {
+        Ok(()) => Ok(disk),
+        Err(fail) => {
+            drop(disk);
+            Err(fail)
+        }
+    }
+}
+
 /// Three settled steps, and a flight of three that fits.
 pub(crate) fn small(alloc: Global) -> Result<Case, Fail> {
     let scene = Scene::new()?;
     let mut events = Vec::new(alloc);
     push(&mut events, &scene.linking())?;
-    let (_trace, disk) = ran(alloc, made(alloc)?, &events)?;
     let steps = [
         scene.reset(4, scene.first),
         scene.add(5, scene.third),
         scene.add(6, scene.fourth),
     ];
+    let steps = steps.to_vec(alloc)?;
     Ok(Case {
-        disk,
+        disk: settled(alloc, &events)?,
         settled: 3,
-        steps: steps.to_vec(alloc)?,
+        steps,
         calls: 4,
     })
 }
@@ -68,12 +82,11 @@ fn filling(alloc: Global, scene: &Scene) -> Result<Vec<Event>, Fail> {
 /// A half that is so full that a flight of 256 steps makes a checkpoint.
 pub(crate) fn full(alloc: Global) -> Result<Case, Fail> {
     let scene = Scene::new()?;
-    let events = filling(alloc, &scene)?;
-    let (_trace, disk) = ran(alloc, made(alloc)?, &events)?;
+    let steps = resets(alloc, &scene, 2_562)?;
     Ok(Case {
-        disk,
+        disk: settled(alloc, &filling(alloc, &scene)?)?,
         settled: 2_561,
-        steps: resets(alloc, &scene, 2_562)?,
+        steps,
         calls: 8,
     })
 }

@@ -38,8 +38,19 @@ fn is_failed(answer: &Answer) -> bool {
     matches!(answer, Answer::Failed(CommitFault::Device))
 }
 
-/// Whether the answers behind so many are these. Where memory was refused, to the ledger or to a
-/// device that is to fail no call, they say nothing of that.
+/// Fails where memory was refused, to the ledger or to a device that is to fail no call: the answers
+/// say nothing then.
+pub(crate) fn had_memory(trace: &Trace, may_fail: bool) -> Result<(), Fail> {
+    if trace.answers.iter().any(lacks_memory) {
+        return Err(Refusal::OutOfMemory)?;
+    }
+    if !may_fail && trace.answers.iter().any(is_failed) {
+        return Err(CommitFault::Device)?;
+    }
+    Ok(())
+}
+
+/// Whether the answers behind so many are these.
 pub(crate) fn are(
     alloc: Global,
     trace: &Trace,
@@ -47,12 +58,7 @@ pub(crate) fn are(
     wanted: &str,
     may_fail: bool,
 ) -> Result<bool, Fail> {
-    if trace.answers.iter().any(lacks_memory) {
-        return Err(Refusal::OutOfMemory)?;
-    }
-    if !may_fail && trace.answers.iter().any(is_failed) {
-        return Err(CommitFault::Device)?;
-    }
+    had_memory(trace, may_fail)?;
     let last = trace.answers.get(behind..).ok_or("answers")?;
     Ok(format!(in alloc; "{last:?}")?.as_str() == wanted)
 }
