@@ -1,0 +1,131 @@
+//! An engine over a device that fails a call.
+
+ghost use Rattle.std.specs.Prelude.{◌≡◌};
+
+use crate::scripts::{HALF, adding, adopted, created, engine};
+use coord_disk::{BlipDisk, Disk, MemDisk};
+use coord_engine::{Engine, Share};
+use coord_ledger::{Ledger, Ticket};
+use coord_store::{CommitFault, Store};
+use coord_types::{Refusal, Step};
+use std::alloc::Global;
+use std::marker::Brand;
+use std::sync::Wait;
+use std::sync::ledger::{Blank, Ledger as Count};
+use std::test::Fail;
+
+// Whether a flight fails with its device.
+fn fails<D: Disk, L: Count, R: Wait>(rt: &R, engine: &Engine<D, L>) -> Result<bool, Fail> {
+    match engine.flush_once(rt) {
+        Ok(None) => Ok(false),
+        Ok(Some(releases)) => {
+            releases.lose_rest();
+            Ok(false)
+        }
+        Err(CommitFault::Device) => Ok(true),
+        Err(fault) => Err(fault)?,
+    }
+}
+
+// Whether there will be no reply to a ticket, and it comes back.
+fn gets_none<D: Disk, L: Count, R: Wait>(rt: &R, engine: &Engine<D, L>, ticket: Ticket) -> bool {
+    let step = ticket.step();
+    match engine.collect(rt, ticket) {
+        Ok(_) => false,
+        Err((refusal, back)) => {
+            let is_same = back.step() == step;
+            back.forget();
+            is_same && refusal == Refusal::Stopped
+        }
+    }
+}
+
+// Whether no more steps are accepted.
+fn is_stopped<D: Disk, L: Count, R: Wait>(
+    rt: &R,
+    engine: &Engine<D, L>,
+    share: &mut Share<L>,
+    step: Step,
+) -> Result<bool, Fail> {
+    match engine.submit(rt, step, share) {
+        Ok(ticket) => {
+            ticket.forget();
+            Ok(false)
+        }
+        Err(Refusal::Stopped) => Ok(true),
+        Err(refusal) => Err(refusal)?,
+    }
+}
+
+// Whether the first of two steps gets no reply once its flight has failed, and the second is not
+// accepted.
+fn is_not_answered<D: Disk, L: Count, R: Wait>(
+    rt: &R,
+    engine: &Engine<D, L>,
+    share: &mut Share<L>,
+    steps: [Step; 2],
+) -> Result<bool, Fail> {
+    let ticket = engine.submit(rt, steps[0], share)?;
+    match fails(rt, engine) {
+        Ok(true) => {}
+        other => {
+            ticket.forget();
+            return other;
+        }
+    }
+    let refused = gets_none(rt, engine, ticket);
+    Ok(is_stopped(rt, engine, share, steps[1])? && refused)
+}
+
+fn refuse_unsettled<D: Disk, L: Count, R: Wait>(
+    rt: &R,
+    alloc: Global,
+    blank: Blank,
+    ledger: Ledger<D>,
+    steps: [Step; 2],
+) -> Result<bool, Fail>
+    requires name { blank.name ≡ L.name }
+    requires parts { (blank.parts ≡ L.parts) × (L.parts ≡ 65536) }
+{
+    let Some(engine) = engine::<D, L>(alloc, blank, ledger) else {
+        return Ok(false);
+    };
+    match engine.share(rt) {
+        Some(mut share) => is_not_answered(rt, &engine, &mut share, steps),
+        None => Ok(false),
+    }
+}
+
+// A store on this device, which fails the call with this number.
+fn failing(alloc: Global, disk: MemDisk, fails: u64) -> Result<Store<BlipDisk<MemDisk>>, Fail> {
+    match Store::open(alloc, BlipDisk::new(disk, fails)) {
+        Ok(store) => Ok(store),
+        Err((fault, _disk)) => Err(fault)?,
+    }
+}
+
+// A store that was just made, on a device that fails the first call of its first commit.
+fn made(alloc: Global) -> Result<Store<BlipDisk<MemDisk>>, Fail> {
+    let disk = match Store::create(alloc, MemDisk::new(alloc), HALF, 1) {
+        Ok(store) => store.into_disk(),
+        Err((fault, _disk)) => return Err(fault)?,
+    };
+    let opened = failing(alloc, disk, u64::MAX)?.into_disk();
+    let calls = opened.calls();
+    failing(alloc, opened.into_inner(), calls)
+}
+
+fn refuses_unsettled<R: Wait>(rt: &R, alloc: Global) -> Result<bool, Fail> {
+    let steps = [
+        adding(1, 1, 1).ok_or("step")?,
+        adding(1, 2, 2).ok_or("step")?,
+    ];
+    let ledger = adopted(alloc, made(alloc)?)?;
+    refuse_unsettled::<_, Brand, R>(rt, alloc, Blank::new(65536), ledger, steps)
+}
+
+#[test]
+fn what_is_not_settled_gets_no_reply(rt: HostRuntime) -> Result<(), Fail> {
+    assert!(rt; refuses_unsettled(&rt, rt.alloc())?);
+    Ok(())
+}

@@ -1,0 +1,15 @@
+//! Tests of the engine. Each is of something that no contract says.
+#![tactic(auto)]
+
+#[cfg(test)]
+mod closing;
+#[cfg(test)]
+mod devices;
+#[cfg(test)]
+mod retried;
+#[cfg(test)]
+mod scripts;
+#[cfg(test)]
+mod threads;
+#[cfg(test)]
+mod waiting;

@@ -1,0 +1,107 @@
+//! One caller without threads. Where a call finds no memory the test ends with that answer; a flight
+//! that was committed is taken back again and again, until there is memory for it.
+
+ghost use Rattle.std.specs.Prelude.{◌≡◌};
+
+use crate::scripts::{adding, created, engine};
+use coord_disk::{Disk, MemDisk};
+use coord_engine::{Engine, Share};
+use coord_ledger::{Ledger, Seen};
+use coord_store::CommitFault;
+use coord_types::{Refusal, Step};
+use std::alloc::{AllocError, Global};
+use std::marker::Brand;
+use std::sync::Wait;
+use std::sync::ledger::{Blank, Ledger as Count};
+use std::test::Fail;
+
+fn submit<D: Disk, L: Count, R: Wait>(
+    rt: &R,
+    engine: &Engine<D, L>,
+    share: Option<Share<L>>,
+    step: Step,
+) -> Result<bool, Refusal> {
+    let Some(share) = share else {
+        return Ok(false);
+    };
+    let mut share = share;
+    match engine.submit(rt, step, &mut share) {
+        Ok(ticket) => {
+            ticket.forget();
+            Ok(true)
+        }
+        Err(refusal) => Err(refusal),
+    }
+}
+
+// How much a flight releases; None where none went out.
+fn flushed<D: Disk, L: Count, R: Wait>(
+    rt: &R,
+    engine: &Engine<D, L>,
+) -> Result<Option<u64>, CommitFault> {
+    match engine.flush_once(rt)? {
+        Some(releases) => Ok(Some(releases.lose_rest())),
+        None => Ok(None),
+    }
+}
+
+// How many steps are shown as settled.
+fn shown<D: Disk, L: Count, R: Wait>(rt: &R, engine: &Engine<D, L>) -> Result<u64, Refusal> {
+    match engine.show(rt, &mut Seen::new()) {
+        Ok(view) => Ok(view.settled),
+        Err(refusal) => Err(refusal),
+    }
+}
+
+// How much is sent again.
+fn sent_again<D: Disk, L: Count, R: Wait>(
+    rt: &R,
+    engine: &Engine<D, L>,
+) -> Result<u64, AllocError> {
+    match engine.resend(rt) {
+        Ok(releases) => Ok(releases.lose_rest()),
+        Err(fault) => Err(fault),
+    }
+}
+
+// Whether one step is settled by one flight, and is shown then.
+fn settles<D: Disk, L: Count, R: Wait>(
+    rt: &R,
+    engine: &Engine<D, L>,
+    step: Step,
+) -> Result<bool, Fail> {
+    let accepted = submit(rt, engine, engine.share(rt), step)?;
+    let first = flushed(rt, engine)?;
+    let second = flushed(rt, engine)?;
+    let settled = shown(rt, engine)?;
+    let again = sent_again(rt, engine)?;
+    Ok(accepted && first == Some(0) && second.is_none() && settled == 1 && again == 0)
+}
+
+fn settle_one<D: Disk, L: Count, R: Wait>(
+    rt: &R,
+    alloc: Global,
+    blank: Blank,
+    ledger: Ledger<D>,
+    step: Step,
+) -> Result<bool, Fail>
+    requires name { blank.name ≡ L.name }
+    requires parts { (blank.parts ≡ L.parts) × (L.parts ≡ 65536) }
+{
+    match engine::<D, L>(alloc, blank, ledger) {
+        Some(engine) => settles(rt, &engine, step),
+        None => Ok(false),
+    }
+}
+
+fn settles_one<R: Wait>(rt: &R, alloc: Global) -> Result<bool, Fail> {
+    let step = adding(1, 1, 1).ok_or("step")?;
+    let ledger = created(alloc, MemDisk::new(alloc), &[])?;
+    settle_one::<MemDisk, Brand, R>(rt, alloc, Blank::new(65536), ledger, step)
+}
+
+#[test]
+fn one_step_is_settled(rt: HostRuntime) -> Result<(), Fail> {
+    assert!(rt; settles_one(&rt, rt.alloc())?);
+    Ok(())
+}

@@ -1,0 +1,132 @@
+//! What the tests hand to an engine.
+
+ghost use Rattle.std.specs.Prelude.{◌≡◌};
+
+use coord_disk::Disk;
+use coord_engine::{CloseFault, Closed, Engine, Share};
+use coord_ledger::Ledger;
+use coord_store::Store;
+use coord_types::{Client, Command, Group, NodeId, Refusal, Step};
+use std::alloc::Global;
+use std::sync::ledger::{Blank, Ledger as Count};
+use std::test::Fail;
+
+/// The least size of a half.
+pub(crate) const HALF: u64 = 32_768;
+
+/// A ledger over a store that has not stopped.
+pub(crate) fn adopted<D: Disk>(alloc: Global, store: Store<D>) -> Result<Ledger<D>, Fail> {
+    if store.stopped() {
+        return Err("stopped")?;
+    }
+    match Ledger::adopt(alloc, store) {
+        Ok(ledger) => Ok(ledger),
+        Err((fault, _store)) => Err(fault)?,
+    }
+}
+
+fn submit_all<D: Disk>(ledger: &mut Ledger<D>, steps: &[Step]) -> Result<(), Refusal> {
+    for step in steps {
+        ledger.submit(*step)?.forget();
+    }
+    Ok(())
+}
+
+/// A ledger over a store that is made on this device, with these steps pending.
+pub(crate) fn created<D: Disk>(alloc: Global, disk: D, steps: &[Step]) -> Result<Ledger<D>, Fail> {
+    let store = match Store::create(alloc, disk, HALF, 1) {
+        Ok(store) => store,
+        Err((fault, _disk)) => return Err(fault)?,
+    };
+    let mut ledger = adopted(alloc, store)?;
+    match submit_all(&mut ledger, steps) {
+        Ok(()) => Ok(ledger),
+        Err(refusal) => Err(refusal)?,
+    }
+}
+
+/// An engine over a ledger that has its store at home.
+pub(crate) fn engine<D: Disk, L: Count>(
+    alloc: Global,
+    blank: Blank,
+    ledger: Ledger<D>,
+) -> Option<Engine<D, L>>
+    requires name { blank.name ≡ L.name }
+    requires parts { (blank.parts ≡ L.parts) × (L.parts ≡ 65536) }
+{
+    if ledger.is_out() {
+        return None;
+    }
+    Some(Engine::new(alloc, blank, ledger))
+}
+
+fn closed_by<D: Disk, L: Count>(
+    engine: Engine<D, L>,
+    shares: Vec<Share<L>>,
+    last: Option<Share<L>>,
+) -> Option<Closed<D>>
+    requires { L.parts ≡ 65536 }
+{
+    let mut shares = shares;
+    if let Some(last) = last {
+        let _ = shares.push(last);
+    }
+    engine.close(shares).ok()
+}
+
+/// What is left of an engine that closes with these shares, and not without the last one.
+pub(crate) fn closed<D: Disk, L: Count>(
+    engine: Engine<D, L>,
+    shares: Vec<Share<L>>,
+) -> Option<Closed<D>>
+    requires { L.parts ≡ 65536 }
+{
+    let mut shares = shares;
+    let last = shares.pop();
+    match engine.close(shares) {
+        Err((CloseFault::SharesMissing, engine, shares)) => closed_by(engine, shares, last),
+        _ => None,
+    }
+}
+
+fn order(client: u8, number: u64, command: &Command) -> Option<Step> {
+    let client = Client::new(client)?;
+    Some(Step::Order(client, number, *command))
+}
+
+/// The client adds a node to group 1.
+pub(crate) fn adding(client: u8, number: u64, id: u8) -> Option<Step> {
+    order(
+        client,
+        number,
+        &Command::Add(NodeId::new(id)?, Group::new(1)?),
+    )
+}
+
+/// The client resets a node.
+pub(crate) fn resetting(client: u8, number: u64, id: u8) -> Option<Step> {
+    order(client, number, &Command::Reset(NodeId::new(id)?))
+}
+
+/// The client links two nodes.
+fn joining(client: u8, number: u64, a: u8, b: u8) -> Option<Step> {
+    order(
+        client,
+        number,
+        &Command::Join(NodeId::new(a)?, NodeId::new(b)?),
+    )
+}
+
+/// The steps that make a ring of the nodes up to this one. Each node is added by the client with its
+/// number, and linked to the next by the same one.
+pub(crate) fn ring_steps(alloc: Global, last: u8) -> Option<Vec<Step>> {
+    let mut steps = Vec::new(alloc);
+    for id in 1..=last {
+        steps.extend_from_slice(&[adding(id, 1, id)?]).ok()?;
+    }
+    for id in 1..=last {
+        let next = if id == last { 1 } else { id + 1 };
+        steps.extend_from_slice(&[joining(id, 2, id, next)?]).ok()?;
+    }
+    Some(steps)
+}

@@ -1,0 +1,6 @@
+//! Tests that start threads.
+
+mod callers;
+mod gates;
+mod ports;
+mod rings;

@@ -1,0 +1,233 @@
+//! Two callers, each in a thread of its own, and what was accepted and settled of them.
+
+ghost use Rattle.std.specs.Prelude.{◌≡◌};
+
+use crate::scripts::{adding, closed, created, engine, resetting};
+use coord_disk::{Disk, MemDisk};
+use coord_engine::{Closed, Engine, Share};
+use coord_ledger::{Ledger, Note, Seen, Ticket};
+use coord_types::{Kind, Reply, Step};
+use std::alloc::Global;
+use std::marker::Brand;
+use std::sync::Wait;
+use std::sync::ledger::{Blank, Ledger as Count};
+use std::test::Fail;
+use std::thread;
+use std::thread::Threads;
+
+/// How often each caller resets its node.
+const RESETS: u64 = 100;
+
+/// How many steps there are then, with the two that added the nodes.
+const STEPS: usize = 202;
+
+// Resets a node again and again, as the client with its number, and brings back the tickets.
+fn call<D: Disk, L: Count, R: Wait>(
+    rt: &R,
+    alloc: Global,
+    engine: &Engine<D, L>,
+    share: Share<L>,
+    who: u8,
+) -> (Share<L>, Vec<Ticket>) {
+    let mut share = share;
+    let mut tickets = Vec::new(alloc);
+    for number in 2..RESETS + 2 {
+        let Some(step) = resetting(who, number, who) else {
+            break;
+        };
+        if tickets.reserve(1).is_err() {
+            break;
+        }
+        if let Ok(ticket) = engine.submit(rt, step, &mut share) {
+            tickets.push_reserved(ticket);
+        }
+    }
+    (share, tickets)
+}
+
+// Whether what is pending is settled by a few flights.
+fn is_flushed<D: Disk, L: Count, R: Wait>(rt: &R, engine: &Engine<D, L>) -> bool {
+    for _ in 0..8 {
+        match engine.flush_once(rt) {
+            Ok(Some(releases)) => {
+                releases.lose_rest();
+            }
+            Ok(None) => return true,
+            Err(_) => return false,
+        }
+    }
+    false
+}
+
+// Whether this is the reply to a reset, with the ticket's number.
+fn is_finished<D: Disk, L: Count, R: Wait>(rt: &R, engine: &Engine<D, L>, ticket: Ticket) -> bool {
+    let step = ticket.step();
+    match engine.collect(rt, ticket) {
+        Ok(reply) => {
+            reply
+                == Reply {
+                    step,
+                    kind: Kind::Finished,
+                }
+        }
+        Err((_, ticket)) => {
+            ticket.forget();
+            false
+        }
+    }
+}
+
+// Whether there is a ticket of each reset, and all are. Where not all steps are settled no ticket is
+// collected, since the call would wait.
+fn are_finished<D: Disk, L: Count, R: Wait>(
+    rt: &R,
+    engine: &Engine<D, L>,
+    tickets: Vec<Ticket>,
+    are_settled: bool,
+) -> bool {
+    let mut left = tickets;
+    let mut all = left.len() == RESETS as usize;
+    while let Some(ticket) = left.pop() {
+        if are_settled {
+            all = is_finished(rt, engine, ticket) && all;
+        } else {
+            ticket.forget();
+            all = false;
+        }
+    }
+    left.destroy_empty();
+    all
+}
+
+// Whether a caller that has seen all steps is shown all steps, and the two nodes.
+fn is_shown<D: Disk, L: Count, R: Wait>(rt: &R, engine: &Engine<D, L>) -> bool {
+    let mut seen = Seen::new();
+    seen.note(STEPS as u64);
+    let Ok(view) = engine.show(rt, &mut seen) else {
+        return false;
+    };
+    for node in &view.nodes {
+        if node.epoch != RESETS {
+            return false;
+        }
+    }
+    view.accepted == STEPS as u64 && view.settled == STEPS as u64 && view.nodes.len() == 2
+}
+
+// Whether nothing has to be sent again.
+fn nothing_is_sent_again<D: Disk, L: Count, R: Wait>(rt: &R, engine: &Engine<D, L>) -> bool {
+    match engine.resend(rt) {
+        Ok(releases) => releases.lose_rest() == 0,
+        Err(_) => false,
+    }
+}
+
+// Both shares.
+fn pair<L: Count>(alloc: Global, one: Share<L>, two: Share<L>) -> Vec<Share<L>> {
+    let mut shares = Vec::new(alloc);
+    let _ = shares.push(one);
+    let _ = shares.push(two);
+    shares
+}
+
+// The shares of two callers, and whether all that they submitted is settled and collected.
+fn two_callers<D: Disk + Send, L: Count + Send + Sync, R: Threads + Wait + Sync>(
+    rt: &R,
+    alloc: Global,
+    engine: &Engine<D, L>,
+    one: Share<L>,
+    two: Share<L>,
+) -> (Vec<Share<L>>, bool) {
+    let ((one, first), (two, second)) = thread::join(
+        rt,
+        move || call(rt, alloc, engine, one, 1),
+        move || call(rt, alloc, engine, two, 2),
+    );
+    let settled = is_flushed(rt, engine) && is_shown(rt, engine);
+    let first = are_finished(rt, engine, first, settled);
+    let second = are_finished(rt, engine, second, settled);
+    let shown = is_shown(rt, engine) && nothing_is_sent_again(rt, engine);
+    (pair(alloc, one, two), first && second && shown)
+}
+
+// Whether the step stands at this place.
+fn stands_at(trail: &[Step], place: usize, step: &Step) -> bool {
+    match trail.get(place) {
+        Some(other) => other == step,
+        None => false,
+    }
+}
+
+// Whether the trail begins with the two that added nodes, and each note is named.
+fn is_history<D: Disk>(closed: &Closed<D>, notes: &[Note]) -> bool {
+    let (Some(first), Some(second)) = (adding(1, 1, 1), adding(2, 1, 2)) else {
+        return false;
+    };
+    for note in notes {
+        if !closed.names(note) {
+            return false;
+        }
+    }
+    notes.len() == 2 * RESETS as usize
+        && closed.trail.len() == STEPS
+        && stands_at(&closed.trail, 0, &first)
+        && stands_at(&closed.trail, 1, &second)
+}
+
+// The notes of all shares.
+fn all_notes<L: Count>(alloc: Global, shares: &[Share<L>]) -> Vec<Note> {
+    let mut notes = Vec::new(alloc);
+    for share in shares {
+        let _ = notes.extend_from_slice(share.notes());
+    }
+    notes
+}
+
+// Whether the engine closes with the shares, over a history of just their notes.
+fn closes<D: Disk, L: Count>(alloc: Global, engine: Engine<D, L>, shares: Vec<Share<L>>) -> bool
+    requires { L.parts ≡ 65536 }
+{
+    let notes = all_notes(alloc, &shares);
+    match closed(engine, shares) {
+        Some(closed) => is_history(&closed, &notes),
+        None => false,
+    }
+}
+
+fn make_one_history<D: Disk + Send, L: Count + Send + Sync, R: Threads + Wait + Sync>(
+    rt: &R,
+    alloc: Global,
+    blank: Blank,
+    ledger: Ledger<D>,
+) -> bool
+    requires name { blank.name ≡ L.name }
+    requires parts { (blank.parts ≡ L.parts) × (L.parts ≡ 65536) }
+{
+    let Some(engine) = engine::<D, L>(alloc, blank, ledger) else {
+        return false;
+    };
+    match (engine.share(rt), engine.share(rt)) {
+        (Some(one), Some(two)) => {
+            let (shares, collected) = two_callers(rt, alloc, &engine, one, two);
+            closes(alloc, engine, shares) && collected
+        }
+        _ => false,
+    }
+}
+
+// Two callers of an engine over a device in memory, to which two nodes were added.
+fn callers_make_one_history<R: Threads + Wait + Sync>(rt: &R, alloc: Global) -> Result<bool, Fail> {
+    let adds = [
+        adding(1, 1, 1).ok_or("step")?,
+        adding(2, 1, 2).ok_or("step")?,
+    ];
+    let ledger = created(alloc, MemDisk::new(alloc), &adds)?;
+    let blank = Blank::new(65536);
+    Ok(make_one_history::<MemDisk, Brand, R>(rt, alloc, blank, ledger))
+}
+
+#[test]
+fn two_callers_make_one_history(rt: HostRuntime) -> Result<(), Fail> {
+    assert!(rt; callers_make_one_history(&rt, rt.alloc())?);
+    Ok(())
+}

@@ -1,0 +1,137 @@
+//! An engine over a device whose syncs wait.
+
+ghost use Rattle.std.specs.Prelude.{◌≡◌};
+
+use crate::scripts::{adding, created, engine};
+use coord_disk::{Disk, GateDisk, MemDisk};
+use coord_engine::{Engine, Share};
+use coord_ledger::Ledger;
+use std::alloc::{AllocError, Global};
+use std::marker::Brand;
+use std::sync::atomic::{AtomicBool, Ordering};
+use std::sync::ledger::{Blank, Ledger as Count};
+use std::sync::{Arc, Wait};
+use std::test::Fail;
+use std::thread;
+use std::thread::Threads;
+
+/// How often a thread looks whether a sync stands at the gate.
+const LOOKS: u64 = 100_000_000;
+
+// Whether the client's first order is accepted; it adds the node with its number.
+fn is_accepted<D: Disk, L: Count, R: Wait>(
+    rt: &R,
+    engine: &Engine<D, L>,
+    share: &mut Share<L>,
+    who: u8,
+) -> bool {
+    let Some(step) = adding(who, 1, who) else {
+        return false;
+    };
+    match engine.submit(rt, step, share) {
+        Ok(ticket) => {
+            ticket.forget();
+            true
+        }
+        Err(_) => false,
+    }
+}
+
+// Whether a step is accepted while a sync stands at the gate, which is opened then.
+fn is_accepted_meanwhile<D: Disk, L: Count, R: Wait>(
+    rt: &R,
+    engine: &Engine<D, L>,
+    share: Share<L>,
+    entered: &AtomicBool,
+    answered: &AtomicBool,
+) -> bool {
+    let mut share = share;
+    for _ in 0..LOOKS {
+        if entered.load(Ordering::SeqCst) {
+            let accepted = is_accepted(rt, engine, &mut share, 2);
+            answered.store(true, Ordering::SeqCst);
+            return accepted;
+        }
+    }
+    false
+}
+
+// Whether a flight settles something.
+fn flushes<D: Disk, L: Count, R: Wait>(rt: &R, engine: &Engine<D, L>) -> bool {
+    match engine.flush_once(rt) {
+        Ok(Some(releases)) => {
+            releases.lose_rest();
+            true
+        }
+        Ok(None) | Err(_) => false,
+    }
+}
+
+// Whether one thread's step is settled, and another's accepted meanwhile.
+fn is_accepted_in_sync<D: Disk + Send, L: Count + Send + Sync, R: Threads + Wait + Sync>(
+    rt: &R,
+    engine: &Engine<D, L>,
+    mine: Share<L>,
+    other: Share<L>,
+    entered: &AtomicBool,
+    answered: &AtomicBool,
+) -> bool {
+    let mut mine = mine;
+    let pending = is_accepted(rt, engine, &mut mine, 1);
+    let (flushed, accepted) = thread::join(
+        rt,
+        move || flushes(rt, engine),
+        move || is_accepted_meanwhile(rt, engine, other, entered, answered),
+    );
+    pending && flushed && accepted
+}
+
+fn accept_in_sync<D: Disk + Send, L: Count + Send + Sync, R: Threads + Wait + Sync>(
+    rt: &R,
+    alloc: Global,
+    blank: Blank,
+    ledger: Ledger<D>,
+    entered: &AtomicBool,
+    answered: &AtomicBool,
+) -> bool
+    requires name { blank.name ≡ L.name }
+    requires parts { (blank.parts ≡ L.parts) × (L.parts ≡ 65536) }
+{
+    let Some(engine) = engine::<D, L>(alloc, blank, ledger) else {
+        return false;
+    };
+    match (engine.share(rt), engine.share(rt)) {
+        (Some(mine), Some(other)) => {
+            is_accepted_in_sync(rt, &engine, mine, other, entered, answered)
+        }
+        _ => false,
+    }
+}
+
+// A device in memory whose syncs wait at a gate with these flags.
+fn gated(
+    alloc: Global,
+    entered: &Arc<AtomicBool>,
+    answered: &Arc<AtomicBool>,
+) -> Result<GateDisk<MemDisk>, AllocError> {
+    let entered = Arc::try_clone(entered)?;
+    let answered = Arc::try_clone(answered)?;
+    Ok(GateDisk::new(MemDisk::new(alloc), entered, answered))
+}
+
+// Steps of another thread while a sync of a flight stands at the gate.
+fn accepts_in_sync<R: Threads + Wait + Sync>(rt: &R, alloc: Global) -> Result<bool, Fail> {
+    let entered = Arc::new(alloc, AtomicBool::new(false))?;
+    let answered = Arc::new(alloc, AtomicBool::new(true))?;
+    let ledger = created(alloc, gated(alloc, &entered, &answered)?, &[])?;
+    entered.store(false, Ordering::SeqCst);
+    answered.store(false, Ordering::SeqCst);
+    let blank = Blank::new(65536);
+    Ok(accept_in_sync::<_, Brand, R>(rt, alloc, blank, ledger, &entered, &answered))
+}
+
+#[test]
+fn steps_are_accepted_inside_a_sync(rt: HostRuntime) -> Result<(), Fail> {
+    assert!(rt; accepts_in_sync(&rt, rt.alloc())?);
+    Ok(())
+}

@@ -1,0 +1,135 @@
+//! Ports of a ring of nodes, which carry packets to the workers' channels.
+
+use coord_engine::Port;
+use coord_types::{NodeId, Packet};
+use crossbeam_channel::Sender;
+use std::sync::atomic::{AtomicU64, Ordering};
+use std::sync::{Mutex, Wait};
+
+/// What becomes of a packet on its way.
+#[derive(Clone, Copy, PartialEq, Eq, Drop)]
+enum Fate {
+    Lost,
+    HeldBack,
+    Once,
+    Twice,
+}
+
+/// What a port does to packets.
+#[derive(Clone, Copy, PartialEq, Eq, Drop)]
+pub(crate) enum Manner {
+    Faithful,
+    /// It loses every fourth packet, holds every third back until the next one was carried, and
+    /// carries every fifth twice.
+    Lossy,
+}
+
+impl Manner {
+    fn fate(self, count: u64) -> Fate {
+        if self == Manner::Faithful {
+            return Fate::Once;
+        }
+        if count % 4 == 0 {
+            Fate::Lost
+        } else if count % 3 == 0 {
+            Fate::HeldBack
+        } else if count % 5 == 0 {
+            Fate::Twice
+        } else {
+            Fate::Once
+        }
+    }
+}
+
+/// The channels, and a packet that is held back.
+#[derive(Drop)]
+struct Carrier {
+    channels: Vec<Sender<Packet>>,
+    manner: Manner,
+    count: u64,
+    held: Option<(NodeId, Packet)>,
+}
+
+impl Carrier {
+    // Puts a packet into its node's channel.
+    fn send<R: Wait>(&self, rt: &R, to: NodeId, packet: &Packet) -> bool {
+        match self.channels.get(to.number() as usize - 1) {
+            Some(channel) => channel.send(rt, *packet).is_ok(),
+            None => false,
+        }
+    }
+
+    // Puts the packet that was held back into its channel.
+    fn send_held<R: Wait>(&mut self, rt: &R) {
+        if let Some((to, packet)) = self.held.take() {
+            self.send(rt, to, &packet);
+        }
+    }
+
+    fn carry<R: Wait>(&mut self, rt: &R, to: NodeId, packet: Packet) -> bool {
+        self.count = self.count.wrapping_add(1);
+        match self.manner.fate(self.count) {
+            Fate::Lost => false,
+            Fate::HeldBack => {
+                self.held = Some((to, packet));
+                true
+            }
+            Fate::Once => {
+                let sent = self.send(rt, to, &packet);
+                self.send_held(rt);
+                sent
+            }
+            Fate::Twice => {
+                let first = self.send(rt, to, &packet);
+                let second = self.send(rt, to, &packet);
+                self.send_held(rt);
+                first && second
+            }
+        }
+    }
+}
+
+/// A port over a channel for each of the nodes 1, 2 and so on.
+#[derive(Drop)]
+pub(crate) struct Ring<R: Wait> {
+    rt: R,
+    carrier: Mutex<Carrier>,
+    signals: AtomicU64,
+}
+
+impl<R: Wait> Ring<R> {
+    pub(crate) fn new(rt: R, channels: Vec<Sender<Packet>>, manner: Manner) -> Self {
+        Ring {
+            rt,
+            carrier: Mutex::new(Carrier {
+                channels,
+                manner,
+                count: 0,
+                held: None,
+            }),
+            signals: AtomicU64::new(0),
+        }
+    }
+
+    /// How many signals have come.
+    pub(crate) fn signals(&self) -> u64 {
+        self.signals.load(Ordering::SeqCst)
+    }
+
+    /// Closes the channels.
+    pub(crate) fn hang_up(&self) {
+        let mut carrier = self.carrier.lock(&self.rt);
+        carrier.channels.clear();
+    }
+}
+
+impl<R: Wait> Port for Ring<R> {
+    fn carry(&self, to: NodeId, packet: Packet) -> bool {
+        self.carrier.lock(&self.rt).carry(&self.rt, to, packet)
+    }
+
+    fn signal(&self, _node: NodeId, _epoch: u64) -> bool {
+        self.signals.fetch_add(1, Ordering::SeqCst);
+        true
+    }
+}

@@ -1,0 +1,195 @@
+//! Rings of eight nodes, each with a worker of its own: one reset makes all of them signal.
+
+ghost use Rattle.std.specs.Prelude.{◌≡◌};
+ghost use Rattle.std.specs.Thread.{IsSend, IsSync};
+
+use super::ports::{Manner, Ring};
+use crate::scripts::{closed, created, engine, resetting, ring_steps};
+use coord_check::check;
+use coord_disk::{Disk, MemDisk};
+use coord_engine::{Engine, Port, Share, flusher, hand_over, worker};
+use coord_ledger::Ledger;
+use coord_types::{Packet, Step};
+use crossbeam_channel::{Receiver, Sender};
+use std::alloc::Global;
+use std::marker::Brand;
+use std::sync::Wait;
+use std::sync::ledger::{Blank, Ledger as Count};
+use std::test::Fail;
+use std::thread;
+use std::thread::{JoinHandle, Scope, Threads};
+use std::time::{Clock, Duration};
+
+/// How many nodes there are.
+const NODES: u8 = 8;
+
+/// How often it is looked whether all nodes have signalled, a millisecond apart.
+const LOOKS: u64 = 20_000;
+
+// The ends of a channel for each node.
+fn channels(alloc: Global) -> Option<(Vec<Sender<Packet>>, Vec<Receiver<Packet>>)> {
+    let mut to = Vec::new(alloc);
+    let mut from = Vec::new(alloc);
+    for _ in 0..NODES {
+        let (sender, receiver) = crossbeam_channel::unbounded(alloc).ok()?;
+        to.push(sender).ok()?;
+        from.push(receiver).ok()?;
+    }
+    Some((to, from))
+}
+
+// Sends again what may have been lost.
+fn resend<D: Disk, L: Count, R: Wait>(rt: &R, engine: &Engine<D, L>, ring: &Ring<&R>) {
+    if let Ok(releases) = engine.resend(rt) {
+        hand_over(rt, engine, ring, releases);
+    }
+}
+
+// Waits until all nodes have signalled. Where packets get lost they are sent again meanwhile.
+fn all_signal<D: Disk, L: Count, R: Wait + Clock>(
+    rt: &R,
+    engine: &Engine<D, L>,
+    ring: &Ring<&R>,
+    manner: Manner,
+) -> bool {
+    for _ in 0..LOOKS {
+        if ring.signals() >= NODES as u64 {
+            return true;
+        }
+        if manner == Manner::Lossy {
+            resend(rt, engine, ring);
+        }
+        thread::sleep(rt, Duration::from_millis(1));
+    }
+    false
+}
+
+// The share of a caller whose step was accepted.
+fn submitted<D: Disk, L: Count, R: Wait>(
+    rt: &R,
+    engine: &Engine<D, L>,
+    step: Step,
+) -> Option<Share<L>> {
+    let mut share = engine.share(rt)?;
+    match engine.submit(rt, step, &mut share) {
+        Ok(ticket) => {
+            ticket.forget();
+            Some(share)
+        }
+        Err(_) => None,
+    }
+}
+
+// Resets a node, with a flusher and a worker on each channel, until all nodes have signalled. All
+// shares, and whether they have. Where something was missing, so is a share.
+fn run<D: Disk + Send, L: Count + Send + Sync, R: Threads + Wait + Clock + Sync>(
+    rt: &R,
+    alloc: Global,
+    engine: &Engine<D, L>,
+    ring: &Ring<&R>,
+    channels: Vec<Receiver<Packet>>,
+    reset: Step,
+    manner: Manner,
+) -> (Vec<Share<L>>, bool) {
+    thread::scope(thread::scope_env(), rt, |scope| -> (Vec<Share<L>>, bool)
+        requires { IsSend D.row × IsSend L.row × IsSync L.row × IsSync R.row }
+    {
+        let flushing = start_flusher(scope, rt, engine, ring);
+        let mut running = Vec::new(alloc);
+        for packets in channels {
+            if let Some(share) = engine.share(rt) {
+                if let Ok(started) = scope.spawn(move || worker(
+                    rt, alloc, engine, packets, share,
+                )) {
+                    let _ = running.push(started);
+                }
+            }
+        }
+        let own = submitted(rt, engine, reset);
+        let signalled = all_signal(rt, engine, ring, manner);
+        engine.finish(rt);
+        if let Some(flushing) = flushing {
+            flushing.join(rt);
+        }
+        ring.hang_up();
+        let mut shares = Vec::new(alloc);
+        for started in running {
+            let _ = shares.push(started.join(rt));
+        }
+        if let Some(own) = own {
+            let _ = shares.push(own);
+        }
+        (shares, signalled)
+    })
+}
+
+// Starts a flusher, unless no thread can be had.
+fn start_flusher<
+    's,
+    'r: 's,
+    'e: 's,
+    'p: 's,
+    E,
+    D: Disk + Send,
+    L: Count + Send + Sync,
+    P: Port + Sync,
+    R: Wait + Clock + Sync,
+>(
+    scope: &Scope<'s, E>,
+    rt: &'r R,
+    engine: &'e Engine<D, L>,
+    port: &'p P,
+) -> Option<JoinHandle<()>> {
+    scope.spawn(move || flusher(rt, engine, port)).ok()
+}
+
+// Whether all nodes of a ring signal, and its engine closes with all shares over a legal store.
+fn reset_ring<D: Disk + Send, L: Count + Send + Sync, R: Threads + Wait + Clock + Sync>(
+    rt: &R,
+    alloc: Global,
+    blank: Blank,
+    ledger: Ledger<D>,
+    channels: (Vec<Sender<Packet>>, Vec<Receiver<Packet>>),
+    reset: Step,
+    manner: Manner,
+) -> bool
+    requires name { blank.name ≡ L.name }
+    requires parts { (blank.parts ≡ L.parts) × (L.parts ≡ 65536) }
+{
+    let Some(engine) = engine::<D, L>(alloc, blank, ledger) else {
+        return false;
+    };
+    let (to, from) = channels;
+    let ring = Ring::new(rt, to, manner);
+    let (shares, signalled) = run(rt, alloc, &engine, &ring, from, reset, manner);
+    match closed(engine, shares) {
+        Some(closed) => signalled && check(closed.store.world()).is_none(),
+        None => false,
+    }
+}
+
+// One reset of a ring over a device in memory.
+fn all_nodes_signal<R: Threads + Wait + Clock + Sync>(
+    rt: &R,
+    alloc: Global,
+    manner: Manner,
+) -> Result<bool, Fail> {
+    let reset = resetting(1, 3, 1).ok_or("step")?;
+    let steps = ring_steps(alloc, NODES).ok_or("memory")?;
+    let channels = channels(alloc).ok_or("memory")?;
+    let ledger = created(alloc, MemDisk::new(alloc), &steps)?;
+    let blank = Blank::new(65536);
+    Ok(reset_ring::<MemDisk, Brand, R>(rt, alloc, blank, ledger, channels, reset, manner))
+}
+
+#[test]
+fn all_nodes_of_a_ring_signal(rt: HostRuntime) -> Result<(), Fail> {
+    assert!(rt; all_nodes_signal(&rt, rt.alloc(), Manner::Faithful)?);
+    Ok(())
+}
+
+#[test]
+fn all_nodes_of_a_lossy_ring_signal(rt: HostRuntime) -> Result<(), Fail> {
+    assert!(rt; all_nodes_signal(&rt, rt.alloc(), Manner::Lossy)?);
+    Ok(())
+}
