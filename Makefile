@@ -1,20 +1,32 @@
 # What a person would ask for. The toolchain's command `rt` has to be on the PATH.
-.PHONY: help demo build test refusals bench sweep install uninstall
+.PHONY: help demo drill example soak build test refusals bench sweep install uninstall
 
 PREFIX ?= /usr/local
 
 help:
-	@echo 'make demo      one reset of two nodes through the program, each line read beside what it prints'
+	@echo 'make demo      eight services and a coordinator that is killed in the middle of a reset and started again'
+	@echo 'make drill     one reset of two nodes, each line that the drill reads beside what it prints'
+	@echo 'make example   the example services of examples/ around a coordinator, in a few seconds'
 	@echo 'make build     proves every crate, and leaves the program at bin/resetd'
 	@echo 'make test      the gate: every proof from nothing, the must-fail edits, every test and the stored run'
 	@echo 'make refusals  tries the other wrong bodies, which the prover has to refuse (CRATE=NAME for one crate)'
 	@echo 'make bench     measures the drill on a ring of 64 nodes with chords, its parts, the store, the ledger and the engine'
+	@echo 'make soak      kills a coordinator 200 times and looks for what was lost (ROUNDS=N for N times)'
 	@echo 'make sweep     refuses each allocation of every test and of the program in turn'
 	@echo 'make install   copies bin/resetd and its manual page below PREFIX (/usr/local); make uninstall takes them away'
 	@echo 'make help      prints this'
 
 demo:
 	@tools/demo
+
+drill:
+	@tools/drill
+
+example: bin/resetd
+	@examples/run
+
+soak: bin/resetd
+	@tools/soak --rounds $(or $(ROUNDS),200)
 
 build:
 	rt all check

@@ -1,0 +1,49 @@
+"""Clients that number their orders, and send one that was not answered again."""
+
+STOPPED = 1
+
+
+class Lost(Exception):
+    """Something that was promised does not hold."""
+
+
+class Stopped(Lost):
+    """The coordinator says that its device failed; an order is to be sent again after the next start."""
+
+
+class Client:
+    """One client: the last order that was answered, with its reply, and one that was not answered yet."""
+
+    def __init__(self, number):
+        self.client, self.answered, self.reply, self.unanswered = number, None, None, None
+
+    def order(self, server, op, **members):
+        """Sends the next order. Without an answer it raises Away, and `settle` sends it again."""
+        number = self.answered["number"] + 1 if self.answered else 1
+        self.unanswered = {"op": op, "client": self.client, "number": number, **members}
+        return self.settle(server)
+
+    def settle(self, server):
+        reply = server.ask(self.unanswered)
+        if reply.get("refused") == STOPPED:
+            raise Stopped(f"{self.unanswered} was answered {reply}")
+        if "kind" not in reply:
+            raise Lost(f"{self.unanswered} was answered {reply}")
+        self.answered, self.reply, self.unanswered = self.unanswered, reply, None
+        return reply
+
+    def repeat(self, server, count):
+        """Sends the answered order again to a server that was started on a store of `count` steps: it gives the same
+        answer, unless a later order is on the disk, which was not answered and is settled now."""
+        is_kept = False
+        if self.answered:
+            reply = server.ask(self.answered)
+            is_kept = self.unanswered is not None and reply.get("name") == "OutOfTurn"
+            if reply != self.reply and not is_kept:
+                raise Lost(f"{self.answered} was answered {self.reply}, and sent again {reply}")
+        if self.unanswered:
+            sent, is_first = self.unanswered, self.answered is None
+            reply = self.settle(server)
+            if not is_first and (reply["step"] <= count) != is_kept:
+                raise Lost(f"{sent} is step {reply['step']} of a store of {count} steps, and its order before was "
+                           f"{'gone' if is_kept else 'there'}")

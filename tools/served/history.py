@@ -1,0 +1,41 @@
+"""All that was answered and printed over the starts of one store, and what has to hold of the store after each."""
+
+from .clients import Lost
+
+
+class History:
+    def __init__(self):
+        self.answered = {0}  # the steps of all replies
+        self.epochs = {}  # the greatest epoch of each node that was printed or shown
+        self.printed = set()
+        self.count = 0  # how many steps the store had when it was last looked into
+
+    def note_signals(self, signals):
+        for node, epoch in signals:
+            if (node, epoch) in self.printed:
+                raise Lost(f"signal {node} {epoch} was printed twice")
+            self.printed.add((node, epoch))
+            self.epochs[node] = max(epoch, self.epochs.get(node, 0))
+
+    def note_epochs(self, epochs):
+        """Epochs that were shown; none is below one that was printed or shown before."""
+        for node, epoch in self.epochs.items():
+            if epochs.get(node, 0) < epoch:
+                raise Lost(f"node {node} was seen in epoch {epoch}, and is in epoch {epochs.get(node)}")
+        self.epochs = dict(epochs)
+
+    def look_into(self, server):
+        """Checks and shows a store that no process serves: how many steps it has, and whether a reset is on its way."""
+        status, lines = server.command("check")
+        if status != 0 or not lines[0].startswith("legal "):
+            raise Lost(f"resetd check ended with status {status}: {' '.join(lines)}")
+        count = int(lines[0].split()[1])
+        if count < max(self.answered):
+            raise Lost(f"step {max(self.answered)} was answered, and the store has {count} steps")
+        self.count = count
+        status, lines = server.command("show")
+        rows = [line.split() for line in lines if line.startswith("node ")]
+        if status != 0 or lines[0] != f"view {count} {count}":
+            raise Lost(f"resetd show ended with status {status}: {' '.join(lines[:1])}")
+        self.note_epochs({int(row[1]): int(row[5]) for row in rows})
+        return count, any(row[3] != "ready" for row in rows)

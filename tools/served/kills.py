@@ -1,0 +1,102 @@
+"""A coordinator killed at random moments, and what is found after each kill."""
+
+import threading
+import time
+
+from .clients import Lost
+from .server import Away
+
+KILLED = -9
+
+
+def run(ring, rounds):
+    usual = first_reset(ring)
+    kinds = {"before it listened": 0, "in a reset": 0, "between resets": 0}
+    for done in range(1, rounds + 1):
+        kinds[one_round(ring, *usual)] += 1
+        if done % 20 == 0 or done == rounds:
+            tell(ring, done, kinds)
+    finish(ring)
+
+
+def first_reset(ring):
+    """How long a start and a reset usually take, for choosing moments."""
+    begun = time.monotonic()
+    start_again(ring)
+    started = time.monotonic()
+    ring.ask_resets(1)
+    ring.follow()
+    ended = time.monotonic()
+    print(f"without a kill: a start of {started - begun:.3f} s, a reset of {ended - started:.3f} s", flush=True)
+    finish(ring)
+    return started - begun, ended - started
+
+
+def one_round(ring, usual_start, usual_reset):
+    """A start, what has to hold after it, further resets, and a kill: while it starts, at the very moment of an
+    answer, or at a random one. Where the kill was met."""
+    server, killer = ring.server, None
+    count, _ = ring.history.look_into(server)
+    moment = ring.choice.choice(["start", "answer", "any", "any", "any"])
+    server.launch()
+    if moment == "start":
+        killer = kill_later(server, ring.choice.uniform(0, usual_start + usual_reset))
+    listens = server.listen()
+    try:
+        if listens:
+            ring.repeat_orders(count)
+            ring.follow()
+            if moment == "any":
+                killer = kill_later(server, ring.choice.uniform(0, usual_reset * 1.2))
+            ring.ask_resets(ring.choice.randint(1, 3))
+            if moment == "answer":
+                server.process.kill()
+            ring.follow()
+    except Away:
+        pass
+    if killer:
+        killer.join()
+    return after_kill(ring, listens)
+
+
+def kill_later(server, seconds):
+    killer = threading.Timer(seconds, server.process.kill)
+    killer.start()
+    return killer
+
+
+def after_kill(ring, listened):
+    status, told = ring.server.ended()
+    if status != KILLED:
+        raise Lost(f"the coordinator ended by itself with status {status}: {told}")
+    ring.history.note_signals(ring.server.new_signals())
+    _, is_going = ring.history.look_into(ring.server)
+    return "before it listened" if not listened else "in a reset" if is_going else "between resets"
+
+
+def start_again(ring):
+    """A start that nobody kills: what was answered is there, and a reset that was cut goes on to its end."""
+    count, _ = ring.history.look_into(ring.server)
+    if not ring.server.start():
+        raise Lost(f"the coordinator did not start: {ring.server.ended()}")
+    ring.repeat_orders(count)
+    ring.follow()
+
+
+def finish(ring):
+    """Closes the coordinator in order, and looks into its store."""
+    if ring.server.process.poll() is not None:
+        start_again(ring)
+    ended = ring.server.close()
+    if ended != (0, ""):
+        raise Lost(f"closed in order, the coordinator ended with {ended}")
+    ring.history.note_signals(ring.server.new_signals())
+    ring.history.look_into(ring.server)
+
+
+def tell(ring, done, kinds):
+    history = ring.history
+    lost = sum(history.epochs.values()) - len(history.printed)
+    where = ", ".join(f"{number} {kind}" for kind, number in kinds.items())
+    print(f"{done} kills ({where}): {history.count} steps, {len(history.printed)} signals printed, each once; "
+          f"{lost} settled and taken by a kill, so told by epochs alone", flush=True)

@@ -1,0 +1,79 @@
+"""A ring of nodes whose resets are asked for by several clients, and followed to their end."""
+
+import time
+
+from .clients import Client, Lost
+from .history import History
+from .server import Away
+
+NODES, CLIENTS, HALF = 64, 8, 32_768
+PATIENCE = 60  # seconds within which a reset has to end
+
+
+def topology():
+    nodes = "".join(f"[[node]]\nid = {node}\ngroup = 1\n" for node in range(1, NODES + 1))
+    links = "".join(f"[[link]]\na = {node}\nb = {node % NODES + 1}\n" for node in range(1, NODES + 1))
+    return f"half = {HALF}\n{nodes}{links}"
+
+
+class Ring:
+    """What the clients know. `quiet` are the epochs when all nodes were last ready with nothing on its way, and
+    `started` are the nodes of the resets that were started since."""
+
+    def __init__(self, server, choice):
+        self.server, self.choice, self.history = server, choice, History()
+        self.clients = [Client(number) for number in range(1, CLIENTS + 1)]
+        self.quiet = dict.fromkeys(range(1, NODES + 1), 0)
+        self.started = []
+
+    def found(self, path):
+        with open(path, "w", encoding="utf-8") as file:
+            file.write(topology())
+        done = self.server.command("init", path)
+        if done != (0, [f"created {2 * NODES}"]):
+            raise Lost(f"resetd init: {done}")
+
+    def ask_resets(self, resets):
+        """That many clients, one after the other, each over a connection of its own."""
+        for client in self.choice.sample(self.clients, resets):
+            client.order(self.server, "reset", node=self.choice.randint(1, NODES))
+            self.note(client)
+
+    def note(self, client):
+        """Notes a reply, where it is new."""
+        step = client.reply["step"]
+        if step not in self.history.answered and client.reply["kind"] == "started":
+            self.started.append(client.answered["node"])
+        self.history.answered.add(step)
+
+    def repeat_orders(self, count):
+        """After a start on a store of `count` steps: what was answered is answered the same again, and what was not
+        answered is sent again."""
+        for client in self.clients:
+            client.repeat(self.server, count)
+            if client.answered:
+                self.note(client)
+
+    def follow(self):
+        """Waits until each reset has come to its end, and compares the epochs."""
+        until = time.monotonic() + PATIENCE
+        while time.monotonic() < until:
+            view = self.server.ask({"op": "show"})
+            if "nodes" not in view:
+                raise Away(view)
+            epochs = {row[0]: row[4] for row in view["nodes"]}
+            self.history.note_epochs(epochs)
+            if all(row[2] == "ready" for row in view["nodes"]) and self.server.ask({"op": "resend"}) == \
+                    {"count": 0, "kind": "resent"}:
+                return self.compare(epochs)
+            time.sleep(0.005)
+        raise Lost(f"a reset has not come to its end within {PATIENCE} seconds")
+
+    def compare(self, epochs):
+        """Where no reset was started, no epoch rose; one alone raised each by one; of several, each node that
+        started some was signalled as often at least."""
+        for node, before in self.quiet.items():
+            rise = epochs[node] - before
+            if (len(self.started) < 2 and rise != len(self.started)) or rise < self.started.count(node):
+                raise Lost(f"node {node} went from epoch {before} to {epochs[node]} in resets of {self.started}")
+        self.quiet, self.started = epochs, []
