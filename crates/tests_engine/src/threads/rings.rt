@@ -91,36 +91,40 @@ fn run<D: Disk + Send, L: Count + Send + Sync, R: Threads + Wait + Clock + Sync>
     reset: Step,
     manner: Manner,
 ) -> (Vec<Share<L>>, bool) {
-    thread::scope(thread::scope_env(), rt, |scope| -> (Vec<Share<L>>, bool)
-        requires { IsSend D.row × IsSend L.row × IsSync L.row × IsSync R.row }
-    {
-        let flushing = start_flusher(scope, rt, engine, ring);
-        let mut running = Vec::new(alloc);
-        for packets in channels {
-            if let Some(share) = engine.share(rt) {
-                if let Ok(started) = scope.spawn(move || worker(
-                    rt, alloc, engine, packets, share,
-                )) {
-                    let _ = running.push(started);
+    thread::scope(
+        thread::scope_env(),
+        rt,
+        |scope| -> (Vec<Share<L>>, bool)
+            requires { IsSend D.row × IsSend L.row × IsSync L.row × IsSync R.row }
+        {
+            let flushing = start_flusher(scope, rt, engine, ring);
+            let mut running = Vec::new(alloc);
+            for packets in channels {
+                if let Some(share) = engine.share(rt) {
+                    if let Ok(started) = scope.spawn(move || worker(
+                        rt, alloc, engine, packets, share,
+                    )) {
+                        let _ = running.push(started);
+                    }
                 }
             }
-        }
-        let own = submitted(rt, engine, reset);
-        let signalled = all_signal(rt, engine, ring, manner);
-        engine.finish(rt);
-        if let Some(flushing) = flushing {
-            flushing.join(rt);
-        }
-        ring.hang_up();
-        let mut shares = Vec::new(alloc);
-        for started in running {
-            let _ = shares.push(started.join(rt));
-        }
-        if let Some(own) = own {
-            let _ = shares.push(own);
-        }
-        (shares, signalled)
-    })
+            let own = submitted(rt, engine, reset);
+            let signalled = all_signal(rt, engine, ring, manner);
+            engine.finish(rt);
+            if let Some(flushing) = flushing {
+                flushing.join(rt);
+            }
+            ring.hang_up();
+            let mut shares = Vec::new(alloc);
+            for started in running {
+                let _ = shares.push(started.join(rt));
+            }
+            if let Some(own) = own {
+                let _ = shares.push(own);
+            }
+            (shares, signalled)
+        },
+    )
 }
 
 // Starts a flusher, unless no thread can be had.
