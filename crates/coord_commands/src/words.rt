@@ -21,11 +21,13 @@ pub enum Task {
     Show,
     /// Make a store on a file, from a topology file.
     Init,
+    /// Serve the store on a file at an address.
+    Serve,
 }
 
 /// What the program's words ask for, the first of which is its own name: `drill`, `check FILE`,
-/// `show FILE` or `init FILE TOPOLOGY`. All else, and what `clap` refuses, is refused: `help`,
-/// `--help`, `-h` and `--version` too.
+/// `show FILE`, `init FILE TOPOLOGY` or `serve FILE ADDRESS`. All else, and what `clap` refuses, is
+/// refused: `help`, `--help`, `-h` and `--version` too.
 pub fn read_words(alloc: Global, words: &[String]) -> Result<Task, Fault>
     ensures ok { IfOk result (λ task. task_of (map string_bytes words.now) ≡ Some task) }
     ensures err { IfErr result (λ fault. (fault ≡ OutOfMemory)
@@ -51,12 +53,16 @@ fn program<'a>(alloc: Global) -> Result<Command<'a>, AllocError>
         .arg(word_named(alloc, "topology"))?;
     let check = Command::new(alloc, "check").arg(word_named(alloc, "file"))?;
     let show = Command::new(alloc, "show").arg(word_named(alloc, "file"))?;
+    let serve = Command::new(alloc, "serve")
+        .arg(word_named(alloc, "file"))?
+        .arg(word_named(alloc, "address"))?;
     Command::new(alloc, "resetd")
         .subcommand_required(true)
         .subcommand(drill)?
         .subcommand(init)?
         .subcommand(check)?
-        .subcommand(show)
+        .subcommand(show)?
+        .subcommand(serve)
 }
 
 /// A word behind a command, which has to be there.
@@ -86,11 +92,17 @@ fn alone(word: &str) -> Option<Task>
     (word == "drill").then_some(Task::Drill)
 }
 
-/// The task of a word with two files behind it.
+/// The task of a word with a file and one more word behind it.
 fn of_two(word: &str) -> Option<Task>
     ensures { result ≡ asked_of_two word.now }
 {
-    (word == "init").then_some(Task::Init)
+    if word == "init" {
+        Some(Task::Init)
+    } else if word == "serve" {
+        Some(Task::Serve)
+    } else {
+        None
+    }
 }
 
 /// The task of a word with a file behind it.

@@ -1,0 +1,27 @@
+-- What an engine's calls say, put together to what the desk answers.
+use Rattle.std.proofs.Common.{◌≡◌, ℕ, List, Result, Ok, Err, inl, inr, refl}
+use Rattle.std.specs.Prelude.{IfErr, IfOk, OnErr}
+use Rattle.coord_types.specs.declared.refusals.Refusal.{Refusal}
+use Rattle.coord_types.specs.declared.steps.Reply.{Reply}
+use Rattle.coord_types.specs.declared.steps.Step.{Step}
+use Rattle.coord_ledger.specs.declared.ticket.Note.{Note}
+use Rattle.coord_ledger.specs.ledger.State.{Claim, IsCollectable, reply_of}
+use Rattle.coord_ledger.specs.machine.Shown.{Shown}
+use Rattle.coord_engine.specs.Calls.{RefusesTicket}
+use Rattle.coord_engine.specs.Threads.{AtSomeMoment, RefusesShow, Shows, Submits}
+use Rattle.coord_server.specs.EngineDesk.{IsAccepted, Orders, ShowsTo}
+
+module _ {D : Type 0} where
+  -- its reply was waited for
+  pub settles : (s : Step) (claim : Claim) (reply : Reply) (before after : List Note) → IsAccepted D s claim before after → (reply ≡ reply_of claim) × AtSomeMoment {D = D} (λ g. IsCollectable g.ledger.log claim) → Orders D s (Ok reply) before after
+  settles s claim reply before after accepted told =
+      (claim, accepted, record { state = told.1.state; consistent = told.1.consistent; so = (told.0, told.1.so) })
+
+  -- it was accepted, and then there was no reply
+  pub gives_up : (s : Step) (claim : Claim) (refusal : Refusal) (before after : List Note) → IsAccepted D s claim before after → AtSomeMoment {D = D} (λ g. RefusesTicket g.ledger claim refusal) → Orders D s (Err refusal) before after
+  gives_up s claim refusal before after accepted told =
+      inr (claim, accepted, record { state = told.state; consistent = told.consistent; so = (refl, told.so) })
+
+  pub shows : (r : Result Shown Refusal) (before after : ℕ) → IfOk r (λ view. AtSomeMoment {D = D} (Shows view before after)) → IfErr r (λ refusal. AtSomeMoment {D = D} (RefusesShow refusal before)) → OnErr r (after ≡ before) → ShowsTo D r before after
+  shows (Ok view) before after shown refused unseen = shown
+  shows (Err refusal) before after shown refused unseen = (refused, unseen)

@@ -1,0 +1,118 @@
+//! A desk over an engine.
+
+ghost use Rattle.std.specs.Prelude.{◌≡◌, IfErr, IfOk, length};
+ghost use Rattle.coord_types.specs.declared.refusals.Refusal.TheVariants.{OutOfMemory};
+ghost use Rattle.coord_server.specs.EngineDesk.{DeskAnswers, Orders, Resends};
+
+use coord_admin::Desk;
+use coord_disk::Disk;
+use coord_engine::{Engine, Port, Share, hand_over};
+use coord_ledger::{Seen, View};
+use coord_types::{Client, Command, Refusal, Reply, Step};
+use std::marker::Model;
+use std::sync::Wait;
+use std::sync::ledger::Ledger as Count;
+
+/// Asks an engine, and hands what is to be sent again to a port. Contracts see the notes of its
+/// share, and how much it has seen.
+#[derive(Drop)]
+pub struct EngineDesk<'a, D: Disk, L: Count, P: Port, R: Wait> {
+    rt: &'a R,
+    engine: &'a Engine<D, L>,
+    port: &'a P,
+    share: Share<L>,
+    seen: Seen,
+}
+
+impl<'a, D: Disk, L: Count, P: Port, R: Wait> Model for EngineDesk<'a, D, L, P, R> {
+    ghost use Rattle.coord_server.specs.EngineDesk.{DeskState};
+
+    ghost Value = { DeskState };
+
+    ghost view = { λ d. record { notes = d.share; seen = d.seen } };
+}
+
+impl<'a, D: Disk, L: Count, P: Port, R: Wait> EngineDesk<'a, D, L, P, R> {
+    /// A desk that has seen nothing yet.
+    pub fn new(rt: &'a R, engine: &'a Engine<D, L>, port: &'a P, share: Share<L>) -> Self
+        ensures { result ≡ record { notes = share; seen = 0 } }
+    {
+        EngineDesk {
+            rt,
+            engine,
+            port,
+            share,
+            seen: Seen::new(),
+        }
+    }
+
+    /// The desk's share, with the notes of what was accepted for it.
+    pub fn into_share(self) -> Share<L>
+        ensures { result ≡ self.entry.notes }
+    {
+        let EngineDesk {
+            rt: _,
+            engine: _,
+            port: _,
+            share,
+            seen: _,
+        } = self;
+        share
+    }
+}
+
+/// Submits a step, and waits for its reply.
+fn order<D: Disk, L: Count, R: Wait>(
+    rt: &R,
+    engine: &Engine<D, L>,
+    step: Step,
+    share: &mut Share<L>,
+) -> Result<Reply, Refusal>
+    ensures { Orders D step result share.old share.new }
+{
+    let ticket = engine.submit(rt, step, share)?;
+    match engine.collect(rt, ticket) {
+        Ok(reply) => Ok(reply),
+        Err((refusal, ticket)) => {
+            ticket.forget();
+            Err(refusal)
+        }
+    }
+}
+
+/// Hands to a port again what may have been lost, and answers how many packets that are.
+fn resend<D: Disk, L: Count, P: Port, R: Wait>(
+    rt: &R,
+    engine: &Engine<D, L>,
+    port: &P,
+) -> Result<u64, Refusal>
+    ensures { Resends D result }
+{
+    match engine.resend(rt) {
+        Ok(releases) => Ok(hand_over(rt, engine, port, releases)),
+        Err(_) => Err(Refusal::OutOfMemory),
+    }
+}
+
+impl<'a, D: Disk, L: Count, P: Port, R: Wait> Desk for EngineDesk<'a, D, L, P, R> {
+    ghost use Rattle.coord_server.specs.EngineDesk.{DeskAnswers};
+
+    ghost answers = { DeskAnswers D };
+
+    fn order(&mut self, client: Client, number: u64, command: Command) -> Result<Reply, Refusal> {
+        let step = Step::Order(client, number, command);
+        let reply = order(self.rt, self.engine, step, &mut self.share)?;
+        self.seen.note(reply.step);
+        Ok(reply)
+    }
+
+    fn show(&mut self) -> Result<View, Refusal> {
+        self.engine.show(self.rt, &mut self.seen)
+    }
+
+    fn resend(&mut self) -> Result<u64, Refusal> {
+        resend(self.rt, self.engine, self.port)
+    }
+
+    fn close(&mut self) {}
+}

@@ -1,0 +1,46 @@
+//! Why a server ends otherwise than by a close.
+
+use coord_engine::CloseFault;
+use std::alloc::AllocError;
+use std::error::Error;
+use std::fmt;
+
+/// What ended a server, or was met while it ended.
+#[derive(Clone, Copy, Debug, PartialEq, Eq, Drop)]
+pub enum ServerFault {
+    /// There was not enough memory, or no thread could be had, to begin.
+    OutOfMemory,
+    /// The listener failed.
+    Socket,
+    /// The device failed, and the store has stopped.
+    Device,
+    /// A line could not be printed.
+    Write,
+    /// The engine was not taken apart. No call of the engine leads there.
+    NotClosed(CloseFault),
+}
+
+impl fmt::Display for ServerFault {
+    fn fmt<W: fmt::Write>(&self, f: &mut fmt::Formatter<W>) -> fmt::Result {
+        match self {
+            ServerFault::OutOfMemory => f.write_str("OutOfMemory"),
+            ServerFault::Socket => f.write_str("Socket"),
+            ServerFault::Device => f.write_str("Device"),
+            ServerFault::Write => f.write_str("Write"),
+            ServerFault::NotClosed(fault) => write!(f, "{fault}"),
+        }
+    }
+}
+
+impl Error for ServerFault {}
+
+impl From<AllocError> for ServerFault {
+    ghost use Rattle.std.specs.Prelude.{◌≡◌};
+    ghost use Rattle.coord_server.specs.declared.fault.ServerFault.TheVariants.{OutOfMemory};
+
+    ghost from_gives = { λ _ fault. fault ≡ OutOfMemory };
+
+    fn from(_: AllocError) -> ServerFault {
+        ServerFault::OutOfMemory
+    }
+}
