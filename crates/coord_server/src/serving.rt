@@ -75,8 +75,8 @@ fn serve_ledger<
     let port = LocalPort::new(rt, to, printer);
     let engine: Engine<D, L> = Engine::new(alloc, blank, ledger);
     let (shares, served) = run(rt, alloc, &engine, &port, from, shares, listener);
-    let closed = close(engine, shares);
-    end(closed, served, port.is_broken())
+    let is_broken = port.is_broken();
+    end(close(engine, shares), served, is_broken)
 }
 
 /// Takes an engine apart.
