@@ -35,13 +35,7 @@ pub fn run<
     R: Read,
     W: Write + Send,
     E: Write,
->(
-    rt: &S,
-    words: &[String],
-    input: &mut R,
-    output: &mut W,
-    errors: &mut E,
-) -> u8
+>(rt: &S, words: &[String], input: &mut R, output: &mut W, errors: &mut E) -> u8
     ensures drilled { result ≡ 0 → task_of (map string_bytes words.now) ≡ Some Drill
         → IfSome (R.remaining input.old) (λ text. (printed : List ℕ) × IsDrilled text printed × Appends (W.contents output.old) (W.contents output.new) printed) }
     ensures refused { task_of (map string_bytes words.now) ≡ None → ((result ≡ 2) ⊎ (result ≡ 4))

@@ -25,13 +25,7 @@ pub fn serve<
     S: Files<File = File> + Net + Threads + Wait + Clock + Sync + AllocGlobal,
     W: Write + Send,
     E: Write,
->(
-    rt: &S,
-    file: &str,
-    address: &str,
-    output: &mut W,
-    errors: &mut E,
-) -> u8
+>(rt: &S, file: &str, address: &str, output: &mut W, errors: &mut E) -> u8
     ensures { ((a : SocketAddrV4) → ¬ IsSocketV4Text address.now a) → result ≡ 2 }
 {
     report(serve_file(rt, file, address, output), errors)
@@ -40,12 +34,7 @@ pub fn serve<
 fn serve_file<
     S: Files<File = File> + Net + Threads + Wait + Clock + Sync + AllocGlobal,
     W: Write + Send,
->(
-    rt: &S,
-    file: &str,
-    address: &str,
-    output: &mut W,
-) -> Result<(), Fault>
+>(rt: &S, file: &str, address: &str, output: &mut W) -> Result<(), Fault>
     ensures { ((a : SocketAddrV4) → ¬ IsSocketV4Text address.now a) → result ≡ Err Usage }
 {
     let Some(address) = address_of(address) else {

@@ -1,6 +1,7 @@
 //! A line that was told that there was no memory, sent again.
 
 ghost use Rattle.std.specs.Prelude.{◌≡◌, None};
+ghost use Rattle.std.specs.Thread.{IsSend, IsSync};
 
 use coord_admin::{Desk, serve};
 use coord_disk::{Disk, MemDisk};
@@ -84,7 +85,9 @@ fn run<D: Disk + Send, L: Count + Send + Sync, R: Threads + Wait + Clock + Sync>
     thread::scope(
         thread::scope_env(),
         rt,
-        |scope| -> (Share<L>, Result<bool, Refusal>) {
+        |scope| -> (Share<L>, Result<bool, Refusal>)
+            requires { IsSend D.row × IsSend L.row × IsSync L.row × IsSync R.row }
+        {
             let mut desk = Forgetful {
                 desk: EngineDesk::new(rt, engine, port, own),
                 has_forgotten: false,
