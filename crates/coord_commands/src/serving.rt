@@ -37,9 +37,16 @@ fn serve_file<
 >(rt: &S, file: &str, address: &str, output: &mut W) -> Result<(), Fault>
     ensures { ((a : SocketAddrV4) → ¬ IsSocketV4Text address.now a) → result ≡ Err Usage }
 {
-    let Some(address) = address_of(address) else {
-        return Err(Fault::Usage);
-    };
+    match address_of(address) {
+        Some(place) => serve_at(rt, file, place, output),
+        None => Err(Fault::Usage),
+    }
+}
+
+fn serve_at<
+    S: Files<File = File> + Net + Threads + Wait + Clock + Sync + AllocGlobal,
+    W: Write + Send,
+>(rt: &S, file: &str, address: SocketAddrV4, output: &mut W) -> Result<(), Fault> {
     let disk = FileDisk::open(rt, file)?;
     let store = match Store::open(rt.alloc(), disk) {
         Ok(store) => store,
