@@ -5,12 +5,13 @@ use Rattle.coord_config.specs.declared.fault.ConfigFault.TheVariants as of_topol
 use Rattle.coord_store.specs.declared.faults.StoreFault.TheVariants as of_store
 use Rattle.coord_commands.specs.Faults.{fault_status, status_of}
 use Rattle.coord_commands.specs.declared.fault.Fault.{Fault}
-use Rattle.coord_commands.specs.declared.fault.Fault.TheVariants.{Usage, Read, Write, TooManyReads, OutOfMemory, Topology, Store, Refused}
+use Rattle.coord_commands.specs.declared.fault.Fault.TheVariants.{Usage, Read, Write, Socket, TooManyReads, OutOfMemory, Topology, Store, Refused, NotClosed}
 
 not_zero : (fault : Fault) → 1 ≤ fault_status fault
 not_zero Usage = omega arith
 not_zero Read = omega arith
 not_zero Write = omega arith
+not_zero Socket = omega arith
 not_zero TooManyReads = omega arith
 not_zero OutOfMemory = omega arith
 not_zero (Topology of_topology.OutOfMemory) = omega arith
@@ -29,6 +30,7 @@ not_zero (Store (of_store.BadStep batch index)) = omega arith
 not_zero (Store (of_store.Violated violation)) = omega arith
 not_zero (Store (of_store.NotQuiet node)) = omega arith
 not_zero (Refused refusal) = omega arith
+not_zero (NotClosed fault) = omega arith
 
 pub ended_well : {A P : Type 0} (ended : Result A Fault) (status : ℕ) → status ≡ status_of ended → status ≡ 0 → OnOk ended P → P
 ended_well (Ok x) status is zero p = p

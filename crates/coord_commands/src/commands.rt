@@ -14,6 +14,7 @@ use crate::creation::create_store;
 use crate::fault::Fault;
 use crate::inspection::{check_store, show_store};
 use crate::lines::print;
+use crate::serving::serve;
 use crate::topology::topology_from;
 use crate::words::{Task, read_words};
 use coord_disk::FileDisk;
@@ -22,16 +23,19 @@ use std::alloc::Global;
 use std::fs::File;
 use std::io;
 use std::io::{Read, Write};
+use std::net::Net;
 use std::rt::Files;
+use std::sync::Wait;
+use std::thread::Threads;
+use std::time::Clock;
 
 /// Carries out what the program's words ask for, and answers the exit status.
-pub fn run<S: Files<File = File> + AllocGlobal, R: Read, W: Write, E: Write>(
-    rt: &S,
-    words: &[String],
-    input: &mut R,
-    output: &mut W,
-    errors: &mut E,
-) -> u8
+pub fn run<
+    S: Files<File = File> + Net + Threads + Wait + Clock + Sync + AllocGlobal,
+    R: Read,
+    W: Write + Send,
+    E: Write,
+>(rt: &S, words: &[String], input: &mut R, output: &mut W, errors: &mut E) -> u8
     ensures drilled { result ≡ 0 → task_of (map string_bytes words.now) ≡ Some Drill
         → IfSome (R.remaining input.old) (λ text. (printed : List ℕ) × IsDrilled text printed × Appends (W.contents output.old) (W.contents output.new) printed) }
     ensures refused { task_of (map string_bytes words.now) ≡ None → ((result ≡ 2) ⊎ (result ≡ 4))
@@ -42,6 +46,7 @@ pub fn run<S: Files<File = File> + AllocGlobal, R: Read, W: Write, E: Write>(
         Ok(Task::Init) => init(rt, &words[2], &words[3], output, errors),
         Ok(Task::Check) => check(rt, &words[2], output, errors),
         Ok(Task::Show) => show(rt, &words[2], output, errors),
+        Ok(Task::Serve) => serve(rt, &words[2], &words[3], output, errors),
         Err(fault) => report(Err(fault), errors),
     }
 }

@@ -6,6 +6,8 @@ ghost use Rattle.coord_commands.specs.Faults.{fault_status};
 
 use coord_config::ConfigFault;
 use coord_disk::DiskFault;
+use coord_engine::CloseFault;
+use coord_server::ServerFault;
 use coord_store::{CommitFault, StoreFault};
 use coord_types::Refusal;
 use std::alloc::AllocError;
@@ -21,6 +23,8 @@ pub enum Fault {
     Read,
     /// Output could not be written.
     Write,
+    /// A socket could not be bound or listened to.
+    Socket,
     /// The end of the input was not met within the reads that a command makes.
     TooManyReads,
     /// There was not enough memory.
@@ -31,6 +35,8 @@ pub enum Fault {
     Store(StoreFault),
     /// An order of the topology file was refused.
     Refused(Refusal),
+    /// The engine of the server was not taken apart.
+    NotClosed(CloseFault),
 }
 
 impl Fault {
@@ -53,19 +59,19 @@ impl Fault {
         }
     }
 
-    /// The exit status: 1 for what was refused, 2 for refused words, 3 for reading, writing and the
-    /// device, 4 for want of memory.
+    /// The exit status: 1 for what was refused, 2 for refused words, 3 for reading, writing, sockets
+    /// and the device, 4 for want of memory.
     pub fn status(&self) -> u8
         ensures { result ≡ fault_status self.now }
     {
         match *self {
             Fault::Usage => 2,
-            Fault::Read | Fault::Write | Fault::TooManyReads => 3,
+            Fault::Read | Fault::Write | Fault::Socket | Fault::TooManyReads => 3,
             Fault::Store(StoreFault::Device) => 3,
             Fault::OutOfMemory => 4,
             Fault::Topology(ConfigFault::OutOfMemory) => 4,
             Fault::Store(StoreFault::OutOfMemory) => 4,
-            Fault::Topology(_) | Fault::Store(_) | Fault::Refused(_) => 1,
+            Fault::Topology(_) | Fault::Store(_) | Fault::Refused(_) | Fault::NotClosed(_) => 1,
         }
     }
 }
@@ -81,11 +87,13 @@ impl fmt::Display for Fault {
             Fault::Usage => f.write_str("Usage"),
             Fault::Read => f.write_str("Read"),
             Fault::Write => f.write_str("Write"),
+            Fault::Socket => f.write_str("Socket"),
             Fault::TooManyReads => f.write_str("Turns"),
             Fault::OutOfMemory => f.write_str("OutOfMemory"),
             Fault::Topology(fault) => write!(f, "{fault}"),
             Fault::Store(fault) => write!(f, "{fault}"),
             Fault::Refused(refusal) => write!(f, "{refusal}"),
+            Fault::NotClosed(fault) => write!(f, "{fault}"),
         }
     }
 }
@@ -138,6 +146,23 @@ impl From<DiskFault> for Fault {
 
     fn from(_: DiskFault) -> Fault {
         Fault::Store(StoreFault::Device)
+    }
+}
+
+impl From<ServerFault> for Fault {
+    ghost use Rattle.std.specs.Prelude.{◌≡◌};
+    ghost use Rattle.coord_commands.specs.Faults.{fault_of_server};
+
+    ghost from_gives = { λ given fault. fault ≡ fault_of_server given };
+
+    fn from(fault: ServerFault) -> Fault {
+        match fault {
+            ServerFault::OutOfMemory => Fault::OutOfMemory,
+            ServerFault::Socket => Fault::Socket,
+            ServerFault::Device => Fault::Store(StoreFault::Device),
+            ServerFault::Write => Fault::Write,
+            ServerFault::NotClosed(fault) => Fault::NotClosed(fault),
+        }
     }
 }
 

@@ -7,7 +7,7 @@
 //! `init`, `check` and `show` are each a thin call, over a file, of a function over any disk:
 //! `create_store`, whose store begins with the orders of a topology (`specs/Founding.antt`),
 //! `check_store` and `show_store`. Where the disk keeps the model these say exactly which world the
-//! bytes give.
+//! bytes give. `serve` is a thin call of `serve_store` of coord_server.
 #![tactic(auto)]
 
 mod commands;
@@ -17,6 +17,7 @@ mod founding;
 mod inspection;
 pub mod laws;
 mod lines;
+mod serving;
 mod topology;
 mod words;
 
@@ -24,5 +25,6 @@ pub use commands::{check, drill, init, report, run, show};
 pub use creation::create_store;
 pub use fault::Fault;
 pub use inspection::{check_store, show_store};
+pub use serving::serve;
 pub use topology::topology_from;
 pub use words::{Task, read_words};

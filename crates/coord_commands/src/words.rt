@@ -1,7 +1,7 @@
 //! The program's words.
 
 ghost use Rattle.std.specs.Prelude.{◌≡◌, ◌⊎◌, false, true, map, IfOk, IfErr, Some, None, string_bytes};
-ghost use Rattle.clap.specs.Words.{app_of, rule_of, takes};
+ghost use Rattle.clap.specs.Words.{app_of, new_app, rule_of, takes, with_rule, with_subcommand};
 ghost use Rattle.coord_commands.specs.declared.fault.Fault.TheVariants.{Usage, OutOfMemory};
 ghost use Rattle.coord_commands.specs.Words.{asked_alone, asked_of_file, asked_of_two, resetd, task_of, word_named};
 
@@ -21,11 +21,13 @@ pub enum Task {
     Show,
     /// Make a store on a file, from a topology file.
     Init,
+    /// Serve the store on a file at an address.
+    Serve,
 }
 
 /// What the program's words ask for, the first of which is its own name: `drill`, `check FILE`,
-/// `show FILE` or `init FILE TOPOLOGY`. All else, and what `clap` refuses, is refused: `help`,
-/// `--help`, `-h` and `--version` too.
+/// `show FILE`, `init FILE TOPOLOGY` or `serve FILE ADDRESS`. All else, and what `clap` refuses, is
+/// refused: `help`, `--help`, `-h` and `--version` too.
 pub fn read_words(alloc: Global, words: &[String]) -> Result<Task, Fault>
     ensures ok { IfOk result (λ task. task_of (map string_bytes words.now) ≡ Some task) }
     ensures err { IfErr result (λ fault. (fault ≡ OutOfMemory)
@@ -45,18 +47,42 @@ pub fn read_words(alloc: Global, words: &[String]) -> Result<Task, Fault>
 fn program<'a>(alloc: Global) -> Result<Command<'a>, AllocError>
     ensures { IfOk result (λ program. app_of program ≡ resetd) }
 {
-    let drill = Command::new(alloc, "drill");
-    let init = Command::new(alloc, "init")
-        .arg(word_named(alloc, "file"))?
-        .arg(word_named(alloc, "topology"))?;
-    let check = Command::new(alloc, "check").arg(word_named(alloc, "file"))?;
-    let show = Command::new(alloc, "show").arg(word_named(alloc, "file"))?;
-    Command::new(alloc, "resetd")
+    let with_drill = Command::new(alloc, "resetd")
         .subcommand_required(true)
-        .subcommand(drill)?
-        .subcommand(init)?
-        .subcommand(check)?
-        .subcommand(show)
+        .subcommand(Command::new(alloc, "drill"))?;
+    let with_init = add_of_two_words(with_drill, alloc, "init", "file", "topology")?;
+    let with_check = add_of_word(with_init, alloc, "check", "file")?;
+    let with_show = add_of_word(with_check, alloc, "show", "file")?;
+    add_of_two_words(with_show, alloc, "serve", "file", "address")
+}
+
+/// The program with one more command, which has a word behind it.
+fn add_of_word<'a>(
+    program: Command<'a>,
+    alloc: Global,
+    name: &'a str,
+    word: &'a str,
+) -> Result<Command<'a>, AllocError>
+    ensures { IfOk result (λ more. app_of more ≡ with_subcommand (app_of program.entry) (with_rule (new_app name.now) (word_named word.now)).top) }
+{
+    let command = Command::new(alloc, name).arg(word_named(alloc, word))?;
+    program.subcommand(command)
+}
+
+/// The program with one more command, which has two words behind it.
+fn add_of_two_words<'a>(
+    program: Command<'a>,
+    alloc: Global,
+    name: &'a str,
+    first: &'a str,
+    second: &'a str,
+) -> Result<Command<'a>, AllocError>
+    ensures { IfOk result (λ more. app_of more ≡ with_subcommand (app_of program.entry) (with_rule (with_rule (new_app name.now) (word_named first.now)) (word_named second.now)).top) }
+{
+    let command = Command::new(alloc, name)
+        .arg(word_named(alloc, first))?
+        .arg(word_named(alloc, second))?;
+    program.subcommand(command)
 }
 
 /// A word behind a command, which has to be there.
@@ -86,11 +112,17 @@ fn alone(word: &str) -> Option<Task>
     (word == "drill").then_some(Task::Drill)
 }
 
-/// The task of a word with two files behind it.
+/// The task of a word with a file and one more word behind it.
 fn of_two(word: &str) -> Option<Task>
     ensures { result ≡ asked_of_two word.now }
 {
-    (word == "init").then_some(Task::Init)
+    if word == "init" {
+        Some(Task::Init)
+    } else if word == "serve" {
+        Some(Task::Serve)
+    } else {
+        None
+    }
 }
 
 /// The task of a word with a file behind it.

@@ -2,7 +2,7 @@
 //! `coord_drill`.
 #![tactic(auto)]
 
-pub use coord_commands::{Fault, check, drill, init, report, run, show};
+pub use coord_commands::{Fault, check, drill, init, report, run, serve, show};
 pub use coord_drill::coord_drill;
 use std::env;
 use std::process::ExitCode;

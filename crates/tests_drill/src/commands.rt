@@ -2,7 +2,13 @@
 
 use crate::program::{Ending, ends};
 use coord_commands::{Fault, report};
+use std::fs::File;
+use std::net::Net;
+use std::rt::Files;
+use std::sync::Wait;
 use std::test::Fail;
+use std::thread::Threads;
+use std::time::Clock;
 use std::{env, fs, io};
 
 /// Words, in which `@` stands for the folder of the run, and what a run with them ends with.
@@ -16,26 +22,25 @@ fn make_folder(rt: &HostRuntime, name: &str) -> io::Result<String> {
     Ok(folder)
 }
 
-/// Carries runs out, one after the other, on files that are in a folder of their own, and tells
-/// the first that ends otherwise.
-fn first_wrong(
-    rt: &HostRuntime,
-    name: &str,
+/// Carries runs out, one after the other, on files in a folder, which is removed then, and tells the
+/// first that ends otherwise.
+fn first_wrong<S: Files<File = File> + Net + Threads + Wait + Clock + Sync + AllocGlobal>(
+    rt: &S,
+    folder: &str,
     files: &[(&str, &[u8])],
     runs: &[Run],
 ) -> Result<Option<&'static str>, Fail> {
-    let folder = make_folder(rt, name)?;
     for (file, bytes) in files {
         fs::write(rt, format!(in rt.alloc(); "{folder}/{file}")?, *bytes)?;
     }
     let mut wrong = None;
     for (words, ending) in runs {
-        let given = words.replace(rt.alloc(), "@", &folder)?;
+        let given = words.replace(rt.alloc(), "@", folder)?;
         if !ends(rt, &given, &mut b"".as_slice(), *ending)? {
             wrong = wrong.or(Some(*words));
         }
     }
-    fs::remove_dir_all(rt, &folder)?;
+    fs::remove_dir_all(rt, folder)?;
     Ok(wrong)
 }
 
@@ -91,13 +96,14 @@ fn topology_file(rt: HostRuntime) -> Result<(), Fail> {
         ("repeated", REPEATED_NODE),
         ("nothing", b"".as_slice()),
     ];
-    let wrong = first_wrong(&rt, "topology", &files, &TOPOLOGY_RUNS)?;
+    let folder = make_folder(&rt, "topology")?;
+    let wrong = first_wrong(&rt, &folder, &files, &TOPOLOGY_RUNS)?;
     assert!(rt; wrong.is_none(), "{wrong:?}");
     Ok(())
 }
 
 /// The order of faults: the words, the topology, the file.
-const FAULT_RUNS: [Run; 11] = [
+const FAULT_RUNS: [Run; 14] = [
     (
         "resetd init @/absent/store @/absent",
         (3, "", "resetd: Read\n"),
@@ -124,6 +130,18 @@ const FAULT_RUNS: [Run; 11] = [
     ),
     ("resetd check @/absent/store", (3, "", "resetd: Device\n")),
     ("resetd check @/new", (1, "", "resetd: NoMagic\n")),
+    (
+        "resetd serve @/absent/store localhost:1",
+        (2, "", "resetd: Usage\n"),
+    ),
+    (
+        "resetd serve @/absent/store 127.0.0.1:0",
+        (3, "", "resetd: Device\n"),
+    ),
+    (
+        "resetd serve @/pair 127.0.0.1:0",
+        (1, "", "resetd: NoMagic\n"),
+    ),
     ("resetd init @/new @/pair", (0, "created 3\n", "")),
     ("resetd check @/pair", (1, "", "resetd: NoMagic\n")),
     ("resetd show @/pair", (1, "", "resetd: NoMagic\n")),
@@ -138,7 +156,8 @@ fn order_of_faults(rt: HostRuntime) -> Result<(), Fail> {
         ("toml", b"half =".as_slice()),
         ("bytes", b"half = 32768 # \xff".as_slice()),
     ];
-    let wrong = first_wrong(&rt, "faults", &files, &FAULT_RUNS)?;
+    let folder = make_folder(&rt, "faults")?;
+    let wrong = first_wrong(&rt, &folder, &files, &FAULT_RUNS)?;
     assert!(rt; wrong.is_none(), "{wrong:?}");
     Ok(())
 }
@@ -169,13 +188,14 @@ fn violated_store(rt: HostRuntime) -> Result<(), Fail> {
         ("store", VIOLATED),
         ("cut", &VIOLATED[..VIOLATED.len() - 1]),
     ];
-    let wrong = first_wrong(&rt, "violated", &files, &VIOLATED_RUNS)?;
+    let folder = make_folder(&rt, "violated")?;
+    let wrong = first_wrong(&rt, &folder, &files, &VIOLATED_RUNS)?;
     assert!(rt; wrong.is_none(), "{wrong:?}");
     Ok(())
 }
 
 /// Words that are refused.
-const REFUSED_WORDS: [&str; 18] = [
+const REFUSED_WORDS: [&str; 21] = [
     "resetd",
     "resetd help",
     "resetd --help",
@@ -186,6 +206,9 @@ const REFUSED_WORDS: [&str; 18] = [
     "resetd drill --",
     "resetd fly",
     "resetd serve F localhost",
+    "resetd serve F 1.2.3.256:1",
+    "resetd serve F 1.2.3.4:65536",
+    "resetd serve F",
     "resetd init",
     "resetd init F",
     "resetd init F T T",

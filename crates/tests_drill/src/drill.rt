@@ -6,11 +6,15 @@ use std::alloc::{AllocError, Global};
 use std::fs::File;
 use std::io;
 use std::io::{Read, Write};
+use std::net::Net;
 use std::rt::Files;
+use std::sync::Wait;
 use std::test::Fail;
+use std::thread::Threads;
+use std::time::Clock;
 
 /// Whether a drill prints this to a script, and ends well.
-fn prints<S: Files<File = File> + AllocGlobal>(
+fn prints<S: Files<File = File> + Net + Threads + Wait + Clock + Sync + AllocGlobal>(
     rt: &S,
     script: &[u8],
     expected: &str,
@@ -228,7 +232,9 @@ fn push_settled(printed: &mut String, settled: u16, last: u16) -> Result<(), All
 }
 
 /// Whether a flight takes 256 steps and the next one the rest.
-fn flies_in_full_batches<S: Files<File = File> + AllocGlobal>(rt: &S) -> Result<bool, AllocError> {
+fn flies_in_full_batches<S: Files<File = File> + Net + Threads + Wait + Clock + Sync + AllocGlobal>(
+    rt: &S,
+) -> Result<bool, AllocError> {
     let (mut script, mut printed) = held_resets(rt.alloc(), 257)?;
     script.push_str("flush\nflush\n")?;
     push_settled(&mut printed, 1, 257)?;
@@ -237,7 +243,9 @@ fn flies_in_full_batches<S: Files<File = File> + AllocGlobal>(rt: &S) -> Result<
 }
 
 /// Whether no more than 1,024 steps are held.
-fn holds_no_more<S: Files<File = File> + AllocGlobal>(rt: &S) -> Result<bool, AllocError> {
+fn holds_no_more<S: Files<File = File> + Net + Threads + Wait + Clock + Sync + AllocGlobal>(
+    rt: &S,
+) -> Result<bool, AllocError> {
     let (mut script, mut printed) = held_resets(rt.alloc(), 1_024)?;
     script.push_str("reset 1\n")?;
     printed.push_str("no 20 PendingFull\n")?;

@@ -1,0 +1,44 @@
+//! What a server prints.
+
+use coord_server::Printer;
+use coord_types::NodeId;
+use std::alloc::Global;
+use std::io;
+use std::io::{ErrorKind, Write};
+use std::test::Fail;
+
+/// Takes so many writes, and fails from then on.
+#[derive(Drop)]
+struct Room {
+    left: u64,
+}
+
+impl Write for Room {
+    fn write(&mut self, buf: &[u8]) -> io::Result<usize> {
+        if self.left == 0 {
+            return Err(ErrorKind::BrokenPipe.into());
+        }
+        self.left -= 1;
+        Ok(buf.len())
+    }
+
+    fn flush(&mut self) -> io::Result<()> {
+        Ok(())
+    }
+}
+
+/// Whether a signal is one write, and nothing is printed once a write has failed.
+fn breaks(alloc: Global) -> Option<bool> {
+    let node = NodeId::new(64)?;
+    let mut printer = Printer::new(alloc, Room { left: 1 });
+    let first = printer.print_signal(node, u64::MAX);
+    let whole = !printer.is_broken();
+    let second = printer.print_signal(node, 1);
+    Some(first && whole && !second && printer.is_broken() && !printer.print_signal(node, 2))
+}
+
+#[test]
+fn an_output_that_breaks(rt: HostRuntime) -> Result<(), Fail> {
+    assert!(rt; breaks(rt.alloc()) == Some(true));
+    Ok(())
+}
