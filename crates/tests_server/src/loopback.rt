@@ -5,52 +5,28 @@ use coord_disk::{Disk, MemDisk};
 use coord_engine::Closed;
 use coord_server::serve_store;
 use coord_store::Store;
-use coord_types::{Client, Command, Group, NodeId, Refusal, Step};
-use std::alloc::Global;
+use coord_types::{Client, Command, NodeId, Step};
+use std::alloc::{AllocError, Global};
 use std::io;
 use std::io::Write;
-use std::net::{Net, Shutdown, TcpListener, TcpStream};
+use std::net::{Net, Shutdown, SocketAddr, TcpListener, TcpStream};
 use std::sync::Wait;
 use std::test::Fail;
 use std::thread::Threads;
 use std::time::Clock;
 
-/// The least size of a half.
-const HALF: u64 = 32_768;
-
-fn order(number: u64, command: &Command) -> Option<Step> {
-    Some(Step::Order(Client::new(16)?, number, *command))
-}
-
-/// Two nodes of one group, and their link.
-fn pair(alloc: Global) -> Option<Vec<Step>> {
-    let (one, two, group) = (NodeId::new(1)?, NodeId::new(2)?, Group::new(1)?);
-    let mut steps = Vec::new(alloc);
-    steps.push(order(1, &Command::Add(one, group))?).ok()?;
-    steps.push(order(2, &Command::Add(two, group))?).ok()?;
-    steps.push(order(3, &Command::Join(one, two))?).ok()?;
-    Some(steps)
-}
-
-/// A store with these steps, on a device in memory.
-fn store(alloc: Global) -> Result<Store<MemDisk>, Fail> {
-    let steps = pair(alloc).ok_or("memory")?;
-    let mut store = match Store::create(alloc, MemDisk::new(alloc), HALF, 1) {
-        Ok(store) => store,
-        Err((fault, _disk)) => return Err(fault)?,
-    };
-    if !store.takes(&steps)? {
-        return Err("steps")?;
-    }
-    store.commit(&steps)?;
-    Ok(store)
-}
-
-const LINES: &[u8] = b"{\"op\":\"reset\",\"client\":1,\"number\":1,\"node\":1}\n\
+/// Two nodes and their link, then a reset, the same again, and its number with another node.
+const LINES: &[u8] = b"{\"op\":\"add\",\"client\":16,\"number\":1,\"node\":1,\"group\":1}\n\
+{\"op\":\"add\",\"client\":16,\"number\":2,\"node\":2,\"group\":1}\n\
+{\"op\":\"join\",\"client\":16,\"number\":3,\"a\":1,\"b\":2}\n\
+{\"op\":\"reset\",\"client\":1,\"number\":1,\"node\":1}\n\
 {\"op\":\"reset\",\"client\":1,\"number\":1,\"node\":1}\n\
 {\"op\":\"reset\",\"client\":1,\"number\":1,\"node\":2}\n";
 
-const REPLIES: &str = "{\"kind\":\"started\",\"step\":4}\n\
+const REPLIES: &str = "{\"kind\":\"done\",\"step\":1}\n\
+{\"kind\":\"done\",\"step\":2}\n\
+{\"kind\":\"done\",\"step\":3}\n\
+{\"kind\":\"started\",\"step\":4}\n\
 {\"kind\":\"started\",\"step\":4}\n\
 {\"name\":\"NumberReused\",\"refused\":5}\n";
 
@@ -58,48 +34,72 @@ const CLOSE: &[u8] = b"{\"op\":\"close\"}\n";
 
 const CLOSED: &str = "{\"kind\":\"closed\"}\n";
 
-/// Whether what is left of the engine has the reset as its first step, and a legal store with all
-/// that was accepted.
-fn is_settled<D: Disk>(closed: &Closed<D>) -> Option<bool> {
-    let reset = Step::Order(Client::new(1)?, 1, Command::Reset(NodeId::new(1)?));
-    let world = closed.store.world();
-    Some(
-        closed.trail.first() == Some(&reset)
-            && check(world).is_none()
-            && closed.settled == 3 + closed.trail.len() as u64
-            && world.count() == closed.settled,
-    )
+/// The order that starts the reset.
+fn reset() -> Option<Step> {
+    let reset = Command::Reset(NodeId::new(1)?);
+    Some(Step::Order(Client::new(1)?, 1, reset))
 }
 
-/// Whether two clients, one after the other, get their replies.
+/// Whether what is left of the engine has this fourth step, and a legal store with all that was
+/// accepted.
+fn is_settled<D: Disk>(closed: &Closed<D>, fourth: &Step) -> bool {
+    let world = closed.store.world();
+    closed.trail.get(3) == Some(fourth)
+        && check(world).is_none()
+        && closed.settled == closed.trail.len() as u64
+        && world.count() == closed.settled
+}
+
+/// Serves a new store, and whether it ends settled. There is no answer where memory runs out.
+fn ends_settled<R: Threads + Wait + Clock + Sync>(
+    rt: &R,
+    alloc: Global,
+    listener: &TcpListener,
+    output: &mut Vec<u8>,
+) -> Option<bool> {
+    let fourth = reset()?;
+    let store = Store::create(alloc, MemDisk::new(alloc), 32_768, 1).ok()?;
+    if store.stopped() {
+        return None;
+    }
+    let closed = serve_store(rt, alloc, store, listener, output).ok()?;
+    Some(is_settled(&closed, &fourth))
+}
+
+/// A client that has sent these bytes, and sends no more.
+fn client<R: Net<Stream = TcpStream, Listener = TcpListener>>(
+    rt: &R,
+    address: SocketAddr,
+    bytes: &[u8],
+) -> io::Result<TcpStream> {
+    let mut stream = TcpStream::connect(rt, address)?;
+    stream.write_all(bytes)?;
+    stream.shutdown(Shutdown::Write)?;
+    Ok(stream)
+}
+
+/// Whether this is all that a client is told. There is no answer where memory runs out.
+fn is_told(alloc: Global, mut stream: TcpStream, replies: &str) -> io::Result<bool> {
+    Ok(io::read_to_string(alloc, &mut stream)?.as_str() == replies)
+}
+
+/// Whether two clients, one after the other, get their replies, and the address is printed first.
 fn is_served<R: Threads + Wait + Clock + Net<Stream = TcpStream, Listener = TcpListener> + Sync>(
     rt: &R,
     alloc: Global,
 ) -> Result<bool, Fail> {
-    let store = store(alloc)?;
-    if store.stopped() {
-        return Err("stopped")?;
-    }
     let listener = TcpListener::bind(rt, "127.0.0.1:0")?;
     let address = listener.local_addr()?;
-    let mut ordering = TcpStream::connect(rt, address)?;
-    ordering.write_all(LINES)?;
-    ordering.shutdown(Shutdown::Write)?;
-    let mut closing = TcpStream::connect(rt, address)?;
-    closing.write_all(CLOSE)?;
+    let ordering = client(rt, address, LINES)?;
+    let closing = client(rt, address, CLOSE)?;
     let mut output = Vec::new(alloc);
-    let closed = serve_store(rt, alloc, store, &listener, &mut output)?;
-    let replies = io::read_to_string(alloc, &mut ordering)?;
-    if replies.contains("OutOfMemory") {
-        return Err(Refusal::OutOfMemory)?;
-    }
-    let last = io::read_to_string(alloc, &mut closing)?;
+    let settled = ends_settled(rt, alloc, &listener, &mut output).ok_or(AllocError)?;
     let listening = format!(in alloc; "listening {address}\n")?;
     Ok(
-        output.starts_with(listening.as_bytes())
-            && replies.as_str() == REPLIES
-            && last.as_str() == CLOSED
-            && is_settled(&closed).unwrap_or(false),
+        settled
+            && output.starts_with(listening.as_bytes())
+            && is_told(alloc, ordering, REPLIES)?
+            && is_told(alloc, closing, CLOSED)?,
     )
 }
 

@@ -1,6 +1,6 @@
 //! A line that was told that there was no memory, sent again.
 
-ghost use Rattle.std.specs.Prelude.{◌≡◌, None};
+ghost use Rattle.std.specs.Prelude.{◌≡◌, IfSome, None};
 ghost use Rattle.std.specs.Thread.{IsSend, IsSync};
 
 use coord_admin::{Desk, serve};
@@ -10,7 +10,7 @@ use coord_ledger::{Ledger, View};
 use coord_server::{EngineDesk, LocalPort, Printer};
 use coord_store::Store;
 use coord_types::{Client, Command, Group, NodeId, Refusal, Reply, Step};
-use std::alloc::Global;
+use std::alloc::{AllocError, Global};
 use std::marker::Brand;
 use std::sync::Wait;
 use std::sync::ledger::{Blank, Ledger as Count};
@@ -80,34 +80,55 @@ fn run<D: Disk + Send, L: Count + Send + Sync, R: Threads + Wait + Clock + Sync>
     alloc: Global,
     engine: &Engine<D, L>,
     port: &LocalPort<&R, Vec<u8>>,
-    own: Share<L>,
-) -> (Share<L>, Result<bool, Refusal>) {
+    mut shares: Vec<Share<L>>,
+) -> (Vec<Share<L>>, Result<bool, Refusal>) {
     thread::scope(
         thread::scope_env(),
         rt,
-        |scope| -> (Share<L>, Result<bool, Refusal>)
+        |scope| -> (Vec<Share<L>>, Result<bool, Refusal>)
             requires { IsSend D.row × IsSend L.row × IsSync L.row × IsSync R.row }
         {
-            let mut desk = Forgetful {
-                desk: EngineDesk::new(rt, engine, port, own),
-                has_forgotten: false,
-            };
             let mut replied = Err(Refusal::OutOfMemory);
-            if let Ok(flushing) = scope.spawn(move || flusher(rt, engine, port)) {
-                replied = is_replied_at_last(alloc, &mut desk);
-                engine.finish(rt);
-                flushing.join(rt);
+            if let Some(own) = engine.share(rt) {
+                let mut desk = Forgetful {
+                    desk: EngineDesk::new(rt, engine, port, own),
+                    has_forgotten: false,
+                };
+                if let Ok(flushing) = scope.spawn(move || flusher(rt, engine, port)) {
+                    replied = is_replied_at_last(alloc, &mut desk);
+                    engine.finish(rt);
+                    flushing.join(rt);
+                }
+                let _ = shares.push(desk.desk.into_share());
             }
-            (desk.desk.into_share(), replied)
+            (shares, replied)
         },
     )
 }
 
-/// Whether the trail is the one order.
-fn holds_once<D: Disk>(closed: &Closed<D>) -> Option<bool> {
+/// Whether the trail of what is left is the one order.
+fn holds_once<D: Disk>(closed: &Closed<D>, order: &Step) -> bool {
+    closed.trail.len() == 1 && closed.trail.first() == Some(order)
+}
+
+/// Takes an engine apart, and whether it accepted the one order alone.
+fn ends_with_one<D: Disk, L: Count>(
+    engine: Engine<D, L>,
+    shares: Vec<Share<L>>,
+    order: &Step,
+) -> bool
+    requires { L.parts ≡ 65536 }
+{
+    match engine.close(shares) {
+        Ok(closed) => holds_once(&closed, order),
+        Err(_) => false,
+    }
+}
+
+/// The order of the line.
+fn order() -> Option<Step> {
     let added = Command::Add(NodeId::new(1)?, Group::new(1)?);
-    let order = Step::Order(Client::new(1)?, 1, added);
-    Some(closed.trail.len() == 1 && closed.trail.first() == Some(&order))
+    Some(Step::Order(Client::new(1)?, 1, added))
 }
 
 fn order_once<D: Disk + Send, L: Count + Send + Sync, R: Threads + Wait + Clock + Sync>(
@@ -115,43 +136,43 @@ fn order_once<D: Disk + Send, L: Count + Send + Sync, R: Threads + Wait + Clock 
     alloc: Global,
     blank: Blank,
     ledger: Ledger<D>,
-) -> Result<bool, Fail>
+    order: &Step,
+) -> Result<bool, Refusal>
     requires name { blank.name ≡ L.name }
     requires parts { (blank.parts ≡ L.parts) × (L.parts ≡ 65536) }
     requires home { ledger.out ≡ None }
 {
-    let mut shares = Vec::with_capacity(alloc, 1)?;
-    let engine: Engine<D, L> = Engine::new(alloc, blank, ledger);
-    let port = LocalPort::new(rt, Vec::new(alloc), Printer::new(alloc, Vec::new(alloc)));
-    let own = engine.share(rt).ok_or("no share")?;
-    let (own, replied) = run(rt, alloc, &engine, &port, own);
-    shares.push(own)?;
-    let closed = match engine.close(shares) {
-        Ok(closed) => closed,
-        Err((fault, _engine, _shares)) => return Err(fault)?,
+    let Ok(shares) = Vec::with_capacity(alloc, 1) else {
+        return Err(Refusal::OutOfMemory);
     };
-    Ok(replied? && holds_once(&closed) == Some(true))
+    let port = LocalPort::new(rt, Vec::new(alloc), Printer::new(alloc, Vec::new(alloc)));
+    let engine: Engine<D, L> = Engine::new(alloc, blank, ledger);
+    let (shares, replied) = run(rt, alloc, &engine, &port, shares);
+    let is_one = ends_with_one(engine, shares, order);
+    replied.map(|replied| replied && is_one)
 }
 
-fn is_ordered_once<R: Threads + Wait + Clock + Sync>(rt: &R, alloc: Global) -> Result<bool, Fail> {
-    let store = match Store::create(alloc, MemDisk::new(alloc), 32_768, 1) {
-        Ok(store) => store,
-        Err((fault, _disk)) => return Err(fault)?,
-    };
+/// A new store behind a ledger. There is none where memory runs out.
+fn ledger(alloc: Global) -> Option<Ledger<MemDisk>>
+    ensures { IfSome result (λ ledger. ledger.out ≡ None) }
+{
+    let store = Store::create(alloc, MemDisk::new(alloc), 32_768, 1).ok()?;
     if store.stopped() {
-        return Err("stopped")?;
+        return None;
     }
-    let ledger = match Ledger::adopt(alloc, store) {
-        Ok(ledger) => ledger,
-        Err((fault, _store)) => return Err(fault)?,
-    };
-    order_once::<MemDisk, Brand, R>(rt, alloc, Blank::new(65536), ledger)
+    Ledger::adopt(alloc, store).ok()
+}
+
+fn is_ordered_once<R: Threads + Wait + Clock + Sync>(rt: &R, alloc: Global) -> Option<bool> {
+    let order = order()?;
+    let ledger = ledger(alloc)?;
+    order_once::<MemDisk, Brand, R>(rt, alloc, Blank::new(65536), ledger, &order).ok()
 }
 
 /// A line that was told that there was no memory is sent again with its number, after its order was
 /// carried out: it has its reply then, and the order was carried out once.
 #[test]
 fn a_line_sent_again_acts_once(rt: HostRuntime) -> Result<(), Fail> {
-    assert!(rt; is_ordered_once(&rt, rt.alloc())?);
+    assert!(rt; is_ordered_once(&rt, rt.alloc()).ok_or(AllocError)?);
     Ok(())
 }
