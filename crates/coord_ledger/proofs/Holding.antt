@@ -13,7 +13,6 @@ use Rattle.coord_types.specs.declared.steps.Step.{Step}
 use Rattle.coord_types.specs.declared.steps.Step.TheVariants.{Order, Take, Clear}
 use Rattle.coord_world.proofs.Facade.{fresh_number, itself, trail_keeps_worlds, verdict_fresh, verdict_kind}
 use Rattle.coord_world.specs.declared.verdicts.Verdict.TheVariants.{Fresh}
-use Rattle.coord_world.specs.laws.Trails.{IsSound}
 use Rattle.coord_world.specs.protocol.Acceptance.{IsFresh}
 use Rattle.coord_world.specs.protocol.Legal.{Legal}
 use Rattle.coord_world.specs.protocol.Next.{fold, next}
@@ -23,7 +22,7 @@ use Rattle.coord_ledger.specs.code.Holding.{IsAway, IsFlight, IsHome, IsLedger, 
 use Rattle.coord_ledger.specs.declared.mark.Mark.TheVariants.{New, Good, Torn}
 use Rattle.coord_ledger.specs.machine.Answers.{most_in_flight}
 use Rattle.coord_ledger.specs.machine.Consistent.{IsConsistentLog}
-use Rattle.coord_ledger.specs.machine.Log.{Log, accepted_count, front_world, log_over, pending, settled_count, settled_world, with_settled, with_step, world_after}
+use Rattle.coord_ledger.specs.machine.Log.{Log, accepted_count, front_world, pending, settled_count, settled_world, with_settled, with_step, world_after}
 use Rattle.coord_ledger.specs.machine.Submits.{verdict}
 use Rattle.coord_ledger.proofs.ConsistentSteps.{accepted_stays}
 use Rattle.coord_ledger.proofs.Judging.{verdict_accepts}
@@ -49,20 +48,6 @@ length_next : (xs : List Step) → length (take most_in_flight xs) ≤ most_in_f
 length_next xs = omega (arith, length-take most_in_flight xs)
 
 module _ {D : Type 0} where
-  -- ---- a ledger that was just made
-
-  pub adopted : (w front settled : World) (kept : Kept D) → IsSound w → IsConsistentLog (log_over w) → front ≡ w → settled ≡ w → kept.world ≡ w → kept.torn ≡ None
-      → IsLedger (log_over w) [] front settled 0 None (Some kept)
-  adopted w front settled kept sound consistent f s world torn = record {
-    consistent = consistent;
-    kinds_are = refl;
-    front_is = f;
-    settled_is = s;
-    doubt_within = tt;
-    home = record { world_is = world; torn_is = torn };
-    away = tt;
-  }
-
   -- ---- one step more
 
   module _ (log : Log) (s : Step) where
@@ -109,18 +94,6 @@ module _ {D : Type 0} where
         world_is = is.home.world_is ∙ sym here;
         torn_is = is.home.torn_is ∙ ap (doubted log) going;
       }
-
-  pub leaves : (log : Log) (kinds : List Kind) (front settled : World) (out n : ℕ) (doubt : Option ℕ) (kept : Kept D) → IsLedger log kinds front settled out doubt (Some kept) → doubt ≡ None
-      → 1 ≤ n → n ≤ most_in_flight → log.settled + n ≤ length log.trail → IsLedger {D = D} log kinds front settled n doubt None
-  leaves log kinds front settled out n doubt kept is going some most within = record {
-    consistent = is.consistent;
-    kinds_are = is.kinds_are;
-    front_is = is.front_is;
-    settled_is = is.settled_is;
-    doubt_within = is.doubt_within;
-    home = tt;
-    away = record { some = some; most = most; within = within; going = going };
-  }
 
   -- a flight comes back that was not committed
   pub back_new : (log : Log) (kinds : List Kind) (front settled : World) (out any : ℕ) (doubt : Option ℕ) (kept : Kept D) (steps : List Step) (world : World) → IsLedger {D = D} log kinds front settled out doubt None → IsFlight steps world New kept

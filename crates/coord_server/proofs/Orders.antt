@@ -5,16 +5,11 @@ use Rattle.coord_types.specs.declared.refusals.Refusal.{Refusal}
 use Rattle.coord_types.specs.declared.steps.Reply.{Reply}
 use Rattle.coord_types.specs.declared.steps.Step.{Step}
 use Rattle.coord_ledger.specs.declared.ticket.Note.{Note}
-use Rattle.coord_ledger.specs.ledger.State.{Claim, IsCollectable, reply_of}
+use Rattle.coord_ledger.specs.ledger.State.{Claim}
 use Rattle.coord_ledger.specs.machine.Shown.{Shown}
 use Rattle.coord_engine.specs.Calls.{RefusesTicket}
 use Rattle.coord_engine.specs.Threads.{AtSomeMoment, RefusesShow, Shows}
 use Rattle.coord_server.specs.EngineDesk.{IsAccepted, Orders, ShowsTo}
-
--- its reply was waited for
-pub settles : (D : Type 0) (s : Step) (claim : Claim) (reply : Reply) (before after : List Note) → IsAccepted D s claim before after → (reply ≡ reply_of claim) × AtSomeMoment {D = D} (λ g. IsCollectable g.ledger.log claim) → Orders D s (Ok reply) before after
-settles D s claim reply before after accepted told =
-    (claim, accepted, record { state = told.1.state; consistent = told.1.consistent; so = (told.0, told.1.so) })
 
 -- it was accepted, and then there was no reply
 pub gives_up : (D : Type 0) (s : Step) (claim : Claim) (refusal : Refusal) (before after : List Note) → IsAccepted D s claim before after → AtSomeMoment {D = D} (λ g. RefusesTicket g.ledger claim refusal) → Orders D s (Err refusal) before after

@@ -1,7 +1,7 @@
 //! Runs of the drill, through the program's words.
 
 use crate::program::ends;
-use crate::scripts::{BAD_LINES, RUNS};
+use crate::scripts::{all_bad_lines, runs};
 use std::alloc::{AllocError, Global};
 use std::fs::File;
 use std::io;
@@ -25,7 +25,7 @@ fn prints<S: Files<File = File> + Net + Threads + Wait + Clock + Sync + AllocGlo
 
 #[test]
 fn worked_runs(rt: HostRuntime) -> Result<(), Fail> {
-    for (name, script, expected) in RUNS {
+    for (name, script, expected) in runs() {
         assert!(rt; prints(&rt, script.as_bytes(), expected)?, "{name}");
     }
     Ok(())
@@ -33,7 +33,7 @@ fn worked_runs(rt: HostRuntime) -> Result<(), Fail> {
 
 #[test]
 fn bad_lines(rt: HostRuntime) -> Result<(), Fail> {
-    for line in BAD_LINES {
+    for line in all_bad_lines() {
         assert!(rt; prints(&rt, line.as_bytes(), "bad line 1\n")?, "{line}");
     }
     Ok(())

@@ -11,11 +11,11 @@ use std::thread::Threads;
 use std::time::Clock;
 
 /// What a run of the program is to end with: its exit status, what it prints, and its fault line.
-pub type Ending<'a> = (u8, &'a str, &'a str);
+pub(crate) type Ending<'a> = (u8, &'a str, &'a str);
 
 /// Whether a run of the program with these words, over a reader, ends so. Where memory runs out
 /// there is no answer.
-pub fn ends<S: Files<File = File> + Net + Threads + Wait + Clock + Sync + AllocGlobal, R: Read>(
+pub(crate) fn ends<S: Files<File = File> + Net + Threads + Wait + Clock + Sync + AllocGlobal, R: Read>(
     rt: &S,
     words: &str,
     input: &mut R,

@@ -84,11 +84,15 @@ fn bytes_of(alloc: Global, text: &str) -> Result<Vec<u8>, AllocError> {
     Ok(bytes)
 }
 
-/// Whether the checker says this of the world with these bytes.
-fn is_told(alloc: Global, world: &str, line: &str) -> Result<bool, Fail> {
+/// What the checker says of the world with these bytes.
+fn fault_of(alloc: Global, world: &str) -> Result<Option<Violation>, Fail> {
     let bytes = bytes_of(alloc, world)?;
-    let world = read_world(alloc, 1, bytes.as_slice())?;
-    match check(&world) {
+    Ok(check(&read_world(alloc, 1, bytes.as_slice())?))
+}
+
+/// Whether it is this line.
+fn is_told(alloc: Global, world: &str, line: &str) -> Result<bool, Fail> {
+    match fault_of(alloc, world)? {
         None => Ok(line == "legal"),
         Some(fault) => Ok(format!(in alloc; "{fault}")?.as_str() == line),
     }

@@ -86,10 +86,12 @@ fn is_left(act: Act, passed: u64, which: usize) -> bool {
 fn fuse_leaves(alloc: Global, act: Act, passed: u64, which: usize) -> Result<bool, JournalFault> {
     let calls = passed.saturating_add(OPENING);
     let disk = FuseDisk::new(before(alloc, act, which)?, calls);
-    let (mut journal, _contents) = opened(alloc, disk)?;
+    let (mut journal, _) = opened(alloc, disk)?;
     let answer = done(&mut journal, act);
     let disk = journal.into_disk();
-    if disk.calls() <= calls {
+    let is_reached = disk.calls() > calls;
+    let found = left(alloc, disk.into_inner())?;
+    if !is_reached {
         // Only want of memory is a fault here.
         answer?;
     }
@@ -97,7 +99,7 @@ fn fuse_leaves(alloc: Global, act: Act, passed: u64, which: usize) -> Result<boo
         Ok(()) => 4 <= passed,
         Err(fault) => passed < 4 && fault == JournalFault::Device,
     };
-    Ok(is_answered && left(alloc, disk.into_inner())? == want(act, is_left(act, passed, which)))
+    Ok(is_answered && found == want(act, is_left(act, passed, which)))
 }
 
 // The first act, number of calls passed and choice for which it is not so.
@@ -121,25 +123,27 @@ fn a_crash_leaves_it_done_or_not(rt: HostRuntime) -> Result<(), Fail> {
     Ok(())
 }
 
+// Whether a journal refuses what changes it.
+fn has_stopped<D: Disk>(journal: &mut Journal<D>) -> bool {
+    done(journal, Act::Append) == Err(JournalFault::Stopped)
+        && done(journal, Act::Replace) == Err(JournalFault::Stopped)
+}
+
 // Whether it is so where one call fails, and the journal has stopped then.
 fn blip_leaves(alloc: Global, act: Act, failed: u64, which: usize) -> Result<bool, JournalFault> {
     let call = failed.saturating_add(OPENING);
     let disk = BlipDisk::new(before(alloc, act, which)?, call);
-    let (mut journal, _contents) = opened(alloc, disk)?;
+    let (mut journal, _) = opened(alloc, disk)?;
     let answer = done(&mut journal, act);
-    if answer == Err(JournalFault::OutOfMemory) {
-        answer?;
-    }
-    let stopped = done(&mut journal, Act::Append) == Err(JournalFault::Stopped)
-        && done(&mut journal, Act::Replace) == Err(JournalFault::Stopped);
+    let is_stopped = has_stopped(&mut journal);
     let disk = journal.into_disk();
-    if disk.calls() <= call {
+    let calls = disk.calls();
+    let found = left(alloc, disk.into_inner())?;
+    if calls <= call || answer == Err(JournalFault::OutOfMemory) {
         answer?;
     }
-    let is_answered = answer == Err(JournalFault::Device)
-        && stopped
-        && disk.calls() == call.saturating_add(1);
-    Ok(is_answered && left(alloc, disk.into_inner())? == want(act, is_left(act, failed, which)))
+    let is_answered = answer == Err(JournalFault::Device) && calls == call.saturating_add(1);
+    Ok(is_answered && is_stopped && found == want(act, is_left(act, failed, which)))
 }
 
 // The first act, call that fails and choice for which it is not so.
