@@ -14,7 +14,7 @@ trap 'rm -rf "$scratch"' EXIT
 
 crate=$scratch/crates/measures
 mkdir -p "$crate/src" "$crate/proofs/are_numbered"
-libraries='coord_types coord_link coord_node coord_world coord_check coord_batch coord_codec'
+libraries='coord_types coord_link coord_node coord_tables coord_world coord_check coord_batch coord_codec'
 for name in $libraries; do
   cp -r "$here/crates/$name" "$scratch/crates/$name"
   grep "^$name:" "$here/crates.txt" >> "$scratch/crates.txt"

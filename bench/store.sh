@@ -13,7 +13,7 @@ trap 'rm -rf "$scratch"' EXIT
 
 crate=$scratch/crates/store_bench
 mkdir -p "$crate/src" "$crate/proofs/steps/are_numbered"
-for name in coord_disk coord_journal coord_types coord_link coord_node coord_world coord_check coord_batch coord_codec coord_store; do
+for name in coord_disk coord_journal coord_types coord_link coord_node coord_tables coord_world coord_check coord_batch coord_codec coord_store; do
   cp -r "$here/crates/$name" "$scratch/crates/$name"
   grep "^$name:" "$here/crates.txt" >> "$scratch/crates.txt"
 done

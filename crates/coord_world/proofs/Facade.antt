@@ -1,10 +1,10 @@
 -- What the crates above may cite of these proofs. All other files of lemmas are private.
 pub use Rattle.coord_world.proofs.listings.RowsOfWorldFit.{rows_of_world_fit}
 pub use Rattle.coord_world.proofs.listings.RowsGiveWorld.{rows_give_world}
-pub use Rattle.coord_world.proofs.lists.KeyedLists.{all_weaker}
+pub use Rattle.coord_tables.proofs.KeyedLists.{all_weaker}
 pub use Rattle.coord_world.proofs.acceptance.IsFresh.{fresh_count}
 pub use Rattle.coord_world.proofs.acceptance.FreshOverItself.{itself}
-pub use Rattle.coord_world.proofs.Cases.{by_test, same_or_apart}
+pub use Rattle.coord_tables.proofs.Cases.{by_test, same_or_apart}
 pub use Rattle.coord_world.proofs.acceptance.FreshOrder.{fresh_number, fresh_order}
 pub use Rattle.coord_world.proofs.acceptance.FreshVerdict.{verdict_fresh, verdict_kind}
 pub use Rattle.coord_world.proofs.release.KeptReplies.{kept_reply_law}

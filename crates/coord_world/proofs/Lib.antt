@@ -1,4 +1,3 @@
-mod Cases
 mod release
 mod acceptance
 mod transitions

@@ -7,19 +7,9 @@ ghost use Rattle.coord_types.specs.Table as table;
 ghost use Rattle.coord_world.specs.protocol.NumberedWorld.{no_world};
 ghost use Rattle.coord_world.specs.protocol.Acceptance.{lane};
 
-mod equality;
-pub mod lane_table;
-pub mod node_table;
-pub mod places;
-pub mod session_table;
-mod slots;
-pub mod sorted;
-
-use crate::tables::lane_table::LaneTable;
-use crate::tables::node_table::NodeTable;
-use crate::tables::session_table::SessionTable;
 use coord_link::Lane;
 use coord_node::Node;
+use coord_tables::{LaneTable, NodeTable, SessionTable};
 use coord_types::NodeId;
 use std::alloc::{AllocError, Global};
 use std::marker::Model;

@@ -21,7 +21,7 @@ use Rattle.coord_world.specs.declared.verdicts.Verdict.{Verdict}
 use Rattle.coord_world.specs.declared.verdicts.Verdict.TheVariants.{Fresh, Repeat}
 use Rattle.coord_world.specs.protocol.NumberedWorld.{World, state}
 use Rattle.coord_world.specs.protocol.Acceptance.{IsFresh, judged, is_exhausted, or_repeat, of_incarnation, against_data, against_receipt, against, lane}
-use Rattle.coord_world.proofs.Cases.{by_test}
+use Rattle.coord_tables.proofs.Cases.{by_test}
 
 -- none of the tests holds
 abbrev pub NoneHolds : Tests → Type 0

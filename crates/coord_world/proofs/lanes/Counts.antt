@@ -9,7 +9,7 @@ use Rattle.coord_node.specs.IdealRules.{added, is_link}
 use Rattle.coord_node.specs.Rules.{Transition}
 use Rattle.coord_world.specs.protocol.Next.{applied, on_lane, ordered, is_lane}
 use Rattle.coord_world.specs.protocol.NumberedWorld.{World}
-use Rattle.coord_world.proofs.Cases.{by_test}
+use Rattle.coord_tables.proofs.Cases.{by_test}
 use Rattle.coord_world.proofs.lists.GetAfter.{lane_done, lane_on, lane_left, lane_made, each_changed, each_left, each_made}
 use Rattle.coord_world.proofs.lanes.Transit.{counts_cases, counts_from, counts-sent, counts-took}
 

@@ -11,7 +11,7 @@ use Rattle.coord_node.specs.Rules.{Transition}
 use Rattle.coord_node.specs.Steps.{transitions}
 use Rattle.coord_world.specs.protocol.Next.{all_applied, applied, is_lane, next, on_lane, prepared}
 use Rattle.coord_world.specs.protocol.NumberedWorld.{World, state}
-use Rattle.coord_world.proofs.Cases.{by_test}
+use Rattle.coord_tables.proofs.Cases.{by_test}
 use Rattle.coord_world.proofs.lists.GetAfter.{lane_done, lane_on, lane_left, lane_made, each_changed, each_left, each_made}
 
 -- what holds of every lane, with its ends

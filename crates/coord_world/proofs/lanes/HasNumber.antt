@@ -8,8 +8,8 @@ use Rattle.coord_link.specs.LaneMachine.{Lane}
 use Rattle.coord_world.specs.protocol.NumberedWorld.{World, pair_cmp, pair_cmp_total}
 use Rattle.coord_world.specs.code.Fronts.{HasNumber}
 use Rattle.coord_world.specs.protocol.Ranges.{InRange}
-use Rattle.coord_world.proofs.lists.SortedEntries.{found}
-use Rattle.coord_world.proofs.lists.TableEntries.{is_true}
+use Rattle.coord_tables.proofs.SortedEntries.{found}
+use Rattle.coord_tables.proofs.TableEntries.{is_true}
 
 -- an entry of a table is found at its key
 entry_found : (m : Table pair_cmp_total Lane) (i : ℕ) (e : (ℕ × ℕ) × Lane) → slice_get (entries m) i ≡ Some e → get m e.0 ≡ Some e.1

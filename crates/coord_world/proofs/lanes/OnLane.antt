@@ -8,7 +8,7 @@ use Rattle.coord_types.proofs.Tables.{get-insert, get-change, same_table, option
 use Rattle.coord_link.specs.LaneMachine.{Lane}
 use Rattle.coord_world.specs.protocol.NumberedWorld.{World, pair_cmp}
 use Rattle.coord_world.specs.protocol.Next.{is_lane, on_lane}
-use Rattle.coord_world.proofs.lists.GetAfter.{same_pair}
+use Rattle.coord_tables.proofs.Found.{same_pair}
 
 pub antisymmetric : IsAntisymmetric pair_cmp
 antisymmetric x y e = same_pair x y (ap is_eq e)

@@ -18,7 +18,7 @@ use Rattle.coord_world.specs.protocol.Legal.{Legal}
 use Rattle.coord_world.specs.protocol.Next.{all_applied, applied, next, on_lane, ordered, prepared}
 use Rattle.coord_world.specs.protocol.NumberedWorld.{World, state}
 use Rattle.coord_world.specs.protocol.Ranges.{InRange}
-use Rattle.coord_world.proofs.Cases.{by_test}
+use Rattle.coord_tables.proofs.Cases.{by_test}
 use Rattle.coord_world.proofs.legal.NextKeepsLegal.{sound_after}
 use Rattle.coord_world.proofs.lists.GetAfter.{lane_done}
 use Rattle.coord_world.proofs.lanes.IsShort.{lane_short}

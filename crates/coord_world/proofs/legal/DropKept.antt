@@ -10,7 +10,7 @@ use Rattle.coord_node.specs.IdealRules.{ideal_applied, without_link}
 use Rattle.coord_node.specs.Rules.{Transition, is_empty, is_parent, without, lost, idle}
 use Rattle.coord_types.specs.IdealWorld.{Ideal}
 use Rattle.coord_world.proofs.legal.TransitionKept.{LegalLinks, links_of, sound_of, links_kept, row_here, row_there}
-use Rattle.coord_world.proofs.Cases.{by_test, everywhere}
+use Rattle.coord_tables.proofs.Cases.{by_test, everywhere}
 use Rattle.coord_world.proofs.transitions.NodeGoesOn.{goes_lost}
 use Rattle.coord_world.proofs.transitions.LegalBoth.{LegalBoth}
 use Rattle.coord_world.proofs.transitions.KeepsLinks.{Aside, Keeps, aside_lost, keeps_converge, keeps_finish, keeps_idle}

@@ -10,7 +10,7 @@ use Rattle.coord_node.specs.Rules.{is_parent, with_neighbour}
 use Rattle.coord_world.proofs.legal.SoundNode.{SoundNode}
 use Rattle.coord_world.specs.protocol.Links.{end_of}
 use Rattle.coord_world.proofs.legal.TransitionKept.{LegalLinks, legal_end, links_of, sound_of}
-use Rattle.coord_world.proofs.Cases.{by_test}
+use Rattle.coord_tables.proofs.Cases.{by_test}
 use Rattle.coord_world.proofs.transitions.LegalBoth.{LegalBoth, joined}
 use Rattle.coord_world.proofs.legal.Sound.{Sound}
 

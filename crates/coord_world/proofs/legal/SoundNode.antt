@@ -12,7 +12,7 @@ use Rattle.coord_types.proofs.Sets.{contains-items}
 use Rattle.coord_node.specs.Rules.{is_empty, is_parent}
 use Rattle.coord_world.specs.protocol.Links.{is_abort}
 use Rattle.coord_world.specs.protocol.Legal.{awaits_rightly, has_right_parent, is_parent_near, is_within, is_legal_node}
-use Rattle.coord_world.proofs.Cases.{both}
+use Rattle.coord_tables.proofs.Cases.{both}
 
 -- N by itself: what the rules keep of a node
 pub record SoundNode (r : NodeState) : Type 0 where

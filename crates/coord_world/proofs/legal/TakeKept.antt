@@ -8,7 +8,7 @@ use Rattle.coord_node.specs.IdealRules.{ideal_applied, added, headed}
 use Rattle.coord_node.specs.Rules.{Transition}
 use Rattle.coord_world.specs.protocol.Links.{Link, link, end_of}
 use Rattle.coord_world.proofs.legal.TransitionKept.{SoundBut, links_of, both_before, not_self, deed_kept, far_after}
-use Rattle.coord_world.proofs.Cases.{same_or_apart}
+use Rattle.coord_tables.proofs.Cases.{same_or_apart}
 use Rattle.coord_world.proofs.transitions.LegalBoth.{LegalBoth}
 use Rattle.coord_world.proofs.transitions.KeepsLinks.{Keeps}
 use Rattle.coord_world.proofs.legal.Sound.{Sound}

@@ -7,7 +7,7 @@ use Rattle.coord_types.specs.NodeState.{NodeState}
 use Rattle.coord_node.specs.IdealRules.{ideal_applied, added}
 use Rattle.coord_node.specs.Rules.{Transition}
 use Rattle.coord_world.specs.protocol.Links.{Link, link, end_of, turned}
-use Rattle.coord_world.proofs.Cases.{by_test, everywhere}
+use Rattle.coord_tables.proofs.Cases.{by_test, everywhere}
 use Rattle.coord_world.proofs.transitions.LegalBoth.{LegalBoth, LegalEnd}
 use Rattle.coord_world.proofs.lists.NodeSets.{empty_has}
 use Rattle.coord_world.proofs.legal.Sound.{Sound}

@@ -21,10 +21,10 @@ use Rattle.coord_world.specs.protocol.Ranges.{InRange, IsNode, LaneInRange, Node
 use Rattle.coord_world.specs.declared.rows.parts.ClientRow.{ClientRow}
 use Rattle.coord_world.specs.declared.rows.parts.LinkRow.{LinkRow}
 use Rattle.coord_world.specs.declared.rows.parts.NodeRow.{NodeRow}
-use Rattle.coord_world.proofs.Cases.{by_test}
-use Rattle.coord_world.proofs.lists.KeyedLists.{all_weaker, each_value, find-values, found, sorted-keys}
+use Rattle.coord_tables.proofs.Cases.{by_test}
+use Rattle.coord_tables.proofs.KeyedLists.{all_weaker, each_value, find-values, found, sorted-keys}
 use Rattle.coord_world.proofs.listings.WithLinks.{Listed, OneInc, Turned, backs, contains-near_with, each_lane, find-forth, find-ups, first_or, get-with_links, lane_at, lanes_apart, lanes_mirrored, len-near_with, len-with_links, listed_ends, one_inc, rows-forth, tied_pair, ups}
-use Rattle.coord_world.proofs.lists.GetAfter.{same_number}
+use Rattle.coord_tables.proofs.Found.{same_number}
 use Rattle.coord_world.proofs.legal.SoundView.{at_each}
 
 module _ (rows : Rows) (fit : RowsFit rows) where

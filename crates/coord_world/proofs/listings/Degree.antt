@@ -14,7 +14,7 @@ use Rattle.coord_link.specs.LaneMachine.{Lane}
 use Rattle.coord_world.specs.protocol.NumberedWorld.{pair_cmp, pair_cmp_total}
 use Rattle.coord_world.specs.protocol.Rows.{by_ends, degree, is_end}
 use Rattle.coord_world.specs.declared.rows.parts.LinkRow.{LinkRow}
-use Rattle.coord_world.proofs.Cases.{by_test}
+use Rattle.coord_tables.proofs.Cases.{by_test}
 use Rattle.coord_world.proofs.listings.WithLinks.{Turned}
 use Rattle.coord_world.proofs.lists.TableLen.{len-remove, len-remove_one}
 

@@ -7,7 +7,7 @@ use Rattle.coord_types.specs.StepRanges.{IsNode}
 use Rattle.coord_types.proofs.Sets.{contains-insert, same_nodes}
 use Rattle.coord_world.specs.code.Assembly.{near_in}
 use Rattle.coord_world.specs.declared.rows.parts.LinkRow.{LinkRow}
-use Rattle.coord_world.proofs.Cases.{by_test}
+use Rattle.coord_tables.proofs.Cases.{by_test}
 
 -- one more neighbour of a node
 abbrev pub noted : List NodeSet → ℕ → ℕ → List NodeSet

@@ -15,9 +15,9 @@ use Rattle.coord_world.specs.laws.Laws.{RowsGiveWorld}
 use Rattle.coord_world.specs.protocol.NumberedWorld.{World, pair_cmp, state, state_or_none}
 use Rattle.coord_world.specs.protocol.Rows.{by_id, client_row, goes_up, lane_or_none, link_row, node_row, rows_of}
 use Rattle.coord_world.specs.protocol.Ranges.{InRange}
-use Rattle.coord_world.proofs.Cases.{by_test, some_value}
+use Rattle.coord_tables.proofs.Cases.{by_test, some_value}
 use Rattle.coord_world.proofs.listings.WithLinks.{find-ups, tied_pair, ups}
-use Rattle.coord_world.proofs.lists.GetAfter.{same_number, same_pair}
+use Rattle.coord_tables.proofs.Found.{same_number, same_pair}
 
 -- what a client's row says
 same_entry : (es : List (ℕ × Session)) → map (λ r. (r.client, r.session)) (map client_row es) ≡ es

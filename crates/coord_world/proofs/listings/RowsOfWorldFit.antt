@@ -19,15 +19,15 @@ use Rattle.coord_world.specs.protocol.NumberedWorld.{World, is_linked, pair_cmp,
 use Rattle.coord_world.specs.protocol.Rows.{by_ends, client_row, degree, goes_up, group_in, group_of, lane_or_none, link_row, node_row, LinkRowFits, NodeRowFits}
 use Rattle.coord_world.specs.protocol.Ranges.{InRange, LaneInRange, SessionInRange}
 use Rattle.coord_world.specs.declared.rows.parts.LinkRow.{LinkRow}
-use Rattle.coord_world.proofs.Cases.{by_test, some_value}
+use Rattle.coord_tables.proofs.Cases.{by_test, some_value}
 use Rattle.coord_world.proofs.listings.Degree.{HasBoth, IsNear, degree_within, links_within}
-use Rattle.coord_world.proofs.lists.KeyedLists.{all_mapped, all_weaker, each_entry, sorted-keys}
+use Rattle.coord_tables.proofs.KeyedLists.{all_mapped, all_weaker, each_entry, sorted-keys}
 use Rattle.coord_world.proofs.listings.WithLinks.{Turned, find-ups, ups}
-use Rattle.coord_world.proofs.lists.GetAfter.{same_number, same_pair}
+use Rattle.coord_tables.proofs.Found.{same_number, same_pair}
 use Rattle.coord_world.proofs.listings.RowsGiveWorld.{row_listed}
 use Rattle.coord_world.proofs.ranges.EveryNode.{there_is}
 use Rattle.coord_world.proofs.legal.SoundView.{at_each}
-use Rattle.coord_world.proofs.lists.TableEntries.{is_true}
+use Rattle.coord_tables.proofs.TableEntries.{is_true}
 
 module _ {K X A : Type 0} (R : K → K → Ordering) (made : K × X → A) (key : A → K) (same : (e : K × X) → key (made e) ≡ e.0) where
   abbrev with_key : A → K × A

@@ -18,8 +18,8 @@ use Rattle.coord_world.specs.protocol.NumberedWorld.{World, pair_cmp, pair_cmp_t
 use Rattle.coord_world.specs.protocol.Rows.{by_ends, degree, goes_up, group_of, lane_or_none, link_row, HasEnds}
 use Rattle.coord_world.specs.declared.rows.parts.LinkRow.{LinkRow}
 use Rattle.coord_world.specs.declared.rows.parts.NodeRow.{NodeRow}
-use Rattle.coord_world.proofs.Cases.{by_test}
-use Rattle.coord_world.proofs.lists.GetAfter.{same_pair}
+use Rattle.coord_tables.proofs.Cases.{by_test}
+use Rattle.coord_tables.proofs.Found.{same_pair}
 use Rattle.coord_world.proofs.lists.TableLen.{len-insert, len-insert_le}
 
 -- the lane from x to y by these links

@@ -10,41 +10,9 @@ use Rattle.coord_link.specs.LaneMachine.{Lane, sent, new_lane}
 use Rattle.coord_node.specs.IdealRules.{added, is_link}
 use Rattle.coord_node.specs.Rules.{Transition}
 use Rattle.coord_types.specs.declared.steps.Command.TheVariants.{Join, Drop}
+use Rattle.coord_tables.proofs.Found.{same_pair}
 use Rattle.coord_world.specs.protocol.NumberedWorld.{World, pair_cmp}
 use Rattle.coord_world.specs.protocol.Next.{on_lane, applied, ordered, is_lane}
-
--- numbers that tie are equal
-pub same_number : (p q : ℕ) → eq_by_cmp nat_cmp p q ≡ true → p ≡ q
-same_number p q h = grind (arith, nat_tests)
-
--- so are pairs
-pub same_pair : (p q : ℕ × ℕ) → eq_by_cmp pair_cmp p q ≡ true → p ≡ q
-same_pair p q h =
-    let a : p.0 ≡ q.0 = grind (arith, nat_tests) in
-    let b : p.1 ≡ q.1 = grind (arith, nat_tests) in
-    λ i. (a i, b i)
-
--- by number
-pub get-set : {X : Type 0} (m : Table nat_cmp_total X) (u : ℕ) (x : X) (q : ℕ) → get (table.insert m u x) q ≡ cond (eqb q u) (Some x) (get m q)
-get-set m u x q = get-insert m u x q ∙ ap (λ b. cond b (Some x) (get m q)) (same q)
-  where
-    same : (q : ℕ) → eq_by_cmp nat_cmp q u ≡ eqb q u
-    same q = grind (arith, nat_tests)
-
--- who is there stays
-pub set_stays : {X : Type 0} (m : Table nat_cmp_total X) (u : ℕ) (x : X) (q : ℕ) → IsSome (get m q) → IsSome (get (table.insert m u x) q)
-set_stays {X} m u x q there = subst IsSome (sym (get-set m u x q)) (stays (eqb q u) (get m q) there)
-  where
-    stays : (b : Bool) (o : Option X) → IsSome o → IsSome (cond b (Some x) o)
-    stays true o there = refl
-    stays false o there = there
-
--- and after a removal
-pub get-unset : {X : Type 0} (m : Table nat_cmp_total X) (u q : ℕ) → get (table.remove m u) q ≡ cond (eqb q u) None (get m q)
-get-unset m u q = get-remove m u q ∙ ap (λ b. cond b None (get m q)) (same q)
-  where
-    same : (q : ℕ) → eq_by_cmp nat_cmp q u ≡ eqb q u
-    same q = grind (arith, nat_tests)
 
 module _ (w : World) where
   -- a lane after a transition at u

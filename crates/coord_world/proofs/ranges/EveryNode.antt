@@ -18,7 +18,8 @@ use Rattle.coord_world.specs.protocol.NumberedWorld.{World, state, state_or_none
 use Rattle.coord_world.specs.protocol.Ranges.{InRange}
 use Rattle.coord_world.proofs.transitions.NodeGoesOn.{Goes, goes_deed, goes_lost, goes_request}
 use Rattle.coord_world.proofs.acceptance.IsFresh.{fresh_take}
-use Rattle.coord_world.proofs.lists.GetAfter.{get-set, get-unset, each_left, each_made}
+use Rattle.coord_tables.proofs.Found.{get-set, get-unset}
+use Rattle.coord_world.proofs.lists.GetAfter.{each_left, each_made}
 use Rattle.coord_world.proofs.acceptance.FreshOrder.{Passes, fresh_order}
 use Rattle.coord_world.proofs.lists.TableLen.{len-remove_le}
 

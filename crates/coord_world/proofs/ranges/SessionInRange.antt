@@ -17,8 +17,9 @@ use Rattle.coord_world.specs.protocol.Acceptance.{IsFresh, last_number}
 use Rattle.coord_world.specs.protocol.Next.{next, reply}
 use Rattle.coord_world.specs.protocol.NumberedWorld.{World, state}
 use Rattle.coord_world.specs.protocol.Ranges.{InRange, SessionInRange, StepInRange, answers}
-use Rattle.coord_world.proofs.Cases.{by_test}
-use Rattle.coord_world.proofs.lists.GetAfter.{each_made, get-set}
+use Rattle.coord_tables.proofs.Cases.{by_test}
+use Rattle.coord_tables.proofs.Found.{get-set}
+use Rattle.coord_world.proofs.lists.GetAfter.{each_made}
 use Rattle.coord_world.proofs.acceptance.FreshOrder.{fresh_number}
 
 -- a request is answered with one of its three kinds

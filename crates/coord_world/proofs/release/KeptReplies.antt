@@ -12,8 +12,8 @@ use Rattle.coord_world.specs.protocol.Next.{fold, next, reply}
 use Rattle.coord_world.specs.protocol.NumberedWorld.{World}
 use Rattle.coord_world.specs.protocol.Outputs.{outputs}
 use Rattle.coord_world.specs.laws.KeptReplies.{IsLastOrder, IsNotBy, KeptReplyLaw}
-use Rattle.coord_world.proofs.Cases.{same_or_apart}
-use Rattle.coord_world.proofs.lists.GetAfter.{get-set}
+use Rattle.coord_tables.proofs.Cases.{same_or_apart}
+use Rattle.coord_tables.proofs.Found.{get-set}
 use Rattle.coord_world.proofs.ranges.SessionInRange.{sessions_noted}
 
 -- what is kept for client c after these steps

@@ -16,7 +16,7 @@ use Rattle.coord_world.specs.protocol.NumberedWorld.{World}
 use Rattle.coord_world.specs.protocol.Outputs.{again, outputs}
 use Rattle.coord_world.specs.laws.Release.{IsReleased, ReleaseLaw, ResendLaw, TellsReleased, outputs_of}
 use Rattle.coord_world.specs.laws.Trails.{IsSound}
-use Rattle.coord_world.proofs.Cases.{by_test}
+use Rattle.coord_tables.proofs.Cases.{by_test}
 use Rattle.coord_world.proofs.lanes.Transit.{counts_cases}
 use Rattle.coord_world.proofs.release.StepOutputs.{front_from_step, outputs_front, receipt_from_step, outputs_receipt}
 use Rattle.coord_world.proofs.release.ResendList.{again_front, again_receipt, again_no_signal, front_again, receipt_again}

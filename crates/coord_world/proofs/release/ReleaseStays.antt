@@ -16,7 +16,7 @@ use Rattle.coord_world.specs.protocol.Next.{fold}
 use Rattle.coord_world.specs.protocol.NumberedWorld.{World}
 use Rattle.coord_world.specs.laws.Release.{FreshWhereReleased, IsReleased, IsClearable, NamesReleased, IsTakeable, ReleaseStays, TellsReleased}
 use Rattle.coord_world.specs.laws.Trails.{IsSound}
-use Rattle.coord_world.proofs.Cases.{by_test}
+use Rattle.coord_tables.proofs.Cases.{by_test}
 use Rattle.coord_world.proofs.acceptance.IsFresh.{NoneHolds}
 use Rattle.coord_world.proofs.release.ReleaseLaw.{front_has_sent, has_receipted_receipt, receipt_has_receipted, release_law, has_sent_front}
 use Rattle.coord_world.proofs.release.TakeablePackets.{clearable_is_due, refused_or_none_holds, none_holds_passes, takeable_is_next}

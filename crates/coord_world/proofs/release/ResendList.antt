@@ -13,13 +13,13 @@ use Rattle.coord_link.specs.LaneMachine.{Lane, is_front_taken}
 use Rattle.coord_world.specs.protocol.NumberedWorld.{World, pair_cmp, pair_cmp_total}
 use Rattle.coord_world.specs.protocol.Outputs.{again, again_by, all_again, all_sent, front_packet, receipt, sent_by}
 use Rattle.coord_world.specs.laws.Trails.{IsSound}
-use Rattle.coord_world.proofs.Cases.{by_test}
-use Rattle.coord_world.proofs.lists.KeyedLists.{each_entry}
-use Rattle.coord_world.proofs.lists.GetAfter.{same_pair}
+use Rattle.coord_tables.proofs.Cases.{by_test}
+use Rattle.coord_tables.proofs.KeyedLists.{each_entry}
+use Rattle.coord_tables.proofs.Found.{same_pair}
 use Rattle.coord_world.proofs.lanes.Transit.{counts_cases}
 use Rattle.coord_world.proofs.release.Membership.{Contains-cons_cases, Contains-head, not_in_nil, Contains-one, Contains-flat_map_found, Contains-flat_map_entry, Contains-tail}
 use Rattle.coord_world.proofs.release.LaneFronts.{IsFront, IsFrontReceipt}
-use Rattle.coord_world.proofs.lists.TableEntries.{is_true}
+use Rattle.coord_tables.proofs.TableEntries.{is_true}
 use Rattle.coord_world.proofs.lanes.Transit.{counts_cases}
 
 -- both lists are made of the entries of the lanes

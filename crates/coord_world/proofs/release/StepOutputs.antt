@@ -20,11 +20,11 @@ use Rattle.coord_world.specs.protocol.Next.{next}
 use Rattle.coord_world.specs.protocol.NumberedWorld.{World, pair_cmp, state}
 use Rattle.coord_world.specs.protocol.Outputs.{all_sent, front_packet, had_front, outputs, receipt, receipts, sent_by, signals}
 use Rattle.coord_world.specs.laws.Trails.{IsSound}
-use Rattle.coord_world.proofs.Cases.{by_test}
+use Rattle.coord_tables.proofs.Cases.{by_test}
 use Rattle.coord_world.proofs.lanes.Transit.{counts_cases}
 use Rattle.coord_world.proofs.release.ResendList.{entries_found, front_packet_is, all_sent-flat_map}
 use Rattle.coord_world.proofs.release.LaneAfterStep.{LaneStep, lane_step, lane_taken}
-use Rattle.coord_world.proofs.lists.GetAfter.{same_pair}
+use Rattle.coord_tables.proofs.Found.{same_pair}
 use Rattle.coord_world.proofs.release.TakeablePackets.{fresh_take_is_next}
 use Rattle.coord_world.proofs.release.Membership.{Contains-cons_cases, Contains-head, not_in_nil, Contains-one, Contains-flat_map_found, Contains-flat_map_entry}
 use Rattle.coord_world.proofs.release.LaneFronts.{IsNumbered, IsFront, IsFrontReceipt, one_lane}

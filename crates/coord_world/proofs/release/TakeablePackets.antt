@@ -11,7 +11,7 @@ use Rattle.coord_link.specs.LaneMachine.{Lane, Tests, against_clear, against_tak
 use Rattle.coord_world.specs.protocol.Acceptance.{IsFresh, against_data, lane, of_incarnation}
 use Rattle.coord_world.specs.protocol.NumberedWorld.{World}
 use Rattle.coord_world.specs.laws.Release.{IsClearable, IsTakeable}
-use Rattle.coord_world.proofs.Cases.{by_test}
+use Rattle.coord_tables.proofs.Cases.{by_test}
 use Rattle.coord_world.proofs.acceptance.IsFresh.{NoneHolds, begins_is, tests_passed, with_incarnation}
 use Rattle.coord_world.proofs.release.LaneFronts.{IsNumbered, IsFront}
 

@@ -11,11 +11,11 @@ use Rattle.coord_types.specs.declared.outputs.Output.{Output}
 use Rattle.coord_link.specs.LaneMachine.{Lane}
 use Rattle.coord_world.specs.protocol.NumberedWorld.{pair_cmp, pair_cmp_total}
 use Rattle.coord_world.specs.protocol.Outputs.{all_sent, sent_by}
-use Rattle.coord_world.proofs.Cases.{both}
-use Rattle.coord_world.proofs.lists.GetAfter.{same_pair}
-use Rattle.coord_world.proofs.lists.KeyedLists.{each_entry, find-below}
-use Rattle.coord_world.proofs.lists.SortedEntries.{is_less}
-use Rattle.coord_world.proofs.lists.TableEntries.{is_true}
+use Rattle.coord_tables.proofs.Cases.{both}
+use Rattle.coord_tables.proofs.Found.{same_pair}
+use Rattle.coord_tables.proofs.KeyedLists.{each_entry, find-below}
+use Rattle.coord_tables.proofs.SortedEntries.{is_less}
+use Rattle.coord_tables.proofs.TableEntries.{is_true}
 
 -- keys in ascending order
 abbrev pub Rising : List (ℕ × ℕ) → Type 0

@@ -17,7 +17,7 @@ use Rattle.coord_node.specs.Rules.{Transition, sends_of}
 use Rattle.coord_world.specs.protocol.NumberedWorld.{pair_cmp, pair_cmp_total}
 use Rattle.coord_world.specs.protocol.Outputs.{all_sent, had_front, sent_by}
 use Rattle.coord_world.specs.code.Fronts.{front_sent, fronts_sent}
-use Rattle.coord_world.proofs.Cases.{by_test}
+use Rattle.coord_tables.proofs.Cases.{by_test}
 use Rattle.coord_world.proofs.release.LaneAfterStep.{sent_none}
 use Rattle.coord_world.proofs.transitions.FrontsInOrder.{Rising, among, front_now, fronts_in, fronts_join, in_order}
 

@@ -1,5 +1,5 @@
 -- A node step of the program is the transition that it stands for: its messages, sent one after the other, join the lanes.
-use Rattle.std.proofs.Common.{◌≡◌, ℕ, Bool, true, false, ◌&&◌, List, [], ◌∷◌, ◌++◌, map, length, ◌<◌, Option, Some, None, Result, Ok, Err, OnOk, refl, sym, ap, ◌∙◌, subst, arith, cond, eqb}
+use Rattle.std.proofs.Common.{◌≡◌, ℕ, Bool, true, false, ◌&&◌, List, [], ◌∷◌, ◌++◌, map, length, ◌<◌, Option, Some, None, refl, sym, ap, ◌∙◌, subst, arith, cond, eqb}
 use Rattle.std.specs.Prelude.{nat_eq}
 use Rattle.std.specs.List.{AllByRecursion, list_any}
 use Rattle.std.specs.List.Sorted.{IsStrictlySortedBy}
@@ -19,14 +19,10 @@ use Rattle.coord_world.specs.protocol.NumberedWorld.{World, pair_cmp, pair_cmp_t
 use Rattle.coord_world.specs.protocol.Next.{applied, is_lane}
 use Rattle.coord_world.specs.code.Sends.{CanSend, sent_lane, sent_lanes}
 use Rattle.coord_world.specs.code.NodeSteps.{IsNodeStepOf, node_stepped}
-use Rattle.coord_world.proofs.Cases.{by_test}
+use Rattle.coord_tables.proofs.Cases.{by_test}
 use Rattle.coord_world.proofs.lanes.OnLane.{antisymmetric}
-use Rattle.coord_world.proofs.lists.GetAfter.{same_pair}
+use Rattle.coord_tables.proofs.Found.{same_pair}
 use Rattle.coord_world.proofs.release.LaneAfterStep.{sent_none, sent_twice}
-
-pub on_ok : {T E P Q : Type 0} (r : Result T E) → (P → Q) → OnOk r P → OnOk r Q
-on_ok (Ok x) f p = f p
-on_ok (Err e) f p = tt
 
 -- all that is sent to y
 abbrev pub all_to : List (ℕ × Msg) → ℕ → List Msg

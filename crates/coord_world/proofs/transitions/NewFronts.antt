@@ -20,7 +20,7 @@ use Rattle.coord_world.specs.protocol.Next.{applied, is_lane, next, on_lane, ord
 use Rattle.coord_world.specs.protocol.Outputs.{all_sent, had_front, sent_by}
 use Rattle.coord_world.specs.code.Fronts.{by_lesser, front_behind, fronts_sent, new_fronts, packets_of}
 use Rattle.coord_world.specs.code.Ready.{IsReadyFor}
-use Rattle.coord_world.proofs.Cases.{by_test}
+use Rattle.coord_tables.proofs.Cases.{by_test}
 use Rattle.coord_world.proofs.acceptance.FreshOrder.{fresh_order}
 use Rattle.coord_world.proofs.acceptance.IsFresh.{fresh_take}
 use Rattle.coord_world.proofs.lists.GetAfter.{lane_done, lane_left, lane_made, lane_on}

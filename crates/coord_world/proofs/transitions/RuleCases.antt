@@ -9,7 +9,7 @@ use Rattle.coord_types.specs.declared.steps.Kind.TheVariants.{Started, Finished,
 use Rattle.coord_node.specs.Rules.{Transition, acknowledged, answer, finish, idle, is_empty, is_parent, lost, lost_in, on_abort, on_abort_in, on_ack, on_ready, on_ready_in, request, request_in, wave_back, wave_on, without}
 use Rattle.coord_node.specs.Steps.{kind_of_request}
 use Rattle.coord_world.specs.protocol.Links.{is_converge, is_ready}
-use Rattle.coord_world.proofs.Cases.{by_test}
+use Rattle.coord_tables.proofs.Cases.{by_test}
 
 -- the state in which v is awaited no more
 abbrev pub acked_by : NodeState → ℕ → NodeState

@@ -13,9 +13,10 @@ use Rattle.coord_node.specs.IdealRules.{ideal_applied, added, without_link, head
 use Rattle.coord_node.specs.Rules.{Transition, with_neighbour}
 use Rattle.coord_world.specs.protocol.Next.{applied, on_lane, with_state, ordered, is_lane}
 use Rattle.coord_world.specs.protocol.NumberedWorld.{World, view, state, state_or_none, transit_or_none}
-use Rattle.coord_world.proofs.Cases.{by_test}
+use Rattle.coord_tables.proofs.Cases.{by_test}
 use Rattle.coord_world.proofs.lanes.Counts.{AllCount, it_is, was_taken}
-use Rattle.coord_world.proofs.lists.GetAfter.{get-set, get-unset, lane_done, lane_on, lane_left, lane_made}
+use Rattle.coord_tables.proofs.Found.{get-set, get-unset}
+use Rattle.coord_world.proofs.lists.GetAfter.{lane_done, lane_on, lane_left, lane_made}
 use Rattle.coord_world.proofs.lanes.Transit.{transit-sent, transit-took, transit-cleared}
 
 -- a change of a lane leaves it there

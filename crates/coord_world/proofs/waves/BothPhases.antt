@@ -12,7 +12,7 @@ use Rattle.coord_world.specs.protocol.Next.{next}
 use Rattle.coord_world.specs.protocol.NumberedWorld.{World, view, state, is_linked}
 use Rattle.coord_world.specs.protocol.Outputs.{outs}
 use Rattle.coord_world.specs.laws.Waves.{Connected, signals_of, started, started_by}
-use Rattle.coord_world.proofs.Cases.{same_or_apart}
+use Rattle.coord_tables.proofs.Cases.{same_or_apart}
 use Rattle.coord_world.proofs.waves.Effect.{Effect}
 use Rattle.coord_world.proofs.waves.Front.{Front}
 use Rattle.coord_world.proofs.waves.FrontEnds.{ends_settled, ends_once}

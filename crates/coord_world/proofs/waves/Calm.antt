@@ -9,7 +9,7 @@ use Rattle.coord_node.specs.IdealRules.{ideal_applied, added, headed}
 use Rattle.coord_node.specs.Rules.{Transition}
 use Rattle.coord_world.specs.protocol.Links.{aborts, is_ready}
 use Rattle.coord_world.proofs.legal.TakeKept.{after_take}
-use Rattle.coord_world.proofs.Cases.{everywhere}
+use Rattle.coord_tables.proofs.Cases.{everywhere}
 use Rattle.coord_world.proofs.waves.Effect.{SamePlace, Calm}
 use Rattle.coord_world.proofs.lanes.MessageCounts.{aborts-append}
 

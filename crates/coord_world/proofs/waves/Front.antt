@@ -6,7 +6,7 @@ use Rattle.coord_types.specs.NodeSet.{contains}
 use Rattle.coord_types.specs.declared.messages.Mode.{Mode}
 use Rattle.coord_types.specs.declared.messages.Mode.TheVariants.{Ready, Abort, Converge}
 use Rattle.coord_world.specs.protocol.Links.{aborts, is_ready}
-use Rattle.coord_world.proofs.Cases.{by_test, same_or_apart}
+use Rattle.coord_tables.proofs.Cases.{by_test, same_or_apart}
 use Rattle.coord_world.proofs.legal.Sound.{Sound}
 
 -- whether a node is in a list

@@ -10,7 +10,7 @@ use Rattle.coord_node.specs.Rules.{is_empty, is_parent}
 use Rattle.coord_world.specs.protocol.Links.{is_abort, is_ready}
 use Rattle.coord_world.specs.protocol.NumberedWorld.{World, is_linked}
 use Rattle.coord_world.specs.laws.Waves.{Connected}
-use Rattle.coord_world.proofs.Cases.{by_test, everywhere, same_or_apart}
+use Rattle.coord_tables.proofs.Cases.{by_test, everywhere, same_or_apart}
 use Rattle.coord_world.proofs.waves.Effect.{Finishes, Hears, Signals}
 use Rattle.coord_world.proofs.waves.Front.{Front, Reached, among, under, reached_same, busy_reached, parent_busy}
 use Rattle.coord_world.proofs.waves.FrontGoesOn.{SameNear}

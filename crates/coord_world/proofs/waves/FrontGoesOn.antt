@@ -6,7 +6,7 @@ use Rattle.coord_types.specs.NodeSet.{contains}
 use Rattle.coord_types.specs.NodeState.{NodeState}
 use Rattle.coord_types.specs.declared.messages.Mode.TheVariants.{Ready, Abort, Converge}
 use Rattle.coord_world.specs.protocol.Links.{aborts, is_ready}
-use Rattle.coord_world.proofs.Cases.{everywhere}
+use Rattle.coord_tables.proofs.Cases.{everywhere}
 use Rattle.coord_world.proofs.waves.Effect.{Calm, Passes, Turns, Starts}
 use Rattle.coord_world.proofs.waves.Front.{Front, reached_same}
 

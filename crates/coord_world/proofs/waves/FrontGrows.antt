@@ -7,7 +7,7 @@ use Rattle.coord_types.specs.NodeState.{NodeState}
 use Rattle.coord_types.specs.declared.messages.Mode.{Mode}
 use Rattle.coord_types.specs.declared.messages.Mode.TheVariants.{Ready, Abort, Converge}
 use Rattle.coord_world.specs.protocol.Links.{aborts, is_abort, is_ready}
-use Rattle.coord_world.proofs.Cases.{same_or_apart}
+use Rattle.coord_tables.proofs.Cases.{same_or_apart}
 use Rattle.coord_world.proofs.waves.Effect.{Reaches}
 use Rattle.coord_world.proofs.waves.Front.{Front, reached_same, reached_busy, busy_reached, parent_busy}
 use Rattle.coord_world.proofs.waves.FrontGoesOn.{SameNear}

@@ -15,7 +15,7 @@ use Rattle.coord_world.specs.protocol.Next.{next, reply}
 use Rattle.coord_world.specs.protocol.NumberedWorld.{World, view, state, is_linked}
 use Rattle.coord_world.specs.protocol.Outputs.{StepOutcome, outs, outputs}
 use Rattle.coord_world.specs.laws.Waves.{Connected, IsExplained, started, started_by}
-use Rattle.coord_world.proofs.Cases.{everywhere, same_or_apart}
+use Rattle.coord_tables.proofs.Cases.{everywhere, same_or_apart}
 use Rattle.coord_world.proofs.waves.Effect.{Effect, SamePlace}
 use Rattle.coord_world.proofs.waves.Front.{among}
 use Rattle.coord_world.proofs.waves.FrontGrows.{abort_busy}

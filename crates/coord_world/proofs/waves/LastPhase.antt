@@ -7,7 +7,7 @@ use Rattle.coord_types.specs.NodeState.{NodeState}
 use Rattle.coord_types.specs.declared.steps.Kind.{Kind}
 use Rattle.coord_node.specs.Rules.{is_empty}
 use Rattle.coord_world.specs.protocol.Links.{aborts, is_abort, is_ready, one}
-use Rattle.coord_world.proofs.Cases.{everywhere, same_or_apart}
+use Rattle.coord_tables.proofs.Cases.{everywhere, same_or_apart}
 use Rattle.coord_world.proofs.waves.Effect.{Effect, Passes, Finishes, Signals}
 use Rattle.coord_world.proofs.legal.Sound.{Sound}
 use Rattle.coord_world.proofs.legal.TransitionKept.{both_before}

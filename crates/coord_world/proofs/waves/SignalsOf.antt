@@ -18,7 +18,7 @@ use Rattle.coord_world.specs.protocol.Next.{next, reply}
 use Rattle.coord_world.specs.protocol.NumberedWorld.{World, state, pair_cmp_total}
 use Rattle.coord_world.specs.protocol.Outputs.{StepOutcome, all_sent, had_front, outputs, outs, receipts, sent_by, signals, front_packet}
 use Rattle.coord_world.specs.laws.Waves.{Connected, IsExplained, is_signal_of, signals_of}
-use Rattle.coord_world.proofs.Cases.{by_test}
+use Rattle.coord_tables.proofs.Cases.{by_test}
 use Rattle.coord_world.proofs.waves.StepEffect.{signals_in}
 
 module _ (v : ℕ) where

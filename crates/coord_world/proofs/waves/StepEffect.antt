@@ -21,7 +21,7 @@ use Rattle.coord_world.specs.protocol.Outputs.{signals}
 use Rattle.coord_world.specs.laws.Waves.{changes_topology, is_signal_of, started_by}
 use Rattle.coord_world.proofs.waves.AbortEffect.{TakeEffect, abort_effect}
 use Rattle.coord_world.proofs.waves.AckEffect.{ack_effect}
-use Rattle.coord_world.proofs.Cases.{everywhere}
+use Rattle.coord_tables.proofs.Cases.{everywhere}
 use Rattle.coord_world.proofs.lanes.Counts.{AllCount}
 use Rattle.coord_world.proofs.waves.Effect.{Effect, SamePlace}
 use Rattle.coord_world.proofs.acceptance.IsFresh.{fresh_take}

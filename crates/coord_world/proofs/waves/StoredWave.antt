@@ -13,7 +13,7 @@ use Rattle.coord_world.specs.protocol.NumberedWorld.{World, no_world, state_or_n
 use Rattle.coord_world.specs.laws.Runs.{StoredWave, two_linked, one_reset}
 use Rattle.coord_world.specs.laws.Trails.{IsTrail}
 use Rattle.coord_world.specs.laws.Waves.{AllReady, changes_topology, started}
-use Rattle.coord_world.proofs.Cases.{by_test}
+use Rattle.coord_tables.proofs.Cases.{by_test}
 use Rattle.coord_world.proofs.legal.EmptyWorld.{no_world_in_range, no_world_legal}
 use Rattle.coord_world.proofs.release.Trails.{EachFresh, sound_fold, trail_of}
 

@@ -11,7 +11,7 @@ use Rattle.coord_types.specs.declared.steps.Session.{Session}
 use Rattle.coord_link.specs.LaneMachine.{Lane}
 use Rattle.coord_world.specs.protocol.NumberedWorld.{World, pair_cmp, pair_cmp_total}
 use Rattle.coord_world.specs.protocol.Rows.{Rows, by_ends}
-use Rattle.coord_world.specs.code.Places.{IsIndexOf}
+use Rattle.coord_tables.specs.Places.{IsIndexOf}
 use Rattle.coord_world.specs.declared.rows.parts.NodeRow.{NodeRow}
 use Rattle.coord_world.specs.declared.rows.parts.LinkRow.{LinkRow}
 use Rattle.coord_world.specs.declared.rows.parts.ClientRow.{ClientRow}

@@ -1,8 +1,6 @@
 -- The numbered world: nodes, lanes that number their messages, and the clients' last orders.
 use Rattle.std.specs.Prelude.{ℕ, Bool, List, [], Option, Some, None}
-use Rattle.std.specs.Ordering.{nat_cmp, ordering_then}
-use Rattle.std.specs.declared.cmp.Ordering.{Ordering}
-use Rattle.std.specs.Cmp.{IsTotalOrder, nat_cmp_total, on_total, then_total}
+use Rattle.std.specs.Cmp.{nat_cmp_total}
 use Rattle.std.specs.Coded.{Coded, code_by, coded×, coded_ℕ}
 use Rattle.std.proofs.Common.{refl}
 use Rattle.coord_types.specs.Table as table
@@ -13,13 +11,7 @@ use Rattle.coord_types.specs.declared.messages.Msg.{Msg}
 use Rattle.coord_types.specs.declared.steps.Session.{Session}
 use Rattle.coord_types.specs.contracts.steps.Session as session
 use Rattle.coord_link.specs.LaneMachine.{Lane, transit, lane_code}
-
--- by the sender, and then by the receiver
-abbrev pub pair_cmp : ℕ × ℕ → ℕ × ℕ → Ordering
-pair_cmp p q = ordering_then (nat_cmp p.0 q.0) (nat_cmp p.1 q.1)
-
-pub pair_cmp_total : IsTotalOrder pair_cmp
-pair_cmp_total = then_total (on_total (λ p. p.0) nat_cmp_total) (on_total (λ p. p.1) nat_cmp_total)
+pub use Rattle.coord_tables.specs.Pairs.{pair_cmp, pair_cmp_total}
 
 -- how many steps were taken, the nodes, the lanes by their ends, and each client's last order
 pub record World : Type 0 where

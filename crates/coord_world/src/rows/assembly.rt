@@ -8,10 +8,8 @@ use crate::rows::neighbours::Neighbours;
 use crate::rows::ordering::lanes_of;
 use crate::rows::parts::{ClientRow, NodeRow, Parts};
 use crate::tables::Tables;
-use crate::tables::lane_table::LaneTable;
-use crate::tables::node_table::NodeTable;
-use crate::tables::session_table::SessionTable;
 use coord_node::{Node, NodeFields};
+use coord_tables::{LaneTable, NodeTable, SessionTable};
 use coord_types::{Client, NodeId, Session};
 use std::alloc::{AllocError, Global};
 

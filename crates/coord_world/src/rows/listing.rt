@@ -9,9 +9,9 @@ ghost use Rattle.coord_world.specs.protocol.Rows.{client_row, goes_up, lane_or_n
 
 use crate::rows::parts::{ClientRow, LinkRow, NodeRow, Parts};
 use crate::tables::Tables;
-use crate::tables::lane_table::LaneTable;
 use coord_link::Lane;
 use coord_node::Node;
+use coord_tables::LaneTable;
 use coord_types::{Client, NodeId, Session};
 use std::alloc::{AllocError, Global};
 

@@ -8,8 +8,8 @@ ghost use Rattle.coord_world.specs.code.Fronts.{AreNumbered, HasNumber, by_lesse
 ghost use Rattle.coord_world.specs.code.NodeSteps.{signal_of};
 
 use crate::step::node_step::NodeStep;
-use crate::tables::lane_table::LaneTable;
 use coord_link::Lane;
+use coord_tables::LaneTable;
 use coord_types::{DataPacket, Msg, NodeId, Output, ReceiptPacket};
 use std::alloc::{AllocError, Global};
 

@@ -11,7 +11,7 @@ use Rattle.coord_world.specs.protocol.Rows.{listed}
 use Rattle.coord_world.proofs.listings.Assembled.{clients_sorted, ends_are_nodes, ids_are_nodes, links_in_order, nodes_sorted}
 use Rattle.coord_world.proofs.listings.LanesOfLinks.{same_with}
 use Rattle.coord_world.proofs.listings.WithLinks.{len-with_links}
-use Rattle.coord_world.proofs.lists.TableEntries.{from_sorted-entries, is_true}
+use Rattle.coord_tables.proofs.TableEntries.{from_sorted-entries, is_true}
 use Rattle.coord_world.proofs.tables.Tables.assemble.Goals as goal
 
 pub lanes_of-requires-clause-rise : goal.lanes_of-requires-clause-rise

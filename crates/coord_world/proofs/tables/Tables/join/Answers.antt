@@ -1,7 +1,7 @@
 use Rattle.std.proofs.Common.{IsSome, sym, subst}
 use Rattle.coord_types.specs.Table as table
 use Rattle.coord_world.specs.protocol.NumberedWorld.{World}
-use Rattle.coord_world.proofs.lists.GetAfter.{set_stays}
+use Rattle.coord_tables.proofs.Found.{set_stays}
 use Rattle.coord_world.proofs.tables.Tables.join.Goals as goal
 
 pub replace-requires-2 : goal.replace-requires-2

@@ -1,0 +1,9 @@
+pub mod Cases
+pub mod Found
+pub mod KeyedLists
+pub mod TableEntries
+pub mod SortedEntries
+pub mod SlotTables
+pub mod PutAtPlace
+pub mod SameTables
+pub mod IndexedLanes

@@ -1,0 +1,4 @@
+pub mod Pairs
+pub mod Place
+pub mod Places
+pub mod Slots

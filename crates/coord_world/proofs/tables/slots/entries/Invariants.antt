@@ -1,6 +1,0 @@
-use Rattle.std.proofs.Common.{◌≡◌, ◌+◌, ◌++◌, drop}
-use Rattle.coord_world.specs.code.Slots.{slot_entries}
-use Rattle.coord_world.proofs.tables.slots.entries.Given as goal
-
-abbrev pub invariant-loop-at : goal.invariant-loop-at
-invariant-loop-at g l = l.entries.items ++ slot_entries (l.at + 1) (drop l.at l.slots) ≡ slot_entries 1 l.slots
