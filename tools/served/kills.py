@@ -77,8 +77,7 @@ def after_kill(ring, listened):
 def start_again(ring):
     """A start that nobody kills: what was answered is there, and a reset that was cut goes on to its end."""
     count, _ = ring.history.look_into(ring.server)
-    if not ring.server.start():
-        raise Lost(f"the coordinator did not start: {ring.server.ended()}")
+    ring.server.must_start()
     ring.repeat_orders(count)
     ring.follow()
 
@@ -87,9 +86,7 @@ def finish(ring):
     """Closes the coordinator in order, and looks into its store."""
     if ring.server.process.poll() is not None:
         start_again(ring)
-    ended = ring.server.close()
-    if ended != (0, ""):
-        raise Lost(f"closed in order, the coordinator ended with {ended}")
+    ring.server.must_close()
     ring.history.note_signals(ring.server.new_signals())
     ring.history.look_into(ring.server)
 

@@ -10,10 +10,12 @@ NODES, CLIENTS, HALF = 64, 8, 32_768
 PATIENCE = 60  # seconds within which a reset has to end
 
 
-def topology():
+def topology(half, reach):
+    """A ring in which each node is linked to so many that follow it."""
     nodes = "".join(f"[[node]]\nid = {node}\ngroup = 1\n" for node in range(1, NODES + 1))
-    links = "".join(f"[[link]]\na = {node}\nb = {node % NODES + 1}\n" for node in range(1, NODES + 1))
-    return f"half = {HALF}\n{nodes}{links}"
+    links = "".join(f"[[link]]\na = {node}\nb = {(node + far) % NODES + 1}\n"
+                    for node in range(1, NODES + 1) for far in range(reach))
+    return f"half = {half}\n{nodes}{links}"
 
 
 class Ring:
@@ -26,10 +28,8 @@ class Ring:
         self.quiet = dict.fromkeys(range(1, NODES + 1), 0)
         self.started = []
 
-    def found(self, path):
-        with open(path, "w", encoding="utf-8") as file:
-            file.write(topology())
-        done = self.server.command("init", path)
+    def found(self):
+        done = self.server.found(topology(HALF, 1))
         if done != (0, [f"created {2 * NODES}"]):
             raise Lost(f"resetd init: {done}")
 

@@ -9,6 +9,8 @@ import time
 sys.path.insert(0, os.path.join(os.path.dirname(__file__), "..", "..", "examples"))
 from coordinator import Away, ask  # noqa: E402
 
+from .clients import Lost  # noqa: E402
+
 
 class Server:
     """`resetd serve` over a store. All its starts add their lines to one file, as those of a service manager do."""
@@ -22,6 +24,12 @@ class Server:
         """Another command of the program on the store: its status, and the lines that it printed, faults last."""
         done = subprocess.run([self.program, word, self.store, *words], capture_output=True, encoding="utf-8")
         return done.returncode, (done.stdout + done.stderr).splitlines()
+
+    def found(self, topology):
+        """Makes the store with the nodes and links of a topology, and answers what was printed."""
+        with open(f"{self.store}.toml", "w", encoding="utf-8") as file:
+            file.write(topology)
+        return self.command("init", f"{self.store}.toml")
 
     def start(self, *before):
         """Starts the server, and answers whether it came to listen."""
@@ -67,6 +75,15 @@ class Server:
         except Away:
             pass
         return self.ended()
+
+    def must_start(self):
+        if not self.start():
+            raise Lost(f"the coordinator did not start: {self.ended()}")
+
+    def must_close(self):
+        ended = self.close()
+        if ended != (0, ""):
+            raise Lost(f"closed in order, the coordinator ended with {ended}")
 
     def ended(self):
         """Waits for the end of the process: its exit status, and its faults."""

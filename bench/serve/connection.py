@@ -1,0 +1,39 @@
+"""A connection to a coordinator that stays open, and one client's resets over it."""
+
+import socket
+
+from served.clients import Lost
+
+
+class Connection:
+    def __init__(self, address):
+        host, port = address.rsplit(":", 1)
+        self.socket = socket.create_connection((host, int(port)), timeout=30)
+        self.socket.setsockopt(socket.IPPROTO_TCP, socket.TCP_NODELAY, 1)
+        self.replies = self.socket.makefile("rb")
+
+    def ask(self, *lines):
+        """Sends lines at once, and then reads their replies."""
+        self.socket.sendall(b"".join(lines))
+        return [self.replies.readline() for _ in lines]
+
+    def close(self):
+        self.replies.close()
+        self.socket.close()
+
+
+class Resets:
+    """Resets of node 1 by client 1, numbered on from the last one, each of which is answered by this kind."""
+
+    def __init__(self, kind):
+        self.reply, self.number = b'{"kind":"%s"' % kind.encode(), 0
+
+    def line(self):
+        self.number += 1
+        return b'{"op":"reset","client":1,"number":%d,"node":1}\n' % self.number
+
+    def ask(self, connection, count=1):
+        """That many, sent before the first reply is read."""
+        for reply in connection.ask(*[self.line() for _ in range(count)]):
+            if not reply.startswith(self.reply):
+                raise Lost(f"a reset was answered {reply}")

@@ -1,0 +1,80 @@
+"""How long one command waits for its answer, and how many are answered in a second."""
+
+import os
+import time
+
+from connection import Connection, Resets
+
+ROUNDS, IN_A_ROUND, AT_ONCE = 50, 100, 16
+LONE_NODE = "half = 16777216\n[[node]]\nid = 1\ngroup = 1\n"
+SHOW = b'{"op":"show"}\n'
+
+
+def measure(server):
+    server.found(LONE_NODE)
+    server.must_start()
+    connection, resets = Connection(server.address), Resets("finished")
+    growth = growth_of(server, connection, resets)
+    tell_times(growth, *times(connection, resets, f"{server.store}.raw", growth))
+    for at_once in (1, AT_ONCE):
+        tell_rate(connection, resets, at_once)
+    connection.close()
+    server.must_close()
+
+
+def growth_of(server, connection, resets):
+    """By how many bytes the log grows in a reset."""
+    before = os.path.getsize(server.store)
+    resets.ask(connection, IN_A_ROUND)
+    return (os.path.getsize(server.store) - before) // IN_A_ROUND
+
+
+def times(connection, resets, path, growth):
+    """Of raw pairs, resets and `show`, round by round, so that all meet the same noise."""
+    paired, ordered, shown = [], [], []
+    file = os.open(path, os.O_CREAT | os.O_WRONLY, 0o600)
+    for _ in range(ROUNDS):
+        paired += a_round(lambda place: raw_pair(file, (len(paired) + place) * growth, growth))
+        ordered += a_round(lambda _: resets.ask(connection))
+        shown += a_round(lambda _: connection.ask(SHOW))
+    os.close(file)
+    return paired, ordered, shown
+
+
+def a_round(call):
+    """The seconds of each call of a round."""
+    spent = []
+    for place in range(IN_A_ROUND):
+        begun = time.perf_counter()
+        call(place)
+        spent.append(time.perf_counter() - begun)
+    return spent
+
+
+def raw_pair(file, place, count):
+    os.pwrite(file, bytes(count), place)
+    os.fdatasync(file)
+
+
+def tell_times(growth, *spent):
+    print(f"{'of ' + str(len(spent[0])) + ' each':30}{'p50':>12}{'p99':>12}    in raw pairs")
+    pair = quantiles(spent[0])
+    for name, told in zip((f"pwrite of {growth}, fdatasync", "reset, to its answer", "show"), map(quantiles, spent)):
+        parts = "".join(f"{one * 1e3:9.3f} ms" for one in told)
+        pairs = "".join(f"{one / other:8.2f}" for one, other in zip(told, pair))
+        print(f"{name:30}{parts}{pairs}", flush=True)
+
+
+def quantiles(spent):
+    """The 50th and the 99th percentile."""
+    return [sorted(spent)[len(spent) * percent // 100] for percent in (50, 99)]
+
+
+def tell_rate(connection, resets, at_once):
+    calls = ROUNDS * IN_A_ROUND // at_once
+    begun = time.perf_counter()
+    for _ in range(calls):
+        resets.ask(connection, at_once)
+    rate = calls * at_once / (time.perf_counter() - begun)
+    how = "one after the other" if at_once == 1 else f"{at_once} sent before the first answer is read"
+    print(f"{rate:.0f} resets a second over one connection, {how}", flush=True)

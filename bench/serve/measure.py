@@ -1,0 +1,27 @@
+"""Measures a coordinator: the words are its program, a folder of a real file system and a swift one."""
+
+import os
+import sys
+
+sys.path.insert(0, os.path.join(os.path.dirname(os.path.abspath(__file__)), "..", "..", "tools"))
+import latency  # noqa: E402
+import opening  # noqa: E402
+from served.clients import Lost  # noqa: E402
+from served.server import Server  # noqa: E402
+
+
+def main():
+    program, scratch, swift = sys.argv[1:]
+    servers = [Server(program, f"{scratch}/lone"), Server(program, f"{swift}/ring")]
+    try:
+        latency.measure(servers[0])
+        opening.measure(servers[1], scratch)
+    except Lost as lost:
+        sys.exit(f"LOST: {lost}")
+    finally:
+        for server in servers:
+            if server.process and server.process.poll() is None:
+                server.kill()
+
+
+main()

@@ -1,0 +1,82 @@
+"""How long a start takes over a log of many steps."""
+
+import os
+import shutil
+import time
+
+from connection import Connection, Resets
+from served.clients import Lost
+from served.ring import NODES, topology
+from served.server import Server
+
+MIB = 1 << 20
+HALF = 16 * MIB  # the greatest
+ONE_RESET = MIB // 16  # more than the log grows by in one
+RESEND, NOTHING = b'{"op":"resend"}\n', [b'{"count":0,"kind":"resent"}\n']
+PATIENCE = 60  # seconds within which a reset has to end
+ROUNDS = 5
+
+
+def measure(growing, scratch):
+    """Grows one store, and copies it at each size into the folder."""
+    growing.found(topology(HALF, 2))
+    resets = Resets("started")
+    for size in (MIB, 4 * MIB, HALF - ONE_RESET):
+        grow(growing, resets, size)
+        store = Server(growing.program, f"{scratch}/{size}")
+        shutil.copyfile(growing.store, store.store)
+        tell(store)
+
+
+def grow(server, resets, size):
+    """Resets the ring until the file has that many bytes and nothing is on its way any more."""
+    server.must_start()
+    connection = Connection(server.address)
+    while os.path.getsize(server.store) < size:
+        resets.ask(connection)
+        wait_for(NODES, lambda: len(server.new_signals()))
+    wait_for(1, lambda: connection.ask(RESEND) == NOTHING)
+    connection.close()
+    server.must_close()
+
+
+def wait_for(count, come):
+    """Waits until so many have come."""
+    until = time.monotonic() + PATIENCE
+    while time.monotonic() < until:
+        count -= come()
+        if count == 0:
+            return
+        time.sleep(0.001)
+    raise Lost(f"a reset has not come to its end within {PATIENCE} seconds")
+
+
+def tell(server):
+    """The least times of several rounds."""
+    rounds = [(start(server), check(server), read(server.store)) for _ in range(ROUNDS)]
+    started, checked, plain = (min(spent) * 1e3 for spent in zip(*rounds))
+    steps = server.command("check")[1][0].split()[1]
+    print(f"log of {os.path.getsize(server.store) / MIB:5.2f} MiB, {steps:>7} steps: listens after {started:5.0f} ms; "
+          f"check {checked:5.0f} ms; a plain read {plain:4.1f} ms", flush=True)
+
+
+def start(server):
+    begun = time.perf_counter()
+    server.must_start()
+    spent = time.perf_counter() - begun
+    server.must_close()
+    return spent
+
+
+def check(server):
+    begun = time.perf_counter()
+    server.command("check")
+    return time.perf_counter() - begun
+
+
+def read(path):
+    begun = time.perf_counter()
+    with open(path, "rb", buffering=0) as file:
+        while file.read(MIB):
+            pass
+    return time.perf_counter() - begun
