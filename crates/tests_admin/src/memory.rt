@@ -2,23 +2,30 @@
 //! allocation fails.
 
 use crate::lines::{WORKED_REPLIES, worked_lines};
-use coord_admin::{CountDesk, Ended, ServeFault, serve};
+use coord_admin::{CountDesk, Desk, Ended, ServeFault, serve};
 use std::str;
 use std::test::Fail;
 
 const NO_MEMORY: &str = "{\"fault\":\"OutOfMemory\"}";
 
-/// What is shown where the order before it was not read.
+const ORDERED: &str = "{\"kind\":\"done\",\"step\":1}";
+
 const SHOWN_COUNTED: &str = "{\"accepted\":1,\"links\":[],\"nodes\":[],\"settled\":1}";
 
 const SHOWN_UNCOUNTED: &str = "{\"accepted\":0,\"links\":[],\"nodes\":[],\"settled\":0}";
 
-fn is_allowed(line: &str, reply: &str) -> bool {
-    line == reply || line == NO_MEMORY || (reply == SHOWN_COUNTED && line == SHOWN_UNCOUNTED)
+/// The reply of a line to which there was memory, where the desk counted the order or not.
+fn of_count(reply: &str, count: u64) -> &str {
+    match reply {
+        ORDERED if count == 0 => NO_MEMORY,
+        SHOWN_COUNTED if count == 0 => SHOWN_UNCOUNTED,
+        _ => reply,
+    }
 }
 
-/// Whether each line that was written is its reply, or tells that there was no memory.
-fn are_allowed(written: &[u8]) -> bool {
+/// Whether each line that was written is its reply, by how many orders the desk counted, or tells
+/// that there was no memory.
+fn are_allowed(written: &[u8], count: u64) -> bool {
     let Ok(text) = str::from_utf8(written) else {
         return false;
     };
@@ -27,11 +34,19 @@ fn are_allowed(written: &[u8]) -> bool {
         let Some(line) = lines.next() else {
             return false;
         };
-        if !is_allowed(line, reply) {
+        if line != of_count(reply, count) && line != NO_MEMORY {
             return false;
         }
     }
     lines.next().is_none()
+}
+
+/// How many orders a desk has counted.
+fn counted(mut desk: CountDesk) -> u64 {
+    match desk.show() {
+        Ok(view) => view.settled,
+        Err(_) => u64::MAX,
+    }
 }
 
 #[test]
@@ -41,8 +56,9 @@ fn each_reply_or_no_memory(rt: HostRuntime) -> Result<(), Fail> {
     // Room for all replies, so that no write is refused.
     let mut output = Vec::with_capacity(rt.alloc(), 512)?;
     let outcome = serve(rt.alloc(), &mut lines.as_slice(), &mut output, &mut desk);
-    let begun = outcome == Ok(Ended::Input) && are_allowed(output.as_slice());
-    let refused = outcome == Err(ServeFault::OutOfMemory) && output.is_empty();
+    let count = counted(desk);
+    let begun = outcome == Ok(Ended::Input) && are_allowed(output.as_slice(), count);
+    let refused = outcome == Err(ServeFault::OutOfMemory) && output.is_empty() && count == 0;
     assert!(rt; begun || refused);
     Ok(())
 }
