@@ -15,7 +15,7 @@ use std::{env, fs, io};
 type Run = (&'static str, Ending<'static>);
 
 /// A folder of its own for the files of a test.
-fn make_folder(rt: &HostRuntime, name: &str) -> io::Result<String> {
+pub(crate) fn make_folder(rt: &HostRuntime, name: &str) -> io::Result<String> {
     let folder = format!(in rt.alloc(); "{}/resetd_{name}", env::temp_dir(rt)?.as_str())?;
     let _ = fs::remove_dir_all(rt, &folder);
     fs::create_dir(rt, &folder)?;
@@ -45,7 +45,7 @@ fn first_wrong<S: Files<File = File> + Net + Threads + Wait + Clock + Sync + All
 }
 
 /// Two nodes of one group and their link.
-const PAIR: &[u8] = b"half = 32768\n\
+pub(crate) const PAIR: &[u8] = b"half = 32768\n\
 [[node]]\n\
 id = 1\n\
 group = 1\n\

@@ -9,3 +9,5 @@ mod drill;
 mod program;
 #[cfg(test)]
 mod scripts;
+#[cfg(test)]
+mod serving;

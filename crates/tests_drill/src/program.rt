@@ -1,7 +1,7 @@
 //! Runs of the program.
 
 use coord_commands::run;
-use std::alloc::AllocError;
+use std::alloc::{AllocError, Global};
 use std::fs::File;
 use std::io::Read;
 use std::net::Net;
@@ -13,24 +13,38 @@ use std::time::Clock;
 /// What a run of the program is to end with: its exit status, what it prints, and its fault line.
 pub(crate) type Ending<'a> = (u8, &'a str, &'a str);
 
-/// Whether a run of the program with these words, over a reader, ends so. Where memory runs out
-/// there is no answer.
-pub(crate) fn ends<S: Files<File = File> + Net + Threads + Wait + Clock + Sync + AllocGlobal, R: Read>(
-    rt: &S,
-    words: &str,
-    input: &mut R,
-    ending: Ending<'_>,
-) -> Result<bool, AllocError> {
-    let mut given = Vec::new(rt.alloc());
-    for word in words.split(' ') {
-        given.push(String::from_str(rt.alloc(), word)?)?;
+/// The words of a text, which one space each separates.
+pub(crate) fn words_of(alloc: Global, text: &str) -> Result<Vec<String>, AllocError> {
+    let mut words = Vec::new(alloc);
+    for word in text.split(' ') {
+        words.push(String::from_str(alloc, word)?)?;
     }
+    Ok(words)
+}
+
+/// What a run of the program with these words, over a reader, ended with: its exit status, what it
+/// printed, and its fault line. Where memory runs out there is no answer.
+pub(crate) fn ended<
+    S: Files<File = File> + Net + Threads + Wait + Clock + Sync + AllocGlobal,
+    R: Read,
+>(rt: &S, words: &str, input: &mut R) -> Result<(u8, Vec<u8>, Vec<u8>), AllocError> {
+    let given = words_of(rt.alloc(), words)?;
     let mut output = Vec::new(rt.alloc());
     let mut errors = Vec::new(rt.alloc());
     let status = run(rt, given.as_slice(), input, &mut output, &mut errors);
     if status == 4 {
         return Err(AllocError);
     }
+    Ok((status, output, errors))
+}
+
+/// Whether a run of the program with these words, over a reader, ends so. Where memory runs out
+/// there is no answer.
+pub(crate) fn ends<
+    S: Files<File = File> + Net + Threads + Wait + Clock + Sync + AllocGlobal,
+    R: Read,
+>(rt: &S, words: &str, input: &mut R, ending: Ending<'_>) -> Result<bool, AllocError> {
+    let (status, output, errors) = ended(rt, words, input)?;
     let (expected, printed, faults) = ending;
     Ok(
         status == expected
