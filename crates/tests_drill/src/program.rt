@@ -15,12 +15,10 @@ pub(crate) type Ending<'a> = (u8, &'a str, &'a str);
 
 /// Whether a run of the program with these words, over a reader, ends so. Where memory runs out
 /// there is no answer.
-pub(crate) fn ends<S: Files<File = File> + Net + Threads + Wait + Clock + Sync + AllocGlobal, R: Read>(
-    rt: &S,
-    words: &str,
-    input: &mut R,
-    ending: Ending<'_>,
-) -> Result<bool, AllocError> {
+pub(crate) fn ends<
+    S: Files<File = File> + Net + Threads + Wait + Clock + Sync + AllocGlobal,
+    R: Read,
+>(rt: &S, words: &str, input: &mut R, ending: Ending<'_>) -> Result<bool, AllocError> {
     let mut given = Vec::new(rt.alloc());
     for word in words.split(' ') {
         given.push(String::from_str(rt.alloc(), word)?)?;
