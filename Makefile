@@ -10,7 +10,7 @@ help:
 	@echo 'make build     proves every crate, and leaves the program at bin/resetd'
 	@echo 'make test      the gate: every proof from nothing, the must-fail edits, every test and the stored run'
 	@echo 'make refusals  tries the other wrong bodies, which the prover has to refuse (CRATE=NAME for one crate)'
-	@echo 'make bench     measures the drill on a ring of 64 nodes with chords, its parts, the store and the ledger'
+	@echo 'make bench     measures the drill on a ring of 64 nodes with chords, its parts, the store, the ledger, the engine and the server'
 	@echo 'make soak      kills a coordinator 200 times and looks for what was lost (ROUNDS=N for N times)'
 	@echo 'make sweep     refuses each allocation of every test and of the program in turn'
 	@echo 'make install   copies bin/resetd and its manual page below PREFIX (/usr/local); make uninstall takes them away'
@@ -42,6 +42,8 @@ bench: build
 	bench/measures.sh
 	bench/store.sh
 	bench/ledger.sh
+	bench/engine.sh
+	bench/serve.sh bin/resetd
 
 sweep:
 	bench/refused_allocations $$(sed -n 's/^\([a-z][a-z0-9_]*\).*/\1/p' crates.txt)

@@ -13,17 +13,17 @@ scratch=$(mktemp -d ${2:+-p "$2"})
 trap 'rm -rf "$scratch"' EXIT
 
 crate=$scratch/crates/engine_bench
-mkdir -p "$crate/src" "$crate/proofs/measuring/time"
+mkdir -p "$crate/src" "$crate/proofs/parts/time_part"
 cp "$here/HANDLES" "$scratch"
 for name in coord_disk coord_journal coord_types coord_link coord_node coord_tables coord_world coord_check coord_batch coord_codec coord_store coord_ledger coord_engine; do
-  cp -r "$here/crates/$name" "$scratch/crates/$name"
+  tar -C "$here/crates" --exclude="$name/out/incremental" -cf - "$name" | tar -C "$scratch/crates" -xf -
   grep "^$name:" "$here/crates.txt" >> "$scratch/crates.txt"
 done
 echo 'engine_bench: coord_disk coord_types coord_store coord_ledger coord_engine crossbeam_channel' >> "$scratch/crates.txt"
-for name in main callers engines fault measuring meter orders timed wave; do
+for name in main callers engines meter orders parts timed wave; do
   cp "$here/bench/engine/$name.rt.txt" "$crate/src/$name.rt"
 done
-cp "$here/bench/engine/Invariants.antt.txt" "$crate/proofs/measuring/time/Invariants.antt"
+cp "$here/bench/engine/Invariants.antt.txt" "$crate/proofs/parts/time_part/Invariants.antt"
 
 (cd "$crate" && "${RT:-rt}" run > "$scratch/build.txt" 2>&1) || { tail -n 40 "$scratch/build.txt"; exit 1; }
 for ((round = 0; round < rounds; round++)); do

@@ -13,7 +13,7 @@ use Rattle.coord_world.specs.protocol.NumberedWorld.{World, state, is_linked}
 use Rattle.coord_world.specs.protocol.Ranges.{InRange}
 use Rattle.coord_check.specs.declared.violation.Violation.{Violation}
 use Rattle.coord_check.specs.Faults.{first, faults_from, letter_faults, link_faults, link_letters, nodes_from}
-use Rattle.coord_check.proofs.FirstFault.{first_here, first_further}
+use Rattle.coord_check.proofs.FirstFault.{first_further}
 use Rattle.coord_check.proofs.LegalWithoutFaults.{is_node}
 
 -- numbers that rise, none of them below u
@@ -113,9 +113,6 @@ module _ (w : World) (a : ℕ) where
   -- a neighbour without a fault is passed, and the first fault is met
   pub passed_by : (rest : NodeSet) (b : ℕ) → first_member rest ≡ Some b → first (told_above b) ≡ None → first (flat_map told_above (items (remove rest b))) ≡ first (flat_map told_above (items rest))
   passed_by rest b is none = sym (ap (λ xs. first (flat_map told_above xs)) (items-first rest b is) ∙ first_further (told_above b) (flat_map told_above (items (remove rest b))) none)
-
-  pub met_by : (rest : NodeSet) (b : ℕ) (v : Violation) → first_member rest ≡ Some b → first (told_above b) ≡ Some v → first (flat_map told_above (items rest)) ≡ Some v
-  met_by rest b v is some = ap (λ xs. first (flat_map told_above xs)) (items-first rest b is) ∙ first_here (told_above b) (flat_map told_above (items (remove rest b))) v some
 
   module _ (range : InRange w) where
     near : NodeSet

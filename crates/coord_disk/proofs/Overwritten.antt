@@ -101,16 +101,6 @@ wrote at bytes disk = record {
   elsewhere = λ i lt out. elsewhere disk.read bytes at i lt out;
 }
 
--- where nothing is written
-pub unwritten : (at : ℕ) (bytes : List ℕ) (disk : Present) → Writes at bytes disk disk
-unwritten at bytes disk = record {
-  synced = refl;
-  written = λ i out. (either_false (nat_le at i && nat_lt i (at + length bytes)) (is_within disk.written i) out).1;
-  no_shorter = omega arith;
-  no_longer = no_shorter disk.read bytes at;
-  elsewhere = λ i lt out. refl;
-}
-
 -- as it reads it stays an image
 pub wrote_reads : (at : ℕ) (bytes : List ℕ) (disk : Present) → IsImage disk disk.read → IsImage (written_at at bytes disk) (written_at at bytes disk).read
 wrote_reads at bytes disk image = record {

@@ -122,9 +122,6 @@ module _ (l new : LedgerState MemDisk) (claims : List Claim) (held : IsHeld l cl
   pub nothing_told : (holds : Bool) → FlownTo l flown.Nothing new → Flies (drill_of l holds) [] (drill_of new holds)
   nothing_told holds to = subst (λ m. Flies (drill_of l holds) [] (drill_of m holds)) (sym to.1) (stays (drill_of l holds) (seen holds ∙ to.0))
 
-  pub nothing_held : FlownTo l flown.Nothing new → IsHeld new claims
-  nothing_held to = subst (λ m. IsHeld m claims) (sym to.1) held
-
   back_told : (holds : Bool) (answer : Answer) (log : Log) (doubt : Option ℕ) → IsBack l log doubt new → IsOneOf answer (to_commit New) → after_commit (drill_of l holds) answer ≡ state log doubt holds
       → Flies (drill_of l holds) (commit_lines l.log answer) (drill_of new holds)
   back_told holds answer log doubt back allowed after =

@@ -1,7 +1,7 @@
 -- What a step that is handed in makes of a ledger, what is printed of it, and the tickets then.
-use Rattle.std.proofs.Common.{◌≡◌, ◌≢◌, ℕ, ◌<◌, ◌≤◌, Bool, true, false, List, [], ◌∷◌, ◌++◌, drop, Result, Ok, Err, refl, sym, ap, ◌∙◌, subst, arith}
+use Rattle.std.proofs.Common.{◌≡◌, ℕ, ◌<◌, ◌≤◌, Bool, true, false, List, [], ◌∷◌, ◌++◌, drop, Result, Ok, Err, refl, sym, ap, ◌∙◌, subst, arith}
 use Rattle.std.proofs.lemmas.List.{drop-append-le, length-append, take-append-le}
-use Rattle.std.proofs.lemmas.Result.{MatchResult-at_err, MatchResult-at_ok}
+use Rattle.std.proofs.lemmas.Result.{MatchResult-at_ok}
 use Rattle.std.specs.Prelude.{is_some}
 use Rattle.std.specs.Result.{IsOkAnd, MatchResult}
 use Rattle.coord_disk.specs.declared.memory.MemDisk.{MemDisk}
@@ -61,17 +61,6 @@ module _ (l new : LedgerState MemDisk) (x : Step) (r : Result Claim Refusal)
           (kept, judged, both.0, both.1)
       by_verdict (Err why) judged = let clash : Ok t ≡ Err why = sym is ∙ refused why judged in absurd cc
 
-  pub refused_to : (e : Refusal) → r ≡ Err e → e ≢ OutOfMemory → new ≡ l → HandedTo l x (Refused e) new
-  refused_to e is no_want same = by_verdict (said l x) refl
-    where
-      by_verdict : (v : Result Verdict Refusal) → said l x ≡ v → HandedTo l x (Refused e) new
-      by_verdict (Ok (Fresh kind)) judged = absurd (no_want (MatchResult-at_err (λ t. (t ≡ claimed x (reply (front_world l.log) x)) × (new ≡ with_accepted l x)) (λ e. e ≡ OutOfMemory) e is (fresh kind judged)))
-      by_verdict (Ok (Repeat kept)) judged = absurd (subst (λ q. IsOkAnd q (λ t. (t ≡ claimed x kept) × (new ≡ l))) is (repeated kept judged))
-      by_verdict (Err why) judged =
-          let both : Err e ≡ Err why = sym is ∙ refused why judged in
-          let one : why ≡ e = cc in
-          (judged ∙ ap Err one, same)
-
 -- ---- tickets
 
 claims_push : (w : World) (ss : List Step) (x : Step) → claims_of w (ss ++ x ∷ []) ≡ claims_of w ss ++ claimed x (reply (fold w ss) x) ∷ []
@@ -96,12 +85,6 @@ accepted_held l new claims x t held to =
           ∙ ap (λ ss. claims_of (fold l.log.base ss) (drop n (trail ++ x ∷ []))) (sym (take-append-le n trail (x ∷ []) held.within));
     } in
     subst (λ m. IsHeld m (claims ++ t ∷ [])) (sym to.3) is
-
-pub repeated_held : (l new : LedgerState MemDisk) (claims : List Claim) (x : Step) (t : Claim) → IsHeld l claims → HandedTo l x (Repeated t) new → IsHeld new claims
-repeated_held l new claims x t held to = subst (λ m. IsHeld m claims) (sym to.3) held
-
-pub refused_held : (l new : LedgerState MemDisk) (claims : List Claim) (x : Step) (e : Refusal) → IsHeld l claims → HandedTo l x (Refused e) new → IsHeld new claims
-refused_held l new claims x e held to = subst (λ m. IsHeld m claims) (sym to.1) held
 
 pub repeated_granted : (l new : LedgerState MemDisk) (x : Step) (t : Claim) → HandedTo l x (Repeated t) new → IsGranted new.log t
 repeated_granted l new x t to =

@@ -1,6 +1,6 @@
 -- Answers at some moment.
-use Rattle.std.proofs.Common.{Option, Some, None, Result, Ok, Err}
-use Rattle.std.specs.Prelude.{IfErr, IfNone, IfOk, IfSome}
+use Rattle.std.proofs.Common.{Result, Ok, Err}
+use Rattle.std.specs.Prelude.{IfErr, IfOk}
 use Rattle.coord_ledger.specs.machine.Consistent.{IsConsistentLog}
 use Rattle.coord_engine.specs.State.{GuardedState}
 use Rattle.coord_engine.specs.Threads.{AtSomeMoment}
@@ -16,13 +16,3 @@ module _ {D : Type 0} (g : GuardedState D) (is : IsConsistentLog g.ledger.log) w
   pub on_err : {T E : Type 0} (r : Result T E) (P : E → GuardedState D → Type 0) → IfErr r (λ e. P e g) → IfErr r (λ e. AtSomeMoment (P e))
   on_err (Ok x) P p = tt
   on_err (Err e) P p = then (P e) p
-
-  pub on_ok_some : {T E : Type 0} (r : Result (Option T) E) (P : T → GuardedState D → Type 0) → IfOk r (λ o. IfSome o (λ x. P x g)) → IfOk r (λ o. IfSome o (λ x. AtSomeMoment (P x)))
-  on_ok_some (Ok (Some x)) P p = then (P x) p
-  on_ok_some (Ok None) P p = tt
-  on_ok_some (Err e) P p = tt
-
-  pub on_ok_none : {T E : Type 0} (r : Result (Option T) E) (P : GuardedState D → Type 0) → IfOk r (λ o. IfNone o (P g)) → IfOk r (λ o. IfNone o (AtSomeMoment P))
-  on_ok_none (Ok (Some x)) P p = tt
-  on_ok_none (Ok None) P p = then P p
-  on_ok_none (Err e) P p = tt

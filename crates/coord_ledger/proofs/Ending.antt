@@ -11,7 +11,7 @@ use Rattle.coord_ledger.specs.declared.mark.Mark.{Mark}
 use Rattle.coord_ledger.specs.declared.mark.Mark.TheVariants.{New, Good, Torn}
 use Rattle.coord_ledger.specs.declared.release.Release.{Release}
 use Rattle.coord_ledger.specs.ledger.Calls.{LedgerGives, releases_in, taken_back}
-use Rattle.coord_ledger.specs.ledger.Driver.{brought_home, disk_with}
+use Rattle.coord_ledger.specs.ledger.Driver.{brought_home}
 use Rattle.coord_ledger.specs.ledger.Follows.{Drives, Follows, Held, HoldsFlight, ImagesGive, flight_out}
 use Rattle.coord_ledger.specs.ledger.State.{FlightState, LedgerState, started}
 use Rattle.coord_ledger.specs.machine.After.{after_finish, finished}
@@ -28,26 +28,6 @@ use Rattle.coord_ledger.proofs.Safe.{finish_keeps_kept, prefix_from_images}
 use Rattle.coord_ledger.proofs.Signals.{signals_once}
 
 -- ---- the flight that was out comes back
-
--- its disk comes back with it
-pub brought_disk : {D : Type 0} (l : LedgerState D) (f : Option (FlightState D)) → (brought_home l f).disk ≡ disk_with l.disk f
-brought_disk l None = refl
-brought_disk {D} l (Some f) = by_mark f.mark
-  where
-    by_mark : (m : Mark) → (taken_back l (length f.steps) m f.disk).disk ≡ Some f.disk
-    by_mark New = refl
-    by_mark Good = refl
-    by_mark Torn = refl
-
--- and none is out then
-pub brought_out : {D : Type 0} (l : LedgerState D) (f : Option (FlightState D)) → HoldsFlight l f → (brought_home l f).out ≡ None
-brought_out l None home = home
-brought_out l (Some f) own = by_mark f.mark
-  where
-    by_mark : (m : Mark) → (taken_back l (length f.steps) m f.disk).out ≡ None
-    by_mark New = refl
-    by_mark Good = refl
-    by_mark Torn = refl
 
 -- with its store at home, a ledger is where the machine is
 record IsBack {D : Type 0} (l : LedgerState D) (t : Machine) : Type 0 where

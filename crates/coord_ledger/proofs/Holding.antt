@@ -95,20 +95,7 @@ module _ {D : Type 0} where
         torn_is = is.home.torn_is ∙ ap (doubted log) going;
       }
 
-  -- a flight comes back that was not committed
-  pub back_new : (log : Log) (kinds : List Kind) (front settled : World) (out any : ℕ) (doubt : Option ℕ) (kept : Kept D) (steps : List Step) (world : World) → IsLedger {D = D} log kinds front settled out doubt None → IsFlight steps world New kept
-      → world ≡ settled_world log → IsLedger log kinds front settled any doubt (Some kept)
-  back_new log kinds front settled out any doubt kept steps world is flight at = record {
-    consistent = is.consistent;
-    kinds_are = is.kinds_are;
-    front_is = is.front_is;
-    settled_is = is.settled_is;
-    doubt_within = is.doubt_within;
-    home = record { world_is = flight.world_is ∙ at; torn_is = flight.torn_is ∙ sym (ap (doubted log) is.away.going) };
-    away = tt;
-  }
-
-  -- one that was torn
+  -- a flight comes back that was torn
   pub back_torn : (log : Log) (kinds : List Kind) (front settled : World) (out any : ℕ) (doubt : Option ℕ) (kept : Kept D) (steps : List Step) (world : World) → IsLedger {D = D} log kinds front settled out doubt None → IsFlight steps world Torn kept
       → world ≡ settled_world log → out ≡ length steps → steps ≡ take (length steps) (pending log) → IsLedger log kinds front settled any (Some (length steps)) (Some kept)
   back_torn log kinds front settled out any doubt kept steps world is flight at size same =

@@ -1,5 +1,5 @@
 -- A flight that is the ledger's own, and how the ledger takes it back.
-use Rattle.std.proofs.Common.{◌≡◌, ◌≢◌, ℕ, ◌+◌, false, List, length, take, drop, Option, Some, None, is_some, refl, sym, ap, ◌∙◌, subst}
+use Rattle.std.proofs.Common.{◌≡◌, ℕ, ◌+◌, false, List, length, take, drop, Option, Some, None, is_some, refl, sym, ap, ◌∙◌, subst}
 use Rattle.coord_store.specs.Kept.{Kept}
 use Rattle.coord_types.specs.declared.steps.Kind.{Kind}
 use Rattle.coord_types.specs.declared.steps.Step.{Step}
@@ -7,12 +7,12 @@ use Rattle.coord_world.specs.protocol.Next.{fold}
 use Rattle.coord_world.specs.protocol.NumberedWorld.{World}
 use Rattle.coord_ledger.specs.code.Holding.{IsFlight, IsLedger, disk_at, out_of}
 use Rattle.coord_ledger.specs.declared.mark.Mark.{Mark}
-use Rattle.coord_ledger.specs.declared.mark.Mark.TheVariants.{New, Good, Torn}
+use Rattle.coord_ledger.specs.declared.mark.Mark.TheVariants.{Good, Torn}
 use Rattle.coord_ledger.specs.ledger.Calls.{with_out}
 use Rattle.coord_ledger.specs.ledger.Follows.{IsOut}
 use Rattle.coord_ledger.specs.ledger.State.{FlightState, LedgerState}
 use Rattle.coord_ledger.specs.machine.Log.{Log, pending, settled_count, with_settled}
-use Rattle.coord_ledger.proofs.Holding.{back_good, back_new, back_torn}
+use Rattle.coord_ledger.proofs.Holding.{back_good, back_torn}
 
 module _ {D : Type 0} where
   -- what a ledger and a flight are to contracts, of their parts
@@ -50,15 +50,6 @@ module _ {D : Type 0} where
     took_torn n size torn =
         subst (λ m. IsLedger log kinds front settled out (Some m) (Some kept)) (sym size) (back_torn log kinds front settled (length steps) out doubt kept steps world away (of_mark Torn torn) parts.world refl parts.steps)
 
-    -- neither committed nor torn
-    is_new : (m : Mark) → m ≢ Good → m ≢ Torn → m ≡ New
-    is_new New good torn = refl
-    is_new Good good torn = absurd (good refl)
-    is_new Torn good torn = absurd (torn refl)
-
-    pub took_new : mark ≢ Good → mark ≢ Torn → IsLedger log kinds front settled out doubt (Some kept)
-    took_new good torn = back_new log kinds front settled (length steps) out doubt kept steps world away (of_mark New (is_new mark good torn)) parts.world
-
     pub took_good : (n : ℕ) (later : World) → n ≡ length steps → mark ≡ Good → later ≡ fold world steps → IsLedger (with_settled log n) kinds front later out doubt (Some kept)
     took_good n later size good led =
         subst (λ m. IsLedger (with_settled log m) kinds front later out doubt (Some kept)) (sym size) (back_good log kinds front settled later (length steps) out doubt kept steps world away (of_mark Good good) parts.world refl parts.steps led)
@@ -80,6 +71,3 @@ module _ {D : Type 0} where
 
     pub own_steps : length steps ≡ out → IsOut (ledger_of log out doubt store) (flight_of first steps world mark kept) → steps ≡ take out (drop log.settled log.trail)
     own_steps size own = own.steps ∙ ap (λ n. take n (pending log)) size
-
-    pub own_world : IsOut (ledger_of log out doubt store) (flight_of first steps world mark kept) → world ≡ settled
-    own_world own = own.world ∙ sym is.settled_is

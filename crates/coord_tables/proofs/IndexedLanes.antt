@@ -1,7 +1,7 @@
 -- A table of places is that of a list, and stays so where a lane is put in place of another.
 use Rattle.std.proofs.Common.{◌≡◌, ◌≢◌, ℕ, zero, suc, ◌+◌, ◌<◌, ◌≤◌, true, false, not, T, List, [], ◌∷◌, ◌++◌, Option, Some, None, length, take, set, get_or, slice_get, slice_index, cond, eqb, refl, sym, ap, ◌∙◌, subst, arith, is_some, IsSome, get_or-set_same, get_or-set_other}
 use Rattle.std.proofs.lemmas.Bool.Decides.{nat_tests}
-use Rattle.std.proofs.lemmas.List.{length-set, take_more, take_all}
+use Rattle.std.proofs.lemmas.List.{length-set, take_more}
 use Rattle.std.proofs.lemmas.Option.{slice_get_within, get_or_from_slice_get}
 use Rattle.std.specs.Ordering.{eq_by_cmp, is_lt, ordering_reverse}
 use Rattle.std.specs.Cmp.{tied_itself}
@@ -11,7 +11,7 @@ use Rattle.coord_types.proofs.Tables.{get-from_sorted}
 use Rattle.coord_types.specs.StepRanges.{IsNode}
 use Rattle.coord_link.specs.LaneMachine.{Lane}
 use Rattle.coord_tables.specs.Pairs.{pair_cmp, pair_cmp_total}
-use Rattle.coord_tables.specs.Places.{pair_place, noted_place, HasKeyAt, IsIndexOfFirst, IsIndexOf, IsIndexed}
+use Rattle.coord_tables.specs.Places.{pair_place, noted_place, HasKeyAt, IsIndexOfFirst, IsIndexed}
 use Rattle.coord_tables.specs.Place.{IsPlaceOf}
 use Rattle.coord_tables.proofs.Cases.{both, by_test}
 use Rattle.coord_tables.proofs.SortedEntries.{below_each, found, is_less}
@@ -70,15 +70,6 @@ one_noted n places es a b x is_a is_b here index = record {
     within : pair_place a b < length places
     within = omega (arith, pair_within a b is_a is_b, index.long)
 
--- all are noted
-pub all_noted : (places : List ℕ) (es : Entries) → IsIndexOfFirst (length es) places es → IsIndexOf places es
-all_noted places es index = record {
-  most = omega (arith, index.long);
-  long = λ k some. index.long;
-  there = index.there;
-  absent = λ u v p q is. ap (find pair_cmp (u, v)) (sym (take_all (length es) es (omega arith))) ∙ index.absent u v p q is;
-}
-
 pub noted : (n i : ℕ) → noted_place n ≡ Some i → n ≡ suc i
 noted zero i is = cc
 noted (suc n) i is = let same : n ≡ i = cc in ap suc same
@@ -95,9 +86,6 @@ module _ (es : Entries) (places : List ℕ) (indexed : IsIndexed es places) wher
 
     pub nothing_noted : noted_place (slice_index places (pair_place u v)) ≡ None → get {o = pair_cmp_total} (from_sorted es) (u, v) ≡ None
     nothing_noted is = get-from_sorted pair_cmp_total es (u, v) indexed.sorted ∙ indexed.index.absent u v is_u is_v (none_noted _ is)
-
-    pub places_there : (i : ℕ) → noted_place (slice_index places (pair_place u v)) ≡ Some i → length places ≡ 4096
-    places_there i is = indexed.index.long (pair_place u v) (omega (arith, noted _ i is))
 
   -- what stands at a noted place is found
   pub get_there : (k : ℕ × ℕ) (i : ℕ) (e : (ℕ × ℕ) × Lane) → HasKeyAt es i k → e ≡ get_or es i e → get {o = pair_cmp_total} (from_sorted es) k ≡ Some e.1

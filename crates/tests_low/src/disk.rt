@@ -52,24 +52,30 @@ fn a_crash_leaves_what_was_chosen(rt: HostRuntime) -> Result<(), Fail> {
 
 // A disk with four synced bytes, of which a crash fills with 7 what is written later.
 fn synced(alloc: Global) -> Result<MemDisk, AllocError> {
+    let filler = [7].to_vec(alloc)?;
     let mut disk = MemDisk::new(alloc);
-    disk.choose(Choice::Filled([7].to_vec(alloc)?));
-    written(&mut disk, 0, &[1, 2, 3, 4])?;
-    match disk.sync() {
-        Ok(()) => Ok(disk),
-        Err(DiskFault) => Err(AllocError),
+    disk.choose(Choice::Filled(filler));
+    match (written(&mut disk, 0, &[1, 2, 3, 4]), disk.sync()) {
+        (Ok(()), Ok(())) => Ok(disk),
+        _ => {
+            drop(disk);
+            Err(AllocError)
+        }
     }
 }
 
 // Whether a write that was synced is there after a crash, and all of it after another.
 fn outlives(alloc: Global) -> Result<bool, AllocError> {
     let mut disk = synced(alloc)?;
-    written(&mut disk, 1, &[5])?;
-    written(&mut disk, 9, &[])?;
+    let first = written(&mut disk, 1, &[5]);
+    let second = written(&mut disk, 9, &[]);
     let read = disk.bytes() == [1, 5, 3, 4].as_slice();
     let disk = disk.crash();
     let once = disk.bytes() == [1, 7, 3, 4].as_slice();
-    Ok(read && once && disk.crash().bytes() == [1, 7, 3, 4].as_slice())
+    let twice = disk.crash().bytes() == [1, 7, 3, 4].as_slice();
+    first?;
+    second?;
+    Ok(read && once && twice)
 }
 
 #[test]
@@ -95,15 +101,16 @@ fn a_read_gives_what_was_written(rt: HostRuntime) -> Result<(), Fail> {
 // Whether two calls pass, and each one after them fails and changes nothing.
 fn fuse_blows(alloc: Global) -> Result<bool, AllocError> {
     let mut disk = FuseDisk::new(MemDisk::new(alloc), 2);
-    written(&mut disk, 0, &[1])?;
+    let first = written(&mut disk, 0, &[1]);
     let passed = disk.len() == Ok(1);
     let failed = disk.write_at(0, &[2]) == Err(DiskFault)
         && disk.sync() == Err(DiskFault)
         && disk.len() == Err(DiskFault)
         && disk.read(0, &mut []) == Err(DiskFault);
     let counted = disk.calls() == 6;
-    let inner = disk.crash().into_inner();
-    Ok(passed && failed && counted && inner.bytes().is_empty())
+    let is_empty = disk.crash().into_inner().bytes().is_empty();
+    first?;
+    Ok(passed && failed && counted && is_empty)
 }
 
 #[test]
@@ -115,14 +122,19 @@ fn a_fuse_fails_each_call_from_one_on(rt: HostRuntime) -> Result<(), Fail> {
 // Whether one call fails and changes nothing, and the others pass.
 fn blip_fails(alloc: Global) -> Result<bool, AllocError> {
     let mut disk = BlipDisk::new(MemDisk::new(alloc), 1);
-    written(&mut disk, 0, &[1])?;
+    let first = written(&mut disk, 0, &[1]);
     let failed = disk.write_at(0, &[2]) == Err(DiskFault);
-    written(&mut disk, 1, &[3])?;
-    let is_synced = disk.sync().is_ok();
+    let second = written(&mut disk, 1, &[3]);
+    let last = disk.sync();
     let passed = disk.len() == Ok(2) && disk.read(0, &mut []) == Ok(());
     let counted = disk.calls() == 6;
     let is_left = disk.crash().into_inner().bytes() == [1, 3].as_slice();
-    Ok(failed && is_synced && passed && counted && is_left)
+    first?;
+    second?;
+    if last.is_err() {
+        return Err(AllocError);
+    }
+    Ok(failed && passed && counted && is_left)
 }
 
 #[test]
@@ -131,18 +143,45 @@ fn a_blip_fails_one_call(rt: HostRuntime) -> Result<(), Fail> {
     Ok(())
 }
 
+// A device in memory whose syncs wait at a gate with these flags.
+fn gated(
+    alloc: Global,
+    entered: &Arc<AtomicBool>,
+    answered: &Arc<AtomicBool>,
+) -> Result<GateDisk<MemDisk>, AllocError> {
+    let entered = Arc::try_clone(entered)?;
+    let answered = Arc::try_clone(answered)?;
+    Ok(GateDisk::new(MemDisk::new(alloc), entered, answered))
+}
+
 // Whether a sync says that it came, passes where the gate is open, and else fails and changes nothing.
+fn waits(
+    alloc: Global,
+    entered: &Arc<AtomicBool>,
+    answered: &Arc<AtomicBool>,
+    is_open: bool,
+) -> Result<bool, Fail> {
+    let mut disk = gated(alloc, entered, answered)?;
+    let written = disk.write_at(0, &[1]);
+    let came_early = entered.load(Ordering::SeqCst);
+    let passed = disk.sync();
+    let came = entered.load(Ordering::SeqCst);
+    let synced = disk.crash().into_inner().bytes() == [1].as_slice();
+    written?;
+    if is_open {
+        // Only want of memory is a fault here.
+        passed?;
+    }
+    Ok(!came_early && came && passed.is_ok() == is_open && synced == is_open)
+}
+
 fn waits_at_a_gate(alloc: Global, is_open: bool) -> Result<bool, Fail> {
     let entered = Arc::new(alloc, AtomicBool::new(false))?;
     let answered = Arc::new(alloc, AtomicBool::new(is_open))?;
-    let inner = MemDisk::new(alloc);
-    let mut disk = GateDisk::new(inner, Arc::try_clone(&entered)?, Arc::try_clone(&answered)?);
-    disk.write_at(0, &[1])?;
-    let came_early = entered.load(Ordering::SeqCst);
-    let passed = disk.sync().is_ok();
-    let came = entered.load(Ordering::SeqCst);
-    let synced = disk.crash().into_inner().bytes() == [1].as_slice();
-    Ok(!came_early && came && passed == is_open && synced == is_open)
+    let waits = waits(alloc, &entered, &answered, is_open);
+    drop(entered);
+    drop(answered);
+    waits
 }
 
 #[test]
@@ -151,9 +190,8 @@ fn a_sync_waits_at_a_gate(rt: HostRuntime) -> Result<(), Fail> {
     Ok(())
 }
 
-// Whether a file is made, and read as it was written, while no other process may open it for writing.
-fn is_a_disk(rt: &HostRuntime, path: &str) -> Result<bool, Fail> {
-    let mut disk = FileDisk::open(rt, path)?;
+// Whether an empty file is read as it was written, and neither read nor written past its end.
+fn holds_what_is_written(disk: &mut FileDisk) -> Result<bool, DiskFault> {
     let is_empty = disk.len() == Ok(0);
     disk.write_at(2, &[7, 8])?;
     disk.sync()?;
@@ -163,20 +201,40 @@ fn is_a_disk(rt: &HostRuntime, path: &str) -> Result<bool, Fail> {
     let past_the_end = disk.read(1, &mut buf) == Err(DiskFault)
         && disk.write_at(1 << 63, &[1]) == Err(DiskFault)
         && disk.len() == Ok(4);
+    Ok(is_empty && is_written && past_the_end)
+}
+
+// Whether a file of four bytes that was opened to read is read, and a write fails.
+fn is_read_only(reader: &mut FileDisk) -> bool {
+    let is_read = reader.len() == Ok(4) && reader.read(0, &mut [9u8; 4]) == Ok(());
+    is_read && reader.write_at(0, &[1]) == Err(DiskFault)
+}
+
+// Whether others may open the file of a disk to read alone, and one of them to write once the disk is closed.
+fn is_shared(rt: &HostRuntime, path: &str, disk: FileDisk) -> Result<bool, DiskFault> {
+    let mut disk = disk;
     let is_locked = FileDisk::open(rt, path).is_err();
-    let mut reader = FileDisk::open_to_read(rt, path)?;
-    let is_read = reader.len() == Ok(4) && reader.read(0, &mut buf) == Ok(());
-    let is_kept = reader.write_at(0, &[1]) == Err(DiskFault) && disk.len() == Ok(4);
-    drop(disk);
-    Ok(
-        is_empty
-            && is_written
-            && past_the_end
-            && is_locked
-            && is_read
-            && is_kept
-            && FileDisk::open(rt, path).is_ok(),
-    )
+    match FileDisk::open_to_read(rt, path) {
+        Ok(mut reader) => {
+            let is_kept = is_read_only(&mut reader) && disk.len() == Ok(4);
+            drop(disk);
+            let is_free = FileDisk::open(rt, path).is_ok();
+            drop(reader);
+            Ok(is_locked && is_kept && is_free)
+        }
+        Err(fault) => {
+            drop(disk);
+            Err(fault)
+        }
+    }
+}
+
+// Whether a file is made, and read as it was written, while no other process may open it for writing.
+fn is_a_disk(rt: &HostRuntime, path: &str) -> Result<bool, Fail> {
+    let mut disk = FileDisk::open(rt, path)?;
+    let held = holds_what_is_written(&mut disk);
+    let shared = is_shared(rt, path, disk);
+    Ok(held? && shared?)
 }
 
 #[test]

@@ -30,14 +30,23 @@ fn stays_legal(world: &mut World, step: &Step) -> Result<bool, AllocError>
     Ok(check(world).is_none())
 }
 
+/// The same of steps one after the other.
+fn all_stay_legal(world: &mut World, steps: &[Step]) -> Result<bool, AllocError>
+    requires { Legal world.old }
+{
+    let mut are_legal = true;
+    for step in steps {
+        are_legal = stays_legal(world, step)? && are_legal;
+    }
+    Ok(are_legal)
+}
+
 /// Two nodes that are linked, one that is reset, and the other one that takes its Abort.
-fn reset_has_no_fault(alloc: Global) -> Result<bool, AllocError> {
-    let mut world = World::empty(alloc);
-    let is_legal_at_first = check(&world).is_none();
+fn steps_of_a_reset() -> [Step; 5] {
     let client = Client::new(1).unwrap();
     let group = Group::new(1).unwrap();
     let (one, two) = (id(1), id(2));
-    let steps = [
+    [
         Step::Order(client, 1, Command::Add(one, group)),
         Step::Order(client, 2, Command::Add(two, group)),
         Step::Order(client, 3, Command::Join(one, two)),
@@ -49,12 +58,15 @@ fn reset_has_no_fault(alloc: Global) -> Result<bool, AllocError> {
             number: 1,
             msg: Msg::Abort,
         }),
-    ];
-    let mut are_legal = is_legal_at_first;
-    for step in &steps {
-        are_legal = stays_legal(&mut world, step)? && are_legal;
-    }
-    Ok(are_legal)
+    ]
+}
+
+fn reset_has_no_fault(alloc: Global) -> Result<bool, AllocError> {
+    let mut world = World::empty(alloc);
+    let is_legal_at_first = check(&world).is_none();
+    let stays_legal = all_stay_legal(&mut world, &steps_of_a_reset());
+    drop(world);
+    Ok(is_legal_at_first && stays_legal?)
 }
 
 #[test]

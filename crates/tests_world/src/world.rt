@@ -83,44 +83,69 @@ fn sends_again(world: &World, outputs: &[Output]) -> Result<bool, AllocError> {
     Ok(world.resend()?.as_slice() == outputs)
 }
 
+/// Two nodes are added and linked, and a reset is asked for at the first.
+fn ask(world: &mut World) -> Result<(), AllocError>
+    requires { Legal world.old }
+    ensures { Legal world.new }
+{
+    let _ = takes(world, &order(1, Command::Add(id(1), group())))?;
+    let _ = takes(world, &order(2, Command::Add(id(2), group())))?;
+    let _ = takes(world, &order(3, Command::Join(id(1), id(2))))?;
+    let _ = takes(world, &order(4, Command::Reset(id(1))))?;
+    Ok(())
+}
+
 /// Two linked nodes, of which the first was asked for a reset.
 fn asked(alloc: Global) -> Result<World, AllocError>
     ensures { IfOk result Legal }
 {
     let mut world = World::empty(alloc);
-    let _ = takes(&mut world, &order(1, Command::Add(id(1), group())))?;
-    let _ = takes(&mut world, &order(2, Command::Add(id(2), group())))?;
-    let _ = takes(&mut world, &order(3, Command::Join(id(1), id(2))))?;
-    let _ = takes(&mut world, &order(4, Command::Reset(id(1))))?;
-    Ok(world)
+    match ask(&mut world) {
+        Ok(()) => Ok(world),
+        Err(fault) => {
+            drop(world);
+            Err(fault)
+        }
+    }
 }
 
-/// Whether the reset's Abort is taken, answered by an Ack, and both are sent again.
-fn goes_out(alloc: Global) -> Result<bool, AllocError> {
-    let mut world = asked(alloc)?;
+/// Whether the Abort of the world of `asked` is taken, answered by an Ack, and both are sent again.
+fn is_answered(world: &mut World) -> Result<bool, AllocError>
+    requires { Legal world.old }
+{
     let abort = packet(true, 1, Msg::Abort);
     let came = Output::Receipted(receipt(abort));
     let answer = Output::Sent(packet(false, 1, Msg::Ack));
-    let took = gives(&mut world, &Step::Take(abort), Kind::Taken, &[came, answer])?;
-    Ok(took && sends_again(&world, &[Output::Sent(abort), came, answer])?)
+    let took = gives(world, &Step::Take(abort), Kind::Taken, &[came, answer])?;
+    Ok(took && sends_again(world, &[Output::Sent(abort), came, answer])?)
 }
 
-/// Whether the reset finishes with the Ack, and the Ready is sent once the Abort was cleared.
-fn comes_back(alloc: Global) -> Result<bool, AllocError> {
+fn goes_out(alloc: Global) -> Result<bool, AllocError> {
     let mut world = asked(alloc)?;
+    let answered = is_answered(&mut world);
+    drop(world);
+    answered
+}
+
+/// Whether its reset finishes with the Ack, and the Ready is sent once the Abort was cleared.
+fn is_finished(world: &mut World) -> Result<bool, AllocError>
+    requires { Legal world.old }
+{
     let abort = packet(true, 1, Msg::Abort);
     let ack = packet(false, 1, Msg::Ack);
-    let _ = takes(&mut world, &Step::Take(abort))?;
+    let _ = takes(world, &Step::Take(abort))?;
     let finished = [Output::Receipted(receipt(ack)), Output::Signalled(id(1), 1)];
-    let took = gives(&mut world, &Step::Take(ack), Kind::Taken, &finished)?;
+    let took = gives(world, &Step::Take(ack), Kind::Taken, &finished)?;
     let ready = [Output::Sent(packet(true, 2, Msg::Ready))];
-    let cleared = gives(
-        &mut world,
-        &Step::Clear(receipt(abort)),
-        Kind::Cleared,
-        &ready,
-    )?;
+    let cleared = gives(world, &Step::Clear(receipt(abort)), Kind::Cleared, &ready)?;
     Ok(took && cleared)
+}
+
+fn comes_back(alloc: Global) -> Result<bool, AllocError> {
+    let mut world = asked(alloc)?;
+    let finished = is_finished(&mut world);
+    drop(world);
+    finished
 }
 
 #[test]
@@ -164,14 +189,31 @@ fn is_asked(world: &World) -> bool {
         && world.last(client()) == Some(last)
 }
 
+/// Whether this is the same world as the other one, until it takes a step.
+fn is_same_at_first(copy: &mut World, world: &World) -> Result<bool, AllocError>
+    requires { Legal copy.old }
+{
+    let was_same = *copy == *world;
+    let _ = takes(copy, &Step::Take(packet(true, 1, Msg::Abort)))?;
+    Ok(was_same && *copy != *world)
+}
+
+/// Whether it is so of a copy of such a world.
+fn has_copy(alloc: Global, world: &World) -> Result<bool, AllocError> {
+    let mut copy = asked(alloc)?.copy()?;
+    let was_same = is_same_at_first(&mut copy, world);
+    drop(copy);
+    was_same
+}
+
 /// Whether a world is read as its steps made it, and a copy of it is the same world, until that
 /// takes a step.
 fn is_copied(alloc: Global) -> Result<bool, AllocError> {
     let world = asked(alloc)?;
-    let mut copy = asked(alloc)?.copy()?;
-    let was_same = copy == world;
-    let _ = takes(&mut copy, &Step::Take(packet(true, 1, Msg::Abort)))?;
-    Ok(is_asked(&world) && was_same && copy != world)
+    let is_asked = is_asked(&world);
+    let copied = has_copy(alloc, &world);
+    drop(world);
+    Ok(copied? && is_asked)
 }
 
 /// Whether the nodes, lanes and orders of a world come back from its rows.
@@ -199,36 +241,51 @@ fn is_exhausted(alloc: Global) -> Result<bool, Fail> {
     Ok(verdict == Err(Refusal::Exhausted))
 }
 
-/// 64 nodes in a ring, each linked with the next one and the one after that.
-fn ring(alloc: Global) -> Result<World, AllocError>
-    ensures { IfOk result Legal }
+/// 64 nodes are added.
+fn add_all(world: &mut World) -> Result<(), AllocError>
+    requires { Legal world.old }
+    ensures { Legal world.new }
 {
-    let mut world = World::empty(alloc);
     for number in 1..=64u8 {
         let _ = takes(
-            &mut world,
+            world,
             &order(number as u64, Command::Add(id(number), group())),
         )?;
     }
+    Ok(())
+}
+
+/// Each of them is linked with the next one and the one after that, round in a ring.
+fn link_all(world: &mut World) -> Result<(), AllocError>
+    requires { Legal world.old }
+    ensures { Legal world.new }
+{
     for number in 0..64u8 {
         let a = id(number + 1);
         let next = id((number + 1) % 64 + 1);
-        let orders = 64 + 2 * number as u64;
-        let _ = takes(&mut world, &order(orders + 1, Command::Join(a, next)))?;
         let next_but_one = id((number + 2) % 64 + 1);
-        let _ = takes(
-            &mut world,
-            &order(orders + 2, Command::Join(a, next_but_one)),
-        )?;
+        let orders = 64 + 2 * number as u64;
+        let _ = takes(world, &order(orders + 1, Command::Join(a, next)))?;
+        let _ = takes(world, &order(orders + 2, Command::Join(a, next_but_one)))?;
     }
-    Ok(world)
+    Ok(())
 }
 
 /// Whether a ring with as many links as a world can have refuses one more.
-fn is_full(alloc: Global) -> Result<bool, AllocError> {
-    let ring = ring(alloc)?;
-    let verdict = ring.judge(&ring, &order(193, Command::Join(id(1), id(4))));
+fn refuses_a_link(world: &mut World) -> Result<bool, AllocError>
+    requires { Legal world.old }
+{
+    add_all(world)?;
+    link_all(world)?;
+    let verdict = world.judge(world, &order(193, Command::Join(id(1), id(4))));
     Ok(verdict == Err(Refusal::LinksFull))
+}
+
+fn is_full(alloc: Global) -> Result<bool, AllocError> {
+    let mut world = World::empty(alloc);
+    let refused = refuses_a_link(&mut world);
+    drop(world);
+    refused
 }
 
 #[test]

@@ -1,5 +1,5 @@
 -- A link that is dropped keeps a world sound.
-use Rattle.std.proofs.Common.{◌≡◌, ◌≢◌, ℕ, true, false, ◌&&◌, Option, Some, None, cond, eqb, refl, sym, ap, ◌∙◌, subst, arith}
+use Rattle.std.proofs.Common.{◌≡◌, ◌≢◌, ℕ, true, false, ◌&&◌, Option, Some, None, refl, sym, ap, ◌∙◌, subst, arith}
 use Rattle.std.proofs.lemmas.Bool.Decides.{nat_tests}
 use Rattle.coord_types.specs.NodeState.{NodeState}
 use Rattle.coord_types.specs.NodeSet as set
@@ -137,10 +137,6 @@ module _ (w : Ideal) (a b : ℕ) (with_b : w.linked a b ≡ true) (sound : Sound
   both_ok : LegalLinks (dropped w a b)
   both_ok = links_kept one_end b db one_ok.mirrored one_ok.apart (λ x y p q with_y. one_ok.links x y with_y)
       (λ y with_y. second.elsewhere (link one_end b y) y (λ same. absurd (grind (arith, nat_tests))) (in_near b y with_y) (ap (λ r. end_of r y) row_b) (one_ok.links b y with_y))
-
-  -- the states at the end
-  row_is : (x : ℕ) → (dropped w a b).state x ≡ cond (eqb x b) db.state (cond (eqb x a) da.state (w.state x))
-  row_is x = refl
 
   -- each node is legal
   nodes_ok : (x : ℕ) → SoundNode ((dropped w a b).state x)

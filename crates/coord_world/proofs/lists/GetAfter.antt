@@ -1,10 +1,9 @@
 -- What is found in a world's tables after each change of the world.
-use Rattle.std.proofs.Common.{◌≡◌, ℕ, ◌+◌, Bool, true, false, Option, Some, None, IsSome, sym, ap, ◌∙◌, refl, subst, arith, cond, eqb}
-use Rattle.std.specs.Ordering.{eq_by_cmp, nat_cmp}
-use Rattle.std.specs.Cmp.{nat_cmp_total}
+use Rattle.std.proofs.Common.{◌≡◌, ℕ, ◌+◌, Bool, true, false, Option, Some, None, ap, ◌∙◌, refl, subst, arith, cond, eqb}
+use Rattle.std.specs.Ordering.{eq_by_cmp}
 use Rattle.std.proofs.lemmas.Bool.Decides.{nat_tests}
 use Rattle.coord_types.specs.Table as table
-use Rattle.coord_types.specs.Table.{Table, get}
+use Rattle.coord_types.specs.Table.{get}
 use Rattle.coord_types.proofs.Tables.{get-insert, get-remove, get-change, option_map}
 use Rattle.coord_link.specs.LaneMachine.{Lane, sent, new_lane}
 use Rattle.coord_node.specs.IdealRules.{added, is_link}

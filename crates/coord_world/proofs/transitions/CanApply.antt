@@ -23,9 +23,6 @@ module _ (w : World) (range : InRange w) where
   pub epoch_room : (u : ℕ) → (state w u).epoch < 2 ^ 64 - 1
   epoch_room u = at_each w (λ r. r.epoch < 2 ^ 64 - 1) (lit< tt) (λ v r there. let most = (range.nodes v r there).epoch in let count = range.count in omega arith) u
 
-  pub count_room : w.count < 2 ^ 64 - 1
-  count_room = let count = range.count in omega arith
-
   -- and so can a lane's numbers
   pub got_room : (u v : ℕ) (l : Lane) → get w.lanes (u, v) ≡ Some l → l.got < 2 ^ 64 - 1
   got_room u v l there = let most = (range.lanes u v l there).got in let count = range.count in omega arith

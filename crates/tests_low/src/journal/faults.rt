@@ -1,7 +1,7 @@
 //! Calls of the device that fail in an opening and a format, and how a fault is printed.
 
 use super::{COMMITTED, opened};
-use coord_disk::{BlipDisk, FailingDisk, FuseDisk, MemDisk, Rule};
+use coord_disk::{BlipDisk, Disk, FailingDisk, FuseDisk, MemDisk, Rule};
 use coord_journal::{JournalFault, format, open};
 use std::alloc::{AllocError, Global};
 use std::test::Fail;
@@ -14,15 +14,24 @@ fn is_device(fault: JournalFault, calls: u64, fails: u64) -> Result<bool, Journa
     Ok(fault == JournalFault::Device)
 }
 
+// How many batches an opening finds.
+fn batches_on<D: Disk>(alloc: Global, disk: D) -> Result<usize, JournalFault> {
+    let (journal, contents) = opened(alloc, disk)?;
+    let count = contents.batches.len();
+    drop(contents);
+    drop(journal);
+    Ok(count)
+}
+
 // Whether an opening with one call that fails is refused, and the next one finds the batch.
 fn blip_refuses(alloc: Global, call: u64) -> Result<bool, JournalFault> {
     let disk = BlipDisk::new(MemDisk::from_bytes(alloc, &COMMITTED)?, call);
     match open(alloc, disk) {
         Ok(_) => Ok(false),
         Err((fault, disk)) => {
-            let refused = is_device(fault, disk.calls(), call)?;
-            let (_journal, contents) = opened(alloc, disk)?;
-            Ok(refused && contents.batches.len() == 1)
+            let refused = is_device(fault, disk.calls(), call);
+            let count = batches_on(alloc, disk);
+            Ok(refused? && count? == 1)
         }
     }
 }
@@ -47,16 +56,23 @@ fn refuses_format<R: Rule>(
     }
 }
 
+// Whether formats are, of a device that fails this call, and of one that fails all from it on.
+fn formats_are_refused(alloc: Global, call: u64) -> Result<bool, JournalFault> {
+    let mut blip = BlipDisk::new(MemDisk::new(alloc), call);
+    let by_blip = refuses_format(alloc, &mut blip, call);
+    drop(blip);
+    let mut fuse = FuseDisk::new(MemDisk::new(alloc), call);
+    let by_fuse = refuses_format(alloc, &mut fuse, call);
+    drop(fuse);
+    Ok(by_blip? && by_fuse?)
+}
+
 // The first call of the device whose failure is told otherwise. An opening takes three: a sync, its
 // length and a read; and so does a format: the length, a write and a sync.
 fn first_wrong(alloc: Global) -> Result<Option<u64>, JournalFault> {
     for call in 0..3 {
         let opens = blip_refuses(alloc, call)? && fuse_refuses(alloc, call)?;
-        let mut blip = BlipDisk::new(MemDisk::new(alloc), call);
-        let mut fuse = FuseDisk::new(MemDisk::new(alloc), call);
-        let formats = refuses_format(alloc, &mut blip, call)?
-            && refuses_format(alloc, &mut fuse, call)?;
-        if !opens || !formats {
+        if !opens || !formats_are_refused(alloc, call)? {
             return Ok(Some(call));
         }
     }

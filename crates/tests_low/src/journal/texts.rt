@@ -2,7 +2,7 @@
 
 use super::{BODY, COMMITTED, CREATED, opened};
 use coord_disk::{Disk, FuseDisk, MemDisk};
-use coord_journal::{Contents, JournalFault, format, laws};
+use coord_journal::{Contents, Journal, JournalFault, format, laws};
 use std::alloc::Global;
 use std::test::Fail;
 
@@ -21,18 +21,26 @@ fn is_created(contents: &Contents) -> bool {
         && contents.batches.is_empty()
 }
 
+// Whether a body is added, and there is as much room before it and behind it as there should be.
+fn has_room<D: Disk>(journal: &mut Journal<D>) -> Result<bool, JournalFault> {
+    if journal.room() != 32_746 || !journal.fits(BODY.len()) {
+        return Ok(false);
+    }
+    journal.append(&BODY)?;
+    Ok(journal.room() == 32_718)
+}
+
 // Whether an opening and an append take seven calls, and leave those bytes.
 fn adds(alloc: Global) -> Result<bool, JournalFault> {
     let disk = FuseDisk::new(MemDisk::from_bytes(alloc, &CREATED)?, u64::MAX);
     let (mut journal, contents) = opened(alloc, disk)?;
-    if !is_created(&contents) || journal.room() != 32_746 || !journal.fits(BODY.len()) {
-        return Ok(false);
-    }
-    journal.append(&BODY)?;
-    let room = journal.room();
+    let was_created = is_created(&contents);
+    drop(contents);
+    let added = has_room(&mut journal);
     let disk = journal.into_disk();
     let calls = disk.calls();
-    Ok(room == 32_718 && calls == 7 && disk.into_inner().bytes() == COMMITTED.as_slice())
+    let is_committed = disk.into_inner().bytes() == COMMITTED.as_slice();
+    Ok(added? && was_created && calls == 7 && is_committed)
 }
 
 // Whether the batch is read, and an opening writes nothing.

@@ -150,20 +150,34 @@ fn full(alloc: Global) -> Result<Vec<Step>, AllocError> {
 // Whether the full batch is written with 5,130 bytes, and read from them.
 fn is_full_batch_spelled(alloc: Global) -> Result<bool, AllocError> {
     let steps = full(alloc)?;
-    if !(1..=MAX_BATCH_STEPS).contains(&steps.len()) || !are_numbered(steps.as_slice()) {
+    let is_spelled = is_spelled_in(alloc, &steps, 5_130);
+    drop(steps);
+    is_spelled
+}
+
+// Whether these steps are a batch from 7 on, written with so many bytes, and read from them.
+fn is_spelled_in(alloc: Global, steps: &[Step], size: usize) -> Result<bool, AllocError> {
+    if !(1..=MAX_BATCH_STEPS).contains(&steps.len()) || !are_numbered(steps) {
         return Ok(false);
     }
-    let bytes = write_batch(alloc, 7, steps.as_slice())?;
-    Ok(bytes.len() == 5_130 && is_spelling(alloc, bytes.as_slice(), 7, steps.as_slice())?)
+    let bytes = write_batch(alloc, 7, steps)?;
+    let is_spelled = is_spelling(alloc, &bytes, 7, steps);
+    let is_sized = bytes.len() == size;
+    drop(bytes);
+    Ok(is_spelled? && is_sized)
+}
+
+// Whether each of these is read, and written as it was read.
+fn are_spelled(alloc: Global) -> Result<bool, AllocError> {
+    let step = order(1, 1, Command::Add(id(1), Group::new(1).unwrap()));
+    let first = is_spelling(alloc, &BATCH, 1, &[step])?;
+    let every = is_spelling(alloc, &EVERY_FORM, 1 << 40, &every_form())?;
+    Ok(first && every && is_full_batch_spelled(alloc)?)
 }
 
 #[test]
 fn batches_are_read_and_written(rt: HostRuntime) -> Result<(), Fail> {
-    let alloc = rt.alloc();
-    let step = order(1, 1, Command::Add(id(1), Group::new(1).unwrap()));
-    let first = is_spelling(alloc, &BATCH, 1, &[step])?;
-    let every = is_spelling(alloc, &EVERY_FORM, 1 << 40, &every_form())?;
-    assert!(rt; first && every && is_full_batch_spelled(alloc)?);
+    assert!(rt; are_spelled(rt.alloc())?);
     Ok(())
 }
 

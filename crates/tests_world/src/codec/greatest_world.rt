@@ -56,46 +56,71 @@ fn put_clients(out: &mut Vec<u8>) -> Result<(), AllocError> {
     Ok(())
 }
 
+fn put_greatest(out: &mut Vec<u8>) -> Result<(), AllocError> {
+    put_u64(out, 1 << 40)?;
+    put_nodes(out, 64)?;
+    put_ring(out)?;
+    put_clients(out)
+}
+
 // 64 nodes, 128 links with full queues, and 16 clients whose commands are of the longest form.
 fn greatest(alloc: Global) -> Result<Vec<u8>, AllocError> {
     let mut out = Vec::new(alloc);
-    put_u64(&mut out, 1 << 40)?;
-    put_nodes(&mut out, 64)?;
-    put_ring(&mut out)?;
-    put_clients(&mut out)?;
-    Ok(out)
+    match put_greatest(&mut out) {
+        Ok(()) => Ok(out),
+        Err(fault) => {
+            drop(out);
+            Err(fault)
+        }
+    }
+}
+
+fn put_star(out: &mut Vec<u8>, nodes: u8) -> Result<(), AllocError> {
+    put_u64(out, 1 << 40)?;
+    put_nodes(out, nodes)?;
+    out.push(nodes.saturating_sub(1))?;
+    for other in 2..=nodes {
+        put_link(out, 1, other, &[0])?;
+    }
+    Ok(out.push(0)?)
 }
 
 // A node that is linked to each of the others.
 fn star(alloc: Global, nodes: u8) -> Result<Vec<u8>, AllocError> {
     let mut out = Vec::new(alloc);
-    put_u64(&mut out, 1 << 40)?;
-    put_nodes(&mut out, nodes)?;
-    out.push(nodes.saturating_sub(1))?;
-    for other in 2..=nodes {
-        put_link(&mut out, 1, other, &[0])?;
+    match put_star(&mut out, nodes) {
+        Ok(()) => Ok(out),
+        Err(fault) => {
+            drop(out);
+            Err(fault)
+        }
     }
-    out.push(0)?;
-    Ok(out)
 }
 
 // Whether the greatest world has 8,907 bytes, and is read and written.
 fn is_greatest(alloc: Global) -> Result<bool, AllocError> {
     let bytes = greatest(alloc)?;
-    Ok(bytes.len() == 8_907 && spells_world(alloc, bytes.as_slice())?)
+    let is_sized = bytes.len() == 8_907;
+    let is_spelled = spells_world(alloc, &bytes);
+    drop(bytes);
+    Ok(is_sized && is_spelled?)
 }
 
 // Whether a node has at most 16 links. Rows of nodes end at 8 + 1 + 18 * 28, and a link with empty
 // queues has 44 bytes.
 fn is_degree_limited(alloc: Global) -> Result<bool, AllocError> {
     let most = star(alloc, 17)?;
+    let is_spelled = spells_world(alloc, &most);
+    drop(most);
+    Ok(is_spelled? && is_seventeenth_link_found(alloc)?)
+}
+
+fn is_seventeenth_link_found(alloc: Global) -> Result<bool, AllocError> {
     let more = star(alloc, 18)?;
     let kind = FaultKind::BadByte;
-    let fault = CodecFault { kind, at: 1_218 };
-    Ok(
-        spells_world(alloc, most.as_slice())?
-            && finds(alloc, Form::World, 1, more.as_slice(), fault)?,
-    )
+    let found = finds(alloc, Form::World, 1, &more, CodecFault { kind, at: 1_218 });
+    drop(more);
+    found
 }
 
 #[test]
