@@ -16,7 +16,7 @@ crate=$scratch/crates/engine_bench
 mkdir -p "$crate/src" "$crate/proofs/parts/time_part"
 cp "$here/HANDLES" "$scratch"
 for name in coord_disk coord_journal coord_types coord_link coord_node coord_tables coord_world coord_check coord_batch coord_codec coord_store coord_ledger coord_engine; do
-  tar -C "$here/crates" --exclude="$name/out/incremental" -cf - "$name" | tar -C "$scratch/crates" -xf -
+  cp -r "$here/crates/$name" "$scratch/crates/$name"
   grep "^$name:" "$here/crates.txt" >> "$scratch/crates.txt"
 done
 echo 'engine_bench: coord_disk coord_types coord_store coord_ledger coord_engine crossbeam_channel' >> "$scratch/crates.txt"
