@@ -233,7 +233,7 @@ fn refused_words(rt: HostRuntime) -> Result<(), Fail> {
 
 #[test]
 fn want_of_memory_is_told(rt: HostRuntime) -> Result<(), Fail> {
-    let mut errors = Vec::new(rt.alloc());
+    let mut errors = Vec::with_capacity(rt.alloc(), 64)?;
     let status = report(Err(Fault::OutOfMemory), &mut errors);
     assert!(rt; status == 4 && errors.as_slice() == b"resetd: OutOfMemory\n".as_slice());
     Ok(())

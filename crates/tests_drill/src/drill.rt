@@ -193,7 +193,7 @@ impl Write for Full {
 fn failed_write(rt: HostRuntime) -> Result<(), Fail> {
     let mut input = b"add 1 1\nadd 2 1\n".as_slice();
     let mut output = Full { taken: 0 };
-    let mut errors = Vec::new(rt.alloc());
+    let mut errors = Vec::with_capacity(rt.alloc(), 64)?;
     let status = coord_commands::drill(rt.alloc(), &mut input, &mut output, &mut errors);
     if status == 4 {
         return Err(AllocError)?;

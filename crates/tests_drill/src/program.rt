@@ -29,8 +29,9 @@ pub(crate) fn ended<
     R: Read,
 >(rt: &S, words: &str, input: &mut R) -> Result<(u8, Vec<u8>, Vec<u8>), AllocError> {
     let given = words_of(rt.alloc(), words)?;
-    let mut output = Vec::new(rt.alloc());
-    let mut errors = Vec::new(rt.alloc());
+    // Room for all that is printed, so that no write is refused.
+    let mut output = Vec::with_capacity(rt.alloc(), 65_536)?;
+    let mut errors = Vec::with_capacity(rt.alloc(), 64)?;
     let status = run(rt, given.as_slice(), input, &mut output, &mut errors);
     if status == 4 {
         return Err(AllocError);

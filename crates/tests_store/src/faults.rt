@@ -64,21 +64,26 @@ fn is_left_by_fuse(alloc: Global, calls: u64, which: usize) -> Result<bool, Stor
     let mut store = opened(alloc, disk)?;
     let answer = run(alloc, &mut store);
     let has_stopped = store.stopped();
-    let steps = left(alloc, store.into_disk().into_inner())?;
+    let disk = store.into_disk();
+    let is_reached = disk.calls() > calls.saturating_add(OPENING);
+    let steps = left(alloc, disk.into_inner())?;
     Ok(
-        is_told(answer, calls < CALLS)?
-            && has_stopped == (calls < CALLS)
+        is_told(answer, is_reached)?
+            && is_reached == (calls < CALLS)
+            && has_stopped == is_reached
             && steps == count(calls, which),
     )
 }
 
-// Whether a run of fresh steps tells a fault of the device, if there is one, and else ends. Want of
-// memory is an error here.
-fn is_told(answer: Result<bool, CommitFault>, is_fault: bool) -> Result<bool, StoreFault> {
+// Whether a run of fresh steps tells a fault of the device, where one was made, and else ends. Want
+// of memory is an error here, and so is another fault of the device: a disk in memory has one for
+// want of memory alone.
+fn is_told(answer: Result<bool, CommitFault>, is_made: bool) -> Result<bool, StoreFault> {
     match answer {
         Err(CommitFault::OutOfMemory) => Err(StoreFault::OutOfMemory),
-        Err(fault) => Ok(is_fault && fault == CommitFault::Device),
-        Ok(are_fresh) => Ok(!is_fault && are_fresh),
+        Err(CommitFault::Device) if !is_made => Err(StoreFault::Device),
+        Err(fault) => Ok(fault == CommitFault::Device),
+        Ok(are_fresh) => Ok(!is_made && are_fresh),
     }
 }
 
@@ -89,9 +94,15 @@ fn is_left_by_blip(alloc: Global, call: u64, which: usize) -> Result<bool, Store
     let answer = run(alloc, &mut store);
     let has_stopped = store.stopped();
     let disk = store.into_disk();
-    let is_last = disk.calls() == call.saturating_add(OPENING + 1);
+    let calls = disk.calls();
+    let failed = call.saturating_add(OPENING);
     let steps = left(alloc, disk.into_inner())?;
-    Ok(is_told(answer, true)? && has_stopped && is_last && steps == count(call, which))
+    Ok(
+        is_told(answer, calls > failed)?
+            && has_stopped
+            && calls == failed.saturating_add(1)
+            && steps == count(call, which),
+    )
 }
 
 // The first number of calls and choice for which a stop leaves something else.
@@ -137,10 +148,8 @@ fn opens_after_blip(alloc: Global, bytes: &[u8], call: u64) -> Result<bool, Stor
     let disk = BlipDisk::new(MemDisk::from_bytes(alloc, bytes)?, call);
     match Store::open(alloc, disk) {
         Ok(_store) => Ok(false),
-        Err((fault, disk)) => {
-            let steps = count_on(alloc, disk)?;
-            Ok(fault == StoreFault::Device && steps == 3_073)
-        }
+        Err((StoreFault::Device, disk)) => Ok(count_on(alloc, disk)? == 3_073),
+        Err((fault, _disk)) => Err(fault),
     }
 }
 
@@ -158,7 +167,9 @@ fn is_opened_again(alloc: Global) -> Result<bool, StoreFault> {
     let mut store = opened(alloc, fresh(alloc, 0)?)?;
     let answer = run(alloc, &mut store);
     let disk = store.into_disk();
-    Ok(opens_after_each_blip(alloc, disk.bytes())? && is_told(answer, false)?)
+    let opens = opens_after_each_blip(alloc, disk.bytes());
+    drop(disk);
+    Ok(is_told(answer, false)? && opens?)
 }
 
 #[test]
