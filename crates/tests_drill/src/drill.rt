@@ -1,10 +1,9 @@
 //! Runs of the drill, through the program's words.
 
-use crate::program::ends;
+use crate::program::{Ending, ended, is_ending};
 use crate::scripts::{all_bad_lines, runs};
 use std::alloc::{AllocError, Global};
 use std::fs::File;
-use std::io;
 use std::io::{Read, Write};
 use std::net::Net;
 use std::rt::Files;
@@ -12,6 +11,34 @@ use std::sync::Wait;
 use std::test::Fail;
 use std::thread::Threads;
 use std::time::Clock;
+use std::{io, str};
+
+/// Whether a drill over a reader ends so. Where its ledger or its disk lacks memory there is no
+/// answer: a disk in memory fails for nothing else.
+fn ends<S: Files<File = File> + Net + Threads + Wait + Clock + Sync + AllocGlobal, R: Read>(
+    rt: &S,
+    input: &mut R,
+    ending: Ending<'_>,
+) -> Result<bool, AllocError> {
+    let run = ended(rt, "resetd drill", input)?;
+    let is_lacking = tells_want(run.1.as_slice())
+        || run.2.as_slice() == b"resetd: Device\n".as_slice();
+    let is_it = is_ending(&run, ending);
+    drop(run);
+    if is_lacking {
+        Err(AllocError)
+    } else {
+        Ok(is_it)
+    }
+}
+
+/// Whether a drill printed that a flight was not committed.
+fn tells_want(output: &[u8]) -> bool {
+    match str::from_utf8(output) {
+        Ok(text) => text.contains("commit 1 OutOfMemory\n") || text.contains("commit 2 Device\n"),
+        Err(_) => false,
+    }
+}
 
 /// Whether a drill prints this to a script, and ends well.
 fn prints<S: Files<File = File> + Net + Threads + Wait + Clock + Sync + AllocGlobal>(
@@ -20,7 +47,7 @@ fn prints<S: Files<File = File> + Net + Threads + Wait + Clock + Sync + AllocGlo
     expected: &str,
 ) -> Result<bool, AllocError> {
     let mut input = script;
-    ends(rt, "resetd drill", &mut input, (0, expected, ""))
+    ends(rt, &mut input, (0, expected, ""))
 }
 
 #[test]
@@ -99,7 +126,7 @@ fn input_in_pieces(rt: HostRuntime) -> Result<(), Fail> {
         reads: 0,
     };
     let expected = "done 1\nfinished 2\nsignal 1 1\nbad line 3\n";
-    assert!(rt; ends(&rt, "resetd drill", &mut reader, (0, expected, ""))?);
+    assert!(rt; ends(&rt, &mut reader, (0, expected, ""))?);
     assert!(rt; reader.reads == 22);
     Ok(())
 }
@@ -131,7 +158,7 @@ fn endless_input(rt: HostRuntime) -> Result<(), Fail> {
         reads: 0,
         longest: 0,
     };
-    assert!(rt; ends(&rt, "resetd drill", &mut reader, (3, "", "resetd: Turns\n"))?);
+    assert!(rt; ends(&rt, &mut reader, (3, "", "resetd: Turns\n"))?);
     assert!(rt; reader.reads == 1_048_576 && reader.longest == 512);
     Ok(())
 }
@@ -157,14 +184,7 @@ impl Read for Broken {
 #[test]
 fn failed_read(rt: HostRuntime) -> Result<(), Fail> {
     let mut reader = Broken { reads: 0 };
-    assert!(rt;
-        ends(
-            &rt,
-            "resetd drill",
-            &mut reader,
-            (3, "done 1\n", "resetd: Read\n")
-        )?
-    );
+    assert!(rt; ends(&rt, &mut reader, (3, "done 1\n", "resetd: Read\n"))?);
     Ok(())
 }
 

@@ -22,12 +22,15 @@ pub(crate) fn words_of(alloc: Global, text: &str) -> Result<Vec<String>, AllocEr
     Ok(words)
 }
 
-/// What a run of the program with these words, over a reader, ended with: its exit status, what it
-/// printed, and its fault line. Where memory runs out there is no answer.
+/// What a run of the program ended with: its exit status, what it printed, and its fault line.
+pub(crate) type Ended = (u8, Vec<u8>, Vec<u8>);
+
+/// What a run of the program with these words, over a reader, ended with. Where memory runs out
+/// there is no answer.
 pub(crate) fn ended<
     S: Files<File = File> + Net + Threads + Wait + Clock + Sync + AllocGlobal,
     R: Read,
->(rt: &S, words: &str, input: &mut R) -> Result<(u8, Vec<u8>, Vec<u8>), AllocError> {
+>(rt: &S, words: &str, input: &mut R) -> Result<Ended, AllocError> {
     let given = words_of(rt.alloc(), words)?;
     // Room for all that is printed, so that no write is refused.
     let mut output = Vec::with_capacity(rt.alloc(), 65_536)?;
@@ -45,11 +48,13 @@ pub(crate) fn ends<
     S: Files<File = File> + Net + Threads + Wait + Clock + Sync + AllocGlobal,
     R: Read,
 >(rt: &S, words: &str, input: &mut R, ending: Ending<'_>) -> Result<bool, AllocError> {
-    let (status, output, errors) = ended(rt, words, input)?;
+    Ok(is_ending(&ended(rt, words, input)?, ending))
+}
+
+/// Whether it ended so.
+pub(crate) fn is_ending(run: &Ended, ending: Ending<'_>) -> bool {
     let (expected, printed, faults) = ending;
-    Ok(
-        status == expected
-            && output.as_slice() == printed.as_bytes()
-            && errors.as_slice() == faults.as_bytes(),
-    )
+    run.0 == expected
+        && run.1.as_slice() == printed.as_bytes()
+        && run.2.as_slice() == faults.as_bytes()
 }
