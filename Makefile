@@ -2,6 +2,8 @@
 .PHONY: help demo drill example soak build test refusals bench sweep install uninstall
 
 PREFIX ?= /usr/local
+# So many checks run at a time, each on one processor and with up to 4 GB of memory.
+JOBS ?= $(shell nproc)
 
 help:
 	@echo 'make demo      eight services and a coordinator that is killed in the middle of a reset and started again'
@@ -12,7 +14,7 @@ help:
 	@echo 'make refusals  tries the other wrong bodies, which the prover has to refuse (CRATE=NAME for one crate)'
 	@echo 'make bench     measures the drill on a ring of 64 nodes with chords, its parts, the store, the ledger, the engine and the server'
 	@echo 'make soak      kills a coordinator 200 times and looks for what was lost (ROUNDS=N for N times)'
-	@echo 'make sweep     refuses each allocation of every test and of the program in turn'
+	@echo 'make sweep     refuses each allocation of every test and of the programs in turn, for 12 seconds each (EACH=N for N, 0 for all)'
 	@echo 'make install   copies bin/resetd and its manual page below PREFIX (/usr/local); make uninstall takes them away'
 	@echo 'make help      prints this'
 
@@ -29,13 +31,13 @@ soak: bin/resetd
 	@tools/soak --rounds $(or $(ROUNDS),200)
 
 build:
-	rt all check
+	rt all check --jobs $(JOBS)
 	cd crates/resetd && rt run -- drill < ../stored_run/stdin
 	mkdir -p bin
 	cp crates/resetd/out/resetd bin/resetd
 
 refusals:
-	refusals/run $(CRATE)
+	refusals/run --jobs $(JOBS) $(CRATE)
 
 bench: build
 	bench/drill.sh 4 bin/resetd
@@ -46,7 +48,7 @@ bench: build
 	bench/serve.sh bin/resetd
 
 sweep:
-	bench/refused_allocations $$(sed -n 's/^\([a-z][a-z0-9_]*\).*/\1/p' crates.txt)
+	bench/refused_allocations --seconds $(or $(EACH),12) $$(sed -n 's/^\([a-z][a-z0-9_]*\).*/\1/p' crates.txt)
 
 test:
 	rt ci
