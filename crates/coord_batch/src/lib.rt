@@ -5,7 +5,8 @@
 //! grammar of steps and batches in that language; `specs/Decoding.antt` says which fault is
 //! answered, and where; `specs/Batches.antt` says in plain ranges which batches have a spelling.
 //!
-//! `write_batch` gives the one spelling of a batch, and `read_batch` reads exactly the spellings.
+//! The main theorems are the contracts of `write_batch`, which gives the one spelling of a batch,
+//! and of `read_batch`, which reads exactly the spellings.
 //! The laws stand on the functions of `laws` (`specs/Laws.antt`): no spelling begins another one,
 //! a spelling that is cut is `Short` at its length, and one with more behind it is `Extra` there.
 //! `Input`, `ReadError` and `put_command` are for crates that read and write other formats.

@@ -4,10 +4,11 @@
 //! the rows of a world (`Rows` of coord_world). Each row's format depends on the rows before it,
 //! so that order, ends, groups and degrees are judged where they are read.
 //!
-//! `write_world` gives the one spelling of a world, and `read_world` reads exactly the spellings:
-//! its world is in its ranges, and need not be legal. The laws stand on the functions of `laws`
-//! (`specs/Laws.antt`): no spelling begins another one, a spelling that is cut is `Short` at its
-//! length, and one with more behind it is `Extra` there.
+//! The main theorems are the contracts of `write_world`, which gives the one spelling of a world,
+//! and of `read_world`, which reads exactly the spellings: its world is in its ranges, and need not
+//! be legal. The laws stand on the functions of `laws` (`specs/Laws.antt`): no spelling begins
+//! another one, a spelling that is cut is `Short` at its length, and one with more behind it is
+//! `Extra` there.
 #![tactic(auto)]
 
 pub mod laws;

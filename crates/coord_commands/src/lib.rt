@@ -6,8 +6,9 @@
 //!
 //! `init`, `check` and `show` are each a thin call, over a file, of a function over any disk:
 //! `create_store`, whose store begins with the orders of a topology (`specs/Founding.antt`),
-//! `check_store` and `show_store`. Where the disk keeps the model these say exactly which world the
-//! bytes give. `serve` is a thin call of `serve_store` of coord_server.
+//! `check_store` and `show_store` (`specs/Inspection.antt`). `serve` is a thin call of `serve_store`
+//! of coord_server. The main theorems are the contracts of those three, which say exactly which
+//! world the bytes give where the disk keeps the model, and that of `run`, of the drill alone.
 #![tactic(auto)]
 
 mod commands;

@@ -2,12 +2,12 @@
 //!
 //! `read_topology` reads it from a text of TOML. What a text says stands in `specs/`: the keys that
 //! a file has (`Keys`), the topology of a TOML table (`Topology`), and that of a text (`Reading`).
-//! The call answers exactly this: the topology where the text says one; `BadKey` where some key is
-//! missing or has no meaning; `BadValue` where the keys are right and a value is of another type or
-//! out of its limits; `NotToml` where the text is over its limit or is no TOML as the crate `toml`
-//! reads it; or `OutOfMemory`. Repeated nodes and links, and too many of them, are no fault of the
-//! file. `laws` has that every topology can be written and is read back, and `runs` texts whose
-//! answers are computed through the definitions.
+//! The main theorem is its contract. It answers exactly this: the topology where the text says one;
+//! `BadKey` where some key is missing or has no meaning; `BadValue` where the keys are right and a
+//! value is of another type or out of its limits; `NotToml` where the text is over its limit or is
+//! no TOML as the crate `toml` reads it; or `OutOfMemory`. Repeated nodes and links, and too many of
+//! them, are no fault of the file. `laws` has that every topology can be written and is read back,
+//! and `runs` texts whose answers are computed through the definitions.
 #![tactic(auto)]
 
 mod fault;

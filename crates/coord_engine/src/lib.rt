@@ -10,8 +10,9 @@
 //!
 //! `specs/State.antt` is what contracts see of the value under the lock, `specs/Calls.antt` and
 //! `specs/Closing.antt` what its methods answer, and `specs/Threads.antt` what the engine's calls
-//! answer while other threads call too; [`named_rows`] are small cases. No contract says that a thread runs, that a waiter wakes or
-//! that anyone is served.
+//! answer while other threads call too; [`named_rows`] are small cases. The main theorems are the
+//! contracts of the methods of `Guarded`, and that of `Engine::close`. No contract says that a
+//! thread runs, that a waiter wakes or that anyone is served.
 //!
 //! A [`flusher`] flushes what is accepted and hands what is released to a [`Port`]; a [`worker`]
 //! submits the packets that came for a node. `specs/Pacing.antt` says when a flight starts,

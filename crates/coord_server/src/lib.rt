@@ -3,8 +3,10 @@
 //! [`serve_store`] runs an engine with a flusher and eight workers over a store, and serves the
 //! connections of a listener to an [`EngineDesk`], one after the other, until a line closes it.
 //! `specs/EngineDesk.antt` says what that desk may answer, by what the engine's calls say,
-//! `specs/Printed.antt` the lines that are printed, and `specs/Ending.antt` what is left at the end.
-//! None of them says that a thread runs, that a packet comes or that anyone is served.
+//! `specs/Printed.antt` the lines that are printed, and `specs/Ending.antt` what is left at the end:
+//! one history, and a store that has not stopped. The main theorem is the contract of `serve_store`,
+//! with what an `EngineDesk` is proved to answer as a `Desk`. Nothing of this says that a thread
+//! runs, that a packet comes or that anyone is served.
 #![tactic(auto)]
 
 mod crew;
