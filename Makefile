@@ -10,7 +10,7 @@ help:
 	@echo 'make drill     one reset of two nodes, each line that the drill reads beside what it prints'
 	@echo 'make example   the example services of examples/ around a coordinator, in a few seconds'
 	@echo 'make build     proves every crate, and leaves the program at bin/resetd'
-	@echo 'make test      the gate: every proof from nothing, the must-fail edits, every test and the stored run'
+	@echo 'make test      the gate: every proof from nothing, the must-fail edits, every test and both programs'
 	@echo 'make refusals  tries the other wrong bodies, which the prover has to refuse (CRATE=NAME for one crate)'
 	@echo 'make bench     measures the drill on a ring of 64 nodes with chords, its parts, the store, the ledger, the engine and the server'
 	@echo 'make soak      kills a coordinator 200 times and looks for what was lost (ROUNDS=N for N times)'
