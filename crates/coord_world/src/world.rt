@@ -159,7 +159,7 @@ impl World {
     pub fn last(&self, client: Client) -> Option<Session>
         ensures { result ≡ table.get self.now.sessions client }
     {
-        self.tables.sessions.get(client)
+        self.tables.sessions.get(client).copied()
     }
 
     /// Whether this world, of which `settled` is what is settled, takes a step; the reply to a

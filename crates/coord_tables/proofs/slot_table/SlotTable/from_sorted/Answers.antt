@@ -5,13 +5,13 @@ use Rattle.std.specs.Ordering.{nat_cmp}
 use Rattle.coord_types.specs.Table as table
 use Rattle.coord_tables.proofs.SortedEntries.{put_next, sorted-take}
 use Rattle.coord_tables.proofs.TableEntries.{from_sorted-none, from_sorted-put}
-use Rattle.coord_tables.proofs.session_table.SessionTable.from_sorted.Goals as goal
+use Rattle.coord_tables.proofs.slot_table.SlotTable.from_sorted.Goals as goal
 
 pub loop-entry-init : goal.loop-entry-init
-loop-entry-init c = c.new-made.ensures ∙ sym (from_sorted-none nat_cmp_total [] refl)
+loop-entry-init g c = c.new-made.ensures ∙ sym (from_sorted-none nat_cmp_total [] refl)
 
 pub loop-entry-preserved : goal.loop-entry-preserved
-loop-entry-preserved c =
+loop-entry-preserved g c =
     let n = c.loop-entry.entry-index in
     let es = c.args.entries.now in
     let e = c.entry-item.result in
