@@ -69,6 +69,13 @@ impl<const MOST: u8, V: Copy> SlotTable<MOST, V> {
         slots::entries(alloc, &self.slots)
     }
 
+    /// How many values there are.
+    pub fn len(&self) -> u8
+        ensures { result ≡ table.len self.now }
+    {
+        slots::count(&self.slots)
+    }
+
     pub fn get(&self, key: Identifier<MOST>) -> Option<&V>
         ensures { option_copied result ≡ table.get self.now key.entry }
     {
