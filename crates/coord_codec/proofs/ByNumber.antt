@@ -1,6 +1,6 @@
--- A world's rows are those that are met by number.
-use Rattle.std.proofs.Common.{◌≡◌, ℕ, zero, suc, ◌+◌, ◌-◌, ◌<◌, ◌≤◌, true, false, ◌&&◌, List, [], ◌∷◌, ◌++◌, Option, Some, None, map, cond, eqb, refl, sym, ap, ◌∙◌, append_assoc, append-nil, length, length-append, subst, arith, T}
-use Rattle.std.specs.Prelude.{is_some, nat_lt}
+-- A table's entries are those that are met by number.
+use Rattle.std.proofs.Common.{◌≡◌, ℕ, zero, suc, ◌+◌, ◌-◌, ◌<◌, ◌≤◌, true, false, ◌&&◌, List, [], ◌∷◌, ◌++◌, Option, Some, None, map, cond, eqb, refl, sym, ap, ◌∙◌, append_assoc, append-nil, length, subst, arith, T}
+use Rattle.std.specs.Prelude.{nat_lt}
 use Rattle.std.specs.Cmp.{nat_cmp_total}
 use Rattle.std.specs.Option.{option_map}
 use Rattle.std.specs.List.{flat_map, range_with_len}
@@ -9,15 +9,16 @@ use Rattle.std.specs.declared.cmp.Ordering.TheVariants.{Equal}
 use Rattle.std.specs.FinMap.Entries.{below_all, find, is_sorted, same_entries, where_key}
 use Rattle.std.proofs.lemmas.Bool.Decides.{nat_tests}
 use Rattle.std.proofs.lemmas.Grind.{flat_map-append}
-use Rattle.coord_types.specs.Table.{Table, entries, get}
-use Rattle.coord_types.proofs.Tables.{get-entries}
+use Rattle.std.proofs.lemmas.List.{length-map}
+use Rattle.std.proofs.lemmas.List.Folds.{flat_map-map}
+use Rattle.coord_types.specs.Table.{Table, entries, get, len}
+use Rattle.coord_types.proofs.Tables.{get-entries, len-entries}
 use Rattle.coord_link.specs.LaneMachine.{Lane}
 use Rattle.coord_world.specs.protocol.NumberedWorld.{World, pair_cmp}
-use Rattle.coord_world.specs.protocol.Ranges.{InRange}
-use Rattle.coord_world.specs.protocol.Rows.{client_row, goes_up, link_row, node_row, rows_of}
+use Rattle.coord_world.specs.protocol.Rows.{goes_up, link_row}
 use Rattle.coord_world.specs.declared.rows.parts.LinkRow.{LinkRow}
 use Rattle.coord_world.proofs.Facade.{by_test}
-use Rattle.coord_codec.specs.ByNumber.{clients_from, nodes_from, numbers, one_or_none, row_of_lane}
+use Rattle.coord_codec.specs.ByNumber.{HasKeysTo, entry_at, numbers, one_or_none, row_of_lane}
 
 -- the first of the numbers, and those behind it
 pub numbers_next : (most u : ℕ) → u ≤ most → numbers most u ≡ u ∷ numbers most (u + 1)
@@ -77,8 +78,7 @@ module _ {X : Type 0} (f : ℕ → Option X) where
 same_key : (x y : ℕ) → nat_cmp x y ≡ Equal → x ≡ y
 same_key x y tied = grind (arith, nat_tests, tied)
 
--- a table whose keys are numbers from 1 to n
-module _ {X : Type 0} (m : Table nat_cmp_total X) (n : ℕ) (within : (q : ℕ) (x : X) → get m q ≡ Some x → (1 ≤ q) × (q ≤ n)) where
+module _ {X : Type 0} (m : Table nat_cmp_total X) (n : ℕ) (within : HasKeysTo n m) where
   outside : (q : ℕ) → (1 ≤ q → q ≤ n → ⊥) → get m q ≡ None
   outside q out = of_option (get m q) refl
     where
@@ -97,56 +97,32 @@ module _ {X : Type 0} (m : Table nat_cmp_total X) (n : ℕ) (within : (q : ℕ) 
   entries_listed : entries m ≡ listed (get m) 1 n
   entries_listed = same_entries nat_cmp nat_cmp_total same_key _ _ m.sorted (subst T (sym (sorted_listed (get m) 1 n)) tt) (λ q. sym (get-entries m q) ∙ sym (each q))
 
-  -- what is made of each entry, number by number
-  module _ {A : Type 0} (g : ℕ × X → A) where
-    one_made : (u : ℕ) (o : Option X) (made : List A) (es : List (ℕ × X)) → map g es ≡ made → map g (one_or_none (option_map (λ x. (u, x)) o) ++ es) ≡ one_or_none (option_map (λ x. g (u, x)) o) ++ made
-    one_made u None made es is = is
-    one_made u (Some x) made es is = ap (λ l. g (u, x) ∷ l) is
+  pub by_number : flat_map (entry_at m) (numbers n 1) ≡ entries m
+  unfolding numbers
+  by_number = let many : n + 1 - 1 ≡ n = omega arith in ap (λ k. flat_map (entry_at m) (range_with_len 1 k)) many ∙ sym entries_listed
 
-    made_of : (us : List ℕ) → map g (flat_map (λ u. one_or_none (option_map (λ x. (u, x)) (get m u))) us) ≡ flat_map (λ u. one_or_none (option_map (λ x. g (u, x)) (get m u))) us
-    made_of [] = refl
-    made_of (u ∷ us) = one_made u (get m u) _ _ (made_of us)
+-- a table is written number by number: behind its length stand the texts of its entries
+module _ {X : Type 0} (m : Table nat_cmp_total X) (most : ℕ) (text : ℕ × X → List ℕ) where
+  abbrev written : List ℕ → List ℕ
+  written before = before ++ len m ∷ flat_map text (entries m)
 
-    pub by_number : flat_map (λ u. one_or_none (option_map (λ x. g (u, x)) (get m u))) (numbers n 1) ≡ map g (entries m)
-    unfolding numbers
-    by_number =
-        let many : n + 1 - 1 ≡ n = omega arith in
-        ap (λ k. flat_map (λ u. one_or_none (option_map (λ x. g (u, x)) (get m u))) (range_with_len 1 k)) many ∙ sym (ap (map g) entries_listed ∙ made_of (range_with_len 1 n))
+  abbrev from : ℕ → List ℕ
+  from u = flat_map text (flat_map (entry_at m) (numbers most u))
 
-module _ (w : World) (range : InRange w) where
-  pub all_nodes : nodes_from w 1 ≡ (rows_of w).nodes
-  all_nodes = by_number w.nodes 64 (λ q x is. ((range.nodes q x is).least, (range.nodes q x is).greatest)) node_row
+  -- what the numbers from this one on give is missing
+  abbrev pub IsWrittenTo : ℕ → List ℕ → List ℕ → Type 0
+  IsWrittenTo u before out = out ++ from u ≡ written before
 
-  pub all_clients : clients_from w 1 ≡ (rows_of w).clients
-  all_clients = by_number w.sessions 16 (λ q x is. ((range.sessions q x is).least, (range.sessions q x is).greatest)) client_row
+  pub none_written : HasKeysTo most m → (before out : List ℕ) (n : ℕ) → out ≡ before ++ n ∷ [] → n ≡ len m → IsWrittenTo 1 before out
+  none_written within before out n begun long = (λ i. begun i ++ flat_map text (by_number m most within i)) ∙ append_assoc before (n ∷ []) (flat_map text (entries m))
+      ∙ ap (λ k. before ++ k ∷ flat_map text (entries m)) long
 
--- one more number: what it gives is written, and so is what those behind it give
-module _ {A B : Type 0} (text : A → List B) (row : ℕ → List A) (most : ℕ) where
-  pub written_on : (u : ℕ) (out all : List B) → u ≤ most → out ++ flat_map text (flat_map row (numbers most u)) ≡ all → (out ++ flat_map text (row u)) ++ flat_map text (flat_map row (numbers most (u + 1))) ≡ all
-  written_on u out all le so_far = append_assoc out (flat_map text (row u)) (flat_map text (flat_map row (numbers most (u + 1))))
-      ∙ ap (λ t. out ++ t) (sym (flat_map-append text (row u) (flat_map row (numbers most (u + 1)))) ∙ ap (λ us. flat_map text (flat_map row us)) (sym (numbers_next most u le))) ∙ so_far
+  pub one_written : (u : ℕ) (before out next : List ℕ) → u ≤ most → next ≡ out ++ flat_map text (entry_at m u) → IsWrittenTo u before out → IsWrittenTo (u + 1) before next
+  one_written u before out next le more so_far = ap (λ o. o ++ from (u + 1)) more ∙ append_assoc out (flat_map text (entry_at m u)) (from (u + 1))
+      ∙ ap (λ t. out ++ t) (sym (flat_map-append text (entry_at m u) (flat_map (entry_at m) (numbers most (u + 1)))) ∙ ap (λ us. flat_map text (flat_map (entry_at m) us)) (sym (numbers_next most u le))) ∙ so_far
 
-  pub all_written : (u : ℕ) (out all : List B) → most < u → out ++ flat_map text (flat_map row (numbers most u)) ≡ all → out ≡ all
-  all_written u out all past so_far = sym (append-nil out) ∙ ap (λ us. out ++ flat_map text (flat_map row us)) (sym (no_more_numbers most u past)) ∙ so_far
-
--- a row or none
-pub length_one : {X A : Type 0} (f : X → A) (o : Option X) → length (one_or_none (option_map f o)) ≡ cond (is_some o) 1 0
-length_one f None = refl
-length_one f (Some x) = refl
-
-pub one_at_most : {A : Type 0} (o : Option A) → length (one_or_none o) ≤ 1
-one_at_most None = omega arith
-one_at_most (Some x) = omega arith
-
--- and counted
-module _ {A : Type 0} (row : ℕ → List A) (most : ℕ) where
-  pub counted_on : (u n all : ℕ) → u ≤ most → n + length (flat_map row (numbers most u)) ≡ all → (n + length (row u)) + length (flat_map row (numbers most (u + 1))) ≡ all
-  counted_on u n all le so_far =
-      let next = ap (λ us. length (flat_map row us)) (numbers_next most u le) in
-      omega (arith, so_far, next, length-append (row u) (flat_map row (numbers most (u + 1))))
-
-  pub all_counted : (u n all : ℕ) → most < u → n + length (flat_map row (numbers most u)) ≡ all → n ≡ all
-  all_counted u n all past so_far = let none = ap (λ us. length (flat_map row us)) (no_more_numbers most u past) in omega (arith, so_far, none)
+  pub all_written : (u : ℕ) (before out : List ℕ) → most < u → IsWrittenTo u before out → out ≡ written before
+  all_written u before out past so_far = sym (append-nil out) ∙ ap (λ us. out ++ flat_map text (flat_map (entry_at m) us)) (sym (no_more_numbers most u past)) ∙ so_far
 
 -- the rows of the links of these lanes
 abbrev pub links_in : World → List ((ℕ × ℕ) × Lane) → List LinkRow
@@ -154,3 +130,9 @@ links_in w es = map (link_row w) (where_key pair_cmp goes_up es)
 
 pub links_next : (w : World) (e : (ℕ × ℕ) × Lane) (es : List ((ℕ × ℕ) × Lane)) → links_in w (e ∷ es) ≡ row_of_lane w e ++ links_in w es
 links_next w e es = by_test (goes_up e.0) (λ t. map (link_row w) (cond t (e ∷ where_key pair_cmp goes_up es) (where_key pair_cmp goes_up es)) ≡ cond t (link_row w e ∷ []) [] ++ links_in w es) (λ _. refl) (λ _. refl)
+
+-- what is written of each entry is what is written of each row
+pub rows_text : {X A : Type 0} (m : Table nat_cmp_total X) (row : ℕ × X → A) (text : A → List ℕ) → len m ∷ flat_map (λ e. text (row e)) (entries m) ≡ length (map row (entries m)) ∷ flat_map text (map row (entries m))
+rows_text m row text =
+    let long : len m ≡ length (map row (entries m)) = len-entries m ∙ sym (length-map (entries m) row) in
+    λ i. long i ∷ sym (flat_map-map text row (entries m)) i

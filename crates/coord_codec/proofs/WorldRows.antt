@@ -24,7 +24,7 @@ use Rattle.coord_world.specs.declared.rows.parts.LinkRow.{LinkRow}
 use Rattle.coord_world.specs.declared.rows.parts.ClientRow.{ClientRow}
 use Rattle.coord_world.proofs.Facade.{all_weaker}
 use Rattle.coord_batch.specs.Fields.{message}
-use Rattle.coord_batch.specs.Format.{FitBehind}
+use Rattle.coord_batch.specs.Format.{FitBehind, Format}
 use Rattle.coord_codec.specs.Worlds.{client_row, clients, ends, kind, lane, last_by, last_ends, link_row, links, mask, mode, node_row, nodes, parent, queue, same_group, world}
 use Rattle.coord_batch.proofs.Batched.{command_fits, command_in_range}
 use Rattle.coord_batch.proofs.FieldRanges.{at_most_fits, at_most_in_range, client_fits, client_in_range, from_one_to_fits, from_one_to_in_range, group_fits, group_in_range, how_many_fits, how_many_in_range, message_fits, node_fits, node_in_range}
@@ -63,6 +63,29 @@ kind_in_range : (x : Command) (k : Kind) → (kind x).Fits k → answers x k ≡
 unfolding kind
 kind_in_range x k fits = fits.1
 
+-- ---- rows by number
+
+-- a row fits behind others where it is in its range and its number above theirs
+module _ {Row : Type 0} (key : Row → ℕ) (row : List Row → Format Row) (IsRow : Row → Type 0) where
+  abbrev IsAbove : List Row → Row → Type 0
+  IsAbove front r = is_lt (nat_cmp (last_by key 0 front) (key r)) ≡ true
+
+  all_in : ((front : List Row) (r : Row) → (row front).Fits r → IsRow r × IsAbove front r) → (front rs : List Row) → FitBehind row front rs → AllByRecursion IsRow rs × RiseFrom key nat_cmp_total (last_by key 0 front) rs
+  unfolding FitBehind
+  all_in one_in front [] fits = (tt, tt)
+  all_in one_in front (r ∷ rs) fits =
+      let one = one_in front r fits.0 in
+      let rest = all_in one_in (front ++ r ∷ []) rs fits.1 in
+      ((one.0, rest.0), (one.1, subst (λ last. RiseFrom key nat_cmp_total last rs) (last_push key 0 front r) rest.1))
+
+  all_fit : ((front : List Row) (r : Row) → IsRow r → IsAbove front r → (row front).Fits r) → (front rs : List Row) → AllByRecursion IsRow rs → RiseFrom key nat_cmp_total (last_by key 0 front) rs → FitBehind row front rs
+  unfolding FitBehind
+  all_fit one_fits front [] all rise = tt
+  all_fit one_fits front (r ∷ rs) all rise = (
+    one_fits front r all.0 rise.0,
+    all_fit one_fits (front ++ r ∷ []) rs all.1 (subst (λ last. RiseFrom key nat_cmp_total last rs) (sym (last_push key 0 front r)) rise.1),
+  )
+
 -- ---- nodes
 
 abbrev node_key : NodeRow → ℕ
@@ -97,22 +120,6 @@ module _ (count : ℕ) where
       (group_fits r.group range.group_least range.group_greatest, (mode_fits r.mode, (parent_fits r.parent range.parent, (mask_fits r.pend range.pend, (at_most_fits count r.epoch small range.epoch, at_most_fits count r.confirmed small range.confirmed))))),
     ),
     refl,
-  )
-
-  nodes_in : (front rs : List NodeRow) → FitBehind (node_row count) front rs → AllByRecursion (NodeRowFits count) rs × RiseFrom node_key nat_cmp_total (last_by node_key 0 front) rs
-  unfolding FitBehind
-  nodes_in front [] fits = (tt, tt)
-  nodes_in front (r ∷ rs) fits =
-      let one = node_row_in front r fits.0 in
-      let rest = nodes_in (front ++ r ∷ []) rs fits.1 in
-      ((one.0, rest.0), (one.1, subst (λ last. RiseFrom node_key nat_cmp_total last rs) (last_push node_key 0 front r) rest.1))
-
-  nodes_fit : count < 2 ^ 64 → (front rs : List NodeRow) → AllByRecursion (NodeRowFits count) rs → RiseFrom node_key nat_cmp_total (last_by node_key 0 front) rs → FitBehind (node_row count) front rs
-  unfolding FitBehind
-  nodes_fit small front [] all rise = tt
-  nodes_fit small front (r ∷ rs) all rise = (
-    node_row_fits small front r all.0 rise.0,
-    nodes_fit small (front ++ r ∷ []) rs all.1 (subst (λ last. RiseFrom node_key nat_cmp_total last rs) (sym (last_push node_key 0 front r)) rise.1),
   )
 
 -- ---- degrees
@@ -361,22 +368,6 @@ module _ (count : ℕ) where
     refl,
   )
 
-  clients_in : (front rs : List ClientRow) → FitBehind (client_row count) front rs → AllByRecursion (ClientRowFits count) rs × RiseFrom client_key nat_cmp_total (last_by client_key 0 front) rs
-  unfolding FitBehind
-  clients_in front [] fits = (tt, tt)
-  clients_in front (r ∷ rs) fits =
-      let one = client_row_in front r fits.0 in
-      let rest = clients_in (front ++ r ∷ []) rs fits.1 in
-      ((one.0, rest.0), (one.1, subst (λ last. RiseFrom client_key nat_cmp_total last rs) (last_push client_key 0 front r) rest.1))
-
-  clients_fit : count < 2 ^ 64 → (front rs : List ClientRow) → AllByRecursion (ClientRowFits count) rs → RiseFrom client_key nat_cmp_total (last_by client_key 0 front) rs → FitBehind (client_row count) front rs
-  unfolding FitBehind
-  clients_fit small front [] all rise = tt
-  clients_fit small front (r ∷ rs) all rise = (
-    client_row_fits small front r all.0 rise.0,
-    clients_fit small (front ++ r ∷ []) rs all.1 (subst (λ last. RiseFrom client_key nat_cmp_total last rs) (sym (last_push client_key 0 front r)) rise.1),
-  )
-
 -- ---- worlds
 
 -- the ends of a link are numbered from 1
@@ -393,9 +384,9 @@ unfolding world nodes links clients
 rows_in r fits =
     let p = fits.0 in
     let f = fits.1 in
-    let listed = nodes_in p.0 [] p.1.0 f.1.0.1 in
+    let listed = all_in node_key (node_row p.0) (NodeRowFits p.0) (node_row_in p.0) [] p.1.0 f.1.0.1 in
     let linked = links_in p.0 p.1.0 [] p.1.1.0 (λ u. omega arith) f.1.1.0.1 in
-    let known = clients_in p.0 [] p.1.1.1 f.1.1.1.1 in
+    let known = all_in client_key (client_row p.0) (ClientRowFits p.0) (client_row_in p.0) [] p.1.1.1 f.1.1.1.1 in
     subst RowsFit (sym fits.2) (record {
       count = at_most_in_range (2 ^ 40) p.0 f.0;
       nodes_rise = (sorted_of_rise node_key nat_cmp_total 0 p.1.0 listed.1).1;
@@ -436,10 +427,10 @@ module _ (r : Rows) (fit : RowsFit r) where
         (
           at_most_fits (2 ^ 40) r.count (omega arith) fit.count,
           (
-            (how_many_fits 64 (length r.nodes) (omega arith) few_nodes, nodes_fit r.count small [] r.nodes fit.nodes (rise_of_sorted node_key nat_cmp_total 0 r.nodes nodes_above fit.nodes_rise)),
+            (how_many_fits 64 (length r.nodes) (omega arith) few_nodes, all_fit node_key (node_row r.count) (NodeRowFits r.count) (node_row_fits r.count small) [] r.nodes fit.nodes (rise_of_sorted node_key nat_cmp_total 0 r.nodes nodes_above fit.nodes_rise)),
             (
               (how_many_fits 128 (length r.links) (omega arith) fit.most_links, links_fit r.count r.nodes small fit.nodes [] r.links linked),
-              (how_many_fits 16 (length r.clients) (omega arith) few_clients, clients_fit r.count small [] r.clients fit.clients (rise_of_sorted client_key nat_cmp_total 0 r.clients clients_above fit.clients_rise)),
+              (how_many_fits 16 (length r.clients) (omega arith) few_clients, all_fit client_key (client_row r.count) (ClientRowFits r.count) (client_row_fits r.count small) [] r.clients fit.clients (rise_of_sorted client_key nat_cmp_total 0 r.clients clients_above fit.clients_rise)),
             ),
           ),
         ),

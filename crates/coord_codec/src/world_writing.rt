@@ -1,31 +1,51 @@
 //! Writing of worlds, row by row.
 
-ghost use Rattle.std.specs.Prelude.{◌≡◌, ◌≤◌, ◌++◌, [], ◌∷◌, length, OnOk};
+ghost use Rattle.std.specs.Prelude.{◌≡◌, ◌≤◌, ℕ, List, ◌++◌, [], ◌∷◌, length, OnOk};
 ghost use Rattle.std.specs.Option.{option_copied};
 ghost use Rattle.std.specs.List.{flat_map};
 ghost use Rattle.std.specs.Int.{w64, to_be_bytes};
 ghost use Rattle.std.specs.FinMap.Entries.{where_key};
 ghost use Rattle.coord_batch.specs.Fields.{message};
-ghost use Rattle.coord_codec.specs.Worlds.{client_row, clients, content_of_lane, kind_number, lane, link_row, links, node_row, nodes, parent_number, queue};
-ghost use Rattle.coord_codec.specs.ByNumber.{row_of_client, row_of_lane, row_of_node};
+ghost use Rattle.coord_codec.specs.Worlds.{clients, content_of_lane, kind_number, lane, link_row, links, nodes, parent_number, queue};
+ghost use Rattle.coord_codec.specs.ByNumber.{HasKeysTo, entry_at, node_text, row_of_lane, session_text};
 ghost use Rattle.coord_types.specs.NodeState.{mode_number};
-ghost use Rattle.coord_types.specs.StepRanges.{IsNode};
-ghost use Rattle.coord_types.specs.Table.{has};
+ghost use Rattle.coord_types.specs.Table.{entries, len};
 ghost use Rattle.coord_world.specs.protocol.NumberedWorld.{pair_cmp};
 ghost use Rattle.coord_world.specs.protocol.Ranges.{InRange};
 ghost use Rattle.coord_world.specs.protocol.Rows.{goes_up, lane_or_none, rows_of};
 
 use coord_batch::{message_byte, put_command};
 use coord_link::Lane;
-use coord_types::{Client, Kind, MAX_CLIENTS, MAX_NODES, Mode, Msg, NodeId};
-use coord_world::{ClientRow, LinkRow, NodeRow, World};
+use coord_node::Node;
+use coord_tables::SlotTable;
+use coord_types::{Identifier, Kind, Mode, Msg, NodeId, Session};
+use coord_world::{LinkRow, World};
 use std::alloc::AllocError;
 
-/// One more than the greatest number of a node.
-const NODES_END: u8 = MAX_NODES + 1;
+/// What stands by a number in a table of a world, and is written as a row.
+trait Row: Copy {
+    /// The bytes of its row, with the number that it stands at.
+    ghost text: { ℕ × Self → List ℕ };
 
-/// One more than the greatest number of a client.
-const CLIENTS_END: u8 = MAX_CLIENTS + 1;
+    fn put(&self, out: &mut Vec<u8>, number: u8) -> Result<(), AllocError>
+        ensures { OnOk result (out.new.items ≡ out.old.items ++ text record { 0 = number; 1 = self.now }) };
+}
+
+impl Row for Node {
+    ghost text = { node_text };
+
+    fn put(&self, out: &mut Vec<u8>, number: u8) -> Result<(), AllocError> {
+        put_node_row(out, number, self)
+    }
+}
+
+impl Row for Session {
+    ghost text = { session_text };
+
+    fn put(&self, out: &mut Vec<u8>, number: u8) -> Result<(), AllocError> {
+        put_client_row(out, number, self)
+    }
+}
 
 fn mode_byte(mode: Mode) -> u8
     ensures { result ≡ mode_number mode }
@@ -61,24 +81,24 @@ fn parent_byte(parent: Option<NodeId>) -> u8
 }
 
 /// What a node's row begins with, a byte each.
-fn put_node_bytes(out: &mut Vec<u8>, row: &NodeRow) -> Result<(), AllocError>
+fn put_node_bytes(out: &mut Vec<u8>, number: u8, node: &Node) -> Result<(), AllocError>
     ensures { OnOk result (out.new.items ≡ out.old.items
-        ++ row.now.id ∷ row.now.group ∷ mode_number row.now.mode ∷ parent_number row.now.parent ∷ []) }
+        ++ number ∷ node.now.group ∷ mode_number node.now.mode ∷ parent_number node.now.parent ∷ []) }
 {
-    out.push(row.id.number())?;
-    out.push(row.group.number())?;
-    out.push(mode_byte(row.mode))?;
-    out.push(parent_byte(row.parent))?;
+    out.push(number)?;
+    out.push(node.group().number())?;
+    out.push(mode_byte(node.mode()))?;
+    out.push(parent_byte(node.parent()))?;
     Ok(())
 }
 
 #[tactic(auto, using(std::proofs::Common::append_assoc), unfolding(crate::specs::Worlds::node_row, crate::specs::Worlds::mode, crate::specs::Worlds::parent, crate::specs::Worlds::mask, coord_batch::specs::Fields::at_most, coord_batch::specs::Fields::node, coord_batch::specs::Fields::group))]
-fn put_node_row(out: &mut Vec<u8>, row: &NodeRow) -> Result<(), AllocError>
-    ensures { OnOk result (out.new.items ≡ out.old.items ++ (node_row 0 []).text row.now) }
+fn put_node_row(out: &mut Vec<u8>, number: u8, node: &Node) -> Result<(), AllocError>
+    ensures { OnOk result (out.new.items ≡ out.old.items ++ node_text record { 0 = number; 1 = node.now }) }
 {
-    put_node_bytes(out, row)?;
-    out.extend_from_slice(&row.pend.bits().to_be_bytes())?;
-    put_numbers(out, row.epoch, row.confirmed)
+    put_node_bytes(out, number, node)?;
+    out.extend_from_slice(&node.pend().bits().to_be_bytes())?;
+    put_numbers(out, node.epoch(), node.confirmed())
 }
 
 #[tactic(auto, unfolding(coord_batch::specs::Fields::message))]
@@ -129,11 +149,10 @@ fn put_link_row(out: &mut Vec<u8>, row: &LinkRow) -> Result<(), AllocError>
 }
 
 #[tactic(auto, using(std::proofs::Common::append_assoc), unfolding(crate::specs::Worlds::client_row, crate::specs::Worlds::kind, coord_batch::specs::Fields::from_one_to, coord_batch::specs::Fields::client))]
-fn put_client_row(out: &mut Vec<u8>, row: &ClientRow) -> Result<(), AllocError>
-    ensures { OnOk result (out.new.items ≡ out.old.items ++ (client_row 0 []).text row.now) }
+fn put_client_row(out: &mut Vec<u8>, client: u8, session: &Session) -> Result<(), AllocError>
+    ensures { OnOk result (out.new.items ≡ out.old.items ++ session_text record { 0 = client; 1 = session.now }) }
 {
-    let session = &row.session;
-    out.push(row.client.number())?;
+    out.push(client)?;
     out.extend_from_slice(&session.number.to_be_bytes())?;
     put_command(out, &session.command)?;
     out.extend_from_slice(&session.reply.step.to_be_bytes())?;
@@ -141,32 +160,38 @@ fn put_client_row(out: &mut Vec<u8>, row: &ClientRow) -> Result<(), AllocError>
     Ok(())
 }
 
-/// Puts the row of a node, where it is there.
-fn put_node(out: &mut Vec<u8>, world: &World, number: u8) -> Result<(), AllocError>
-    requires { IsNode number }
-    ensures { OnOk result (out.new.items ≡ out.old.items ++ flat_map (node_row 0 []).text (row_of_node world.now number)) }
+/// Puts the row of a number, where something stands at it.
+fn put_row<const MOST: u8, R: Row>(
+    out: &mut Vec<u8>,
+    rows: &SlotTable<MOST, R>,
+    number: u8,
+) -> Result<(), AllocError>
+    requires { (1 ≤ number) × (number ≤ MOST) }
+    ensures { OnOk result (out.new.items ≡ out.old.items ++ flat_map R.text (entry_at rows.now number)) }
 {
-    let Some(id) = NodeId::new(number) else {
+    let Some(id) = Identifier::new(number) else {
         return Ok(());
     };
-    match world.node_row(id) {
-        Some(row) => put_node_row(out, &row),
+    match rows.get(id) {
+        Some(row) => row.put(out, number),
         None => Ok(()),
     }
 }
 
-/// Puts the row of a client, where it has an order.
-fn put_client(out: &mut Vec<u8>, world: &World, number: u8) -> Result<(), AllocError>
-    requires { (1 ≤ number) × (number ≤ MAX_CLIENTS) }
-    ensures { OnOk result (out.new.items ≡ out.old.items ++ flat_map (client_row 0 []).text (row_of_client world.now number)) }
+/// Puts how many rows there are, and each of them, in ascending order.
+fn put_rows<const MOST: u8, R: Row>(
+    out: &mut Vec<u8>,
+    rows: &SlotTable<MOST, R>,
+) -> Result<(), AllocError>
+    requires { HasKeysTo MOST rows.now }
+    ensures { OnOk result (out.new.items ≡ out.old.items
+        ++ len rows.now ∷ flat_map R.text (entries rows.now)) }
 {
-    let Some(client) = Client::new(number) else {
-        return Ok(());
-    };
-    match world.last(client) {
-        Some(session) => put_client_row(out, &ClientRow { client, session }),
-        None => Ok(()),
+    out.push(rows.len())?;
+    for at in 0..MOST {
+        put_row(out, rows, at + 1)?;
     }
+    Ok(())
 }
 
 /// Puts the row of a link, where this is the lane from its lesser end.
@@ -195,52 +220,6 @@ fn lane_or_new(lane: Option<&Lane>) -> Lane
     }
 }
 
-fn has_node(world: &World, number: u8) -> bool
-    requires { IsNode number }
-    ensures { result ≡ has world.now.nodes number }
-{
-    match NodeId::new(number) {
-        Some(id) => world.node(id).is_some(),
-        None => false,
-    }
-}
-
-fn has_order(world: &World, number: u8) -> bool
-    requires { (1 ≤ number) × (number ≤ MAX_CLIENTS) }
-    ensures { result ≡ has world.now.sessions number }
-{
-    match Client::new(number) {
-        Some(client) => world.last(client).is_some(),
-        None => false,
-    }
-}
-
-fn count_nodes(world: &World) -> u8
-    requires { InRange world.now }
-    ensures { result ≡ length (rows_of world.now).nodes }
-{
-    let mut count = 0;
-    for number in 1..NODES_END {
-        if has_node(world, number) {
-            count += 1;
-        }
-    }
-    count
-}
-
-fn count_clients(world: &World) -> u8
-    requires { InRange world.now }
-    ensures { result ≡ length (rows_of world.now).clients }
-{
-    let mut count = 0;
-    for number in 1..CLIENTS_END {
-        if has_order(world, number) {
-            count += 1;
-        }
-    }
-    count
-}
-
 /// How many of these lanes go from the lesser end of their link to the greater one.
 fn count_up(lanes: &[((NodeId, NodeId), Lane)]) -> u8
     requires { length (where_key pair_cmp goes_up lanes.now) ≤ 128 }
@@ -260,11 +239,7 @@ pub fn put_nodes(out: &mut Vec<u8>, world: &World) -> Result<(), AllocError>
     requires { InRange world.now }
     ensures { OnOk result (out.new.items ≡ out.old.items ++ (nodes 0).text (rows_of world.now).nodes) }
 {
-    out.push(count_nodes(world))?;
-    for number in 1..NODES_END {
-        put_node(out, world, number)?;
-    }
-    Ok(())
+    put_rows(out, world.nodes())
 }
 
 #[tactic(auto, unfolding(crate::specs::Worlds::links, coord_batch::specs::Fields::how_many))]
@@ -285,9 +260,5 @@ pub fn put_clients(out: &mut Vec<u8>, world: &World) -> Result<(), AllocError>
     requires { InRange world.now }
     ensures { OnOk result (out.new.items ≡ out.old.items ++ (clients 0).text (rows_of world.now).clients) }
 {
-    out.push(count_clients(world))?;
-    for number in 1..CLIENTS_END {
-        put_client(out, world, number)?;
-    }
-    Ok(())
+    put_rows(out, world.sessions())
 }

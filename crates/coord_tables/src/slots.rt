@@ -1,6 +1,6 @@
 //! Values in slots: the value of key k stands in slot k - 1, and a slot may be empty.
 
-ghost use Rattle.std.specs.Prelude.{◌≡◌, ◌≤◌, ◌-◌, ◌↔◌, ℕ, Some, None, length, max, IsSome, IsTrue, IfOk, OnOk, OnErr};
+ghost use Rattle.std.specs.Prelude.{◌≡◌, ◌<◌, ◌≤◌, ◌-◌, ◌^◌, ◌↔◌, ℕ, Some, None, length, max, IsSome, IsTrue, IfOk, OnOk, OnErr};
 ghost use Rattle.std.specs.Option.{option_copied};
 ghost use Rattle.coord_tables.specs.Slots.{slot_at, slot_entries, IsSetAt};
 
@@ -52,6 +52,20 @@ pub fn take_out<V: Copy>(slots: &mut Vec<Option<V>>, key: u8)
     if key as usize <= slots.len() {
         slots[key as usize - 1] = None;
     }
+}
+
+/// How many slots are not empty.
+pub fn count<V>(slots: &[Option<V>]) -> u8
+    requires { length slots.now < 2 ^ 8 }
+    ensures { result ≡ length (slot_entries 1 slots.now) }
+{
+    let mut count = 0;
+    for slot in slots {
+        if slot.is_some() {
+            count += 1;
+        }
+    }
+    count
 }
 
 /// The values with their keys, in ascending order.

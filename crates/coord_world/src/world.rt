@@ -1,7 +1,7 @@
 //! The world of nodes, lanes and sessions.
 
 ghost use Rattle.std.specs.Prelude.{◌≡◌, ◌↔◌, IsTrue, Ok, IfOk, OnOk, OnErr};
-ghost use Rattle.std.specs.Option.{option_copied, option_map};
+ghost use Rattle.std.specs.Option.{option_copied};
 ghost use Rattle.coord_types.specs.Table as table;
 ghost use Rattle.coord_types.specs.declared.steps.Kind.{Kind};
 ghost use Rattle.coord_node.specs.Steps.{kind};
@@ -11,13 +11,14 @@ ghost use Rattle.coord_world.specs.protocol.Acceptance.{accepts, IsFresh};
 ghost use Rattle.coord_world.specs.protocol.Outputs.{outputs, again};
 ghost use Rattle.coord_world.specs.protocol.Legal.{Legal};
 ghost use Rattle.coord_world.specs.protocol.Ranges.{InRange};
-ghost use Rattle.coord_world.specs.protocol.Rows.{RowsFit, listed, node_row, rows_of};
+ghost use Rattle.coord_world.specs.protocol.Rows.{RowsFit, listed, rows_of};
 
-use crate::rows::parts::{NodeRow, Parts};
+use crate::rows::parts::Parts;
 use crate::tables::Tables;
 use crate::verdicts::Verdict;
 use coord_link::Lane;
 use coord_node::Node;
+use coord_tables::{NodeTable, SessionTable};
 use coord_types::{Client, NodeId, Output, Refusal, Reply, Session, Step};
 use std::alloc::{AllocError, Global};
 use std::marker::Model;
@@ -148,18 +149,25 @@ impl World {
         self.tables.lanes.entries()
     }
 
-    /// The row of a node.
-    pub fn node_row(&self, id: NodeId) -> Option<NodeRow>
-        ensures { result ≡ option_map (λ r. node_row record { 0 = id; 1 = r }) (table.get self.now.nodes id) }
+    /// The nodes by their numbers.
+    pub fn nodes(&self) -> &NodeTable
+        ensures { result.now ≡ self.now.nodes }
     {
-        self.tables.row_of(id)
+        &self.tables.nodes
+    }
+
+    /// The clients' last orders by the clients' numbers.
+    pub fn sessions(&self) -> &SessionTable
+        ensures { result.now ≡ self.now.sessions }
+    {
+        &self.tables.sessions
     }
 
     /// A client's last order.
     pub fn last(&self, client: Client) -> Option<Session>
         ensures { result ≡ table.get self.now.sessions client }
     {
-        self.tables.sessions.get(client)
+        self.tables.sessions.get(client).copied()
     }
 
     /// Whether this world, of which `settled` is what is settled, takes a step; the reply to a

@@ -1,7 +1,7 @@
 //! How a world is listed as rows.
 
 ghost use Rattle.std.specs.Prelude.{◌≡◌, IfOk, map};
-ghost use Rattle.std.specs.Option.{option_copied, option_map};
+ghost use Rattle.std.specs.Option.{option_copied};
 ghost use Rattle.std.specs.FinMap.Entries.{where_key};
 ghost use Rattle.coord_types.specs.Table as table;
 ghost use Rattle.coord_world.specs.protocol.NumberedWorld.{no_world, pair_cmp};
@@ -26,16 +26,6 @@ impl Tables {
             links: link_rows(alloc, &self.lanes)?,
             clients: client_rows(alloc, &self.sessions.entries(alloc)?)?,
         })
-    }
-
-    /// The row of a node.
-    pub fn row_of(&self, id: NodeId) -> Option<NodeRow>
-        ensures { result ≡ option_map (λ r. node_row record { 0 = id; 1 = r }) (table.get self.now.nodes id) }
-    {
-        match self.node(id) {
-            Some(node) => Some(node_row(id, node)),
-            None => None,
-        }
     }
 }
 

@@ -1,31 +1,22 @@
--- Number by number.
-use Rattle.std.proofs.Common.{◌+◌, ◌++◌, [], ◌∷◌, length, ap, ◌∙◌, append_assoc, arith}
+use Rattle.std.proofs.Common.{[], ◌++◌, ◌∷◌, sym, ap, ◌∙◌, subst, arith}
+use Rattle.std.proofs.lemmas.Result.{on_ok_weaker}
 use Rattle.std.specs.List.{flat_map}
-use Rattle.coord_world.specs.protocol.Rows.{rows_of}
+use Rattle.coord_types.specs.Table.{entries, len}
+use Rattle.coord_world.specs.protocol.Rows as rows
 use Rattle.coord_batch.specs.Fields.{how_many}
-use Rattle.coord_codec.specs.ByNumber.{clients_from, row_of_client}
+use Rattle.coord_codec.specs.ByNumber.{HasKeysTo, session_text}
 use Rattle.coord_codec.specs.Worlds.{client_row, clients}
-use Rattle.coord_codec.proofs.ByNumber.{all_clients, all_written, written_on}
+use Rattle.coord_codec.proofs.ByNumber.{rows_text}
 use Rattle.coord_codec.proofs.world_writing.put_clients.Goals as goal
 
-pub loop-number-init : goal.loop-number-init
-loop-number-init c =
-    let begun = c.in_ok-push.ensures.items ∙ ap (λ n. c.args.out.now.items ++ n ∷ []) c.count_clients.ensures in
-    λ i. begun i ++ flat_map (client_row 0 []).text (all_clients c.args.world.now c.requires i)
-
-pub put_client-requires : goal.put_client-requires
-put_client-requires c = (c.loop-number.auto.number, omega (arith, c.loop-number-test.true))
-
-pub loop-number-preserved : goal.loop-number-preserved
-loop-number-preserved c =
-    let w = c.args.world.now in
-    let u = c.loop-number.number in
-    ap (λ out. out ++ flat_map (client_row 0 []).text (clients_from w (u + 1))) c.in_ok-put_client.ensures
-    ∙ written_on (client_row 0 []).text (row_of_client w) 16 u c.loop-number.out.items _ (omega (arith, c.loop-number-test.true)) c.loop-number.invariant
+-- the size of a table, and the numbers of its keys
+pub put_rows-requires : goal.put_rows-requires
+put_rows-requires c = (omega arith, subst (HasKeysTo _) (sym c.sessions.ensures) (λ q x is. let range = c.requires.sessions q x is in (range.least, range.greatest)))
 
 pub returns : goal.returns
 unfolding clients how_many
 returns c =
-    let w = c.args.world.now in
-    all_written (client_row 0 []).text (row_of_client w) 16 c.loop-number.number c.loop-number.out.items _ (omega (arith, c.loop-number-test.false)) c.loop-number.invariant
-    ∙ append_assoc c.args.out.now.items (length (rows_of w).clients ∷ []) (flat_map (client_row 0 []).text (rows_of w).clients)
+    let out = c.args.out.now.items in
+    on_ok_weaker c.put_rows.result
+    (λ is. is ∙ ap (λ m. out ++ len m ∷ flat_map session_text (entries m)) c.sessions.ensures ∙ ap (λ text. out ++ text) (rows_text c.args.world.now.sessions rows.client_row (client_row 0 []).text))
+    c.put_rows.ensures

@@ -36,16 +36,21 @@ from_sorted-requires-clause-few c =
     let long = ap length c.in_ok-lanes_of.ensures ∙ sym (len-entries (with_links (empty {o = pair_cmp_total}) links)) in
     omega (arith, long, len-with_links (empty {o = pair_cmp_total}) links, len-empty pair_cmp_total Lane, c.requires.most_links, ap length c.deref-3.ensures.value)
 
+-- the sizes of a number and of a table, and that the entries rise
 pub from_sorted-requires-2 : goal.from_sorted-requires-2
 from_sorted-requires-2 c =
     let rows = listed c.args.parts.now in
     let near = c.by-near.result.sets in
     let known = subst (λ ls. AreNear ls near) c.deref.ensures.value c.by-near.ensures in
-    ap (is_sorted nat_cmp) (c.deref-5.ensures.value ∙ c.in_ok-nodes.ensures ∙ ap (map (entry_with (near_in near))) c.deref-2.ensures.value ∙ same_with near rows.links known rows.nodes (ids_are_nodes rows c.requires)) ∙ nodes_sorted rows c.requires
+    let rising =
+    ap (is_sorted nat_cmp) (c.deref-5.ensures.value ∙ c.in_ok-nodes.ensures ∙ ap (map (entry_with (near_in near))) c.deref-2.ensures.value ∙ same_with near rows.links known rows.nodes (ids_are_nodes rows c.requires)) ∙ nodes_sorted rows c.requires in
+    (omega arith, (omega arith, rising))
 
+-- the same of the orders
 pub from_sorted-requires-3 : goal.from_sorted-requires-3
 from_sorted-requires-3 c =
-    ap (is_sorted nat_cmp) (c.deref-6.ensures.value ∙ c.in_ok-sessions.ensures) ∙ ap (λ rs. is_sorted nat_cmp (map client_entry rs)) c.deref-4.ensures.value ∙ clients_sorted (listed c.args.parts.now) c.requires
+    let rising = ap (is_sorted nat_cmp) (c.deref-6.ensures.value ∙ c.in_ok-sessions.ensures) ∙ ap (λ rs. is_sorted nat_cmp (map client_entry rs)) c.deref-4.ensures.value ∙ clients_sorted (listed c.args.parts.now) c.requires in
+    (omega arith, (omega arith, rising))
 
 pub returns : goal.returns
 returns c =

@@ -1,0 +1,122 @@
+//! Tables by the numbers of identifiers: the nodes of a world, and its clients' last orders.
+
+ghost use Rattle.std.specs.Prelude.{◌≡◌, true, IsSome, IfOk, OnOk, OnErr, IsTrue, ◌↔◌};
+ghost use Rattle.std.specs.Option.{option_copied};
+ghost use Rattle.std.specs.Ordering.{nat_cmp};
+ghost use Rattle.std.specs.FinMap.Entries.{is_sorted};
+ghost use Rattle.coord_types.specs.Table as table;
+
+use crate::equality::Same;
+use crate::slots;
+use coord_node::Node;
+use coord_types::{Identifier, MAX_CLIENTS, MAX_NODES, Session};
+use std::alloc::{AllocError, Global};
+use std::marker::Model;
+
+/// Values in slots: that of key k stands in slot k - 1. Contracts see a table.
+#[derive(Drop, Debug)]
+pub struct SlotTable<const MOST: u8, V> {
+    slots: Vec<Option<V>>,
+}
+
+/// The nodes by their numbers.
+pub type NodeTable = SlotTable<MAX_NODES, Node>;
+
+/// Each client's last order.
+pub type SessionTable = SlotTable<MAX_CLIENTS, Session>;
+
+impl<const MOST: u8, V> Model for SlotTable<MOST, V> {
+    ghost use Rattle.std.specs.Prelude.{◌≤◌, length};
+    ghost use Rattle.std.specs.Cmp.{nat_cmp_total};
+    ghost use Rattle.std.specs.Coded.{coded_ℕ};
+    ghost use Rattle.coord_types.specs.Table.{Table, code};
+    ghost use Rattle.coord_tables.specs.Slots.{slot_table};
+
+    ghost Value = { Table nat_cmp_total V };
+
+    ghost coded = { code coded_ℕ V.code };
+
+    ghost view = { λ a. slot_table a.slots.items };
+
+    ghost invariant = { λ a. length a.slots.items ≤ MOST };
+}
+
+impl<const MOST: u8, V: Copy> SlotTable<MOST, V> {
+    pub fn new(alloc: Global) -> Self
+        ensures { result ≡ table.empty }
+    {
+        SlotTable {
+            slots: Vec::new(alloc),
+        }
+    }
+
+    /// The table of entries in ascending order.
+    pub fn from_sorted(alloc: Global, entries: &[(Identifier<MOST>, V)]) -> Result<Self, AllocError>
+        requires { is_sorted nat_cmp entries.now ≡ true }
+        ensures { IfOk result (λ made. made ≡ table.from_sorted entries.now) }
+    {
+        let mut made = SlotTable::new(alloc);
+        for entry in entries {
+            made.insert(entry.0, entry.1)?;
+        }
+        Ok(made)
+    }
+
+    /// The values with their keys, in ascending order.
+    pub fn entries(&self, alloc: Global) -> Result<Vec<(Identifier<MOST>, V)>, AllocError>
+        ensures { IfOk result (λ entries. entries.items ≡ table.entries self.now) }
+    {
+        slots::entries(alloc, &self.slots)
+    }
+
+    /// How many values there are.
+    pub fn len(&self) -> u8
+        ensures { result ≡ table.len self.now }
+    {
+        slots::count(&self.slots)
+    }
+
+    pub fn get(&self, key: Identifier<MOST>) -> Option<&V>
+        ensures { option_copied result ≡ table.get self.now key.entry }
+    {
+        slots::value_at(&self.slots, key.number() as usize - 1)
+    }
+
+    /// Puts a value at a key, in place of one that is there.
+    pub fn insert(&mut self, key: Identifier<MOST>, value: V) -> Result<(), AllocError>
+        ensures ok { OnOk result (self.new ≡ table.insert self.old key.entry value) }
+        ensures err { OnErr result (self.new ≡ self.old) }
+    {
+        slots::put(&mut self.slots, key.number(), value)
+    }
+
+    /// Puts a value at a key in place of the one that is there.
+    pub fn replace(&mut self, key: Identifier<MOST>, value: V)
+        requires { IsSome (table.get self.old key) }
+        ensures { self.new ≡ table.insert self.old key.entry value }
+    {
+        slots::replace(&mut self.slots, key.number(), value);
+    }
+
+    pub fn remove(&mut self, key: Identifier<MOST>)
+        ensures { self.new ≡ table.remove self.old key.entry }
+    {
+        slots::take_out(&mut self.slots, key.number());
+    }
+
+    pub fn is_same(&self, other: &Self) -> bool
+    where
+        V: Same,
+        ensures { IsTrue result ↔ (self.now ≡ other.now) }
+    {
+        slots::is_same_slots(&self.slots, &other.slots)
+    }
+
+    pub fn copy(&self) -> Result<Self, AllocError>
+        ensures { IfOk result (λ copy. copy ≡ self.now) }
+    {
+        let alloc = *self.slots.allocator();
+        let slots = Vec::from_slice(alloc, &self.slots)?;
+        Ok(SlotTable { slots })
+    }
+}
