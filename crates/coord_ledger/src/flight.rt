@@ -1,9 +1,9 @@
 //! Flights: steps on their way to the disk.
 
-ghost use Rattle.std.specs.Prelude.{◌≡◌, ◌⊎◌, ◌+◌, ◌≤◌, true, length, Err, MatchResult};
+ghost use Rattle.std.specs.Prelude.{◌≡◌, ◌⊎◌, ◌+◌, ◌≤◌, true, length, Err, IsErrOf, MatchResult};
 ghost use Rattle.coord_disk.specs.Model.Moments.{LeavesOnly};
 ghost use Rattle.coord_store.specs.Faults.{failures_in};
-ghost use Rattle.coord_store.specs.Kept.{GivesEither};
+ghost use Rattle.coord_store.specs.Kept.{GivesEither, IsOnlyWorld};
 ghost use Rattle.coord_store.specs.declared.faults.CommitFault.TheVariants.{OutOfMemory, Device, Stopped, Again};
 ghost use Rattle.coord_world.specs.protocol.Next.{fold};
 ghost use Rattle.coord_ledger.specs.declared.mark.Mark.TheVariants.{New, Good, Torn};
@@ -49,6 +49,9 @@ impl<D: Disk> Flight<D> {
         // A crash at any moment of the call leaves what gives the world from before the steps or from after them.
         ensures any_moment { D.keeps_model self.old.disk ≡ true → self.old.mark ≡ New
             → LeavesOnly D.clock D.left_since self.old.disk self.new.disk (GivesEither self.old.world (fold self.old.world self.old.steps)) }
+        // Where it is refused for memory, the world from before them alone.
+        ensures any_moment_refused { D.keeps_model self.old.disk ≡ true → self.old.mark ≡ New → IsErrOf result CommitFault.OutOfMemory
+            → LeavesOnly D.clock D.left_since self.old.disk self.new.disk (IsOnlyWorld self.old.world) }
 
         // What it answers, and what the flight is then.
         ensures tried { self.old.mark ≡ New → MatchResult result (λ _. self.new.mark ≡ Good) (λ fault. ((fault ≡ Device) × (self.new.mark ≡ Torn)) ⊎ ((fault ≡ OutOfMemory) × (self.new.mark ≡ New))) }
