@@ -1,6 +1,6 @@
 -- Answers at some moment.
-use Rattle.std.proofs.Common.{Result, Ok, Err}
-use Rattle.std.specs.Prelude.{IfErr, IfOk}
+use Rattle.std.proofs.Common.{Option, Some, None, Result, Ok, Err}
+use Rattle.std.specs.Prelude.{IfErr, IfNone, IfOk}
 use Rattle.coord_ledger.specs.machine.Consistent.{IsConsistentLog}
 use Rattle.coord_engine.specs.State.{GuardedState}
 use Rattle.coord_engine.specs.Threads.{AtSomeMoment}
@@ -16,3 +16,7 @@ module _ {D : Type 0} (g : GuardedState D) (is : IsConsistentLog g.ledger.log) w
   pub on_err : {T E : Type 0} (r : Result T E) (P : E → GuardedState D → Type 0) → IfErr r (λ e. P e g) → IfErr r (λ e. AtSomeMoment (P e))
   on_err (Ok x) P p = tt
   on_err (Err e) P p = then (P e) p
+
+  pub on_none : {T : Type 0} (r : Option T) (Q P : GuardedState D → Type 0) → (Q g → P g) → IfNone r (Q g) → IfNone r (AtSomeMoment P)
+  on_none (Some x) Q P so q = tt
+  on_none None Q P so q = then P (so q)

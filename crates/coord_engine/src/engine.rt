@@ -1,11 +1,12 @@
 //! The engine: the value under a lock, and a condition on which callers wait.
 
-ghost use Rattle.std.specs.Prelude.{◌≡◌, ◌⊎◌, [], false, true, None, IfErr, IfNone, IfOk, IfSome, OnErr};
+ghost use Rattle.std.specs.Prelude.{◌≡◌, ◌<◌, ◌⊎◌, [], false, true, None, IfErr, IfNone, IfOk, IfSome, OnErr};
 ghost use Rattle.coord_store.specs.declared.faults.CommitFault.TheVariants.{Device, OutOfMemory};
 ghost use Rattle.coord_ledger.specs.ledger.Calls.{keeps_store, releases_in};
 ghost use Rattle.coord_ledger.specs.ledger.State.{IsCollectable, reply_of};
 ghost use Rattle.coord_engine.specs.Calls.{RefusesTicket};
 ghost use Rattle.coord_engine.specs.Closing.{RefusesClosing};
+ghost use Rattle.coord_engine.specs.State.{most_shares};
 ghost use Rattle.coord_engine.specs.Threads.{AtSomeMoment, Closes, Flushes, Leaves, RefusesShow, SendsAgain, Shows, Submits};
 
 use crate::{CloseFault, Closed, Collected, Guarded, Share};
@@ -46,9 +47,12 @@ impl<D: Disk, L: Count> Engine<D, L> {
 
     /// A share without notes, where not all 65,535 were given out.
     pub fn share<R: Wait>(&self, rt: &R) -> Option<Share<L>>
-        ensures { IfSome result (λ share. share ≡ []) }
+        ensures given { IfSome result (λ share. (share ≡ []) × AtSomeMoment {D = D} (λ g. g.given < most_shares)) }
+        ensures none { IfNone result (AtSomeMoment {D = D} (λ g. g.given ≡ most_shares)) }
     {
-        self.guarded.lock(rt).share()
+        let mut guarded = self.guarded.lock(rt);
+        guarded.keeps();
+        guarded.share()
     }
 
     /// Accepts a step as the ledger does, and notes it at the end of the caller's share. A repeat is
