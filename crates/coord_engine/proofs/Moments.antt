@@ -1,13 +1,17 @@
 -- Answers at some moment.
 use Rattle.std.proofs.Common.{Option, Some, None, Result, Ok, Err}
 use Rattle.std.specs.Prelude.{IfErr, IfNone, IfOk}
+<<<<<<< HEAD
 use Rattle.coord_ledger.specs.machine.Consistent.{IsConsistentLog}
 use Rattle.coord_engine.specs.State.{GuardedState}
+=======
+use Rattle.coord_engine.specs.State.{CanHold, GuardedState}
+>>>>>>> h-clauses
 use Rattle.coord_engine.specs.Threads.{AtSomeMoment}
 
-module _ {D : Type 0} (g : GuardedState D) (is : IsConsistentLog g.ledger.log) where
+module _ {D : Type 0} (g : GuardedState D) (is : CanHold g) where
   pub then : (P : GuardedState D → Type 0) → P g → AtSomeMoment P
-  then P p = record { state = g; consistent = is; so = p }
+  then P p = record { state = g; held = is; so = p }
 
   pub on_ok : {T E : Type 0} (r : Result T E) (P : T → GuardedState D → Type 0) → IfOk r (λ x. P x g) → IfOk r (λ x. AtSomeMoment (P x))
   on_ok (Ok x) P p = then (P x) p

@@ -1,6 +1,8 @@
--- The value under an engine's lock as contracts see it, and what becomes of it.
-use Rattle.std.specs.Prelude.{ℕ, ◌+◌, Bool, true, false, length}
+-- The value under an engine's lock as contracts see it, what a lock can hold, and what becomes of it.
+use Rattle.std.specs.Prelude.{◌≡◌, ℕ, ◌+◌, ◌≤◌, Bool, true, false, is_none, is_some, length, IfSome}
 use Rattle.coord_ledger.specs.ledger.State.{LedgerState}
+use Rattle.coord_ledger.specs.machine.Answers.{most_in_flight}
+use Rattle.coord_ledger.specs.machine.Consistent.{IsConsistentLog}
 
 pub record GuardedState (D : Type 0) : Type 0 where
   pub ledger : LedgerState D
@@ -12,6 +14,15 @@ pub record GuardedState (D : Type 0) : Type 0 where
 -- how many shares there are; one more part of the count stays behind the lock
 abbrev pub most_shares : ℕ
 most_shares = 65535
+
+-- What the type of the value keeps of it: the steps that are out are the next ones, and the store is out with them; those in doubt are of the trail; the trail has not shrunk.
+pub record CanHold {D : Type 0} (g : GuardedState D) : Type 0 where
+  pub log : IsConsistentLog g.ledger.log
+  pub out : IfSome g.ledger.out (λ size. (1 ≤ size) × (size ≤ most_in_flight) × (g.ledger.log.settled + size ≤ length g.ledger.log.trail))
+  pub home : is_some g.ledger.out ≡ is_none g.ledger.disk
+  pub doubt : IfSome g.ledger.doubt (λ size. g.ledger.log.settled + size ≤ length g.ledger.log.trail)
+  pub grown : g.start ≤ length g.ledger.log.trail
+  pub shares : g.given ≤ most_shares
 
 -- the engine was just made over this ledger
 abbrev pub guarded_over : {D : Type 0} → LedgerState D → GuardedState D

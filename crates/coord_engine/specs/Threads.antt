@@ -12,17 +12,16 @@ use Rattle.coord_ledger.specs.ledger.Calls.{keeps_store, next_flight}
 use Rattle.coord_ledger.specs.ledger.State.{Claim, FlightState, LedgerState}
 use Rattle.coord_ledger.specs.machine.After.{releases_of, resent}
 use Rattle.coord_ledger.specs.machine.Answers.{most_in_flight}
-use Rattle.coord_ledger.specs.machine.Consistent.{IsConsistentLog}
 use Rattle.coord_ledger.specs.machine.Log.{accepted_count, pending, settled_count, settled_world}
 use Rattle.coord_ledger.specs.machine.Shown.{Shown, shown}
 use Rattle.coord_engine.specs.Calls.{AnswersStep, told}
 use Rattle.coord_engine.specs.Closing.{MayClose}
-use Rattle.coord_engine.specs.State.{GuardedState}
+use Rattle.coord_engine.specs.State.{CanHold, GuardedState}
 
 -- so it is in some state that the value under the lock can have
 pub record AtSomeMoment {D : Type 0} (P : GuardedState D → Type 0) : Type 0 where
   pub state : GuardedState D
-  pub consistent : IsConsistentLog state.ledger.log
+  pub held : CanHold state
   pub so : P state
 
 -- a step was submitted

@@ -3,10 +3,8 @@
 //! What each call of an engine does is the contract of a method here; the engine takes the lock and
 //! calls it.
 
-ghost use Rattle.std.specs.Prelude.{◌≡◌, ◌<◌, ◌≤◌, ◌+◌, [], is_some, length, IfNone, IfSome, None};
-ghost use Rattle.coord_engine.specs.State.{guarded_over, most_shares, with_finish, with_share};
-ghost use Rattle.coord_ledger.specs.machine.Answers.{most_in_flight};
-ghost use Rattle.coord_ledger.specs.machine.Consistent.{IsConsistentLog};
+ghost use Rattle.std.specs.Prelude.{◌≡◌, ◌<◌, [], IfNone, IfSome, None};
+ghost use Rattle.coord_engine.specs.State.{CanHold, guarded_over, most_shares, with_finish, with_share};
 
 mod closing;
 mod collecting;
@@ -113,13 +111,9 @@ impl<D: Disk, L: Count> Guarded<D, L> {
         self.finishing
     }
 
-    /// Does nothing: its contract is what holds whenever the lock is free.
+    /// Does nothing: its contract is what the type keeps, so what any lock holds that is taken.
     pub fn keeps(&self)
-        ensures log { IsConsistentLog self.now.ledger.log }
-        ensures out { IfSome self.now.ledger.out (λ size. (1 ≤ size) × (size ≤ most_in_flight) × (self.now.ledger.log.settled + size ≤ length self.now.ledger.log.trail)) }
-        ensures doubt { IfSome self.now.ledger.doubt (λ size. self.now.ledger.log.settled + size ≤ length self.now.ledger.log.trail) }
-        ensures grown { self.now.start ≤ length self.now.ledger.log.trail }
-        ensures shares { self.now.given ≤ most_shares }
+        ensures { CanHold self.now }
     {
         self.ledger.log_is_consistent();
     }

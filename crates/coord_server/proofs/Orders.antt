@@ -14,7 +14,7 @@ use Rattle.coord_server.specs.EngineDesk.{IsAccepted, Orders, ShowsTo}
 -- it was accepted, and then there was no reply
 pub gives_up : (D : Type 0) (s : Step) (claim : Claim) (refusal : Refusal) (before after : List Note) → IsAccepted D s claim before after → AtSomeMoment {D = D} (λ g. RefusesTicket g.ledger claim refusal) → Orders D s (Err refusal) before after
 gives_up D s claim refusal before after accepted told =
-    inr (claim, accepted, record { state = told.state; consistent = told.consistent; so = (refl, told.so) })
+    inr (claim, accepted, record { state = told.state; held = told.held; so = (refl, told.so) })
 
 shows_from : (D : Type 0) (r : Result Shown Refusal) (before after : ℕ) → IfOk r (λ view. AtSomeMoment {D = D} (Shows {D = D} view before after)) → IfErr r (λ refusal. AtSomeMoment {D = D} (RefusesShow {D = D} refusal before)) → OnErr r (after ≡ before) → ShowsTo D r before after
 shows_from D (Ok view) before after shown refused unseen = shown

@@ -1,5 +1,5 @@
--- The lines that a server prints.
-use Rattle.std.specs.Prelude.{ℕ, List, ◌++◌, codes, decimal}
+-- The lines that a server prints, and what prints them.
+use Rattle.std.specs.Prelude.{ℕ, Bool, false, List, ◌++◌, codes, decimal}
 use Rattle.std.specs.Net.Text.{socket_text}
 use Rattle.std.specs.declared.net.socket_addr.SocketAddr.{SocketAddr}
 
@@ -10,3 +10,12 @@ listening_line address = codes "listening " ++ socket_text address ++ codes "\n"
 -- a reset has ended at this node, and this epoch has begun
 abbrev pub signal_line : ℕ → ℕ → List ℕ
 signal_line node epoch = codes "signal " ++ decimal node ++ codes " " ++ decimal epoch ++ codes "\n"
+
+-- an output as contracts see it, and whether a line to it has failed
+pub record PrinterState (W : Type 0) : Type 0 where
+  pub output : W
+  pub is_broken : Bool
+
+-- nothing was printed to it yet
+abbrev pub new_printer : {W : Type 0} → W → PrinterState W
+new_printer output = record { output = output; is_broken = false }

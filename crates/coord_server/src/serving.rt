@@ -1,6 +1,7 @@
 //! An engine with its threads, which serves connections.
 
-ghost use Rattle.std.specs.Prelude.{◌≡◌, false, IfOk, None};
+ghost use Rattle.std.specs.Prelude.{◌≡◌, false, true, IfErr, IfOk, IsErrOf, IsOk, MatchResult, None, OnOk};
+ghost use Rattle.coord_server.specs.declared.fault.ServerFault.TheVariants as ServerFault;
 ghost use Rattle.coord_store.specs.Kept.{has_stopped};
 ghost use Rattle.coord_server.specs.Ending.{IsOneHistory, LeavesOf};
 
@@ -93,14 +94,20 @@ fn close<D: Disk, L: Count>(
     }
 }
 
-/// What is left at the end, or the fault that is told of all that were met.
+/// What is left at the end, or the fault that is told of all that were met: a stopped store, then
+/// what ended the serving, then an engine that could not be taken apart, then the output.
 fn end<D: Disk>(
     closed: Result<Closed<D>, CloseFault>,
     served: Result<(), ServerFault>,
     is_broken: bool,
 ) -> Result<Closed<D>, ServerFault>
     requires { IfOk closed (λ closed. IsOneHistory {D = D} closed.store closed.base closed.trail.items closed.settled) }
-    ensures { IfOk result (λ closed. LeavesOf {D = D} closed.store closed.base closed.trail.items closed.settled) }
+    ensures left { IfOk result (λ closed. LeavesOf {D = D} closed.store closed.base closed.trail.items closed.settled) }
+    ensures not_closed { IfErr closed (λ fault. MatchResult served (λ _. IsErrOf result (ServerFault.NotClosed fault)) (λ met. IsErrOf result met)) }
+    ensures device { IfOk closed (λ closed. has_stopped closed.store ≡ true → IsErrOf result ServerFault.Device) }
+    ensures served { IfOk closed (λ closed. has_stopped closed.store ≡ false → IfErr served (λ met. IsErrOf result met)) }
+    ensures broken { IfOk closed (λ closed. has_stopped closed.store ≡ false → OnOk served (is_broken ≡ true → IsErrOf result ServerFault.Write)) }
+    ensures whole { IfOk closed (λ closed. has_stopped closed.store ≡ false → OnOk served (is_broken ≡ false → IsOk result)) }
 {
     let closed = match closed {
         Ok(closed) => closed,

@@ -9,4 +9,4 @@ pub returns-in-Ok-clause-flushed : goal.returns-in-Ok-clause-flushed
 returns-in-Ok-clause-flushed g c =
     let m : AtSomeMoment {D = g.row.D.Denot} (Leaves c.in-Some.flight) = subst (λ o. IfSome o (λ f. AtSomeMoment {D = g.row.D.Denot} (Leaves f))) c.in-Some.is c.in_ok-begin.ensures.begun in
     let e = c.in-Ok.ensures in
-    then m.state m.consistent (Flushes c.end-releases.result) (flushed c.in-Some.flight c.commit-committed.new.self m.state c.end-releases.result m.so e.tried e.same_steps e.same_world c.end-releases.ensures)
+    then m.state m.held (Flushes c.end-releases.result) (flushed c.in-Some.flight c.commit-committed.new.self m.state c.end-releases.result m.so e.tried e.same_steps e.same_world c.end-releases.ensures)

@@ -1,6 +1,5 @@
 use Rattle.std.proofs.Common.{sym, subst, ◌∙◌}
-use Rattle.coord_ledger.specs.machine.Consistent.{IsConsistentLog}
-use Rattle.coord_engine.specs.State.{GuardedState}
+use Rattle.coord_engine.specs.State.{CanHold}
 use Rattle.coord_engine.specs.Threads.{RefusesShow, Shows}
 use Rattle.coord_engine.proofs.Moments.{on_err, on_ok}
 use Rattle.coord_engine.proofs.Showing.{LedgerShows, told}
@@ -8,12 +7,12 @@ use Rattle.coord_engine.proofs.engine.Engine.show.Goals as goal
 
 pub returns-clause-shown : goal.returns-clause-shown
 returns-clause-shown g c =
-    let is = subst (λ (x : GuardedState g.row.D.Denot). IsConsistentLog x.ledger.log) (c.deref.ensures ∙ sym c.deref-2.ensures) c.keeps.ensures.log in
+    let is = subst (CanHold {D = g.row.D.Denot}) (c.deref.ensures ∙ sym c.deref-2.ensures) c.keeps.ensures in
     let by : LedgerShows c.deref-2.result.now c.args.seen.now c.show.new.seen c.show.result = record { stopped = rw (sym c.ledger.ensures) c.show.ensures.stopped; behind = rw (sym c.ledger.ensures) c.show.ensures.behind; view = rw (sym c.ledger.ensures) c.show.ensures.shown } in
     on_ok c.deref-2.result.now is c.show.result (λ v. Shows v c.args.seen.now c.show.new.seen) (told c.deref-2.result.now c.args.seen.now c.show.new.seen c.show.result by).0
 
 pub returns-clause-refused : goal.returns-clause-refused
 returns-clause-refused g c =
-    let is = subst (λ (x : GuardedState g.row.D.Denot). IsConsistentLog x.ledger.log) (c.deref.ensures ∙ sym c.deref-2.ensures) c.keeps.ensures.log in
+    let is = subst (CanHold {D = g.row.D.Denot}) (c.deref.ensures ∙ sym c.deref-2.ensures) c.keeps.ensures in
     let by : LedgerShows c.deref-2.result.now c.args.seen.now c.show.new.seen c.show.result = record { stopped = rw (sym c.ledger.ensures) c.show.ensures.stopped; behind = rw (sym c.ledger.ensures) c.show.ensures.behind; view = rw (sym c.ledger.ensures) c.show.ensures.shown } in
     on_err c.deref-2.result.now is c.show.result (λ why. RefusesShow why c.args.seen.now) (told c.deref-2.result.now c.args.seen.now c.show.new.seen c.show.result by).1

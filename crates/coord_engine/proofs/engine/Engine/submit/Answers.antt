@@ -1,16 +1,15 @@
 use Rattle.std.proofs.Common.{sym, subst, ◌∙◌}
-use Rattle.coord_ledger.specs.machine.Consistent.{IsConsistentLog}
-use Rattle.coord_engine.specs.State.{GuardedState}
+use Rattle.coord_engine.specs.State.{CanHold}
 use Rattle.coord_engine.specs.Threads.{Submits}
 use Rattle.coord_engine.proofs.Moments.{then}
 use Rattle.coord_engine.proofs.engine.Engine.submit.Goals as goal
 
 pub returns-then-wakes : goal.returns-then-wakes
 returns-then-wakes g c =
-    let is = subst (λ (x : GuardedState g.row.D.Denot). IsConsistentLog x.ledger.log) (c.deref.ensures ∙ sym c.deref_mut.ensures.value) c.keeps.ensures.log in
+    let is = subst (CanHold {D = g.row.D.Denot}) (c.deref.ensures ∙ sym c.deref_mut.ensures.value) c.keeps.ensures in
     then c.deref_mut.result.now is (Submits c.args.step c.submit-answer.result c.args.mine.now c.submit-answer.new.mine) (c.submit-answer.new.self.ledger, c.submit-answer.ensures.answer)
 
 pub returns-else-wakes : goal.returns-else-wakes
 returns-else-wakes g c =
-    let is = subst (λ (x : GuardedState g.row.D.Denot). IsConsistentLog x.ledger.log) (c.deref.ensures ∙ sym c.deref_mut.ensures.value) c.keeps.ensures.log in
+    let is = subst (CanHold {D = g.row.D.Denot}) (c.deref.ensures ∙ sym c.deref_mut.ensures.value) c.keeps.ensures in
     then c.deref_mut.result.now is (Submits c.args.step c.submit-answer.result c.args.mine.now c.submit-answer.new.mine) (c.submit-answer.new.self.ledger, c.submit-answer.ensures.answer)
