@@ -1,12 +1,7 @@
 -- Answers at some moment.
 use Rattle.std.proofs.Common.{Option, Some, None, Result, Ok, Err}
 use Rattle.std.specs.Prelude.{IfErr, IfNone, IfOk}
-<<<<<<< HEAD
-use Rattle.coord_ledger.specs.machine.Consistent.{IsConsistentLog}
-use Rattle.coord_engine.specs.State.{GuardedState}
-=======
 use Rattle.coord_engine.specs.State.{CanHold, GuardedState}
->>>>>>> h-clauses
 use Rattle.coord_engine.specs.Threads.{AtSomeMoment}
 
 module _ {D : Type 0} (g : GuardedState D) (is : CanHold g) where
