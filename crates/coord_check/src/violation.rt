@@ -28,6 +28,7 @@ pub enum Letter {
 }
 
 impl Letter {
+    /// The letter as it is printed.
     pub fn name(self) -> &'static str
         ensures { result.now ≡ letter_name self }
     {

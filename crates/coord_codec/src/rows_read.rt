@@ -31,6 +31,7 @@ pub struct NodesRead {
 }
 
 impl NodesRead {
+    /// No row was read yet.
     pub fn new(alloc: Global) -> Self
         ensures { result.rows.items ≡ [] }
     {
@@ -92,6 +93,7 @@ pub struct LinksRead {
 }
 
 impl LinksRead {
+    /// No row was read yet.
     pub fn new(alloc: Global) -> Self
         ensures { result.rows.items ≡ [] }
     {

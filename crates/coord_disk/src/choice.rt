@@ -1,3 +1,5 @@
+//! What a crash leaves.
+
 /// What a crash leaves.
 #[derive(Drop)]
 pub enum Choice {

@@ -1,3 +1,5 @@
+//! That a device failed.
+
 ghost use Rattle.std.specs.Prelude.{Some, codes};
 
 use std::error::Error;

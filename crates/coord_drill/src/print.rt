@@ -18,6 +18,7 @@ pub fn print_bad_line(text: &mut String, number: u64) -> Result<(), AllocError>
     writeln!(text, "bad line {number}")
 }
 
+/// Adds the line of a reply: its kind and its step.
 pub fn print_reply(text: &mut String, reply: Reply) -> Result<(), AllocError>
     ensures { OnOk result (string_bytes text.new ≡ string_bytes text.old ++ reply_line reply) }
 {
@@ -26,6 +27,7 @@ pub fn print_reply(text: &mut String, reply: Reply) -> Result<(), AllocError>
     writeln!(text, "{kind} {step}")
 }
 
+/// Adds what a check found: `legal`, or the predicate that fails and where.
 pub fn print_fault(text: &mut String, fault: Option<Violation>) -> Result<(), AllocError>
     ensures { OnOk result (string_bytes text.new ≡ string_bytes text.old ++ fault_line fault) }
 {
@@ -35,24 +37,28 @@ pub fn print_fault(text: &mut String, fault: Option<Violation>) -> Result<(), Al
     }
 }
 
+/// Adds the line for a step that waits for a flight.
 pub fn print_pending(text: &mut String, step: u64) -> Result<(), AllocError>
     ensures { OnOk result (string_bytes text.new ≡ string_bytes text.old ++ pending_line step) }
 {
     writeln!(text, "pending {step}")
 }
 
+/// Adds the line of a refusal: its number and its name.
 pub fn print_refusal(text: &mut String, refusal: Refusal) -> Result<(), AllocError>
     ensures { OnOk result (string_bytes text.new ≡ string_bytes text.old ++ refusal_line refusal) }
 {
     writeln!(text, "no {refusal}")
 }
 
+/// Adds the line for a lane that has nothing to take or to clear.
 pub fn print_idle(text: &mut String) -> Result<(), AllocError>
     ensures { OnOk result (string_bytes text.new ≡ string_bytes text.old ++ idle_line) }
 {
     text.push_str("idle\n")
 }
 
+/// Adds the line for a commit that failed.
 pub fn print_commit_fault(text: &mut String, fault: CommitFault) -> Result<(), AllocError>
     ensures { OnOk result (string_bytes text.new ≡ string_bytes text.old ++ commit_line fault) }
 {
@@ -60,13 +66,14 @@ pub fn print_commit_fault(text: &mut String, fault: CommitFault) -> Result<(), A
     writeln!(text, "commit {number} {fault}")
 }
 
-/// How many steps are settled.
+/// Adds the line of how many steps are settled.
 pub fn print_count(text: &mut String, settled: u64) -> Result<(), AllocError>
     ensures { OnOk result (string_bytes text.new ≡ string_bytes text.old ++ count_line settled) }
 {
     writeln!(text, "settled {settled}")
 }
 
+/// Adds the line for a store that was opened again, with its count of steps.
 pub fn print_opened(text: &mut String, count: u64) -> Result<(), AllocError>
     ensures { OnOk result (string_bytes text.new ≡ string_bytes text.old ++ opened_line count) }
 {
@@ -116,6 +123,7 @@ fn print_link(text: &mut String, view: &LinkView) -> Result<(), AllocError>
     writeln!(text, "link {a} {b} {inc}")
 }
 
+/// Adds the line of a packet or a signal that goes out.
 pub fn print_output(text: &mut String, output: &Output) -> Result<(), AllocError>
     ensures { OnOk result (string_bytes text.new ≡ string_bytes text.old ++ output_line output.now) }
 {

@@ -24,6 +24,7 @@ impl<'a> Model for Words<'a> {
 }
 
 impl<'a> Words<'a> {
+    /// The words of a line, none of which was read.
     pub fn of(line: &'a str) -> Self
         ensures { result ≡ words_of line.entry.now }
     {
@@ -47,6 +48,7 @@ impl<'a> Words<'a> {
         }
     }
 
+    /// The next word as a number: decimal digits alone, below 2^64.
     #[tactic(auto, unfolding(crate::specs::Grammar::number))]
     pub fn number(&mut self) -> Option<u64>
         ensures { Reads (number.read self.old) result self.new }
@@ -54,6 +56,7 @@ impl<'a> Words<'a> {
         number_in(self.next()?)
     }
 
+    /// The next word as the number of a node, 1 to 64.
     #[tactic(auto, unfolding(crate::specs::Grammar::node))]
     pub fn node(&mut self) -> Option<NodeId>
         ensures { Reads (node.read self.old) result self.new }
@@ -61,6 +64,7 @@ impl<'a> Words<'a> {
         NodeId::new(small_number_in(self.next()?)?)
     }
 
+    /// The next word as the number of a group, 1 to 16.
     #[tactic(auto, unfolding(crate::specs::Grammar::group))]
     pub fn group(&mut self) -> Option<Group>
         ensures { Reads (group.read self.old) result self.new }
@@ -68,6 +72,7 @@ impl<'a> Words<'a> {
         Group::new(small_number_in(self.next()?)?)
     }
 
+    /// The next word as the number of a client, 1 to 16.
     #[tactic(auto, unfolding(crate::specs::Grammar::client))]
     pub fn client(&mut self) -> Option<Client>
         ensures { Reads (client.read self.old) result self.new }
@@ -75,6 +80,7 @@ impl<'a> Words<'a> {
         Client::new(small_number_in(self.next()?)?)
     }
 
+    /// The next word as the name of a message.
     #[tactic(auto, unfolding(crate::specs::Grammar::message, crate::specs::Grammar::message_of))]
     pub fn message(&mut self) -> Option<Msg>
         ensures { Reads (message.read self.old) result self.new }

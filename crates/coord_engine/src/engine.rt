@@ -19,8 +19,8 @@ use std::sync::ledger::{Blank, Ledger as Count};
 use std::sync::{Condvar, Mutex, Wait};
 use std::thread;
 
-/// One ledger that threads share. Each call but `collect` and `flush_once` is one call of the value
-/// under the lock.
+/// One ledger that threads share. Each call but `collect`, `flush_once` and `close` takes the lock
+/// once.
 #[derive(Drop)]
 pub struct Engine<D: Disk, L: Count> {
     pub(crate) guarded: Mutex<Guarded<D, L>>,

@@ -104,13 +104,6 @@ impl<D: Disk, L: Count> Guarded<D, L> {
         self.finishing = true;
     }
 
-    /// Whether `finish` was called.
-    pub fn is_finishing(&self) -> bool
-        ensures { result ≡ self.now.finishing }
-    {
-        self.finishing
-    }
-
     /// Does nothing: its contract is what the type keeps, so what any lock holds that is taken.
     pub fn keeps(&self)
         ensures { CanHold self.now }

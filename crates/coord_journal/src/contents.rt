@@ -1,3 +1,5 @@
+//! What a journal holds.
+
 /// What a journal holds.
 #[derive(Debug, Drop, PartialEq, Eq)]
 pub struct Contents {

@@ -1,3 +1,5 @@
+//! Why a call of a journal is refused.
+
 ghost use Rattle.std.specs.Prelude.{◌≡◌, Some};
 ghost use Rattle.coord_journal.specs.Fault.{name_of, number_of};
 ghost use Rattle.coord_journal.specs.declared.fault.JournalFault.TheVariants.{OutOfMemory, Device};

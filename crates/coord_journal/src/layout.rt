@@ -1,4 +1,4 @@
-// How a journal lies on a device: a header of 17 bytes, and two halves behind it.
+//! How a journal lies on a device: a header of 17 bytes, and two halves behind it.
 
 /// The name in the header, behind the selector.
 pub const MAGIC: [u8; 8] = *b"ACRRESET";

@@ -20,6 +20,7 @@ impl Model for Seen {
 }
 
 impl Seen {
+    /// Nothing was shown yet.
     pub fn new() -> Self
         ensures { result ≡ 0 }
     {

@@ -107,12 +107,14 @@ impl Node {
         }
     }
 
+    /// The group, which never changes.
     pub fn group(&self) -> Group
         ensures { result ≡ self.now.group }
     {
         self.group
     }
 
+    /// Whether a wave is at the node, and which part of it.
     pub fn mode(&self) -> Mode
         ensures { result ≡ self.now.mode }
     {
@@ -133,6 +135,7 @@ impl Node {
         self.pend
     }
 
+    /// The nodes that it has links to.
     pub fn neighbours(&self) -> NodeSet
         ensures { result ≡ self.now.neighbours }
     {

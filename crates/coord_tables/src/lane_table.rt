@@ -39,6 +39,7 @@ impl Model for LaneTable {
 }
 
 impl LaneTable {
+    /// The empty table. It takes no memory.
     pub fn new(alloc: Global) -> Self
         ensures { result ≡ table.empty }
     {
@@ -60,6 +61,7 @@ impl LaneTable {
         Ok(LaneTable { lanes, places })
     }
 
+    /// The lane from one node to another.
     pub fn get(&self, from: NodeId, to: NodeId) -> Option<&Lane>
         ensures { option_copied result ≡ table.get self.now record { 0 = from; 1 = to } }
     {
@@ -121,12 +123,14 @@ impl LaneTable {
         index_all(&mut self.places, &self.lanes);
     }
 
+    /// Whether both hold the same lanes between the same nodes.
     pub fn is_same(&self, other: &LaneTable) -> bool
         ensures { IsTrue result ↔ (self.now ≡ other.now) }
     {
         is_same_list(&self.lanes, &other.lanes)
     }
 
+    /// A table of the same lanes, in memory of its own.
     pub fn copy(&self) -> Result<LaneTable, AllocError>
         ensures { IfOk result (λ copy. copy ≡ self.now) }
     {

@@ -42,6 +42,7 @@ impl<const MOST: u8, V> Model for SlotTable<MOST, V> {
 }
 
 impl<const MOST: u8, V: Copy> SlotTable<MOST, V> {
+    /// The empty table. It takes no memory.
     pub fn new(alloc: Global) -> Self
         ensures { result ≡ table.empty }
     {
@@ -76,6 +77,7 @@ impl<const MOST: u8, V: Copy> SlotTable<MOST, V> {
         slots::count(&self.slots)
     }
 
+    /// What stands at a key.
     pub fn get(&self, key: Identifier<MOST>) -> Option<&V>
         ensures { option_copied result ≡ table.get self.now key.entry }
     {
@@ -98,12 +100,14 @@ impl<const MOST: u8, V: Copy> SlotTable<MOST, V> {
         slots::replace(&mut self.slots, key.number(), value);
     }
 
+    /// Takes out what stands at a key, if anything does.
     pub fn remove(&mut self, key: Identifier<MOST>)
         ensures { self.new ≡ table.remove self.old key.entry }
     {
         slots::take_out(&mut self.slots, key.number());
     }
 
+    /// Whether both hold the same values at the same keys.
     pub fn is_same(&self, other: &Self) -> bool
     where
         V: Same,
@@ -112,6 +116,7 @@ impl<const MOST: u8, V: Copy> SlotTable<MOST, V> {
         slots::is_same_slots(&self.slots, &other.slots)
     }
 
+    /// A table of the same values, in memory of its own.
     pub fn copy(&self) -> Result<Self, AllocError>
         ensures { IfOk result (λ copy. copy ≡ self.now) }
     {

@@ -1,4 +1,5 @@
-//! The limits of the protocol and of its files, each named here alone.
+//! The limits of the protocol and of its files. coord_journal, which stands apart, names two of
+//! them again; a law of coord_store shows these equal.
 
 /// The most nodes, and the greatest number of one.
 pub const MAX_NODES: u8 = 64;

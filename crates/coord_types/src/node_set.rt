@@ -56,6 +56,7 @@ impl NodeSet {
         self.bits
     }
 
+    /// Whether a node is in the set.
     pub fn contains(self, id: NodeId) -> bool
         ensures { result ≡ set.contains self id }
     {
@@ -69,6 +70,7 @@ impl NodeSet {
         self.bits.count_ones() as usize
     }
 
+    /// Whether no node is in the set.
     pub fn is_empty(self) -> bool
         ensures { IsTrue result ↔ (set.len self ≡ 0) }
     {

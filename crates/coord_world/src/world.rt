@@ -129,6 +129,7 @@ impl World {
         })
     }
 
+    /// The node of this number, where it was added.
     pub fn node(&self, id: NodeId) -> Option<&Node>
         ensures { option_copied result ≡ table.get self.now.nodes id }
     {
