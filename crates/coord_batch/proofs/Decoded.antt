@@ -1,13 +1,12 @@
 -- What all of the bytes are read as is what they spell.
-use Rattle.std.proofs.Common.{◌≡◌, ◌↔◌, ℕ, ◌-◌, Bool, true, false, cond, eqb, List, length, Result, Ok, Err, refl, sym, ap, subst, ◌∙◌}
+use Rattle.std.proofs.Common.{◌≡◌, ◌↔◌, ℕ, ◌-◌, Bool, true, false, cond, List, length, Result, Ok, Err, refl, sym, ap, subst, ◌∙◌}
 use Rattle.std.specs.Prelude.{IfOk}
-use Rattle.std.proofs.lemmas.Bool.{eqb-true}
 use Rattle.coord_batch.specs.declared.fault.CodecFault.{CodecFault}
 use Rattle.coord_batch.specs.declared.fault.FaultKind.TheVariants as kind
 use Rattle.coord_batch.specs.declared.fault.Flaw.{Flaw}
 use Rattle.coord_batch.specs.declared.fault.Flaw.TheVariants.{Short, BadByte, Extra}
 use Rattle.coord_batch.specs.Format.{Format, whole}
-use Rattle.coord_batch.specs.Decoding.{Answers, bad_version, decoded, fault_at, or_fault}
+use Rattle.coord_batch.specs.Decoding.{Answers, bad_version, decoded, fault_at, is_version, or_fault}
 use Rattle.coord_batch.proofs.Grammars.{IsBytes, IsGrammar, whole_found, whole_again}
 
 -- the value that is read, in the one version that there is
@@ -23,31 +22,36 @@ no_version n (Err Short) e = let same : fault_at kind.Short n ≡ bad_version = 
 no_version n (Err (BadByte left)) e = let same : fault_at kind.BadByte (n - left) ≡ bad_version = cc in let kinds : kind.BadByte ≡ kind.BadVersion = ap (λ f. f.kind) same in cc
 no_version n (Err (Extra left)) e = let same : fault_at kind.Extra (n - left) ≡ bad_version = cc in let kinds : kind.Extra ≡ kind.BadVersion = ap (λ f. f.kind) same in cc
 
-module _ {A : Type 0} (f : Format A) (grammar : IsGrammar f) (version : ℕ) where
-  decoded_found : (bytes : List ℕ) (x : A) → IsBytes bytes → decoded f version bytes ≡ Ok x → (version ≡ 1) × f.Fits x × (bytes ≡ f.text x)
+module _ {A : Type 0} (f : ℕ → Format A) (grammar : (v : ℕ) → IsGrammar (f v)) (version : ℕ) where
+  decoded_found : (bytes : List ℕ) (x : A) → IsBytes bytes → decoded f version bytes ≡ Ok x → (is_version version ≡ true) × (f version).Fits x × (bytes ≡ (f version).text x)
   decoded_found bytes x fits e =
-      let r = read_in (eqb version 1) (length bytes) (whole f bytes) _ x e in
-      let found = whole_found f grammar bytes x fits r.1 in
-      (eqb-true _ _ r.0, found.1, found.0)
+      let r = read_in (is_version version) (length bytes) (whole (f version) bytes) _ x e in
+      let found = whole_found (f version) (grammar version) bytes x fits r.1 in
+      (r.0, found.1, found.0)
 
-  decoded_again : (x : A) → version ≡ 1 → f.Fits x → decoded f version (f.text x) ≡ Ok x
-  decoded_again x known fits = ap (λ v. decoded f v (f.text x)) known ∙ ap (or_fault (length (f.text x))) (whole_again f grammar x fits)
+  decoded_again : (x : A) → is_version version ≡ true → (f version).Fits x → decoded f version ((f version).text x) ≡ Ok x
+  decoded_again x known fits =
+      ap (λ (b : Bool). cond b (or_fault (length ((f version).text x)) (whole (f version) ((f version).text x))) (Err bad_version)) known ∙ ap (or_fault (length ((f version).text x))) (whole_again (f version) (grammar version) x fits)
 
   module _ {X : Type 0} (view : X → A) (bytes : List ℕ) where
     -- what is read is spelled so
-    pub answers_found : (result : Result X CodecFault) → IsBytes bytes → Answers view result (decoded f version bytes) → IfOk result (λ v. (version ≡ 1) × f.Fits (view v) × (bytes ≡ f.text (view v)))
+    pub answers_found : (result : Result X CodecFault) → IsBytes bytes → Answers view result (decoded f version bytes) → IfOk result (λ v. (is_version version ≡ true) × (f version).Fits (view v) × (bytes ≡ (f version).text (view v)))
     answers_found (Ok v) fits answers = decoded_found bytes (view v) fits answers
     answers_found (Err e) fits answers = tt
 
     -- what is spelled so is read, unless memory runs out
-    pub answers_only : (result : Result X CodecFault) (x : A) → version ≡ 1 → f.Fits x → bytes ≡ f.text x → Answers view result (decoded f version bytes) → Answers view result (Ok x)
+    pub answers_only : (result : Result X CodecFault) (x : A) → is_version version ≡ true → (f version).Fits x → bytes ≡ (f version).text x → Answers view result (decoded f version bytes) → Answers view result (Ok x)
     answers_only result x known fits spelled answers = subst (Answers view result) (ap (decoded f version) spelled ∙ decoded_again x known fits) answers
 
-    -- the version is told where it isn't 1, and nowhere else
-    pub version_told : (result : Result X CodecFault) → (¬ (version ≡ 1) → result ≡ Err bad_version) → Answers view result (decoded f version bytes) → (result ≡ Err bad_version) ↔ ¬ (version ≡ 1)
+    -- the version is told where it is none, and nowhere else
+    pub version_told : (result : Result X CodecFault) → (is_version version ≡ false → result ≡ Err bad_version) → Answers view result (decoded f version bytes) → (result ≡ Err bad_version) ↔ (is_version version ≡ false)
     version_told result other answers = (
-      λ is known.
+      λ is.
           let told : decoded f version bytes ≡ Err bad_version = subst (λ r. Answers view r (decoded f version bytes)) is answers in
-          no_version (length bytes) (whole f bytes) (ap (λ v. decoded f v bytes) (sym known) ∙ told),
+          of_test (is_version version) refl told,
       other,
     )
+      where
+        of_test : (b : Bool) → is_version version ≡ b → cond b (or_fault (length bytes) (whole (f version) bytes)) (Err bad_version) ≡ Err bad_version → is_version version ≡ false
+        of_test true is told = absurd (no_version (length bytes) (whole (f version) bytes) told)
+        of_test false is told = is

@@ -8,7 +8,7 @@ use Rattle.std.proofs.lemmas.List.Concat.{flat_map-cons}
 use Rattle.std.proofs.lemmas.Nat.{be_bytes_2, be_bytes_8, from_be_bytes-to_be_bytes_2, from_be_bytes-to_be_bytes_8}
 use Rattle.coord_batch.specs.declared.fault.Flaw.{Flaw}
 use Rattle.coord_batch.specs.declared.fault.Flaw.TheVariants.{Short, BadByte, Extra}
-use Rattle.coord_batch.specs.Format.{Format, ◌>>=◌, byte, u16, u64, number_at, first_byte, such_that, followed, made, cases, counted, items_at, FitBehind, whole, ended}
+use Rattle.coord_batch.specs.Format.{Format, ◌>>=◌, byte, u16, u64, nothing, number_at, first_byte, such_that, followed, made, cases, counted, items_at, FitBehind, whole, ended}
 
 abbrev pub IsBytes : List ℕ → Type 0
 IsBytes bytes = (i : ℕ) → get_or bytes i 0 < 256
@@ -88,6 +88,15 @@ byte_cut x front rest b is = let none : front ≡ [] = nil_from_length front (om
 
 pub byte_grammar : IsGrammar byte
 byte_grammar = record { takes = byte_takes; again = λ x rest fits. refl; cut = λ x front rest b fits is. byte_cut x front rest b is }
+
+-- ---- no bytes
+
+pub nothing_grammar : IsGrammar nothing
+nothing_grammar = record {
+  takes = λ bytes x rest fits e. subst (λ (y : ℕ × List ℕ). Takes nothing bytes y.0 y.1) (ok_is (0, bytes) (x, rest) e) (record { parts = refl; left = fits; fits = refl });
+  again = λ x rest fits. ap (λ n. Ok (n, rest)) (sym fits);
+  cut = λ x front rest b fits is. absurd (omega (arith, front_shorter [] front rest b is));
+}
 
 -- ---- numbers
 

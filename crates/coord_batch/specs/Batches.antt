@@ -1,16 +1,18 @@
 -- Which steps and batches have a spelling.
-use Rattle.std.specs.Prelude.{ℕ, ◌^◌, ◌≤◌, ◌<◌, List, length}
+use Rattle.std.specs.Prelude.{◌≡◌, ℕ, ◌-◌, ◌^◌, ◌≤◌, ◌<◌, List, length}
+use Rattle.coord_types.specs.Messages.{brought}
+use Rattle.coord_batch.specs.Fields.{distance}
 use Rattle.std.specs.List.{AllByRecursion}
 use Rattle.coord_types.specs.declared.steps.Step.{Step}
 use Rattle.coord_types.specs.declared.steps.Step.TheVariants.{Order, Take, Clear}
 use Rattle.coord_batch.specs.declared.batch.Batch.{Batch}
 use Rattle.coord_types.specs.StepRanges.{IsNode, CommandInRange}
 
--- what the types of a step keep, and orders are numbered from 1
-abbrev pub StepFits : Step → Type 0
-StepFits (Order c n x) = ((1 ≤ c) × (c ≤ 16)) × ((1 ≤ n) × (n < 2 ^ 64)) × CommandInRange x
-StepFits (Take p) = IsNode p.from × IsNode p.to × (p.inc < 2 ^ 64) × (p.number < 2 ^ 64)
-StepFits (Clear r) = IsNode r.from × IsNode r.to × (r.inc < 2 ^ 64) × (r.number < 2 ^ 64)
+-- what the types of a step keep, and orders are numbered from 1; in version 1 no packet brings a distance
+abbrev pub StepFits : ℕ → Step → Type 0
+StepFits version (Order c n x) = ((1 ≤ c) × (c ≤ 16)) × ((1 ≤ n) × (n < 2 ^ 64)) × CommandInRange x
+StepFits version (Take p) = IsNode p.from × IsNode p.to × (p.inc < 2 ^ 64) × (p.number < 2 ^ 64) × (distance version (2 ^ 64 - 1)).Fits (brought p.msg)
+StepFits version (Clear r) = IsNode r.from × IsNode r.to × (r.inc < 2 ^ 64) × (r.number < 2 ^ 64)
 
 -- a batch as its format has it: the number of its first step, and its steps
 abbrev pub pair : ℕ → List Step → ℕ × List Step
@@ -20,15 +22,27 @@ abbrev pub content : Batch → ℕ × List Step
 content b = (b.first, b.steps.items)
 
 -- steps from a number on
-pub record IsBatch (first : ℕ) (steps : List Step) : Type 0 where
+pub record IsBatch (version first : ℕ) (steps : List Step) : Type 0 where
   pub least : 1 ≤ first
   pub greatest : first ≤ 2 ^ 40
   pub some : 1 ≤ length steps
   pub most : length steps ≤ 256
-  pub each : AllByRecursion StepFits steps
+  pub each : AllByRecursion (StepFits version) steps
 
 -- an order's number is counted from 1
 abbrev pub IsNumbered : Step → Type 0
 IsNumbered (Order c n x) = 1 ≤ n
 IsNumbered (Take p) = Unit {0}
 IsNumbered (Clear r) = Unit {0}
+
+-- in version 1 a packet brings no distance
+abbrev pub BringsRightly : ℕ → Step → Type 0
+BringsRightly version (Order c n x) = Unit {0}
+BringsRightly version (Take p) = version ≡ 1 → brought p.msg ≡ 0
+BringsRightly version (Clear r) = Unit {0}
+
+-- what is asked of a step beside what its types keep: an order's number is counted from 1, and in version 1 a packet brings no distance
+abbrev pub IsWritable : ℕ → Step → Type 0
+IsWritable version (Order c n x) = 1 ≤ n
+IsWritable version (Take p) = version ≡ 1 → brought p.msg ≡ 0
+IsWritable version (Clear r) = Unit {0}

@@ -1,5 +1,5 @@
 -- What reading all of the bytes answers: the value, or the first fault from the left and its place.
-use Rattle.std.specs.Prelude.{◌≡◌, ℕ, ◌-◌, ◌==◌, List, length, Result, Ok, Err, if◌then◌else◌}
+use Rattle.std.specs.Prelude.{◌≡◌, ℕ, Bool, ◌-◌, ◌==◌, ◌||◌, List, length, Result, Ok, Err, if◌then◌else◌}
 use Rattle.coord_batch.specs.declared.fault.CodecFault.{CodecFault}
 use Rattle.coord_batch.specs.declared.fault.FaultKind.{FaultKind}
 use Rattle.coord_batch.specs.declared.fault.FaultKind.TheVariants as kind
@@ -30,9 +30,12 @@ or_fault n (Err f) = Err (placed n f)
 abbrev pub bad_version : CodecFault
 bad_version = fault_at kind.BadVersion 0
 
--- there is one version
-abbrev pub decoded : {A : Type 0} → Format A → ℕ → List ℕ → Result A CodecFault
-decoded f version bytes = if version == 1 then or_fault (length bytes) (whole f bytes) else Err bad_version
+-- there are two versions
+abbrev pub is_version : ℕ → Bool
+is_version version = (version == 1) || (version == 2)
+
+abbrev pub decoded : {A : Type 0} → (ℕ → Format A) → ℕ → List ℕ → Result A CodecFault
+decoded f version bytes = if is_version version then or_fault (length bytes) (whole (f version) bytes) else Err bad_version
 
 -- said of every fault but want of memory
 abbrev pub Unless : FaultKind → Type 0 → Type 0

@@ -1,8 +1,9 @@
 -- The fields that batches and worlds are made of.
-use Rattle.std.specs.Prelude.{ℕ, ◌&&◌, nat_le, nat_lt}
-use Rattle.coord_types.specs.Messages.{msg_from, msg_number}
+use Rattle.std.specs.Prelude.{ℕ, zero, suc, ◌==◌, ◌&&◌, nat_le, Bool, true, false}
+use Rattle.coord_types.specs.Messages.{brought}
 use Rattle.coord_types.specs.declared.messages.Msg.{Msg}
-use Rattle.coord_batch.specs.Format.{Format, byte, u64, such_that, made}
+use Rattle.coord_types.specs.declared.messages.Msg.TheVariants as msg
+use Rattle.coord_batch.specs.Format.{Format, byte, u64, nothing, such_that, made, cases}
 
 -- 1 to 64
 unfoldable pub node : Format ℕ
@@ -15,10 +16,6 @@ group = such_that (λ n. nat_le 1 n && nat_le n 16) byte
 -- 1 to 16
 unfoldable pub client : Format ℕ
 client = such_that (λ n. nat_le 1 n && nat_le n 16) byte
-
--- 0 Abort, 1 Ack, 2 Ready
-unfoldable pub message : Format Msg
-message = made msg_from msg_number (such_that (λ n. nat_lt n 3) byte)
 
 -- a number from 1
 unfoldable pub from_one : Format ℕ
@@ -35,3 +32,26 @@ from_one_to most = such_that (λ n. nat_le 1 n && nat_le n most) u64
 -- how many items there are, in a byte
 unfoldable pub how_many : ℕ → Format ℕ
 how_many most = such_that (λ n. nat_le n most) byte
+
+-- a number up to another one, or nothing
+unfoldable pub unless : Bool → ℕ → Format ℕ
+unless true most = nothing
+unless false most = at_most most
+
+-- a distance up to this one, which stands in version 2 alone: in version 1 each is 0
+unfoldable pub distance : ℕ → ℕ → Format ℕ
+distance version most = unless (version == 1) most
+
+abbrev pub message_tag : Msg → ℕ
+message_tag (msg.Abort k) = 0
+message_tag msg.Ack = 1
+message_tag msg.Ready = 2
+
+unfoldable pub message_case : ℕ → ℕ → ℕ → Format Msg
+message_case version most zero = made msg.Abort brought (distance version most)
+message_case version most (suc zero) = made (λ n. msg.Ack) brought nothing
+message_case version most (suc (suc n)) = made (λ n. msg.Ready) brought nothing
+
+-- 0 Abort, with a distance up to this one, 1 Ack, 2 Ready
+unfoldable pub message : ℕ → ℕ → Format Msg
+message version most = cases 3 message_tag (message_case version most)

@@ -38,6 +38,10 @@ u16 = record { text = to_be_bytes w16; read = number_at w16; Fits = λ n. n < 2 
 abbrev pub u64 : Format ℕ
 u64 = record { text = to_be_bytes w64; read = number_at w64; Fits = λ n. n < 2 ^ 64 }
 
+-- no bytes, for 0
+abbrev pub nothing : Format ℕ
+nothing = record { text = λ n. []; read = λ bytes. Ok (0, bytes); Fits = λ n. n ≡ 0 }
+
 -- ---- what is made of formats
 
 -- only what passes a test; a flaw is where it begins

@@ -1,5 +1,5 @@
--- The grammar of steps and of batches, version 1.
-use Rattle.std.specs.Prelude.{ℕ, zero, suc, ◌^◌, ◌&&◌, nat_le, List}
+-- The grammar of steps and of batches, by version.
+use Rattle.std.specs.Prelude.{ℕ, zero, suc, ◌-◌, ◌^◌, ◌&&◌, nat_le, List}
 use Rattle.coord_types.specs.declared.messages.Msg.TheVariants as msg
 use Rattle.coord_types.specs.declared.packets.DataPacket.{DataPacket}
 use Rattle.coord_types.specs.declared.packets.ReceiptPacket.{ReceiptPacket}
@@ -49,10 +49,10 @@ command_case (suc (suc (suc (suc (suc n))))) = made (λ p. Confirm p.0 p.1) both
 unfoldable pub command : Format Command
 command = cases 6 command_tag command_case
 
-unfoldable pub data_packet : Format DataPacket
-data_packet =
+unfoldable pub data_packet : ℕ → Format DataPacket
+data_packet version =
     made (λ p. record { from = p.0; to = p.1.0; inc = p.1.1.0; number = p.1.1.1.0; msg = p.1.1.1.1 }) (λ d. (d.from, (d.to, (d.inc, (d.number, d.msg)))))
-    (node & (node & (u64 & (u64 & message))))
+    (node & (node & (u64 & (u64 & message version (2 ^ 64 - 1)))))
 
 unfoldable pub receipt_packet : Format ReceiptPacket
 receipt_packet =
@@ -70,7 +70,7 @@ step_tag (Clear p) = 2
 
 -- what stands where a step is of another form
 abbrev no_packet : DataPacket
-no_packet = record { from = 0; to = 0; inc = 0; number = 0; msg = msg.Abort }
+no_packet = record { from = 0; to = 0; inc = 0; number = 0; msg = msg.Ack }
 
 abbrev no_receipt : ReceiptPacket
 no_receipt = record { from = 0; to = 0; inc = 0; number = 0 }
@@ -87,21 +87,21 @@ abbrev pub cleared_of : Step → ReceiptPacket
 cleared_of (Clear r) = r
 cleared_of s = no_receipt
 
-unfoldable pub step_case : ℕ → Format Step
-step_case zero = made (λ p. Order p.0 p.1.0 p.1.1) order_of order
-step_case (suc zero) = made Take taken_of data_packet
-step_case (suc (suc n)) = made Clear cleared_of receipt_packet
+unfoldable pub step_case : ℕ → ℕ → Format Step
+step_case version zero = made (λ p. Order p.0 p.1.0 p.1.1) order_of order
+step_case version (suc zero) = made Take taken_of (data_packet version)
+step_case version (suc (suc n)) = made Clear cleared_of receipt_packet
 
-unfoldable pub step : Format Step
-step = cases 3 step_tag step_case
+unfoldable pub step : ℕ → Format Step
+step version = cases 3 step_tag (step_case version)
 
 -- how many steps there are, 1 to 256, and the steps
 unfoldable pub how_many_steps : Format ℕ
 how_many_steps = such_that (λ n. nat_le 1 n && nat_le n 256) u16
 
-unfoldable pub steps : Format (List Step)
-steps = counted how_many_steps (λ _. step)
+unfoldable pub steps : ℕ → Format (List Step)
+steps version = counted how_many_steps (λ _. step version)
 
 -- the number of the first step, and the steps
-unfoldable pub batch : Format (ℕ × List Step)
-batch = from_one_to (2 ^ 40) & steps
+unfoldable pub batch : ℕ → Format (ℕ × List Step)
+batch version = from_one_to (2 ^ 40) & steps version

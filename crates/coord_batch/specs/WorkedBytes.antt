@@ -19,8 +19,10 @@ first_bytes first count client number rest =
     0 ∷ 0 ∷ 0 ∷ 0 ∷ 0 ∷ 0 ∷ 0 ∷ first ∷ 0 ∷ count ∷ 0 ∷ client ∷ 0 ∷ 0 ∷ 0 ∷ 0 ∷ 0 ∷ 0 ∷ 0 ∷ number ∷ 0 ∷ 1 ∷ 1 ∷ rest
 
 pub record WorkedBytes : Type 0 where
-  pub spelled : batch.text (pair 1 (first_order ∷ [])) ≡ first_bytes 1 1 1 1 []
-  pub packet : step.text (Take (record { from = 1; to = 2; inc = 3; number = 1; msg = msg.Abort })) ≡ 1 ∷ 1 ∷ 2 ∷ 0 ∷ 0 ∷ 0 ∷ 0 ∷ 0 ∷ 0 ∷ 0 ∷ 3 ∷ 0 ∷ 0 ∷ 0 ∷ 0 ∷ 0 ∷ 0 ∷ 0 ∷ 1 ∷ 0 ∷ []
+  pub spelled : (batch 1).text (pair 1 (first_order ∷ [])) ≡ first_bytes 1 1 1 1 []
+  pub packet : (step 1).text (Take (record { from = 1; to = 2; inc = 3; number = 1; msg = msg.Abort 0 })) ≡ 1 ∷ 1 ∷ 2 ∷ 0 ∷ 0 ∷ 0 ∷ 0 ∷ 0 ∷ 0 ∷ 0 ∷ 3 ∷ 0 ∷ 0 ∷ 0 ∷ 0 ∷ 0 ∷ 0 ∷ 0 ∷ 1 ∷ 0 ∷ []
+  pub distant : (step 2).text (Take (record { from = 1; to = 2; inc = 3; number = 1; msg = msg.Abort 258 })) ≡ 1 ∷ 1 ∷ 2 ∷ 0 ∷ 0 ∷ 0 ∷ 0 ∷ 0 ∷ 0 ∷ 0 ∷ 3 ∷ 0 ∷ 0 ∷ 0 ∷ 0 ∷ 0 ∷ 0 ∷ 0 ∷ 1 ∷ 0 ∷ 0 ∷ 0 ∷ 0 ∷ 0 ∷ 0 ∷ 0 ∷ 1 ∷ 2 ∷ []
+  pub same_in_both : (batch 2).text (pair 1 (first_order ∷ [])) ≡ first_bytes 1 1 1 1 []
   pub read : decoded batch 1 (first_bytes 1 1 1 1 []) ≡ Ok (pair 1 (first_order ∷ []))
   pub first_zero : decoded batch 1 (first_bytes 0 1 1 1 []) ≡ Err (fault_at BadByte 0)
   pub no_steps : decoded batch 1 (first_bytes 1 0 1 1 []) ≡ Err (fault_at BadByte 8)

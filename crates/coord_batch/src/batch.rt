@@ -1,25 +1,25 @@
 //! Batches of steps as bytes.
 
-ghost use Rattle.std.specs.Prelude.{◌≡◌, ◌↔◌, ◌≤◌, ◌^◌, ℕ, List, length, Ok, Err, IfOk};
+ghost use Rattle.std.specs.Prelude.{◌≡◌, true, false, ◌↔◌, ◌≤◌, ◌^◌, ℕ, List, length, Ok, Err, IfOk};
 ghost use Rattle.std.specs.List.{AllByRecursion};
 ghost use Rattle.coord_types.specs.declared.steps.Step.{Step as Taken};
 ghost use Rattle.coord_batch.specs.Format.{whole};
 ghost use Rattle.coord_batch.specs.Reading.{Reads};
-ghost use Rattle.coord_batch.specs.Decoding.{Answers, bad_version, decoded};
+ghost use Rattle.coord_batch.specs.Decoding.{Answers, bad_version, decoded, is_version};
 ghost use Rattle.coord_batch.specs.Steps.{batch};
-ghost use Rattle.coord_batch.specs.Batches.{IsBatch, IsNumbered, content, pair};
+ghost use Rattle.coord_batch.specs.Batches.{IsBatch, IsWritable, content, pair};
 
 use crate::fault::{CodecFault, FaultKind, ReadError};
 use crate::input::Input;
 use crate::step_writing::put_step;
-use coord_types::{MAX_BATCH_BYTES, MAX_BATCH_STEPS, MAX_STEPS, Step};
+use coord_types::{MAX_BATCH_BYTES, MAX_BATCH_STEPS, MAX_STEPS, Step, Version};
 use std::alloc::{AllocError, Global};
 
 /// The bytes before the first step: its number, and how many steps there are.
 const HEAD_BYTES: usize = 10;
 
 /// The most bytes of one step.
-const MOST_STEP_BYTES: usize = 20;
+const MOST_STEP_BYTES: usize = 28;
 
 /// Steps that were committed together, 1 to 256 of them, of which the first has this number, from
 /// 1 to 2^40.
@@ -31,11 +31,11 @@ pub struct Batch {
 
 impl<'a> Input<'a> {
     #[tactic(auto, unfolding(crate::specs::Steps::batch))]
-    fn batch(&mut self, alloc: Global) -> Result<Batch, ReadError>
-        ensures { Reads content result (batch.read self.old) self.new }
+    fn batch(&mut self, alloc: Global, version: Version) -> Result<Batch, ReadError>
+        ensures { Reads content result ((batch version).read self.old) self.new }
     {
         let first = self.from_one_to(MAX_STEPS)?;
-        let steps = self.steps(alloc)?;
+        let steps = self.steps(alloc, version)?;
         Ok(Batch { first, steps })
     }
 }
@@ -43,52 +43,57 @@ impl<'a> Input<'a> {
 /// The batch that all of the bytes spell.
 fn decode(alloc: Global, version: u8, bytes: &[u8]) -> Result<Batch, CodecFault>
     ensures exact { Answers content result (decoded batch version bytes.now) }
-    ensures version { ¬ (version ≡ 1) → result ≡ Err bad_version }
+    ensures version { is_version version ≡ false → result ≡ Err bad_version }
 {
-    if version != 1 {
+    let Some(known) = Version::new(version) else {
         return Err(CodecFault::bad_version());
-    }
+    };
     let mut input = Input::new(bytes);
-    match input.batch(alloc) {
+    match input.batch(alloc, known) {
         Err(error) => Err(error.placed(bytes.len())),
         Ok(_) if input.left() > 0 => Err(ReadError::extra(input.left()).placed(bytes.len())),
         Ok(batch) => Ok(batch),
     }
 }
 
-/// The batch that all of the bytes spell in a version of the grammar, of which there is one, 1
-/// (docs/FORMATS.md, "Batches").
+/// The batch that all of the bytes spell in a version of the grammar, 1 or 2 (docs/FORMATS.md,
+/// "Batches").
 pub fn read_batch(alloc: Global, version: u8, bytes: &[u8]) -> Result<Batch, CodecFault>
     // What is read is spelled so.
     ensures found { IfOk result (λ b.
-        (version ≡ 1) × IsBatch b.first b.steps.items × (bytes.now ≡ batch.text (content b))) }
+        (is_version version ≡ true) × IsBatch version b.first b.steps.items × (bytes.now ≡ (batch version).text (content b))) }
     // What is spelled so is read, unless memory runs out.
-    ensures only { (first : ℕ) (taken : List Taken) → version ≡ 1 → IsBatch first taken → bytes.now ≡ batch.text (pair first taken)
+    ensures only { (first : ℕ) (taken : List Taken) → is_version version ≡ true → IsBatch version first taken → bytes.now ≡ (batch version).text (pair first taken)
         → Answers content result (Ok (pair first taken)) }
     // Another version is told also where memory is short.
-    ensures version { (result ≡ Err bad_version) ↔ ¬ (version ≡ 1) }
+    ensures version { (result ≡ Err bad_version) ↔ (is_version version ≡ false) }
     // Which fault it is, and where.
     ensures exact { Answers content result (decoded batch version bytes.now) }
 {
     decode(alloc, version, bytes)
 }
 
-/// The one spelling, in version 1, of a batch of 1 to 256 steps, of which the first has this
-/// number, from 1 to 2^40.
+/// The one spelling, in a version, of a batch of 1 to 256 steps, of which the first has this number,
+/// from 1 to 2^40. In version 1 no packet brings a distance.
 #[tactic(auto, using(std::proofs::Common::append_assoc), unfolding(crate::specs::Steps::batch, crate::specs::Steps::steps, crate::specs::Fields::from_one_to, crate::specs::Steps::how_many_steps))]
-pub fn write_batch(alloc: Global, first: u64, steps: &[Step]) -> Result<Vec<u8>, AllocError>
+pub fn write_batch(
+    alloc: Global,
+    version: Version,
+    first: u64,
+    steps: &[Step],
+) -> Result<Vec<u8>, AllocError>
     requires first { (1 ≤ first) × (first ≤ 2 ^ 40) }
     requires count { (1 ≤ length steps.now) × (length steps.now ≤ MAX_BATCH_STEPS) }
-    requires numbered { AllByRecursion IsNumbered steps.now }
-    ensures spelled { IfOk result (λ v. v.items ≡ batch.text (pair first steps.now)) }
+    requires writable { AllByRecursion (IsWritable version) steps.now }
+    ensures spelled { IfOk result (λ v. v.items ≡ (batch version).text (pair first steps.now)) }
     ensures len { IfOk result (λ v. length v.items ≤ MAX_BATCH_BYTES) }
-    ensures fits { IfOk result (λ v. IsBatch first steps.now) }
+    ensures fits { IfOk result (λ v. IsBatch version first steps.now) }
 {
     let mut out = Vec::with_capacity(alloc, HEAD_BYTES + MOST_STEP_BYTES * steps.len())?;
     out.extend_from_slice(&first.to_be_bytes())?;
     out.extend_from_slice(&(steps.len() as u16).to_be_bytes())?;
     for step in steps {
-        put_step(&mut out, step)?;
+        put_step(&mut out, version, step)?;
     }
     Ok(out)
 }

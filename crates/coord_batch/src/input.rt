@@ -3,10 +3,10 @@
 ghost use Rattle.std.specs.Prelude.{◌≡◌, ◌≤◌, length, IfOk};
 ghost use Rattle.coord_batch.specs.Reading.{Reads};
 ghost use Rattle.coord_batch.specs.Format.{byte, u16, u64};
-ghost use Rattle.coord_batch.specs.Fields.{at_most, client, from_one, from_one_to, group, how_many, message, node};
+ghost use Rattle.coord_batch.specs.Fields.{at_most, client, from_one, distance, from_one_to, group, how_many, message, node};
 
 use crate::fault::{Flaw, ReadError};
-use coord_types::{Client, Group, Msg, NodeId};
+use coord_types::{Client, Group, Msg, NodeId, Version};
 use std::marker::Model;
 
 /// The bytes that are not yet read. Each method reads one field, as the format of its name does:
@@ -112,14 +112,25 @@ impl<'a> Input<'a> {
         Client::new(number).ok_or(ReadError::bad_byte(left))
     }
 
-    /// A message: 0 Abort, 1 Ack, 2 Ready.
-    #[tactic(auto, unfolding(crate::specs::Fields::message))]
-    pub fn message(&mut self) -> Result<Msg, ReadError>
-        ensures { Reads (λ x. x) result (message.read self.old) self.new }
+    /// A distance, in eight bytes, up to this one; in version 1, where each is 0, it has no bytes.
+    #[tactic(auto, unfolding(crate::specs::Fields::distance, crate::specs::Fields::unless))]
+    pub fn distance(&mut self, version: Version, most: u64) -> Result<u64, ReadError>
+        ensures { Reads (λ x. x) result ((distance version most).read self.old) self.new }
+    {
+        if version.number() == 1 {
+            return Ok(0);
+        }
+        self.at_most(most)
+    }
+
+    /// A message: 0 Abort, with a distance up to this one, 1 Ack, 2 Ready.
+    #[tactic(auto, unfolding(crate::specs::Fields::message, crate::specs::Fields::message_case))]
+    pub fn message(&mut self, version: Version, most: u64) -> Result<Msg, ReadError>
+        ensures { Reads (λ x. x) result ((message version most).read self.old) self.new }
     {
         let left = self.left();
         match self.byte()? {
-            0 => Ok(Msg::Abort),
+            0 => Ok(Msg::Abort(self.distance(version, most)?)),
             1 => Ok(Msg::Ack),
             2 => Ok(Msg::Ready),
             _ => Err(ReadError::bad_byte(left)),

@@ -22,4 +22,4 @@ mod step_writing;
 pub use batch::{Batch, read_batch, write_batch};
 pub use fault::{CodecFault, FaultKind, Flaw, ReadError};
 pub use input::Input;
-pub use step_writing::{message_byte, put_command};
+pub use step_writing::{put_command, put_message};

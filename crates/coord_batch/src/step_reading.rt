@@ -7,7 +7,7 @@ ghost use Rattle.coord_batch.specs.Steps.{command, data_packet, receipt_packet, 
 
 use crate::fault::ReadError;
 use crate::input::Input;
-use coord_types::{Command, DataPacket, ReceiptPacket, Step};
+use coord_types::{Command, DataPacket, ReceiptPacket, Step, Version};
 use std::alloc::Global;
 
 impl<'a> Input<'a> {
@@ -29,15 +29,15 @@ impl<'a> Input<'a> {
     }
 
     #[tactic(auto, unfolding(crate::specs::Steps::data_packet))]
-    fn data_packet(&mut self) -> Result<DataPacket, ReadError>
-        ensures { Reads (λ x. x) result (data_packet.read self.old) self.new }
+    fn data_packet(&mut self, version: Version) -> Result<DataPacket, ReadError>
+        ensures { Reads (λ x. x) result ((data_packet version).read self.old) self.new }
     {
         Ok(DataPacket {
             from: self.node()?,
             to: self.node()?,
             inc: self.u64()?,
             number: self.u64()?,
-            msg: self.message()?,
+            msg: self.message(version, u64::MAX)?,
         })
     }
 
@@ -54,40 +54,45 @@ impl<'a> Input<'a> {
     }
 
     #[tactic(auto, unfolding(crate::specs::Steps::step, crate::specs::Steps::step_case, crate::specs::Steps::order))]
-    fn step(&mut self) -> Result<Step, ReadError>
-        ensures { Reads (λ x. x) result (step.read self.old) self.new }
+    fn step(&mut self, version: Version) -> Result<Step, ReadError>
+        ensures { Reads (λ x. x) result ((step version).read self.old) self.new }
     {
         let left = self.left();
         match self.byte()? {
             0 => Ok(Step::Order(self.client()?, self.from_one()?, self.command()?)),
-            1 => Ok(Step::Take(self.data_packet()?)),
+            1 => Ok(Step::Take(self.data_packet(version)?)),
             2 => Ok(Step::Clear(self.receipt_packet()?)),
             _ => Err(ReadError::bad_byte(left)),
         }
     }
 
     /// As many steps as are asked for.
-    fn step_list(&mut self, alloc: Global, count: u16) -> Result<Vec<Step>, ReadError>
-        ensures { Reads (λ v. v.items) result (items_at (λ _. step) count [] self.old) self.new }
+    fn step_list(
+        &mut self,
+        alloc: Global,
+        version: Version,
+        count: u16,
+    ) -> Result<Vec<Step>, ReadError>
+        ensures { Reads (λ v. v.items) result (items_at (λ _. step version) count [] self.old) self.new }
     {
         let mut list = Vec::with_capacity(alloc, usize::from(count))?;
         for _ in 0..count {
             // By reference: the toolchain has no proof for a `push` of a value that holds a `Command`.
-            list.extend_from_slice(&[self.step()?])?;
+            list.extend_from_slice(&[self.step(version)?])?;
         }
         Ok(list)
     }
 
     /// Their number, from 1 to 256, and the steps.
     #[tactic(auto, unfolding(crate::specs::Steps::steps, crate::specs::Steps::how_many_steps))]
-    pub(crate) fn steps(&mut self, alloc: Global) -> Result<Vec<Step>, ReadError>
-        ensures { Reads (λ v. v.items) result (steps.read self.old) self.new }
+    pub(crate) fn steps(&mut self, alloc: Global, version: Version) -> Result<Vec<Step>, ReadError>
+        ensures { Reads (λ v. v.items) result ((steps version).read self.old) self.new }
     {
         let left = self.left();
         let count = self.u16()?;
         if !(1..=256).contains(&count) {
             return Err(ReadError::bad_byte(left));
         }
-        self.step_list(alloc, count)
+        self.step_list(alloc, version, count)
     }
 }

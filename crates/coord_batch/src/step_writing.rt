@@ -1,13 +1,14 @@
 //! Writing of commands, packets and steps.
 
-ghost use Rattle.std.specs.Prelude.{◌≡◌, ◌≤◌, ◌++◌, [], ◌∷◌, OnOk};
+ghost use Rattle.std.specs.Prelude.{◌≡◌, ℕ, ◌-◌, ◌^◌, ◌≤◌, ◌++◌, [], ◌∷◌, OnOk};
 ghost use Rattle.std.specs.Int.{w64, to_be_bytes};
-ghost use Rattle.coord_types.specs.Messages.{msg_number};
+ghost use Rattle.coord_types.specs.Messages.{brought};
+ghost use Rattle.coord_batch.specs.Fields.{distance, message};
 ghost use Rattle.coord_types.specs.StepRanges.{CommandInRange, IsNode};
 ghost use Rattle.coord_batch.specs.Steps.{command, data_packet, receipt_packet, step};
-ghost use Rattle.coord_batch.specs.Batches.{StepFits, IsNumbered};
+ghost use Rattle.coord_batch.specs.Batches.{StepFits, IsWritable};
 
-use coord_types::{Command, DataPacket, Msg, NodeId, ReceiptPacket, Step};
+use coord_types::{Command, DataPacket, Msg, NodeId, ReceiptPacket, Step, Version};
 use std::alloc::AllocError;
 
 /// The byte of a command's form, and the node that it names first.
@@ -68,40 +69,53 @@ fn put_address(
     Ok(())
 }
 
-/// The byte of a message: 0 Abort, 1 Ack, 2 Ready.
-pub fn message_byte(msg: Msg) -> u8
-    ensures { result ≡ msg_number msg }
+/// Puts a message's spelling at the end: 0 Abort, in version 2 with its distance, 1 Ack, 2 Ready. In
+/// version 1 an Abort brings no distance.
+#[tactic(auto, unfolding(crate::specs::Fields::message, crate::specs::Fields::message_case, crate::specs::Fields::distance, crate::specs::Fields::unless, crate::specs::Fields::at_most))]
+pub fn put_message(out: &mut Vec<u8>, version: Version, msg: Msg) -> Result<(), AllocError>
+    ensures spelled { (most : ℕ) → OnOk result (out.new.items ≡ out.old.items ++ (message version most).text msg) }
+    ensures fits { (version ≡ 1 → brought msg ≡ 0) → OnOk result ((distance version (2 ^ 64 - 1)).Fits (brought msg)) }
 {
     match msg {
-        Msg::Abort => 0,
-        Msg::Ack => 1,
-        Msg::Ready => 2,
+        Msg::Abort(distance) => {
+            out.push(0)?;
+            if version.number() != 1 {
+                out.extend_from_slice(&distance.to_be_bytes())?;
+            }
+        }
+        Msg::Ack => out.push(1)?,
+        Msg::Ready => out.push(2)?,
     }
+    Ok(())
 }
 
-#[tactic(auto, using(std::proofs::Common::append_assoc), unfolding(crate::specs::Steps::data_packet, crate::specs::Fields::node, crate::specs::Fields::message))]
-fn put_data_packet(out: &mut Vec<u8>, packet: DataPacket) -> Result<(), AllocError>
-    ensures spelled { OnOk result (out.new.items ≡ out.old.items ++ data_packet.text packet) }
-    ensures fits { OnOk result (StepFits (Step.Take packet)) }
+#[tactic(auto, using(std::proofs::Common::append_assoc), unfolding(crate::specs::Steps::data_packet, crate::specs::Fields::node))]
+fn put_data_packet(
+    out: &mut Vec<u8>,
+    version: Version,
+    packet: DataPacket,
+) -> Result<(), AllocError>
+    requires { IsWritable version (Step.Take packet) }
+    ensures spelled { OnOk result (out.new.items ≡ out.old.items ++ (data_packet version).text packet) }
+    ensures fits { OnOk result (StepFits version (Step.Take packet)) }
 {
     put_address(out, packet.from, packet.to, packet.inc, packet.number)?;
-    out.push(message_byte(packet.msg))?;
-    Ok(())
+    put_message(out, version, packet.msg)
 }
 
 #[tactic(auto, unfolding(crate::specs::Steps::receipt_packet, crate::specs::Fields::node))]
 fn put_receipt_packet(out: &mut Vec<u8>, packet: ReceiptPacket) -> Result<(), AllocError>
     ensures spelled { OnOk result (out.new.items ≡ out.old.items ++ receipt_packet.text packet) }
-    ensures fits { OnOk result (StepFits (Step.Clear packet)) }
+    ensures fits { OnOk result (StepFits 2 (Step.Clear packet)) }
 {
     put_address(out, packet.from, packet.to, packet.inc, packet.number)
 }
 
 #[tactic(auto, unfolding(crate::specs::Steps::step, crate::specs::Steps::step_case, crate::specs::Steps::order, crate::specs::Fields::client, crate::specs::Fields::from_one))]
-pub(crate) fn put_step(out: &mut Vec<u8>, taken: &Step) -> Result<(), AllocError>
-    requires { IsNumbered taken.now }
-    ensures spelled { OnOk result (out.new.items ≡ out.old.items ++ step.text taken.now) }
-    ensures fits { OnOk result (StepFits taken.now) }
+pub(crate) fn put_step(out: &mut Vec<u8>, version: Version, taken: &Step) -> Result<(), AllocError>
+    requires { IsWritable version taken.now }
+    ensures spelled { OnOk result (out.new.items ≡ out.old.items ++ (step version).text taken.now) }
+    ensures fits { OnOk result (StepFits version taken.now) }
 {
     match *taken {
         Step::Order(client, number, command) => {
@@ -112,7 +126,7 @@ pub(crate) fn put_step(out: &mut Vec<u8>, taken: &Step) -> Result<(), AllocError
         }
         Step::Take(packet) => {
             out.push(1)?;
-            put_data_packet(out, packet)
+            put_data_packet(out, version, packet)
         }
         Step::Clear(packet) => {
             out.push(2)?;

@@ -43,6 +43,7 @@ module _ (w : World) (range : InRange w) where
   at_link u v is letter.E fails = (is, fails)
   at_link u v is letter.F fails = (is, fails)
   at_link u v is letter.G fails = (is, fails)
+  at_link u v is letter.H fails = (is, fails)
 
   end_fails : (u v : ℕ) → is_linked w u v ≡ true → (x : Letter) → AllByRecursion (Fails w) (end_faults w u v x)
   end_fails u v is x = all_told (Fails w) (link_holds w u v x) (record { a = u; b = v; letter = x }) (at_link u v is x)

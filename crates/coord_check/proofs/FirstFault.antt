@@ -81,7 +81,7 @@ told_false false v is = refl
 
 -- the letters of links, as the code has them
 abbrev pub tried : List Letter
-tried = letter.A ∷ letter.B ∷ letter.C ∷ letter.D ∷ letter.E ∷ letter.F ∷ letter.G ∷ []
+tried = letter.A ∷ letter.B ∷ letter.C ∷ letter.D ∷ letter.E ∷ letter.F ∷ letter.G ∷ letter.H ∷ []
 
 pub tried_are : tried ≡ link_letters
 unfolding link_letters
@@ -99,10 +99,10 @@ module _ (w : World) (a b : ℕ) where
   pub left_is : (i : ℕ) → first (flat_map (letter_faults w a b) (drop i tried)) ≡ first (flat_map (letter_faults w a b) (drop i link_letters))
   left_is i = ap (λ xs. first (flat_map (letter_faults w a b) (drop i xs))) tried_are
 
-  pub none_left : (i : ℕ) → 7 ≤ i → i ≤ 7 → first (flat_map (letter_faults w a b) (drop i link_letters)) ≡ None
-  none_left i le ge = let e : i ≡ 7 = omega arith in sym (left_is i) ∙ ap (λ k. first (flat_map (letter_faults w a b) (drop k tried))) e
+  pub none_left : (i : ℕ) → 8 ≤ i → i ≤ 8 → first (flat_map (letter_faults w a b) (drop i link_letters)) ≡ None
+  none_left i le ge = let e : i ≡ 8 = omega arith in sym (left_is i) ∙ ap (λ k. first (flat_map (letter_faults w a b) (drop k tried))) e
 
-  module _ (i : ℕ) (lt : i < 7) (x : Letter) (at : get_or tried i letter.N ≡ x) (near far : Side) (n : near ≡ side w a b) (f : far ≡ side w b a) where
+  module _ (i : ℕ) (lt : i < 8) (x : Letter) (at : get_or tried i letter.N ≡ x) (near far : Side) (n : near ≡ side w a b) (f : far ≡ side w b a) where
     here : (t s : Bool) → t ≡ holds_of x near.lane (seen near far) → t ≡ s → link_holds w a b x ≡ s
     here t s e is = ap (holds_of x (side w a b).lane) (link_is w a b) ∙ sym (λ j. holds_of x (n j).lane (seen (n j) (f j))) ∙ sym e ∙ is
 

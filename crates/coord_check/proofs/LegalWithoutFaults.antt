@@ -76,6 +76,7 @@ module _ (w : World) (range : InRange w) where
         ready_for_child = each_holds u v is letter.E;
         one_parent_at_most = each_holds u v is letter.F;
         no_early_ready = each_holds u v is letter.G;
+        right_distances = each_holds u v is letter.H;
       };
     }
 
@@ -91,6 +92,7 @@ module _ (w : World) (range : InRange w) where
     holds u v is letter.E = (legal.links u v is).ready_for_child
     holds u v is letter.F = (legal.links u v is).one_parent_at_most
     holds u v is letter.G = (legal.links u v is).no_early_ready
+    holds u v is letter.H = (legal.links u v is).right_distances
 
     no_link_fault : (a b : ℕ) → link_faults w a b ≡ []
     no_link_fault a b = of_test (is_linked w a b) refl

@@ -59,6 +59,7 @@ module _ {X : Type 0} (f : Letter → List X) where
   no_letter none is letter.E = (each_empty link_letters is).1.1.1.1.0
   no_letter none is letter.F = (each_empty link_letters is).1.1.1.1.1.0
   no_letter none is letter.G = (each_empty link_letters is).1.1.1.1.1.1.0
+  no_letter none is letter.H = (each_empty link_letters is).1.1.1.1.1.1.1.0
 
   flat_nothing : (xs : List Letter) → ((x : Letter) → f x ≡ []) → flat_map f xs ≡ []
   flat_nothing [] all = refl

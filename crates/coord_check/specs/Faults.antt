@@ -4,7 +4,7 @@ use Rattle.std.specs.List.{flat_map, range_with_len}
 use Rattle.coord_types.specs.Table.{get, has}
 use Rattle.coord_link.specs.LaneMachine.{Lane, has_front_taken_at_most}
 use Rattle.coord_world.specs.protocol.Legal.{is_legal_node}
-use Rattle.coord_world.specs.protocol.Links.{Link, link, has_ack_in_one_place, has_one_ready_at_most, has_readies_first, has_ready_for_child, has_one_parent_at_most, has_no_early_ready}
+use Rattle.coord_world.specs.protocol.Links.{Link, link, has_ack_in_one_place, has_one_ready_at_most, has_readies_first, has_ready_for_child, has_one_parent_at_most, has_no_early_ready, has_right_distances}
 use Rattle.coord_world.specs.protocol.NumberedWorld.{World, view, state, is_linked}
 use Rattle.coord_world.specs.protocol.Rows.{lane_or_none}
 use Rattle.coord_check.specs.declared.violation.Letter.{Letter}
@@ -21,6 +21,7 @@ holds_of letter.D lane l = has_readies_first l
 holds_of letter.E lane l = has_ready_for_child l
 holds_of letter.F lane l = has_one_parent_at_most l
 holds_of letter.G lane l = has_no_early_ready l
+holds_of letter.H lane l = has_right_distances l
 
 -- of the link of u and v, as u sees it
 abbrev pub link_holds : World → ℕ → ℕ → Letter → Bool
@@ -58,7 +59,7 @@ abbrev pub letter_faults : World → ℕ → ℕ → Letter → List Violation
 letter_faults w a b x = end_faults w a b x ++ end_faults w b a x
 
 unfoldable pub link_letters : List Letter
-link_letters = letter.A ∷ letter.B ∷ letter.C ∷ letter.D ∷ letter.E ∷ letter.F ∷ letter.G ∷ []
+link_letters = letter.A ∷ letter.B ∷ letter.C ∷ letter.D ∷ letter.E ∷ letter.F ∷ letter.G ∷ letter.H ∷ []
 
 abbrev pub link_faults : World → ℕ → ℕ → List Violation
 link_faults w a b = if is_linked w a b then flat_map (letter_faults w a b) link_letters else []

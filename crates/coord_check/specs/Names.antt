@@ -13,6 +13,7 @@ letter_name letter.D = codes "D"
 letter_name letter.E = codes "E"
 letter_name letter.F = codes "F"
 letter_name letter.G = codes "G"
+letter_name letter.H = codes "H"
 
 -- the two nodes, and the letter that fails there
 abbrev pub violation_text : Violation → List ℕ

@@ -1,19 +1,26 @@
 -- What the code reads of one end of a link, and the link whose two ends these are.
-use Rattle.std.specs.Prelude.{ℕ, List}
+use Rattle.std.specs.Prelude.{ℕ, Bool, true, false, List}
 use Rattle.coord_types.specs.NodeSet as set
 use Rattle.coord_types.specs.Table.{get}
 use Rattle.coord_types.specs.declared.messages.Msg.{Msg}
 use Rattle.coord_types.specs.declared.messages.Msg.TheVariants as msg
 use Rattle.coord_link.specs.LaneMachine.{transit}
-use Rattle.coord_node.specs.Rules.{is_parent}
+use Rattle.coord_node.specs.Rules.{carried, is_parent}
 use Rattle.coord_world.specs.protocol.Links.{End, Link, aborts, acks, readies}
 use Rattle.coord_world.specs.protocol.NumberedWorld.{World, state}
 use Rattle.coord_world.specs.protocol.Rows.{lane_or_none}
 use Rattle.coord_check.specs.declared.side.Side.{Side}
 
+-- a message is of a kind, whatever it carries
+abbrev pub is_of_kind : Msg → Msg → Bool
+is_of_kind (msg.Abort k) (msg.Abort d) = true
+is_of_kind msg.Ack msg.Ack = true
+is_of_kind msg.Ready msg.Ready = true
+is_of_kind m n = false
+
 -- how many messages of a kind there are
 abbrev pub count : Msg → List Msg → ℕ
-count msg.Abort ms = aborts ms
+count (msg.Abort k) ms = aborts ms
 count msg.Ack ms = acks ms
 count msg.Ready ms = readies ms
 
@@ -23,11 +30,13 @@ side w u v = record {
   mode = (state w u).mode;
   awaits = set.contains (state w u).pend v;
   child = is_parent (state w u).parent v;
+  distance = (state w u).distance;
+  carries = carried (state w u);
   lane = lane_or_none (get w.lanes (u, v));
 }
 
 abbrev pub end_at : Side → End
-end_at s = record { mode = s.mode; awaits = s.awaits; child = s.child }
+end_at s = record { mode = s.mode; awaits = s.awaits; child = s.child; distance = s.distance; carries = s.carries }
 
 -- the link with these ends, as the first one sees it
 abbrev pub seen : Side → Side → Link

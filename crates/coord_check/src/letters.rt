@@ -2,13 +2,13 @@
 
 ghost use Rattle.std.specs.Prelude.{◌≡◌};
 ghost use Rattle.coord_link.specs.LaneMachine.{has_front_taken_at_most};
-ghost use Rattle.coord_world.specs.protocol.Links.{has_ack_in_one_place, has_no_early_ready, has_ready_for_child};
+ghost use Rattle.coord_world.specs.protocol.Links.{has_ack_in_one_place, has_no_early_ready, has_ready_for_child, has_right_distances};
 ghost use Rattle.coord_check.specs.Faults.{holds_of};
 ghost use Rattle.coord_check.specs.Sides.{seen};
 
 use crate::side::Side;
 use crate::violation::Letter;
-use crate::way::{count_of, late_readies};
+use crate::way::{count_of, late_readies, strays_of};
 use coord_link::Lane;
 use coord_types::{Mode, Msg};
 
@@ -26,6 +26,7 @@ pub(crate) fn holds(letter: Letter, here: &Side, there: &Side) -> bool
         Letter::E => has_ready_for_child(here, there),
         Letter::F => !(here.child && there.child),
         Letter::G => has_no_early_ready(here),
+        Letter::H => has_right_distances(here, there),
     }
 }
 
@@ -39,7 +40,7 @@ fn has_front_taken_at_most(lane: &Lane) -> bool
 fn has_ack_in_one_place(here: &Side, there: &Side) -> bool
     ensures { result ≡ has_ack_in_one_place (seen here.now there.now) }
 {
-    let aborts = count_of(here.lane.transit(), Msg::Abort);
+    let aborts = count_of(here.lane.transit(), Msg::Abort(0));
     let is_owed = there.mode == Mode::Abort && there.child;
     let acks = count_of(there.lane.transit(), Msg::Ack);
     if here.awaits {
@@ -66,6 +67,17 @@ fn has_no_early_ready(here: &Side) -> bool
     let messages = here.lane.transit();
     here.mode == Mode::Ready
         || here.child
-        || count_of(messages, Msg::Abort) != 0
+        || count_of(messages, Msg::Abort(0)) != 0
         || count_of(messages, Msg::Ready) == 0
+}
+
+fn has_right_distances(here: &Side, there: &Side) -> bool
+    ensures { result ≡ has_right_distances (seen here.now there.now) }
+{
+    let messages = here.lane.transit();
+    strays_of(messages, here.carries) == 0
+        && (there.mode == Mode::Ready
+            || !there.child
+            || count_of(messages, Msg::Ready) != 0
+            || there.distance == here.carries)
 }

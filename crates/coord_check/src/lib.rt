@@ -1,7 +1,7 @@
 //! The checker of worlds: whether a world is legal, and else the first predicate that fails, in a
 //! stated order.
 //!
-//! What legal is stands in coord_world: the node predicate N in `specs/protocol/Legal.antt`, A to G
+//! What legal is stands in coord_world: the node predicate N in `specs/protocol/Legal.antt`, A to H
 //! over a link in `specs/protocol/Links.antt` and coord_link's lane machine, each a test by itself.
 //! `specs/Faults.antt` lists every place where one of these tests fails, in the order in which
 //! `check` tells them.

@@ -1,7 +1,7 @@
 //! The predicate over one node.
 
 ghost use Rattle.std.specs.Prelude.{◌≡◌};
-ghost use Rattle.coord_world.specs.protocol.Legal.{awaits_rightly, has_right_parent, is_parent_near, is_within, is_legal_node};
+ghost use Rattle.coord_world.specs.protocol.Legal.{awaits_rightly, has_right_parent, is_parent_near, is_within, is_distance_right, is_legal_node};
 
 use coord_node::Node;
 use coord_types::{Mode, NodeId, NodeSet};
@@ -17,6 +17,7 @@ pub(crate) fn is_legal_node(node: &Node, count: u64) -> bool
         && pend.is_subset(neighbours)
         && node.confirmed() <= node.epoch()
         && node.epoch() <= count
+        && is_distance_right(node.mode(), node.distance(), count)
 }
 
 /// Whether a node awaits somebody exactly where it is Abort.
@@ -34,6 +35,16 @@ fn has_right_parent(mode: Mode, parent: Option<NodeId>) -> bool
         Mode::Ready => parent.is_none(),
         Mode::Abort => true,
         Mode::Converge => parent.is_some(),
+    }
+}
+
+/// Whether a Ready node has no distance, and any other one a lesser one than steps were taken.
+fn is_distance_right(mode: Mode, distance: u64, count: u64) -> bool
+    ensures { result ≡ is_distance_right mode distance count }
+{
+    match mode {
+        Mode::Ready => distance == 0,
+        Mode::Abort | Mode::Converge => distance < count,
     }
 }
 

@@ -18,7 +18,7 @@ use coord_world::World;
 const END: u8 = 65;
 
 /// The letters of links, in the order in which they are tried.
-const LINK_LETTERS: [Letter; 7] = [
+const LINK_LETTERS: [Letter; 8] = [
     Letter::A,
     Letter::B,
     Letter::C,
@@ -26,11 +26,12 @@ const LINK_LETTERS: [Letter; 7] = [
     Letter::E,
     Letter::F,
     Letter::G,
+    Letter::H,
 ];
 
 /// The first fault of a world; None where it is legal. Nodes come first, in ascending order. Then
 /// come the links, in ascending order of their lesser and then their greater end: of each link the
-/// letters from A to G, each as the lesser end sees it and then as the greater one does.
+/// letters from A to H, each as the lesser end sees it and then as the greater one does.
 pub fn check(world: &World) -> Option<Violation>
     ensures first { result ≡ first (faults world.now) }
     ensures legal { IsNone result ↔ Legal world.now }

@@ -17,6 +17,9 @@ pub(crate) struct Side {
     pub awaits: bool,
     /// Whether the other end is its parent.
     pub child: bool,
+    pub distance: u64,
+    /// What an Abort from it carries.
+    pub carries: u64,
     pub lane: Lane,
 }
 
@@ -33,6 +36,8 @@ impl Side {
             mode: node.mode(),
             awaits: node.pend().contains(to),
             child: node.parent() == Some(to),
+            distance: node.distance(),
+            carries: node.carried(),
             lane: *lane,
         })
     }

@@ -25,6 +25,9 @@ pub enum Letter {
     F,
     /// A node in a reset has no Ready on the way but to its parent, or beside an Abort.
     G,
+    /// An Abort carries one more than its sender's distance, which is its receiver's, too, until its
+    /// Ready is on the way. In version 1 all distances are 0, and it always holds.
+    H,
 }
 
 impl Letter {
@@ -41,6 +44,7 @@ impl Letter {
             Letter::E => "E",
             Letter::F => "F",
             Letter::G => "G",
+            Letter::H => "H",
         }
     }
 }

@@ -10,9 +10,9 @@ use Rattle.coord_world.specs.declared.rows.parts.LinkRow.{LinkRow}
 use Rattle.coord_world.specs.declared.rows.parts.ClientRow.{ClientRow}
 use Rattle.coord_batch.specs.Format.{byte, u64, such_that}
 use Rattle.coord_batch.specs.Fields.{node, client, message}
-use Rattle.coord_codec.specs.Worlds.{can_link, client_row, clients, ends, first_rises, kind, kind_from, kind_number, lane, last_by, link_row, links, mask, mode, node_row, nodes, parent, parent_from, parent_number, queue, second_rises, world}
+use Rattle.coord_codec.specs.Worlds.{can_link, client_row, clients, ends, first_rises, kind, kind_from, kind_number, lane, last_by, link_row, links, mask, mode, most_distance, node_row, nodes, parent, parent_from, parent_number, queue, second_rises, world}
 use Rattle.coord_batch.proofs.Grammars.{IsGrammar, byte_grammar, u64_grammar, such_grammar, followed_grammar, made_grammar, counted_grammar}
-use Rattle.coord_batch.proofs.StepGrammars.{and_grammar, at_most_grammar, client_grammar, command_grammar, from_one_to_grammar, group_grammar, how_many_grammar, message_grammar, node_grammar}
+use Rattle.coord_batch.proofs.StepGrammars.{and_grammar, at_most_grammar, client_grammar, command_grammar, distance_grammar, from_one_to_grammar, group_grammar, how_many_grammar, message_grammar, node_grammar}
 
 -- ---- fields
 
@@ -49,20 +49,22 @@ kind_grammar x = such_grammar (answers x) _ (made_grammar kind_from kind_number 
 
 -- ---- rows
 
-node_row_grammar : (count : ℕ) (front : List NodeRow) → IsGrammar (node_row count front)
+node_row_grammar : (version count : ℕ) (front : List NodeRow) → IsGrammar (node_row version count front)
 unfolding node_row
-node_row_grammar count front =
+node_row_grammar version count front =
     made_grammar _ _ _
+    (followed_grammar _ _
     (and_grammar _ _ (such_grammar (ltb (last_by (λ r. r.id) 0 front)) node node_grammar) (and_grammar _ _ group_grammar (and_grammar _ _ mode_grammar (and_grammar _ _ parent_grammar (and_grammar _ _ mask_grammar (and_grammar _ _ (at_most_grammar count) (at_most_grammar count)))))))
+    (λ p. distance_grammar version (most_distance p.1.1.0 count)))
     (λ p fits. refl)
 
-same_nodes : (count : ℕ) (front : List NodeRow) → (node_row count front).text ≡ (node_row count []).text
+same_nodes : (version count : ℕ) (front : List NodeRow) → (node_row version count front).text ≡ (node_row version count []).text
 unfolding node_row
-same_nodes count front = refl
+same_nodes version count front = refl
 
-nodes_grammar : (count : ℕ) → IsGrammar (nodes count)
+nodes_grammar : (version count : ℕ) → IsGrammar (nodes version count)
 unfolding nodes
-nodes_grammar count = counted_grammar _ (node_row count) (how_many_grammar 64) (node_row_grammar count) (same_nodes count)
+nodes_grammar version count = counted_grammar _ (node_row version count) (how_many_grammar 64) (node_row_grammar version count) (same_nodes version count)
 
 ends_grammar : (listed : List NodeRow) (front : List LinkRow) → IsGrammar (ends listed front)
 unfolding ends
@@ -70,26 +72,26 @@ ends_grammar listed front =
     such_grammar (can_link listed front) _
     (followed_grammar _ _ (such_grammar (first_rises front) node node_grammar) (λ a. such_grammar (second_rises front a) node node_grammar))
 
-queue_grammar : IsGrammar queue
+queue_grammar : (version count : ℕ) → IsGrammar (queue version count)
 unfolding queue
-queue_grammar = counted_grammar _ (λ _. message) (how_many_grammar 4) (λ _. message_grammar) (λ _. refl)
+queue_grammar version count = counted_grammar _ (λ _. message version count) (how_many_grammar 4) (λ _. message_grammar version count) (λ _. refl)
 
-lane_grammar : (count : ℕ) → IsGrammar (lane count)
+lane_grammar : (version count : ℕ) → IsGrammar (lane version count)
 unfolding lane
-lane_grammar count = and_grammar _ _ (at_most_grammar count) (and_grammar _ _ (at_most_grammar count) queue_grammar)
+lane_grammar version count = and_grammar _ _ (at_most_grammar count) (and_grammar _ _ (at_most_grammar count) (queue_grammar version count))
 
-link_row_grammar : (count : ℕ) (listed : List NodeRow) (front : List LinkRow) → IsGrammar (link_row count listed front)
+link_row_grammar : (version count : ℕ) (listed : List NodeRow) (front : List LinkRow) → IsGrammar (link_row version count listed front)
 unfolding link_row
-link_row_grammar count listed front =
-    made_grammar _ _ _ (and_grammar _ _ (ends_grammar listed front) (and_grammar _ _ (from_one_to_grammar count) (and_grammar _ _ (lane_grammar count) (lane_grammar count)))) (λ p fits. refl)
+link_row_grammar version count listed front =
+    made_grammar _ _ _ (and_grammar _ _ (ends_grammar listed front) (and_grammar _ _ (from_one_to_grammar count) (and_grammar _ _ (lane_grammar version count) (lane_grammar version count)))) (λ p fits. refl)
 
-same_links : (count : ℕ) (listed : List NodeRow) (front : List LinkRow) → (link_row count listed front).text ≡ (link_row count listed []).text
+same_links : (version count : ℕ) (listed : List NodeRow) (front : List LinkRow) → (link_row version count listed front).text ≡ (link_row version count listed []).text
 unfolding link_row ends
-same_links count listed front = refl
+same_links version count listed front = refl
 
-links_grammar : (count : ℕ) (listed : List NodeRow) → IsGrammar (links count listed)
+links_grammar : (version count : ℕ) (listed : List NodeRow) → IsGrammar (links version count listed)
 unfolding links
-links_grammar count listed = counted_grammar _ (link_row count listed) (how_many_grammar 128) (link_row_grammar count listed) (same_links count listed)
+links_grammar version count listed = counted_grammar _ (link_row version count listed) (how_many_grammar 128) (link_row_grammar version count listed) (same_links version count listed)
 
 client_row_grammar : (count : ℕ) (front : List ClientRow) → IsGrammar (client_row count front)
 unfolding client_row
@@ -106,7 +108,7 @@ clients_grammar : (count : ℕ) → IsGrammar (clients count)
 unfolding clients
 clients_grammar count = counted_grammar _ (client_row count) (how_many_grammar 16) (client_row_grammar count) (same_clients count)
 
-pub world_grammar : IsGrammar world
+pub world_grammar : (version : ℕ) → IsGrammar (world version)
 unfolding world
-world_grammar =
-    made_grammar _ _ _ (followed_grammar _ _ (at_most_grammar (2 ^ 40)) (λ count. followed_grammar _ _ (nodes_grammar count) (λ listed. and_grammar _ _ (links_grammar count listed) (clients_grammar count)))) (λ p fits. refl)
+world_grammar version =
+    made_grammar _ _ _ (followed_grammar _ _ (at_most_grammar (2 ^ 40)) (λ count. followed_grammar _ _ (nodes_grammar version count) (λ listed. and_grammar _ _ (links_grammar version count listed) (clients_grammar count)))) (λ p fits. refl)

@@ -1,5 +1,5 @@
 -- Which rows the world's format can spell: those that fit together.
-use Rattle.std.proofs.Common.{◌≡◌, ℕ, zero, suc, ◌+◌, ◌<◌, ◌≤◌, ◌^◌, true, false, ltb, eqb, List, [], ◌∷◌, ◌++◌, Option, Some, None, length, cond, refl, sym, ap, subst, ◌∙◌, arith, append_assoc, append-nil}
+use Rattle.std.proofs.Common.{◌≡◌, ℕ, zero, suc, ◌+◌, ◌<◌, ◌≤◌, ◌^◌, Bool, true, false, ltb, eqb, List, [], ◌∷◌, ◌++◌, Option, Some, None, length, cond, refl, sym, ap, subst, ◌∙◌, arith, append_assoc, append-nil}
 use Rattle.std.specs.Ordering.{eq_by_cmp, is_lt, nat_cmp}
 use Rattle.std.specs.Cmp.{nat_cmp_total}
 use Rattle.std.specs.List.{AllByRecursion}
@@ -10,6 +10,7 @@ use Rattle.coord_types.specs.NodeMask.{IsMaskable, mask_of}
 use Rattle.coord_types.specs.declared.messages.Mode.{Mode}
 use Rattle.coord_types.specs.declared.messages.Mode.TheVariants as modes
 use Rattle.coord_types.specs.declared.messages.Msg.{Msg}
+use Rattle.coord_types.specs.Messages.{brought}
 use Rattle.coord_types.specs.declared.steps.Command.{Command}
 use Rattle.coord_types.specs.declared.steps.Command.TheVariants.{Add, Remove, Join, Drop, Reset, Confirm}
 use Rattle.coord_types.specs.declared.steps.Kind.{Kind}
@@ -17,17 +18,18 @@ use Rattle.coord_types.specs.declared.steps.Kind.TheVariants as kinds
 use Rattle.coord_types.proofs.Masks.{maskable_nodes, mask_below, nodes_back}
 use Rattle.coord_link.specs.LaneMachine.{Lane}
 use Rattle.coord_world.specs.protocol.NumberedWorld.{pair_cmp, pair_cmp_total}
-use Rattle.coord_world.specs.protocol.Ranges.{IsNode, LaneInRange, SessionInRange, answers}
-use Rattle.coord_world.specs.protocol.Rows.{LinkRowFits, NodeRowFits, Rows, RowsFit, by_client, by_ends, by_id, degree, group_in, group_of, is_end}
+use Rattle.coord_world.specs.protocol.Ranges.{CarryWithin, IsNode, LaneInRange, SessionInRange, answers, farthest}
+use Rattle.coord_world.specs.protocol.Rows.{LanesCarryWithin, LinkRowFits, NodeRowFits, RowIsDistant, Rows, RowsFit, by_client, by_ends, by_id, degree, group_in, group_of, is_end}
 use Rattle.coord_world.specs.declared.rows.parts.NodeRow.{NodeRow}
 use Rattle.coord_world.specs.declared.rows.parts.LinkRow.{LinkRow}
 use Rattle.coord_world.specs.declared.rows.parts.ClientRow.{ClientRow}
 use Rattle.coord_world.proofs.Facade.{all_weaker}
-use Rattle.coord_batch.specs.Fields.{message}
+use Rattle.coord_batch.specs.Decoding.{is_version}
+use Rattle.coord_batch.specs.Fields.{distance, message, unless}
 use Rattle.coord_batch.specs.Format.{FitBehind, Format}
-use Rattle.coord_codec.specs.Worlds.{client_row, clients, ends, kind, lane, last_by, last_ends, link_row, links, mask, mode, node_row, nodes, parent, queue, same_group, world}
+use Rattle.coord_codec.specs.Worlds.{client_row, clients, ends, kind, lane, last_by, last_ends, link_row, links, mask, mode, most_distance, node_row, nodes, parent, queue, same_group, world}
 use Rattle.coord_batch.proofs.Batched.{command_fits, command_in_range}
-use Rattle.coord_batch.proofs.FieldRanges.{at_most_fits, at_most_in_range, client_fits, client_in_range, from_one_to_fits, from_one_to_in_range, group_fits, group_in_range, how_many_fits, how_many_in_range, message_fits, node_fits, node_in_range}
+use Rattle.coord_batch.proofs.FieldRanges.{at_most_fits, at_most_in_range, client_fits, client_in_range, from_one_to_fits, from_one_to_in_range, group_fits, group_in_range, how_many_fits, how_many_in_range, message_fits, message_in_range, node_fits, node_in_range}
 use Rattle.coord_codec.proofs.Rising.{RiseFrom, above_zero, both, few_keys, last_push, rise_of_sorted, sorted_of_rise}
 
 -- ---- fields
@@ -63,6 +65,41 @@ kind_in_range : (x : Command) (k : Kind) → (kind x).Fits k → answers x k ≡
 unfolding kind
 kind_in_range x k fits = fits.1
 
+-- a distance up to a number is one within what the version allows
+distance_in : (version most n : ℕ) → (distance version most).Fits n → n ≤ farthest version most
+unfolding distance unless
+distance_in version most n fits = by_version (eqb version 1) fits
+  where
+    by_version : (b : Bool) → (unless b most).Fits n → n ≤ cond b 0 most
+    by_version true is = omega (arith, is)
+    by_version false is = at_most_in_range most n is
+
+distance_fits : (version most n : ℕ) → most < 2 ^ 64 → n ≤ farthest version most → (distance version most).Fits n
+unfolding distance unless
+distance_fits version most n small few = by_version (eqb version 1) few
+  where
+    by_version : (b : Bool) → n ≤ cond b 0 most → (unless b most).Fits n
+    by_version true le = omega (arith, le)
+    by_version false le = at_most_fits most n small le
+
+-- no distance is further than what is allowed of a number
+farthest_most : (version most : ℕ) → farthest version most ≤ most
+farthest_most version most = by_version (eqb version 1)
+  where
+    by_version : (b : Bool) → cond b 0 most ≤ most
+    by_version true = omega arith
+    by_version false = omega arith
+
+node_distance_in : (version count n : ℕ) (m : Mode) → (distance version (most_distance m count)).Fits n → (n ≤ farthest version count) × (m ≡ modes.Ready → n ≡ 0)
+node_distance_in version count n modes.Ready fits = let none = distance_in version 0 n fits in let le = farthest_most version 0 in (omega (arith, none, le), λ _. omega (arith, none, le))
+node_distance_in version count n modes.Abort fits = (distance_in version count n fits, λ e. cc)
+node_distance_in version count n modes.Converge fits = (distance_in version count n fits, λ e. cc)
+
+node_distance_fits : (version count n : ℕ) (m : Mode) → count < 2 ^ 64 → n ≤ farthest version count → (m ≡ modes.Ready → n ≡ 0) → (distance version (most_distance m count)).Fits n
+node_distance_fits version count n modes.Ready small few ready = let none = ready refl in distance_fits version 0 n (omega arith) (omega (arith, none))
+node_distance_fits version count n modes.Abort small few ready = distance_fits version count n small few
+node_distance_fits version count n modes.Converge small few ready = distance_fits version count n small few
+
 -- ---- rows by number
 
 -- a row fits behind others where it is in its range and its number above theirs
@@ -91,33 +128,43 @@ module _ {Row : Type 0} (key : Row → ℕ) (row : List Row → Format Row) (IsR
 abbrev node_key : NodeRow → ℕ
 node_key r = r.id
 
-module _ (count : ℕ) where
-  node_row_in : (front : List NodeRow) (r : NodeRow) → (node_row count front).Fits r → NodeRowFits count r × (is_lt (nat_cmp (last_by node_key 0 front) r.id) ≡ true)
+module _ (version count : ℕ) where
+  abbrev IsRow : NodeRow → Type 0
+  IsRow r = NodeRowFits count r × RowIsDistant version count r
+
+  node_row_in : (front : List NodeRow) (r : NodeRow) → (node_row version count front).Fits r → IsRow r × (is_lt (nat_cmp (last_by node_key 0 front) r.id) ≡ true)
   unfolding node_row
   node_row_in front r fits =
-      let p = fits.0 in
-      let f = fits.1 in
-      subst (λ s. NodeRowFits count s × (is_lt (nat_cmp (last_by node_key 0 front) s.id) ≡ true)) (sym fits.2) (
-        record {
-          least = (node_in_range p.0 f.0.0).0;
-          greatest = (node_in_range p.0 f.0.0).1;
-          group_least = (group_in_range p.1.0 f.1.0).0;
-          group_greatest = (group_in_range p.1.0 f.1.0).1;
-          parent = parent_in_range p.1.1.1.0 f.1.1.1.0;
-          pend = mask_in_range p.1.1.1.1.0 f.1.1.1.1.0;
-          epoch = at_most_in_range count p.1.1.1.1.1.0 f.1.1.1.1.1.0;
-          confirmed = at_most_in_range count p.1.1.1.1.1.1 f.1.1.1.1.1.1;
-        },
+      let p = fits.0.0 in
+      let f = fits.1.0 in
+      let d = node_distance_in version count fits.0.1 p.1.1.0 fits.1.1 in
+      subst (λ s. IsRow s × (is_lt (nat_cmp (last_by node_key 0 front) s.id) ≡ true)) (sym fits.2) (
+        (
+          record {
+            least = (node_in_range p.0 f.0.0).0;
+            greatest = (node_in_range p.0 f.0.0).1;
+            group_least = (group_in_range p.1.0 f.1.0).0;
+            group_greatest = (group_in_range p.1.0 f.1.0).1;
+            parent = parent_in_range p.1.1.1.0 f.1.1.1.0;
+            pend = mask_in_range p.1.1.1.1.0 f.1.1.1.1.0;
+            epoch = at_most_in_range count p.1.1.1.1.1.0 f.1.1.1.1.1.0;
+            confirmed = at_most_in_range count p.1.1.1.1.1.1 f.1.1.1.1.1.1;
+          },
+          record { within = d.0; ready = d.1 },
+        ),
         grind (arith, nat_tests, f.0.1),
       )
 
-  node_row_fits : count < 2 ^ 64 → (front : List NodeRow) (r : NodeRow) → NodeRowFits count r → is_lt (nat_cmp (last_by node_key 0 front) r.id) ≡ true → (node_row count front).Fits r
+  node_row_fits : count < 2 ^ 64 → (front : List NodeRow) (r : NodeRow) → IsRow r → is_lt (nat_cmp (last_by node_key 0 front) r.id) ≡ true → (node_row version count front).Fits r
   unfolding node_row
-  node_row_fits small front r range above = (
-    (r.id, (r.group, (r.mode, (r.parent, (r.pend, (r.epoch, r.confirmed)))))),
+  node_row_fits small front r both_ranges above = let range = both_ranges.0 in (
+    ((r.id, (r.group, (r.mode, (r.parent, (r.pend, (r.epoch, r.confirmed)))))), r.distance),
     (
-      (node_fits r.id (range.least, range.greatest), grind (arith, nat_tests, above)),
-      (group_fits r.group range.group_least range.group_greatest, (mode_fits r.mode, (parent_fits r.parent range.parent, (mask_fits r.pend range.pend, (at_most_fits count r.epoch small range.epoch, at_most_fits count r.confirmed small range.confirmed))))),
+      (
+        (node_fits r.id (range.least, range.greatest), grind (arith, nat_tests, above)),
+        (group_fits r.group range.group_least range.group_greatest, (mode_fits r.mode, (parent_fits r.parent range.parent, (mask_fits r.pend range.pend, (at_most_fits count r.epoch small range.epoch, at_most_fits count r.confirmed small range.confirmed))))),
+      ),
+      node_distance_fits version count r.distance r.mode small both_ranges.1.within both_ranges.1.ready,
     ),
     refl,
   )
@@ -186,32 +233,39 @@ listed_node count (r ∷ rs) u g all is = elim (eqb u r.id) as (λ t. eqb u r.id
   | false ↦ λ t. listed_node count rs u g all.1 (let other : eq_by_cmp nat_cmp u r.id ≡ false = grind (arith, nat_tests) in ap (λ b. group_in (cond b (Some r) (find nat_cmp u (by_id rs)))) (sym other) ∙ is)
 ] refl
 
-queue_in : (ms : List Msg) → queue.Fits ms → length ms ≤ 4
-unfolding queue
-queue_in ms fits = how_many_in_range 4 (length ms) fits.0
+module _ (version count : ℕ) (small : count < 2 ^ 64) where
+  messages_in : (front ms : List Msg) → FitBehind (λ _. message version count) front ms → CarryWithin (farthest version count) ms
+  unfolding FitBehind
+  messages_in front [] fits = tt
+  messages_in front (m ∷ ms) fits = (distance_in version count (brought m) (message_in_range version count m small fits.0), messages_in (front ++ m ∷ []) ms fits.1)
 
-each_message : (front ms : List Msg) → FitBehind (λ _. message) front ms
-unfolding FitBehind
-each_message front [] = tt
-each_message front (m ∷ ms) = (message_fits m, each_message (front ++ m ∷ []) ms)
+  queue_in : (ms : List Msg) → (queue version count).Fits ms → (length ms ≤ 4) × CarryWithin (farthest version count) ms
+  unfolding queue
+  queue_in ms fits = (how_many_in_range 4 (length ms) fits.0, messages_in [] ms fits.1)
 
-queue_fits : (ms : List Msg) → length ms ≤ 4 → queue.Fits ms
-unfolding queue
-queue_fits ms few = (how_many_fits 4 (length ms) (omega arith) few, each_message [] ms)
+  each_message : (front ms : List Msg) → CarryWithin (farthest version count) ms → FitBehind (λ _. message version count) front ms
+  unfolding FitBehind
+  each_message front [] carry = tt
+  each_message front (m ∷ ms) carry = (message_fits version count m (distance_fits version count (brought m) small carry.0), each_message (front ++ m ∷ []) ms carry.1)
 
-module _ (count : ℕ) (listed : List NodeRow) where
+  queue_fits : (ms : List Msg) → length ms ≤ 4 → CarryWithin (farthest version count) ms → (queue version count).Fits ms
+  unfolding queue
+  queue_fits ms few carry = (how_many_fits 4 (length ms) (omega arith) few, each_message [] ms carry)
+
+module _ (version count : ℕ) (listed : List NodeRow) (small : count < 2 ^ 64) where
   -- what a link's row says, and what it says of those before it
   record LinkedRow (front : List LinkRow) (r : LinkRow) : Type 0 where
     pub range : LinkRowFits count listed r
+    pub carried : LanesCarryWithin (farthest version count) r
     pub rises : is_lt (pair_cmp (last_ends front) (r.a, r.b)) ≡ true
     pub first_room : degree r.a front < 16
     pub second_room : degree r.b front < 16
 
-  lane_in : (inc base got : ℕ) (ms : List Msg) → (1 ≤ inc) × (inc ≤ count) → (lane count).Fits (base, (got, ms)) → LaneInRange count (record { inc = inc; base = base; got = got; queue = ms }) × (length ms ≤ 4)
+  lane_in : (inc base got : ℕ) (ms : List Msg) → (1 ≤ inc) × (inc ≤ count) → (lane version count).Fits (base, (got, ms)) → LaneInRange count (record { inc = inc; base = base; got = got; queue = ms }) × ((length ms ≤ 4) × CarryWithin (farthest version count) ms)
   unfolding lane
-  lane_in inc base got ms made fits = (record { made = made.0; inc = made.1; base = at_most_in_range count base fits.0; got = at_most_in_range count got fits.1.0 }, queue_in ms fits.1.1)
+  lane_in inc base got ms made fits = (record { made = made.0; inc = made.1; base = at_most_in_range count base fits.0; got = at_most_in_range count got fits.1.0 }, queue_in version count small ms fits.1.1)
 
-  link_row_in : (front : List LinkRow) (r : LinkRow) → (link_row count listed front).Fits r → LinkedRow front r
+  link_row_in : (front : List LinkRow) (r : LinkRow) → (link_row version count listed front).Fits r → LinkedRow front r
   unfolding link_row
   link_row_in front r fits =
       let p = fits.0 in
@@ -226,21 +280,22 @@ module _ (count : ℕ) (listed : List NodeRow) where
           ends = record { group = linked.group.0; first = linked.group.1; second = linked.group.2 };
           forth = forth.0;
           back = back.0;
-          forth_short = forth.1;
-          back_short = back.1;
+          forth_short = forth.1.0;
+          back_short = back.1.0;
           one_incarnation = refl;
         };
+        carried = record { forth = forth.1.1; back = back.1.1 };
         rises = linked.rises;
         first_room = linked.first_room;
         second_room = linked.second_room;
       })
 
-  module _ (small : count < 2 ^ 64) (all : AllByRecursion (NodeRowFits count) listed) where
-    lane_fits : (l : Lane) → LaneInRange count l → length l.queue ≤ 4 → (lane count).Fits (l.base, (l.got, l.queue))
+  module _ (all : AllByRecursion (NodeRowFits count) listed) where
+    lane_fits : (l : Lane) → LaneInRange count l → length l.queue ≤ 4 → CarryWithin (farthest version count) l.queue → (lane version count).Fits (l.base, (l.got, l.queue))
     unfolding lane
-    lane_fits l range few = (at_most_fits count l.base small range.base, (at_most_fits count l.got small range.got, queue_fits l.queue few))
+    lane_fits l range few carry = (at_most_fits count l.base small range.base, (at_most_fits count l.got small range.got, queue_fits version count small l.queue few carry))
 
-    link_row_fits : (front : List LinkRow) (r : LinkRow) → LinkedRow front r → (link_row count listed front).Fits r
+    link_row_fits : (front : List LinkRow) (r : LinkRow) → LinkedRow front r → (link_row version count listed front).Fits r
     unfolding link_row
     link_row_fits front r row =
         let range = row.range in
@@ -256,7 +311,7 @@ module _ (count : ℕ) (listed : List NodeRow) where
               first_room = row.first_room;
               second_room = row.second_room;
             }),
-            (from_one_to_fits count r.forth.inc small range.forth.made range.forth.inc, (lane_fits r.forth range.forth range.forth_short, lane_fits r.back range.back range.back_short)),
+            (from_one_to_fits count r.forth.inc small range.forth.made range.forth.inc, (lane_fits r.forth range.forth range.forth_short row.carried.forth, lane_fits r.back range.back range.back_short row.carried.back)),
           ),
           (λ i. record { a = r.a; b = r.b; forth = r.forth; back = record { inc = sym range.one_incarnation i; base = r.back.base; got = r.back.got; queue = r.back.queue } }),
         )
@@ -270,38 +325,42 @@ module _ (count : ℕ) (listed : List NodeRow) where
 
   record LinkedRows (front rs : List LinkRow) : Type 0 where
     pub ranges : AllByRecursion (LinkRowFits count listed) rs
+    pub carried : AllByRecursion (LanesCarryWithin (farthest version count)) rs
     pub rise : RiseFrom link_key pair_cmp_total (last_ends front) rs
     pub degrees : (u : ℕ) → degree u (front ++ rs) ≤ 16
 
-  links_in : (front rs : List LinkRow) → ((u : ℕ) → degree u front ≤ 16) → FitBehind (link_row count listed) front rs → LinkedRows front rs
+  links_in : (front rs : List LinkRow) → ((u : ℕ) → degree u front ≤ 16) → FitBehind (link_row version count listed) front rs → LinkedRows front rs
   unfolding FitBehind
-  links_in front [] few fits = record { ranges = tt; rise = tt; degrees = λ u. subst (λ l. degree u l ≤ 16) (sym (append-nil front)) (few u) }
+  links_in front [] few fits = record { ranges = tt; carried = tt; rise = tt; degrees = λ u. subst (λ l. degree u l ≤ 16) (sym (append-nil front)) (few u) }
   links_in front (r ∷ rs) few fits =
       let row = link_row_in front r fits.0 in
       let rest = links_in (front ++ r ∷ []) rs (room_more front r row few) fits.1 in
       record {
         ranges = (row.range, rest.ranges);
+        carried = (row.carried, rest.carried);
         rise = (row.rises, subst (λ last. RiseFrom link_key pair_cmp_total last rs) (last_push link_key (0, 0) front r) rest.rise);
         degrees = λ u. subst (λ l. degree u l ≤ 16) (append_assoc front (r ∷ []) rs) (rest.degrees u);
       }
 
-  module _ (small : count < 2 ^ 64) (all : AllByRecursion (NodeRowFits count) listed) where
+  module _ (all : AllByRecursion (NodeRowFits count) listed) where
     -- an end of a link behind has one link fewer before it
     room_before : (front rs : List LinkRow) (r : LinkRow) (u : ℕ) → is_end u r ≡ true → degree u (front ++ r ∷ rs) ≤ 16 → degree u front < 16
     room_before front rs r u is few = grind (arith, nat_tests, is, degree-append u front (r ∷ rs), few)
 
-    links_fit : (front rs : List LinkRow) → LinkedRows front rs → FitBehind (link_row count listed) front rs
+    links_fit : (front rs : List LinkRow) → LinkedRows front rs → FitBehind (link_row version count listed) front rs
     unfolding FitBehind
     links_fit front [] rows = tt
     links_fit front (r ∷ rs) rows = (
-      link_row_fits small all front r (record {
+      link_row_fits all front r (record {
         range = rows.ranges.0;
+        carried = rows.carried.0;
         rises = rows.rise.0;
         first_room = room_before front rs r r.a (grind (arith, nat_tests)) (rows.degrees r.a);
         second_room = room_before front rs r r.b (grind (arith, nat_tests)) (rows.degrees r.b);
       }),
       links_fit (front ++ r ∷ []) rs (record {
         ranges = rows.ranges.1;
+        carried = rows.carried.1;
         rise = subst (λ last. RiseFrom link_key pair_cmp_total last rs) (sym (last_push link_key (0, 0) front r)) rows.rise.1;
         degrees = λ u. subst (λ l. degree u l ≤ 16) (sym (append_assoc front (r ∷ []) rs)) (rows.degrees u);
       }),
@@ -370,6 +429,11 @@ module _ (count : ℕ) where
 
 -- ---- worlds
 
+-- what each row fulfils and what each fulfils beside it
+pub all_both : {A : Type 0} (P Q : A → Type 0) (xs : List A) → AllByRecursion P xs → AllByRecursion Q xs → AllByRecursion (λ x. P x × Q x) xs
+all_both P Q [] ps qs = tt
+all_both P Q (x ∷ xs) ps qs = ((ps.0, qs.0), all_both P Q xs ps.1 qs.1)
+
 -- the ends of a link are numbered from 1
 above_none : (count : ℕ) (listed : List NodeRow) (rs : List LinkRow) → AllByRecursion (NodeRowFits count) listed → AllByRecursion (LinkRowFits count listed) rs → below_all pair_cmp (0, 0) (by_ends rs) ≡ true
 above_none count listed [] known all = refl
@@ -379,20 +443,31 @@ above_none count listed (r ∷ rs) known all =
     let least = end.0 in
     grind (arith, nat_tests, rest, least)
 
-pub rows_in : (r : Rows) → world.Fits r → RowsFit r
+-- rows that are spelled in a version have it
+pub version_fits : (version : ℕ) (r : Rows) → (world version).Fits r → r.version ≡ version
+unfolding world
+version_fits version r fits = ap (λ (x : Rows). x.version) fits.2
+
+pub rows_in : (version : ℕ) (r : Rows) → is_version version ≡ true → (world version).Fits r → RowsFit r
 unfolding world nodes links clients
-rows_in r fits =
+rows_in version r known_version fits =
     let p = fits.0 in
     let f = fits.1 in
-    let listed = all_in node_key (node_row p.0) (NodeRowFits p.0) (node_row_in p.0) [] p.1.0 f.1.0.1 in
-    let linked = links_in p.0 p.1.0 [] p.1.1.0 (λ u. omega arith) f.1.1.0.1 in
+    let within = at_most_in_range (2 ^ 40) p.0 f.0 in
+    let small : p.0 < 2 ^ 64 = omega (arith, within) in
+    let listed = all_in node_key (node_row version p.0) (IsRow version p.0) (node_row_in version p.0) [] p.1.0 f.1.0.1 in
+    let linked = links_in version p.0 p.1.0 small [] p.1.1.0 (λ u. omega arith) f.1.1.0.1 in
     let known = all_in client_key (client_row p.0) (ClientRowFits p.0) (client_row_in p.0) [] p.1.1.1 f.1.1.1.1 in
     subst RowsFit (sym fits.2) (record {
-      count = at_most_in_range (2 ^ 40) p.0 f.0;
+      first = grind (arith, nat_tests, known_version);
+      last = grind (arith, nat_tests, known_version);
+      count = within;
       nodes_rise = (sorted_of_rise node_key nat_cmp_total 0 p.1.0 listed.1).1;
-      nodes = listed.0;
+      nodes = all_weaker (IsRow version p.0) (NodeRowFits p.0) (λ x both_ranges. both_ranges.0) p.1.0 listed.0;
+      distances = all_weaker (IsRow version p.0) (RowIsDistant version p.0) (λ x both_ranges. both_ranges.1) p.1.0 listed.0;
       links_rise = (sorted_of_rise link_key pair_cmp_total (0, 0) p.1.1.0 linked.rise).1;
       links = linked.ranges;
+      carried = linked.carried;
       degrees = linked.degrees;
       most_links = how_many_in_range 128 (length p.1.1.0) f.1.1.0.0;
       clients_rise = (sorted_of_rise client_key nat_cmp_total 0 p.1.1.1 known.1).1;
@@ -414,12 +489,13 @@ module _ (r : Rows) (fit : RowsFit r) where
   pub few_clients : length r.clients ≤ 16
   few_clients = omega (arith, few_keys client_key 0 16 r.clients (omega arith) clients_above fit.clients_rise (all_weaker (ClientRowFits r.count) (λ x. x.client ≤ 16) (λ x range. range.greatest) r.clients fit.clients))
 
-  pub rows_fit : world.Fits r
+  pub rows_fit : (world r.version).Fits r
   unfolding world nodes links clients
   rows_fit =
       let small : r.count < 2 ^ 64 = omega (arith, fit.count) in
-      let linked : LinkedRows r.count r.nodes [] r.links = record {
+      let linked : LinkedRows r.version r.count r.nodes small [] r.links = record {
         ranges = fit.links;
+        carried = fit.carried;
         rise = rise_of_sorted link_key pair_cmp_total (0, 0) r.links (above_none r.count r.nodes r.links fit.nodes fit.links) fit.links_rise;
         degrees = fit.degrees;
       } in (
@@ -427,9 +503,9 @@ module _ (r : Rows) (fit : RowsFit r) where
         (
           at_most_fits (2 ^ 40) r.count (omega arith) fit.count,
           (
-            (how_many_fits 64 (length r.nodes) (omega arith) few_nodes, all_fit node_key (node_row r.count) (NodeRowFits r.count) (node_row_fits r.count small) [] r.nodes fit.nodes (rise_of_sorted node_key nat_cmp_total 0 r.nodes nodes_above fit.nodes_rise)),
+            (how_many_fits 64 (length r.nodes) (omega arith) few_nodes, all_fit node_key (node_row r.version r.count) (IsRow r.version r.count) (node_row_fits r.version r.count small) [] r.nodes (all_both (NodeRowFits r.count) (RowIsDistant r.version r.count) r.nodes fit.nodes fit.distances) (rise_of_sorted node_key nat_cmp_total 0 r.nodes nodes_above fit.nodes_rise)),
             (
-              (how_many_fits 128 (length r.links) (omega arith) fit.most_links, links_fit r.count r.nodes small fit.nodes [] r.links linked),
+              (how_many_fits 128 (length r.links) (omega arith) fit.most_links, links_fit r.version r.count r.nodes small fit.nodes [] r.links linked),
               (how_many_fits 16 (length r.clients) (omega arith) few_clients, all_fit client_key (client_row r.count) (ClientRowFits r.count) (client_row_fits r.count small) [] r.clients fit.clients (rise_of_sorted client_key nat_cmp_total 0 r.clients clients_above fit.clients_rise)),
             ),
           ),

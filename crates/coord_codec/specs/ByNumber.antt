@@ -29,12 +29,12 @@ abbrev pub entry_at : {X : Type 0} → Table nat_cmp_total X → ℕ → List (�
 entry_at m u = one_or_none (option_map (λ x. (u, x)) (get m u))
 
 -- how a node is written
-abbrev pub node_text : ℕ × NodeState → List ℕ
-node_text e = (node_row 0 []).text (rows.node_row e)
+abbrev pub node_text : ℕ → ℕ × NodeState → List ℕ
+node_text version e = (node_row version 0 []).text (rows.node_row e)
 
 -- and a client's last order
-abbrev pub session_text : ℕ × Session → List ℕ
-session_text e = (client_row 0 []).text (rows.client_row e)
+abbrev pub session_text : ℕ → ℕ × Session → List ℕ
+session_text version e = (client_row 0 []).text (rows.client_row e)
 
 -- the row of the link of a lane, where the lane goes from the lesser end to the greater one
 abbrev pub row_of_lane : World → (ℕ × ℕ) × Lane → List LinkRow

@@ -1,9 +1,10 @@
--- The grammar of worlds, version 1.
+-- The grammar of worlds, by version.
 use Rattle.std.specs.Prelude.{ℕ, zero, suc, ◌^◌, ◌==◌, ◌&&◌, ◌||◌, not, nat_le, nat_lt, Bool, false, List, [], ◌∷◌, Option, Some, None}
 use Rattle.coord_types.specs.NodeSet.{NodeSet}
 use Rattle.coord_types.specs.NodeMask.{nodes_of, mask_of}
 use Rattle.coord_types.specs.NodeState.{mode_from, mode_number}
 use Rattle.coord_types.specs.declared.messages.Mode.{Mode}
+use Rattle.coord_types.specs.declared.messages.Mode.TheVariants.{Ready, Abort, Converge}
 use Rattle.coord_types.specs.declared.messages.Msg.{Msg}
 use Rattle.coord_types.specs.declared.steps.Command.{Command}
 use Rattle.coord_types.specs.declared.steps.Kind.{Kind}
@@ -15,7 +16,7 @@ use Rattle.coord_world.specs.declared.rows.parts.NodeRow.{NodeRow}
 use Rattle.coord_world.specs.declared.rows.parts.LinkRow.{LinkRow}
 use Rattle.coord_world.specs.declared.rows.parts.ClientRow.{ClientRow}
 use Rattle.coord_batch.specs.Format.{Format, byte, u64, such_that, followed, ◌&◌, made, counted}
-use Rattle.coord_batch.specs.Fields.{node, group, client, message, at_most, from_one_to, how_many}
+use Rattle.coord_batch.specs.Fields.{node, group, client, distance, message, at_most, from_one_to, how_many}
 use Rattle.coord_batch.specs.Steps.{command}
 
 -- ---- fields
@@ -64,14 +65,20 @@ abbrev pub last_by : {A K : Type 0} → (A → K) → K → List A → K
 last_by key last [] = last
 last_by key last (x ∷ xs) = last_by key (key x) xs
 
-unfoldable pub node_row : ℕ → List NodeRow → Format NodeRow
-node_row count front =
-    made (λ p. record { id = p.0; group = p.1.0; mode = p.1.1.0; parent = p.1.1.1.0; pend = p.1.1.1.1.0; epoch = p.1.1.1.1.1.0; confirmed = p.1.1.1.1.1.1 })
-    (λ r. (r.id, (r.group, (r.mode, (r.parent, (r.pend, (r.epoch, r.confirmed)))))))
-    (such_that (nat_lt (last_by (λ r. r.id) 0 front)) node & (group & (mode & (parent & (mask & (at_most count & at_most count))))))
+-- the greatest distance of a node: none where it is Ready
+abbrev pub most_distance : Mode → ℕ → ℕ
+most_distance Ready count = 0
+most_distance Abort count = count
+most_distance Converge count = count
 
-unfoldable pub nodes : ℕ → Format (List NodeRow)
-nodes count = counted (how_many 64) (node_row count)
+unfoldable pub node_row : ℕ → ℕ → List NodeRow → Format NodeRow
+node_row version count front =
+    made (λ p. record { id = p.0.0; group = p.0.1.0; mode = p.0.1.1.0; parent = p.0.1.1.1.0; pend = p.0.1.1.1.1.0; epoch = p.0.1.1.1.1.1.0; confirmed = p.0.1.1.1.1.1.1; distance = p.1 })
+    (λ r. ((r.id, (r.group, (r.mode, (r.parent, (r.pend, (r.epoch, r.confirmed)))))), r.distance))
+    (followed (such_that (nat_lt (last_by (λ r. r.id) 0 front)) node & (group & (mode & (parent & (mask & (at_most count & at_most count)))))) (λ p. distance version (most_distance p.1.1.0 count)))
+
+unfoldable pub nodes : ℕ → ℕ → Format (List NodeRow)
+nodes version count = counted (how_many 64) (node_row version count)
 
 -- ---- links
 
@@ -101,18 +108,18 @@ ends nodes front =
     (followed (such_that (first_rises front) node) (λ a. such_that (second_rises front a) node))
 
 -- oldest first
-unfoldable pub queue : Format (List Msg)
-queue = counted (how_many 4) (λ _. message)
+unfoldable pub queue : ℕ → ℕ → Format (List Msg)
+queue version count = counted (how_many 4) (λ _. message version count)
 
 -- what a lane has beside its link's incarnation: base, got and queue
 abbrev pub content_of_lane : Lane → ℕ × (ℕ × List Msg)
 content_of_lane l = (l.base, (l.got, l.queue))
 
-unfoldable pub lane : ℕ → Format (ℕ × (ℕ × List Msg))
-lane count = at_most count & (at_most count & queue)
+unfoldable pub lane : ℕ → ℕ → Format (ℕ × (ℕ × List Msg))
+lane version count = at_most count & (at_most count & queue version count)
 
-unfoldable pub link_row : ℕ → List NodeRow → List LinkRow → Format LinkRow
-link_row count nodes front =
+unfoldable pub link_row : ℕ → ℕ → List NodeRow → List LinkRow → Format LinkRow
+link_row version count nodes front =
     made
     (λ p. record {
       a = p.0.0;
@@ -121,10 +128,10 @@ link_row count nodes front =
       back = record { inc = p.1.0; base = p.1.1.1.0; got = p.1.1.1.1.0; queue = p.1.1.1.1.1 };
     })
     (λ r. ((r.a, r.b), (r.forth.inc, ((r.forth.base, (r.forth.got, r.forth.queue)), (r.back.base, (r.back.got, r.back.queue))))))
-    (ends nodes front & (from_one_to count & (lane count & lane count)))
+    (ends nodes front & (from_one_to count & (lane version count & lane version count)))
 
-unfoldable pub links : ℕ → List NodeRow → Format (List LinkRow)
-links count nodes = counted (how_many 128) (link_row count nodes)
+unfoldable pub links : ℕ → ℕ → List NodeRow → Format (List LinkRow)
+links version count nodes = counted (how_many 128) (link_row version count nodes)
 
 -- ---- clients
 
@@ -139,7 +146,7 @@ clients count = counted (how_many 16) (client_row count)
 
 -- ---- worlds
 
-unfoldable pub world : Format Rows
-world =
-    made (λ p. record { count = p.0; nodes = p.1.0; links = p.1.1.0; clients = p.1.1.1 }) (λ r. (r.count, (r.nodes, (r.links, r.clients))))
-    (followed (at_most (2 ^ 40)) (λ count. followed (nodes count) (λ nodes. links count nodes & clients count)))
+unfoldable pub world : ℕ → Format Rows
+world version =
+    made (λ p. record { version = version; count = p.0; nodes = p.1.0; links = p.1.1.0; clients = p.1.1.1 }) (λ r. (r.count, (r.nodes, (r.links, r.clients))))
+    (followed (at_most (2 ^ 40)) (λ count. followed (nodes version count) (λ nodes. links version count nodes & clients count)))

@@ -1,34 +1,38 @@
 //! Worlds as bytes.
 
-ghost use Rattle.std.specs.Prelude.{◌≡◌, ◌↔◌, ◌≤◌, ◌++◌, length, Ok, Err, IfOk, OnOk};
+ghost use Rattle.std.specs.Prelude.{◌≡◌, true, false, ◌↔◌, ◌≤◌, ◌++◌, length, Ok, Err, IfOk, OnOk};
 ghost use Rattle.coord_world.specs.protocol.NumberedWorld.{World as Numbered};
 ghost use Rattle.coord_world.specs.protocol.Rows.{RowsFit, listed, rows_of};
 ghost use Rattle.coord_world.specs.protocol.Ranges.{InRange};
-ghost use Rattle.coord_batch.specs.Decoding.{Answers, bad_version, decoded};
+ghost use Rattle.coord_world.specs.protocol.Legal.{Legal};
+ghost use Rattle.coord_batch.specs.Decoding.{Answers, bad_version, decoded, is_version};
 ghost use Rattle.coord_codec.specs.Worlds.{world};
 
 use crate::world_reading::read_parts;
 use crate::world_writing::{put_clients, put_links, put_nodes};
 use coord_batch::{CodecFault, Input, ReadError};
-use coord_types::MAX_SNAPSHOT_BYTES;
+use coord_types::{MAX_SNAPSHOT_BYTES, Version};
 use coord_world::{Parts, World};
 use std::alloc::{AllocError, Global};
 
-/// The bytes of the greatest world: the count of its steps and three lengths, 64 nodes of 28 bytes,
-/// 128 links of 52 and 16 clients of 28.
-const MOST_WORLD_BYTES: usize = 8_907;
+/// The bytes of the greatest legal world: the count of its steps and three lengths, 64 nodes of 28
+/// bytes, 128 links of 52 and 16 clients of 28; in version 2 also a distance for each node, and for
+/// 2 Aborts on the way each way of each link.
+fn most_world_bytes(version: Version) -> usize {
+    if version.number() == 1 { 8_907 } else { 13_515 }
+}
 
 /// The rows that all of the bytes spell.
 fn decode(alloc: Global, version: u8, bytes: &[u8]) -> Result<Parts, CodecFault>
     ensures exact { Answers (λ p. listed p) result (decoded world version bytes.now) }
-    ensures version { ¬ (version ≡ 1) → result ≡ Err bad_version }
+    ensures version { is_version version ≡ false → result ≡ Err bad_version }
     ensures fit { IfOk result (λ p. RowsFit (listed p)) }
 {
-    if version != 1 {
+    let Some(known) = Version::new(version) else {
         return Err(CodecFault::bad_version());
-    }
+    };
     let mut input = Input::new(bytes);
-    match read_parts(&mut input, alloc) {
+    match read_parts(&mut input, alloc, known) {
         Err(error) => Err(error.placed(bytes.len())),
         Ok(_) if input.left() > 0 => Err(ReadError::extra(input.left()).placed(bytes.len())),
         Ok(parts) => Ok(parts),
@@ -38,7 +42,7 @@ fn decode(alloc: Global, version: u8, bytes: &[u8]) -> Result<Parts, CodecFault>
 /// The world that has the rows that are read.
 fn assembled(alloc: Global, version: u8, bytes: &[u8]) -> Result<World, CodecFault>
     ensures exact { Answers rows_of result (decoded world version bytes.now) }
-    ensures version { ¬ (version ≡ 1) → result ≡ Err bad_version }
+    ensures version { is_version version ≡ false → result ≡ Err bad_version }
     ensures ranges { IfOk result (λ w. InRange w) }
 {
     match decode(alloc, version, bytes) {
@@ -50,36 +54,36 @@ fn assembled(alloc: Global, version: u8, bytes: &[u8]) -> Result<World, CodecFau
     }
 }
 
-/// The world that all of the bytes spell in a version of the grammar, of which there is one, 1
-/// (docs/FORMATS.md, "Worlds"). It need not be legal.
+/// The world that all of the bytes spell in a version of the grammar, 1 or 2 (docs/FORMATS.md,
+/// "Worlds"). It need not be legal.
 pub fn read_world(alloc: Global, version: u8, bytes: &[u8]) -> Result<World, CodecFault>
     // What is read is spelled so.
-    ensures found { IfOk result (λ w. (version ≡ 1) × InRange w × (bytes.now ≡ world.text (rows_of w))) }
+    ensures found { IfOk result (λ w. (w.version ≡ version) × InRange w × (bytes.now ≡ (world version).text (rows_of w))) }
     // What spells a world is read as that world, unless memory runs out.
-    ensures only { (w : Numbered) → version ≡ 1 → InRange w → bytes.now ≡ world.text (rows_of w)
+    ensures only { (w : Numbered) → w.version ≡ version → InRange w → bytes.now ≡ (world version).text (rows_of w)
         → Answers (λ v. v) result (Ok w) }
     // Another version is told also where memory is short.
-    ensures version { (result ≡ Err bad_version) ↔ ¬ (version ≡ 1) }
+    ensures version { (result ≡ Err bad_version) ↔ (is_version version ≡ false) }
     // Which fault it is, and where.
     ensures exact { Answers rows_of result (decoded world version bytes.now) }
 {
     assembled(alloc, version, bytes)
 }
 
-/// The one spelling of a world, in version 1.
+/// The one spelling of a world, in its version.
 pub fn write_world(alloc: Global, written: &World) -> Result<Vec<u8>, AllocError>
-    ensures spelled { IfOk result (λ v. v.items ≡ world.text (rows_of written.now)) }
-    ensures len { IfOk result (λ v. length v.items ≤ MAX_SNAPSHOT_BYTES) }
+    ensures spelled { IfOk result (λ v. v.items ≡ (world written.now.version).text (rows_of written.now)) }
+    ensures len { Legal written.now → IfOk result (λ v. length v.items ≤ MAX_SNAPSHOT_BYTES) }
 {
     written.ranges();
-    let mut out = Vec::with_capacity(alloc, MOST_WORLD_BYTES)?;
+    let mut out = Vec::with_capacity(alloc, most_world_bytes(written.version()))?;
     put_world(&mut out, written)?;
     Ok(out)
 }
 
 fn put_world(out: &mut Vec<u8>, written: &World) -> Result<(), AllocError>
     requires { InRange written.now }
-    ensures { OnOk result (out.new.items ≡ out.old.items ++ world.text (rows_of written.now)) }
+    ensures { OnOk result (out.new.items ≡ out.old.items ++ (world written.now.version).text (rows_of written.now)) }
 {
     out.extend_from_slice(&written.count().to_be_bytes())?;
     put_nodes(out, written)?;

@@ -4,14 +4,14 @@ ghost use Rattle.std.specs.Prelude.{◌≡◌, ◌≤◌, [], List, IfOk, OnOk};
 ghost use Rattle.coord_batch.specs.Format.{items_at};
 ghost use Rattle.coord_batch.specs.Fields.{message};
 ghost use Rattle.coord_batch.specs.Reading.{Reads};
-ghost use Rattle.coord_codec.specs.Worlds.{client_row, clients, content_of_lane, ends, kind, lane, last_by, link_row, links, mask, mode, node_row, nodes, parent, queue, world};
+ghost use Rattle.coord_codec.specs.Worlds.{client_row, clients, content_of_lane, ends, kind, lane, last_by, link_row, links, mask, mode, most_distance, node_row, nodes, parent, queue, world};
 ghost use Rattle.coord_world.specs.protocol.Rows.{listed};
 ghost use Rattle.coord_world.specs.declared.rows.parts.ClientRow.{ClientRow};
 
 use crate::rows_read::{LinksRead, NodesRead, can_link};
 use coord_batch::{Input, ReadError};
 use coord_link::Lane;
-use coord_types::{Command, Kind, MAX_STEPS, Mode, NodeId, NodeSet, Reply, Session};
+use coord_types::{Command, Kind, MAX_STEPS, Mode, NodeId, NodeSet, Reply, Session, Version};
 use coord_world::{ClientRow, LinkRow, NodeRow, Parts};
 use std::alloc::Global;
 
@@ -52,23 +52,41 @@ fn read_node_set(input: &mut Input) -> Result<NodeSet, ReadError>
 }
 
 #[tactic(auto, unfolding(crate::specs::Worlds::node_row))]
-fn read_node_row(input: &mut Input, count: u64, front: &NodesRead) -> Result<NodeRow, ReadError>
-    ensures { Reads (λ x. x) result ((node_row count front.now.rows.items).read input.old) input.new }
+fn read_node_row(
+    input: &mut Input,
+    version: Version,
+    count: u64,
+    front: &NodesRead,
+) -> Result<NodeRow, ReadError>
+    ensures { Reads (λ x. x) result ((node_row version count front.now.rows.items).read input.old) input.new }
 {
     let left = input.left();
     let id = input.node()?;
     if id.number() <= front.last() {
         return Err(ReadError::bad_byte(left));
     }
+    let group = input.group()?;
+    let mode = read_mode(input)?;
     Ok(NodeRow {
         id,
-        group: input.group()?,
-        mode: read_mode(input)?,
+        group,
+        mode,
         parent: read_parent(input)?,
         pend: read_node_set(input)?,
         epoch: input.at_most(count)?,
         confirmed: input.at_most(count)?,
+        distance: input.distance(version, most_distance(mode, count))?,
     })
+}
+
+/// The greatest distance of a node: none where it is Ready.
+fn most_distance(mode: Mode, count: u64) -> u64
+    ensures { result ≡ most_distance mode count }
+{
+    match mode {
+        Mode::Ready => 0,
+        Mode::Abort | Mode::Converge => count,
+    }
 }
 
 #[tactic(auto, unfolding(crate::specs::Worlds::ends))]
@@ -96,14 +114,20 @@ fn read_ends(
 }
 
 /// As many messages as are asked for, put into an empty lane.
-fn read_messages(input: &mut Input, lane: &mut Lane, count: u8) -> Result<(), ReadError>
+fn read_messages(
+    input: &mut Input,
+    version: Version,
+    most: u64,
+    lane: &mut Lane,
+    count: u8,
+) -> Result<(), ReadError>
     requires empty { lane.old.queue ≡ [] }
     requires most { count ≤ 4 }
-    ensures read { Reads (λ _. lane.new.queue) result (items_at (λ _. message) count [] input.old) input.new }
+    ensures read { Reads (λ _. lane.new.queue) result (items_at (λ _. message version most) count [] input.old) input.new }
     ensures same { OnOk result ((lane.new.inc ≡ lane.old.inc) × (lane.new.base ≡ lane.old.base) × (lane.new.got ≡ lane.old.got)) }
 {
     for _ in 0..count {
-        let msg = input.message()?;
+        let msg = input.message(version, most)?;
         lane.send(msg);
     }
     Ok(())
@@ -111,41 +135,47 @@ fn read_messages(input: &mut Input, lane: &mut Lane, count: u8) -> Result<(), Re
 
 /// A queue, put into an empty lane.
 #[tactic(auto, unfolding(crate::specs::Worlds::queue))]
-fn read_queue(input: &mut Input, lane: &mut Lane) -> Result<(), ReadError>
+fn read_queue(
+    input: &mut Input,
+    version: Version,
+    most: u64,
+    lane: &mut Lane,
+) -> Result<(), ReadError>
     requires { lane.old.queue ≡ [] }
-    ensures read { Reads (λ _. lane.new.queue) result (queue.read input.old) input.new }
+    ensures read { Reads (λ _. lane.new.queue) result ((queue version most).read input.old) input.new }
     ensures same { OnOk result ((lane.new.inc ≡ lane.old.inc) × (lane.new.base ≡ lane.old.base) × (lane.new.got ≡ lane.old.got)) }
 {
     let count = input.how_many(4)?;
-    read_messages(input, lane, count)
+    read_messages(input, version, most, lane, count)
 }
 
 /// A lane of this incarnation.
 #[tactic(auto, unfolding(crate::specs::Worlds::lane))]
-fn read_lane(input: &mut Input, count: u64, inc: u64) -> Result<Lane, ReadError>
-    ensures read { Reads content_of_lane result ((lane count).read input.old) input.new }
+fn read_lane(input: &mut Input, version: Version, count: u64, inc: u64) -> Result<Lane, ReadError>
+    ensures read { Reads content_of_lane result ((lane version count).read input.old) input.new }
     ensures inc { IfOk result (λ l. l.inc ≡ inc) }
 {
     let base = input.at_most(count)?;
     let got = input.at_most(count)?;
     let mut lane = Lane::restore(inc, base, got, &[]);
-    read_queue(input, &mut lane)?;
+    read_queue(input, version, count, &mut lane)?;
     Ok(lane)
 }
 
 #[tactic(auto, unfolding(crate::specs::Worlds::link_row))]
 fn read_link_row(
     input: &mut Input,
+    version: Version,
     count: u64,
     nodes: &NodesRead,
     front: &LinksRead,
 ) -> Result<LinkRow, ReadError>
-    ensures { Reads (λ x. x) result ((link_row count nodes.now.rows.items front.now.rows.items).read input.old) input.new }
+    ensures { Reads (λ x. x) result ((link_row version count nodes.now.rows.items front.now.rows.items).read input.old) input.new }
 {
     let (a, b) = read_ends(input, nodes, front)?;
     let inc = input.from_one_to(count)?;
-    let forth = read_lane(input, count, inc)?;
-    let back = read_lane(input, count, inc)?;
+    let forth = read_lane(input, version, count, inc)?;
+    let back = read_lane(input, version, count, inc)?;
     Ok(LinkRow { a, b, forth, back })
 }
 
@@ -197,14 +227,15 @@ fn read_client_row(input: &mut Input, count: u64, last: u8) -> Result<ClientRow,
 fn read_node_list(
     input: &mut Input,
     alloc: Global,
+    version: Version,
     count: u64,
     rows: u8,
 ) -> Result<NodesRead, ReadError>
-    ensures { Reads (λ v. v.rows.items) result (items_at (node_row count) rows [] input.old) input.new }
+    ensures { Reads (λ v. v.rows.items) result (items_at (node_row version count) rows [] input.old) input.new }
 {
     let mut list = NodesRead::new(alloc);
     for _ in 0..rows {
-        let row = read_node_row(input, count, &list)?;
+        let row = read_node_row(input, version, count, &list)?;
         list.push(row)?;
     }
     Ok(list)
@@ -214,15 +245,16 @@ fn read_node_list(
 fn read_link_list(
     input: &mut Input,
     alloc: Global,
+    version: Version,
     count: u64,
     nodes: &NodesRead,
     rows: u8,
 ) -> Result<LinksRead, ReadError>
-    ensures { Reads (λ v. v.rows.items) result (items_at (link_row count nodes.now.rows.items) rows [] input.old) input.new }
+    ensures { Reads (λ v. v.rows.items) result (items_at (link_row version count nodes.now.rows.items) rows [] input.old) input.new }
 {
     let mut list = LinksRead::new(alloc);
     for _ in 0..rows {
-        let row = read_link_row(input, count, nodes, &list)?;
+        let row = read_link_row(input, version, count, nodes, &list)?;
         list.push(row)?;
     }
     Ok(list)
@@ -249,17 +281,18 @@ fn read_client_list(
 }
 
 #[tactic(auto, unfolding(crate::specs::Worlds::world, crate::specs::Worlds::nodes, crate::specs::Worlds::links, crate::specs::Worlds::clients))]
-pub fn read_parts(input: &mut Input, alloc: Global) -> Result<Parts, ReadError>
-    ensures { Reads (λ p. listed p) result (world.read input.old) input.new }
+pub fn read_parts(input: &mut Input, alloc: Global, version: Version) -> Result<Parts, ReadError>
+    ensures { Reads (λ p. listed p) result ((world version).read input.old) input.new }
 {
     let count = input.at_most(MAX_STEPS)?;
     let rows = input.how_many(64)?;
-    let nodes = read_node_list(input, alloc, count, rows)?;
+    let nodes = read_node_list(input, alloc, version, count, rows)?;
     let rows = input.how_many(128)?;
-    let links = read_link_list(input, alloc, count, &nodes, rows)?;
+    let links = read_link_list(input, alloc, version, count, &nodes, rows)?;
     let rows = input.how_many(16)?;
     let clients = read_client_list(input, alloc, count, rows)?;
     Ok(Parts {
+        version,
         count,
         nodes: nodes.rows,
         links: links.rows,

@@ -5,8 +5,8 @@ ghost use Rattle.std.specs.Option.{option_copied};
 ghost use Rattle.std.specs.List.{flat_map};
 ghost use Rattle.std.specs.Int.{w64, to_be_bytes};
 ghost use Rattle.std.specs.FinMap.Entries.{where_key};
-ghost use Rattle.coord_batch.specs.Fields.{message};
-ghost use Rattle.coord_codec.specs.Worlds.{clients, content_of_lane, kind_number, lane, link_row, links, nodes, parent_number, queue};
+ghost use Rattle.coord_batch.specs.Fields.{distance, message};
+ghost use Rattle.coord_codec.specs.Worlds.{clients, content_of_lane, kind_number, lane, link_row, links, most_distance, nodes, parent_number, queue};
 ghost use Rattle.coord_codec.specs.ByNumber.{HasKeysTo, entry_at, node_text, row_of_lane, session_text};
 ghost use Rattle.coord_types.specs.NodeState.{mode_number};
 ghost use Rattle.coord_types.specs.Table.{entries, len};
@@ -14,36 +14,36 @@ ghost use Rattle.coord_world.specs.protocol.NumberedWorld.{pair_cmp};
 ghost use Rattle.coord_world.specs.protocol.Ranges.{InRange};
 ghost use Rattle.coord_world.specs.protocol.Rows.{goes_up, lane_or_none, rows_of};
 
-use coord_batch::{message_byte, put_command};
+use coord_batch::{put_command, put_message};
 use coord_link::Lane;
 use coord_node::Node;
 use coord_tables::SlotTable;
-use coord_types::{Identifier, Kind, Mode, Msg, NodeId, Session};
+use coord_types::{Identifier, Kind, Mode, Msg, NodeId, Session, Version};
 use coord_world::{LinkRow, World};
 use std::alloc::AllocError;
 
 /// What stands by a number in a table of a world, and is written as a row.
 trait Row: Copy {
-    /// The bytes of its row, with the number that it stands at.
-    ghost text: { ℕ × Self → List ℕ };
+    /// The bytes of its row in a version, with the number that it stands at.
+    ghost text: { ℕ → ℕ × Self → List ℕ };
 
-    fn put(&self, out: &mut Vec<u8>, number: u8) -> Result<(), AllocError>
-        ensures { OnOk result (out.new.items ≡ out.old.items ++ text record { 0 = number; 1 = self.now }) };
+    fn put(&self, out: &mut Vec<u8>, version: Version, number: u8) -> Result<(), AllocError>
+        ensures { OnOk result (out.new.items ≡ out.old.items ++ text version record { 0 = number; 1 = self.now }) };
 }
 
 impl Row for Node {
     ghost text = { node_text };
 
-    fn put(&self, out: &mut Vec<u8>, number: u8) -> Result<(), AllocError> {
-        put_node_row(out, number, self)
+    fn put(&self, out: &mut Vec<u8>, version: Version, number: u8) -> Result<(), AllocError> {
+        put_node_row(out, version, number, self)
     }
 }
 
 impl Row for Session {
     ghost text = { session_text };
 
-    fn put(&self, out: &mut Vec<u8>, number: u8) -> Result<(), AllocError> {
-        put_client_row(out, number, self)
+    fn put(&self, out: &mut Vec<u8>, version: Version, number: u8) -> Result<(), AllocError> {
+        put_client_row(out, version, number, self)
     }
 }
 
@@ -92,32 +92,48 @@ fn put_node_bytes(out: &mut Vec<u8>, number: u8, node: &Node) -> Result<(), Allo
     Ok(())
 }
 
+/// A node's distance, which stands in version 2 alone.
+#[tactic(auto, unfolding(coord_batch::specs::Fields::distance, coord_batch::specs::Fields::unless, coord_batch::specs::Fields::at_most))]
+fn put_distance(out: &mut Vec<u8>, version: Version, node: &Node) -> Result<(), AllocError>
+    ensures { OnOk result (out.new.items ≡ out.old.items ++ (distance version (most_distance node.now.mode 0)).text node.now.distance) }
+{
+    if version.number() != 1 {
+        out.extend_from_slice(&node.distance().to_be_bytes())?;
+    }
+    Ok(())
+}
+
 #[tactic(auto, using(std::proofs::Common::append_assoc), unfolding(crate::specs::Worlds::node_row, crate::specs::Worlds::mode, crate::specs::Worlds::parent, crate::specs::Worlds::mask, coord_batch::specs::Fields::at_most, coord_batch::specs::Fields::node, coord_batch::specs::Fields::group))]
-fn put_node_row(out: &mut Vec<u8>, number: u8, node: &Node) -> Result<(), AllocError>
-    ensures { OnOk result (out.new.items ≡ out.old.items ++ node_text record { 0 = number; 1 = node.now }) }
+fn put_node_row(
+    out: &mut Vec<u8>,
+    version: Version,
+    number: u8,
+    node: &Node,
+) -> Result<(), AllocError>
+    ensures { OnOk result (out.new.items ≡ out.old.items ++ node_text version record { 0 = number; 1 = node.now }) }
 {
     put_node_bytes(out, number, node)?;
     out.extend_from_slice(&node.pend().bits().to_be_bytes())?;
-    put_numbers(out, node.epoch(), node.confirmed())
+    put_numbers(out, node.epoch(), node.confirmed())?;
+    put_distance(out, version, node)
 }
 
-#[tactic(auto, unfolding(coord_batch::specs::Fields::message))]
-fn put_messages(out: &mut Vec<u8>, queue: &[Msg]) -> Result<(), AllocError>
-    ensures { OnOk result (out.new.items ≡ out.old.items ++ flat_map message.text queue.now) }
+fn put_messages(out: &mut Vec<u8>, version: Version, queue: &[Msg]) -> Result<(), AllocError>
+    ensures { OnOk result (out.new.items ≡ out.old.items ++ flat_map (message version 0).text queue.now) }
 {
     for msg in queue {
-        out.push(message_byte(*msg))?;
+        put_message(out, version, *msg)?;
     }
     Ok(())
 }
 
 #[tactic(auto, using(std::proofs::Common::append_assoc), unfolding(crate::specs::Worlds::queue, coord_batch::specs::Fields::how_many))]
-fn put_queue(out: &mut Vec<u8>, messages: &[Msg]) -> Result<(), AllocError>
+fn put_queue(out: &mut Vec<u8>, version: Version, messages: &[Msg]) -> Result<(), AllocError>
     requires { length messages.now ≤ 4 }
-    ensures { OnOk result (out.new.items ≡ out.old.items ++ queue.text messages.now) }
+    ensures { OnOk result (out.new.items ≡ out.old.items ++ (queue version 0).text messages.now) }
 {
     out.push(messages.len() as u8)?;
-    put_messages(out, messages)
+    put_messages(out, version, messages)
 }
 
 /// Two numbers, one after the other.
@@ -129,28 +145,33 @@ fn put_numbers(out: &mut Vec<u8>, first: u64, second: u64) -> Result<(), AllocEr
     Ok(())
 }
 
-fn put_lane(out: &mut Vec<u8>, put: &Lane) -> Result<(), AllocError>
-    ensures { OnOk result (out.new.items ≡ out.old.items ++ (lane 0).text (content_of_lane put.now)) }
+fn put_lane(out: &mut Vec<u8>, version: Version, put: &Lane) -> Result<(), AllocError>
+    ensures { OnOk result (out.new.items ≡ out.old.items ++ (lane version 0).text (content_of_lane put.now)) }
 {
     put_numbers(out, put.base(), put.got())?;
-    put_queue(out, put.queue())?;
+    put_queue(out, version, put.queue())?;
     Ok(())
 }
 
 #[tactic(auto, using(std::proofs::Common::append_assoc), unfolding(crate::specs::Worlds::link_row, crate::specs::Worlds::ends, coord_batch::specs::Fields::from_one_to, coord_batch::specs::Fields::node))]
-fn put_link_row(out: &mut Vec<u8>, row: &LinkRow) -> Result<(), AllocError>
-    ensures { OnOk result (out.new.items ≡ out.old.items ++ (link_row 0 [] []).text row.now) }
+fn put_link_row(out: &mut Vec<u8>, version: Version, row: &LinkRow) -> Result<(), AllocError>
+    ensures { OnOk result (out.new.items ≡ out.old.items ++ (link_row version 0 [] []).text row.now) }
 {
     out.push(row.a.number())?;
     out.push(row.b.number())?;
     out.extend_from_slice(&row.forth.inc().to_be_bytes())?;
-    put_lane(out, &row.forth)?;
-    put_lane(out, &row.back)
+    put_lane(out, version, &row.forth)?;
+    put_lane(out, version, &row.back)
 }
 
 #[tactic(auto, using(std::proofs::Common::append_assoc), unfolding(crate::specs::Worlds::client_row, crate::specs::Worlds::kind, coord_batch::specs::Fields::from_one_to, coord_batch::specs::Fields::client))]
-fn put_client_row(out: &mut Vec<u8>, client: u8, session: &Session) -> Result<(), AllocError>
-    ensures { OnOk result (out.new.items ≡ out.old.items ++ session_text record { 0 = client; 1 = session.now }) }
+fn put_client_row(
+    out: &mut Vec<u8>,
+    version: Version,
+    client: u8,
+    session: &Session,
+) -> Result<(), AllocError>
+    ensures { OnOk result (out.new.items ≡ out.old.items ++ session_text version record { 0 = client; 1 = session.now }) }
 {
     out.push(client)?;
     out.extend_from_slice(&session.number.to_be_bytes())?;
@@ -163,17 +184,18 @@ fn put_client_row(out: &mut Vec<u8>, client: u8, session: &Session) -> Result<()
 /// Puts the row of a number, where something stands at it.
 fn put_row<const MOST: u8, R: Row>(
     out: &mut Vec<u8>,
+    version: Version,
     rows: &SlotTable<MOST, R>,
     number: u8,
 ) -> Result<(), AllocError>
     requires { (1 ≤ number) × (number ≤ MOST) }
-    ensures { OnOk result (out.new.items ≡ out.old.items ++ flat_map R.text (entry_at rows.now number)) }
+    ensures { OnOk result (out.new.items ≡ out.old.items ++ flat_map (R.text version) (entry_at rows.now number)) }
 {
     let Some(id) = Identifier::new(number) else {
         return Ok(());
     };
     match rows.get(id) {
-        Some(row) => row.put(out, number),
+        Some(row) => row.put(out, version, number),
         None => Ok(()),
     }
 }
@@ -181,15 +203,16 @@ fn put_row<const MOST: u8, R: Row>(
 /// Puts how many rows there are, and each of them, in ascending order.
 fn put_rows<const MOST: u8, R: Row>(
     out: &mut Vec<u8>,
+    version: Version,
     rows: &SlotTable<MOST, R>,
 ) -> Result<(), AllocError>
     requires { HasKeysTo MOST rows.now }
     ensures { OnOk result (out.new.items ≡ out.old.items
-        ++ len rows.now ∷ flat_map R.text (entries rows.now)) }
+        ++ len rows.now ∷ flat_map (R.text version) (entries rows.now)) }
 {
     out.push(rows.len())?;
     for at in 0..MOST {
-        put_row(out, rows, at + 1)?;
+        put_row(out, version, rows, at + 1)?;
     }
     Ok(())
 }
@@ -200,14 +223,14 @@ fn put_link(
     world: &World,
     entry: &((NodeId, NodeId), Lane),
 ) -> Result<(), AllocError>
-    ensures { OnOk result (out.new.items ≡ out.old.items ++ flat_map (link_row 0 [] []).text (row_of_lane world.now entry.now)) }
+    ensures { OnOk result (out.new.items ≡ out.old.items ++ flat_map (link_row world.now.version 0 [] []).text (row_of_lane world.now entry.now)) }
 {
     let ((a, b), forth) = *entry;
     if a >= b {
         return Ok(());
     }
     let back = lane_or_new(world.lane(b, a));
-    put_link_row(out, &LinkRow { a, b, forth, back })
+    put_link_row(out, world.version(), &LinkRow { a, b, forth, back })
 }
 
 /// Each lane of a world has its way back.
@@ -237,15 +260,15 @@ fn count_up(lanes: &[((NodeId, NodeId), Lane)]) -> u8
 #[tactic(auto, unfolding(crate::specs::Worlds::nodes, coord_batch::specs::Fields::how_many))]
 pub fn put_nodes(out: &mut Vec<u8>, world: &World) -> Result<(), AllocError>
     requires { InRange world.now }
-    ensures { OnOk result (out.new.items ≡ out.old.items ++ (nodes 0).text (rows_of world.now).nodes) }
+    ensures { OnOk result (out.new.items ≡ out.old.items ++ (nodes world.now.version 0).text (rows_of world.now).nodes) }
 {
-    put_rows(out, world.nodes())
+    put_rows(out, world.version(), world.nodes())
 }
 
 #[tactic(auto, unfolding(crate::specs::Worlds::links, coord_batch::specs::Fields::how_many))]
 pub fn put_links(out: &mut Vec<u8>, world: &World) -> Result<(), AllocError>
     requires { InRange world.now }
-    ensures { OnOk result (out.new.items ≡ out.old.items ++ (links 0 []).text (rows_of world.now).links) }
+    ensures { OnOk result (out.new.items ≡ out.old.items ++ (links world.now.version 0 []).text (rows_of world.now).links) }
 {
     let lanes = world.lanes();
     out.push(count_up(lanes))?;
@@ -260,5 +283,5 @@ pub fn put_clients(out: &mut Vec<u8>, world: &World) -> Result<(), AllocError>
     requires { InRange world.now }
     ensures { OnOk result (out.new.items ≡ out.old.items ++ (clients 0).text (rows_of world.now).clients) }
 {
-    put_rows(out, world.sessions())
+    put_rows(out, world.version(), world.sessions())
 }

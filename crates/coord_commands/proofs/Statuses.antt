@@ -29,6 +29,7 @@ not_zero (Store of_store.BadBatch) = omega arith
 not_zero (Store (of_store.BadStep batch index)) = omega arith
 not_zero (Store (of_store.Violated violation)) = omega arith
 not_zero (Store (of_store.NotQuiet node)) = omega arith
+not_zero (Store of_store.Stopped) = omega arith
 not_zero (Refused refusal) = omega arith
 not_zero (NotClosed fault) = omega arith
 

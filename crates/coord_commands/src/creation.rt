@@ -30,11 +30,11 @@ pub fn create_store<D: Disk>(
     topology: &Topology,
 ) -> Result<Store<D>, (Fault, D)>
     ensures empty { D.keeps_model disk ≡ true → IfOk result (λ store. length (D.present disk).read ≡ 0) }
-    ensures world { IfOk result (λ store. store.world ≡ fold no_world (orders (content topology.now))) }
+    ensures world { IfOk result (λ store. store.world ≡ fold (no_world 1) (orders (content topology.now))) }
     ensures going { IfOk result (λ store. store.torn ≡ None) }
     ensures refused { (reason : Reason) → IfErr result (λ refused. refused.0 ≡ Refused reason → RefusesToBegin (orders (content topology.now)) reason) }
     ensures left_empty { (reason : Reason) → D.keeps_model disk ≡ true → IfErr result (λ refused. refused.0 ≡ Refused reason
-        → D.present refused.1 ≡ whole (formatted topology.now.half 1 (world.text (rows_of no_world)))) }
+        → D.present refused.1 ≡ whole (formatted topology.now.half 1 ((world 1).text (rows_of (no_world 1))))) }
 {
     let mut store = match Store::create(alloc, disk, topology.half, VERSION) {
         Ok(store) => store,

@@ -13,7 +13,7 @@ ghost use Rattle.coord_world.specs.protocol.NumberedWorld.{no_world};
 
 use crate::fault::Fault;
 use coord_config::{LinkEntry, NodeEntry, Topology};
-use coord_types::{Client, Command, MAX_BATCH_STEPS, Refusal, Step};
+use coord_types::{Client, Command, MAX_BATCH_STEPS, Refusal, Step, Version};
 use coord_world::{Verdict, World};
 use std::alloc::{AllocError, Global};
 
@@ -22,7 +22,7 @@ use std::alloc::{AllocError, Global};
 /// which no store can take, are refused as `PendingFull`.
 pub fn founding_steps(alloc: Global, topology: &Topology) -> Result<Vec<Step>, Fault>
     ensures steps { IfOk result (λ steps. steps.items ≡ orders (content topology.now)) }
-    ensures fresh { IfOk result (λ steps. AllFresh no_world no_world steps.items) }
+    ensures fresh { IfOk result (λ steps. AllFresh (no_world 1) (no_world 1) steps.items) }
     ensures few { IfOk result (λ steps. length steps.items ≤ MAX_BATCH_STEPS) }
     ensures refused { IfErr result (λ fault. (fault ≡ OutOfMemory) ⊎ ((reason : Reason) × (fault ≡ Refused reason) × RefusesToBegin (orders (content topology.now)) reason)) }
 {
@@ -62,7 +62,7 @@ fn join_all(list: &mut Vec<Command>, links: &[LinkEntry]) -> Result<(), AllocErr
 /// Submits commands as the founder's orders.
 fn submit_all(alloc: Global, commands: &[Command]) -> Result<Vec<Step>, Fault>
     ensures steps { IfOk result (λ steps. steps.items ≡ numbered 1 commands.now) }
-    ensures fresh { IfOk result (λ steps. AllFresh no_world no_world steps.items) }
+    ensures fresh { IfOk result (λ steps. AllFresh (no_world 1) (no_world 1) steps.items) }
     ensures few { IfOk result (λ steps. length steps.items ≤ MAX_BATCH_STEPS) }
     ensures refused { IfErr result (λ fault. (fault ≡ OutOfMemory) ⊎ ((reason : Reason) × (fault ≡ Refused reason) × RefusesToBegin (numbered 1 commands.now) reason)) }
 {
@@ -90,8 +90,8 @@ impl Founding {
         ensures under_way { IsUnderWay result }
     {
         Founding {
-            settled: World::empty(alloc),
-            world: World::empty(alloc),
+            settled: World::empty(alloc, version()),
+            world: World::empty(alloc, version()),
             steps: Vec::new(alloc),
         }
     }
@@ -102,7 +102,7 @@ impl Founding {
         ensures under_way { OnOk result (IsUnderWay self.new) }
         ensures taken { OnOk result (self.new.steps.items ≡ self.old.steps.items ++ Order founder (length self.old.steps.items + 1) command.now ∷ []) }
         ensures refused { IfErr result (λ fault. (fault ≡ OutOfMemory)
-            ⊎ ((reason : Reason) × (fault ≡ Refused reason) × (accepts self.old.world no_world (Order founder (length self.old.steps.items + 1) command.now) ≡ Err reason))) }
+            ⊎ ((reason : Reason) × (fault ≡ Refused reason) × (accepts self.old.world (no_world 1) (Order founder (length self.old.steps.items + 1) command.now) ≡ Err reason))) }
     {
         let number = self.steps.len() as u64 + 1;
         let step = Step::Order(founder(), number, *command);
@@ -115,6 +115,13 @@ impl Founding {
         self.steps.extend_from_slice(&[step])?;
         Ok(())
     }
+}
+
+/// The version of the world that is begun.
+fn version() -> Version
+    ensures { result ≡ 1 }
+{
+    Version::new(1).unwrap()
 }
 
 /// The client that orders what a store begins with.

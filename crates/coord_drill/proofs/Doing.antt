@@ -25,7 +25,7 @@ use Rattle.coord_drill.proofs.Quiet.{does_quietly, quiet_luck, settled_kept}
 -- ---- drills over a ledger
 
 state_is : (d : Drill) (l : LedgerState MemDisk) → d.ledger ≡ Some l → state_of d ≡ drill_of l d.holds
-state_is d l is = ap (λ o. record { log = option_map_or (λ (k : LedgerState MemDisk). k.log) o (log_over no_world); doubt = option_map_or (λ (k : LedgerState MemDisk). k.doubt) o None; holds = d.holds }) is
+state_is d l is = ap (λ o. record { log = option_map_or (λ (k : LedgerState MemDisk). k.log) o (log_over (no_world 1)); doubt = option_map_or (λ (k : LedgerState MemDisk). k.doubt) o None; holds = d.holds }) is
 
 pub held_is : (d : Drill) (l : LedgerState MemDisk) → d.ledger ≡ Some l → IsReady d → IsHeld l d.tickets.items
 held_is d l is ready = subst (λ o. IsReadyWith o d.tickets.items) is ready

@@ -1,6 +1,7 @@
 -- What is spelled of a field is read so: numbers, and the names of messages.
-use Rattle.std.proofs.Common.{◌≡◌, ℕ, ◌+◌, ◌<◌, ◌^◌, Bool, true, false, cond, not, ltb, leb, ◌&&◌, [], ◌∷◌, length, decimal, Some, None, refl, ap, ◌∙◌, subst, arith}
+use Rattle.std.proofs.Common.{◌≡◌, ℕ, ◌+◌, ◌<◌, ◌^◌, Bool, true, false, cond, not, ltb, leb, ◌&&◌, [], ◌∷◌, length, decimal, Some, None, refl, sym, ap, ◌∙◌, subst, arith}
 use Rattle.std.specs.List.{position_or_len}
+use Rattle.std.specs.Prelude.{codes, ◌==◌}
 use Rattle.std.specs.Str.{all_ascii_digits}
 use Rattle.std.specs.Str.Parse.{digits_value}
 use Rattle.std.proofs.lemmas.Bool.{ne_eqb}
@@ -8,6 +9,7 @@ use Rattle.std.proofs.lemmas.Bool.Decides.{nat_tests}
 use Rattle.std.proofs.lemmas.Fmt.{decimal_is_IsNumeral}
 use Rattle.std.proofs.lemmas.Grind.{common_steps}
 use Rattle.std.proofs.lemmas.Str.Parse.{numerals_by_value, tells_all_ascii_digits}
+use Rattle.coord_types.specs.Messages.{brought}
 use Rattle.coord_types.specs.Names.{msg_name}
 use Rattle.coord_types.specs.declared.messages.Msg.{Msg}
 use Rattle.coord_types.specs.declared.messages.Msg.TheVariants as msg
@@ -68,16 +70,17 @@ unfolding client
 client_format = number_to_format 16 (omega arith)
 
 -- the name of a message is read as it
-message_is : (m : Msg) → (message_of (msg_name m) ≡ Some m) × IsPlain (msg_name m)
+message_is : (m : Msg) → brought m ≡ 0 → (message_of (msg_name m) ≡ Some m) × IsPlain (msg_name m)
 unfolding message_of
-message_is msg.Abort = (refl, refl)
-message_is msg.Ack = (refl, refl)
-message_is msg.Ready = (refl, refl)
+message_is (msg.Abort k) none = subst (λ n. (message_of (codes "abort") ≡ Some (msg.Abort n)) × IsPlain (codes "abort")) (sym none) (refl, refl)
+message_is msg.Ack none = (refl, refl)
+message_is msg.Ready none = (refl, refl)
 
 -- a message
-message_agrees : (m : Msg) (w : Word) → Some (msg_name m) ≡ Some w → (message_of w ≡ Some m) × IsPlain w
-message_agrees m w e = let same : msg_name m ≡ w = cc in subst (λ v. (message_of v ≡ Some m) × IsPlain v) same (message_is m)
+message_agrees : (m : Msg) (w : Word) (b : Bool) → (brought m == 0) ≡ b → cond b (Some (msg_name m)) None ≡ Some w → (message_of w ≡ Some m) × IsPlain w
+message_agrees m w true e f = let same : msg_name m ≡ w = cc in subst (λ v. (message_of v ≡ Some m) × IsPlain v) same (message_is m (grind (arith, nat_tests)))
+message_agrees m w false e f = absurd cc
 
 pub message_format : IsFormat message
 unfolding message
-message_format = field_format _ _ message_agrees
+message_format = field_format _ _ (λ m w e. message_agrees m w _ refl e)

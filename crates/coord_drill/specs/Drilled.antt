@@ -37,7 +37,7 @@ Prints s n (l ∷ ls) text = (told : List ℕ) × (t : DrillState) × (rest : Li
 
 -- a drill may print this to its input
 abbrev pub IsDrilled : List ℕ → List ℕ → Type 0
-IsDrilled input text = Prints (drill_over no_world) 1 (lines_of input) text
+IsDrilled input text = Prints (drill_over (no_world 1)) 1 (lines_of input) text
 
 -- of a text a first part was written, and no more
 abbrev pub WritesFirstPart : Option (List ℕ) → Option (List ℕ) → List ℕ → Type 0

@@ -3,6 +3,7 @@ use Rattle.std.specs.Prelude.{ℕ, ◌^◌, ◌==◌, ◌&&◌, nat_le, nat_lt, 
 use Rattle.std.specs.List.{slice_split, join_with_byte}
 use Rattle.std.specs.Str.{all_ascii_digits}
 use Rattle.std.specs.Str.Parse.{digits_value}
+use Rattle.coord_types.specs.Messages.{brought}
 use Rattle.coord_types.specs.Names.{msg_name}
 use Rattle.coord_types.specs.declared.messages.Msg.{Msg}
 use Rattle.coord_types.specs.declared.messages.Msg.TheVariants as msg
@@ -35,7 +36,7 @@ up_to most n = if nat_le 1 n && nat_le n most then Some n else None
 
 unfoldable pub message_of : Word → Option Msg
 message_of word =
-    if bytes_eq word (codes "abort") then Some msg.Abort
+    if bytes_eq word (codes "abort") then Some (msg.Abort 0)
     else (if bytes_eq word (codes "ack") then Some msg.Ack
     else (if bytes_eq word (codes "ready") then Some msg.Ready else None))
 
@@ -55,8 +56,9 @@ group = number_to 16
 unfoldable pub client : Format ℕ
 client = number_to 16
 
+-- a message that brings no distance, by its name
 unfoldable pub message : Format Msg
-message = field (λ m. Some (msg_name m)) message_of
+message = field (λ m. if brought m == 0 then Some (msg_name m) else None) message_of
 
 -- ---- the table
 

@@ -47,7 +47,7 @@ abbrev pub drill_of : LedgerState MemDisk → Bool → DrillState
 drill_of l holds = record { log = l.log; doubt = l.doubt; holds = holds }
 
 abbrev pub state_of : Drill → DrillState
-state_of d = record { log = option_map_or (λ l. l.log) d.ledger (log_over no_world); doubt = option_map_or (λ l. l.doubt) d.ledger None; holds = d.holds }
+state_of d = record { log = option_map_or (λ l. l.log) d.ledger (log_over (no_world 1)); doubt = option_map_or (λ l. l.doubt) d.ledger None; holds = d.holds }
 
 abbrev pub front_of : Drill → World
 front_of d = front_world (state_of d).log

@@ -21,7 +21,7 @@ WorkedLines =
     × IsSpelled (Order 16 7 (Add 1 2)) (codes "order 16 7 add 1 2")
     × IsSpelled (Take 1 2) (codes "take 1 2")
     × IsSpelled (Clear 1 2) (codes "clear 1 2")
-    × IsSpelled (Data (record { from = 1; to = 2; inc = 3; number = 4; msg = msg.Abort })) (codes "data 1 2 3 4 abort")
+    × IsSpelled (Data (record { from = 1; to = 2; inc = 3; number = 4; msg = msg.Abort 0 })) (codes "data 1 2 3 4 abort")
     × IsSpelled (Receipt (record { from = 1; to = 2; inc = 3; number = 4 })) (codes "receipt 1 2 3 4")
     × IsSpelled Resend (codes "resend")
     × IsSpelled Check (codes "check")

@@ -59,7 +59,7 @@ struct Console {
 impl Console {
     fn new(alloc: Global) -> Result<Self, Fault>
         ensures ready { IfOk result (λ console. IsReady console.drill) }
-        ensures drill { IfOk result (λ console. state_of console.drill ≡ drill_over no_world) }
+        ensures drill { IfOk result (λ console. state_of console.drill ≡ drill_over (no_world 1)) }
         ensures line { IfOk result (λ console. console.line ≡ Some []) }
         ensures number { IfOk result (λ console. console.number ≡ 0) }
         ensures fault { IfErr result IsOfWork }

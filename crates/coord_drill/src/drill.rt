@@ -41,7 +41,7 @@ impl Drill {
     /// A drill in the world before any step, over a disk that keeps in a crash what a read gives.
     pub fn new(alloc: Global) -> Result<Self, Fault>
         ensures ready { IfOk result IsReady }
-        ensures state { IfOk result (λ drill. state_of drill ≡ drill_over no_world) }
+        ensures state { IfOk result (λ drill. state_of drill ≡ drill_over (no_world 1)) }
         ensures fault { IfErr result IsOfWork }
     {
         let mut disk = MemDisk::new(alloc);

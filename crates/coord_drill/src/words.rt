@@ -86,7 +86,7 @@ impl<'a> Words<'a> {
         ensures { Reads (message.read self.old) result self.new }
     {
         match self.next()? {
-            "abort" => Some(Msg::Abort),
+            "abort" => Some(Msg::Abort(0)),
             "ack" => Some(Msg::Ack),
             "ready" => Some(Msg::Ready),
             _ => None,

@@ -7,7 +7,7 @@ use Rattle.coord_engine.specs.Waiting.{with_packet}
 
 -- data from u to v with this number, and the receipt of it
 abbrev pub sent : ℕ → ℕ → ℕ → Packet
-sent u v n = Carried (record { from = u; to = v; inc = 3; number = n; msg = Abort })
+sent u v n = Carried (record { from = u; to = v; inc = 3; number = n; msg = Abort 0 })
 
 abbrev pub receipt : ℕ → ℕ → ℕ → Packet
 receipt u v n = Receipted (record { from = u; to = v; inc = 3; number = n })

@@ -1,5 +1,5 @@
 -- A lane beside all messages that were sent on it and all that were taken.
-use Rattle.std.proofs.Common.{◌≡◌, ℕ, zero, suc, ◌<◌, true, false, List, [], ◌∷◌, ◌++◌, length, take, drop, refl, arith, append_assoc}
+use Rattle.std.proofs.Common.{◌≡◌, ℕ, zero, suc, ◌<◌, true, false, List, [], ◌∷◌, ◌++◌, length, take, drop, refl, ap, arith, append_assoc}
 use Rattle.std.specs.Prelude.{is_ok, if◌then◌else◌}
 use Rattle.std.proofs.lemmas.Bool.Decides.{nat_tests}
 use Rattle.std.proofs.lemmas.List.{take-append-le, drop-append-le, length-append, append-nil}
@@ -31,7 +31,7 @@ more_left (suc n) [] rest m goes_on = absurd (cc)
 more_left (suc n) (a ∷ all) rest m goes_on = let shorter = more_left n all rest m goes_on in omega arith
 
 same_is : (a b : Msg) → same_msg a b ≡ true → a ≡ b
-same_is msg.Abort msg.Abort e = refl
+same_is (msg.Abort k) (msg.Abort d) e = let same : k ≡ d = grind (arith, nat_tests) in ap msg.Abort same
 same_is msg.Ack msg.Ack e = refl
 same_is msg.Ready msg.Ready e = refl
 same_is a b e = cc

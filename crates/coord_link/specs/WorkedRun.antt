@@ -8,7 +8,7 @@ use Rattle.coord_link.specs.Moves.{Move, Send, Take, Clear, run, taken_by, answe
 -- the link was made by step 3
 abbrev pub reset_moves : List Move
 reset_moves =
-    Take 1 Abort ∷ Send Abort ∷ Take 1 Ready ∷ Clear 1 ∷ Take 1 Abort ∷ Take 1 Abort ∷ Take 2 Ready ∷ Send Ready
+    Take 1 (Abort 0) ∷ Send (Abort 0) ∷ Take 1 Ready ∷ Clear 1 ∷ Take 1 (Abort 0) ∷ Take 1 (Abort 0) ∷ Take 2 Ready ∷ Send Ready
     ∷ Take 2 Ready ∷ Clear 2 ∷ Clear 1 ∷ Clear 1 ∷ Take 3 Ready ∷ Take 2 Ready ∷ []
 
 pub record ResetLane : Type 0 where
@@ -16,5 +16,5 @@ pub record ResetLane : Type 0 where
       answers (new_lane 3) reset_moves ≡
       Err Early ∷ Ok tt ∷ Err Differs ∷ Err Early ∷ Ok tt ∷ Err Old ∷ Err Early ∷ Ok tt
       ∷ Err Early ∷ Err Early ∷ Ok tt ∷ Err Old ∷ Err Early ∷ Ok tt ∷ []
-  pub taken : taken_by (new_lane 3) reset_moves ≡ Abort ∷ Ready ∷ []
+  pub taken : taken_by (new_lane 3) reset_moves ≡ Abort 0 ∷ Ready ∷ []
   pub left : run (new_lane 3) reset_moves ≡ record { inc = 3; base = 1; got = 2; queue = Ready ∷ [] }

@@ -10,7 +10,7 @@ use std::marker::Model;
 pub const PLACES: usize = 4;
 
 /// What stands behind the queue in its array, and is never read.
-const BEHIND: Msg = Msg::Abort;
+const BEHIND: Msg = Msg::Ack;
 
 /// The messages from one node to its neighbour, numbered from 1 since the link was made. Contracts
 /// see it as a lane of `specs/LaneMachine.antt`.

@@ -18,13 +18,12 @@ added d y = if set.contains d.to y then d.message ∷ [] else []
 
 -- node u has the state r
 abbrev pub set_state : Ideal → ℕ → NodeState → Ideal
-set_state w u r = record { state = λ x. if x == u then r else w.state x; linked = w.linked; way = w.way }
+set_state w u r = record w { state = λ x. if x == u then r else w.state x }
 
 -- u does a transition: its state changes, and its messages go behind those on the way
 abbrev pub ideal_applied : Ideal → ℕ → Transition → Ideal
-ideal_applied w u d = record {
+ideal_applied w u d = record w {
   state = λ x. if x == u then d.state else w.state x;
-  linked = w.linked;
   way = λ x y. if (x == u) && w.linked x y then w.way x y ++ added d y else w.way x y;
 }
 
@@ -35,7 +34,7 @@ ideal_all_applied w (d ∷ ds) = ideal_all_applied (ideal_applied w d.0 d.1) ds
 
 -- the first message on the way from v to u leaves it
 abbrev pub headed : Ideal → ℕ → ℕ → Ideal
-headed w v u = record { state = w.state; linked = w.linked; way = λ x y. if (x == v) && (y == u) then behind_front (w.way x y) else w.way x y }
+headed w v u = record w { way = λ x y. if (x == v) && (y == u) then behind_front (w.way x y) else w.way x y }
 
 -- whether x and y are a and b
 abbrev pub is_link : ℕ → ℕ → ℕ → ℕ → Bool
@@ -43,7 +42,7 @@ is_link a b x y = ((x == a) && (y == b)) || ((x == b) && (y == a))
 
 -- a and b are linked, with nothing on the way
 abbrev pub linked_up : Ideal → ℕ → ℕ → Ideal
-linked_up w a b = record {
+linked_up w a b = record w {
   state = λ x. if x == b then with_neighbour (w.state b) a else (if x == a then with_neighbour (w.state a) b else w.state x);
   linked = λ x y. is_link a b x y || w.linked x y;
   way = λ x y. if is_link a b x y then [] else w.way x y;
@@ -51,11 +50,11 @@ linked_up w a b = record {
 
 -- the link of a and b vanishes, with all that is on the way
 abbrev pub without_link : Ideal → ℕ → ℕ → Ideal
-without_link w a b = record { state = w.state; linked = λ x y. not (is_link a b x y) && w.linked x y; way = λ x y. if is_link a b x y then [] else w.way x y }
+without_link w a b = record w { linked = λ x y. not (is_link a b x y) && w.linked x y; way = λ x y. if is_link a b x y then [] else w.way x y }
 
 -- what a step changes before any node acts on it
 abbrev pub ideal_ordered : Ideal → Command → Ideal
-ideal_ordered w (Add u g) = set_state w u (new_node g)
+ideal_ordered w (Add u g) = set_state w u (new_node w.version g)
 ideal_ordered w (Remove u) = set_state w u no_node
 ideal_ordered w (Join a b) = linked_up w a b
 ideal_ordered w (Drop a b) = without_link w a b

@@ -29,6 +29,14 @@ without_parent s (Some p) = set.remove s p
 abbrev pub sends_of : Transition → List (ℕ × Msg)
 sends_of d = map (λ x. (x, d.message)) (set.items d.to)
 
+-- the distance that stands for this one: in version 1 every distance is 0
+abbrev pub kept : NodeState → ℕ → ℕ
+kept r distance = if r.version == 1 then 0 else distance
+
+-- what an Abort carries that a node sends: the distance of those that it reaches, one more than the node's own
+abbrev pub carried : NodeState → ℕ
+carried r = kept r (r.distance + 1)
+
 -- nothing is sent
 abbrev pub idle : NodeState → Transition
 idle r = record { state = r; message = msg.Ack; to = set.empty; finished = false }
@@ -36,19 +44,26 @@ idle r = record { state = r; message = msg.Ack; to = set.empty; finished = false
 -- Ready goes to every neighbour but the parent, and the node enters its next epoch
 abbrev pub finish : NodeState → Transition
 finish r = record {
-  state = record r { mode = Ready; parent = None; epoch = r.epoch + 1 };
+  state = record r { mode = Ready; parent = None; epoch = r.epoch + 1; distance = 0 };
   message = msg.Ready;
   to = without_parent r.neighbours r.parent;
   finished = true;
 }
 
--- a node that was Ready passes the wave on, and waits for those that it goes to
-abbrev pub wave_on : NodeState → Option ℕ → NodeSet → Transition
-wave_on r parent others = record { state = record r { mode = Abort; parent = parent; pend = others }; message = msg.Abort; to = others; finished = false }
+-- a node that was Ready is at this distance, passes the wave on, and waits for those that it goes to
+abbrev pub wave_on : NodeState → Option ℕ → NodeSet → ℕ → Transition
+wave_on r parent others distance =
+    let s : NodeState = record r { mode = Abort; parent = parent; pend = others; distance = distance } in
+    record { state = s; message = msg.Abort (carried s); to = others; finished = false }
 
--- a node that was Ready has nobody to pass the wave on to
-abbrev pub wave_back : NodeState → ℕ → Transition
-wave_back r v = record { state = record r { mode = Converge; parent = Some v }; message = msg.Ack; to = only v; finished = false }
+-- a node that was Ready is at this distance, and has nobody to pass the wave on to
+abbrev pub wave_back : NodeState → ℕ → ℕ → Transition
+wave_back r v distance = record {
+  state = record r { mode = Converge; parent = Some v; pend = set.empty; distance = distance };
+  message = msg.Ack;
+  to = only v;
+  finished = false;
+}
 
 -- the state stays, and v is answered
 abbrev pub answer : NodeState → ℕ → Transition
@@ -56,21 +71,24 @@ answer r v = record { state = r; message = msg.Ack; to = only v; finished = fals
 
 -- a reset is asked for
 abbrev pub request_in : Mode → NodeState → Transition
-request_in Ready r = if is_empty r.neighbours then finish r else wave_on r None r.neighbours
+request_in Ready r = if is_empty r.neighbours then finish r else wave_on r None r.neighbours 0
 request_in Abort r = idle r
 request_in Converge r = idle r
 
 abbrev pub request : NodeState → Transition
 request r = request_in r.mode r
 
--- Abort comes from v
-abbrev pub on_abort_in : Mode → NodeState → ℕ → Transition
-on_abort_in Ready r v = if is_empty (set.remove r.neighbours v) then wave_back r v else wave_on r (Some v) (set.remove r.neighbours v)
-on_abort_in Abort r v = answer r v
-on_abort_in Converge r v = answer r v
+-- Abort comes from v, with a distance
+abbrev pub on_abort_in : Mode → NodeState → ℕ → ℕ → Transition
+on_abort_in Ready r v distance =
+    if is_empty (set.remove r.neighbours v)
+    then wave_back r v (kept r distance)
+    else wave_on r (Some v) (set.remove r.neighbours v) (kept r distance)
+on_abort_in Abort r v distance = answer r v
+on_abort_in Converge r v distance = answer r v
 
-abbrev pub on_abort : NodeState → ℕ → Transition
-on_abort r v = on_abort_in r.mode r v
+abbrev pub on_abort : NodeState → ℕ → ℕ → Transition
+on_abort r v distance = on_abort_in r.mode r v distance
 
 -- the last acknowledgement that was awaited has come: the initiator finishes, any other node acknowledges to its parent
 abbrev pub acknowledged : NodeState → Option ℕ → Transition
@@ -101,7 +119,7 @@ on_ready r v = on_ready_in r.mode r v
 
 -- a message comes from v
 abbrev pub transition : Msg → NodeState → ℕ → Transition
-transition msg.Abort r v = on_abort r v
+transition (msg.Abort k) r v = on_abort r v k
 transition msg.Ack r v = on_ack r v
 transition msg.Ready r v = on_ready r v
 

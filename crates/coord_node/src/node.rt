@@ -4,10 +4,10 @@ ghost use Rattle.std.specs.Prelude.{◌≡◌, ◌<◌, ◌^◌, ◌-◌, OnOk, 
 ghost use Rattle.coord_types.specs.NodeSet as set;
 ghost use Rattle.coord_types.specs.NodeState.{new_node};
 ghost use Rattle.coord_node.specs.Rules.{request, on_abort, on_ack, on_ready, lost, with_neighbour};
-ghost use Rattle.coord_node.specs.Rules.{acknowledged, finish, wave_on, lost_in, without, sends_of};
+ghost use Rattle.coord_node.specs.Rules.{acknowledged, finish, wave_on, lost_in, without, sends_of, kept, carried};
 
 use crate::deed::{Deed, sends_to};
-use coord_types::{Group, Mode, Msg, NodeId, NodeSet};
+use coord_types::{Group, Mode, Msg, NodeId, NodeSet, Version};
 use std::alloc::{AllocError, Global};
 use std::marker::Model;
 
@@ -15,6 +15,7 @@ use std::marker::Model;
 /// Contracts see it as its state, and each call's contract cites the reset rule of its name.
 #[derive(Clone, Copy, PartialEq, Eq, Debug)]
 pub struct Node {
+    version: Version,
     group: Group,
     mode: Mode,
     parent: Option<NodeId>,
@@ -22,6 +23,7 @@ pub struct Node {
     neighbours: NodeSet,
     epoch: u64,
     confirmed: u64,
+    distance: u64,
 }
 
 impl Model for Node {
@@ -32,6 +34,7 @@ impl Model for Node {
     ghost coded = { state_code };
 
     ghost view = { λ a. record {
+      version = a.version;
       group = a.group;
       mode = a.mode;
       parent = a.parent;
@@ -39,9 +42,11 @@ impl Model for Node {
       neighbours = a.neighbours;
       epoch = a.epoch;
       confirmed = a.confirmed;
+      distance = a.distance;
     } };
 
     ghost inverse = { λ r. record {
+      version = r.version;
       group = r.group;
       mode = r.mode;
       parent = r.parent;
@@ -49,12 +54,14 @@ impl Model for Node {
       neighbours = r.neighbours;
       epoch = r.epoch;
       confirmed = r.confirmed;
+      distance = r.distance;
     } };
 }
 
 /// All that a node keeps, to restore it from.
 #[derive(Clone, Copy, Debug)]
 pub struct NodeFields {
+    pub version: Version,
     pub group: Group,
     pub mode: Mode,
     /// The neighbour that is owed the node's acknowledgement.
@@ -66,14 +73,18 @@ pub struct NodeFields {
     pub epoch: u64,
     /// The last epoch whose signal is known to have been acted on.
     pub confirmed: u64,
+    /// How many links lie between the node and the one that began its reset; 0 where it is Ready, and
+    /// in version 1.
+    pub distance: u64,
 }
 
 impl Node {
-    /// A node as it is added: Ready, without neighbours, in epoch 0.
-    pub fn new(group: Group) -> Self
-        ensures { result ≡ new_node group }
+    /// A node as it is added to a world of this version: Ready, without neighbours, in epoch 0.
+    pub fn new(version: Version, group: Group) -> Self
+        ensures { result ≡ new_node version group }
     {
         Node {
+            version,
             group,
             mode: Mode::Ready,
             parent: None,
@@ -81,12 +92,14 @@ impl Node {
             neighbours: NodeSet::new(),
             epoch: 0,
             confirmed: 0,
+            distance: 0,
         }
     }
 
     /// The node that keeps this.
     pub fn restore(fields: NodeFields) -> Self
         ensures { result ≡ record {
+          version = fields.version;
           group = fields.group;
           mode = fields.mode;
           parent = fields.parent;
@@ -94,9 +107,11 @@ impl Node {
           neighbours = fields.neighbours;
           epoch = fields.epoch;
           confirmed = fields.confirmed;
+          distance = fields.distance;
         } }
     {
         Node {
+            version: fields.version,
             group: fields.group,
             mode: fields.mode,
             parent: fields.parent,
@@ -104,7 +119,15 @@ impl Node {
             neighbours: fields.neighbours,
             epoch: fields.epoch,
             confirmed: fields.confirmed,
+            distance: fields.distance,
         }
+    }
+
+    /// The version of its world, which decides what its Aborts carry.
+    pub fn version(&self) -> Version
+        ensures { result ≡ self.now.version }
+    {
+        self.version
     }
 
     /// The group, which never changes.
@@ -156,6 +179,13 @@ impl Node {
         self.confirmed
     }
 
+    /// How many links lie between the node and the one that began its reset; 0 where it is Ready.
+    pub fn distance(&self) -> u64
+        ensures { result ≡ self.now.distance }
+    {
+        self.distance
+    }
+
     /// A reset is asked for at this node.
     #[tactic(auto, using(coord_types::proofs::Sets::listed))]
     pub fn request(&mut self, alloc: Global) -> Result<Deed, AllocError>
@@ -172,27 +202,37 @@ impl Node {
             return self.finish(alloc);
         }
         let others = self.neighbours;
-        self.wave_on(alloc, None, others)
+        self.wave_on(alloc, None, others, 0)
     }
 
-    /// An Abort comes from a neighbour.
+    /// An Abort comes from a neighbour, with the distance that a Ready node takes; in version 1 it
+    /// takes 0 whatever comes.
     #[tactic(auto, using(coord_types::proofs::Sets::listed))]
-    pub fn on_abort(&mut self, alloc: Global, from: NodeId) -> Result<Deed, AllocError>
-        ensures state { OnOk result (self.new ≡ (on_abort self.old from).state) }
-        ensures sends { IfOk result (λ d. d.sends.items ≡ sends_of (on_abort self.old from)) }
-        ensures finished { IfOk result (λ d. d.finished ≡ (on_abort self.old from).finished) }
+    pub fn on_abort(
+        &mut self,
+        alloc: Global,
+        from: NodeId,
+        distance: u64,
+    ) -> Result<Deed, AllocError>
+        requires { distance < 2 ^ 64 - 1 }
+        ensures state { OnOk result (self.new ≡ (on_abort self.old from distance).state) }
+        ensures sends { IfOk result (λ d. d.sends.items ≡ sends_of (on_abort self.old from distance)) }
+        ensures finished { IfOk result (λ d. d.finished ≡ (on_abort self.old from distance).finished) }
         ensures err { OnErr result (self.new ≡ self.old) }
     {
         if self.mode != Mode::Ready {
             return Deed::answer(alloc, from);
         }
         let others = self.neighbours.without(from);
+        let distance = self.kept(distance);
         if !others.is_empty() {
-            return self.wave_on(alloc, Some(from), others);
+            return self.wave_on(alloc, Some(from), others, distance);
         }
         let deed = Deed::answer(alloc, from)?;
         self.mode = Mode::Converge;
         self.parent = Some(from);
+        self.pend = NodeSet::new();
+        self.distance = distance;
         Ok(deed)
     }
 
@@ -284,32 +324,57 @@ impl Node {
         self.mode = Mode::Ready;
         self.parent = None;
         self.epoch += 1;
+        self.distance = 0;
         Ok(Deed {
             sends,
             finished: true,
         })
     }
 
-    /// Passes the abort wave on, and awaits those that it goes to.
+    /// Takes this distance, passes the abort wave on, and awaits those that it goes to.
     fn wave_on(
         &mut self,
         alloc: Global,
         parent: Option<NodeId>,
         others: NodeSet,
+        distance: u64,
     ) -> Result<Deed, AllocError>
-        ensures state { OnOk result (self.new ≡ (wave_on self.old parent others).state) }
-        ensures sends { IfOk result (λ d. d.sends.items ≡ sends_of (wave_on self.old parent others)) }
+        requires { distance < 2 ^ 64 - 1 }
+        ensures state { OnOk result (self.new ≡ (wave_on self.old parent others distance).state) }
+        ensures sends { IfOk result (λ d. d.sends.items ≡ sends_of (wave_on self.old parent others distance)) }
         ensures finished { IfOk result (λ d. d.finished ≡ false) }
         ensures err { OnErr result (self.new ≡ self.old) }
     {
-        let sends = sends_to(alloc, others, Msg::Abort)?;
-        self.mode = Mode::Abort;
-        self.parent = parent;
-        self.pend = others;
+        let mut after = *self;
+        after.mode = Mode::Abort;
+        after.parent = parent;
+        after.pend = others;
+        after.distance = distance;
+        let sends = sends_to(alloc, others, Msg::Abort(after.carried()))?;
+        *self = after;
         Ok(Deed {
             sends,
             finished: false,
         })
+    }
+
+    /// The distance that stands for this one: in version 1 every distance is 0.
+    fn kept(&self, distance: u64) -> u64
+        ensures { result ≡ kept self.now distance }
+    {
+        if self.version.number() == 1 {
+            0
+        } else {
+            distance
+        }
+    }
+
+    /// What an Abort carries that the node sends: the distance of those that it reaches.
+    pub fn carried(&self) -> u64
+        requires { self.now.distance < 2 ^ 64 - 1 }
+        ensures { result ≡ carried self.now }
+    {
+        self.kept(self.distance + 1)
     }
 
     /// The last acknowledgement that was awaited has come.

@@ -14,7 +14,7 @@ use Rattle.coord_store.specs.Laws.{RecoveredIsOpened}
 use Rattle.coord_store.specs.Recovered.{AllFresh, Gives, Recovered, Replays, Takes}
 use Rattle.coord_store.specs.Refused.{RefusesBatch, RefusesBatches, RefusesContent, RefusesReplay, RefusesText, StopsAt}
 use Rattle.coord_store.specs.declared.faults.StoreFault.{StoreFault}
-use Rattle.coord_store.specs.declared.faults.StoreFault.TheVariants.{OutOfMemory, Device, NotEmpty, HalfSize, NoMagic, BadRecord, BadSnapshot, BadBatch, BadStep, Violated, NotQuiet}
+use Rattle.coord_store.specs.declared.faults.StoreFault.TheVariants.{OutOfMemory, Device, NotEmpty, HalfSize, NoMagic, BadRecord, BadSnapshot, BadBatch, BadStep, Violated, NotQuiet, Stopped}
 use Rattle.coord_store.proofs.Freshness.{fresh_at}
 use Rattle.coord_store.proofs.OneWorld.{one_end, one_spelling, one_start}
 use Rattle.coord_store.proofs.Replaying.{reached}
@@ -41,6 +41,7 @@ taken_unrefused w n body steps BadRecord takes refused = refused
 taken_unrefused w n body steps BadSnapshot takes refused = refused
 taken_unrefused w n body steps (Violated v) takes refused = refused
 taken_unrefused w n body steps (NotQuiet u) takes refused = refused
+taken_unrefused w n body steps Stopped takes refused = refused
 
 -- nor is one of batches that lead to a world
 led_unrefused : (start w : World) (bodies : List (List ℕ)) (fault : StoreFault) → Replays start bodies w → RefusesReplay start bodies fault → ⊥
@@ -69,6 +70,7 @@ content_unrefused content w HalfSize gives refused = absurd refused
 content_unrefused content w NoMagic gives refused = absurd refused
 content_unrefused content w BadRecord gives refused = absurd refused
 content_unrefused content w (NotQuiet u) gives refused = absurd refused
+content_unrefused content w Stopped gives refused = absurd refused
 
 text_unrefused : (bytes : List ℕ) (w : World) (fault : StoreFault) → Recovered bytes w → RefusesText bytes fault → (fault ≡ OutOfMemory)
 text_unrefused bytes w fault recovered refused =
@@ -92,3 +94,4 @@ recovered_is_opened bytes w (Violated v) recovered refused = inl (text_unrefused
 recovered_is_opened bytes w NotEmpty recovered refused = inl (text_unrefused bytes w NotEmpty recovered refused)
 recovered_is_opened bytes w HalfSize recovered refused = inl (text_unrefused bytes w HalfSize recovered refused)
 recovered_is_opened bytes w (NotQuiet u) recovered refused = inl (text_unrefused bytes w (NotQuiet u) recovered refused)
+recovered_is_opened bytes w Stopped recovered refused = inl (text_unrefused bytes w Stopped recovered refused)

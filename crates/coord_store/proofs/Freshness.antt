@@ -6,7 +6,12 @@ use Rattle.coord_types.specs.declared.steps.Step.{Step}
 use Rattle.coord_world.specs.protocol.Acceptance.{IsFresh}
 use Rattle.coord_world.specs.protocol.Next.{fold, next}
 use Rattle.coord_world.specs.protocol.NumberedWorld.{World}
-use Rattle.coord_world.proofs.Facade.{fresh_count, itself}
+use Rattle.std.specs.List.{AllByRecursion}
+use Rattle.coord_types.specs.Messages.{brought}
+use Rattle.coord_types.specs.declared.steps.Step.TheVariants.{Order, Take, Clear}
+use Rattle.coord_batch.specs.Batches.{BringsRightly, IsNumbered, IsWritable}
+use Rattle.coord_world.specs.protocol.Ranges.{InRange, farthest}
+use Rattle.coord_world.proofs.Facade.{brought_within, fresh_count, itself, same_version}
 use Rattle.coord_store.specs.Recovered.{AllFresh}
 
 -- the one that stands here is
@@ -45,3 +50,28 @@ fresh_over_itself steps settled w i s below is all =
 pub first_number : (steps : List Step) (settled w : World) → 1 ≤ length steps → AllFresh settled w steps → w.count + 1 ≤ 2 ^ 40
 first_number [] settled w some all = absurd (omega arith)
 first_number (s ∷ steps) settled w some all = fresh_count w settled s all.0
+
+-- in version 1 a fresh step brings no distance
+pub brings_rightly : (w settled : World) (s : Step) → InRange w → IsFresh w settled s → BringsRightly w.version s
+brings_rightly w settled (Order c n x) range fresh = tt
+brings_rightly w settled (Take p) range fresh = λ first. let near = subst (λ v. brought p.msg ≤ farthest v w.count) first (brought_within w settled (Take p) range fresh) in omega (arith, near)
+brings_rightly w settled (Clear r) range fresh = tt
+
+-- no step changes the version
+pub fold_version : (steps : List Step) (w : World) → (fold w steps).version ≡ w.version
+fold_version [] w = refl
+fold_version (s ∷ steps) w = fold_version steps (next w s) ∙ same_version w s
+
+pub all-push : {A : Type 0} (P : A → Type 0) (xs : List A) (x : A) → AllByRecursion P xs → P x → AllByRecursion P (xs ++ x ∷ [])
+all-push P [] x all last = (last, tt)
+all-push P (y ∷ xs) x all last = (all.0, all-push P xs x all.1 last)
+
+-- what is numbered and brings no distance where it may not can be written
+writable : (version : ℕ) (s : Step) → IsNumbered s → BringsRightly version s → IsWritable version s
+writable version (Order c n x) numbered brings = numbered
+writable version (Take p) numbered brings = brings
+writable version (Clear r) numbered brings = tt
+
+pub all_writable : (version : ℕ) (steps : List Step) → AllByRecursion IsNumbered steps → AllByRecursion (BringsRightly version) steps → AllByRecursion (IsWritable version) steps
+all_writable version [] numbered brings = tt
+all_writable version (s ∷ steps) numbered brings = (writable version s numbered.0 brings.0, all_writable version steps numbered.1 brings.1)

@@ -33,13 +33,16 @@ gives-push content w body steps gives takes = record {
 }
 
 -- a snapshot alone
-pub snapshot_gives : (version : ℕ) (snapshot : List ℕ) (w : World) → version ≡ 1 → InRange w → Legal w → snapshot ≡ world.text (rows_of w) → Gives (without_batch version snapshot) w
+pub snapshot_gives : (version : ℕ) (snapshot : List ℕ) (w : World) → version ≡ w.version → InRange w → Legal w → snapshot ≡ (world w.version).text (rows_of w) → Gives (without_batch version snapshot) w
 snapshot_gives version snapshot w known range legal spelled = record { start = w; snapshot = record { known = known; in_range = range; spelled = spelled }; legal = legal; replays = refl }
 
 -- what the body of a batch of fresh steps spells is taken
-pub taken : (w : World) (n : ℕ) (body items : List ℕ) (steps : List Step) → n ≡ w.count → body ≡ items → items ≡ batch.text (pair (n + 1) steps) → IsBatch (n + 1) steps → AllFresh w w steps → Takes w body steps
-taken w n body items steps counts is spelled fits fresh = record {
-  spells = record { numbered = subst (λ m. IsBatch (m + 1) steps) counts fits; spelled = is ∙ spelled ∙ ap (λ m. batch.text (pair (m + 1) steps)) counts };
+pub taken : (w : World) (version n : ℕ) (body items : List ℕ) (steps : List Step) → version ≡ w.version → n ≡ w.count → body ≡ items → items ≡ (batch version).text (pair (n + 1) steps) → IsBatch version (n + 1) steps → AllFresh w w steps → Takes w body steps
+taken w version n body items steps one counts is spelled fits fresh = record {
+  spells = record {
+    numbered = subst (λ v. IsBatch v (w.count + 1) steps) one (subst (λ m. IsBatch version (m + 1) steps) counts fits);
+    spelled = is ∙ spelled ∙ (λ i. (batch (one i)).text (pair (counts i + 1) steps));
+  };
   fresh = fresh;
 }
 
@@ -60,6 +63,10 @@ appending_gives content w body steps gives takes bytes either =
 -- during a checkpoint
 pub replacing_gives : (content other : Content) (w : World) → Gives content w → Gives other w → (bytes : List ℕ) → IsEitherText content other bytes → IsOnlyWorld w bytes
 replacing_gives content other w gives too bytes either = ⊎_elim (λ t. text_gives content w bytes gives t) (λ t. text_gives other w bytes too t) either
+
+-- while another world is put in place of one
+pub replacing_either : (content other : Content) (v w : World) → Gives content v → Gives other w → (bytes : List ℕ) → IsEitherText content other bytes → GivesEither v w bytes
+replacing_either content other v w gives too bytes either = ⊎_elim (λ t. inl (text_gives content v bytes gives t)) (λ t. inr (text_gives other w bytes too t)) either
 
 module _ {D : Type 0} (present : D → Present) (keeps_model : D → Bool) where
   -- each image of a journal that holds a world gives it

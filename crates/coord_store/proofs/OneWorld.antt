@@ -17,14 +17,15 @@ use Rattle.coord_store.specs.Recovered.{Gives, HasSnapshot, IsBody, Replays}
 -- a body spells one list of steps
 pub one_spelling : (w : World) (body : List ℕ) (ss ts : List Step) → IsBody w body ss → IsBody w body ts → ss ≡ ts
 one_spelling w body ss ts here there =
-    let e : batch.text (pair (w.count + 1) ss) ++ [] ≡ batch.text (pair (w.count + 1) ts) ++ [] = ap (λ l. l ++ []) (sym here.spelled ∙ there.spelled) in
-    ap (λ p. p.1) (batches_prefix_free (w.count + 1) (w.count + 1) ss ts [] [] here.numbered there.numbered e).0
+    let e : (batch w.version).text (pair (w.count + 1) ss) ++ [] ≡ (batch w.version).text (pair (w.count + 1) ts) ++ [] = ap (λ l. l ++ []) (sym here.spelled ∙ there.spelled) in
+    ap (λ p. p.1) (batches_prefix_free w.version (w.count + 1) (w.count + 1) ss ts [] [] here.numbered there.numbered e).0
 
 -- a snapshot spells one world
 pub one_start : (content : Content) (v w : World) → HasSnapshot content v → HasSnapshot content w → v ≡ w
 one_start content v w here there =
-    let e : world.text (rows_of v) ++ [] ≡ world.text (rows_of w) ++ [] = ap (λ l. l ++ []) (sym here.spelled ∙ there.spelled) in
-    (worlds_prefix_free v w [] [] here.in_range there.in_range e).0
+    let same : v.version ≡ w.version = sym here.known ∙ there.known in
+    let e : (world v.version).text (rows_of v) ++ [] ≡ (world v.version).text (rows_of w) ++ [] = ap (λ l. l ++ []) (sym here.spelled ∙ there.spelled ∙ ap (λ n. (world n).text (rows_of w)) (sym same)) in
+    (worlds_prefix_free v w [] [] here.in_range there.in_range same e).0
 
 -- batches lead to one world
 pub one_end : (bodies : List (List ℕ)) (w u v : World) → Replays w bodies u → Replays w bodies v → u ≡ v

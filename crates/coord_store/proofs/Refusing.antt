@@ -10,7 +10,7 @@ use Rattle.coord_store.specs.Faults.{store_fault_of}
 use Rattle.coord_store.specs.Recovered.{HasSnapshot}
 use Rattle.coord_store.specs.Refused.{RefusesContent, RefusesCreate, RefusesOpen, RefusesReplay}
 use Rattle.coord_store.specs.declared.faults.StoreFault.{StoreFault}
-use Rattle.coord_store.specs.declared.faults.StoreFault.TheVariants.{OutOfMemory, Device, NotEmpty, HalfSize, NoMagic, BadRecord, BadSnapshot, BadBatch, BadStep, Violated, NotQuiet}
+use Rattle.coord_store.specs.declared.faults.StoreFault.TheVariants.{OutOfMemory, Device, NotEmpty, HalfSize, NoMagic, BadRecord, BadSnapshot, BadBatch, BadStep, Violated, NotQuiet, Stopped}
 use Rattle.coord_store.proofs.Exclusion.{begins_with_header}
 
 -- a batch
@@ -26,6 +26,7 @@ replay_refused content start BadRecord snapshot legal refused = absurd refused.r
 replay_refused content start BadSnapshot snapshot legal refused = absurd refused.refuses
 replay_refused content start (Violated v) snapshot legal refused = absurd refused.refuses
 replay_refused content start (NotQuiet u) snapshot legal refused = absurd refused.refuses
+replay_refused content start Stopped snapshot legal refused = absurd refused.refuses
 
 -- a content
 pub content_refused : (bytes : List ℕ) (content : Content) (fault : StoreFault) → IsText content bytes → (fault ≡ OutOfMemory) ⊎ RefusesContent content fault → RefusesOpen bytes fault
@@ -36,6 +37,7 @@ content_refused bytes content BadRecord text refused = ⊎_elim (λ e. absurd cc
 content_refused bytes content NotEmpty text refused = ⊎_elim (λ e. absurd cc) (λ r. absurd r) refused
 content_refused bytes content HalfSize text refused = ⊎_elim (λ e. absurd cc) (λ r. absurd r) refused
 content_refused bytes content (NotQuiet u) text refused = ⊎_elim (λ e. absurd cc) (λ r. absurd r) refused
+content_refused bytes content Stopped text refused = ⊎_elim (λ e. absurd cc) (λ r. absurd r) refused
 content_refused bytes content BadSnapshot text refused = ⊎_elim (λ e. absurd cc) (λ r. (content, text, r)) refused
 content_refused bytes content BadBatch text refused = ⊎_elim (λ e. absurd cc) (λ r. (content, text, r)) refused
 content_refused bytes content (BadStep batch index) text refused = ⊎_elim (λ e. absurd cc) (λ r. (content, text, r)) refused

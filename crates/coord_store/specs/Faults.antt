@@ -19,6 +19,7 @@ store_number store.BadBatch = 8
 store_number (store.BadStep batch index) = 9
 store_number (store.Violated violation) = 10
 store_number (store.NotQuiet node) = 11
+store_number store.Stopped = 12
 
 abbrev pub store_name : StoreFault → List ℕ
 store_name store.OutOfMemory = codes "OutOfMemory"
@@ -32,6 +33,7 @@ store_name store.BadBatch = codes "BadBatch"
 store_name (store.BadStep batch index) = codes "BadStep"
 store_name (store.Violated violation) = codes "Violated"
 store_name (store.NotQuiet node) = codes "NotQuiet"
+store_name store.Stopped = codes "Stopped"
 
 abbrev pub commit_number : CommitFault → ℕ
 commit_number commit.OutOfMemory = 1

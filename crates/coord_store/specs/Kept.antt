@@ -52,7 +52,7 @@ IsOnlyWorld w bytes = Recovered bytes w
 
 -- what a disk holds on which a store was just made
 abbrev pub made : ℕ → ℕ → Present
-made half_size version = whole (formatted half_size version (world.text (rows_of no_world)))
+made half_size version = whole (formatted half_size version ((world version).text (rows_of (no_world version))))
 
 -- a call has left the disk as it was, and at each moment of it a crash left nothing that it could not have left before
 pub record IsUntouched {D : Type 0} (present : D → Present) (clock : D → ℕ) (left_since : D → ℕ → List ℕ → Type 0) (old new : D) : Type 0 where

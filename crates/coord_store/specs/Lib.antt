@@ -3,3 +3,4 @@ pub mod Kept
 pub mod Laws
 pub mod Recovered
 pub mod Refused
+pub mod Migrating

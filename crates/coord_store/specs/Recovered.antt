@@ -19,8 +19,8 @@ AllFresh settled w (s ∷ steps) = IsFresh w settled s × AllFresh settled (next
 
 -- the body spells these steps, numbered from the world's next one on
 pub record IsBody (w : World) (body : List ℕ) (steps : List Step) : Type 0 where
-  pub numbered : IsBatch (w.count + 1) steps
-  pub spelled : body ≡ batch.text (pair (w.count + 1) steps)
+  pub numbered : IsBatch w.version (w.count + 1) steps
+  pub spelled : body ≡ (batch w.version).text (pair (w.count + 1) steps)
 
 -- the world takes the steps that the body spells, itself settled for all of them
 pub record Takes (w : World) (body : List ℕ) (steps : List Step) : Type 0 where
@@ -32,11 +32,11 @@ abbrev pub Replays : World → List (List ℕ) → World → Type 0
 Replays w [] v = w ≡ v
 Replays w (body ∷ bodies) v = (steps : List Step) × Takes w body steps × Replays (fold w steps) bodies v
 
--- the snapshot spells this world; there is one version of the spelling
+-- the snapshot spells this world, in its version
 pub record HasSnapshot (content : Content) (w : World) : Type 0 where
-  pub known : content.version ≡ 1
+  pub known : content.version ≡ w.version
   pub in_range : InRange w
-  pub spelled : content.snapshot ≡ world.text (rows_of w)
+  pub spelled : content.snapshot ≡ (world w.version).text (rows_of w)
 
 -- the snapshot spells a legal world, from which the batches lead to this one
 pub record Gives (content : Content) (w : World) : Type 0 where

@@ -10,7 +10,7 @@ use Rattle.coord_world.specs.protocol.Next.{fold}
 use Rattle.coord_world.specs.protocol.NumberedWorld.{World}
 use Rattle.coord_store.specs.Recovered.{AllFresh, HasSnapshot, IsBody, Replays}
 use Rattle.coord_store.specs.declared.faults.StoreFault.{StoreFault}
-use Rattle.coord_store.specs.declared.faults.StoreFault.TheVariants.{OutOfMemory, Device, NotEmpty, HalfSize, NoMagic, BadRecord, BadSnapshot, BadBatch, BadStep, Violated, NotQuiet}
+use Rattle.coord_store.specs.declared.faults.StoreFault.TheVariants.{OutOfMemory, Device, NotEmpty, HalfSize, NoMagic, BadRecord, BadSnapshot, BadBatch, BadStep, Violated, NotQuiet, Stopped}
 
 -- the world takes so many of the steps, and not the next one
 pub record StopsAt (w : World) (steps : List Step) (index : ℕ) : Type 0 where
@@ -89,6 +89,7 @@ abbrev pub IsOpenFault : StoreFault → Type 0
 IsOpenFault NotEmpty = ⊥
 IsOpenFault HalfSize = ⊥
 IsOpenFault (NotQuiet node) = ⊥
+IsOpenFault Stopped = ⊥
 IsOpenFault fault = Unit {0}
 
 -- and those of a creation; the last two come of a device that does not give back what was written

@@ -12,14 +12,15 @@ use crate::{Store, StoreFault};
 use coord_codec::write_world;
 use coord_disk::Disk;
 use coord_journal::format;
+use coord_types::Version;
 use coord_world::World;
 use std::alloc::Global;
 
 impl<D: Disk> Store<D> {
     /// Makes a store of the world before any step, on an empty device.
     ///
-    /// A half has `half_size` bytes, from 32,768 to 16,777,216. There is one version, 1. A refusal
-    /// hands the disk back: after `Device` its bytes are open, and `OutOfMemory` may leave the store
+    /// A half has `half_size` bytes, from 32,768 to 16,777,216. The version of the world is 1 or 2. A
+    /// refusal hands the disk back: after `Device` its bytes are open, and `OutOfMemory` may leave the store
     /// made.
     pub fn create(
         alloc: Global,
@@ -27,11 +28,11 @@ impl<D: Disk> Store<D> {
         half_size: u64,
         version: u8,
     ) -> Result<Self, (StoreFault, D)>
-        requires { version ≡ 1 }
+        requires { (1 ≤ version) × (version ≤ 2) }
         ensures empty { D.keeps_model disk ≡ true → IfOk result (λ store. length (D.present disk).read ≡ 0) }
         ensures half_size { IfOk result (λ store. IsHalfSize half_size) }
         ensures bytes { D.keeps_model disk ≡ true → IfOk result (λ store. D.present store.disk ≡ made half_size version) }
-        ensures world { IfOk result (λ store. store.world ≡ no_world) }
+        ensures world { IfOk result (λ store. store.world ≡ no_world version) }
         ensures going { IfOk result (λ store. store.torn ≡ None) }
         ensures fault { D.keeps_model disk ≡ true → IfErr result (λ refused. RefusesCreate (D.present disk).read half_size refused.0) }
         ensures named { IfErr result (λ refused. IsCreateFault refused.0) }
@@ -44,7 +45,10 @@ impl<D: Disk> Store<D> {
         ensures failures { MatchResult result (λ store. D.failures store.disk ≡ D.failures disk) (λ refused. D.failures refused.1 ≡ D.failures disk + failed_in refused.0) }
         ensures calls { MatchResult result (λ store. D.keeps_model disk ≡ true → D.clock store.disk ≤ D.clock disk + 6) (λ refused. D.keeps_model disk ≡ true → D.clock refused.1 ≤ D.clock disk + 6) }
     {
-        let world = World::empty(alloc);
+        let Some(known) = Version::new(version) else {
+            unreachable!()
+        };
+        let world = World::empty(alloc, known);
         world.ranges();
         let snapshot = match write_world(alloc, &world) {
             Ok(snapshot) => snapshot,

@@ -34,12 +34,14 @@ pub enum StoreFault {
     BadStep { batch: usize, index: usize },
     /// The world of the snapshot is not legal.
     Violated(Violation),
-    /// A node is not Ready. No call answers this yet; the number is kept for a change of version.
+    /// This node, and none with a lesser number, is in a reset, so the store is not raised to version 2.
     NotQuiet(NodeId),
+    /// The device has failed before.
+    Stopped,
 }
 
 impl StoreFault {
-    /// From 1 to 11.
+    /// From 1 to 12.
     pub fn number(self) -> u8
         ensures { result ≡ store_number self }
     {
@@ -55,6 +57,7 @@ impl StoreFault {
             StoreFault::BadStep { batch: _, index: _ } => 9,
             StoreFault::Violated(_) => 10,
             StoreFault::NotQuiet(_) => 11,
+            StoreFault::Stopped => 12,
         }
     }
 }
@@ -75,6 +78,7 @@ impl fmt::Display for StoreFault {
             StoreFault::BadStep { batch: _, index: _ } => "BadStep",
             StoreFault::Violated(_) => "Violated",
             StoreFault::NotQuiet(_) => "NotQuiet",
+            StoreFault::Stopped => "Stopped",
         })
     }
 }

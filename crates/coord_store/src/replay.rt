@@ -20,7 +20,7 @@ fn read_next(alloc: Global, world: &World, body: &[u8]) -> Result<Batch, StoreFa
     ensures spelled { IfOk result (λ batch. IsBody world.now body.now batch.steps.items) }
     ensures refused { IfErr result (λ fault. (fault ≡ OutOfMemory) ⊎ ((fault ≡ BadBatch) × ((steps : List Taken) → IsBody world.now body.now steps → ⊥))) }
 {
-    let batch = match read_batch(alloc, 1, body) {
+    let batch = match read_batch(alloc, world.version().number(), body) {
         Ok(batch) => batch,
         Err(fault) if fault.kind == FaultKind::OutOfMemory => return Err(StoreFault::OutOfMemory),
         Err(_) => return Err(StoreFault::BadBatch),

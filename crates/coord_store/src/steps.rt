@@ -1,6 +1,8 @@
 //! Steps that a world takes, one after the other.
 
 ghost use Rattle.std.specs.Prelude.{◌≡◌, ◌⊎◌, ◌↔◌, ℕ, IsTrue, OnOk, IfErr};
+ghost use Rattle.std.specs.List.{AllByRecursion};
+ghost use Rattle.coord_batch.specs.Batches.{BringsRightly};
 ghost use Rattle.coord_store.specs.Recovered.{AllFresh};
 ghost use Rattle.coord_store.specs.Refused.{StopsAt};
 ghost use Rattle.coord_store.specs.declared.faults.StoreFault.TheVariants.{OutOfMemory, BadStep};
@@ -18,9 +20,11 @@ pub fn take_all(world: &mut World, steps: &[Step]) -> Result<(), AllocError>
     requires legal { Legal world.old }
     requires fresh { AllFresh world.old world.old steps.now }
     ensures world { OnOk result (world.new ≡ fold world.old steps.now) }
+    ensures brought { OnOk result (AllByRecursion (BringsRightly world.old.version) steps.now) }
     ensures legal { Legal world.new }
 {
     for step in steps {
+        world.ranges();
         world.apply(step)?;
     }
     Ok(())

@@ -5,6 +5,7 @@ ghost use Rattle.coord_journal.specs.Journal.{disk_of, has_stopped as journal_ha
 ghost use Rattle.coord_world.specs.protocol.Legal.{Legal};
 
 mod commit;
+mod migrate;
 
 use coord_disk::Disk;
 use coord_journal::Journal;

@@ -22,9 +22,6 @@ use coord_journal::{Journal, JournalFault};
 use coord_world::World;
 use std::alloc::Global;
 
-/// The version of the spelling of worlds and batches.
-pub const VERSION: u8 = 1;
-
 /// The fault of an append or a replace, as a commit tells it.
 fn told(fault: JournalFault) -> CommitFault
     requires { IsWriteFault fault }
@@ -63,7 +60,37 @@ fn checkpoint<D: Disk>(
         Ok(snapshot) => snapshot,
         Err(_) => return Err(CommitFault::OutOfMemory),
     };
-    match journal.replace(VERSION, &snapshot) {
+    match journal.replace(world.version().number(), &snapshot) {
+        Ok(()) => Ok(()),
+        Err(fault) => Err(told(fault)),
+    }
+}
+
+/// Puts another world in place of all that a journal holds.
+pub fn put_in_place<D: Disk>(
+    alloc: Global,
+    journal: &mut Journal<D>,
+    other: &World,
+) -> Result<(), CommitFault>
+    requires legal { Legal other.now }
+    requires going { has_stopped journal.old ≡ false }
+    ensures any_moment { (w : Numbered) → D.keeps_model (disk_of journal.old) ≡ true → Holds D.present journal.old w
+        → LeavesOnly D.clock D.left_since (disk_of journal.old) (disk_of journal.new) (GivesEither w other.now) }
+    ensures done { (w : Numbered) → D.keeps_model (disk_of journal.old) ≡ true → Holds D.present journal.old w → OnOk result (Holds D.present journal.new other.now) }
+    ensures going { OnOk result (has_stopped journal.new ≡ false) }
+    ensures fault { IfErr result (λ fault. (fault ≡ OutOfMemory) ⊎ (fault ≡ Device)) }
+    ensures unchanged { IfErr result (λ fault. fault ≢ Device → journal.new ≡ journal.old) }
+    ensures device { IsErrOf result CommitFault.Device → has_stopped journal.new ≡ true }
+    ensures failures { D.failures (disk_of journal.new) ≡ D.failures (disk_of journal.old) + failures_in result }
+    ensures calls { D.keeps_model (disk_of journal.old) ≡ true → D.clock (disk_of journal.new) ≤ D.clock (disk_of journal.old) + 4 }
+    ensures model { D.keeps_model (disk_of journal.new) ≡ D.keeps_model (disk_of journal.old) }
+{
+    other.ranges();
+    let snapshot = match write_world(alloc, other) {
+        Ok(snapshot) => snapshot,
+        Err(_) => return Err(CommitFault::OutOfMemory),
+    };
+    match journal.replace(other.version().number(), &snapshot) {
         Ok(()) => Ok(()),
         Err(fault) => Err(told(fault)),
     }

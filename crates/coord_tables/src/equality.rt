@@ -38,13 +38,15 @@ impl Same for Session {
 
 impl Same for Node {
     fn is_same(&self, other: &Node) -> bool {
-        self.group() == other.group()
+        self.version() == other.version()
+            && self.group() == other.group()
             && self.mode() == other.mode()
             && self.parent() == other.parent()
             && self.pend() == other.pend()
             && self.neighbours() == other.neighbours()
             && self.epoch() == other.epoch()
             && self.confirmed() == other.confirmed()
+            && self.distance() == other.distance()
     }
 }
 

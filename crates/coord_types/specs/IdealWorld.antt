@@ -3,8 +3,9 @@ use Rattle.std.specs.Prelude.{ℕ, Bool, List}
 use Rattle.coord_types.specs.NodeState.{NodeState}
 use Rattle.coord_types.specs.declared.messages.Msg.{Msg}
 
--- the state of each node, which nodes are linked, and what is on the way from one to another, the oldest first
+-- its version, the state of each node, which nodes are linked, and what is on the way from one to another, the oldest first
 pub record Ideal : Type 0 where
+  pub version : ℕ
   pub state : ℕ → NodeState
   pub linked : ℕ → ℕ → Bool
   pub way : ℕ → ℕ → List Msg

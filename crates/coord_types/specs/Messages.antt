@@ -1,15 +1,21 @@
 -- Messages, and lists of them as they stand on the way, the oldest first.
-use Rattle.std.specs.Prelude.{◌≡◌, ℕ, zero, suc, Bool, true, false, List, [], ◌∷◌}
+use Rattle.std.specs.Prelude.{◌≡◌, ℕ, zero, suc, ◌==◌, Bool, true, false, List, [], ◌∷◌}
 use Rattle.std.proofs.Common.{refl}
 use Rattle.std.specs.Coded.{Coded, code_by, coded_ℕ}
 use Rattle.coord_types.specs.declared.messages.Msg.{Msg}
 use Rattle.coord_types.specs.declared.messages.Msg.TheVariants as msg
 
 abbrev pub same_msg : Msg → Msg → Bool
-same_msg msg.Abort msg.Abort = true
+same_msg (msg.Abort k) (msg.Abort d) = k == d
 same_msg msg.Ack msg.Ack = true
 same_msg msg.Ready msg.Ready = true
 same_msg m n = false
+
+-- the distance that a message brings
+abbrev pub brought : Msg → ℕ
+brought (msg.Abort k) = k
+brought msg.Ack = 0
+brought msg.Ready = 0
 
 abbrev pub is_nil : List Msg → Bool
 is_nil [] = true
@@ -26,17 +32,17 @@ behind_front (m ∷ ms) = ms
 
 -- a message as a number, and back
 abbrev pub msg_number : Msg → ℕ
-msg_number msg.Abort = 0
-msg_number msg.Ack = 1
-msg_number msg.Ready = 2
+msg_number msg.Ack = 0
+msg_number msg.Ready = 1
+msg_number (msg.Abort k) = suc (suc k)
 
 abbrev pub msg_from : ℕ → Msg
-msg_from zero = msg.Abort
-msg_from (suc zero) = msg.Ack
-msg_from (suc (suc n)) = msg.Ready
+msg_from zero = msg.Ack
+msg_from (suc zero) = msg.Ready
+msg_from (suc (suc k)) = msg.Abort k
 
 pub msg_back : (m : Msg) → msg_from (msg_number m) ≡ m
-msg_back msg.Abort = refl
+msg_back (msg.Abort k) = refl
 msg_back msg.Ack = refl
 msg_back msg.Ready = refl
 

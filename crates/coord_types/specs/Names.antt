@@ -16,7 +16,7 @@ mode_name mode.Abort = codes "abort"
 mode_name mode.Converge = codes "converge"
 
 abbrev pub msg_name : Msg → List ℕ
-msg_name msg.Abort = codes "abort"
+msg_name (msg.Abort k) = codes "abort"
 msg_name msg.Ack = codes "ack"
 msg_name msg.Ready = codes "ready"
 

@@ -2,7 +2,7 @@
 
 ghost use Rattle.std.specs.Prelude.{◌≡◌, ◌≤◌, ◌↔◌, IsSome, IfSome};
 
-use crate::limits::{MAX_CLIENTS, MAX_GROUPS, MAX_NODES};
+use crate::limits::{MAX_CLIENTS, MAX_GROUPS, MAX_NODES, MAX_VERSIONS};
 use std::marker::Model;
 
 /// A number from 1 to `MOST`, by which a node, a group or a client is named. Contracts see it as
@@ -20,6 +20,10 @@ pub type Group = Identifier<MAX_GROUPS>;
 
 /// A client's number, from 1 to 16. Each client numbers its own orders from 1.
 pub type Client = Identifier<MAX_CLIENTS>;
+
+/// A version of worlds and of their grammar, 1 or 2: in version 2 an Abort and a node in a reset have
+/// a distance.
+pub type Version = Identifier<MAX_VERSIONS>;
 
 impl<const MOST: u8> Model for Identifier<MOST> {
     ghost use Rattle.std.specs.Prelude.{ℕ, ◌≤◌};

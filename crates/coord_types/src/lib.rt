@@ -18,10 +18,10 @@ mod packets;
 mod refusals;
 mod steps;
 
-pub use identifiers::{Client, Group, Identifier, NodeId};
+pub use identifiers::{Client, Group, Identifier, NodeId, Version};
 pub use limits::{
     MAX_BATCH_BYTES, MAX_BATCH_STEPS, MAX_CLIENTS, MAX_DEGREE, MAX_GROUPS, MAX_LINE_BYTES,
-    MAX_LINKS, MAX_NODES, MAX_PENDING, MAX_SNAPSHOT_BYTES, MAX_STEPS,
+    MAX_LINKS, MAX_NODES, MAX_PENDING, MAX_SNAPSHOT_BYTES, MAX_STEPS, MAX_VERSIONS,
 };
 pub use messages::{Mode, Msg};
 pub use node_set::NodeSet;

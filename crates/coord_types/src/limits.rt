@@ -10,6 +10,9 @@ pub const MAX_GROUPS: u8 = 16;
 /// The most clients, and the greatest number of one.
 pub const MAX_CLIENTS: u8 = 16;
 
+/// The versions of worlds, and the greatest number of one.
+pub const MAX_VERSIONS: u8 = 2;
+
 /// The most links of one node.
 pub const MAX_DEGREE: usize = 16;
 

@@ -40,8 +40,9 @@ impl fmt::Display for Mode {
 /// A message between neighbours.
 #[derive(Clone, Copy, Debug, PartialEq, Eq)]
 pub enum Msg {
-    /// A reset goes out.
-    Abort,
+    /// A reset goes out. In version 2 it carries the distance that its receiver takes: how many
+    /// links lie between it and the node that began the reset. In version 1 that is 0.
+    Abort(u64),
     /// The sender, and all that it reached, were reached by the reset.
     Ack,
     /// The reset is over.
@@ -54,7 +55,7 @@ impl Msg {
         ensures { result.now ≡ msg_name self }
     {
         match self {
-            Msg::Abort => "abort",
+            Msg::Abort(_) => "abort",
             Msg::Ack => "ack",
             Msg::Ready => "ready",
         }

@@ -1,5 +1,5 @@
 -- What the crates above may cite of these proofs. All other files of lemmas are private.
-pub use Rattle.coord_world.proofs.listings.RowsOfWorldFit.{rows_of_world_fit}
+pub use Rattle.coord_world.proofs.listings.RowsOfWorldFit.{rows_have_few_aborts, rows_of_world_fit}
 pub use Rattle.coord_world.proofs.listings.RowsGiveWorld.{rows_give_world}
 pub use Rattle.coord_tables.proofs.KeyedLists.{all_weaker}
 pub use Rattle.coord_world.proofs.acceptance.IsFresh.{fresh_count}
@@ -13,3 +13,6 @@ pub use Rattle.coord_world.proofs.release.ReleaseLaw.{release_law, resend_law}
 pub use Rattle.coord_world.proofs.release.ReleaseStays.{fresh_where_released, release_stays}
 pub use Rattle.coord_world.proofs.release.Trails.{EachFresh, fold-append, fold-take_drop, fold_counts, trail_each_fresh, trail_goes_on, trail_is_cut, trail_keeps_worlds, trail_of}
 pub use Rattle.coord_world.proofs.waves.SignalsOf.{signals_given}
+pub use Rattle.coord_world.proofs.legal.RaisedLegal.{raised_is_legal}
+pub use Rattle.coord_world.proofs.ranges.Brought.{brought_within}
+pub use Rattle.coord_world.proofs.ranges.Distances.{same_version}

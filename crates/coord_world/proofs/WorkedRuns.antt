@@ -2,7 +2,7 @@
 use Rattle.std.proofs.Common.{refl}
 use Rattle.coord_types.specs.Table as table
 use Rattle.coord_types.specs.NodeSet as set
-use Rattle.coord_world.specs.laws.Runs.{StoredRun, TwoInitiators, DropInAbort, DropInConverge}
+use Rattle.coord_world.specs.laws.Runs.{StoredRun, TwoInitiators, TwoInitiatorsWithDistances, Distances, DropInAbort, DropInConverge}
 
 -- two nodes and one reset
 pub stored_computes : StoredRun
@@ -23,3 +23,12 @@ abort_computes = (refl, refl)
 pub converge_computes : DropInConverge
 unfolding table.empty table.get table.insert table.remove table.change table.len set.contains set.empty set.insert set.remove set.len
 converge_computes = (refl, refl)
+
+-- waves of version 2
+pub two_waves_compute : TwoInitiatorsWithDistances
+unfolding table.empty table.get table.insert table.remove table.change table.len set.contains set.empty set.insert set.remove set.len
+two_waves_compute = (refl, refl)
+
+pub distances_compute : Distances
+unfolding table.empty table.get table.insert table.remove table.change table.len set.contains set.empty set.insert set.remove set.len
+distances_compute = record { taken = (refl, refl); orphan = refl; child = refl; signalled = refl }

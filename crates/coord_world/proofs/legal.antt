@@ -6,6 +6,7 @@ pub mod EpochsFit
 pub mod JoinKept
 pub mod NextKeepsLegal
 pub mod StateKept
+pub mod Outside
 pub mod RulesKept
 pub mod Sound
 pub mod SoundLink
@@ -13,3 +14,6 @@ pub mod SoundNext
 pub mod SoundNode
 pub mod SoundView
 pub mod TakeKept
+pub mod Versions
+pub mod NoCycle
+pub mod RaisedLegal

@@ -4,6 +4,7 @@ pub mod Degree
 pub mod InOrder
 pub mod LanesOfLinks
 pub mod NearSets
+pub mod RaisedRows
 pub mod RowsGiveWorld
 pub mod RowsOfWorldFit
 pub mod WithLinks

@@ -1,4 +1,6 @@
 -- A fresh step keeps the ranges of a world.
+pub mod Brought
+pub mod Distances
 pub mod EveryNode
 pub mod LaneInRange
 pub mod NextKeepsRanges

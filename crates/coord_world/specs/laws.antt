@@ -6,3 +6,5 @@ pub mod Release
 pub mod KeptReplies
 pub mod Runs
 pub mod ReleasedRun
+pub mod Cycles
+pub mod Raised

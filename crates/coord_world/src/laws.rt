@@ -1,6 +1,8 @@
 //! Laws of the protocol, over the definitions alone: functions that do nothing, whose contracts are the laws.
 
-ghost use Rattle.coord_world.specs.laws.Laws.{FreshOverItself, LanesAreShort, NextKeepsLegal, NextKeepsRanges, RowsGiveWorld, RowsOfWorldFit, ViewOfNext};
+ghost use Rattle.coord_world.specs.laws.Laws.{FreshOverItself, LanesAreShort, NextKeepsLegal, NextKeepsRanges, RowsGiveWorld, RowsHaveFewAborts, RowsOfWorldFit, ViewOfNext};
+ghost use Rattle.coord_world.specs.laws.Cycles.{NoParentCycle};
+ghost use Rattle.coord_world.specs.laws.Raised.{RaisedIsLegal};
 ghost use Rattle.coord_world.specs.laws.KeptReplies.{KeptReplyLaw};
 ghost use Rattle.coord_world.specs.laws.Release.{FreshWhereReleased, ReleaseLaw, ReleasedFromBase, ReleasedGrows, ReleaseStays, ResendLaw};
 ghost use Rattle.coord_world.specs.laws.Trails.{FoldCounts, TrailGoesOn, TrailIsCut, TrailKeepsWorlds};
@@ -31,9 +33,26 @@ pub fn lanes_are_short()
     ensures { LanesAreShort }
 {}
 
+/// In a legal world of version 2 no chain of parents comes back, of nodes in a reset without a Ready
+/// on the way from one to the next.
+pub fn no_parent_cycle()
+    ensures { NoParentCycle }
+{}
+
+/// A legal world of version 1 in which every node is Ready is a legal one of version 2 with every
+/// distance 0.
+pub fn raised_is_legal()
+    ensures { RaisedIsLegal }
+{}
+
 /// The rows of a world in its ranges fit together.
 pub fn rows_of_world_fit()
     ensures { RowsOfWorldFit }
+{}
+
+/// The rows of a legal world have at most 2 Aborts in each queue.
+pub fn rows_have_few_aborts()
+    ensures { RowsHaveFewAborts }
 {}
 
 /// Worlds in their ranges with the same rows are equal.

@@ -2,7 +2,7 @@
 //! say which steps are taken and what each gives out.
 
 ghost use Rattle.coord_world.specs.laws.ReleasedRun.{ReleasedRun};
-ghost use Rattle.coord_world.specs.laws.Runs.{DropInAbort, DropInConverge, StoredRun, StoredWave, TwoInitiators};
+ghost use Rattle.coord_world.specs.laws.Runs.{Distances, DropInAbort, DropInConverge, StoredRun, StoredWave, TwoInitiators, TwoInitiatorsWithDistances};
 
 /// Two nodes and one reset.
 pub fn stored_run()
@@ -32,4 +32,14 @@ pub fn drop_in_abort()
 /// The first link of a path of three nodes is dropped after the wave has come back.
 pub fn drop_in_converge()
     ensures { DropInConverge }
+{}
+
+/// A wave of version 2 along a path of three nodes, the first link of which is dropped.
+pub fn distances()
+    ensures { Distances }
+{}
+
+/// Two waves of version 2 that meet on a path of three nodes, up to the signals.
+pub fn two_initiators_with_distances()
+    ensures { TwoInitiatorsWithDistances }
 {}

@@ -10,13 +10,14 @@ ghost use Rattle.coord_world.specs.protocol.Acceptance.{lane};
 use coord_link::Lane;
 use coord_node::Node;
 use coord_tables::{LaneTable, NodeTable, SessionTable};
-use coord_types::NodeId;
+use coord_types::{NodeId, Version};
 use std::alloc::{AllocError, Global};
 use std::marker::Model;
 
 /// The parts of a world.
 #[derive(Drop, Debug)]
 pub struct Tables {
+    pub version: Version,
     pub count: u64,
     pub nodes: NodeTable,
     pub lanes: LaneTable,
@@ -30,14 +31,15 @@ impl Model for Tables {
 
     ghost coded = { world_code };
 
-    ghost view = { λ a. record { count = a.count; nodes = a.nodes; lanes = a.lanes; sessions = a.sessions } };
+    ghost view = { λ a. record { version = a.version; count = a.count; nodes = a.nodes; lanes = a.lanes; sessions = a.sessions } };
 }
 
 impl Tables {
-    pub fn empty(alloc: Global) -> Self
-        ensures { result ≡ no_world }
+    pub fn empty(alloc: Global, version: Version) -> Self
+        ensures { result ≡ no_world version }
     {
         Tables {
+            version,
             count: 0,
             nodes: NodeTable::new(alloc),
             lanes: LaneTable::new(alloc),
@@ -62,7 +64,8 @@ impl Tables {
     pub fn is_same(&self, other: &Tables) -> bool
         ensures { IsTrue result ↔ (self.now ≡ other.now) }
     {
-        self.count == other.count
+        self.version == other.version
+            && self.count == other.count
             && self.nodes.is_same(&other.nodes)
             && self.lanes.is_same(&other.lanes)
             && self.sessions.is_same(&other.sessions)
@@ -72,6 +75,7 @@ impl Tables {
         ensures { IfOk result (λ copy. copy ≡ self.now) }
     {
         Ok(Tables {
+            version: self.version,
             count: self.count,
             nodes: self.nodes.copy()?,
             lanes: self.lanes.copy()?,

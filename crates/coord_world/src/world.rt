@@ -13,13 +13,15 @@ ghost use Rattle.coord_world.specs.protocol.Legal.{Legal};
 ghost use Rattle.coord_world.specs.protocol.Ranges.{InRange};
 ghost use Rattle.coord_world.specs.protocol.Rows.{RowsFit, listed, rows_of};
 
+mod raising;
+
 use crate::rows::parts::Parts;
 use crate::tables::Tables;
 use crate::verdicts::Verdict;
 use coord_link::Lane;
 use coord_node::Node;
 use coord_tables::{NodeTable, SessionTable};
-use coord_types::{Client, NodeId, Output, Refusal, Reply, Session, Step};
+use coord_types::{Client, NodeId, Output, Refusal, Reply, Session, Step, Version};
 use std::alloc::{AllocError, Global};
 use std::marker::Model;
 
@@ -76,14 +78,15 @@ impl Eq for World {
 }
 
 impl World {
-    /// The world before any step.
-    pub fn empty(alloc: Global) -> Self
-        ensures value { result ≡ no_world }
+    /// The world of this version before any step.
+    pub fn empty(alloc: Global, version: Version) -> Self
+        ensures value { result ≡ no_world version }
         ensures legal { Legal result }
     {
+        version.number();
         World {
             alloc,
-            tables: Tables::empty(alloc),
+            tables: Tables::empty(alloc, version),
         }
     }
 
@@ -103,6 +106,13 @@ impl World {
         ensures fit { IfOk result (λ parts. RowsFit (listed parts)) }
     {
         self.tables.list(self.alloc)
+    }
+
+    /// Its version, which no step changes.
+    pub fn version(&self) -> Version
+        ensures { result ≡ self.now.version }
+    {
+        self.tables.version
     }
 
     /// How many steps were taken, at most 2^40.

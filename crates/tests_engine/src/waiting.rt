@@ -11,7 +11,7 @@ fn data(from: NodeId, to: NodeId, number: u64) -> Packet {
         to,
         inc: 3,
         number,
-        msg: Msg::Abort,
+        msg: Msg::Abort(0),
     })
 }
 

@@ -28,7 +28,7 @@ fn release(step: u64, output: Output) -> Release {
 
 // The packet of the reset.
 fn sent(scene: &Scene) -> Output {
-    Output::Sent(scene.packet(scene.first, scene.second, Msg::Abort))
+    Output::Sent(scene.packet(scene.first, scene.second, Msg::Abort(0)))
 }
 
 // What is given out once it is taken.

@@ -62,6 +62,6 @@ impl Scene {
 
     /// The second node takes the Abort of a reset of the first.
     pub(crate) fn take_abort(&self) -> Step {
-        Step::Take(self.packet(self.first, self.second, Msg::Abort))
+        Step::Take(self.packet(self.first, self.second, Msg::Abort(0)))
     }
 }

@@ -5,10 +5,14 @@ ghost use Rattle.std.specs.Prelude.{IfOk};
 ghost use Rattle.coord_world.specs.protocol.Legal.{Legal};
 
 use crate::scene::Scene;
-use coord_types::Step;
+use coord_types::{Step, Version};
 use coord_world::{Verdict, World};
 use std::alloc::{AllocError, Global};
 use std::test::Fail;
+
+fn version() -> Version {
+    Version::new(1).unwrap()
+}
 
 fn copied(world: &World) -> Result<World, AllocError> {
     match world.copy() {
@@ -54,7 +58,7 @@ fn taken(mut world: World, step: &Step) -> Result<World, Fail>
 fn taken_in_turn(alloc: Global) -> Result<u64, Fail> {
     let scene = Scene::new()?;
     let [first, second, link] = scene.linking();
-    let world = taken(World::empty(alloc), &first)?;
+    let world = taken(World::empty(alloc, version()), &first)?;
     let world = taken(world, &second)?;
     let world = taken(world, &link)?;
     let world = taken(world, &scene.reset(4, scene.first))?;

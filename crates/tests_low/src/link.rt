@@ -22,16 +22,17 @@ fn sent_unless_full(lane: &mut Lane, msg: Msg) -> bool {
 fn is_reset_lane() -> bool {
     let mut lane = Lane::new(3);
     let has_none = lane.current().is_none()
-        && lane.judge_take(1, Msg::Abort) == Err(Refusal::Early);
-    lane.send(Msg::Abort);
-    let waits = lane.current() == Some((1, Msg::Abort))
+        && lane.judge_take(1, Msg::Abort(0)) == Err(Refusal::Early);
+    lane.send(Msg::Abort(0));
+    let waits = lane.current() == Some((1, Msg::Abort(0)))
         && lane.judge_take(1, Msg::Ready) == Err(Refusal::Differs)
+        && lane.judge_take(1, Msg::Abort(1)) == Err(Refusal::Differs)
         && lane.judge_clear(1) == Err(Refusal::Early)
-        && lane.judge_take(1, Msg::Abort) == Ok(());
+        && lane.judge_take(1, Msg::Abort(0)) == Ok(());
     lane.take();
-    let is_taken = lane.judge_take(1, Msg::Abort) == Err(Refusal::Old);
+    let is_taken = lane.judge_take(1, Msg::Abort(0)) == Err(Refusal::Old);
     lane.send(Msg::Ready);
-    let waits_for_receipt = is_lane(&lane, (3, 0, 1), &[Msg::Abort, Msg::Ready])
+    let waits_for_receipt = is_lane(&lane, (3, 0, 1), &[Msg::Abort(0), Msg::Ready])
         && lane.transit() == [Msg::Ready].as_slice()
         && lane.judge_take(2, Msg::Ready) == Err(Refusal::Early)
         && lane.judge_clear(1) == Ok(());
@@ -40,7 +41,7 @@ fn is_reset_lane() -> bool {
     let is_cleared = lane.judge_clear(1) == Err(Refusal::Old)
         && lane.current() == Some((2, Msg::Ready))
         && is_lane(&lane, (3, 1, 1), &[Msg::Ready])
-        && is_lane(&before, (3, 0, 1), &[Msg::Abort, Msg::Ready]);
+        && is_lane(&before, (3, 0, 1), &[Msg::Abort(0), Msg::Ready]);
     has_none && waits && is_taken && waits_for_receipt && is_cleared
 }
 
@@ -61,7 +62,7 @@ fn are_restored() -> bool {
 }
 
 fn holds_four() -> bool {
-    let four = [Msg::Abort, Msg::Ack, Msg::Ready, Msg::Abort];
+    let four = [Msg::Abort(0), Msg::Ack, Msg::Ready, Msg::Abort(1)];
     let mut lane = Lane::new(1);
     let mut all_sent = true;
     for msg in four {

@@ -1,5 +1,7 @@
 //! The bytes of a store, and devices that are refused.
 
+ghost use Rattle.std.specs.Prelude.{◌≤◌};
+
 use crate::scripts::{HALF, begun, count_on, created};
 use coord_check::{Letter, Violation};
 use coord_disk::MemDisk;
@@ -9,7 +11,7 @@ use coord_types::NodeId;
 use std::alloc::{AllocError, Global};
 use std::test::Fail;
 
-/// A store that was just made.
+/// A store of version 1 that was just made.
 const CREATED: [u8; 34] = [
     0, 0x41, 0x43, 0x52, 0x52, 0x45, 0x53, 0x45, 0x54, 0, 0, 0, 0, 0, 0, 0x80, 0, 1, 0, 0, 0, 0x0b,
     0, 0, 0, 0, 0, 0, 0, 0, 0, 0, 0, 0,
@@ -21,6 +23,22 @@ const COMMITTED: [u8; 62] = [
     0, 0, 0, 0, 0, 0, 0, 0, 0, 0, 0, 1, 0, 0, 0, 0x17, 0, 0, 0, 0, 0, 0, 0, 1, 0, 1, 0, 1, 0, 0, 0,
     0, 0, 0, 0, 1, 0, 1, 1, 0,
 ];
+
+/// Where a store has its version.
+const VERSION: usize = 17;
+
+/// These bytes of a store in another version.
+fn created_in(version: u8) -> [u8; 34] {
+    let mut bytes = CREATED;
+    bytes[VERSION] = version;
+    bytes
+}
+
+fn committed_in(version: u8) -> [u8; 62] {
+    let mut bytes = COMMITTED;
+    bytes[VERSION] = version;
+    bytes
+}
 
 /// A world in which an Ack is on its way to a node that does not await it.
 const VIOLATED: [u8; 112] = [
@@ -39,18 +57,24 @@ fn told(alloc: Global, bytes: &[u8]) -> Result<Result<u64, StoreFault>, StoreFau
 }
 
 // Whether a store is made of these bytes.
-fn is_created(alloc: Global) -> Result<bool, StoreFault> {
-    Ok(created(alloc)?.into_disk().bytes() == CREATED.as_slice())
+fn is_created(alloc: Global, version: u8) -> Result<bool, StoreFault>
+    requires { (1 ≤ version) × (version ≤ 2) }
+{
+    Ok(created(alloc, version)?.into_disk().bytes() == created_in(version).as_slice())
 }
 
 // Whether a commit leaves these.
-fn is_committed(alloc: Global) -> Result<bool, Fail> {
-    Ok(begun(alloc)?.bytes() == COMMITTED.as_slice())
+fn is_committed(alloc: Global, version: u8) -> Result<bool, Fail>
+    requires { (1 ≤ version) × (version ≤ 2) }
+{
+    Ok(begun(alloc, version)?.bytes() == committed_in(version).as_slice())
 }
 
 #[test]
 fn a_store_is_made_and_committed_to(rt: HostRuntime) -> Result<(), Fail> {
-    assert!(rt; is_created(rt.alloc())? && is_committed(rt.alloc())?);
+    for version in 1..3u8 {
+        assert!(rt; is_created(rt.alloc(), version)? && is_committed(rt.alloc(), version)?);
+    }
     Ok(())
 }
 
@@ -81,28 +105,34 @@ fn a_store_is_made_once_and_not_too_small(rt: HostRuntime) -> Result<(), Fail> {
 
 // The first length at which a device that is cut there is told otherwise: it is refused for its
 // header, and then for its half.
-fn first_wrong_cut(alloc: Global) -> Result<Option<usize>, StoreFault> {
+fn first_wrong_cut(alloc: Global, version: u8) -> Result<Option<usize>, StoreFault> {
+    let bytes = committed_in(version);
     for len in 0..62 {
         let fault = if len < 17 {
             StoreFault::NoMagic
         } else {
             StoreFault::BadRecord
         };
-        if told(alloc, &COMMITTED[..len])? != Err(fault) {
+        if told(alloc, &bytes[..len])? != Err(fault) {
             return Ok(Some(len));
         }
     }
     Ok(None)
 }
 
-// A byte that is put at a place, and what is told of the device then.
-const CHANGED: [(usize, u8, Result<u64, StoreFault>); 10] = [
+// A byte that is put at a place, and what is told of the device then. Its snapshot has no node, and
+// its batch no message, so they are the same in both versions.
+const CHANGED: [(usize, u8, Result<u64, StoreFault>); 14] = [
     (0, 2, Ok(1)),
     (33, 0xff, Ok(1)),
     (33, 0, Ok(0)),
     (0, 1, Err(StoreFault::BadRecord)),
     (61, 1, Err(StoreFault::BadRecord)),
+    (17, 1, Ok(1)),
+    (17, 2, Ok(1)),
+    (17, 0, Err(StoreFault::BadSnapshot)),
     (17, 3, Err(StoreFault::BadSnapshot)),
+    (17, 0xff, Err(StoreFault::BadSnapshot)),
     (45, 2, Err(StoreFault::BadBatch)),
     (47, 2, Err(StoreFault::BadBatch)),
     (60, 0x11, Err(StoreFault::BadBatch)),
@@ -112,10 +142,11 @@ const CHANGED: [(usize, u8, Result<u64, StoreFault>); 10] = [
 // What is told of the device with this byte put there.
 fn told_of_change(
     alloc: Global,
+    version: u8,
     place: usize,
     byte: u8,
 ) -> Result<Result<u64, StoreFault>, StoreFault> {
-    let mut bytes = COMMITTED;
+    let mut bytes = committed_in(version);
     if let Some(old) = bytes.get_mut(place) {
         *old = byte;
     }
@@ -125,10 +156,11 @@ fn told_of_change(
 // The first place at which a change is told otherwise.
 fn first_wrong_change(
     alloc: Global,
+    version: u8,
     changes: &[(usize, u8, Result<u64, StoreFault>)],
 ) -> Result<Option<usize>, StoreFault> {
     for (place, byte, want) in changes {
-        if told_of_change(alloc, *place, *byte)? != *want {
+        if told_of_change(alloc, version, *place, *byte)? != *want {
             return Ok(Some(*place));
         }
     }
@@ -137,12 +169,14 @@ fn first_wrong_change(
 
 #[test]
 fn cut_and_changed_devices_are_told(rt: HostRuntime) -> Result<(), Fail> {
-    let cut = first_wrong_cut(rt.alloc())?;
-    let changed = first_wrong_change(rt.alloc(), &CHANGED)?;
-    assert!(rt;
-        cut.is_none() && changed.is_none(),
-        "cut at {cut:?}, changed at {changed:?}"
-    );
+    for version in 1..3u8 {
+        let cut = first_wrong_cut(rt.alloc(), version)?;
+        let changed = first_wrong_change(rt.alloc(), version, &CHANGED)?;
+        assert!(rt;
+            cut.is_none() && changed.is_none(),
+            "cut at {cut:?}, changed at {changed:?}"
+        );
+    }
     Ok(())
 }
 

@@ -39,7 +39,7 @@ fn reset(alloc: Global, disk: MemDisk, first: u64, count: u64) -> Result<(bool, 
 
 // Whether each row of resets leaves its half selected, and the store holds all steps in the end.
 fn fills_both_halves(alloc: Global) -> Result<bool, Fail> {
-    let mut disk = begun(alloc)?;
+    let mut disk = begun(alloc, 1)?;
     let mut are_turned = true;
     for (first, count, half) in &RESETS {
         let (are_fresh, after) = reset(alloc, disk, *first, *count)?;
@@ -60,7 +60,7 @@ fn is_reset(store: &Store<MemDisk>) -> bool {
 
 // How long a body still fits, when the store is made.
 fn room(alloc: Global) -> Result<u64, Fail> {
-    let disk = created(alloc)?.into_disk();
+    let disk = created(alloc, 1)?.into_disk();
     match open(alloc, disk) {
         Ok((journal, _contents)) => Ok(journal.room()),
         Err((fault, _disk)) => Err(fault)?,

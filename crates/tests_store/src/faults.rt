@@ -1,7 +1,9 @@
 //! What a device that stops or fails once leaves of a run of thirteen commits, of which the
 //! twelfth makes a checkpoint.
 
-use crate::scripts::{adding, choice, commits, count_on, created, opened, resets};
+ghost use Rattle.std.specs.Prelude.{◌≤◌};
+
+use crate::scripts::{adding, choice, commits, count_on, created, opened, resets, told_on};
 use coord_disk::{BlipDisk, CrashDisk, Disk, FuseDisk, MemDisk};
 use coord_store::{CommitFault, Store, StoreFault};
 use std::alloc::Global;
@@ -28,16 +30,18 @@ fn run<D: Disk>(alloc: Global, store: &mut Store<D>) -> Result<bool, CommitFault
     Ok(true)
 }
 
-// A device with a store of no steps, and what its next crash leaves.
-fn fresh(alloc: Global, which: usize) -> Result<MemDisk, StoreFault> {
-    let mut disk = created(alloc)?.into_disk();
+// A device with a store of this version and no steps, and what its next crash leaves.
+fn fresh(alloc: Global, version: u8, which: usize) -> Result<MemDisk, StoreFault>
+    requires { (1 ≤ version) × (version ≤ 2) }
+{
+    let mut disk = created(alloc, version)?.into_disk();
     disk.choose(choice(alloc, which)?);
     Ok(disk)
 }
 
-// How many steps are there after a crash.
-fn left(alloc: Global, disk: MemDisk) -> Result<u64, StoreFault> {
-    count_on(alloc, disk.crash())
+// The version, and how many steps are there, after a crash.
+fn left(alloc: Global, disk: MemDisk) -> Result<(u8, u64), StoreFault> {
+    told_on(alloc, disk.crash())
 }
 
 // How many steps there are, where so many calls were passed. A crash that loses what is not
@@ -59,8 +63,10 @@ fn count(calls: u64, which: usize) -> u64 {
 }
 
 // Whether the device that stops after so many calls leaves these steps.
-fn is_left_by_fuse(alloc: Global, calls: u64, which: usize) -> Result<bool, StoreFault> {
-    let disk = FuseDisk::new(fresh(alloc, which)?, calls.saturating_add(OPENING));
+fn is_left_by_fuse(alloc: Global, version: u8, calls: u64, which: usize) -> Result<bool, StoreFault>
+    requires { (1 ≤ version) × (version ≤ 2) }
+{
+    let disk = FuseDisk::new(fresh(alloc, version, which)?, calls.saturating_add(OPENING));
     let mut store = opened(alloc, disk)?;
     let answer = run(alloc, &mut store);
     let has_stopped = store.stopped();
@@ -71,7 +77,7 @@ fn is_left_by_fuse(alloc: Global, calls: u64, which: usize) -> Result<bool, Stor
         is_told(answer, is_reached)?
             && is_reached == (calls < CALLS)
             && has_stopped == is_reached
-            && steps == count(calls, which),
+            && steps == (version, count(calls, which)),
     )
 }
 
@@ -88,8 +94,10 @@ fn is_told(answer: Result<bool, CommitFault>, is_made: bool) -> Result<bool, Sto
 }
 
 // The same where one call fails. Nothing is written after it.
-fn is_left_by_blip(alloc: Global, call: u64, which: usize) -> Result<bool, StoreFault> {
-    let disk = BlipDisk::new(fresh(alloc, which)?, call.saturating_add(OPENING));
+fn is_left_by_blip(alloc: Global, version: u8, call: u64, which: usize) -> Result<bool, StoreFault>
+    requires { (1 ≤ version) × (version ≤ 2) }
+{
+    let disk = BlipDisk::new(fresh(alloc, version, which)?, call.saturating_add(OPENING));
     let mut store = opened(alloc, disk)?;
     let answer = run(alloc, &mut store);
     let has_stopped = store.stopped();
@@ -101,15 +109,17 @@ fn is_left_by_blip(alloc: Global, call: u64, which: usize) -> Result<bool, Store
         is_told(answer, calls > failed)?
             && has_stopped
             && calls == failed.saturating_add(1)
-            && steps == count(call, which),
+            && steps == (version, count(call, which)),
     )
 }
 
 // The first number of calls and choice for which a stop leaves something else.
-fn first_wrong_stop(alloc: Global) -> Result<Option<(u64, usize)>, StoreFault> {
+fn first_wrong_stop(alloc: Global, version: u8) -> Result<Option<(u64, usize)>, StoreFault>
+    requires { (1 ≤ version) × (version ≤ 2) }
+{
     for calls in 0..57 {
         for which in 0..CHOICES {
-            if !is_left_by_fuse(alloc, calls, which)? {
+            if !is_left_by_fuse(alloc, version, calls, which)? {
                 return Ok(Some((calls, which)));
             }
         }
@@ -119,16 +129,20 @@ fn first_wrong_stop(alloc: Global) -> Result<Option<(u64, usize)>, StoreFault> {
 
 #[test]
 fn a_stop_at_each_call_leaves_what_was_committed(rt: HostRuntime) -> Result<(), Fail> {
-    let wrong = first_wrong_stop(rt.alloc())?;
-    assert!(rt; wrong.is_none(), "{wrong:?}");
+    for version in 1..3u8 {
+        let wrong = first_wrong_stop(rt.alloc(), version)?;
+        assert!(rt; wrong.is_none(), "{wrong:?}");
+    }
     Ok(())
 }
 
 // The first call and choice for which a fault leaves something else.
-fn first_wrong_fault(alloc: Global) -> Result<Option<(u64, usize)>, StoreFault> {
+fn first_wrong_fault(alloc: Global, version: u8) -> Result<Option<(u64, usize)>, StoreFault>
+    requires { (1 ≤ version) × (version ≤ 2) }
+{
     for call in 0..56 {
         for which in 0..CHOICES {
-            if !is_left_by_blip(alloc, call, which)? {
+            if !is_left_by_blip(alloc, version, call, which)? {
                 return Ok(Some((call, which)));
             }
         }
@@ -138,8 +152,10 @@ fn first_wrong_fault(alloc: Global) -> Result<Option<(u64, usize)>, StoreFault> 
 
 #[test]
 fn a_fault_at_each_call_leaves_what_was_committed(rt: HostRuntime) -> Result<(), Fail> {
-    let wrong = first_wrong_fault(rt.alloc())?;
-    assert!(rt; wrong.is_none(), "{wrong:?}");
+    for version in 1..3u8 {
+        let wrong = first_wrong_fault(rt.alloc(), version)?;
+        assert!(rt; wrong.is_none(), "{wrong:?}");
+    }
     Ok(())
 }
 
@@ -164,7 +180,7 @@ fn opens_after_each_blip(alloc: Global, bytes: &[u8]) -> Result<bool, StoreFault
 
 // Whether it is so of the device that the run leaves.
 fn is_opened_again(alloc: Global) -> Result<bool, StoreFault> {
-    let mut store = opened(alloc, fresh(alloc, 0)?)?;
+    let mut store = opened(alloc, fresh(alloc, 1, 0)?)?;
     let answer = run(alloc, &mut store);
     let disk = store.into_disk();
     let opens = opens_after_each_blip(alloc, disk.bytes());

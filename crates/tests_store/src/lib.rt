@@ -8,4 +8,8 @@ mod checkpoints;
 #[cfg(test)]
 mod faults;
 #[cfg(test)]
+mod longest_world;
+#[cfg(test)]
+mod migration;
+#[cfg(test)]
 mod scripts;

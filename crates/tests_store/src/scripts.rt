@@ -16,9 +16,11 @@ use std::test::Fail;
 /// The least size of a half.
 pub(crate) const HALF: u64 = 32_768;
 
-/// A store that was just made in memory, with halves of the least size.
-pub(crate) fn created(alloc: Global) -> Result<Store<MemDisk>, StoreFault> {
-    match Store::create(alloc, MemDisk::new(alloc), HALF, 1) {
+/// A store of this version that was just made in memory, with halves of the least size.
+pub(crate) fn created(alloc: Global, version: u8) -> Result<Store<MemDisk>, StoreFault>
+    requires { (1 ≤ version) × (version ≤ 2) }
+{
+    match Store::create(alloc, MemDisk::new(alloc), HALF, version) {
         Ok(store) => Ok(store),
         Err((fault, _disk)) => Err(fault),
     }
@@ -37,9 +39,17 @@ pub(crate) fn count_on<D: Disk>(alloc: Global, disk: D) -> Result<u64, StoreFaul
     Ok(opened(alloc, disk)?.world().count())
 }
 
-/// A device with a store in which node 1 was added.
-pub(crate) fn begun(alloc: Global) -> Result<MemDisk, Fail> {
-    let mut store = created(alloc)?;
+/// The version of the store on a device, and how many steps it holds.
+pub(crate) fn told_on<D: Disk>(alloc: Global, disk: D) -> Result<(u8, u64), StoreFault> {
+    let store = opened(alloc, disk)?;
+    Ok((store.world().version().number(), store.world().count()))
+}
+
+/// A device with a store of this version in which node 1 was added.
+pub(crate) fn begun(alloc: Global, version: u8) -> Result<MemDisk, Fail>
+    requires { (1 ≤ version) × (version ≤ 2) }
+{
+    let mut store = created(alloc, version)?;
     let is_fresh = commits(&mut store, &[adding()]);
     let disk = store.into_disk();
     if is_fresh? {
@@ -65,7 +75,8 @@ pub(crate) fn resetting(number: u64) -> Step
     order(number, &Command::Reset(NodeId::new(1).unwrap()))
 }
 
-fn order(number: u64, command: &Command) -> Step
+/// An order of client 1 with this number.
+pub(crate) fn order(number: u64, command: &Command) -> Step
     requires { 1 ≤ number }
     ensures { IsNumbered result }
 {

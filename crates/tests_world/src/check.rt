@@ -6,7 +6,7 @@ ghost use Rattle.coord_world.specs.protocol.Legal.{Legal};
 
 use coord_check::{Letter, Violation, check};
 use coord_codec::read_world;
-use coord_types::{Client, Command, DataPacket, Group, Msg, NodeId, Step};
+use coord_types::{Client, Command, DataPacket, Group, Msg, NodeId, Step, Version};
 use coord_world::{Verdict, World};
 use std::alloc::{AllocError, Global};
 use std::test::Fail;
@@ -41,8 +41,9 @@ fn all_stay_legal(world: &mut World, steps: &[Step]) -> Result<bool, AllocError>
     Ok(are_legal)
 }
 
-/// Two nodes that are linked, one that is reset, and the other one that takes its Abort.
-fn steps_of_a_reset() -> [Step; 5] {
+/// Two nodes that are linked, one that is reset, and the other one that takes its Abort with this
+/// distance.
+fn steps_of_a_reset(distance: u64) -> [Step; 5] {
     let client = Client::new(1).unwrap();
     let group = Group::new(1).unwrap();
     let (one, two) = (id(1), id(2));
@@ -56,22 +57,24 @@ fn steps_of_a_reset() -> [Step; 5] {
             to: two,
             inc: 3,
             number: 1,
-            msg: Msg::Abort,
+            msg: Msg::Abort(distance),
         }),
     ]
 }
 
-fn reset_has_no_fault(alloc: Global) -> Result<bool, AllocError> {
-    let mut world = World::empty(alloc);
+fn reset_has_no_fault(alloc: Global, version: Version, distance: u64) -> Result<bool, AllocError> {
+    let mut world = World::empty(alloc, version);
     let is_legal_at_first = check(&world).is_none();
-    let stays_legal = all_stay_legal(&mut world, &steps_of_a_reset());
+    let stays_legal = all_stay_legal(&mut world, &steps_of_a_reset(distance));
     drop(world);
     Ok(is_legal_at_first && stays_legal?)
 }
 
 #[test]
 fn a_reset_has_no_fault(rt: HostRuntime) -> Result<(), Fail> {
-    assert!(rt; reset_has_no_fault(rt.alloc())?);
+    let (first, second) = (Version::new(1).unwrap(), Version::new(2).unwrap());
+    let has_none = reset_has_no_fault(rt.alloc(), first, 0)?;
+    assert!(rt; has_none && reset_has_no_fault(rt.alloc(), second, 1)?);
     Ok(())
 }
 
@@ -96,26 +99,26 @@ fn bytes_of(alloc: Global, text: &str) -> Result<Vec<u8>, AllocError> {
     Ok(bytes)
 }
 
-/// What the checker says of the world with these bytes.
-fn fault_of(alloc: Global, world: &str) -> Result<Option<Violation>, Fail> {
+/// What the checker says of the world of this version with these bytes.
+fn fault_of(alloc: Global, version: u8, world: &str) -> Result<Option<Violation>, Fail> {
     let bytes = bytes_of(alloc, world)?;
-    Ok(check(&read_world(alloc, 1, bytes.as_slice())?))
+    Ok(check(&read_world(alloc, version, bytes.as_slice())?))
 }
 
 /// Whether it is this line.
-fn is_told(alloc: Global, world: &str, line: &str) -> Result<bool, Fail> {
-    match fault_of(alloc, world)? {
+fn is_told(alloc: Global, version: u8, world: &str, line: &str) -> Result<bool, Fail> {
+    match fault_of(alloc, version, world)? {
         None => Ok(line == "legal"),
         Some(fault) => Ok(format!(in alloc; "{fault}")?.as_str() == line),
     }
 }
 
 // Worlds of two linked nodes after three steps: their count, then of each node its number, group,
-// mode, parent, whom it awaits, and its epochs, then the link with its lanes, each with what is
-// receipted, what was taken, and its queue.
+// mode, parent, whom it awaits, its epochs, and in version 2 its distance, then the link with its
+// lanes, each with what is receipted, what was taken, and its queue.
 
-// What is told of each.
-const TOLD: [(&str, &str); 9] = [
+// What is told of each in version 1.
+const TOLD: [(&str, &str); 10] = [
     // an unsound node: node 2 is Abort and awaits nobody
     (
         "2 2 N",
@@ -211,17 +214,111 @@ const TOLD: [(&str, &str); 9] = [
         0000000000000000 0000000000000000 01 01
         0000000000000000 0000000000000000 00 00",
     ),
+    // three nodes, each the parent of the next, round in a circle: each awaits the next one for ever
+    (
+        "legal",
+        "0000000000000006 03
+        01 01 01 03 0000000000000002 0000000000000000 0000000000000000
+        02 01 01 01 0000000000000004 0000000000000000 0000000000000000
+        03 01 01 02 0000000000000001 0000000000000000 0000000000000000
+        03
+        01 02 0000000000000004
+        0000000000000000 0000000000000000 00
+        0000000000000000 0000000000000000 00
+        01 03 0000000000000005
+        0000000000000000 0000000000000000 00
+        0000000000000000 0000000000000000 00
+        02 03 0000000000000006
+        0000000000000000 0000000000000000 00
+        0000000000000000 0000000000000000 00 00",
+    ),
+];
+
+// What is told of worlds of version 2.
+const TOLD_OF_DISTANCES: [(&str, &str); 6] = [
+    // an Abort from distance 0 that carries 2
+    (
+        "1 2 H",
+        "0000000000000004 02
+        01 01 01 00 0000000000000002 0000000000000000 0000000000000000 0000000000000000
+        02 01 00 00 0000000000000000 0000000000000000 0000000000000000 0000000000000000
+        01 01 02 0000000000000003
+        0000000000000000 0000000000000000 01 00 0000000000000002
+        0000000000000000 0000000000000000 00 00",
+    ),
+    // 1 is right
+    (
+        "legal",
+        "0000000000000004 02
+        01 01 01 00 0000000000000002 0000000000000000 0000000000000000 0000000000000000
+        02 01 00 00 0000000000000000 0000000000000000 0000000000000000 0000000000000000
+        01 01 02 0000000000000003
+        0000000000000000 0000000000000000 01 00 0000000000000001
+        0000000000000000 0000000000000000 00 00",
+    ),
+    // a child of node 1 at distance 2, which has acknowledged
+    (
+        "1 2 H",
+        "0000000000000004 02
+        01 01 01 00 0000000000000002 0000000000000000 0000000000000000 0000000000000000
+        02 01 02 01 0000000000000000 0000000000000000 0000000000000000 0000000000000002
+        01 01 02 0000000000000003
+        0000000000000000 0000000000000000 00
+        0000000000000000 0000000000000000 01 01 00",
+    ),
+    // a Ready to it is on the way, and it may be anywhere
+    (
+        "legal",
+        "0000000000000004 02
+        01 01 00 00 0000000000000000 0000000000000001 0000000000000000 0000000000000000
+        02 01 02 01 0000000000000000 0000000000000000 0000000000000000 0000000000000002
+        01 01 02 0000000000000003
+        0000000000000000 0000000000000000 01 02
+        0000000000000000 0000000000000000 00 00",
+    ),
+    // a node in a reset at the distance of the count
+    (
+        "2 2 N",
+        "0000000000000004 02
+        01 01 01 00 0000000000000002 0000000000000000 0000000000000000 0000000000000000
+        02 01 02 01 0000000000000000 0000000000000000 0000000000000000 0000000000000004
+        01 01 02 0000000000000003
+        0000000000000000 0000000000000000 00
+        0000000000000000 0000000000000000 01 01 00",
+    ),
+    // the circle of three nodes: the distance rises from 1 to 2 and from 2 to 3, and not from 3 to 1
+    (
+        "3 1 H",
+        "0000000000000006 03
+        01 01 01 03 0000000000000002 0000000000000000 0000000000000000 0000000000000000
+        02 01 01 01 0000000000000004 0000000000000000 0000000000000000 0000000000000001
+        03 01 01 02 0000000000000001 0000000000000000 0000000000000000 0000000000000002
+        03
+        01 02 0000000000000004
+        0000000000000000 0000000000000000 00
+        0000000000000000 0000000000000000 00
+        01 03 0000000000000005
+        0000000000000000 0000000000000000 00
+        0000000000000000 0000000000000000 00
+        02 03 0000000000000006
+        0000000000000000 0000000000000000 00
+        0000000000000000 0000000000000000 00 00",
+    ),
 ];
 
 /// They stand behind a call, so that a proof about the walk over them does not carry their texts.
-fn told() -> &'static [(&'static str, &'static str)] {
-    &TOLD
+fn told(version: u8) -> &'static [(&'static str, &'static str)] {
+    if version == 1 {
+        &TOLD
+    } else {
+        &TOLD_OF_DISTANCES
+    }
 }
 
 /// What is to be told of the first world of which something else is.
-fn first_wrong(alloc: Global) -> Result<Option<&'static str>, Fail> {
-    for (line, world) in told() {
-        if !is_told(alloc, world, line)? {
+fn first_wrong(alloc: Global, version: u8) -> Result<Option<&'static str>, Fail> {
+    for (line, world) in told(version) {
+        if !is_told(alloc, version, world, line)? {
             return Ok(Some(*line));
         }
     }
@@ -230,8 +327,10 @@ fn first_wrong(alloc: Global) -> Result<Option<&'static str>, Fail> {
 
 #[test]
 fn each_letter_is_told(rt: HostRuntime) -> Result<(), Fail> {
-    let wrong = first_wrong(rt.alloc())?;
-    assert!(rt; wrong.is_none(), "{wrong:?}");
+    for version in 1..3u8 {
+        let wrong = first_wrong(rt.alloc(), version)?;
+        assert!(rt; wrong.is_none(), "{wrong:?}");
+    }
     Ok(())
 }
 

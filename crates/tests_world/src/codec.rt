@@ -43,24 +43,31 @@ fn finds(
 }
 
 // Whether the change of these bytes is found.
-fn is_found(alloc: Global, form: Form, bytes: &[u8], change: &Change) -> Result<bool, AllocError> {
+fn is_found(
+    alloc: Global,
+    form: Form,
+    version: u8,
+    bytes: &[u8],
+    change: &Change,
+) -> Result<bool, AllocError> {
     let Change(place, byte, kind, at) = *change;
     let mut bytes = bytes.to_vec(alloc)?;
     if let Some(old) = bytes.get_mut(place) {
         *old = byte;
     }
-    finds(alloc, form, 1, &bytes, CodecFault { kind, at })
+    finds(alloc, form, version, &bytes, CodecFault { kind, at })
 }
 
 // The place of the first change that is not found, if there is one.
 fn missed(
     alloc: Global,
     form: Form,
+    version: u8,
     bytes: &[u8],
     changes: &[Change],
 ) -> Result<Option<usize>, AllocError> {
     for change in changes {
-        if !is_found(alloc, form, bytes, change)? {
+        if !is_found(alloc, form, version, bytes, change)? {
             return Ok(Some(change.0));
         }
     }
@@ -68,10 +75,15 @@ fn missed(
 }
 
 // Whether these bytes are found to be too short wherever they are cut.
-fn are_short_when_cut(alloc: Global, form: Form, bytes: &[u8]) -> Result<bool, AllocError> {
+fn are_short_when_cut(
+    alloc: Global,
+    form: Form,
+    version: u8,
+    bytes: &[u8],
+) -> Result<bool, AllocError> {
     for at in 0..bytes.len() {
         let kind = FaultKind::Short;
-        if !finds(alloc, form, 1, &bytes[..at], CodecFault { kind, at })? {
+        if !finds(alloc, form, version, &bytes[..at], CodecFault { kind, at })? {
             return Ok(false);
         }
     }
@@ -79,23 +91,28 @@ fn are_short_when_cut(alloc: Global, form: Form, bytes: &[u8]) -> Result<bool, A
 }
 
 // Whether these bytes are found to be too long with one behind them.
-fn are_long_with_one_more(alloc: Global, form: Form, bytes: &[u8]) -> Result<bool, AllocError> {
+fn are_long_with_one_more(
+    alloc: Global,
+    form: Form,
+    version: u8,
+    bytes: &[u8],
+) -> Result<bool, AllocError> {
     let fault = CodecFault {
         kind: FaultKind::Extra,
         at: bytes.len(),
     };
     let mut bytes = bytes.to_vec(alloc)?;
     bytes.push(0)?;
-    finds(alloc, form, 1, &bytes, fault)
+    finds(alloc, form, version, &bytes, fault)
 }
 
-// Whether these bytes are read in version 1 alone.
-fn have_one_version(alloc: Global, form: Form, bytes: &[u8]) -> Result<bool, AllocError> {
+// Whether these bytes are read in no version but 1 and 2.
+fn have_no_other_version(alloc: Global, form: Form, bytes: &[u8]) -> Result<bool, AllocError> {
     let fault = CodecFault {
         kind: FaultKind::BadVersion,
         at: 0,
     };
-    for version in [0, 2, 3, 255] {
+    for version in [0, 3, 4, 255] {
         if !finds(alloc, form, version, bytes, fault)? {
             return Ok(false);
         }
@@ -103,22 +120,23 @@ fn have_one_version(alloc: Global, form: Form, bytes: &[u8]) -> Result<bool, All
     Ok(true)
 }
 
-// Whether these bytes are read in version 1 alone, and with no byte less and none more.
-fn is_of_one_length_and_version(
+// Whether these bytes are read in no other version, and in this one with no byte less and none more.
+fn is_of_one_length(
     alloc: Global,
     form: Form,
+    version: u8,
     bytes: &[u8],
 ) -> Result<bool, AllocError> {
     Ok(
-        are_short_when_cut(alloc, form, bytes)?
-            && are_long_with_one_more(alloc, form, bytes)?
-            && have_one_version(alloc, form, bytes)?,
+        are_short_when_cut(alloc, form, version, bytes)?
+            && are_long_with_one_more(alloc, form, version, bytes)?
+            && have_no_other_version(alloc, form, bytes)?,
     )
 }
 
 // Whether these bytes spell a world, and it is written as these bytes.
-fn spells_world(alloc: Global, bytes: &[u8]) -> Result<bool, AllocError> {
-    match read_world(alloc, 1, bytes) {
+fn spells_world(alloc: Global, version: u8, bytes: &[u8]) -> Result<bool, AllocError> {
+    match read_world(alloc, version, bytes) {
         Ok(world) => Ok(write_world(alloc, &world)?.as_slice() == bytes),
         Err(fault) if fault.kind == FaultKind::OutOfMemory => Err(AllocError),
         Err(_) => Ok(false),

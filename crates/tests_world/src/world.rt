@@ -1,14 +1,14 @@
 //! Tests of coord_world: a reset as a caller sees it, a world put together again from its rows,
 //! and the limits on steps and links.
 
-ghost use Rattle.std.specs.Prelude.{◌≤◌, IfOk};
+ghost use Rattle.std.specs.Prelude.{◌≡◌, ◌≤◌, IfOk};
 ghost use Rattle.coord_world.specs.protocol.Legal.{Legal};
 
 use coord_link::Lane;
 use coord_node::Node;
 use coord_types::{
     Client, Command, DataPacket, Group, Kind, Mode, Msg, NodeId, Output, ReceiptPacket, Refusal,
-    Reply, Session, Step,
+    Reply, Session, Step, Version,
 };
 use coord_world::{Parts, Verdict, World};
 use std::alloc::{AllocError, Global};
@@ -27,6 +27,12 @@ fn client() -> Client {
 
 fn group() -> Group {
     Group::new(1).unwrap()
+}
+
+fn version() -> Version
+    ensures { result ≡ 1 }
+{
+    Version::new(1).unwrap()
 }
 
 /// Client 1's order with this number.
@@ -99,7 +105,7 @@ fn ask(world: &mut World) -> Result<(), AllocError>
 fn asked(alloc: Global) -> Result<World, AllocError>
     ensures { IfOk result Legal }
 {
-    let mut world = World::empty(alloc);
+    let mut world = World::empty(alloc, version());
     match ask(&mut world) {
         Ok(()) => Ok(world),
         Err(fault) => {
@@ -113,7 +119,7 @@ fn asked(alloc: Global) -> Result<World, AllocError>
 fn is_answered(world: &mut World) -> Result<bool, AllocError>
     requires { Legal world.old }
 {
-    let abort = packet(true, 1, Msg::Abort);
+    let abort = packet(true, 1, Msg::Abort(0));
     let came = Output::Receipted(receipt(abort));
     let answer = Output::Sent(packet(false, 1, Msg::Ack));
     let took = gives(world, &Step::Take(abort), Kind::Taken, &[came, answer])?;
@@ -131,7 +137,7 @@ fn goes_out(alloc: Global) -> Result<bool, AllocError> {
 fn is_finished(world: &mut World) -> Result<bool, AllocError>
     requires { Legal world.old }
 {
-    let abort = packet(true, 1, Msg::Abort);
+    let abort = packet(true, 1, Msg::Abort(0));
     let ack = packet(false, 1, Msg::Ack);
     let _ = takes(world, &Step::Take(abort))?;
     let finished = [Output::Receipted(receipt(ack)), Output::Signalled(id(1), 1)];
@@ -184,7 +190,7 @@ fn is_asked(world: &World) -> bool {
     };
     world.count() == 4
         && awaits(world.node(id(1)), id(2))
-        && holds(world.lane(id(1), id(2)), &[Msg::Abort])
+        && holds(world.lane(id(1), id(2)), &[Msg::Abort(0)])
         && holds(world.lane(id(2), id(1)), &[])
         && world.last(client()) == Some(last)
 }
@@ -194,7 +200,7 @@ fn is_same_at_first(copy: &mut World, world: &World) -> Result<bool, AllocError>
     requires { Legal copy.old }
 {
     let was_same = *copy == *world;
-    let _ = takes(copy, &Step::Take(packet(true, 1, Msg::Abort)))?;
+    let _ = takes(copy, &Step::Take(packet(true, 1, Msg::Abort(0))))?;
     Ok(was_same && *copy != *world)
 }
 
@@ -231,6 +237,7 @@ fn a_world_is_copied_and_comes_back(rt: HostRuntime) -> Result<(), Fail> {
 /// Whether a world without nodes that has taken as many steps as a world can refuses one more.
 fn is_exhausted(alloc: Global) -> Result<bool, Fail> {
     let parts = Parts {
+        version: version(),
         count: 1 << 40,
         nodes: Vec::new(alloc),
         links: Vec::new(alloc),
@@ -282,7 +289,7 @@ fn refuses_a_link(world: &mut World) -> Result<bool, AllocError>
 }
 
 fn is_full(alloc: Global) -> Result<bool, AllocError> {
-    let mut world = World::empty(alloc);
+    let mut world = World::empty(alloc, version());
     let refused = refuses_a_link(&mut world);
     drop(world);
     refused
@@ -291,5 +298,34 @@ fn is_full(alloc: Global) -> Result<bool, AllocError> {
 #[test]
 fn at_most_2_to_the_40_steps_and_128_links(rt: HostRuntime) -> Result<(), Fail> {
     assert!(rt; is_exhausted(rt.alloc())? && is_full(rt.alloc())?);
+    Ok(())
+}
+
+/// Whether a world of version 1 in which every node is Ready becomes one of version 2.
+fn is_raised(world: &World) -> Result<bool, AllocError>
+    requires { Legal world.now }
+{
+    if world.version().number() != 1 || world.first_busy().is_some() {
+        return Ok(false);
+    }
+    let raised = world.raised()?;
+    Ok(raised.version().number() == 2 && raised.count() == world.count())
+}
+
+fn is_empty_world_raised(alloc: Global) -> Result<bool, AllocError> {
+    let world = World::empty(alloc, version());
+    let raised = is_raised(&world);
+    drop(world);
+    raised
+}
+
+/// Whether the node that was asked for a reset is told as busy.
+fn is_told_as_busy(alloc: Global) -> Result<bool, AllocError> {
+    Ok(asked(alloc)?.first_busy() == Some(id(1)))
+}
+
+#[test]
+fn a_quiet_world_is_raised(rt: HostRuntime) -> Result<(), Fail> {
+    assert!(rt; is_empty_world_raised(rt.alloc())? && is_told_as_busy(rt.alloc())?);
     Ok(())
 }

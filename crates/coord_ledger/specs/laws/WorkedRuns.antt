@@ -71,11 +71,11 @@ abbrev pub release : ℕ → Output → Release
 release n o = record { step = n; output = o }
 
 abbrev pub empty : Machine
-empty = adopted no_world
+empty = adopted (no_world 1)
 
 -- two linked nodes, after three steps
 abbrev pub linked : Machine
-linked = adopted (fold no_world two_linked)
+linked = adopted (fold (no_world 1) two_linked)
 
 -- the two of them as they are shown, the first one in this mode
 abbrev pub two_nodes : ℕ → ℕ → Mode → view.Shown
@@ -107,11 +107,11 @@ abbrev pub NotReleased : Type 0
 NotReleased =
     Goes linked
     (
-    mostly (Submit (order 4 (Reset 1))) (Accepted 4) ∷ surely (Submit (take 1 2 3 1 msg.Abort)) (Refused refusal.NotReleased)
-    ∷ mostly Begin (Begun 1) ∷ commits Committed ∷ surely (Submit (take 1 2 3 1 msg.Abort)) (Refused refusal.NotReleased)
-    ∷ mostly Finish (Finished 4) ∷ mostly (Submit (take 1 2 3 1 msg.Abort)) (Accepted 5) ∷ mostly Resend (Resent 1) ∷ []
+    mostly (Submit (order 4 (Reset 1))) (Accepted 4) ∷ surely (Submit (take 1 2 3 1 (msg.Abort 0))) (Refused refusal.NotReleased)
+    ∷ mostly Begin (Begun 1) ∷ commits Committed ∷ surely (Submit (take 1 2 3 1 (msg.Abort 0))) (Refused refusal.NotReleased)
+    ∷ mostly Finish (Finished 4) ∷ mostly (Submit (take 1 2 3 1 (msg.Abort 0))) (Accepted 5) ∷ mostly Resend (Resent 1) ∷ []
     )
-    (release 4 (data_out 1 2 3 1 msg.Abort) ∷ release 0 (data_out 1 2 3 1 msg.Abort) ∷ [])
+    (release 4 (data_out 1 2 3 1 (msg.Abort 0)) ∷ release 0 (data_out 1 2 3 1 (msg.Abort 0)) ∷ [])
 
 -- a flight that found no memory is committed once more, and one that was never committed settles nothing
 abbrev pub TriedAgain : Type 0
@@ -150,7 +150,7 @@ SessionsAfterCrash =
     ∷ surely (Submit (order 4 (Reset 2))) (Refused refusal.NumberReused) ∷ surely (Submit (order 6 (Reset 1))) (Refused refusal.OutOfTurn)
     ∷ surely (Submit (Order 2 1 (Confirm 1 1))) (Refused refusal.BadEpoch) ∷ surely Begin Nothing ∷ []
     )
-    (release 4 (data_out 1 2 3 1 msg.Abort) ∷ [])
+    (release 4 (data_out 1 2 3 1 (msg.Abort 0)) ∷ [])
 
 -- a signal of a flight that a crash kept is not released again
 abbrev pub SignalledBefore : Type 0
@@ -173,4 +173,4 @@ pub record CrashKeepsCommitted : Type 0 where
       ∷ mostly Show (Shown (two_nodes 5 3 mode.Ready)) ∷ opens 4 (4 ∷ []) ∷ surely Finish NoFlight
       ∷ mostly Show (Shown (two_nodes 4 4 mode.Abort)) ∷ mostly Resend (Resent 1) ∷ []
       )
-      (release 0 (data_out 1 2 3 1 msg.Abort) ∷ [])
+      (release 0 (data_out 1 2 3 1 (msg.Abort 0)) ∷ [])

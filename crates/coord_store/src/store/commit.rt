@@ -76,7 +76,12 @@ impl<D: Disk> Store<D> {
         self.world.ranges();
         let mut next = self.world.copy()?;
         take_all(&mut next, steps)?;
-        let body = write_batch(self.alloc, self.world.count() + 1, steps)?;
+        let body = write_batch(
+            self.alloc,
+            self.world.version(),
+            self.world.count() + 1,
+            steps,
+        )?;
         match write(self.alloc, &mut self.journal, &self.world, &body) {
             Ok(()) => {
                 self.world = next;

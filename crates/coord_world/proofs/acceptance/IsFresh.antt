@@ -35,7 +35,7 @@ none_holds v r (t ∷ ts) h = by_test t.0 (λ b. cond b (Err t.1) (refused_or v 
 
 -- the same message is that message
 same_is : (f m : Msg) → same_msg f m ≡ true → f ≡ m
-same_is msg.Abort msg.Abort e = refl
+same_is (msg.Abort k) (msg.Abort d) e = let same : k ≡ d = grind (arith, nat_tests) in ap msg.Abort same
 same_is msg.Ack msg.Ack e = refl
 same_is msg.Ready msg.Ready e = refl
 same_is f m e = cc

@@ -18,25 +18,38 @@ use Rattle.coord_world.proofs.lists.GetAfter.{lane_done, lane_on, lane_left, lan
 abbrev pub AllLanes : (ℕ → ℕ → Lane → Type 0) → World → Type 0
 AllLanes P w = (x y : ℕ) (l : Lane) → get w.lanes (x, y) ≡ Some l → P x y l
 
--- where P holds of a lane before a step, Q holds of what the step makes of the lane
-pub record LaneCarries (P Q : ℕ → ℕ → Lane → Type 0) : Type 0 where
+-- where P holds of a lane before a step that sends such messages, Q holds of what the step makes of the lane
+pub record LaneCarries (M : List Msg → Type 0) (P Q : ℕ → ℕ → Lane → Type 0) : Type 0 where
   pub weaken : (x y : ℕ) (l : Lane) → P x y l → Q x y l
   pub take : (x y : ℕ) (l : Lane) → P x y l → Q x y (took l)
   pub clear : (x y : ℕ) (l : Lane) → P x y l → Q x y (cleared l)
-  pub send : (x y : ℕ) (l : Lane) (ms : List Msg) → Q x y l → Q x y (sent ms l)
+  pub send : (x y : ℕ) (l : Lane) (ms : List Msg) → M ms → Q x y l → Q x y (sent ms l)
 
 -- lanes that a step makes have it too
 abbrev pub Makes : (ℕ → ℕ → Lane → Type 0) → ℕ → Step → Type 0
 Makes Q count (Order c n (Join a b)) = (x y : ℕ) → Q x y (new_lane (count + 1))
 Makes Q count s = Unit {0}
 
-module _ (P Q : ℕ → ℕ → Lane → Type 0) (carries : LaneCarries P Q) where
+-- transitions send such messages
+abbrev pub AllSend : (List Msg → Type 0) → List (ℕ × Transition) → Type 0
+AllSend M [] = Unit {0}
+AllSend M (d ∷ ds) = ((y : ℕ) → M (added d.1 y)) × AllSend M ds
+
+-- any messages
+abbrev pub Any : List Msg → Type 0
+Any ms = Unit {0}
+
+pub all_any : (ds : List (ℕ × Transition)) → AllSend Any ds
+all_any [] = tt
+all_any (d ∷ ds) = (λ y. tt, all_any ds)
+
+module _ (M : List Msg → Type 0) (P Q : ℕ → ℕ → Lane → Type 0) (carries : LaneCarries M P Q) where
   -- messages join lanes
-  all_done : (w : World) (ds : List (ℕ × Transition)) → AllLanes Q w → AllLanes Q (all_applied w ds)
-  all_done w [] all = all
-  all_done w (d ∷ ds) all = all_done (applied w d.0 d.1) ds (λ x y m e.
+  all_done : (w : World) (ds : List (ℕ × Transition)) → AllSend M ds → AllLanes Q w → AllLanes Q (all_applied w ds)
+  all_done w [] sends all = all
+  all_done w (d ∷ ds) sends all = all_done (applied w d.0 d.1) ds sends.1 (λ x y m e.
       each_changed (get w.lanes (x, y)) (λ l. cond (eqb x d.0) (sent (added d.1 y) l) l) (Q x y)
-      (λ l is. by_test (eqb x d.0) (λ b. Q x y (cond b (sent (added d.1 y) l) l)) (λ _. carries.send x y l (added d.1 y) (all x y l is)) (λ _. all x y l is))
+      (λ l is. by_test (eqb x d.0) (λ b. Q x y (cond b (sent (added d.1 y) l) l)) (λ _. carries.send x y l (added d.1 y) (sends.0 y) (all x y l is)) (λ _. all x y l is))
       m (sym (lane_done w d.0 d.1 x y) ∙ e))
 
   module _ (w : World) (before : AllLanes P w) where
@@ -63,7 +76,7 @@ module _ (P Q : ℕ → ℕ → Lane → Type 0) (carries : LaneCarries P Q) whe
     all_prepared (Clear p) makes = on_one p.from p.to cleared carries.clear
 
     -- every lane after a step
-    pub lanes_next : (s : Step) → Makes Q w.count s → AllLanes Q (next w s)
-    lanes_next (Order c n x) makes = all_done (prepared w (Order c n x)) (transitions (state w) (Order c n x)) (all_prepared (Order c n x) makes)
-    lanes_next (Take p) makes = all_done (prepared w (Take p)) (transitions (state w) (Take p)) (all_prepared (Take p) makes)
-    lanes_next (Clear p) makes = all_prepared (Clear p) makes
+    pub lanes_next : (s : Step) → Makes Q w.count s → AllSend M (transitions (state w) s) → AllLanes Q (next w s)
+    lanes_next (Order c n x) makes sends = all_done (prepared w (Order c n x)) (transitions (state w) (Order c n x)) sends (all_prepared (Order c n x) makes)
+    lanes_next (Take p) makes sends = all_done (prepared w (Take p)) (transitions (state w) (Take p)) sends (all_prepared (Take p) makes)
+    lanes_next (Clear p) makes sends = all_prepared (Clear p) makes

@@ -17,7 +17,7 @@ use Rattle.coord_world.proofs.legal.Sound.{Sound}
 -- each message is of one of three kinds
 counted : (ms : List Msg) → length ms ≡ aborts ms + acks ms + readies ms
 counted [] = omega arith
-counted (Abort ∷ ms) = omega (arith, counted ms)
+counted (Abort k ∷ ms) = omega (arith, counted ms)
 counted (Ack ∷ ms) = omega (arith, counted ms)
 counted (Ready ∷ ms) = omega (arith, counted ms)
 
@@ -33,6 +33,21 @@ way_short w u v sound linked =
     let back = sound.links v u (sym (sound.mirrored u v) ∙ near) in
     omega (arith, counted (w.way u v), out.counted, back.counted, out.one_ready, at_most_one (contains (w.state u).pend v), at_most_one (contains (w.state v).pend u))
 
+-- one Abort, by the count of the end that awaits
+pub way_aborts : (w : Ideal) (u v : ℕ) → Sound w → w.linked u v ≡ true → aborts (w.way u v) ≤ 1
+way_aborts w u v sound linked =
+    let near : contains (w.state u).neighbours v ≡ true = sym (sound.linked u v) ∙ linked in
+    omega (arith, (sound.links u v near).counted, at_most_one (contains (w.state u).pend v))
+
+aborts-behind : (q : List Msg) → aborts q ≤ aborts (behind_front q) + 1
+aborts-behind [] = omega arith
+aborts-behind (Abort k ∷ q) = omega arith
+aborts-behind (Ack ∷ q) = omega arith
+aborts-behind (Ready ∷ q) = omega arith
+
+aborts-queue : (l : Lane) → aborts l.queue ≤ aborts (transit l) + 1
+aborts-queue l = grind (arith, nat_tests, aborts-behind l.queue)
+
 -- only the front is left out
 length-behind : (q : List Msg) → length q ≤ length (behind_front q) + 1
 length-behind [] = omega arith
@@ -46,4 +61,5 @@ length-queue l = grind (arith, nat_tests, length-behind l.queue)
 pub lane_short : (w : World) (u v : ℕ) (l : Lane) → Sound (view w) → get w.lanes (u, v) ≡ Some l → IsShort l
 lane_short w u v l sound there =
     let way : length (transit l) ≤ 3 = subst (λ o. length (transit_or_none o) ≤ 3) there (way_short (view w) u v sound (ap is_some there)) in
-    record { on_way = way; queued = omega (arith, length-queue l) }
+    let few : aborts (transit l) ≤ 1 = subst (λ o. aborts (transit_or_none o) ≤ 1) there (way_aborts (view w) u v sound (ap is_some there)) in
+    record { on_way = way; queued = omega (arith, length-queue l); few_aborts = omega (arith, aborts-queue l) }

@@ -1,5 +1,5 @@
 -- The world before any step is legal and in its ranges.
-use Rattle.std.proofs.Common.{◌≡◌, ℕ, false, None, sym, ◌∙◌, ap, arith}
+use Rattle.std.proofs.Common.{◌≡◌, ℕ, ◌≤◌, false, None, sym, ◌∙◌, ap, arith}
 use Rattle.std.specs.Prelude.{is_some}
 use Rattle.std.specs.Cmp.{nat_cmp_total}
 use Rattle.coord_types.specs.NodeSet.{contains}
@@ -11,45 +11,50 @@ use Rattle.coord_world.specs.protocol.Legal.{Legal}
 use Rattle.coord_world.specs.protocol.NumberedWorld.{is_linked, no_world, pair_cmp_total, state_or_none}
 use Rattle.coord_world.specs.protocol.Ranges.{InRange}
 
--- no node
-no_row : (u : ℕ) → get no_world.nodes u ≡ None
-no_row u = get-empty nat_cmp_total u
+module _ (version : ℕ) where
+  -- no node
+  no_row : (u : ℕ) → get (no_world version).nodes u ≡ None
+  no_row u = get-empty nat_cmp_total u
 
--- no lane
-no_lane : (u v : ℕ) → get no_world.lanes (u, v) ≡ None
-no_lane u v = get-empty pair_cmp_total (u, v)
+  -- no lane
+  no_lane : (u v : ℕ) → get (no_world version).lanes (u, v) ≡ None
+  no_lane u v = get-empty pair_cmp_total (u, v)
 
--- no session
-no_session : (c : ℕ) → get no_world.sessions c ≡ None
-no_session c = get-empty nat_cmp_total c
+  -- no session
+  no_session : (c : ℕ) → get (no_world version).sessions c ≡ None
+  no_session c = get-empty nat_cmp_total c
 
--- and so no link
-no_link : (u v : ℕ) → is_linked no_world u v ≡ false
-no_link u v = ap is_some (no_lane u v)
+  -- and so no link
+  no_link : (u v : ℕ) → is_linked (no_world version) u v ≡ false
+  no_link u v = ap is_some (no_lane u v)
 
--- nothing is out of range
-pub no_world_in_range : InRange no_world
-no_world_in_range = record {
-  count = omega arith;
-  nodes = λ u r is. let none = no_row u in cc;
-  lanes = λ u v l is. let none = no_lane u v in cc;
-  short = λ u v l is. let none = no_lane u v in cc;
-  awaited = λ u k awaits. let none = ap (λ o. contains (state_or_none o).pend k) (no_row u) ∙ contains-empty k in cc;
-  parents = λ u p is. let none = ap (λ o. (state_or_none o).parent) (no_row u) in cc;
-  sessions = λ c s is. let none = no_session c in cc;
-  links = omega (arith, len-empty pair_cmp_total Lane);
-  linked = λ u v. no_link u v ∙ sym (contains-empty v) ∙ ap (λ o. contains (state_or_none o).neighbours v) (sym (no_row u));
-  mirrored = λ u v. no_link u v ∙ sym (no_link v u);
-  apart = λ u. no_link u u;
-  ends = λ u v is. let none = no_link u v in cc;
-  one_group = λ u v is. let none = no_link u v in cc;
-  one_incarnation = λ u v l k is back. let none = no_lane u v in cc;
-}
+  -- nothing is out of range
+  pub no_world_in_range : 1 ≤ version → version ≤ 2 → InRange (no_world version)
+  no_world_in_range first last = record {
+    first = first;
+    last = last;
+    distances = λ u r is. let none = no_row u in cc;
+    carried = λ u v l is. let none = no_lane u v in cc;
+    count = omega arith;
+    nodes = λ u r is. let none = no_row u in cc;
+    lanes = λ u v l is. let none = no_lane u v in cc;
+    short = λ u v l is. let none = no_lane u v in cc;
+    awaited = λ u k awaits. let none = ap (λ o. contains (state_or_none o).pend k) (no_row u) ∙ contains-empty k in cc;
+    parents = λ u p is. let none = ap (λ o. (state_or_none o).parent) (no_row u) in cc;
+    sessions = λ c s is. let none = no_session c in cc;
+    links = omega (arith, len-empty pair_cmp_total Lane);
+    linked = λ u v. no_link u v ∙ sym (contains-empty v) ∙ ap (λ o. contains (state_or_none o).neighbours v) (sym (no_row u));
+    mirrored = λ u v. no_link u v ∙ sym (no_link v u);
+    apart = λ u. no_link u u;
+    ends = λ u v is. let none = no_link u v in cc;
+    one_group = λ u v is. let none = no_link u v in cc;
+    one_incarnation = λ u v l k is back. let none = no_lane u v in cc;
+  }
 
--- and nothing illegal
-pub no_world_legal : Legal no_world
-no_world_legal = record {
-  nodes = λ u r is. let none = no_row u in cc;
-  lanes = λ u v l is. let none = no_lane u v in cc;
-  links = λ u v is. let none = no_link u v in cc;
-}
+  -- and nothing illegal
+  pub no_world_legal : Legal (no_world version)
+  no_world_legal = record {
+    nodes = λ u r is. let none = no_row u in cc;
+    lanes = λ u v l is. let none = no_lane u v in cc;
+    links = λ u v is. let none = no_link u v in cc;
+  }

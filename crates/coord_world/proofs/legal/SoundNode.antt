@@ -1,5 +1,5 @@
 -- What the tests of a node say, as facts: the form in which the rules are proved to keep them.
-use Rattle.std.proofs.Common.{◌≡◌, ℕ, ◌≤◌, Bool, true, false, ◌&&◌, ◌||◌, not, List, [], ◌∷◌, Option, Some, None, refl, sym, ap, ◌∙◌, arith}
+use Rattle.std.proofs.Common.{◌≡◌, ℕ, ◌<◌, ◌≤◌, Bool, true, false, ◌&&◌, ◌||◌, not, List, [], ◌∷◌, Option, Some, None, refl, sym, ap, ◌∙◌, arith}
 use Rattle.std.specs.Prelude.{nat_eq, nat_le, ◌==◌}
 use Rattle.std.specs.List.{list_all, list_any}
 use Rattle.std.proofs.lemmas.Bool.Decides.{nat_tests}
@@ -10,8 +10,8 @@ use Rattle.coord_types.specs.declared.messages.Mode.{Mode}
 use Rattle.coord_types.specs.declared.messages.Mode.TheVariants.{Ready, Abort, Converge}
 use Rattle.coord_types.proofs.Sets.{contains-items}
 use Rattle.coord_node.specs.Rules.{is_empty, is_parent}
-use Rattle.coord_world.specs.protocol.Links.{is_abort}
-use Rattle.coord_world.specs.protocol.Legal.{awaits_rightly, has_right_parent, is_parent_near, is_within, is_legal_node}
+use Rattle.coord_world.specs.protocol.Links.{is_abort, is_ready}
+use Rattle.coord_world.specs.protocol.Legal.{awaits_rightly, has_right_parent, is_parent_near, is_within, is_distance_right, is_legal_node}
 use Rattle.coord_tables.proofs.Cases.{both}
 
 -- N by itself: what the rules keep of a node
@@ -28,10 +28,12 @@ pub record SoundNode (r : NodeState) : Type 0 where
   -- it awaits neighbours alone
   pub within : (v : ℕ) → set.contains r.pend v ≡ true → set.contains r.neighbours v ≡ true
 
--- and what is kept of its epochs, in a world of so many steps
+-- and what is kept of its epochs and its distance, in a world of so many steps
 pub record EpochsFit (count : ℕ) (r : NodeState) : Type 0 where
   pub confirmed : r.confirmed ≤ r.epoch
   pub entered : r.epoch ≤ count
+  pub ready : r.mode ≡ Ready → r.distance ≡ 0
+  pub within : is_ready r.mode ≡ false → r.distance < count
 
 both_true : (a b : Bool) → a ≡ true → b ≡ true → (a && b) ≡ true
 both_true a b p q = ap (λ c. c && b) p ∙ q
@@ -109,6 +111,17 @@ within_from pend near is v has = all_at (λ u. set.contains near u) (set.items p
 within_to : (pend near : NodeSet) → ((v : ℕ) → set.contains pend v ≡ true → set.contains near v ≡ true) → is_within pend near ≡ true
 within_to pend near each = all_by (λ u. set.contains near u) (set.items pend) (λ v any. each v (contains-items pend v ∙ any))
 
+-- distance
+distance_from : (m : Mode) (d count : ℕ) → is_distance_right m d count ≡ true → (m ≡ Ready → d ≡ 0) × (is_ready m ≡ false → d < count)
+distance_from Ready d count is = (λ h. grind (arith, nat_tests), λ h. cc)
+distance_from Abort d count is = (λ h. cc, λ h. grind (arith, nat_tests))
+distance_from Converge d count is = (λ h. cc, λ h. grind (arith, nat_tests))
+
+distance_to : (m : Mode) (d count : ℕ) → (m ≡ Ready → d ≡ 0) → (is_ready m ≡ false → d < count) → is_distance_right m d count ≡ true
+distance_to Ready d count none some = let zero : d ≡ 0 = none refl in grind (arith, nat_tests)
+distance_to Abort d count none some = let less : d < count = some refl in grind (arith, nat_tests)
+distance_to Converge d count none some = let less : d < count = some refl in grind (arith, nat_tests)
+
 -- each test of a node
 record Tests (count : ℕ) (r : NodeState) : Type 0 where
   awaits : awaits_rightly r.mode r.pend ≡ true
@@ -117,15 +130,17 @@ record Tests (count : ℕ) (r : NodeState) : Type 0 where
   within : is_within r.pend r.neighbours ≡ true
   confirmed : nat_le r.confirmed r.epoch ≡ true
   entered : nat_le r.epoch count ≡ true
+  distance : is_distance_right r.mode r.distance count ≡ true
 
 tests_of : (count : ℕ) (r : NodeState) → is_legal_node count r ≡ true → Tests count r
 tests_of count r is =
-    let five = both _ _ is in
+    let six = both _ _ is in
+    let five = both _ _ six.0 in
     let four = both _ _ five.0 in
     let three = both _ _ four.0 in
     let two = both _ _ three.0 in
     let one = both _ _ two.0 in
-    record { awaits = one.0; parent = one.1; near = two.1; within = three.1; confirmed = four.1; entered = five.1 }
+    record { awaits = one.0; parent = one.1; near = two.1; within = three.1; confirmed = four.1; entered = five.1; distance = six.1 }
 
 -- the facts from the tests
 pub sound_node : (count : ℕ) (r : NodeState) → is_legal_node count r ≡ true → SoundNode r
@@ -146,7 +161,8 @@ epochs_fit count r is =
     let tests = tests_of count r is in
     let confirmed = tests.confirmed in
     let entered = tests.entered in
-    record { confirmed = grind (arith, nat_tests, confirmed); entered = grind (arith, nat_tests, entered) }
+    let far = distance_from r.mode r.distance count tests.distance in
+    record { confirmed = grind (arith, nat_tests, confirmed); entered = grind (arith, nat_tests, entered); ready = far.0; within = far.1 }
 
 -- the tests from the facts
 pub legal_node : (count : ℕ) (r : NodeState) → SoundNode r → EpochsFit count r → is_legal_node count r ≡ true
@@ -155,11 +171,13 @@ legal_node count r sound fit =
     (both_true _ _
     (both_true _ _
     (both_true _ _
+    (both_true _ _
     (both_true _ _ (awaits_to r.mode r.pend sound.awaits sound.quiet) (parent_to r.mode r.parent sound.no_parent sound.has_parent))
     (near_to r.parent r.pend r.neighbours sound.parent_outside sound.parent_near))
     (within_to r.pend r.neighbours sound.within))
     (le_test _ _ fit.confirmed))
-    (le_test _ _ fit.entered)
+    (le_test _ _ fit.entered))
+    (distance_to r.mode r.distance count fit.ready fit.within)
   where
     le_test : (m n : ℕ) → m ≤ n → nat_le m n ≡ true
     le_test m n le = grind (arith, nat_tests)

@@ -31,7 +31,7 @@ same_node r s mode parent pend neighbours node =
 module _ (w : Ideal) (u : ℕ) (r : NodeState) (sound : Sound w) where
   -- a state that changes is a transition that sends nothing
   set_acts : set_state w u r ≡ ideal_applied w u (idle r)
-  set_acts i = record { state = (set_state w u r).state; linked = w.linked; way = λ x y. same x y i }
+  set_acts i = record { version = w.version; state = (set_state w u r).state; linked = w.linked; way = λ x y. same x y i }
     where
       same : (x y : ℕ) → w.way x y ≡ (ideal_applied w u (idle r)).way x y
       same x y = grind (arith, nat_tests, contains-empty y, append-nil (w.way x y))
@@ -46,8 +46,8 @@ module _ (w : Ideal) (u : ℕ) (r : NodeState) (sound : Sound w) where
       nothing y = grind (arith, contains-empty y, append-nil (w.way u y))
 
 -- a node as it is added
-pub new_legal : (g : ℕ) → SoundNode (new_node g)
-new_legal g = record {
+pub new_legal : (version g : ℕ) → SoundNode (new_node version g)
+new_legal version g = record {
   awaits = λ e. cc;
   quiet = λ e. grind (arith, nat_tests, len-empty);
   no_parent = λ e. refl;
@@ -64,6 +64,6 @@ module _ (w : Ideal) (u : ℕ) (sound : Sound w) where
       (same_node (w.state u) (record (w.state u) { confirmed = e }) refl refl refl refl (sound.nodes u)) (λ y with_y. refl)
 
   -- a node without neighbours begins anew
-  pub new_kept : (g : ℕ) → is_empty (w.state u).neighbours ≡ true → Sound (set_state w u (new_node g))
-  new_kept g alone = row_kept w u (new_node g) sound (sym (empty_of_len (w.state u).neighbours (grind (arith, nat_tests)))) (new_legal g)
+  pub new_kept : (version g : ℕ) → is_empty (w.state u).neighbours ≡ true → Sound (set_state w u (new_node version g))
+  new_kept version g alone = row_kept w u (new_node version g) sound (sym (empty_of_len (w.state u).neighbours (grind (arith, nat_tests)))) (new_legal version g)
       (λ y with_y. absurd (grind (arith, sound.linked u y, empty_has (w.state u).neighbours y alone)))

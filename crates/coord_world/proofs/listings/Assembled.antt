@@ -16,8 +16,8 @@ use Rattle.coord_types.proofs.Tables.{entries-from_sorted, get-empty, get-from_s
 use Rattle.coord_link.specs.LaneMachine.{Lane}
 use Rattle.coord_world.specs.code.Assembly.{AreNodes, LinksRise, assembled, client_entry, node_entry, state_of}
 use Rattle.coord_world.specs.protocol.NumberedWorld.{is_linked, pair_cmp, pair_cmp_total, state, state_or_none}
-use Rattle.coord_world.specs.protocol.Rows.{by_client, by_id, client_row, goes_up, group_in, link_row, node_row, rows_of, HasEnds, LinkRowFits, NodeRowFits, Rows, RowsFit}
-use Rattle.coord_world.specs.protocol.Ranges.{InRange, IsNode, LaneInRange, NodeInRange, SessionInRange}
+use Rattle.coord_world.specs.protocol.Rows.{by_client, by_id, client_row, goes_up, group_in, link_row, node_row, rows_of, HasEnds, LanesCarryWithin, LinkRowFits, NodeRowFits, RowIsDistant, Rows, RowsFit}
+use Rattle.coord_world.specs.protocol.Ranges.{CarryWithin, InRange, IsDistant, IsNode, LaneInRange, NodeInRange, SessionInRange, farthest}
 use Rattle.coord_world.specs.declared.rows.parts.ClientRow.{ClientRow}
 use Rattle.coord_world.specs.declared.rows.parts.LinkRow.{LinkRow}
 use Rattle.coord_world.specs.declared.rows.parts.NodeRow.{NodeRow}
@@ -29,8 +29,8 @@ use Rattle.coord_world.proofs.legal.SoundView.{at_each}
 
 module _ (rows : Rows) (fit : RowsFit rows) where
   -- entries of nodes and clients rise as their rows do
-  pub nodes_sorted : is_sorted nat_cmp (map (node_entry rows.links) rows.nodes) ≡ true
-  nodes_sorted = sorted-keys nat_cmp (node_entry rows.links) (λ r. (r.id, r)) (λ _. refl) rows.nodes ∙ fit.nodes_rise
+  pub nodes_sorted : is_sorted nat_cmp (map (node_entry rows.version rows.links) rows.nodes) ≡ true
+  nodes_sorted = sorted-keys nat_cmp (node_entry rows.version rows.links) (λ r. (r.id, r)) (λ _. refl) rows.nodes ∙ fit.nodes_rise
 
   pub clients_sorted : is_sorted nat_cmp (map client_entry rows.clients) ≡ true
   clients_sorted = sorted-keys nat_cmp client_entry (λ r. (r.client, r)) (λ _. refl) rows.clients ∙ fit.clients_rise
@@ -43,8 +43,8 @@ module _ (rows : Rows) (fit : RowsFit rows) where
   turned = all_weaker (LinkRowFits rows.count rows.nodes) Turned (λ r fits. fits.turned) rows.links fit.links
 
   -- what the world has
-  get-node : (u : ℕ) → get (assembled rows).nodes u ≡ option_map (state_of rows.links) (find nat_cmp u (by_id rows.nodes))
-  get-node u = get-from_sorted nat_cmp_total (map (node_entry rows.links) rows.nodes) u nodes_sorted ∙ find-values nat_cmp (λ r. r.id) (state_of rows.links) u rows.nodes
+  get-node : (u : ℕ) → get (assembled rows).nodes u ≡ option_map (state_of rows.version rows.links) (find nat_cmp u (by_id rows.nodes))
+  get-node u = get-from_sorted nat_cmp_total (map (node_entry rows.version rows.links) rows.nodes) u nodes_sorted ∙ find-values nat_cmp (λ r. r.id) (state_of rows.version rows.links) u rows.nodes
 
   get-lane : (x y : ℕ) → get (assembled rows).lanes (x, y) ≡ lane_at x y rows.links
   get-lane x y = get-with_links empty rows.links x y turned fit.links_rise ∙ ap (first_or (lane_at x y rows.links)) (get-empty pair_cmp_total (x, y)) ∙ alone (lane_at x y rows.links)
@@ -78,8 +78,8 @@ module _ (rows : Rows) (fit : RowsFit rows) where
   client_fits c s there = found nat_cmp (λ r. r.client) same_number (λ r. SessionInRange rows.count r.client r.session) c rows.clients s fit.clients there
 
   -- what holds of the node of each row holds of each node
-  each_node : (P : NodeState → Type 0) → P (state_or_none None) → ((s : NodeRow) → NodeRowFits rows.count s → P (state_of rows.links s)) → (u : ℕ) → P (state (assembled rows) u)
-  each_node P none some = at_each (assembled rows) P none (λ u r is. each_value (state_of rows.links) P (row_at u) (λ s there. some s (node_fits u s there).0) r (sym (get-node u) ∙ is))
+  each_node : (P : NodeState → Type 0) → P (state_or_none None) → ((s : NodeRow) → NodeRowFits rows.count s → P (state_of rows.version rows.links s)) → (u : ℕ) → P (state (assembled rows) u)
+  each_node P none some = at_each (assembled rows) P none (λ u r is. each_value (state_of rows.version rows.links) P (row_at u) (λ s there. some s (node_fits u s there).0) r (sym (get-node u) ∙ is))
 
   -- the ends of lanes are listed, in one group
   both_listed : (u v : ℕ) → is_some (lane_at u v rows.links) ≡ true → Listed rows.nodes u v
@@ -89,16 +89,16 @@ module _ (rows : Rows) (fit : RowsFit rows) where
   is_linked-lane u v = ap is_some (get-lane u v)
 
   -- a node that is listed in a group
-  known : (o : Option NodeRow) (g : ℕ) → group_in o ≡ Some g → is_some (option_map (state_of rows.links) o) ≡ true
+  known : (o : Option NodeRow) (g : ℕ) → group_in o ≡ Some g → is_some (option_map (state_of rows.version rows.links) o) ≡ true
   known None g is = cc
   known (Some s) g is = refl
 
-  group_known : (o : Option NodeRow) (g : ℕ) → group_in o ≡ Some g → (state_or_none (option_map (state_of rows.links) o)).group ≡ g
+  group_known : (o : Option NodeRow) (g : ℕ) → group_in o ≡ Some g → (state_or_none (option_map (state_of rows.version rows.links) o)).group ≡ g
   group_known None g is = cc
   group_known (Some s) g is = cc
 
   -- the neighbours of a node are those that it has lanes to
-  near_lanes : (u v : ℕ) (o : Option NodeRow) → row_at u ≡ o → is_some (lane_at u v rows.links) ≡ contains (state_or_none (option_map (state_of rows.links) o)).neighbours v
+  near_lanes : (u v : ℕ) (o : Option NodeRow) → row_at u ≡ o → is_some (lane_at u v rows.links) ≡ contains (state_or_none (option_map (state_of rows.version rows.links) o)).neighbours v
   near_lanes u v None none = by_test (is_some (lane_at u v rows.links)) (λ t. is_some (lane_at u v rows.links) ≡ t → t ≡ contains no_node.neighbours v)
       (λ _ is. let listed = both_listed u v is in let unknown = ap group_in none in cc) (λ _ _. sym (contains-empty v)) refl
   near_lanes u v (Some s) there =
@@ -108,8 +108,16 @@ module _ (rows : Rows) (fit : RowsFit rows) where
   -- within its ranges
   pub assembled_in_range : InRange (assembled rows)
   assembled_in_range = record {
+    first = fit.first;
+    last = fit.last;
+    distances = λ u r is. each_value (state_of rows.version rows.links) (IsDistant rows.version rows.count) (row_at u) (λ s there.
+        let far = (found nat_cmp (λ r. r.id) same_number (RowIsDistant rows.version rows.count) u rows.nodes s fit.distances there).0 in
+        record { version = refl; within = far.within; ready = far.ready })
+        r (sym (get-node u) ∙ is);
+    carried = λ u v l is. each_lane (λ k. CarryWithin (farthest rows.version rows.count) k.queue) u v rows.links l
+        (all_weaker (LanesCarryWithin (farthest rows.version rows.count)) (λ r. CarryWithin (farthest rows.version rows.count) r.forth.queue × CarryWithin (farthest rows.version rows.count) r.back.queue) (λ r near. (near.forth, near.back)) rows.links fit.carried) (sym (get-lane u v) ∙ is);
     count = fit.count;
-    nodes = λ u r is. each_value (state_of rows.links) (NodeInRange rows.count u) (row_at u) (λ s there.
+    nodes = λ u r is. each_value (state_of rows.version rows.links) (NodeInRange rows.count u) (row_at u) (λ s there.
         let at = node_fits u s there in
         record {
           least = omega (arith, at.0.least, at.1);
@@ -144,7 +152,7 @@ module _ (rows : Rows) (fit : RowsFit rows) where
   }
 
   -- the rows of nodes and clients come back
-  same_nodes_listed : (rs : List NodeRow) → map node_row (map (node_entry rows.links) rs) ≡ rs
+  same_nodes_listed : (rs : List NodeRow) → map node_row (map (node_entry rows.version rows.links) rs) ≡ rs
   same_nodes_listed [] = refl
   same_nodes_listed (r ∷ rs) = ap (λ l. r ∷ l) (same_nodes_listed rs)
 
@@ -167,6 +175,6 @@ module _ (rows : Rows) (fit : RowsFit rows) where
   -- the rows are those that it was made from
   pub rows_assembled : rows_of (assembled rows) ≡ rows
   rows_assembled =
-      let nodes = ap (map node_row) (entries-from_sorted nat_cmp_total (map (node_entry rows.links) rows.nodes) nodes_sorted) ∙ same_nodes_listed rows.nodes in
+      let nodes = ap (map node_row) (entries-from_sorted nat_cmp_total (map (node_entry rows.version rows.links) rows.nodes) nodes_sorted) ∙ same_nodes_listed rows.nodes in
       let clients = ap (map client_row) (entries-from_sorted nat_cmp_total (map client_entry rows.clients) clients_sorted) ∙ same_clients_listed rows.clients in
-      λ i. record { count = rows.count; nodes = nodes i; links = same_links_listed i; clients = clients i }
+      λ i. record { version = rows.version; count = rows.count; nodes = nodes i; links = same_links_listed i; clients = clients i }

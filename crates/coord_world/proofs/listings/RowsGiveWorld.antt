@@ -1,6 +1,6 @@
 -- Worlds in their ranges with the same rows are equal.
 use Rattle.std.proofs.Common.{◌≡◌, ℕ, true, List, [], ◌∷◌, Option, Some, None, map, cond, ltb, refl, sym, ap, ◌∙◌, subst, arith}
-use Rattle.std.specs.Prelude.{is_some}
+use Rattle.std.specs.Prelude.{is_some, if◌then◌else◌}
 use Rattle.std.specs.FinMap.{nat_cmp-IsAntisymmetric}
 use Rattle.std.specs.FinMap.Entries.{find}
 use Rattle.std.specs.Ordering.{eq_by_cmp, nat_cmp}
@@ -46,14 +46,19 @@ same_lane None (Some k) there same = cc
 same_lane (Some l) None there same = cc
 same_lane (Some l) (Some k) there same = ap Some (same refl)
 
--- two nodes, there or not, whose rows and neighbours are the same
-same_node : (u : ℕ) (o p : Option NodeState) → option_map (λ r. node_row (u, r)) o ≡ option_map (λ r. node_row (u, r)) p → (state_or_none o).neighbours ≡ (state_or_none p).neighbours → o ≡ p
-same_node u None None same near = refl
-same_node u None (Some s) same near = cc
-same_node u (Some r) None same near = cc
-same_node u (Some r) (Some s) same near =
+-- what is changed is there where it was
+some_mapped : {X Y : Type 0} (f : X → Y) (o : Option X) → is_some (option_map f o) ≡ is_some o
+some_mapped f None = refl
+some_mapped f (Some x) = refl
+
+-- two nodes, there or not, whose rows and neighbours are the same, and whose versions are
+same_node : (u : ℕ) (o p : Option NodeState) → option_map (λ r. node_row (u, r)) o ≡ option_map (λ r. node_row (u, r)) p → (state_or_none o).neighbours ≡ (state_or_none p).neighbours → (state_or_none o).version ≡ (state_or_none p).version → o ≡ p
+same_node u None None same near version = refl
+same_node u None (Some s) same near version = cc
+same_node u (Some r) None same near version = cc
+same_node u (Some r) (Some s) same near version =
     let rows : node_row (u, r) ≡ node_row (u, s) = cc in
-    λ i. Some (record { group = (rows i).group; mode = (rows i).mode; parent = (rows i).parent; pend = (rows i).pend; neighbours = near i; epoch = (rows i).epoch; confirmed = (rows i).confirmed })
+    λ i. Some (record { version = version i; group = (rows i).group; mode = (rows i).mode; parent = (rows i).parent; pend = (rows i).pend; neighbours = near i; epoch = (rows i).epoch; confirmed = (rows i).confirmed; distance = (rows i).distance })
 
 -- a node's row by its number
 rows_keyed : (w : World) → entries (change (λ u r. node_row (u, r)) w.nodes) ≡ by_id (map node_row (entries w.nodes))
@@ -96,9 +101,24 @@ module _ (v w : World) (in_v : InRange v) (in_w : InRange w) (same : rows_of v �
   same_neighbours : (u : ℕ) → (state v u).neighbours ≡ (state w u).neighbours
   same_neighbours u = same_nodes _ _ (λ x. sym (in_v.linked u x) ∙ ap is_some (each_lane u x) ∙ in_w.linked u x)
 
+  -- the nodes that are there have the version of their world
+  version_of : (z : World) → InRange z → (u : ℕ) → (state z u).version ≡ (if is_some (get z.nodes u) then z.version else 1)
+  version_of z in_z u = of_option (get z.nodes u) refl
+    where
+      of_option : (o : Option NodeState) → get z.nodes u ≡ o → (state_or_none o).version ≡ (if is_some o then z.version else 1)
+      of_option None is = refl
+      of_option (Some r) is = (in_z.distances u r is).version
+
+  -- a node is listed in both
+  same_there : (u : ℕ) → is_some (get v.nodes u) ≡ is_some (get w.nodes u)
+  same_there u = sym (some_mapped (λ r. node_row (u, r)) (get v.nodes u)) ∙ ap is_some (sym (row_listed v u) ∙ ap (λ rows. find nat_cmp u (by_id rows.nodes)) same ∙ row_listed w u) ∙ some_mapped (λ r. node_row (u, r)) (get w.nodes u)
+
+  same_version : (u : ℕ) → (state v u).version ≡ (state w u).version
+  same_version u = version_of v in_v u ∙ (λ i. if same_there u i then (same i).version else 1) ∙ sym (version_of w in_w u)
+
   -- every node
   each_node : (u : ℕ) → get v.nodes u ≡ get w.nodes u
-  each_node u = same_node u (get v.nodes u) (get w.nodes u) (sym (row_listed v u) ∙ ap (λ rows. find nat_cmp u (by_id rows.nodes)) same ∙ row_listed w u) (same_neighbours u)
+  each_node u = same_node u (get v.nodes u) (get w.nodes u) (sym (row_listed v u) ∙ ap (λ rows. find nat_cmp u (by_id rows.nodes)) same ∙ row_listed w u) (same_neighbours u) (same_version u)
 
   same_sessions : entries v.sessions ≡ entries w.sessions
   same_sessions = sym (same_entry (entries v.sessions)) ∙ ap (λ rows. map (λ r. (r.client, r.session)) rows.clients) same ∙ same_entry (entries w.sessions)
@@ -108,7 +128,7 @@ module _ (v w : World) (in_v : InRange v) (in_w : InRange w) (same : rows_of v �
       let rows = same_table nat_cmp-IsAntisymmetric v.nodes w.nodes each_node in
       let lanes = same_table tied_pair v.lanes w.lanes (λ q. each_lane q.0 q.1) in
       let sessions = same_entries_table v.sessions w.sessions same_sessions in
-      λ i. record { count = (same i).count; nodes = rows i; lanes = lanes i; sessions = sessions i }
+      λ i. record { version = (same i).version; count = (same i).count; nodes = rows i; lanes = lanes i; sessions = sessions i }
 
 -- rows tell worlds apart
 pub rows_give_world : RowsGiveWorld

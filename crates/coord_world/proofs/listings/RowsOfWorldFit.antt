@@ -14,10 +14,12 @@ use Rattle.coord_types.specs.Table.{entries, get, has}
 use Rattle.coord_types.proofs.Sets.{len-empty}
 use Rattle.coord_types.proofs.Tables.{get-entries, option_map}
 use Rattle.coord_link.specs.LaneMachine.{Lane}
-use Rattle.coord_world.specs.laws.Laws.{RowsOfWorldFit}
+use Rattle.coord_world.specs.laws.Laws.{HasFewAborts, RowsHaveFewAborts, RowsOfWorldFit}
+use Rattle.coord_world.specs.protocol.Links.{aborts}
+use Rattle.coord_world.proofs.lanes.IsShort.{lane_short}
 use Rattle.coord_world.specs.protocol.NumberedWorld.{World, is_linked, pair_cmp, pair_cmp_total, state, state_or_none}
-use Rattle.coord_world.specs.protocol.Rows.{by_ends, client_row, degree, goes_up, group_in, group_of, lane_or_none, link_row, node_row, LinkRowFits, NodeRowFits}
-use Rattle.coord_world.specs.protocol.Ranges.{InRange, LaneInRange, SessionInRange}
+use Rattle.coord_world.specs.protocol.Rows.{by_ends, client_row, degree, goes_up, group_in, group_of, lane_or_none, link_row, node_row, LanesCarryWithin, LinkRowFits, NodeRowFits, RowIsDistant}
+use Rattle.coord_world.specs.protocol.Ranges.{CarryWithin, InRange, LaneInRange, SessionInRange, farthest}
 use Rattle.coord_world.specs.declared.rows.parts.LinkRow.{LinkRow}
 use Rattle.coord_tables.proofs.Cases.{by_test, some_value}
 use Rattle.coord_world.proofs.listings.Degree.{HasBoth, IsNear, degree_within, links_within}
@@ -26,7 +28,7 @@ use Rattle.coord_world.proofs.listings.WithLinks.{Turned, find-ups, ups}
 use Rattle.coord_tables.proofs.Found.{same_number, same_pair}
 use Rattle.coord_world.proofs.listings.RowsGiveWorld.{row_listed}
 use Rattle.coord_world.proofs.ranges.EveryNode.{there_is}
-use Rattle.coord_world.proofs.legal.SoundView.{at_each}
+use Rattle.coord_world.proofs.legal.SoundView.{at_each, sound_view}
 use Rattle.coord_tables.proofs.TableEntries.{is_true}
 
 module _ {K X A : Type 0} (R : K → K → Ordering) (made : K × X → A) (key : A → K) (same : (e : K × X) → key (made e) ≡ e.0) where
@@ -69,6 +71,13 @@ module _ (w : World) (range : InRange w) where
   pub nodes_fit : AllByRecursion (NodeRowFits w.count) (map node_row (entries w.nodes))
   nodes_fit = all_mapped node_row (NodeRowFits w.count) (entries w.nodes)
       (each_entry nat_cmp_total same_number (λ e. NodeRowFits w.count (node_row e)) (entries w.nodes) (is_true _ w.nodes.sorted) node_fits)
+
+  -- the distances of nodes
+  pub distances_fit : AllByRecursion (RowIsDistant w.version w.count) (map node_row (entries w.nodes))
+  distances_fit = all_mapped node_row (RowIsDistant w.version w.count) (entries w.nodes)
+      (each_entry nat_cmp_total same_number (λ e. RowIsDistant w.version w.count (node_row e)) (entries w.nodes) (is_true _ w.nodes.sorted) (λ u r found.
+      let far = range.distances u r (get-entries w.nodes u ∙ found) in
+      record { within = far.within; ready = far.ready }))
 
   pub clients_fit : AllByRecursion (λ r. SessionInRange w.count r.client r.session) (map client_row (entries w.sessions))
   clients_fit = all_mapped client_row (λ r. SessionInRange w.count r.client r.session) (entries w.sessions)
@@ -113,6 +122,13 @@ module _ (w : World) (range : InRange w) where
   pub links_fit : AllByRecursion (LinkRowFits w.count (map node_row (entries w.nodes))) (map (link_row w) (ups w))
   links_fit = each_link (LinkRowFits w.count (map node_row (entries w.nodes))) link_fits
 
+  -- and those that lanes carry
+  pub carried_fit : AllByRecursion (LanesCarryWithin (farthest w.version w.count)) (map (link_row w) (ups w))
+  carried_fit = each_link (LanesCarryWithin (farthest w.version w.count)) (λ a b l up there.
+      let back = some_value (get w.lanes (b, a)) (way_back a b l there) in
+      let it : lane_or_none (get w.lanes (b, a)) ≡ back.0 = ap lane_or_none back.1 in
+      record { forth = range.carried a b l there; back = subst (λ k. CarryWithin (farthest w.version w.count) k.queue) (sym it) (range.carried b a back.0 back.1) })
+
   links_turned : AllByRecursion Turned (map (link_row w) (ups w))
   links_turned = all_weaker (LinkRowFits w.count (map node_row (entries w.nodes))) Turned (λ r fits. fits.turned) (map (link_row w) (ups w)) links_fit
 
@@ -141,6 +157,10 @@ module _ (w : World) (range : InRange w) where
 -- all together
 pub rows_of_world_fit : RowsOfWorldFit
 rows_of_world_fit w range = record {
+  first = range.first;
+  last = range.last;
+  distances = distances_fit w range;
+  carried = carried_fit w range;
   count = range.count;
   nodes_rise = sorted_rows nat_cmp node_row (λ r. r.id) (λ e. refl) (entries w.nodes) ∙ is_true _ w.nodes.sorted;
   nodes = nodes_fit w range;
@@ -151,3 +171,13 @@ rows_of_world_fit w range = record {
   clients_rise = sorted_rows nat_cmp client_row (λ r. r.client) (λ e. refl) (entries w.sessions) ∙ is_true _ w.sessions.sorted;
   clients = clients_fit w range;
 }
+
+-- few Aborts stand in the queues of a legal world's rows
+pub rows_have_few_aborts : RowsHaveFewAborts
+rows_have_few_aborts w range legal = each_link w range HasFewAborts (λ a b l up there.
+    let back = some_value (get w.lanes (b, a)) (way_back w range a b l there) in
+    let it : lane_or_none (get w.lanes (b, a)) ≡ back.0 = ap lane_or_none back.1 in
+    record {
+      forth = (lane_short w a b l (sound_view w range legal) there).few_aborts;
+      back = subst (λ k. aborts k.queue ≤ 2) (sym it) (lane_short w b a back.0 (sound_view w range legal) back.1).few_aborts;
+    })

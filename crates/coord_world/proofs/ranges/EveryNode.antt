@@ -15,7 +15,7 @@ use Rattle.coord_node.specs.Rules.{with_neighbour}
 use Rattle.coord_world.specs.protocol.Acceptance.{IsFresh}
 use Rattle.coord_world.specs.protocol.Next.{next}
 use Rattle.coord_world.specs.protocol.NumberedWorld.{World, state, state_or_none}
-use Rattle.coord_world.specs.protocol.Ranges.{InRange}
+use Rattle.coord_world.specs.protocol.Ranges.{InRange, brought}
 use Rattle.coord_world.proofs.transitions.NodeGoesOn.{Goes, goes_deed, goes_lost, goes_request}
 use Rattle.coord_world.proofs.acceptance.IsFresh.{fresh_take}
 use Rattle.coord_tables.proofs.Found.{get-set, get-unset}
@@ -23,10 +23,16 @@ use Rattle.coord_world.proofs.lists.GetAfter.{each_left, each_made}
 use Rattle.coord_world.proofs.acceptance.FreshOrder.{Passes, fresh_order}
 use Rattle.coord_world.proofs.lists.TableLen.{len-remove_le}
 
--- where P holds of a node before a step, Q holds of what the step makes of the node
-pub record Carries (P Q : ℕ → NodeState → Type 0) : Type 0 where
+-- the distance that a step brings to a node
+abbrev pub brought_by : Step → ℕ
+brought_by (Order c n x) = 0
+brought_by (Take p) = brought p.msg
+brought_by (Clear p) = 0
+
+-- where P holds of a node before a step that brings this distance, Q holds of what the step makes of the node
+pub record Carries (n : ℕ) (P Q : ℕ → NodeState → Type 0) : Type 0 where
   pub weaken : (x : ℕ) (r : NodeState) → P x r → Q x r
-  pub goes : (x : ℕ) (r s : NodeState) (near : NodeSet) → P x r → set.len near ≤ set.len r.neighbours → Goes r near s → Q x s
+  pub goes : (x : ℕ) (r s : NodeState) (near : NodeSet) → P x r → set.len near ≤ set.len r.neighbours → Goes r near n s → Q x s
   pub confirm : (x : ℕ) (r : NodeState) (e : ℕ) → P x r → e ≤ r.epoch → Q x (record r { confirmed = e })
   pub widen : (x : ℕ) (r : NodeState) (v : ℕ) → P x r → set.len r.neighbours ≤ 15 → Q x (with_neighbour r v)
 
@@ -35,9 +41,9 @@ abbrev pub AllRows : (ℕ → NodeState → Type 0) → Table nat_cmp_total Node
 AllRows P rows = (x : ℕ) (r : NodeState) → get rows x ≡ Some r → P x r
 
 -- a node that a step adds has it too
-abbrev pub Adds : (ℕ → NodeState → Type 0) → Step → Type 0
-Adds Q (Order c n (Add u g)) = Q u (new_node g)
-Adds Q s = Unit {0}
+abbrev pub Adds : ℕ → (ℕ → NodeState → Type 0) → Step → Type 0
+Adds version Q (Order c n (Add u g)) = Q u (new_node version g)
+Adds version Q s = Unit {0}
 
 -- a node is put
 all_set : (Q : ℕ → NodeState → Type 0) (rows : Table nat_cmp_total NodeState) (u : ℕ) (s : NodeState) → AllRows Q rows → Q u s → AllRows Q (insert rows u s)
@@ -56,7 +62,7 @@ there_is w u known = of_option (get w.nodes u) known
     of_option None e = cc
     of_option (Some r) e = refl
 
-module _ (P Q : ℕ → NodeState → Type 0) (w : World) (carries : Carries P Q) (before : AllRows P w.nodes) where
+module _ (P Q : ℕ → NodeState → Type 0) (w : World) (n : ℕ) (carries : Carries n P Q) (before : AllRows P w.nodes) where
   -- nodes stay
   later : AllRows Q w.nodes
   later x r is = carries.weaken x r (before x r is)
@@ -67,29 +73,33 @@ module _ (P Q : ℕ → NodeState → Type 0) (w : World) (carries : Carries P Q
     here = before u (state w u) (there_is w u known)
 
     -- a transition of it that keeps its neighbours
-    same_near : (s : NodeState) → Goes (state w u) (state w u).neighbours s → Q u s
+    same_near : (s : NodeState) → Goes (state w u) (state w u).neighbours n s → Q u s
     same_near s goes = carries.goes u (state w u) s (state w u).neighbours here (omega arith) goes
 
     -- or that leaves one out
-    less_near : (v : ℕ) (s : NodeState) → Goes (state w u) (set.remove (state w u).neighbours v) s → Q u s
+    less_near : (v : ℕ) (s : NodeState) → Goes (state w u) (set.remove (state w u).neighbours v) n s → Q u s
     less_near v s goes = carries.goes u (state w u) s (set.remove (state w u).neighbours v) here (len-remove_le (state w u).neighbours v) goes
 
+module _ (P Q : ℕ → NodeState → Type 0) (w : World) (before : AllRows P w.nodes) where
   -- by the command
-  ordered_rows : (c n : ℕ) (x : Command) → Passes w x → Adds Q (Order c n x) → AllRows Q (next w (Order c n x)).nodes
-  ordered_rows c n (Add u g) new adds = all_set Q w.nodes u (new_node g) later adds
-  ordered_rows c n (Remove u) removable adds = all_unset Q w.nodes u later
-  ordered_rows c n (Join a b) joinable adds = all_set Q _ b _ (all_set Q w.nodes a _ later (carries.widen a (state w a) b (here a joinable.first) joinable.first_room))
-      (carries.widen b (state w b) a (here b joinable.second) joinable.second_room)
-  ordered_rows c n (Drop a b) droppable adds = all_set Q _ b _ (all_set Q w.nodes a _ later (less_near a droppable.first b _ (goes_lost (state w a) b)))
-      (less_near b droppable.second a _ (goes_lost (state w b) a))
-  ordered_rows c n (Reset u) known adds = all_set Q w.nodes u _ later (same_near u known _ (goes_request (state w u)))
-  ordered_rows c n (Confirm u e) confirmable adds = all_set Q w.nodes u _ later (carries.confirm u (state w u) e (here u confirmable.there) confirmable.entered)
+  ordered_rows : (c n : ℕ) (x : Command) → Carries 0 P Q → Passes w x → Adds w.version Q (Order c n x) → AllRows Q (next w (Order c n x)).nodes
+  ordered_rows c n (Add u g) carries new adds = all_set Q w.nodes u (new_node w.version g) (later P Q w 0 carries before) adds
+  ordered_rows c n (Remove u) carries removable adds = all_unset Q w.nodes u (later P Q w 0 carries before)
+  ordered_rows c n (Join a b) carries joinable adds =
+      all_set Q _ b _ (all_set Q w.nodes a _ (later P Q w 0 carries before) (carries.widen a (state w a) b (here P Q w 0 carries before a joinable.first) joinable.first_room))
+      (carries.widen b (state w b) a (here P Q w 0 carries before b joinable.second) joinable.second_room)
+  ordered_rows c n (Drop a b) carries droppable adds =
+      all_set Q _ b _ (all_set Q w.nodes a _ (later P Q w 0 carries before) (less_near P Q w 0 carries before a droppable.first b _ (goes_lost (state w a) b)))
+      (less_near P Q w 0 carries before b droppable.second a _ (goes_lost (state w b) a))
+  ordered_rows c n (Reset u) carries known adds = all_set Q w.nodes u _ (later P Q w 0 carries before) (same_near P Q w 0 carries before u known _ (goes_request (state w u)))
+  ordered_rows c n (Confirm u e) carries confirmable adds =
+      all_set Q w.nodes u _ (later P Q w 0 carries before) (carries.confirm u (state w u) e (here P Q w 0 carries before u confirmable.there) confirmable.entered)
 
   -- every node after a fresh step
-  pub rows_next : (settled : World) (s : Step) → InRange w → Adds Q s → IsFresh w settled s → AllRows Q (next w s).nodes
-  rows_next settled (Order c n x) range adds fresh = ordered_rows c n x (fresh_order w settled c n x fresh) adds
-  rows_next settled (Take p) range adds fresh =
+  pub rows_next : (settled : World) (s : Step) → Carries (brought_by s) P Q → InRange w → Adds w.version Q s → IsFresh w settled s → AllRows Q (next w s).nodes
+  rows_next settled (Order c n x) carries range adds fresh = ordered_rows c n x carries (fresh_order w settled c n x fresh) adds
+  rows_next settled (Take p) carries range adds fresh =
       let take = fresh_take w settled p fresh in
       let known = range.ends p.to p.from (sym (range.mirrored p.from p.to) ∙ ap is_some take.there) in
-      all_set Q w.nodes p.to _ later (same_near p.to known _ (goes_deed (state w p.to) p.from p.msg))
-  rows_next settled (Clear p) range adds fresh = later
+      all_set Q w.nodes p.to _ (later P Q w (brought p.msg) carries before) (same_near P Q w (brought p.msg) carries before p.to known _ (goes_deed (state w p.to) p.from p.msg))
+  rows_next settled (Clear p) carries range adds fresh = later P Q w 0 carries before

@@ -8,18 +8,19 @@ use Rattle.coord_types.specs.declared.steps.Step.TheVariants.{Order}
 use Rattle.coord_link.specs.LaneMachine.{Lane, new_lane}
 use Rattle.coord_node.specs.IdealRules.{is_link}
 use Rattle.coord_world.specs.protocol.Next.{next, ordered}
-use Rattle.coord_world.specs.protocol.NumberedWorld.{World}
+use Rattle.coord_node.specs.Steps.{transitions}
+use Rattle.coord_world.specs.protocol.NumberedWorld.{World, state}
 use Rattle.coord_world.specs.protocol.Ranges.{InRange, LaneInRange}
-use Rattle.coord_world.proofs.lanes.EveryLane.{AllLanes, LaneCarries, Makes, lanes_next}
+use Rattle.coord_world.proofs.lanes.EveryLane.{AllLanes, Any, LaneCarries, Makes, all_any, lanes_next}
 use Rattle.coord_world.proofs.lists.GetAfter.{lane_made}
 
 -- each change of a lane keeps its ranges, as the count rises
-carries_ranges : (count : ℕ) → LaneCarries (λ x y l. LaneInRange count l) (λ x y l. LaneInRange (count + 1) l)
+carries_ranges : (count : ℕ) → LaneCarries Any (λ x y l. LaneInRange count l) (λ x y l. LaneInRange (count + 1) l)
 carries_ranges count = record {
   weaken = λ x y l within. record { made = within.made; inc = omega (arith, within.inc); base = omega (arith, within.base); got = omega (arith, within.got) };
   take = λ x y l within. record { made = within.made; inc = omega (arith, within.inc); base = omega (arith, within.base); got = omega (arith, within.got) };
   clear = λ x y l within. record { made = within.made; inc = omega (arith, within.inc); base = omega (arith, within.base); got = omega (arith, within.got) };
-  send = λ x y l ms within. record { made = within.made; inc = within.inc; base = within.base; got = within.got };
+  send = λ x y l ms any within. record { made = within.made; inc = within.inc; base = within.base; got = within.got };
 }
 
 -- the number of the step is the incarnation of a new lane
@@ -29,19 +30,19 @@ new_in_range count s = tt
 
 -- each lane keeps its ranges through a step
 pub lane_ranges_next : (w : World) (s : Step) → InRange w → AllLanes (λ x y l. LaneInRange (w.count + 1) l) (next w s)
-lane_ranges_next w s range = lanes_next (λ x y l. LaneInRange w.count l) (λ x y l. LaneInRange (w.count + 1) l) (carries_ranges w.count) w range.lanes s (new_in_range w.count s)
+lane_ranges_next w s range = lanes_next Any (λ x y l. LaneInRange w.count l) (λ x y l. LaneInRange (w.count + 1) l) (carries_ranges w.count) w range.lanes s (new_in_range w.count s) (all_any (transitions (state w) s))
 
 -- a lane was there before, of the same incarnation
 abbrev Stems : World → ℕ → ℕ → Lane → Type 0
 Stems w x y l = (k : Lane) × ((get w.lanes (x, y) ≡ Some k) × (k.inc ≡ l.inc))
 
 -- no change of a lane changes its incarnation
-carries_stems : (w : World) → LaneCarries (λ x y l. get w.lanes (x, y) ≡ Some l) (Stems w)
+carries_stems : (w : World) → LaneCarries Any (λ x y l. get w.lanes (x, y) ≡ Some l) (Stems w)
 carries_stems w = record {
   weaken = λ x y l is. (l, (is, refl));
   take = λ x y l is. (l, (is, refl));
   clear = λ x y l is. (l, (is, refl));
-  send = λ x y l ms stem. stem;
+  send = λ x y l ms any stem. stem;
 }
 
 -- the two lanes of a link
@@ -51,7 +52,7 @@ OneInc w = (u v : ℕ) (l k : Lane) → get w.lanes (u, v) ≡ Some l → get w.
 -- a step that makes no link leaves the incarnations
 of_stems : (w : World) (s : Step) → InRange w → Makes (Stems w) w.count s → OneInc (next w s)
 of_stems w s range makes u v l k out back =
-    let all = lanes_next (λ x y l. get w.lanes (x, y) ≡ Some l) (Stems w) (carries_stems w) w (λ x y l is. is) s makes in
+    let all = lanes_next Any (λ x y l. get w.lanes (x, y) ≡ Some l) (Stems w) (carries_stems w) w (λ x y l is. is) s makes (all_any (transitions (state w) s)) in
     let from = all u v l out in
     let to = all v u k back in
     sym from.1.1 ∙ range.one_incarnation u v from.0 to.0 from.1.0 to.1.0 ∙ to.1.1

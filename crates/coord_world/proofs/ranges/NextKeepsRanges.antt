@@ -16,13 +16,14 @@ use Rattle.coord_world.specs.protocol.Acceptance.{IsFresh}
 use Rattle.coord_world.specs.laws.Laws.{NextKeepsRanges}
 use Rattle.coord_world.specs.protocol.Next.{all_applied, applied, next, on_lane, ordered}
 use Rattle.coord_world.specs.protocol.NumberedWorld.{World, is_linked, state, state_or_none, view}
-use Rattle.coord_world.specs.protocol.Ranges.{InRange, IsNode, NodeInRange}
+use Rattle.coord_world.specs.protocol.Ranges.{CarryWithin, InRange, IsDistant, IsNode, NodeInRange, farthest}
 use Rattle.coord_world.proofs.acceptance.IsFresh.{fresh_count}
 use Rattle.coord_world.proofs.ranges.OneGroup.{OneGroup, group_next}
 use Rattle.coord_world.proofs.ranges.LaneInRange.{inc_next, lane_ranges_next}
 use Rattle.coord_world.proofs.legal.NextKeepsLegal.{sound_after}
 use Rattle.coord_world.proofs.view.ViewOfNext.{view_next}
 use Rattle.coord_world.proofs.ranges.NodeInRange.{nodes_next}
+use Rattle.coord_world.proofs.ranges.Distances.{carried_next, distances_next, same_version}
 use Rattle.coord_world.proofs.acceptance.FreshOrder.{fresh_order}
 use Rattle.coord_world.proofs.lanes.LanePairs.{even_lanes}
 use Rattle.coord_world.proofs.ranges.EveryNode.{AllRows, there_is}
@@ -82,8 +83,12 @@ ranges_next w settled s within range legal fresh =
     let groups : OneGroup (view (next w s)) = subst OneGroup (sym (view_next w settled s legal.lanes fresh)) (group_next w settled (sound_view w range legal) range.one_group s fresh) in
     let nodes = nodes_next w settled s within range fresh in
     record {
+      first = subst (λ v. 1 ≤ v) (sym (same_version w s)) range.first;
+      last = subst (λ v. v ≤ 2) (sym (same_version w s)) range.last;
       count = fresh_count w settled s fresh;
       nodes = nodes;
+      distances = λ u r is. subst (λ v. IsDistant v (w.count + 1) r) (sym (same_version w s)) (distances_next w settled s range fresh u r is);
+      carried = λ u v l is. subst (λ z. CarryWithin (farthest z (w.count + 1)) l.queue) (sym (same_version w s)) (carried_next w settled s range fresh u v l is);
       lanes = lane_ranges_next w s range;
       short = λ u v l is. (lane_short (next w s) u v l sound is).queued;
       awaited = λ u k awaits. near_known (next w s) (w.count + 1) sound nodes u k ((sound.nodes u).within k awaits);

@@ -67,7 +67,7 @@ module _ (w settled : World) (sound : Sound (view w)) (one : OneGroup (view w)) 
   -- linked nodes have one group after a fresh step
   pub group_next : (s : Step) → IsFresh w settled s → OneGroup (ideal_next (view w) s)
   group_next (Order c n (Add u g)) fresh =
-      alone_group (view w) u (new_node g) sound (ap (λ o. is_empty (state_or_none o).neighbours) (fresh_order w settled c n (Add u g) fresh) ∙ new_alone) one
+      alone_group (view w) u (new_node w.version g) sound (ap (λ o. is_empty (state_or_none o).neighbours) (fresh_order w settled c n (Add u g) fresh) ∙ new_alone) one
   group_next (Order c n (Remove u)) fresh = alone_group (view w) u no_node sound (fresh_order w settled c n (Remove u) fresh).alone one
   group_next (Order c n (Join a b)) fresh = join_group (view w) a b (fresh_order w settled c n (Join a b) fresh).one_group one
   group_next (Order c n (Drop a b)) fresh = of_groups (view w) _ (dropped_groups (view w) a b) one

@@ -12,7 +12,8 @@ use Rattle.coord_world.specs.protocol.Next.{on_lane, ordered, applied}
 use Rattle.coord_world.specs.code.Fronts.{AreNumbered}
 use Rattle.coord_world.specs.code.NodeSteps.{CanApply}
 use Rattle.coord_world.specs.code.Ready.{IsReadyFor}
-use Rattle.coord_world.specs.protocol.Ranges.{InRange}
+use Rattle.coord_world.specs.protocol.Ranges.{InRange, brought}
+use Rattle.coord_world.proofs.ranges.Brought.{brought_within, farthest_le}
 use Rattle.coord_world.proofs.acceptance.IsFresh.{fresh_take}
 use Rattle.coord_world.proofs.acceptance.FreshOrder.{fresh_order}
 use Rattle.coord_world.proofs.lanes.PlaceForTransition.{room_take, room_reset, room_drop_first, room_drop_second}
@@ -35,6 +36,13 @@ module _ (w : World) (range : InRange w) where
 
   pub are_numbered : AreNumbered w.lanes
   are_numbered = base_room
+
+-- a packet that is taken brings a distance that can rise by one
+pub near_room : (w : World) (p : DataPacket) → IsReadyFor w (Take p) → brought p.msg < 2 ^ 64 - 1
+near_room w p ready =
+    let near = brought_within w w (Take p) ready.ranges ready.fresh in
+    let count = ready.ranges.count in
+    omega (arith, near, count, farthest_le w.version w.count)
 
 module _ (w : World) (c n : ℕ) where
   pub reset_there : (u : ℕ) → IsReadyFor w (Order c n (Reset u)) → IsSome (get w.nodes u)

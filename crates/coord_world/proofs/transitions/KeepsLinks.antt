@@ -1,5 +1,5 @@
 -- A transition at one node: the state that it leaves is sound, and the node's links stay legal, all but the one at which the transition has its cause.
-use Rattle.std.proofs.Common.{◌≡◌, ◌≢◌, ℕ, Bool, true, false, ◌&&◌, not, [], ◌∷◌, ◌++◌, Option, Some, None, eqb, refl, sym, ap, ◌∙◌, subst, inl, inr, arith}
+use Rattle.std.proofs.Common.{◌≡◌, ◌≢◌, ℕ, ◌+◌, Bool, true, false, ◌&&◌, not, [], ◌∷◌, ◌++◌, Option, Some, None, cond, eqb, refl, sym, ap, ◌∙◌, subst, inl, inr, arith}
 use Rattle.std.proofs.lemmas.List.{append-nil}
 use Rattle.std.proofs.lemmas.Bool.Decides.{nat_tests, eqb_tells}
 use Rattle.coord_types.specs.NodeSet as set
@@ -7,9 +7,9 @@ use Rattle.coord_types.specs.NodeSet.{NodeSet, contains}
 use Rattle.coord_types.specs.NodeState.{NodeState}
 use Rattle.coord_types.specs.declared.messages.Mode.TheVariants.{Ready, Abort, Converge}
 use Rattle.coord_types.specs.declared.messages.Msg.TheVariants as msg
-use Rattle.coord_types.proofs.Sets.{contains-empty}
+use Rattle.coord_types.proofs.Sets.{contains-empty, len-empty}
 use Rattle.coord_node.specs.IdealRules.{added}
-use Rattle.coord_node.specs.Rules.{Transition, answer, finish, idle, is_empty, is_parent, wave_back, wave_on, without, without_parent}
+use Rattle.coord_node.specs.Rules.{Transition, answer, carried, finish, idle, is_empty, is_parent, wave_back, wave_on, without, without_parent}
 use Rattle.coord_world.specs.protocol.Links.{Link, end_of, is_abort, is_ready}
 use Rattle.coord_world.proofs.transitions.LegalBoth.{LegalBoth, finishes, converges_up, converges_far, wave_goes_on}
 use Rattle.coord_world.proofs.transitions.RuleCases.{acked_by, cut_from}
@@ -29,6 +29,8 @@ child_left (Some p) b y = grind (arith, nat_tests)
 -- a state s that is r but for what it says of v, and whose sets fit each other
 pub record Aside (r s : NodeState) (v : ℕ) : Type 0 where
   pub mode : s.mode ≡ r.mode
+  pub distance : s.distance ≡ r.distance
+  pub version : s.version ≡ r.version
   pub awaits : (y : ℕ) → y ≢ v → contains s.pend y ≡ contains r.pend y
   pub child : (y : ℕ) → y ≢ v → is_parent s.parent y ≡ is_parent r.parent y
   pub near : (y : ℕ) → y ≢ v → contains s.neighbours y ≡ contains r.neighbours y
@@ -39,12 +41,14 @@ pub record Aside (r s : NodeState) (v : ℕ) : Type 0 where
 module _ (r : NodeState) (v : ℕ) (node : SoundNode r) where
   -- the state itself
   pub aside_self : Aside r r v
-  aside_self = record { mode = refl; awaits = λ y far. refl; child = λ y far. refl; near = λ y far. refl; parent_outside = node.parent_outside; parent_near = node.parent_near; within = node.within }
+  aside_self = record { mode = refl; distance = refl; version = refl; awaits = λ y far. refl; child = λ y far. refl; near = λ y far. refl; parent_outside = node.parent_outside; parent_near = node.parent_near; within = node.within }
 
   -- when v is awaited no more
   pub aside_acked : Aside r (acked_by r v) v
   aside_acked = record {
     mode = refl;
+    distance = refl;
+    version = refl;
     awaits = λ y far. grind (arith, nat_tests, has_remove r.pend v y);
     child = λ y far. refl;
     near = λ y far. refl;
@@ -57,6 +61,8 @@ module _ (r : NodeState) (v : ℕ) (node : SoundNode r) where
   pub aside_lost : Aside r (cut_from r v) v
   aside_lost = record {
     mode = refl;
+    distance = refl;
+    version = refl;
     awaits = λ y far. grind (arith, nat_tests, has_remove r.pend v y);
     child = λ y far. grind (arith, nat_tests, child_left r.parent v y);
     near = λ y far. grind (arith, nat_tests, has_remove r.neighbours v y);
@@ -81,9 +87,13 @@ quiet r v d node ends none = record {
     nothing l y far = grind (arith, none y far, append-nil l.out)
 
 module _ (r s : NodeState) (v : ℕ) (aside : Aside r s v) where
+  -- it sends what it sent before
+  same_carried : carried s ≡ carried r
+  same_carried i = cond (eqb (aside.version i) 1) 0 (aside.distance i + 1)
+
   -- nothing happens
   pub keeps_idle : SoundNode s → Keeps r v (idle s)
-  keeps_idle node = quiet r v (idle s) node (λ y far i. record { mode = sym aside.mode i; awaits = sym (aside.awaits y far) i; child = sym (aside.child y far) i }) (λ y far. contains-empty y)
+  keeps_idle node = quiet r v (idle s) node (λ y far i. record { mode = sym aside.mode i; awaits = sym (aside.awaits y far) i; child = sym (aside.child y far) i; distance = sym aside.distance i; carries = sym same_carried i }) (λ y far. contains-empty y)
 
   -- a node that awaits nobody finishes
   pub finished : is_empty s.pend ≡ true → SoundNode (finish s).state
@@ -108,10 +118,12 @@ module _ (r s : NodeState) (v : ℕ) (aside : Aside r s v) where
         let still : l.here.awaits ≡ false = ap (λ e. e.awaits) here ∙ sym (aside.awaits y far) ∙ empty_has s.pend y none in
         let child : l.here.child ≡ eqb p y = ap (λ e. e.child) here ∙ sym (aside.child y far) ∙ ap (λ q. is_parent q y) up in
         let wait : l.here.mode ≡ Abort = ap (λ e. e.mode) here ∙ mode in
+        let apart : s.distance ≡ l.here.distance = aside.distance ∙ sym (ap (λ e. e.distance) here) in
+        let sent : carried s ≡ l.here.carries = same_carried ∙ sym (ap (λ e. e.carries) here) in
         elim (eqb_tells y p) [
-          | inl same ↦ converges_up l _ wait still (child ∙ grind (arith, nat_tests)) refl (empty_has s.pend y none) (ap (λ q. is_parent q y) up ∙ grind (arith, nat_tests)) refl
+          | inl same ↦ converges_up l _ apart sent wait still (child ∙ grind (arith, nat_tests)) refl (empty_has s.pend y none) (ap (λ q. is_parent q y) up ∙ grind (arith, nat_tests)) refl
               (grind (arith, nat_tests, has_only p y)) refl both
-          | inr other ↦ converges_far l _ wait still (child ∙ grind (arith, nat_tests)) refl (empty_has s.pend y none) (ap (λ q. is_parent q y) up ∙ grind (arith, nat_tests)) refl
+          | inr other ↦ converges_far l _ apart sent wait still (child ∙ grind (arith, nat_tests)) refl (empty_has s.pend y none) (ap (λ q. is_parent q y) up ∙ grind (arith, nat_tests)) refl
               (grind (arith, nat_tests, has_only p y, append-nil l.out)) refl both
         ];
   }
@@ -133,10 +145,10 @@ module _ (r : NodeState) (v : ℕ) (node : SoundNode r) where
   }
 
   -- a Ready node passes the wave on to all neighbours but its new parent
-  pub keeps_wave_on : (parent : Option ℕ) (others : NodeSet) → r.mode ≡ Ready → is_empty others ≡ false →
+  pub keeps_wave_on : (parent : Option ℕ) (others : NodeSet) (n : ℕ) → r.mode ≡ Ready → is_empty others ≡ false →
       ((y : ℕ) → is_parent parent y ≡ true → y ≡ v) → ((y : ℕ) → contains others y ≡ (not (is_parent parent y) && contains r.neighbours y)) → (is_parent parent v ≡ true → contains r.neighbours v ≡ true) →
-      Keeps r v (wave_on r parent others)
-  keeps_wave_on parent others ready some up rest near_v = record {
+      Keeps r v (wave_on r parent others n)
+  keeps_wave_on parent others n ready some up rest near_v = record {
     node = record {
       awaits = λ _. some;
       quiet = λ e. cc;
@@ -157,16 +169,16 @@ module _ (r : NodeState) (v : ℕ) (node : SoundNode r) where
       no_parent y far false e = refl
 
   -- one with no other neighbour than v answers it
-  pub keeps_wave_back : r.mode ≡ Ready → is_empty (set.remove r.neighbours v) ≡ true → contains r.neighbours v ≡ true → Keeps r v (wave_back r v)
-  keeps_wave_back ready none near_v = record {
+  pub keeps_wave_back : (n : ℕ) → r.mode ≡ Ready → is_empty (set.remove r.neighbours v) ≡ true → contains r.neighbours v ≡ true → Keeps r v (wave_back r v n)
+  keeps_wave_back n ready none near_v = record {
     node = record {
       awaits = λ e. cc;
-      quiet = λ e. ready_quiet ready;
+      quiet = λ e. grind (arith, nat_tests, len-empty);
       no_parent = λ e. cc;
       has_parent = λ e n. cc;
-      parent_outside = λ y e. empty_has r.pend y (ready_quiet ready);
+      parent_outside = λ y e. contains-empty y;
       parent_near = λ y e. grind (arith, nat_tests, near_v);
-      within = node.within;
+      within = λ y e. cc (contains-empty y);
     };
     elsewhere = λ l y far near here both. absurd (grind (arith, nat_tests, has_remove r.neighbours v y, empty_has (set.remove r.neighbours v) y none, near));
   }

@@ -6,7 +6,7 @@ use Rattle.coord_types.specs.declared.messages.Mode.{Mode}
 use Rattle.coord_types.specs.declared.messages.Mode.TheVariants.{Ready, Abort, Converge}
 use Rattle.coord_types.specs.declared.steps.Kind.{Kind}
 use Rattle.coord_types.specs.declared.steps.Kind.TheVariants.{Started, Finished, Joined}
-use Rattle.coord_node.specs.Rules.{Transition, acknowledged, answer, finish, idle, is_empty, is_parent, lost, lost_in, on_abort, on_abort_in, on_ack, on_ready, on_ready_in, request, request_in, wave_back, wave_on, without}
+use Rattle.coord_node.specs.Rules.{Transition, acknowledged, answer, finish, idle, is_empty, is_parent, kept, lost, lost_in, on_abort, on_abort_in, on_ack, on_ready, on_ready_in, request, request_in, wave_back, wave_on, without}
 use Rattle.coord_node.specs.Steps.{kind_of_request}
 use Rattle.coord_world.specs.protocol.Links.{is_converge, is_ready}
 use Rattle.coord_tables.proofs.Cases.{by_test}
@@ -30,25 +30,25 @@ acknowledged_cases s P tops climbs = of_parent s.parent refl
 -- a reset is asked for, with the kind of its reply
 pub request_cases : (r : NodeState) (P : Transition → Kind → Type 0) →
     (r.mode ≡ Ready → is_empty r.neighbours ≡ true → P (finish r) Finished) →
-    (r.mode ≡ Ready → is_empty r.neighbours ≡ false → P (wave_on r None r.neighbours) Started) →
+    (r.mode ≡ Ready → is_empty r.neighbours ≡ false → P (wave_on r None r.neighbours 0) Started) →
     P (idle r) Joined → P (request r) (kind_of_request r.mode r)
 request_cases r P alone starts joins = in_mode r.mode refl
   where
     in_mode : (m : Mode) → r.mode ≡ m → P (request_in m r) (kind_of_request m r)
-    in_mode Ready e = by_test (is_empty r.neighbours) (λ b. P (cond b (finish r) (wave_on r None r.neighbours)) (cond b Finished Started)) (alone e) (starts e)
+    in_mode Ready e = by_test (is_empty r.neighbours) (λ b. P (cond b (finish r) (wave_on r None r.neighbours 0)) (cond b Finished Started)) (alone e) (starts e)
     in_mode Abort e = joins
     in_mode Converge e = joins
 
 module _ (r : NodeState) (v : ℕ) (P : Transition → Type 0) where
   -- Abort comes from v
-  pub abort_cases :
-      (r.mode ≡ Ready → is_empty (remove r.neighbours v) ≡ true → P (wave_back r v)) →
-      (r.mode ≡ Ready → is_empty (remove r.neighbours v) ≡ false → P (wave_on r (Some v) (remove r.neighbours v))) →
-      (is_ready r.mode ≡ false → P (answer r v)) → P (on_abort r v)
-  abort_cases ends spreads answers = in_mode r.mode refl
+  pub abort_cases : (n : ℕ) →
+      (r.mode ≡ Ready → is_empty (remove r.neighbours v) ≡ true → P (wave_back r v (kept r n))) →
+      (r.mode ≡ Ready → is_empty (remove r.neighbours v) ≡ false → P (wave_on r (Some v) (remove r.neighbours v) (kept r n))) →
+      (is_ready r.mode ≡ false → P (answer r v)) → P (on_abort r v n)
+  abort_cases n ends spreads answers = in_mode r.mode refl
     where
-      in_mode : (m : Mode) → r.mode ≡ m → P (on_abort_in m r v)
-      in_mode Ready e = by_test (is_empty (remove r.neighbours v)) (λ b. P (cond b (wave_back r v) (wave_on r (Some v) (remove r.neighbours v)))) (ends e) (spreads e)
+      in_mode : (m : Mode) → r.mode ≡ m → P (on_abort_in m r v n)
+      in_mode Ready e = by_test (is_empty (remove r.neighbours v)) (λ b. P (cond b (wave_back r v (kept r n)) (wave_on r (Some v) (remove r.neighbours v) (kept r n)))) (ends e) (spreads e)
       in_mode Abort e = answers (ap is_ready e)
       in_mode Converge e = answers (ap is_ready e)
 

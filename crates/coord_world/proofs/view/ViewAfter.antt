@@ -27,14 +27,14 @@ some_mapped f (Some l) = refl
 module _ (w : World) where
   -- a state is put
   pub view_set : (u : ℕ) (r : NodeState) → view (with_state w u r) ≡ set_state (view w) u r
-  view_set u r i = record { state = λ x. rows x i; linked = (view w).linked; way = (view w).way }
+  view_set u r i = record { version = w.version; state = λ x. rows x i; linked = (view w).linked; way = (view w).way }
     where
       rows : (x : ℕ) → state_or_none (get (table.insert w.nodes u r) x) ≡ cond (eqb x u) r (state w x)
       rows x = ap state_or_none (get-set w.nodes u r x) ∙ grind (arith, nat_tests)
 
   -- a node is removed
   pub view_unset : (u : ℕ) → view (record w { nodes = table.remove w.nodes u }) ≡ set_state (view w) u no_node
-  view_unset u i = record { state = λ x. rows x i; linked = (view w).linked; way = (view w).way }
+  view_unset u i = record { version = w.version; state = λ x. rows x i; linked = (view w).linked; way = (view w).way }
     where
       rows : (x : ℕ) → state_or_none (get (table.remove w.nodes u) x) ≡ cond (eqb x u) no_node (state w x)
       rows x = ap state_or_none (get-unset w.nodes u x) ∙ grind (arith, nat_tests)
@@ -42,6 +42,7 @@ module _ (w : World) where
   -- a link is cut
   pub view_left : (a b : ℕ) → view (ordered w (Drop a b)) ≡ without_link (view w) a b
   view_left a b i = record {
+    version = w.version;
     state = state w;
     linked = λ x y. (ap is_some (lane_left w a b x y) ∙ links x y) i;
     way = λ x y. (ap transit_or_none (lane_left w a b x y) ∙ ways x y) i;
@@ -56,6 +57,7 @@ module _ (w : World) where
   -- a link is made
   pub view_made : (a b : ℕ) → view (ordered w (Join a b)) ≡ linked_up (view w) a b
   view_made a b i = record {
+    version = w.version;
     state = λ x. rows x i;
     linked = λ x y. (ap is_some (lane_made w a b x y) ∙ links x y) i;
     way = λ x y. (ap transit_or_none (lane_made w a b x y) ∙ ways x y) i;
@@ -76,6 +78,7 @@ module _ (w : World) (counts : AllCount w) where
   -- a transition over the numbers is the transition over the view
   pub view_done : (u : ℕ) (d : Transition) → view (applied w u d) ≡ ideal_applied (view w) u d
   view_done u d i = record {
+    version = w.version;
     state = λ x. rows x i;
     linked = λ x y. (ap is_some (lane_done w u d x y) ∙ some_mapped _ (get w.lanes (x, y))) i;
     way = λ x y. (ap transit_or_none (lane_done w u d x y) ∙ ways x y (get w.lanes (x, y)) refl) i;
@@ -92,6 +95,7 @@ module _ (w : World) (counts : AllCount w) where
   -- a front that is taken leaves the way
   pub view_took : (v u : ℕ) (k : Lane) → get w.lanes (v, u) ≡ Some k → k.got ≡ k.base → view (on_lane w v u took) ≡ headed (view w) v u
   view_took v u k there idle i = record {
+    version = w.version;
     state = state w;
     linked = λ x y. (ap is_some (lane_on w v u took x y) ∙ some_mapped _ (get w.lanes (x, y))) i;
     way = λ x y. (ap transit_or_none (lane_on w v u took x y) ∙ ways x y (get w.lanes (x, y)) refl) i;
@@ -106,6 +110,7 @@ module _ (w : World) (counts : AllCount w) where
   -- a front that is cleared was not on the way
   pub view_cleared : (u v : ℕ) (k : Lane) → get w.lanes (u, v) ≡ Some k → k.base + 1 ≤ k.got → view (on_lane w u v cleared) ≡ view w
   view_cleared u v k there more i = record {
+    version = w.version;
     state = state w;
     linked = λ x y. (ap is_some (lane_on w u v cleared x y) ∙ some_mapped _ (get w.lanes (x, y))) i;
     way = λ x y. (ap transit_or_none (lane_on w u v cleared x y) ∙ ways x y (get w.lanes (x, y)) refl) i;

@@ -11,7 +11,7 @@ use Rattle.coord_types.specs.declared.messages.Msg.{Msg}
 use Rattle.coord_types.specs.declared.messages.Msg.TheVariants as msg
 use Rattle.coord_types.specs.declared.steps.Kind.TheVariants.{Taken}
 use Rattle.coord_node.specs.IdealRules.{added, headed}
-use Rattle.coord_node.specs.Rules.{Transition, is_empty, on_abort, wave_on, wave_back, answer}
+use Rattle.coord_node.specs.Rules.{Transition, is_empty, kept, on_abort, wave_on, wave_back, answer}
 use Rattle.coord_world.specs.protocol.Links.{aborts, is_ready}
 use Rattle.coord_world.specs.protocol.Outputs.{signals}
 use Rattle.coord_world.specs.laws.Waves.{is_signal_of}
@@ -28,7 +28,7 @@ use Rattle.coord_world.proofs.lanes.MessageCounts.{aborts-append}
 abbrev pub TakeEffect : Ideal → ℕ → ℕ → Transition → Type 0
 TakeEffect z v t d = Effect z (after_take z v t d) (λ x. count_by (is_signal_of x) (signals ((t, d) ∷ []))) [] Taken
 
-module _ (z : Ideal) (v t : ℕ) (rest : List Msg) (front : z.way v t ≡ msg.Abort ∷ rest) (near : contains (z.state t).neighbours v ≡ true) (sound : Sound z) where
+module _ (z : Ideal) (v t n : ℕ) (rest : List Msg) (front : z.way v t ≡ msg.Abort n ∷ rest) (near : contains (z.state t).neighbours v ≡ true) (sound : Sound z) where
   -- the neighbours but the sender
   abbrev others : NodeSet
   others = set.remove (z.state t).neighbours v
@@ -68,15 +68,15 @@ module _ (z : Ideal) (v t : ℕ) (rest : List Msg) (front : z.way v t ≡ msg.Ab
       alone = let count = (sound.links v t (sym (sound.mirrored t v) ∙ near)).counted in grind (arith, count, ap aborts front)
 
   -- a Ready node with other neighbours passes the wave on
-  waits : (z.state t).mode ≡ Ready → is_empty others ≡ false → TakeEffect z v t (wave_on (z.state t) (Some v) others)
-  waits ready some =
-      let d = wave_on (z.state t) (Some v) others in
+  waits : (distance : ℕ) → (z.state t).mode ≡ Ready → is_empty others ≡ false → TakeEffect z v t (wave_on (z.state t) (Some v) others distance)
+  waits distance ready some =
+      let d = wave_on (z.state t) (Some v) others distance in
       Effect.reaches t v (away d ready refl refl (λ x near_x far. grind (arith, nat_tests, has_remove (z.state t).neighbours v x))) (λ x. refl) refl
 
   -- one without acknowledges
-  acknowledges : (z.state t).mode ≡ Ready → is_empty others ≡ true → TakeEffect z v t (wave_back (z.state t) v)
-  acknowledges ready none =
-      let d = wave_back (z.state t) v in
+  acknowledges : (distance : ℕ) → (z.state t).mode ≡ Ready → is_empty others ≡ true → TakeEffect z v t (wave_back (z.state t) v distance)
+  acknowledges distance ready none =
+      let d = wave_back (z.state t) v distance in
       Effect.reaches t v (away d ready refl refl (λ x near_x far. absurd (grind (arith, nat_tests, has_remove (z.state t).neighbours v x, empty_has others x none)))) (λ x. refl) refl
 
   -- a node in a reset answers
@@ -90,5 +90,5 @@ module _ (z : Ideal) (v t : ℕ) (rest : List Msg) (front : z.way v t ≡ msg.Ab
       }) (λ x. refl) refl
 
   -- an Abort that is taken
-  pub abort_effect : TakeEffect z v t (on_abort (z.state t) v)
-  abort_effect = abort_cases (z.state t) v (TakeEffect z v t) acknowledges waits answers
+  pub abort_effect : TakeEffect z v t (on_abort (z.state t) v n)
+  abort_effect = abort_cases (z.state t) v (TakeEffect z v t) n (acknowledges (kept (z.state t) n)) (waits (kept (z.state t) n)) answers

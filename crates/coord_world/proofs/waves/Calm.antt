@@ -16,7 +16,7 @@ use Rattle.coord_world.proofs.lanes.MessageCounts.{aborts-append}
 -- to take a message leaves no more
 fewer_behind : (xs : List Msg) → aborts (behind_front xs) ≤ aborts xs
 fewer_behind [] = omega arith
-fewer_behind (msg.Abort ∷ xs) = omega arith
+fewer_behind (msg.Abort k ∷ xs) = omega arith
 fewer_behind (msg.Ack ∷ xs) = omega arith
 fewer_behind (msg.Ready ∷ xs) = omega arith
 

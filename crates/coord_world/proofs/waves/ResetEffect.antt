@@ -40,9 +40,9 @@ module _ (z : Ideal) (c n t : ℕ) (sound : Sound z) where
       }) none (λ x. omega arith) refl refl
 
   -- a node with neighbours sends its wave
-  starts : r.mode ≡ Ready → is_empty r.neighbours ≡ false → ResetEffect (wave_on r None r.neighbours) Started
+  starts : r.mode ≡ Ready → is_empty r.neighbours ≡ false → ResetEffect (wave_on r None r.neighbours 0) Started
   starts ready some =
-      let d = wave_on r None r.neighbours in
+      let d = wave_on r None r.neighbours 0 in
       Effect.starts_at t
       (record {
         was = ready;

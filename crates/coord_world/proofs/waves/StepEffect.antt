@@ -32,7 +32,7 @@ use Rattle.coord_world.proofs.legal.Sound.{Sound}
 
 -- by the message
 taken : (z : Ideal) (v t : ℕ) (m : Msg) (rest : List Msg) → z.way v t ≡ m ∷ rest → contains (z.state t).neighbours v ≡ true → Sound z → TakeEffect z v t (transition m (z.state t) v)
-taken z v t msg.Abort rest front near sound = abort_effect z v t rest front near sound
+taken z v t (msg.Abort n) rest front near sound = abort_effect z v t n rest front near sound
 taken z v t msg.Ack rest front near sound = ack_effect z v t rest front near sound
 taken z v t msg.Ready rest front near sound = ready_effect z v t rest front near
 

@@ -28,31 +28,31 @@ unfolding table.get
 all_ready w ready v = ready_entries w.nodes.list ready v
 
 -- the steps that link the nodes are fresh in turn
-linking : EachFresh no_world two_linked
+linking : EachFresh (no_world 1) two_linked
 unfolding table.empty table.get table.insert table.remove table.change table.len set.contains set.empty set.insert set.remove set.len
 linking = ((refl, (omega arith, omega arith, ((omega arith, omega arith), omega arith, omega arith))), ((refl, (omega arith, omega arith, ((omega arith, omega arith), omega arith, omega arith))), ((refl, (omega arith, omega arith, ((omega arith, omega arith), (omega arith, omega arith)))), tt)))
 
 -- so are those of the reset
-resetting : EachFresh (fold no_world two_linked) one_reset
+resetting : EachFresh (fold (no_world 1) two_linked) one_reset
 unfolding table.empty table.get table.insert table.remove table.change table.len set.contains set.empty set.insert set.remove set.len
 resetting = ((refl, (omega arith, omega arith, (omega arith, omega arith))), ((refl, tt), ((refl, tt), ((refl, tt), ((refl, tt), tt)))))
 
 -- the reset is a trail
-pub reset_is_trail : IsTrail (fold no_world two_linked) one_reset
-reset_is_trail = trail_of one_reset (fold no_world two_linked) (sound_fold two_linked no_world (record { in_range = no_world_in_range; legal = no_world_legal }) linking) resetting
+pub reset_is_trail : IsTrail (fold (no_world 1) two_linked) one_reset
+reset_is_trail = trail_of one_reset (fold (no_world 1) two_linked) (sound_fold two_linked (no_world 1) (record { in_range = (no_world_in_range 1 (omega arith) (omega arith)); legal = (no_world_legal 1) }) linking) resetting
 
 -- one reset starts, at node 1
-one_start : started (fold no_world two_linked) one_reset ≡ 1 ∷ []
+one_start : started (fold (no_world 1) two_linked) one_reset ≡ 1 ∷ []
 unfolding table.empty table.get table.insert table.remove table.change table.len set.contains set.empty set.insert set.remove set.len
 one_start = refl
 
 -- the nodes are Ready before it
-ready_before : AllByRecursion (λ e. e.1.mode ≡ Ready) (fold no_world two_linked).nodes.list
+ready_before : AllByRecursion (λ e. e.1.mode ≡ Ready) (fold (no_world 1) two_linked).nodes.list
 unfolding table.empty table.get table.insert table.remove table.change table.len set.contains set.empty set.insert set.remove set.len
 ready_before = (refl, (refl, tt))
 
 -- and after it
-ready_after : AllByRecursion (λ e. e.1.mode ≡ Ready) (fold (fold no_world two_linked) one_reset).nodes.list
+ready_after : AllByRecursion (λ e. e.1.mode ≡ Ready) (fold (fold (no_world 1) two_linked) one_reset).nodes.list
 unfolding table.empty table.get table.insert table.remove table.change table.len set.contains set.empty set.insert set.remove set.len
 ready_after = (refl, (refl, tt))
 
@@ -63,7 +63,7 @@ stored_is_wave = record {
   legal = reset_is_trail.sound.legal;
   in_turn = reset_is_trail.in_turn;
   same_topology = All-from_recursion (λ s. changes_topology s ≡ false) one_reset (refl, (refl, (refl, (refl, (refl, tt)))));
-  ready_before = all_ready (fold no_world two_linked) ready_before;
-  ready_after = all_ready (fold (fold no_world two_linked) one_reset) ready_after;
+  ready_before = all_ready (fold (no_world 1) two_linked) ready_before;
+  ready_after = all_ready (fold (fold (no_world 1) two_linked) one_reset) ready_after;
   one_start = one_start;
 }

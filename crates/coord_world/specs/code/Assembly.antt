@@ -29,19 +29,19 @@ near_in near u = slice_index_or near (u - 1) set.empty
 abbrev pub AreNear : List LinkRow → List NodeSet → Type 0
 AreNear links near = (u : ℕ) → IsNode u → near_in near u ≡ near_with u set.empty links
 
--- a row's node, with these neighbours
-abbrev pub state_with : (ℕ → NodeSet) → NodeRow → NodeState
-state_with near r = record { group = r.group; mode = r.mode; parent = r.parent; pend = r.pend; neighbours = near r.id; epoch = r.epoch; confirmed = r.confirmed }
+-- a row's node in a world of this version, with these neighbours
+abbrev pub state_with : ℕ → (ℕ → NodeSet) → NodeRow → NodeState
+state_with version near r = record { version = version; group = r.group; mode = r.mode; parent = r.parent; pend = r.pend; neighbours = near r.id; epoch = r.epoch; confirmed = r.confirmed; distance = r.distance }
 
-abbrev pub entry_with : (ℕ → NodeSet) → NodeRow → ℕ × NodeState
-entry_with near r = (r.id, state_with near r)
+abbrev pub entry_with : ℕ → (ℕ → NodeSet) → NodeRow → ℕ × NodeState
+entry_with version near r = (r.id, state_with version near r)
 
 -- a row's node; its neighbours are those that the links give it
-abbrev pub state_of : List LinkRow → NodeRow → NodeState
-state_of links = state_with (λ u. near_with u set.empty links)
+abbrev pub state_of : ℕ → List LinkRow → NodeRow → NodeState
+state_of version links = state_with version (λ u. near_with u set.empty links)
 
-abbrev pub node_entry : List LinkRow → NodeRow → ℕ × NodeState
-node_entry links = entry_with (λ u. near_with u set.empty links)
+abbrev pub node_entry : ℕ → List LinkRow → NodeRow → ℕ × NodeState
+node_entry version links = entry_with version (λ u. near_with u set.empty links)
 
 -- these lanes, and the two of each link
 abbrev pub with_links : Table pair_cmp_total Lane → List LinkRow → Table pair_cmp_total Lane
@@ -96,8 +96,9 @@ client_entry r = (r.client, r.session)
 
 abbrev pub assembled : Rows → World
 assembled rows = record {
+  version = rows.version;
   count = rows.count;
-  nodes = from_sorted (map (node_entry rows.links) rows.nodes);
+  nodes = from_sorted (map (node_entry rows.version rows.links) rows.nodes);
   lanes = with_links empty rows.links;
   sessions = from_sorted (map client_entry rows.clients);
 }

@@ -1,5 +1,7 @@
 -- The laws of steps, over the definitions alone.
 use Rattle.std.specs.Prelude.{◌≡◌, ℕ, ◌≤◌, Some, length}
+use Rattle.std.specs.List.{AllByRecursion}
+use Rattle.coord_world.specs.declared.rows.parts.LinkRow.{LinkRow}
 use Rattle.coord_types.specs.Table.{get}
 use Rattle.coord_types.specs.declared.steps.Step.{Step}
 use Rattle.coord_link.specs.LaneMachine.{Lane, transit, Counts}
@@ -8,6 +10,7 @@ use Rattle.coord_world.specs.protocol.NumberedWorld.{World, view}
 use Rattle.coord_world.specs.protocol.Next.{next}
 use Rattle.coord_world.specs.protocol.Acceptance.{IsFresh}
 use Rattle.coord_world.specs.protocol.Legal.{Legal}
+use Rattle.coord_world.specs.protocol.Links.{aborts}
 use Rattle.coord_world.specs.protocol.Ranges.{InRange, StepInRange}
 use Rattle.coord_world.specs.protocol.Rows.{RowsFit, rows_of}
 
@@ -27,10 +30,11 @@ NextKeepsLegal = (w settled : World) (s : Step) → InRange w → Legal w → Is
 abbrev pub ViewOfNext : Type 0
 ViewOfNext = (w settled : World) (s : Step) → ((u v : ℕ) (l : Lane) → get w.lanes (u, v) ≡ Some l → Counts l) → IsFresh w settled s → view (next w s) ≡ ideal_next (view w) s
 
--- in a legal world at most 3 messages are on the way on a lane, and a queue has at most 4
+-- in a legal world at most 3 messages are on the way on a lane, and a queue has at most 4, of which at most 2 are Aborts
 pub record IsShort (l : Lane) : Type 0 where
   pub on_way : length (transit l) ≤ 3
   pub queued : length l.queue ≤ 4
+  pub few_aborts : aborts l.queue ≤ 2
 
 abbrev pub LanesAreShort : Type 0
 LanesAreShort = (w : World) (u v : ℕ) (l : Lane) → InRange w → Legal w → get w.lanes (u, v) ≡ Some l → IsShort l
@@ -38,6 +42,14 @@ LanesAreShort = (w : World) (u v : ℕ) (l : Lane) → InRange w → Legal w →
 -- the rows of a world in its ranges fit together
 abbrev pub RowsOfWorldFit : Type 0
 RowsOfWorldFit = (w : World) → InRange w → RowsFit (rows_of w)
+
+-- each row of a link of a legal world has at most 2 Aborts in each queue
+pub record HasFewAborts (r : LinkRow) : Type 0 where
+  pub forth : aborts r.forth.queue ≤ 2
+  pub back : aborts r.back.queue ≤ 2
+
+abbrev pub RowsHaveFewAborts : Type 0
+RowsHaveFewAborts = (w : World) → InRange w → Legal w → AllByRecursion HasFewAborts (rows_of w).links
 
 -- worlds in their ranges with the same rows are equal
 abbrev pub RowsGiveWorld : Type 0

@@ -18,7 +18,7 @@ use Rattle.coord_world.specs.laws.Trails.{IsTrail}
 
 -- two linked nodes, the base of the reset
 abbrev pub linked : World
-linked = fold no_world two_linked
+linked = fold (no_world 1) two_linked
 
 -- the world after the first steps of the reset
 abbrev pub after : ℕ → World
@@ -34,17 +34,17 @@ not_yet = Err NotReleased
 pub record ReleasedRun : Type 0 where
   pub trail : IsTrail linked one_reset
   -- each packet is refused until the step that gives it out is settled
-  pub abort : answers 1 (take 1 2 3 1 msg.Abort) (0 ∷ 1 ∷ []) ≡ not_yet ∷ Ok (Fresh Taken) ∷ []
+  pub abort : answers 1 (take 1 2 3 1 (msg.Abort 0)) (0 ∷ 1 ∷ []) ≡ not_yet ∷ Ok (Fresh Taken) ∷ []
   pub ack : answers 2 (take 2 1 3 1 msg.Ack) (0 ∷ 1 ∷ 2 ∷ []) ≡ not_yet ∷ not_yet ∷ Ok (Fresh Taken) ∷ []
   pub receipt : answers 3 (clear 1 2 3 1) (0 ∷ 1 ∷ 2 ∷ 3 ∷ []) ≡ not_yet ∷ not_yet ∷ Ok (Fresh Cleared) ∷ Ok (Fresh Cleared) ∷ []
   pub ready : answers 4 (take 1 2 3 2 msg.Ready) (0 ∷ 1 ∷ 2 ∷ 3 ∷ 4 ∷ []) ≡ not_yet ∷ not_yet ∷ not_yet ∷ not_yet ∷ Ok (Fresh Taken) ∷ []
   -- what its steps give out, in order
   pub given : outputs_of linked one_reset
-      ≡ data_out 1 2 3 1 msg.Abort ∷ receipt_out 1 2 3 1 ∷ data_out 2 1 3 1 msg.Ack ∷ receipt_out 2 1 3 1 ∷ Signalled 1 1 ∷ data_out 1 2 3 2 msg.Ready ∷ receipt_out 1 2 3 2 ∷ Signalled 2 1 ∷ []
+      ≡ data_out 1 2 3 1 (msg.Abort 0) ∷ receipt_out 1 2 3 1 ∷ data_out 2 1 3 1 msg.Ack ∷ receipt_out 2 1 3 1 ∷ Signalled 1 1 ∷ data_out 1 2 3 2 msg.Ready ∷ receipt_out 1 2 3 2 ∷ Signalled 2 1 ∷ []
   -- what is sent again after each of them
   pub resent : map (λ d. again (after d)) (0 ∷ 1 ∷ 2 ∷ 3 ∷ 4 ∷ 5 ∷ [])
-      ≡ [] ∷ (data_out 1 2 3 1 msg.Abort ∷ [])
-      ∷ (data_out 1 2 3 1 msg.Abort ∷ receipt_out 1 2 3 1 ∷ data_out 2 1 3 1 msg.Ack ∷ [])
-      ∷ (data_out 1 2 3 1 msg.Abort ∷ receipt_out 1 2 3 1 ∷ data_out 2 1 3 1 msg.Ack ∷ receipt_out 2 1 3 1 ∷ [])
+      ≡ [] ∷ (data_out 1 2 3 1 (msg.Abort 0) ∷ [])
+      ∷ (data_out 1 2 3 1 (msg.Abort 0) ∷ receipt_out 1 2 3 1 ∷ data_out 2 1 3 1 msg.Ack ∷ [])
+      ∷ (data_out 1 2 3 1 (msg.Abort 0) ∷ receipt_out 1 2 3 1 ∷ data_out 2 1 3 1 msg.Ack ∷ receipt_out 2 1 3 1 ∷ [])
       ∷ (data_out 1 2 3 2 msg.Ready ∷ data_out 2 1 3 1 msg.Ack ∷ receipt_out 2 1 3 1 ∷ [])
       ∷ (data_out 1 2 3 2 msg.Ready ∷ receipt_out 1 2 3 2 ∷ data_out 2 1 3 1 msg.Ack ∷ receipt_out 2 1 3 1 ∷ []) ∷ []

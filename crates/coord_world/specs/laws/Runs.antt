@@ -15,7 +15,7 @@ use Rattle.coord_world.specs.declared.verdicts.Verdict.{Verdict}
 use Rattle.coord_world.specs.declared.verdicts.Verdict.TheVariants.{Fresh}
 use Rattle.coord_world.specs.protocol.Acceptance.{accepts}
 use Rattle.coord_world.specs.protocol.Next.{next, fold}
-use Rattle.coord_world.specs.protocol.NumberedWorld.{World, no_world}
+use Rattle.coord_world.specs.protocol.NumberedWorld.{World, no_world, state}
 use Rattle.coord_world.specs.protocol.Outputs.{StepOutcome, outs}
 use Rattle.coord_world.specs.laws.Waves.{IsWave}
 
@@ -45,16 +45,19 @@ abbrev pub verdicts : World → List Step → List (Result Verdict Refusal)
 verdicts w [] = []
 verdicts w (s ∷ ss) = accepts w w s ∷ verdicts (next w s) ss
 
--- each step is taken, with the reply and the outputs that are given
+-- in a world of this version each step is taken, with the reply and the outputs that are given
+abbrev pub IsRunIn : ℕ → List Step → List StepOutcome → Type 0
+IsRunIn version steps given = (verdicts (no_world version) steps ≡ map (λ r. Ok (Fresh r.reply.kind)) given) × (outs (no_world version) steps ≡ given)
+
 abbrev pub IsRun : List Step → List StepOutcome → Type 0
-IsRun steps given = (verdicts no_world steps ≡ map (λ r. Ok (Fresh r.reply.kind)) given) × (outs no_world steps ≡ given)
+IsRun = IsRunIn 1
 
 -- two nodes are linked, and one of them is reset
 abbrev pub two_linked : List Step
 two_linked = order 1 (Add 1 1) ∷ order 2 (Add 2 1) ∷ order 3 (Join 1 2) ∷ []
 
 abbrev pub one_reset : List Step
-one_reset = order 4 (Reset 1) ∷ take 1 2 3 1 msg.Abort ∷ take 2 1 3 1 msg.Ack ∷ clear 1 2 3 1 ∷ take 1 2 3 2 msg.Ready ∷ []
+one_reset = order 4 (Reset 1) ∷ take 1 2 3 1 (msg.Abort 0) ∷ take 2 1 3 1 msg.Ack ∷ clear 1 2 3 1 ∷ take 1 2 3 2 msg.Ready ∷ []
 
 abbrev pub StoredRun : Type 0
 StoredRun =
@@ -62,7 +65,7 @@ StoredRun =
     (two_linked ++ one_reset)
     (
     gives 1 Done [] ∷ gives 2 Done [] ∷ gives 3 Done []
-    ∷ gives 4 Started (data_out 1 2 3 1 msg.Abort ∷ [])
+    ∷ gives 4 Started (data_out 1 2 3 1 (msg.Abort 0) ∷ [])
     ∷ gives 5 Taken (receipt_out 1 2 3 1 ∷ data_out 2 1 3 1 msg.Ack ∷ [])
     ∷ gives 6 Taken (receipt_out 2 1 3 1 ∷ Signalled 1 1 ∷ [])
     ∷ gives 7 Cleared (data_out 1 2 3 2 msg.Ready ∷ [])
@@ -71,7 +74,7 @@ StoredRun =
 
 -- that reset is one wave from node 1
 abbrev pub StoredWave : Type 0
-StoredWave = IsWave (fold no_world two_linked) one_reset 1
+StoredWave = IsWave (fold (no_world 1) two_linked) one_reset 1
 
 -- both ends of a link start a reset
 abbrev pub TwoInitiators : Type 0
@@ -79,13 +82,13 @@ TwoInitiators =
     IsRun
     (
     order 1 (Add 1 1) ∷ order 2 (Add 2 1) ∷ order 3 (Join 1 2) ∷ order 4 (Reset 1) ∷ order 5 (Reset 2)
-    ∷ take 1 2 3 1 msg.Abort ∷ take 2 1 3 1 msg.Abort ∷ clear 1 2 3 1 ∷ clear 2 1 3 1
+    ∷ take 1 2 3 1 (msg.Abort 0) ∷ take 2 1 3 1 (msg.Abort 0) ∷ clear 1 2 3 1 ∷ clear 2 1 3 1
     ∷ take 1 2 3 2 msg.Ack ∷ take 2 1 3 2 msg.Ack ∷ clear 1 2 3 2 ∷ take 1 2 3 3 msg.Ready ∷ []
     )
     (
     gives 1 Done [] ∷ gives 2 Done [] ∷ gives 3 Done []
-    ∷ gives 4 Started (data_out 1 2 3 1 msg.Abort ∷ [])
-    ∷ gives 5 Started (data_out 2 1 3 1 msg.Abort ∷ [])
+    ∷ gives 4 Started (data_out 1 2 3 1 (msg.Abort 0) ∷ [])
+    ∷ gives 5 Started (data_out 2 1 3 1 (msg.Abort 0) ∷ [])
     ∷ gives 6 Taken (receipt_out 1 2 3 1 ∷ [])
     ∷ gives 7 Taken (receipt_out 2 1 3 1 ∷ [])
     ∷ gives 8 Cleared (data_out 1 2 3 2 msg.Ack ∷ [])
@@ -102,13 +105,13 @@ DropInAbort =
     IsRun
     (
     order 1 (Add 1 1) ∷ order 2 (Add 2 1) ∷ order 3 (Add 3 1) ∷ order 4 (Join 1 2) ∷ order 5 (Join 2 3) ∷ order 6 (Reset 1)
-    ∷ take 1 2 4 1 msg.Abort ∷ order 7 (Drop 1 2)
-    ∷ take 2 3 5 1 msg.Abort ∷ take 3 2 5 1 msg.Ack ∷ clear 2 3 5 1 ∷ take 2 3 5 2 msg.Ready ∷ []
+    ∷ take 1 2 4 1 (msg.Abort 0) ∷ order 7 (Drop 1 2)
+    ∷ take 2 3 5 1 (msg.Abort 0) ∷ take 3 2 5 1 msg.Ack ∷ clear 2 3 5 1 ∷ take 2 3 5 2 msg.Ready ∷ []
     )
     (
     gives 1 Done [] ∷ gives 2 Done [] ∷ gives 3 Done [] ∷ gives 4 Done [] ∷ gives 5 Done []
-    ∷ gives 6 Started (data_out 1 2 4 1 msg.Abort ∷ [])
-    ∷ gives 7 Taken (receipt_out 1 2 4 1 ∷ data_out 2 3 5 1 msg.Abort ∷ [])
+    ∷ gives 6 Started (data_out 1 2 4 1 (msg.Abort 0) ∷ [])
+    ∷ gives 7 Taken (receipt_out 1 2 4 1 ∷ data_out 2 3 5 1 (msg.Abort 0) ∷ [])
     ∷ gives 8 Done (Signalled 1 1 ∷ [])
     ∷ gives 9 Taken (receipt_out 2 3 5 1 ∷ data_out 3 2 5 1 msg.Ack ∷ [])
     ∷ gives 10 Taken (receipt_out 3 2 5 1 ∷ Signalled 2 1 ∷ [])
@@ -122,13 +125,61 @@ DropInConverge =
     IsRun
     (
     order 1 (Add 1 1) ∷ order 2 (Add 2 1) ∷ order 3 (Add 3 1) ∷ order 4 (Join 1 2) ∷ order 5 (Join 2 3) ∷ order 6 (Reset 1)
-    ∷ take 1 2 4 1 msg.Abort ∷ take 2 3 5 1 msg.Abort ∷ take 3 2 5 1 msg.Ack ∷ order 7 (Drop 1 2) ∷ []
+    ∷ take 1 2 4 1 (msg.Abort 0) ∷ take 2 3 5 1 (msg.Abort 0) ∷ take 3 2 5 1 msg.Ack ∷ order 7 (Drop 1 2) ∷ []
     )
     (
     gives 1 Done [] ∷ gives 2 Done [] ∷ gives 3 Done [] ∷ gives 4 Done [] ∷ gives 5 Done []
-    ∷ gives 6 Started (data_out 1 2 4 1 msg.Abort ∷ [])
-    ∷ gives 7 Taken (receipt_out 1 2 4 1 ∷ data_out 2 3 5 1 msg.Abort ∷ [])
+    ∷ gives 6 Started (data_out 1 2 4 1 (msg.Abort 0) ∷ [])
+    ∷ gives 7 Taken (receipt_out 1 2 4 1 ∷ data_out 2 3 5 1 (msg.Abort 0) ∷ [])
     ∷ gives 8 Taken (receipt_out 2 3 5 1 ∷ data_out 3 2 5 1 msg.Ack ∷ [])
     ∷ gives 9 Taken (receipt_out 3 2 5 1 ∷ data_out 2 1 4 1 msg.Ack ∷ [])
     ∷ gives 10 Done (Signalled 1 1 ∷ Signalled 2 1 ∷ []) ∷ []
+    )
+
+-- the same path in version 2: the wave goes out with distances, and the node that loses its parent keeps its own
+abbrev pub wave_with_distances : List Step
+wave_with_distances =
+    order 1 (Add 1 1) ∷ order 2 (Add 2 1) ∷ order 3 (Add 3 1) ∷ order 4 (Join 1 2) ∷ order 5 (Join 2 3) ∷ order 6 (Reset 1)
+    ∷ take 1 2 4 1 (msg.Abort 1) ∷ order 7 (Drop 1 2) ∷ take 2 3 5 1 (msg.Abort 2) ∷ []
+
+pub record Distances : Type 0 where
+  pub taken :
+      IsRunIn
+      2
+      wave_with_distances
+      (
+      gives 1 Done [] ∷ gives 2 Done [] ∷ gives 3 Done [] ∷ gives 4 Done [] ∷ gives 5 Done []
+      ∷ gives 6 Started (data_out 1 2 4 1 (msg.Abort 1) ∷ [])
+      ∷ gives 7 Taken (receipt_out 1 2 4 1 ∷ data_out 2 3 5 1 (msg.Abort 2) ∷ [])
+      ∷ gives 8 Done (Signalled 1 1 ∷ [])
+      ∷ gives 9 Taken (receipt_out 2 3 5 1 ∷ data_out 3 2 5 1 msg.Ack ∷ []) ∷ []
+      )
+  pub orphan : (state (fold (no_world 2) wave_with_distances) 2).distance ≡ 1
+  pub child : (state (fold (no_world 2) wave_with_distances) 3).distance ≡ 2
+  pub signalled : (state (fold (no_world 2) wave_with_distances) 1).distance ≡ 0
+
+-- both ends of a path of three nodes start a reset in version 2: the node between them takes the first wave alone, and all three are signalled
+abbrev pub TwoInitiatorsWithDistances : Type 0
+TwoInitiatorsWithDistances =
+    IsRunIn
+    2
+    (
+    order 1 (Add 1 1) ∷ order 2 (Add 2 1) ∷ order 3 (Add 3 1) ∷ order 4 (Join 1 2) ∷ order 5 (Join 2 3) ∷ order 6 (Reset 1) ∷ order 7 (Reset 3)
+    ∷ take 1 2 4 1 (msg.Abort 1) ∷ take 3 2 5 1 (msg.Abort 1) ∷ take 2 3 5 1 (msg.Abort 2) ∷ clear 3 2 5 1 ∷ clear 2 3 5 1
+    ∷ take 3 2 5 2 msg.Ack ∷ take 2 3 5 2 msg.Ack ∷ take 2 1 4 1 msg.Ack ∷ clear 1 2 4 1 ∷ take 1 2 4 2 msg.Ready ∷ []
+    )
+    (
+    gives 1 Done [] ∷ gives 2 Done [] ∷ gives 3 Done [] ∷ gives 4 Done [] ∷ gives 5 Done []
+    ∷ gives 6 Started (data_out 1 2 4 1 (msg.Abort 1) ∷ [])
+    ∷ gives 7 Started (data_out 3 2 5 1 (msg.Abort 1) ∷ [])
+    ∷ gives 8 Taken (receipt_out 1 2 4 1 ∷ data_out 2 3 5 1 (msg.Abort 2) ∷ [])
+    ∷ gives 9 Taken (receipt_out 3 2 5 1 ∷ [])
+    ∷ gives 10 Taken (receipt_out 2 3 5 1 ∷ [])
+    ∷ gives 11 Cleared (data_out 3 2 5 2 msg.Ack ∷ [])
+    ∷ gives 12 Cleared (data_out 2 3 5 2 msg.Ack ∷ [])
+    ∷ gives 13 Taken (receipt_out 3 2 5 2 ∷ data_out 2 1 4 1 msg.Ack ∷ [])
+    ∷ gives 14 Taken (receipt_out 2 3 5 2 ∷ Signalled 3 1 ∷ [])
+    ∷ gives 15 Taken (receipt_out 2 1 4 1 ∷ Signalled 1 1 ∷ [])
+    ∷ gives 16 Cleared (data_out 1 2 4 2 msg.Ready ∷ [])
+    ∷ gives 17 Taken (receipt_out 1 2 4 2 ∷ Signalled 2 1 ∷ []) ∷ []
     )

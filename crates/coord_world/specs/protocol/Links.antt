@@ -1,4 +1,4 @@
--- The predicates B to G over the two ends of a link and what is on the way between them, each a test. Predicate A, over a lane, stands in the lane machine.
+-- The predicates B to H over the two ends of a link and what is on the way between them, each a test. Predicate A, over a lane, stands in the lane machine.
 use Rattle.std.specs.Prelude.{◌≡◌, ℕ, ◌+◌, ◌==◌, nat_le, Bool, true, false, ◌&&◌, ◌||◌, not, List, [], ◌∷◌, if◌then◌else◌}
 use Rattle.coord_types.specs.NodeSet as set
 use Rattle.coord_types.specs.NodeState.{NodeState}
@@ -8,13 +8,15 @@ use Rattle.coord_types.specs.declared.messages.Mode.TheVariants.{Ready, Abort, C
 use Rattle.coord_types.specs.declared.messages.Msg.{Msg}
 use Rattle.coord_types.specs.declared.messages.Msg.TheVariants as msg
 use Rattle.coord_types.specs.IdealWorld.{Ideal}
-use Rattle.coord_node.specs.Rules.{is_parent}
+use Rattle.coord_node.specs.Rules.{carried, is_parent}
 
--- one end of a link: whether it awaits the other end, and whether that is its parent
+-- one end of a link: whether it awaits the other end, whether that is its parent, its distance, and what an Abort from it carries
 pub record End : Type 0 where
   pub mode : Mode
   pub awaits : Bool
   pub child : Bool
+  pub distance : ℕ
+  pub carries : ℕ
 
 -- a link as one end sees it
 pub record Link : Type 0 where
@@ -24,7 +26,7 @@ pub record Link : Type 0 where
   pub back : List Msg
 
 abbrev pub end_of : NodeState → ℕ → End
-end_of r v = record { mode = r.mode; awaits = set.contains r.pend v; child = is_parent r.parent v }
+end_of r v = record { mode = r.mode; awaits = set.contains r.pend v; child = is_parent r.parent v; distance = r.distance; carries = carried r }
 
 abbrev pub link : Ideal → ℕ → ℕ → Link
 link w u v = record { here = end_of (w.state u) v; there = end_of (w.state v) u; out = w.way u v; back = w.way v u }
@@ -37,28 +39,35 @@ one b = if b then 1 else 0
 
 abbrev pub aborts : List Msg → ℕ
 aborts [] = 0
-aborts (msg.Abort ∷ ms) = 1 + aborts ms
+aborts (msg.Abort k ∷ ms) = 1 + aborts ms
 aborts (msg.Ack ∷ ms) = aborts ms
 aborts (msg.Ready ∷ ms) = aborts ms
 
 abbrev pub acks : List Msg → ℕ
 acks [] = 0
-acks (msg.Abort ∷ ms) = acks ms
+acks (msg.Abort k ∷ ms) = acks ms
 acks (msg.Ack ∷ ms) = 1 + acks ms
 acks (msg.Ready ∷ ms) = acks ms
 
 abbrev pub readies : List Msg → ℕ
 readies [] = 0
-readies (msg.Abort ∷ ms) = readies ms
+readies (msg.Abort k ∷ ms) = readies ms
 readies (msg.Ack ∷ ms) = readies ms
 readies (msg.Ready ∷ ms) = 1 + readies ms
 
 -- how many Readies stand behind an Abort
 abbrev pub readies_behind : List Msg → ℕ
 readies_behind [] = 0
-readies_behind (msg.Abort ∷ ms) = readies ms
+readies_behind (msg.Abort k ∷ ms) = readies ms
 readies_behind (msg.Ack ∷ ms) = readies_behind ms
 readies_behind (msg.Ready ∷ ms) = readies_behind ms
+
+-- how many Aborts carry another distance than this one
+abbrev pub strays : ℕ → List Msg → ℕ
+strays n [] = 0
+strays n (msg.Abort k ∷ ms) = one (not (k == n)) + strays n ms
+strays n (msg.Ack ∷ ms) = strays n ms
+strays n (msg.Ready ∷ ms) = strays n ms
 
 abbrev pub is_abort : Mode → Bool
 is_abort Ready = false
@@ -107,7 +116,12 @@ has_one_parent_at_most l = not (l.here.child && l.there.child)
 abbrev pub has_no_early_ready : Link → Bool
 has_no_early_ready l = is_ready l.here.mode || l.here.child || not (aborts l.out == 0) || (readies l.out == 0)
 
--- B to G, as the sender of `out` sees them
+-- H: each Abort on the way carries what this end sends, and so far is the other end from it, where it is in this end's wave and its Ready is not on the way.
+-- In version 1, where all distances are 0, it always holds
+abbrev pub has_right_distances : Link → Bool
+has_right_distances l = (strays l.here.carries l.out == 0) && (is_ready l.there.mode || not l.there.child || not (readies l.out == 0) || (l.there.distance == l.here.carries))
+
+-- B to H, as the sender of `out` sees them
 pub record LegalLink (l : Link) : Type 0 where
   pub ack_in_one_place : has_ack_in_one_place l ≡ true
   pub one_ready_at_most : has_one_ready_at_most l ≡ true
@@ -115,3 +129,4 @@ pub record LegalLink (l : Link) : Type 0 where
   pub ready_for_child : has_ready_for_child l ≡ true
   pub one_parent_at_most : has_one_parent_at_most l ≡ true
   pub no_early_ready : has_no_early_ready l ≡ true
+  pub right_distances : has_right_distances l ≡ true

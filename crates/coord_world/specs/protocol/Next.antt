@@ -34,7 +34,7 @@ all_applied w (d ∷ ds) = all_applied (applied w d.0 d.1) ds
 
 -- what a command changes before any node acts on it; the incarnation of a link is the number of the step that makes it
 abbrev pub ordered : World → Command → World
-ordered w (Add u g) = with_state w u (new_node g)
+ordered w (Add u g) = with_state w u (new_node w.version g)
 ordered w (Remove u) = record w { nodes = remove w.nodes u }
 ordered w (Join a b) = record w {
   nodes = insert (insert w.nodes a (with_neighbour (state w a) b)) b (with_neighbour (state w b) a);

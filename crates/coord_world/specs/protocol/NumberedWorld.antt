@@ -13,15 +13,17 @@ use Rattle.coord_types.specs.contracts.steps.Session as session
 use Rattle.coord_link.specs.LaneMachine.{Lane, transit, lane_code}
 pub use Rattle.coord_tables.specs.Pairs.{pair_cmp, pair_cmp_total}
 
--- how many steps were taken, the nodes, the lanes by their ends, and each client's last order
+-- its version, how many steps were taken, the nodes, the lanes by their ends, and each client's last order
 pub record World : Type 0 where
+  pub version : ℕ
   pub count : ℕ
   pub nodes : Table nat_cmp_total NodeState
   pub lanes : Table pair_cmp_total Lane
   pub sessions : Table nat_cmp_total Session
 
-abbrev pub no_world : World
-no_world = record { count = 0; nodes = table.empty; lanes = table.empty; sessions = table.empty }
+-- the world of a version before any step
+abbrev pub no_world : ℕ → World
+no_world version = record { version = version; count = 0; nodes = table.empty; lanes = table.empty; sessions = table.empty }
 
 abbrev pub state_or_none : Option NodeState → NodeState
 state_or_none None = no_node
@@ -40,12 +42,12 @@ transit_or_none (Some l) = transit l
 
 -- the ideal world that a numbered one stands for: each lane is what is on the way on it
 abbrev pub view : World → Ideal
-view w = record { state = state w; linked = is_linked w; way = λ u v. transit_or_none (get w.lanes (u, v)) }
+view w = record { version = w.version; state = state w; linked = is_linked w; way = λ u v. transit_or_none (get w.lanes (u, v)) }
 
 -- a world is stored as the tuple of its parts
 abbrev pub world_code : Coded World
 world_code =
     code_by
-    (ℕ × (Table nat_cmp_total NodeState × (Table pair_cmp_total Lane × Table nat_cmp_total Session)))
-    (coded× coded_ℕ (coded× (code coded_ℕ state_code) (coded× (code (coded× coded_ℕ coded_ℕ) lane_code) (code coded_ℕ (session.the_row).coded))))
-    (λ w. (w.count, (w.nodes, (w.lanes, w.sessions)))) (λ p. record { count = p.0; nodes = p.1.0; lanes = p.1.1.0; sessions = p.1.1.1 }) (λ _. refl)
+    (ℕ × (ℕ × (Table nat_cmp_total NodeState × (Table pair_cmp_total Lane × Table nat_cmp_total Session))))
+    (coded× coded_ℕ (coded× coded_ℕ (coded× (code coded_ℕ state_code) (coded× (code (coded× coded_ℕ coded_ℕ) lane_code) (code coded_ℕ (session.the_row).coded)))))
+    (λ w. (w.version, (w.count, (w.nodes, (w.lanes, w.sessions))))) (λ p. record { version = p.0; count = p.1.0; nodes = p.1.1.0; lanes = p.1.1.1.0; sessions = p.1.1.1.1 }) (λ _. refl)

@@ -1,10 +1,14 @@
 -- The ranges of a world, which its type keeps: what is true of every world by its form, legal or not.
-use Rattle.std.specs.Prelude.{◌≡◌, ℕ, ◌^◌, ◌≤◌, Bool, true, false, Some, length}
+use Rattle.std.specs.Prelude.{◌≡◌, ℕ, ◌^◌, ◌==◌, ◌≤◌, Bool, true, false, List, Some, length, if◌then◌else◌}
+use Rattle.std.specs.List.{AllByRecursion}
 use Rattle.coord_types.specs.NodeSet as set
 use Rattle.coord_types.specs.NodeMask.{IsMaskable}
 use Rattle.coord_types.specs.Table.{get, has, len}
 use Rattle.coord_types.specs.NodeState.{NodeState}
 pub use Rattle.coord_types.specs.StepRanges.{IsNode, CommandInRange, StepInRange}
+use Rattle.coord_types.specs.declared.messages.Mode.TheVariants.{Ready}
+use Rattle.coord_types.specs.declared.messages.Msg.{Msg}
+pub use Rattle.coord_types.specs.Messages.{brought}
 use Rattle.coord_types.specs.declared.steps.Session.{Session}
 use Rattle.coord_types.specs.declared.steps.Command.{Command}
 use Rattle.coord_types.specs.declared.steps.Command.TheVariants.{Reset}
@@ -29,6 +33,20 @@ pub record LaneInRange (count : ℕ) (l : Lane) : Type 0 where
   pub base : l.base ≤ count
   pub got : l.got ≤ count
 
+-- the greatest distance in a world of this version, of so many steps
+abbrev pub farthest : ℕ → ℕ → ℕ
+farthest version count = if version == 1 then 0 else count
+
+-- each message brings at most this distance
+abbrev pub CarryWithin : ℕ → List Msg → Type 0
+CarryWithin n ms = AllByRecursion (λ m. brought m ≤ n) ms
+
+-- a node has the world's version, and a distance within it, 0 where it is Ready
+pub record IsDistant (v count : ℕ) (r : NodeState) : Type 0 where
+  pub version : r.version ≡ v
+  pub within : r.distance ≤ farthest v count
+  pub ready : r.mode ≡ Ready → r.distance ≡ 0
+
 -- the kinds that a command may be answered with
 abbrev pub answers : Command → Kind → Bool
 answers (Reset u) Started = true
@@ -50,10 +68,14 @@ pub record SessionInRange (count c : ℕ) (s : Session) : Type 0 where
 
 -- a node's neighbours are those that it has lanes to; a link has two lanes, of one incarnation, between two nodes of one group
 pub record InRange (w : World) : Type 0 where
+  pub first : 1 ≤ w.version
+  pub last : w.version ≤ 2
   pub count : w.count ≤ 2 ^ 40
   pub nodes : (u : ℕ) (r : NodeState) → get w.nodes u ≡ Some r → NodeInRange w.count u r
+  pub distances : (u : ℕ) (r : NodeState) → get w.nodes u ≡ Some r → IsDistant w.version w.count r
   pub lanes : (u v : ℕ) (l : Lane) → get w.lanes (u, v) ≡ Some l → LaneInRange w.count l
   pub short : (u v : ℕ) (l : Lane) → get w.lanes (u, v) ≡ Some l → length l.queue ≤ 4
+  pub carried : (u v : ℕ) (l : Lane) → get w.lanes (u, v) ≡ Some l → CarryWithin (farthest w.version w.count) l.queue
   pub awaited : (u : ℕ) → IsMaskable (state w u).pend
   pub parents : (u p : ℕ) → (state w u).parent ≡ Some p → IsNode p
   pub sessions : (c : ℕ) (s : Session) → get w.sessions c ≡ Some s → SessionInRange w.count c s

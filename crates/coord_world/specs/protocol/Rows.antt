@@ -9,13 +9,15 @@ use Rattle.coord_types.specs.Table.{get, entries}
 use Rattle.coord_types.specs.declared.steps.Session.{Session}
 use Rattle.coord_link.specs.LaneMachine.{Lane, new_lane}
 use Rattle.coord_world.specs.protocol.NumberedWorld.{World, pair_cmp}
-use Rattle.coord_world.specs.protocol.Ranges.{IsNode, LaneInRange, SessionInRange}
+use Rattle.coord_world.specs.protocol.Ranges.{CarryWithin, IsNode, LaneInRange, SessionInRange, farthest}
+use Rattle.coord_types.specs.declared.messages.Mode.TheVariants.{Ready}
 use Rattle.coord_world.specs.declared.rows.parts.NodeRow.{NodeRow}
 use Rattle.coord_world.specs.declared.rows.parts.LinkRow.{LinkRow}
 use Rattle.coord_world.specs.declared.rows.parts.ClientRow.{ClientRow}
 use Rattle.coord_world.specs.declared.rows.parts.Parts.{Parts}
 
 pub record Rows : Type 0 where
+  pub version : ℕ
   pub count : ℕ
   pub nodes : List NodeRow
   pub links : List LinkRow
@@ -23,10 +25,10 @@ pub record Rows : Type 0 where
 
 -- the rows of the program's record
 abbrev pub listed : Parts → Rows
-listed p = record { count = p.count; nodes = p.nodes.items; links = p.links.items; clients = p.clients.items }
+listed p = record { version = p.version; count = p.count; nodes = p.nodes.items; links = p.links.items; clients = p.clients.items }
 
 abbrev pub node_row : ℕ × NodeState → NodeRow
-node_row e = record { id = e.0; group = e.1.group; mode = e.1.mode; parent = e.1.parent; pend = e.1.pend; epoch = e.1.epoch; confirmed = e.1.confirmed }
+node_row e = record { id = e.0; group = e.1.group; mode = e.1.mode; parent = e.1.parent; pend = e.1.pend; epoch = e.1.epoch; confirmed = e.1.confirmed; distance = e.1.distance }
 
 abbrev pub lane_or_none : Option Lane → Lane
 lane_or_none None = new_lane 0
@@ -45,6 +47,7 @@ client_row e = record { client = e.0; session = e.1 }
 -- the rows of a world, each list in ascending order
 abbrev pub rows_of : World → Rows
 rows_of w = record {
+  version = w.version;
   count = w.count;
   nodes = map node_row (entries w.nodes);
   links = map (link_row w) (where_key pair_cmp goes_up (entries w.lanes));
@@ -102,13 +105,27 @@ abbrev pub degree : ℕ → List LinkRow → ℕ
 degree u [] = 0
 degree u (r ∷ rs) = if is_end u r then 1 + degree u rs else degree u rs
 
+-- a row's distance
+pub record RowIsDistant (version count : ℕ) (r : NodeRow) : Type 0 where
+  pub within : r.distance ≤ farthest version count
+  pub ready : r.mode ≡ Ready → r.distance ≡ 0
+
+-- what a row's lanes carry
+pub record LanesCarryWithin (n : ℕ) (r : LinkRow) : Type 0 where
+  pub forth : CarryWithin n r.forth.queue
+  pub back : CarryWithin n r.back.queue
+
 -- what lists of rows must be to be those of a world
 pub record RowsFit (rows : Rows) : Type 0 where
+  pub first : 1 ≤ rows.version
+  pub last : rows.version ≤ 2
   pub count : rows.count ≤ 2 ^ 40
   pub nodes_rise : is_sorted nat_cmp (by_id rows.nodes) ≡ true
   pub nodes : AllByRecursion (NodeRowFits rows.count) rows.nodes
+  pub distances : AllByRecursion (RowIsDistant rows.version rows.count) rows.nodes
   pub links_rise : is_sorted pair_cmp (by_ends rows.links) ≡ true
   pub links : AllByRecursion (LinkRowFits rows.count rows.nodes) rows.links
+  pub carried : AllByRecursion (LanesCarryWithin (farthest rows.version rows.count)) rows.links
   pub degrees : (u : ℕ) → degree u rows.links ≤ 16
   pub most_links : length rows.links ≤ 128
   pub clients_rise : is_sorted nat_cmp (by_client rows.clients) ≡ true

@@ -10,7 +10,7 @@ use crate::rows::parts::{ClientRow, NodeRow, Parts};
 use crate::tables::Tables;
 use coord_node::{Node, NodeFields};
 use coord_tables::{LaneTable, NodeTable, SessionTable};
-use coord_types::{Client, NodeId, Session};
+use coord_types::{Client, NodeId, Session, Version};
 use std::alloc::{AllocError, Global};
 
 impl Tables {
@@ -20,10 +20,11 @@ impl Tables {
         ensures { IfOk result (λ tables. tables ≡ assembled (listed parts.now)) }
     {
         let near = Neighbours::by(&parts.links);
-        let nodes = nodes_of(alloc, &parts.nodes, &near)?;
+        let nodes = nodes_of(alloc, parts.version, &parts.nodes, &near)?;
         let lanes = LaneTable::from_sorted(lanes_of(alloc, &parts.links, &near)?)?;
         let sessions = sessions_of(alloc, &parts.clients)?;
         Ok(Tables {
+            version: parts.version,
             count: parts.count,
             nodes: NodeTable::from_sorted(alloc, &nodes)?,
             lanes,
@@ -35,22 +36,24 @@ impl Tables {
 /// The nodes of the rows, with these neighbours.
 fn nodes_of(
     alloc: Global,
+    version: Version,
     rows: &[NodeRow],
     near: &Neighbours,
 ) -> Result<Vec<(NodeId, Node)>, AllocError>
-    ensures { IfOk result (λ nodes. nodes.items ≡ map (entry_with (near_in near.now.sets)) rows.now) }
+    ensures { IfOk result (λ nodes. nodes.items ≡ map (entry_with version (near_in near.now.sets)) rows.now) }
 {
     let mut nodes = Vec::with_capacity(alloc, rows.len())?;
     for row in rows {
-        nodes.push((row.id, node_of(row, near)))?;
+        nodes.push((row.id, node_of(version, row, near)))?;
     }
     Ok(nodes)
 }
 
-fn node_of(row: &NodeRow, near: &Neighbours) -> Node
-    ensures { result ≡ state_with (near_in near.now.sets) row.now }
+fn node_of(version: Version, row: &NodeRow, near: &Neighbours) -> Node
+    ensures { result ≡ state_with version (near_in near.now.sets) row.now }
 {
     Node::restore(NodeFields {
+        version,
         group: row.group,
         mode: row.mode,
         parent: row.parent,
@@ -58,6 +61,7 @@ fn node_of(row: &NodeRow, near: &Neighbours) -> Node
         neighbours: near.of(row.id),
         epoch: row.epoch,
         confirmed: row.confirmed,
+        distance: row.distance,
     })
 }
 

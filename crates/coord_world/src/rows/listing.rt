@@ -21,6 +21,7 @@ impl Tables {
         ensures { IfOk result (λ parts. listed parts ≡ rows_of self.now) }
     {
         Ok(Parts {
+            version: self.version,
             count: self.count,
             nodes: node_rows(alloc, &self.nodes.entries(alloc)?)?,
             links: link_rows(alloc, &self.lanes)?,
@@ -50,12 +51,13 @@ fn node_row(id: NodeId, node: &Node) -> NodeRow
         pend: node.pend(),
         epoch: node.epoch(),
         confirmed: node.confirmed(),
+        distance: node.distance(),
     }
 }
 
 /// One row for the two lanes of each link.
 fn link_rows(alloc: Global, lanes: &LaneTable) -> Result<Vec<LinkRow>, AllocError>
-    ensures { IfOk result (λ links. links.items ≡ map (link_row (record no_world { lanes = lanes.now })) (where_key pair_cmp goes_up (table.entries lanes.now))) }
+    ensures { IfOk result (λ links. links.items ≡ map (link_row (record (no_world 1) { lanes = lanes.now })) (where_key pair_cmp goes_up (table.entries lanes.now))) }
 {
     let mut links = Vec::new(alloc);
     for entry in lanes.entries() {

@@ -1,7 +1,7 @@
 //! The rows of a world, as they are listed and stored.
 
 use coord_link::Lane;
-use coord_types::{Client, Group, Mode, NodeId, NodeSet, Session};
+use coord_types::{Client, Group, Mode, NodeId, NodeSet, Session, Version};
 
 /// A node's row: its state, but for its neighbours, which the links give.
 #[derive(Clone, Copy, Debug)]
@@ -14,6 +14,9 @@ pub struct NodeRow {
     pub pend: NodeSet,
     pub epoch: u64,
     pub confirmed: u64,
+    /// How many links lie between the node and the one that began its reset; 0 where it is Ready, and
+    /// in version 1.
+    pub distance: u64,
 }
 
 /// A link's row: its ends, of which `a` is below `b`, and the lane each way.
@@ -37,6 +40,7 @@ pub struct ClientRow {
 /// All that a world has. Contracts see its rows as `specs/protocol/Rows.antt` lists them.
 #[derive(Drop, Debug)]
 pub struct Parts {
+    pub version: Version,
     /// How many steps were taken.
     pub count: u64,
     /// By ascending `id`.

@@ -10,6 +10,7 @@ ghost use Rattle.coord_node.specs.Steps.{transitions_ordered};
 ghost use Rattle.coord_world.specs.protocol.NumberedWorld.{state};
 ghost use Rattle.coord_world.specs.protocol.Next.{all_applied, applied, on_lane, ordered};
 ghost use Rattle.coord_world.specs.protocol.Outputs.{receipt, signals};
+ghost use Rattle.coord_world.specs.protocol.Ranges.{brought};
 ghost use Rattle.coord_world.specs.code.Fronts.{AreNumbered, by_lesser, front_behind, fronts_ordered, fronts_sent};
 ghost use Rattle.coord_world.specs.code.NodeSteps.{CanApply};
 ghost use Rattle.coord_world.specs.code.Ready.{IsReadyFor};
@@ -38,7 +39,7 @@ impl Tables {
         ensures err { OnErr result (self.new ≡ self.old) }
     {
         match *command {
-            Command::Add(id, group) => self.nodes.insert(id, Node::new(group))?,
+            Command::Add(id, group) => self.nodes.insert(id, Node::new(self.version, group))?,
             Command::Remove(id) => self.nodes.remove(id),
             Command::Join(a, b) => self.join(alloc, a, b)?,
             Command::Drop(a, b) => return self.drop_link(alloc, a, b),
@@ -53,6 +54,7 @@ impl Tables {
         requires taken { ForSome (table.get self.old.lanes record { 0 = packet.now.from; 1 = packet.now.to }) (λ l. l.got < 2 ^ 64 - 1) }
         requires acts { CanApply self.old packet.now.to (transition packet.now.msg (state self.old packet.now.to) packet.now.from) (on_lane self.old packet.now.from packet.now.to took).lanes }
         requires numbered { AreNumbered self.old.lanes }
+        requires near { brought packet.now.msg < 2 ^ 64 - 1 }
         ensures world { OnOk result (self.new ≡ applied (on_lane self.old packet.now.from packet.now.to took) packet.now.to (transition packet.now.msg (state self.old packet.now.to) packet.now.from)) }
         ensures outputs { IfOk result (λ outputs. outputs.items ≡ Output.Receipted (receipt packet.now) ∷ (signals (record { 0 = packet.now.to; 1 = transition packet.now.msg (state self.old packet.now.to) packet.now.from } ∷ []) ++ fronts_sent self.old.lanes packet.now.to (sends_of (transition packet.now.msg (state self.old packet.now.to) packet.now.from)))) }
         ensures err { OnErr result (self.new ≡ self.old) }

@@ -4,6 +4,7 @@ ghost use Rattle.std.specs.Prelude.{◌<◌, ◌-◌, ◌^◌, IsSome, IfOk};
 ghost use Rattle.coord_types.specs.Table as table;
 ghost use Rattle.coord_node.specs.Rules.{transition, request, lost};
 ghost use Rattle.coord_world.specs.protocol.NumberedWorld.{state};
+ghost use Rattle.coord_world.specs.protocol.Ranges.{brought};
 ghost use Rattle.coord_world.specs.code.NodeSteps.{IsNodeStepOf};
 
 use crate::tables::Tables;
@@ -35,11 +36,12 @@ impl Tables {
     pub fn delivered(&self, alloc: Global, packet: DataPacket) -> Result<NodeStep, AllocError>
         requires there { IsSome (table.get self.now.nodes packet.to) }
         requires room { (state self.now packet.to).epoch < 2 ^ 64 - 1 }
+        requires near { brought packet.msg < 2 ^ 64 - 1 }
         ensures { IfOk result (λ node_step. IsNodeStepOf node_step packet.to (transition packet.msg (state self.now packet.to) packet.from)) }
     {
         let mut node = *self.node(packet.to).unwrap();
         let deed = match packet.msg {
-            Msg::Abort => node.on_abort(alloc, packet.from)?,
+            Msg::Abort(distance) => node.on_abort(alloc, packet.from, distance)?,
             Msg::Ack => node.on_ack(alloc, packet.from)?,
             Msg::Ready => node.on_ready(alloc, packet.from)?,
         };

@@ -1,11 +1,11 @@
 ghost use Rattle.std.specs.Prelude.{◌≡◌, ◌≤◌, true};
 ghost use Rattle.std.specs.List.{AllByRecursion};
-ghost use Rattle.coord_batch.specs.Batches.{IsNumbered};
+ghost use Rattle.coord_batch.specs.Batches.{IsWritable};
 
 use super::*;
 use coord_codec::write_batch;
 use coord_types::{
-    Client, Command, DataPacket, Group, MAX_BATCH_STEPS, Msg, NodeId, ReceiptPacket, Step,
+    Client, Command, DataPacket, Group, MAX_BATCH_STEPS, Msg, NodeId, ReceiptPacket, Step, Version,
 };
 
 // Step 1 is client 1's order 1, to add node 1 to group 1.
@@ -23,6 +23,21 @@ const EVERY_FORM: [u8; 172] = [
     0, 1, 0, 0, 0, 0, 0, 0, 0, 5, 4, 8, //
     0, 1, 0, 0, 0, 0, 0, 0, 0, 6, 5, 9, 1, 2, 3, 4, 5, 6, 7, 8, //
     1, 1, 2, 0, 0, 0, 0, 0, 0, 0, 3, 0, 0, 0, 0, 0, 0, 0, 1, 0, //
+    1, 2, 1, 0, 0, 0, 0, 0, 0, 0, 3, 0, 0, 0, 0, 0, 0, 0, 1, 1, //
+    1, 1, 2, 0, 0, 0, 0, 0, 0, 0, 3, 0, 0, 0, 0, 0, 0, 0, 2, 2, //
+    2, 2, 1, 0, 0, 0, 0, 0, 0, 0, 3, 255, 255, 255, 255, 255, 255, 255, 255,
+];
+
+// The same in version 2, where the Abort has a distance.
+const EVERY_DISTANT_FORM: [u8; 180] = [
+    0, 0, 1, 0, 0, 0, 0, 0, 0, 10, //
+    0, 16, 0, 0, 0, 0, 0, 0, 0, 1, 0, 64, 16, //
+    0, 2, 0, 0, 0, 0, 0, 0, 1, 2, 1, 3, //
+    0, 1, 0, 0, 0, 0, 0, 0, 0, 3, 2, 4, 5, //
+    0, 1, 0, 0, 0, 0, 0, 0, 0, 4, 3, 7, 6, //
+    0, 1, 0, 0, 0, 0, 0, 0, 0, 5, 4, 8, //
+    0, 1, 0, 0, 0, 0, 0, 0, 0, 6, 5, 9, 1, 2, 3, 4, 5, 6, 7, 8, //
+    1, 1, 2, 0, 0, 0, 0, 0, 0, 0, 3, 0, 0, 0, 0, 0, 0, 0, 1, 0, 8, 7, 6, 5, 4, 3, 2, 1, //
     1, 2, 1, 0, 0, 0, 0, 0, 0, 0, 3, 0, 0, 0, 0, 0, 0, 0, 1, 1, //
     1, 1, 2, 0, 0, 0, 0, 0, 0, 0, 3, 0, 0, 0, 0, 0, 0, 0, 2, 2, //
     2, 2, 1, 0, 0, 0, 0, 0, 0, 0, 3, 255, 255, 255, 255, 255, 255, 255, 255,
@@ -63,8 +78,12 @@ fn receipt(number: u64) -> Step {
     })
 }
 
-// The six commands and what is delivered, as `EVERY_FORM` spells them.
-fn every_form() -> [Step; 10] {
+fn versions() -> [Version; 2] {
+    [Version::new(1).unwrap(), Version::new(2).unwrap()]
+}
+
+// The six commands and what is delivered, the Abort with this distance.
+fn every_form(distance: u64) -> [Step; 10] {
     let group = Group::new(16).unwrap();
     [
         order(16, 1, Command::Add(id(64), group)),
@@ -73,7 +92,7 @@ fn every_form() -> [Step; 10] {
         order(1, 4, Command::Drop(id(7), id(6))),
         order(1, 5, Command::Reset(id(8))),
         order(1, 6, Command::Confirm(id(9), 0x0102_0304_0506_0708)),
-        data(true, 1, Msg::Abort),
+        data(true, 1, Msg::Abort(distance)),
         data(false, 1, Msg::Ack),
         data(true, 2, Msg::Ready),
         receipt(u64::MAX),
@@ -87,20 +106,24 @@ fn confirm(place: u8) -> Step {
     order(place % 16 + 1, number, command)
 }
 
-fn is_numbered(step: &Step) -> bool
-    ensures { result ≡ true → IsNumbered step.now }
+fn is_writable(version: Version, step: &Step) -> bool
+    ensures { result ≡ true → IsWritable version step.now }
 {
     match *step {
         Step::Order(_, number, _) => number >= 1,
+        Step::Take(packet) => match packet.msg {
+            Msg::Abort(distance) => version.number() == 2 || distance == 0,
+            _ => true,
+        },
         _ => true,
     }
 }
 
-fn are_numbered(steps: &[Step]) -> bool
-    ensures { result ≡ true → AllByRecursion IsNumbered steps.now }
+fn are_writable(version: Version, steps: &[Step]) -> bool
+    ensures { result ≡ true → AllByRecursion (IsWritable version) steps.now }
 {
     for step in steps {
-        if !is_numbered(step) {
+        if !is_writable(version, step) {
             return false;
         }
     }
@@ -110,14 +133,15 @@ fn are_numbered(steps: &[Step]) -> bool
 // Whether these bytes are read as this batch, and it is written as these bytes.
 fn is_spelling(
     alloc: Global,
+    version: Version,
     bytes: &[u8],
     first: u64,
     steps: &[Step],
 ) -> Result<bool, AllocError> {
-    match read_batch(alloc, 1, bytes) {
+    match read_batch(alloc, version.number(), bytes) {
         Ok(batch) => {
             let is_read = batch.first == first && batch.steps.as_slice() == steps;
-            Ok(is_read && are_written(alloc, bytes, first, steps)?)
+            Ok(is_read && are_written(alloc, version, bytes, first, steps)?)
         }
         Err(fault) if fault.kind == FaultKind::OutOfMemory => Err(AllocError),
         Err(_) => Ok(false),
@@ -127,52 +151,96 @@ fn is_spelling(
 // Whether these steps are a batch, and it is written as these bytes.
 fn are_written(
     alloc: Global,
+    version: Version,
     bytes: &[u8],
     first: u64,
     steps: &[Step],
 ) -> Result<bool, AllocError> {
     let is_first = (1..=1 << 40).contains(&first);
-    if !is_first || !(1..=MAX_BATCH_STEPS).contains(&steps.len()) || !are_numbered(steps) {
+    let is_counted = (1..=MAX_BATCH_STEPS).contains(&steps.len());
+    if !is_first || !is_counted || !are_writable(version, steps) {
         return Ok(false);
     }
-    Ok(write_batch(alloc, first, steps)?.as_slice() == bytes)
+    Ok(write_batch(alloc, version, first, steps)?.as_slice() == bytes)
 }
 
-// A batch of 256 steps.
-fn full(alloc: Global) -> Result<Vec<Step>, AllocError> {
+// An Abort from as far as can be told.
+fn distant(place: u8) -> Step {
+    data(
+        true,
+        u64::from(place),
+        Msg::Abort(u64::MAX - u64::from(place)),
+    )
+}
+
+// A batch of 256 steps of the longest form: Confirms, and in version 2 Aborts.
+fn full(alloc: Global, version: Version) -> Result<Vec<Step>, AllocError> {
+    let is_first = version.number() == 1;
     let mut steps = Vec::new(alloc);
     for place in 0..=255 {
-        steps.extend_from_slice(&[confirm(place)])?;
+        let step = if is_first {
+            confirm(place)
+        } else {
+            distant(place)
+        };
+        steps.extend_from_slice(&[step])?;
     }
     Ok(steps)
 }
 
-// Whether the full batch is written with 5,130 bytes, and read from them.
-fn is_full_batch_spelled(alloc: Global) -> Result<bool, AllocError> {
-    let steps = full(alloc)?;
-    let is_spelled = is_spelled_in(alloc, &steps, 5_130);
+// Whether the full batch is written with so many bytes, and read from them.
+fn is_full_batch_spelled(alloc: Global, version: Version, size: usize) -> Result<bool, AllocError> {
+    let steps = full(alloc, version)?;
+    let is_spelled = is_spelled_in(alloc, version, &steps, size);
     drop(steps);
     is_spelled
 }
 
 // Whether these steps are a batch from 7 on, written with so many bytes, and read from them.
-fn is_spelled_in(alloc: Global, steps: &[Step], size: usize) -> Result<bool, AllocError> {
-    if !(1..=MAX_BATCH_STEPS).contains(&steps.len()) || !are_numbered(steps) {
+fn is_spelled_in(
+    alloc: Global,
+    version: Version,
+    steps: &[Step],
+    size: usize,
+) -> Result<bool, AllocError> {
+    if !(1..=MAX_BATCH_STEPS).contains(&steps.len()) || !are_writable(version, steps) {
         return Ok(false);
     }
-    let bytes = write_batch(alloc, 7, steps)?;
-    let is_spelled = is_spelling(alloc, &bytes, 7, steps);
+    let bytes = write_batch(alloc, version, 7, steps)?;
+    let is_spelled = is_spelling(alloc, version, &bytes, 7, steps);
     let is_sized = bytes.len() == size;
     drop(bytes);
     Ok(is_spelled? && is_sized)
 }
 
-// Whether each of these is read, and written as it was read.
+// Whether each of these is read, and written as it was read. The first one has no message, and is the
+// same in both versions.
 fn are_spelled(alloc: Global) -> Result<bool, AllocError> {
+    let [first, second] = versions();
     let step = order(1, 1, Command::Add(id(1), Group::new(1).unwrap()));
-    let first = is_spelling(alloc, &BATCH, 1, &[step])?;
-    let every = is_spelling(alloc, &EVERY_FORM, 1 << 40, &every_form())?;
-    Ok(first && every && is_full_batch_spelled(alloc)?)
+    let alike = is_spelling(alloc, first, &BATCH, 1, &[step])?
+        && is_spelling(alloc, second, &BATCH, 1, &[step])?;
+    Ok(alike && is_every_form_spelled(alloc)? && are_full_batches_spelled(alloc)?)
+}
+
+fn is_every_form_spelled(alloc: Global) -> Result<bool, AllocError> {
+    let [first, second] = versions();
+    let near = is_spelling(alloc, first, &EVERY_FORM, 1 << 40, &every_form(0))?;
+    let distance = 0x0807_0605_0403_0201;
+    Ok(
+        near && is_spelling(
+            alloc,
+            second,
+            &EVERY_DISTANT_FORM,
+            1 << 40,
+            &every_form(distance),
+        )?,
+    )
+}
+
+fn are_full_batches_spelled(alloc: Global) -> Result<bool, AllocError> {
+    let [first, second] = versions();
+    Ok(is_full_batch_spelled(alloc, first, 5_130)? && is_full_batch_spelled(alloc, second, 7_178)?)
 }
 
 #[test]
@@ -199,13 +267,15 @@ const CHANGES: [Change; 13] = [
 
 #[test]
 fn a_wrong_byte_is_found(rt: HostRuntime) -> Result<(), Fail> {
-    let wrong = missed(rt.alloc(), Form::Batch, &BATCH, &CHANGES)?;
+    let wrong = missed(rt.alloc(), Form::Batch, 1, &BATCH, &CHANGES)?;
     assert!(rt; wrong.is_none(), "{wrong:?}");
     Ok(())
 }
 
 #[test]
 fn a_wrong_length_or_version_is_found(rt: HostRuntime) -> Result<(), Fail> {
-    assert!(rt; is_of_one_length_and_version(rt.alloc(), Form::Batch, &BATCH)?);
+    let alloc = rt.alloc();
+    let first = is_of_one_length(alloc, Form::Batch, 1, &BATCH)?;
+    assert!(rt; first && is_of_one_length(alloc, Form::Batch, 2, &EVERY_DISTANT_FORM)?);
     Ok(())
 }

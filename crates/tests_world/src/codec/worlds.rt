@@ -13,6 +13,33 @@ const WORLD: [u8; 112] = [
     0,
 ];
 
+// The same in version 2, where each node has a distance.
+const DISTANT_WORLD: [u8; 128] = [
+    0, 0, 0, 0, 0, 0, 0, 3, 2, //
+    1, 1, 0, 0, 0, 0, 0, 0, 0, 0, 0, 0, 0, 0, 0, 0, 0, 0, 0, 0, 0, 0, 0, 0, 0, 0, 0, 0, //
+    0, 0, 0, 0, 0, 0, 0, 0, //
+    2, 1, 0, 0, 0, 0, 0, 0, 0, 0, 0, 0, 0, 0, 0, 0, 0, 0, 0, 0, 0, 0, 0, 0, 0, 0, 0, 0, //
+    0, 0, 0, 0, 0, 0, 0, 0, //
+    1, 1, 2, 0, 0, 0, 0, 0, 0, 0, 3, //
+    0, 0, 0, 0, 0, 0, 0, 0, 0, 0, 0, 0, 0, 0, 0, 0, 0, //
+    0, 0, 0, 0, 0, 0, 0, 0, 0, 0, 0, 0, 0, 0, 0, 0, 1, 1, //
+    0,
+];
+
+// After a fourth step in version 2, the reset of node 1: it is at the greatest distance that a grammar
+// knows for so many steps, and so is its Abort.
+const FARTHEST_WORLD: [u8; 136] = [
+    0, 0, 0, 0, 0, 0, 0, 4, 2, //
+    1, 1, 1, 0, 0, 0, 0, 0, 0, 0, 0, 2, 0, 0, 0, 0, 0, 0, 0, 0, 0, 0, 0, 0, 0, 0, 0, 0, //
+    0, 0, 0, 0, 0, 0, 0, 4, //
+    2, 1, 0, 0, 0, 0, 0, 0, 0, 0, 0, 0, 0, 0, 0, 0, 0, 0, 0, 0, 0, 0, 0, 0, 0, 0, 0, 0, //
+    0, 0, 0, 0, 0, 0, 0, 0, //
+    1, 1, 2, 0, 0, 0, 0, 0, 0, 0, 3, //
+    0, 0, 0, 0, 0, 0, 0, 0, 0, 0, 0, 0, 0, 0, 0, 0, 1, 0, 0, 0, 0, 0, 0, 0, 0, 4, //
+    0, 0, 0, 0, 0, 0, 0, 0, 0, 0, 0, 0, 0, 0, 0, 0, 0, //
+    0,
+];
+
 // After one step: client 1's order 1, to add node 1 to group 1, was answered Done by step 1.
 const ANSWERED: [u8; 32] = [
     0, 0, 0, 0, 0, 0, 0, 1, 0, 0, 1, //
@@ -45,11 +72,18 @@ fn is_read(alloc: Global) -> Result<bool, AllocError> {
 // Whether each of these is written as it was read.
 fn are_spelled(alloc: Global) -> Result<bool, AllocError> {
     Ok(
-        spells_world(alloc, &WORLD)?
-            && spells_world(alloc, &ANSWERED)?
-            && spells_world(alloc, &[0; 11])?
+        spells_world(alloc, 1, &WORLD)?
+            && are_spelled_alike(alloc, 1)?
+            && spells_world(alloc, 2, &DISTANT_WORLD)?
+            && spells_world(alloc, 2, &FARTHEST_WORLD)?
+            && are_spelled_alike(alloc, 2)?
             && is_read(alloc)?,
     )
+}
+
+// The same of worlds without nodes, which are spelled alike in both versions.
+fn are_spelled_alike(alloc: Global, version: u8) -> Result<bool, AllocError> {
+    Ok(spells_world(alloc, version, &ANSWERED)? && spells_world(alloc, version, &[0; 11])?)
 }
 
 #[test]
@@ -99,22 +133,98 @@ const CHANGES_OF_A_CLIENT: [Change; 11] = [
     Change(31, 4, FaultKind::BadByte, 31),
 ];
 
+// Of the world with distances.
+const CHANGES_OF_A_DISTANT_WORLD: [Change; 27] = [
+    Change(2, 1, FaultKind::BadByte, 0),
+    Change(8, 0x41, FaultKind::BadByte, 8),
+    Change(9, 0, FaultKind::BadByte, 9),
+    Change(9, 0x41, FaultKind::BadByte, 9),
+    Change(10, 0, FaultKind::BadByte, 10),
+    Change(10, 0x11, FaultKind::BadByte, 10),
+    Change(11, 3, FaultKind::BadByte, 11),
+    Change(12, 0x41, FaultKind::BadByte, 12),
+    Change(28, 4, FaultKind::BadByte, 21),
+    Change(36, 4, FaultKind::BadByte, 29),
+    Change(37, 1, FaultKind::BadByte, 37),
+    Change(44, 1, FaultKind::BadByte, 37),
+    Change(45, 1, FaultKind::BadByte, 45),
+    Change(46, 2, FaultKind::BadByte, 82),
+    Change(80, 1, FaultKind::BadByte, 73),
+    Change(81, 0x81, FaultKind::BadByte, 81),
+    Change(83, 1, FaultKind::BadByte, 83),
+    Change(83, 3, FaultKind::BadByte, 82),
+    Change(83, 0x41, FaultKind::BadByte, 83),
+    Change(91, 0, FaultKind::BadByte, 84),
+    Change(91, 4, FaultKind::BadByte, 84),
+    Change(99, 4, FaultKind::BadByte, 92),
+    Change(107, 4, FaultKind::BadByte, 100),
+    Change(125, 5, FaultKind::BadByte, 125),
+    Change(126, 0, FaultKind::Short, 128),
+    Change(126, 3, FaultKind::BadByte, 126),
+    Change(127, 0x11, FaultKind::BadByte, 127),
+];
+
+// Of the farthest distances: one more is too much, and an Ack has none.
+const CHANGES_OF_A_FARTHEST_WORLD: [Change; 4] = [
+    Change(44, 5, FaultKind::BadByte, 37),
+    Change(117, 5, FaultKind::BadByte, 110),
+    Change(110, 1, FaultKind::BadByte, 110),
+    Change(109, 1, FaultKind::Extra, 128),
+];
+
 // The place of the first change that is not found, and of the first one of a client's row.
 fn missed_ones(alloc: Global) -> Result<(Option<usize>, Option<usize>), AllocError> {
-    let wrong = missed(alloc, Form::World, &WORLD, &CHANGES)?;
-    let wrong_of_a_client = missed(alloc, Form::World, &ANSWERED, &CHANGES_OF_A_CLIENT)?;
+    let wrong = missed(alloc, Form::World, 1, &WORLD, &CHANGES)?;
+    let wrong_of_a_client = missed(alloc, Form::World, 2, &ANSWERED, &CHANGES_OF_A_CLIENT)?;
     Ok((wrong, wrong_of_a_client))
+}
+
+// The same of the worlds with distances.
+fn missed_distances(alloc: Global) -> Result<(Option<usize>, Option<usize>), AllocError> {
+    let near = missed(
+        alloc,
+        Form::World,
+        2,
+        &DISTANT_WORLD,
+        &CHANGES_OF_A_DISTANT_WORLD,
+    )?;
+    let far = missed(
+        alloc,
+        Form::World,
+        2,
+        &FARTHEST_WORLD,
+        &CHANGES_OF_A_FARTHEST_WORLD,
+    )?;
+    Ok((near, far))
 }
 
 #[test]
 fn a_wrong_byte_is_found(rt: HostRuntime) -> Result<(), Fail> {
     let wrong = missed_ones(rt.alloc())?;
     assert!(rt; wrong == (None, None), "{wrong:?}");
+    let wrong = missed_distances(rt.alloc())?;
+    assert!(rt; wrong == (None, None), "of version 2: {wrong:?}");
     Ok(())
 }
 
 #[test]
 fn a_wrong_length_or_version_is_found(rt: HostRuntime) -> Result<(), Fail> {
-    assert!(rt; is_of_one_length_and_version(rt.alloc(), Form::World, &WORLD)?);
+    let alloc = rt.alloc();
+    let first = is_of_one_length(alloc, Form::World, 1, &WORLD)?;
+    let second = is_of_one_length(alloc, Form::World, 2, &DISTANT_WORLD)?;
+    assert!(rt; first && second && are_of_their_versions(alloc)?);
     Ok(())
+}
+
+// Whether each world with nodes is refused in the other version, where its second node or its first
+// node's distance would stand.
+fn are_of_their_versions(alloc: Global) -> Result<bool, AllocError> {
+    let fault = CodecFault {
+        kind: FaultKind::BadByte,
+        at: 37,
+    };
+    Ok(
+        finds(alloc, Form::World, 2, &WORLD, fault)?
+            && finds(alloc, Form::World, 1, &DISTANT_WORLD, fault)?,
+    )
 }

@@ -10,8 +10,8 @@ returns c =
     let out = c.args.out.now.items in
     let r = rows_of c.args.written.now in
     let count = to_be_bytes w64 r.count in
-    let some_nodes = (nodes 0).text r.nodes in
-    let some_links = (links 0 []).text r.links in
+    let some_nodes = (nodes r.version 0).text r.nodes in
+    let some_links = (links r.version 0 []).text r.links in
     let some_clients = (clients 0).text r.clients in
     let written : c.put_clients.new.out.items ≡ ((out ++ count) ++ some_nodes) ++ some_links ++ some_clients =
     rw (c.in_ok-put_clients.ensures, c.in_ok-put_links.ensures, c.in_ok-put_nodes.ensures, c.in_ok-extend_from_slice.ensures.items, c.to_be_bytes.ensures, c.count.ensures) refl in

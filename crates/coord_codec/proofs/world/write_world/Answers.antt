@@ -1,10 +1,12 @@
 use Rattle.std.proofs.Common.{arith}
 use Rattle.coord_world.specs.protocol.Rows.{rows_of}
-use Rattle.coord_world.proofs.Facade.{rows_of_world_fit}
+use Rattle.coord_world.proofs.Facade.{rows_have_few_aborts, rows_of_world_fit}
 use Rattle.coord_codec.proofs.Lengths.{length-world}
 use Rattle.coord_codec.proofs.world.write_world.Goals as goal
 
 pub returns-clause-len : goal.returns-clause-len
-returns-clause-len c =
-    let most = length-world (rows_of c.args.written.now) (rows_of_world_fit c.args.written.now c.ranges-2.ensures) in
+returns-clause-len c = λ legal.
+    let w = c.args.written.now in
+    let range = c.ranges-2.ensures in
+    let most = length-world (rows_of w) (rows_of_world_fit w range) (rows_have_few_aborts w range legal) in
     rw (c.in_ok-put_world.ensures, c.in_ok-out.ensures.items) (omega (arith, most))

@@ -7,11 +7,11 @@ use Rattle.coord_codec.proofs.world_reading.read_messages.Goals as goal
 pub returns-in_err-msg-clause-read : goal.returns-in_err-msg-clause-read
 returns-in_err-msg-clause-read c =
     let p = err_from_is_err_and c.from_residual.result c.from_residual.ensures.1 in
-    rw (p.1, p.2) (cut_short (λ _. message) _ c.loop.lane.queue c.args.count c.loop.counter c.loop.input c.in_err-msg.field-0.0 c.loop-test.true c.in_err-msg.ensures c.loop.invariant.read)
+    rw (p.1, p.2) (cut_short (λ _. message c.args.version c.args.most) _ c.loop.lane.queue c.args.count c.loop.counter c.loop.input c.in_err-msg.field-0.0 c.loop-test.true c.in_err-msg.ensures c.loop.invariant.read)
 
 pub loop-preserved : goal.loop-preserved
 loop-preserved c = record {
-  read = rw c.send.ensures (one_more (λ _. message) _ c.loop.lane.queue c.args.count c.loop.counter c.loop.input c.in_ok-msg.msg c.message.new.self c.loop-test.true c.in_ok-msg.ensures c.loop.invariant.read);
+  read = rw c.send.ensures (one_more (λ _. message c.args.version c.args.most) _ c.loop.lane.queue c.args.count c.loop.counter c.loop.input c.in_ok-msg.msg c.message.new.self c.loop-test.true c.in_ok-msg.ensures c.loop.invariant.read);
   few = rw c.send.ensures (len_more c.loop.lane.queue c.in_ok-msg.msg c.loop.counter c.loop.invariant.few);
   inc = ap (λ l. l.inc) c.send.ensures ∙ c.loop.invariant.inc;
   base = ap (λ l. l.base) c.send.ensures ∙ c.loop.invariant.base;
@@ -19,4 +19,4 @@ loop-preserved c = record {
 }
 
 pub returns-clause-read : goal.returns-clause-read
-returns-clause-read c = all_read (λ _. message) _ c.loop.lane.queue c.args.count c.loop.counter c.loop.input c.loop-test.false c.loop.invariant.read
+returns-clause-read c = all_read (λ _. message c.args.version c.args.most) _ c.loop.lane.queue c.args.count c.loop.counter c.loop.input c.loop-test.false c.loop.invariant.read

@@ -6,10 +6,10 @@ use Rattle.coord_codec.proofs.world_reading.read_node_list.Goals as goal
 pub returns-in_err-row : goal.returns-in_err-row
 returns-in_err-row c =
     let p = err_from_is_err_and c.from_residual.result c.from_residual.ensures.1 in
-    rw (p.1, p.2) (cut_short (node_row c.args.count) _ c.loop.list.rows.items c.args.rows c.loop.counter c.loop.input c.in_err-row.field-0.0 c.loop-test.true c.in_err-row.ensures c.loop.invariant)
+    rw (p.1, p.2) (cut_short (node_row c.args.version c.args.count) _ c.loop.list.rows.items c.args.rows c.loop.counter c.loop.input c.in_err-row.field-0.0 c.loop-test.true c.in_err-row.ensures c.loop.invariant)
 
 pub loop-preserved : goal.loop-preserved
-loop-preserved c = rw c.in_ok-push.ensures (one_more (node_row c.args.count) _ c.loop.list.rows.items c.args.rows c.loop.counter c.loop.input c.in_ok-row.row c.read_node_row.new.input c.loop-test.true c.in_ok-row.ensures c.loop.invariant)
+loop-preserved c = rw c.in_ok-push.ensures (one_more (node_row c.args.version c.args.count) _ c.loop.list.rows.items c.args.rows c.loop.counter c.loop.input c.in_ok-row.row c.read_node_row.new.input c.loop-test.true c.in_ok-row.ensures c.loop.invariant)
 
 pub returns : goal.returns
-returns c = all_read (node_row c.args.count) _ c.loop.list.rows.items c.args.rows c.loop.counter c.loop.input c.loop-test.false c.loop.invariant
+returns c = all_read (node_row c.args.version c.args.count) _ c.loop.list.rows.items c.args.rows c.loop.counter c.loop.input c.loop-test.false c.loop.invariant

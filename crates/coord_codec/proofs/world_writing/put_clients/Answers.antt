@@ -18,5 +18,5 @@ unfolding clients how_many
 returns c =
     let out = c.args.out.now.items in
     on_ok_weaker c.put_rows.result
-    (λ is. is ∙ ap (λ m. out ++ len m ∷ flat_map session_text (entries m)) c.sessions.ensures ∙ ap (λ text. out ++ text) (rows_text c.args.world.now.sessions rows.client_row (client_row 0 []).text))
+    (λ is. is ∙ ap (λ m. out ++ len m ∷ flat_map (session_text c.args.world.now.version) (entries m)) c.sessions.ensures ∙ ap (λ text. out ++ text) (rows_text c.args.world.now.sessions rows.client_row (client_row 0 []).text))
     c.put_rows.ensures

@@ -10,4 +10,4 @@ returns c =
     let out = c.args.out.now.items in
     let l = c.args.put.now in
     rw (c.in_ok-put_queue.ensures, c.in_ok-put_numbers.ensures, c.base.ensures, c.got.ensures, c.queue.ensures.value)
-    (append_assoc (out ++ to_be_bytes w64 l.base) (to_be_bytes w64 l.got) (queue.text l.queue) ∙ append_assoc out (to_be_bytes w64 l.base) (to_be_bytes w64 l.got ++ queue.text l.queue))
+    (append_assoc (out ++ to_be_bytes w64 l.base) (to_be_bytes w64 l.got) ((queue c.args.version 0).text l.queue) ∙ append_assoc out (to_be_bytes w64 l.base) (to_be_bytes w64 l.got ++ (queue c.args.version 0).text l.queue))

@@ -29,7 +29,7 @@ loop-entry-init c =
     let same = ap (λ es. length (links_in w es)) c.lanes-lanes.ensures in
     let many : c.count_up.result ≡ length (rows_of w).links = c.count_up.ensures ∙ omega (arith, long, same) in
     let begun = c.in_ok-push.ensures.items ∙ ap (λ n. c.args.out.now.items ++ n ∷ []) many in
-    λ i. begun i ++ flat_map (link_row 0 [] []).text (links_in w (c.lanes-lanes.ensures i))
+    λ i. begun i ++ flat_map (link_row w.version 0 [] []).text (links_in w (c.lanes-lanes.ensures i))
 
 pub loop-entry-preserved : goal.loop-entry-preserved
 loop-entry-preserved c =
@@ -37,7 +37,7 @@ loop-entry-preserved c =
     let es = c.lanes-lanes.result.now in
     let n = c.loop-entry.entry-index in
     let e : (ℕ × ℕ) × Lane = c.entry-item.result in
-    let text = (link_row 0 [] []).text in
+    let text = (link_row w.version 0 [] []).text in
     let out = c.loop-entry.out.items in
     let within : n < length es = c.loop-entry-test.true in
     let rest : drop n es ≡ e ∷ drop (n + 1) es = drop_more es n e within ∙ ap (λ x. x ∷ drop (n + 1) es) (sym c.entry-item.is) in
@@ -51,7 +51,7 @@ unfolding links how_many
 returns c =
     let w = c.args.world.now in
     let es = c.lanes-lanes.result.now in
-    let text = (link_row 0 [] []).text in
+    let text = (link_row w.version 0 [] []).text in
     let out = c.loop-entry.out.items in
     sym (append-nil out) ∙ ap (λ l. out ++ flat_map text (links_in w l)) (sym (drop_all c.loop-entry.entry-index es c.loop-entry-test.false)) ∙ c.loop-entry.invariant
     ∙ append_assoc c.args.out.now.items (length (rows_of w).links ∷ []) (flat_map text (rows_of w).links)

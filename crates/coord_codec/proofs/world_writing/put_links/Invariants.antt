@@ -8,4 +8,4 @@ use Rattle.coord_codec.proofs.world_writing.put_links.Given as goal
 
 abbrev pub invariant-loop-entry : goal.invariant-loop-entry
 invariant-loop-entry l =
-    l.out.items ++ flat_map (link_row 0 [] []).text (links_in l.world (drop l.entry-index l.lanes)) ≡ (l.fn.out.items ++ length (rows_of l.world).links ∷ []) ++ flat_map (link_row 0 [] []).text (rows_of l.world).links
+    l.out.items ++ flat_map (link_row l.world.version 0 [] []).text (links_in l.world (drop l.entry-index l.lanes)) ≡ (l.fn.out.items ++ length (rows_of l.world).links ∷ []) ++ flat_map (link_row l.world.version 0 [] []).text (rows_of l.world).links

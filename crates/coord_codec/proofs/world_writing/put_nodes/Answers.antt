@@ -18,5 +18,5 @@ unfolding nodes how_many
 returns c =
     let out = c.args.out.now.items in
     on_ok_weaker c.put_rows.result
-    (λ is. is ∙ ap (λ m. out ++ len m ∷ flat_map node_text (entries m)) c.nodes.ensures ∙ ap (λ text. out ++ text) (rows_text c.args.world.now.nodes rows.node_row (node_row 0 []).text))
+    (λ is. is ∙ ap (λ v. out ++ len c.nodes.result.now ∷ flat_map (node_text v) (entries c.nodes.result.now)) c.version.ensures ∙ ap (λ m. out ++ len m ∷ flat_map (node_text c.args.world.now.version) (entries m)) c.nodes.ensures ∙ ap (λ text. out ++ text) (rows_text c.args.world.now.nodes rows.node_row (node_row c.args.world.now.version 0 []).text))
     c.put_rows.ensures

@@ -10,6 +10,6 @@ use Rattle.coord_drill.proofs.console.coord_drill.Goals as goal
 
 pub returns-in_err-console-clause-failed : goal.returns-in_err-console-clause-failed
 returns-in_err-console-clause-failed g c =
-    let some = prints_somehow (drill_over no_world) 1 (lines_of []) in
+    let some = prints_somehow (drill_over (no_world 1)) 1 (lines_of []) in
     IfErr-by_work c.from_residual.result (search rules)
     (λ fault work. ([], Consumes-nil _, (some.0, some.1, first_part-none _ some.0), λ e. absurd (not_of_reading fault work e)))

@@ -1,7 +1,9 @@
 use Rattle.std.proofs.Common.{◌≡◌, take}
+use Rattle.std.specs.List.{AllByRecursion}
+use Rattle.coord_batch.specs.Batches.{BringsRightly}
 use Rattle.coord_world.specs.protocol.Legal.{Legal}
 use Rattle.coord_world.specs.protocol.Next.{fold}
 use Rattle.coord_store.proofs.steps.take_all.Given as goal
 
 abbrev pub invariant-loop-step : goal.invariant-loop-step
-invariant-loop-step l = (l.world ≡ fold l.initial.world (take l.step-index l.steps)) × Legal l.world
+invariant-loop-step l = (l.world ≡ fold l.initial.world (take l.step-index l.steps)) × Legal l.world × AllByRecursion (BringsRightly l.initial.world.version) (take l.step-index l.steps)

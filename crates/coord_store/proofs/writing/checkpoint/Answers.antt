@@ -10,17 +10,17 @@ returns-in-Err-clause-any_moment g c k holds =
 
 pub returns-in-Ok-replace-clause-any_moment : goal.returns-in-Ok-replace-clause-any_moment
 returns-in-Ok-replace-clause-any_moment g c k holds =
-    let new = snapshot_gives 1 c.deref.result.now c.args.world.now refl c.ranges-2.ensures c.requires.legal (c.deref.ensures.value ∙ c.in-Ok.ensures.spelled) in
-    weaker g.D.Disk.clock g.D.Disk.left_since _ _ _ _ (c.replace.ensures.any_moment holds.content k holds.ready) (replacing_gives holds.content (without_batch 1 c.deref.result.now) c.args.world.now holds.gives new)
+    let new = snapshot_gives c.number.result c.deref.result.now c.args.world.now (c.number.ensures.value ∙ c.version.ensures) c.ranges-2.ensures c.requires.legal (c.deref.ensures.value ∙ c.in-Ok.ensures.spelled) in
+    weaker g.D.Disk.clock g.D.Disk.left_since _ _ _ _ (c.replace.ensures.any_moment holds.content k holds.ready) (replacing_gives holds.content (without_batch c.number.result c.deref.result.now) c.args.world.now holds.gives new)
 
 pub returns-in-Ok-replace-clause-done : goal.returns-in-Ok-replace-clause-done
 returns-in-Ok-replace-clause-done g c k holds = record {
-  content = without_batch 1 c.deref.result.now;
+  content = without_batch c.number.result c.deref.result.now;
   ready = c.in-Ok-replace.ensures.done holds.content k holds.ready;
-  gives = snapshot_gives 1 c.deref.result.now c.args.world.now refl c.ranges-2.ensures c.requires.legal (c.deref.ensures.value ∙ c.in-Ok.ensures.spelled);
+  gives = snapshot_gives c.number.result c.deref.result.now c.args.world.now (c.number.ensures.value ∙ c.version.ensures) c.ranges-2.ensures c.requires.legal (c.deref.ensures.value ∙ c.in-Ok.ensures.spelled);
 }
 
 pub returns-clause-any_moment : goal.returns-clause-any_moment
 returns-clause-any_moment g c k holds =
-    let new = snapshot_gives 1 c.deref.result.now c.args.world.now refl c.ranges-2.ensures c.requires.legal (c.deref.ensures.value ∙ c.in-Ok.ensures.spelled) in
-    weaker g.D.Disk.clock g.D.Disk.left_since _ _ _ _ (c.replace.ensures.any_moment holds.content k holds.ready) (replacing_gives holds.content (without_batch 1 c.deref.result.now) c.args.world.now holds.gives new)
+    let new = snapshot_gives c.number.result c.deref.result.now c.args.world.now (c.number.ensures.value ∙ c.version.ensures) c.ranges-2.ensures c.requires.legal (c.deref.ensures.value ∙ c.in-Ok.ensures.spelled) in
+    weaker g.D.Disk.clock g.D.Disk.left_since _ _ _ _ (c.replace.ensures.any_moment holds.content k holds.ready) (replacing_gives holds.content (without_batch c.number.result c.deref.result.now) c.args.world.now holds.gives new)

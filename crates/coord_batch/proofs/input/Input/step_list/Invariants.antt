@@ -4,4 +4,4 @@ use Rattle.coord_batch.specs.Steps.{step}
 use Rattle.coord_batch.proofs.input.Input.step_list.Given as goal
 
 abbrev pub invariant-loop : goal.invariant-loop
-invariant-loop l = items_at (λ _. step) (l.count - l.counter) l.list.items l.self ≡ items_at (λ _. step) l.count [] l.fn.self
+invariant-loop l = items_at (λ _. step l.version) (l.count - l.counter) l.list.items l.self ≡ items_at (λ _. step l.version) l.count [] l.fn.self

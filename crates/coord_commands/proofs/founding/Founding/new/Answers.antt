@@ -14,8 +14,8 @@ returns-clause-under_way c =
     let none = c.new.ensures.items in
     record {
       nothing_settled = c.empty.ensures.value;
-      world = c.empty-2.ensures.value ∙ sym (ap (λ (l : List Step). fold no_world l) none);
-      fresh = subst (λ (l : List Step). AllFresh no_world no_world l) (sym none) tt;
+      world = c.empty-2.ensures.value ∙ sym (ap (λ (l : List Step). fold (no_world 1) l) none);
+      fresh = subst (λ (l : List Step). AllFresh (no_world 1) (no_world 1) l) (sym none) tt;
       legal = c.empty-2.ensures.legal;
       numbered = ap (λ (w : World). last_number (get w.sessions founder)) c.empty-2.ensures.value ∙ none_yet ∙ sym (ap (λ (l : List Step). length l) none);
     }

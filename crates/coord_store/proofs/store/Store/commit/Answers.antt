@@ -4,7 +4,10 @@ use Rattle.coord_store.specs.Kept.{GivesEither, Holds, IsOnlyWorld, Kept}
 use Rattle.coord_store.specs.Recovered.{AllFresh}
 use Rattle.coord_store.specs.declared.faults.CommitFault.TheVariants.{Device}
 use Rattle.coord_world.specs.protocol.Next.{fold}
-use Rattle.coord_store.proofs.Freshness.{first_number}
+use Rattle.std.specs.List.{AllByRecursion}
+use Rattle.coord_batch.specs.Batches.{BringsRightly}
+use Rattle.coord_world.specs.protocol.NumberedWorld.{World}
+use Rattle.coord_store.proofs.Freshness.{all_writable, first_number}
 use Rattle.coord_store.proofs.Holding.{begun, kept_on, kept_torn, none_of, taken, whenever}
 use Rattle.coord_store.proofs.store.Store.commit.Goals as goal
 use Rattle.coord_store.proofs.store.Store.commit.Goals.{then-eq, else-eq}
@@ -15,12 +18,17 @@ write_batch-requires-clause-first g c =
     let same = ap (λ (k : Kept g.row.D.Denot). k.world.count) c.self.view_is in
     (omega arith, omega (arith, most, same, c.count.ensures))
 
+pub write_batch-requires-clause-writable : goal.write_batch-requires-clause-writable
+write_batch-requires-clause-writable g c =
+    let next = ap (λ (w : World). w.version) c.in_ok-next.ensures ∙ sym c.version.ensures in
+    all_writable c.version.result c.args.steps.now c.requires.numbered (subst (λ v. AllByRecursion (BringsRightly v) c.args.steps.now) next c.in_ok-take_all.ensures.brought)
+
 pub invariant_of-self : goal.invariant_of-self
 invariant_of-self g c =
     let w = c.self.inside.world in
     let steps = c.args.steps.now in
     let fresh = subst (λ x. AllFresh x x steps) (sym (ap (λ (k : Kept g.row.D.Denot). k.world) c.self.view_is)) c.requires.fresh in
-    let takes = taken w c.count.result c.deref.result.now c.in_ok-body.body.items steps c.count.ensures c.deref.ensures.value c.in_ok-body.ensures.spelled c.in_ok-body.ensures.fits fresh in
+    let takes = taken w c.version.result c.count.result c.deref.result.now c.in_ok-body.body.items steps c.version.ensures c.count.ensures c.deref.ensures.value c.in_ok-body.ensures.spelled c.in_ok-body.ensures.fits fresh in
     let next = c.in_ok-take_all.ensures.world ∙ ap (λ x. fold x steps) c.in_ok-next.ensures in
     let none = none_of c.self.inside.torn c.is_some.result c.is_some.ensures c.if-is_some.false in
     kept_on g.D.Disk.present g.D.Disk.keeps_model c.write.new.journal c.take_all.new.world c.self.inside.torn none c.take_all.ensures.legal c.in-Ok.ensures.going
@@ -30,7 +38,7 @@ pub returns-in-Ok-clause-any_moment : goal.returns-in-Ok-clause-any_moment
 returns-in-Ok-clause-any_moment g c =
     let steps = c.args.steps.now in
     let fresh = subst (λ x. AllFresh x x steps) (sym (ap (λ (k : Kept g.row.D.Denot). k.world) c.self.view_is)) c.requires.fresh in
-    let takes = taken c.self.inside.world c.count.result c.deref.result.now c.in_ok-body.body.items steps c.count.ensures c.deref.ensures.value c.in_ok-body.ensures.spelled c.in_ok-body.ensures.fits fresh in
+    let takes = taken c.self.inside.world c.version.result c.count.result c.deref.result.now c.in_ok-body.body.items steps c.version.ensures c.count.ensures c.deref.ensures.value c.in_ok-body.ensures.spelled c.in_ok-body.ensures.fits fresh in
     let P : Kept g.row.D.Denot → Type 0 = λ o. g.D.Disk.keeps_model o.disk ≡ true → o.torn ≡ None → LeavesOnly g.D.Disk.clock g.D.Disk.left_since o.disk c.write.new.journal.disk (GivesEither o.world (fold o.world steps)) in
     subst P c.self.view_is (λ k none. c.write.ensures.any_moment steps k (c.self.invariant.holds k none) takes)
 
@@ -39,7 +47,7 @@ invariant_of-self-then-eq g c =
     let w = c.self.inside.world in
     let steps = c.args.steps.now in
     let fresh = subst (λ x. AllFresh x x steps) (sym (ap (λ (k : Kept g.row.D.Denot). k.world) c.self.view_is)) c.requires.fresh in
-    let takes = taken w c.count.result c.deref.result.now c.in_ok-body.body.items steps c.count.ensures c.deref.ensures.value c.in_ok-body.ensures.spelled c.in_ok-body.ensures.fits fresh in
+    let takes = taken w c.version.result c.count.result c.deref.result.now c.in_ok-body.body.items steps c.version.ensures c.count.ensures c.deref.ensures.value c.in_ok-body.ensures.spelled c.in_ok-body.ensures.fits fresh in
     let next = c.in_ok-take_all.ensures.world ∙ ap (λ x. fold x steps) c.in_ok-next.ensures in
     let none = none_of c.self.inside.torn c.is_some.result c.is_some.ensures c.if-is_some.false in
     let device : c.in-Err.fault ≡ Device = search rules in
@@ -60,7 +68,7 @@ pub returns-clause-any_moment : goal.returns-clause-any_moment
 returns-clause-any_moment g c =
     let steps = c.args.steps.now in
     let fresh = subst (λ x. AllFresh x x steps) (sym (ap (λ (k : Kept g.row.D.Denot). k.world) c.self.view_is)) c.requires.fresh in
-    let takes = taken c.self.inside.world c.count.result c.deref.result.now c.in_ok-body.body.items steps c.count.ensures c.deref.ensures.value c.in_ok-body.ensures.spelled c.in_ok-body.ensures.fits fresh in
+    let takes = taken c.self.inside.world c.version.result c.count.result c.deref.result.now c.in_ok-body.body.items steps c.version.ensures c.count.ensures c.deref.ensures.value c.in_ok-body.ensures.spelled c.in_ok-body.ensures.fits fresh in
     let disk : c.write.new.journal.disk ≡ c.if-eq.self.disk = elim c.if-eq.branch [ then-eq w ↦ sym (ap (λ (k : Kept g.row.D.Denot). k.disk) w.self-is) | else-eq w ↦ sym (ap (λ (k : Kept g.row.D.Denot). k.disk) w.self-is) ] in
     let P : Kept g.row.D.Denot → Type 0 = λ o. g.D.Disk.keeps_model o.disk ≡ true → o.torn ≡ None → LeavesOnly g.D.Disk.clock g.D.Disk.left_since o.disk c.if-eq.self.disk (GivesEither o.world (fold o.world steps)) in
     subst P c.self.view_is (λ k none. subst (λ d. LeavesOnly g.D.Disk.clock g.D.Disk.left_since c.self.inside.journal.disk d (GivesEither c.self.inside.world (fold c.self.inside.world steps))) disk (c.write.ensures.any_moment steps k (c.self.invariant.holds k none) takes))

@@ -1,4 +1,5 @@
-use Rattle.std.proofs.Common.{sym, ◌∙◌, subst}
+use Rattle.std.proofs.Common.{sym, ap, ◌∙◌, subst}
+use Rattle.coord_world.specs.protocol.NumberedWorld.{World}
 use Rattle.coord_journal.specs.Contents.{content_of}
 use Rattle.coord_journal.specs.Text.{Content, without_batch}
 use Rattle.coord_store.specs.Recovered.{Gives}
@@ -11,7 +12,7 @@ over-requires-clause-holds g c k =
     let k1 = sym c.in-Ok-open.ensures.model ∙ k in
     let k0 = sym c.format.ensures.model ∙ k1 in
     let made = without_batch c.args.version c.deref.result.now in
-    let gives = snapshot_gives c.args.version c.deref.result.now c.empty-world.result c.requires c.ranges-2.ensures c.empty-world.ensures.legal (c.deref.ensures.value ∙ c.in-Ok.ensures.spelled) in
+    let gives = snapshot_gives c.args.version c.deref.result.now c.empty-world.result (sym c.in-Some.ensures.value ∙ sym (ap (λ (w : World). w.version) c.empty-world.ensures.value)) c.ranges-2.ensures c.empty-world.ensures.legal (c.deref.ensures.value ∙ c.in-Ok.ensures.spelled) in
     let same = c.in-Ok-open.ensures.only made k1 (c.in-Ok-format.ensures.text k0) in
     record { content = content_of c.in-Ok-open.field-0-1; ready = c.in-Ok-open.ensures.ready k1; gives = subst (λ (d : Content). Gives d c.empty-world.result) (sym same) gives }
 

@@ -8,7 +8,7 @@ use Rattle.coord_world.specs.declared.rows.parts.LinkRow.{LinkRow}
 use Rattle.coord_world.proofs.rows.listing.link_rows.Given as goal
 
 abbrev pub rows_of : Table pair_cmp_total Lane → List ((ℕ × ℕ) × Lane) → List LinkRow
-rows_of lanes es = map (link_row (record no_world { lanes = lanes })) (where_key pair_cmp goes_up es)
+rows_of lanes es = map (link_row (record (no_world 1) { lanes = lanes })) (where_key pair_cmp goes_up es)
 
 abbrev pub invariant-loop-entry : goal.invariant-loop-entry
 invariant-loop-entry l = l.links.items ++ rows_of l.lanes (drop l.entry-index l.entry-items) ≡ rows_of l.lanes l.entry-items

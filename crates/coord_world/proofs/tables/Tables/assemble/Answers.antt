@@ -43,7 +43,7 @@ from_sorted-requires-2 c =
     let near = c.by-near.result.sets in
     let known = subst (λ ls. AreNear ls near) c.deref.ensures.value c.by-near.ensures in
     let rising =
-    ap (is_sorted nat_cmp) (c.deref-5.ensures.value ∙ c.in_ok-nodes.ensures ∙ ap (map (entry_with (near_in near))) c.deref-2.ensures.value ∙ same_with near rows.links known rows.nodes (ids_are_nodes rows c.requires)) ∙ nodes_sorted rows c.requires in
+    ap (is_sorted nat_cmp) (c.deref-5.ensures.value ∙ c.in_ok-nodes.ensures ∙ ap (map (entry_with c.args.parts.now.version (near_in near))) c.deref-2.ensures.value ∙ same_with rows.version near rows.links known rows.nodes (ids_are_nodes rows c.requires)) ∙ nodes_sorted rows c.requires in
     (omega arith, (omega arith, rising))
 
 -- the same of the orders
@@ -58,9 +58,9 @@ returns c =
     let near = c.by-near.result.sets in
     let known = subst (λ ls. AreNear ls near) c.deref.ensures.value c.by-near.ensures in
     let nodes = c.in_ok-from_sorted.ensures ∙ ap (from_sorted {o = nat_cmp_total})
-    (c.deref-5.ensures.value ∙ c.in_ok-nodes.ensures ∙ ap (map (entry_with (near_in near))) c.deref-2.ensures.value ∙ same_with near rows.links known rows.nodes (ids_are_nodes rows c.requires)) in
+    (c.deref-5.ensures.value ∙ c.in_ok-nodes.ensures ∙ ap (map (entry_with c.args.parts.now.version (near_in near))) c.deref-2.ensures.value ∙ same_with rows.version near rows.links known rows.nodes (ids_are_nodes rows c.requires)) in
     let lanes =
     c.lanes.view_is ∙ c.in_ok-lanes.ensures ∙ ap (from_sorted {o = pair_cmp_total}) c.in_ok-lanes_of.ensures ∙ from_sorted-entries pair_cmp_total (with_links empty c.deref-3.result.now)
     ∙ ap (with_links empty) c.deref-3.ensures.value in
     let sessions = c.in_ok-from_sorted-2.ensures ∙ ap (from_sorted {o = nat_cmp_total}) (c.deref-6.ensures.value ∙ c.in_ok-sessions.ensures) ∙ ap (λ rs. from_sorted {o = nat_cmp_total} (map client_entry rs)) c.deref-4.ensures.value in
-    λ i. record { count = rows.count; nodes = nodes i; lanes = lanes i; sessions = sessions i }
+    λ i. record { version = rows.version; count = rows.count; nodes = nodes i; lanes = lanes i; sessions = sessions i }

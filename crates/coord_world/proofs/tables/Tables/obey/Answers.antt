@@ -5,6 +5,11 @@ use Rattle.coord_world.specs.code.Ready.{IsReadyFor}
 use Rattle.coord_world.proofs.transitions.CanApply.{are_numbered, can_reset, can_drop_first, can_drop_second, confirm_there, drop_linked, join_room, join_there}
 use Rattle.coord_world.proofs.tables.Tables.obey.Goals as goal
 
+pub join-requires-clause-one : goal.join-requires-clause-one
+join-requires-clause-one c =
+    (join_there c.args.self.now c.args.client c.args.number c.in-Join.a c.in-Join.b
+    (subst (λ x. IsReadyFor c.args.self.now (Order c.args.client c.args.number x)) c.in-Join.is c.requires)).0
+
 pub join-requires-clause-other : goal.join-requires-clause-other
 join-requires-clause-other c =
     (join_there c.args.self.now c.args.client c.args.number c.in-Join.a c.in-Join.b

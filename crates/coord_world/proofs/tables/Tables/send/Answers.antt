@@ -14,7 +14,7 @@ returns-in_default c =
 
 pub returns : goal.returns
 returns c =
-    let before : World = record { count = c.self.inside.count; nodes = c.self.inside.nodes; lanes = c.self.inside.lanes; sessions = c.self.inside.sessions } in
+    let before : World = record { version = c.self.inside.version; count = c.self.inside.count; nodes = c.self.inside.nodes; lanes = c.self.inside.lanes; sessions = c.self.inside.sessions } in
     ap (λ m. record before { lanes = m }) (c.replace.ensures ∙ ap (insert c.self.inside.lanes (c.args.from, c.args.to)) c.send.ensures)
     ∙ on_lane_there before c.args.from c.args.to (sent (c.args.msg ∷ [])) c.in-Some.lane.now (sym c.in-Some.ensures)
     ∙ ap (λ w. on_lane w c.args.from c.args.to (sent (c.args.msg ∷ []))) c.self.view_is

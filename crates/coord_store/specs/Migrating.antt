@@ -1,0 +1,31 @@
+-- What a migration makes, and why it is refused.
+use Rattle.std.specs.Prelude.{◌≡◌, ℕ, ◌==◌, ◌<◌, false, Result, Ok, Err, if◌then◌else◌}
+use Rattle.coord_types.specs.declared.messages.Mode.TheVariants.{Ready}
+use Rattle.coord_world.specs.laws.Raised.{raised}
+use Rattle.coord_world.specs.protocol.Links.{is_ready}
+use Rattle.coord_world.specs.protocol.NumberedWorld.{World, state}
+use Rattle.coord_store.specs.Refused.{failed_in}
+use Rattle.coord_store.specs.declared.faults.StoreFault.{StoreFault}
+use Rattle.coord_store.specs.declared.faults.StoreFault.TheVariants.{OutOfMemory, Device, NotQuiet, Stopped}
+
+-- the world of version 2 that a world stands for
+abbrev pub risen : World → World
+risen w = if w.version == 1 then raised w else w
+
+-- this node is in a reset, and none below it
+pub record IsFirstBusy (w : World) (u : ℕ) : Type 0 where
+  pub busy : is_ready (state w u).mode ≡ false
+  pub least : (v : ℕ) → v < u → (state w v).mode ≡ Ready
+
+-- why the store of a world is not raised
+abbrev pub RefusesMigration : World → StoreFault → Type 0
+RefusesMigration w OutOfMemory = w.version ≡ 1
+RefusesMigration w Device = w.version ≡ 1
+RefusesMigration w (NotQuiet u) = (w.version ≡ 1) × IsFirstBusy w u
+RefusesMigration w Stopped = Unit {0}
+RefusesMigration w fault = ⊥
+
+-- how often the device has failed in a migration with this answer
+abbrev pub failures_in : {T : Type 0} → Result T StoreFault → ℕ
+failures_in (Ok value) = 0
+failures_in (Err fault) = failed_in fault

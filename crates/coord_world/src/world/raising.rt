@@ -1,0 +1,74 @@
+//! A world of version 1 in which nothing goes on, as one of version 2.
+
+ghost use Rattle.std.specs.Prelude.{◌≡◌, ◌<◌, ◌≤◌, ℕ, not, false, None, IfOk, IfSome};
+ghost use Rattle.coord_types.specs.declared.messages.Mode.TheVariants.{Ready};
+ghost use Rattle.coord_world.specs.laws.Raised.{raised};
+ghost use Rattle.coord_world.specs.laws.Waves.{AllReady};
+ghost use Rattle.coord_world.specs.protocol.Legal.{Legal};
+ghost use Rattle.coord_world.specs.protocol.Links.{is_ready};
+ghost use Rattle.coord_world.specs.protocol.NumberedWorld.{state};
+ghost use Rattle.coord_world.specs.protocol.Ranges.{InRange};
+ghost use Rattle.coord_world.specs.protocol.Rows.{listed};
+
+use super::World;
+use crate::rows::parts::Parts;
+use coord_types::{Mode, NodeId, Version};
+use std::alloc::AllocError;
+
+impl World {
+    /// The least node that is not Ready; None where every node is.
+    pub fn first_busy(&self) -> Option<NodeId>
+        ensures none { result ≡ None → AllReady self.now }
+        ensures some { IfSome result (λ u. (is_ready (state self.now u).mode ≡ false) × ((v : ℕ) → v < u → (state self.now v).mode ≡ Ready)) }
+    {
+        self.ranges();
+        for number in 1..65u8 {
+            if let Some(id) = NodeId::new(number)
+                && is_busy(self, id)
+            {
+                return Some(id);
+            }
+        }
+        None
+    }
+
+    /// The same world in version 2, in which each distance is 0. It is asked of a world of version 1
+    /// whose nodes are all Ready.
+    pub fn raised(&self) -> Result<World, AllocError>
+        requires first { self.now.version ≡ 1 }
+        requires legal { Legal self.now }
+        requires ready { AllReady self.now }
+        ensures value { IfOk result (λ v. v ≡ raised self.now) }
+        ensures legal { IfOk result (λ v. Legal v) }
+    {
+        self.ranges();
+        let parts = in_second(self.parts()?);
+        World::assemble(self.alloc, parts)
+    }
+}
+
+/// Whether a node is there that is in a reset.
+fn is_busy(world: &World, id: NodeId) -> bool
+    ensures { result ≡ not (is_ready (state world.now id).mode) }
+{
+    match world.node(id) {
+        None => false,
+        Some(node) => node.mode() != Mode::Ready,
+    }
+}
+
+/// These rows in version 2.
+fn in_second(parts: Parts) -> Parts
+    ensures { listed result ≡ record (listed parts) { version = 2 } }
+{
+    let Some(version) = Version::new(2) else {
+        unreachable!()
+    };
+    Parts {
+        version,
+        count: parts.count,
+        nodes: parts.nodes,
+        links: parts.links,
+        clients: parts.clients,
+    }
+}

@@ -1,0 +1,41 @@
+//! A store of version 1 becomes one of version 2, unless a node is in a reset.
+
+use crate::scripts::{begun, commits, opened, order, told_on};
+use coord_store::StoreFault;
+use coord_types::{Command, Group, NodeId};
+use std::alloc::Global;
+use std::test::Fail;
+
+// Whether the store of one node is one of version 2 after a migration, in the other half, and stays
+// so after a second one.
+fn is_migrated(alloc: Global) -> Result<bool, Fail> {
+    let mut store = opened(alloc, begun(alloc, 1)?)?;
+    let first = store.migrate();
+    let second = store.migrate();
+    let disk = store.into_disk();
+    first?;
+    second?;
+    let is_turned = disk.bytes().first() == Some(&1);
+    Ok(is_turned && told_on(alloc, disk)? == (2, 1))
+}
+
+// Whether it is refused where the node was reset and awaits another one.
+fn is_refused_in_a_reset(alloc: Global) -> Result<bool, Fail> {
+    let (one, two) = (NodeId::new(1).unwrap(), NodeId::new(2).unwrap());
+    let group = Group::new(1).unwrap();
+    let add = order(2, &Command::Add(two, group));
+    let join = order(3, &Command::Join(one, two));
+    let reset = order(4, &Command::Reset(one));
+    let mut store = opened(alloc, begun(alloc, 1)?)?;
+    let are_fresh = commits(&mut store, &[add, join, reset]);
+    let answer = store.migrate();
+    let disk = store.into_disk();
+    let is_refused = answer == Err(StoreFault::NotQuiet(one));
+    Ok(are_fresh? && is_refused && told_on(alloc, disk)? == (1, 4))
+}
+
+#[test]
+fn a_quiet_store_is_migrated(rt: HostRuntime) -> Result<(), Fail> {
+    assert!(rt; is_migrated(rt.alloc())? && is_refused_in_a_reset(rt.alloc())?);
+    Ok(())
+}
