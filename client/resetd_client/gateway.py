@@ -5,7 +5,7 @@ from __future__ import annotations
 import os
 import secrets
 import time
-from collections.abc import Callable, Iterable
+from collections.abc import Callable, Iterable, Mapping
 
 from . import files
 from .member import LOOK_SECONDS, confirm, has_to_begin
@@ -26,40 +26,42 @@ POLL_SECONDS = 0.1
 class Seat:
     """A member's place at the gateway: what it was told to begin, and whether it has."""
 
-    def __init__(self, folder: str, node: int) -> None:
-        self.node, self.folder = node, folder
+    def __init__(self, folder: str) -> None:
+        self.folder = folder
         os.makedirs(folder, exist_ok=True)
-        self._wanted: tuple[int, str] | None = None  # told by this process
-        self._is_confirmed = False  # what was told has begun, and was confirmed where that was due
+        self._wanted: tuple[int, str] | None = None  # told by this process, or known from its start on
+        self._is_confirmed = False  # what was told has begun, and was confirmed
         self._run: str | None = "unknown"
 
     @property
     def waits(self) -> bool:
-        """Whether the member was told an epoch and has not said that it began it."""
-        return self._wanted is not None and not self._is_confirmed and not self.has_begun
+        """Whether the member was told an epoch that is not confirmed yet."""
+        return self._wanted is not None and not self._is_confirmed
 
     @property
     def has_begun(self) -> bool:
-        """Whether the member has begun what this process told it."""
+        """Whether the member has begun what it was told."""
         return self._wanted is not None and self._read("begun") == "{} {}\n".format(*self._wanted)
 
-    def next_epoch(self, row: Node) -> int | None:
-        """Tells the member to begin where that is due, and answers an epoch that is now to be confirmed.
+    def update(self, row: Node) -> bool:
+        """Tells the member to begin the shown epoch where that is due. Whether it has begun it.
 
-        Only what this process told counts as begun for the shown epoch: after a start nobody can say whether an
-        epoch that was not confirmed was begun for this reset, and it is told again.
+        Only what this process told counts as begun for an epoch that is not confirmed: after a start nobody can say
+        for which reset it was begun, and it is told again.
         """
         if self._wanted is None:
             self._note_start(row)
-        if self._wanted is None or (self._is_confirmed and has_to_begin(row, self._wanted[0])):
+        if self._wanted is None or self._wanted[0] != row.epoch or (
+                self._is_confirmed and has_to_begin(row, self._wanted[0])):
             self._want(row.epoch)
-        elif not self._is_confirmed:
-            if row.epoch != self._wanted[0]:
-                self._want(row.epoch)
-            elif self.has_begun:
-                self._is_confirmed = True
-                return row.epoch if row.epoch > row.confirmed else None
-        return None
+        has_begun = self.has_begun
+        if has_begun and row.epoch == row.confirmed:
+            self._is_confirmed = True
+        return has_begun
+
+    def note_confirmed(self) -> None:
+        """The epoch that the member was told, and has begun, was confirmed."""
+        self._is_confirmed = True
 
     def set_run(self, run: str | None) -> None:
         """Writes down, or takes away, the run that the member may talk in."""
@@ -89,12 +91,13 @@ class Seat:
 
 
 class Gateway:
-    """Serves members: node N has the folder FOLDER/N. Its own orders are kept in FOLDER/orders."""
+    """Serves members. `members` has the names of each node's members, and the member NAME has the folder
+    FOLDER/NAME: several members of one node, as the processes of one host, all begin before it is confirmed."""
 
-    def __init__(self, port: Port, orders: Orders, nodes: Iterable[int], folder: str, *, word: str = "",
-                 told: Callable[[str], None] = warn) -> None:
+    def __init__(self, port: Port, orders: Orders, members: Mapping[int, Iterable[str]], folder: str, *,
+                 word: str = "", told: Callable[[str], None] = warn) -> None:
         self.port, self.orders, self._word, self._told = port, orders, word, told
-        self.seats = [Seat(os.path.join(folder, str(node)), node) for node in nodes]
+        self.seats = {node: [Seat(os.path.join(folder, name)) for name in names] for node, names in members.items()}
         self._absent: set[int] = set()
 
     def look(self) -> View:
@@ -103,11 +106,12 @@ class Gateway:
         while True:
             view = self.port.show()
             rows = {row.node: row for row in view.nodes}
-            self._note_absent({seat.node for seat in self.seats} - set(rows))
-            due = [(seat, epoch) for seat in self.seats
-                   if seat.node in rows and (epoch := seat.next_epoch(rows[seat.node])) is not None]
-            for seat, epoch in due:
-                confirm(self.orders, seat.node, epoch)
+            self._note_absent(set(self.seats) - set(rows))
+            due = [node for node in self.seats if node in rows and self._is_due(node, rows[node])]
+            for node in due:
+                confirm(self.orders, node, rows[node].epoch)
+                for seat in self.seats[node]:
+                    seat.note_confirmed()
             if not due:
                 self._tell_runs(view)
                 return view
@@ -117,25 +121,31 @@ class Gateway:
         that the coordinator was away."""
         while True:
             view = patiently(self.look, told=lambda away: self._told(f"{away}; tried again"))
-            is_through = not any(view.awaited(seat.node) for seat in self.seats)
+            is_through = not any(view.awaited(node) for node in self.seats)
             if self._wait(wakes, every if is_through else min(every, 1.0)) is Wake.END:
                 return
+
+    def _is_due(self, node: int, row: Node) -> bool:
+        """Whether all members of a node have begun its epoch, and that is to be confirmed."""
+        have_begun = [seat.update(row) for seat in self.seats[node]]
+        return all(have_begun) and row.epoch > row.confirmed
 
     def _wait(self, wakes: Wakes, seconds: float) -> Wake:
         """Waits for a wake-up, or for a member that has begun what it was told."""
         until = time.monotonic() + seconds
+        waiting = [seat for seats in self.seats.values() for seat in seats if seat.waits and not seat.has_begun]
         while (left := until - time.monotonic()) > 0:
-            waiting = [seat for seat in self.seats if seat.waits]
             wake = wakes.wait(min(left, POLL_SECONDS) if waiting else left)
             if wake is not Wake.QUIET or any(seat.has_begun for seat in waiting):
                 return wake
         return Wake.QUIET
 
     def _tell_runs(self, view: View) -> None:
-        for seat in self.seats:
-            row = view.node(seat.node)
-            is_through = row is not None and not view.awaited(seat.node) and not seat.waits
-            seat.set_run(f"{row.epoch} {view.tag(seat.node, self._word)}\n" if row and is_through else None)
+        for node, seats in self.seats.items():
+            row = view.node(node)
+            is_through = row is not None and not view.awaited(node) and not any(seat.waits for seat in seats)
+            for seat in seats:
+                seat.set_run(f"{row.epoch} {view.tag(node, self._word)}\n" if row and is_through else None)
 
     def _note_absent(self, absent: set[int]) -> None:
         if absent != self._absent:

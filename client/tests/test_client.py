@@ -154,18 +154,13 @@ class Numbers(Case):
         self.assertTrue(any("had no answer" in text for text in self.told))
 
     def test_a_count_is_found_from_anywhere(self) -> None:
+        self.fake.steps = 1_000
         for made in (0, 1, 2, 70, 300):
-            fake = Fake()
-            self.addCleanup(fake.close)
-            fake.ring(2)
-            port = Port(fake.address, 2)
-            orders = Orders(port, 3, f"{self.folder}/{made}")
-            for _ in range(made):
-                orders.order("reset", node=1)
-            orders.close()
+            if made:
+                self.fake.sessions[3] = (made, {"op": "reset", "node": 1}, {"kind": "started", "step": 5})
             for near in (0, made, made + 1, 5_000):
-                self.assertEqual(find_count(port, 3, near), made)
-            self.assertEqual(fake.sessions.get(3, (0,))[0], made)
+                self.assertEqual(find_count(self.port, 3, near), made)
+        self.assertEqual(self.fake.sessions[3][0], 300)
 
     def test_a_count_is_found_without_nodes(self) -> None:
         fake = Fake()
@@ -341,7 +336,8 @@ class Gateways(Case):
 
     def started(self, name: str) -> Gateway:
         self.book = self.orders(5, "book")
-        return Gateway(self.port, self.book, [1, 2, 3], f"{self.folder}/members", told=self.told.append)
+        return Gateway(self.port, self.book, {1: ["1"], 2: ["2"], 3: ["3"]}, f"{self.folder}/members",
+                       told=self.told.append)
 
     def restarted(self) -> Gateway:
         self.book.close()
@@ -394,6 +390,19 @@ class Gateways(Case):
         self.assertEqual(self.all_begin(), [None, None, None])
         self.fake.nodes[3] = [1, 5, 5]
         self.assertEqual(self.all_begin(), [None, None, 5])
+
+    def test_all_members_of_a_node_begin_before_it_is_confirmed(self) -> None:
+        self.book.close()
+        self.gateway = Gateway(self.port, self.orders(5, "book"), {1: ["1", "2"], 3: ["3"]}, f"{self.folder}/members",
+                               told=self.told.append)
+        self.fake.reset(1)
+        self.gateway.look()
+        self.begin(1)
+        self.gateway.look()
+        self.assertEqual(self.fake.nodes[1][2], 0)
+        self.begin(2)
+        self.gateway.look()
+        self.assertEqual(self.fake.nodes[1][2], 1)
 
     def test_it_waits_for_its_members(self) -> None:
         threading.Thread(target=self.gateway.follow, args=(Follower(f"{self.folder}/none"), 0.2), daemon=True).start()
