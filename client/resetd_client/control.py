@@ -14,7 +14,7 @@ import sys
 import time
 from collections.abc import Callable
 
-from . import files
+from . import __version__, files
 from .answers import Away, NotNow, NotTaken, Reply
 from .files import Held
 from .health import Bounds, Level, Since, check, metrics
@@ -35,6 +35,11 @@ class Control:
         self.words = words
         self.port = Port(words.address, words.seconds)
         self.folder = os.path.join(words.state, words.address.replace(":", "_").replace("/", "_"))
+
+    def tell(self, text: str) -> None:
+        """Prints the reply of an order."""
+        if not self.words.quiet:
+            print(text, flush=True)
 
     def patient(self, call: Callable[[], View]) -> View:
         return patiently(call, self.words.patience)
@@ -104,19 +109,19 @@ def order(control: Control) -> int:
     with control.orders() as book:
         control.settle(book)
         reply = control.carry_out(book, words.command, **members)
-    print(f"{reply.kind} {reply.step}")
+    control.tell(f"{reply.kind} {reply.step}")
     return DONE
 
 
 def resend(control: Control) -> int:
-    print(f"resent {patiently(control.port.resend, control.words.patience)}")
+    control.tell(f"resent {patiently(control.port.resend, control.words.patience)}")
     return DONE
 
 
 def close(control: Control) -> int:
     """Ends the server. That it answers Stopped to all else does not matter here."""
     control.port.close()
-    print("closed")
+    control.tell("closed")
     return DONE
 
 
@@ -232,6 +237,7 @@ def default_state() -> str:
 
 def parser() -> argparse.ArgumentParser:
     top = argparse.ArgumentParser(prog="resetctl", description=__doc__, formatter_class=argparse.RawDescriptionHelpFormatter)
+    top.add_argument("--version", action="version", version=f"resetctl {__version__}")
     top.add_argument("--address", default=os.environ.get("RESETD_ADDRESS", "127.0.0.1:4170"),
                      help="HOST:PORT of the coordinator, or several with commas between (RESETD_ADDRESS, 127.0.0.1:4170)")
     top.add_argument("--client", type=int, choices=CLIENTS, metavar="C",
@@ -241,6 +247,7 @@ def parser() -> argparse.ArgumentParser:
     top.add_argument("--patience", type=float, default=30.0, metavar="SECONDS",
                      help="how long the same order is sent again while no answer comes (30)")
     top.add_argument("--seconds", type=float, default=20.0, metavar="SECONDS", help="how long one answer may take (20)")
+    top.add_argument("--quiet", action="store_true", help="prints no reply of an order, of resend and of close")
     commands = top.add_subparsers(dest="command", required=True, metavar="COMMAND")
 
     def command(name: str, call: Callable[[Control], int], about: str, *numbers: str) -> argparse.ArgumentParser:

@@ -12,7 +12,7 @@ from .signals import Wake, Wakes
 from .view import Node, View
 
 LOOK_SECONDS = 30.0
-FIRST_WAIT = 0.1  # seconds between looks while others are not through; 20 times as long in the end
+FIRST_WAIT = 0.1  # seconds between looks while others are not through; some 2 seconds in the end
 MOST_TURNS = 100  # of one look: each begins or confirms an epoch that is new
 
 
@@ -80,7 +80,7 @@ class Member:
             self._waits = 0
             return every
         self._waits += 1
-        return min(every, FIRST_WAIT * 1.3 ** min(self._waits, 20))
+        return min(every, FIRST_WAIT * 1.3 ** min(self._waits, 12))
 
     def _advance(self, row: Node) -> bool:
         """Begins the shown epoch where that is due, and confirms it where it is above the confirmed one. Whether

@@ -23,9 +23,9 @@ REPLY_SECONDS = 20.0  # a server serves one connection at a time, and ends one t
 class Port:
     """Asks a coordinator, one connection after the other, each closed at once: the port serves one at a time.
 
-    `addresses` are `HOST:PORT`, one or several with commas between; they are tried in turn, beginning with the
-    one that answered last, and one that answers Stopped gives way to the next. No line is sent to two of them but
-    where it got no answer.
+    `addresses` are `HOST:PORT`, one or several with commas between, all of one coordinator, of which one serves at a
+    time; they are tried in turn, beginning with the one that answered last. One that gives no answer, or answers
+    Stopped, PendingFull or OutOfMemory, gives way to the next.
     """
 
     def __init__(self, addresses: str, seconds: float = REPLY_SECONDS) -> None:

@@ -47,13 +47,15 @@ class Fake:
 
     def copy(self) -> dict[str, Any]:
         """What a copy of the store would have."""
-        return json.loads(json.dumps({"nodes": list(self.nodes.items()), "links": [[*k, v] for k, v in self.links.items()],
-                                      "sessions": list(self.sessions.items()), "steps": self.steps}))
+        copy: dict[str, Any] = json.loads(json.dumps({
+            "nodes": list(self.nodes.items()), "links": [[*k, v] for k, v in self.links.items()],
+            "sessions": list(self.sessions.items()), "steps": self.steps}))
+        return copy
 
     def restore(self, copy: dict[str, Any]) -> None:
         self.nodes = {int(node): list(row) for node, row in copy["nodes"]}
         self.links = {(a, b): inc for a, b, inc in copy["links"]}
-        self.sessions = {int(client): tuple(kept) for client, kept in copy["sessions"]}
+        self.sessions = {int(client): (last, order, reply) for client, (last, order, reply) in copy["sessions"]}
         self.steps = copy["steps"]
 
     def reset(self, node: int) -> None:

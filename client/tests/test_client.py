@@ -5,6 +5,7 @@ from __future__ import annotations
 import io
 import json
 import os
+import re
 import sys
 import tempfile
 import threading
@@ -16,7 +17,7 @@ sys.path.insert(0, os.path.join(os.path.dirname(os.path.abspath(__file__)), ".."
 from fake import Fake  # noqa: E402
 from resetd_client import (  # noqa: E402
     Away, CountLost, CountNotFound, Fault, Faulted, Follower, Garbled, Gateway, Held, Member, NotNow, Orders, Port,
-    Refusal, Refused, Reply, Served, Stream, View, Wake, find_count, has_to_begin, patiently)
+    Refusal, Refused, Reply, Served, Stream, View, Wake, __version__, find_count, has_to_begin, patiently)
 from resetd_client.control import main  # noqa: E402
 from resetd_client.health import Bounds, Level, Since, check, metrics  # noqa: E402
 from resetd_client.orders import outwards  # noqa: E402
@@ -307,6 +308,20 @@ class Members(Case):
         self.assertIsNone(member.run)
 
 
+class Versions(unittest.TestCase):
+    def test_one_version_stands_everywhere(self) -> None:
+        root = os.path.join(os.path.dirname(os.path.abspath(__file__)), "../..")
+
+        def found(path: str, pattern: str) -> str:
+            with open(os.path.join(root, path), encoding="utf-8") as file:
+                match = re.search(pattern, file.read(), re.MULTILINE)
+            return match[1] if match else "none"
+        version = found("CHANGELOG.md", r"^## ([0-9.]+)$")
+        for page in ("docs/resetd.8", "docs/resetctl.8"):
+            self.assertEqual(found(page, r'^\.TH .* "resetd ([0-9.]+)"'), version)
+        self.assertEqual(__version__, version)
+
+
 class Wakes(Case):
     def test_a_file_that_grows_is_cut_replaced_and_gone(self) -> None:
         path = f"{self.folder}/signals"
@@ -525,6 +540,7 @@ class Controls(Case):
         self.assertEqual(self.run_words("drop", "2", "1")[:2], (0, "done 6\n"))
         self.assertEqual(self.run_words("remove", "2")[:2], (0, "done 7\n"))
         self.assertEqual(self.run_words("resend")[:2], (0, "resent 0\n"))
+        self.assertEqual(self.run_words("--quiet", "close")[:2], (0, ""))
         self.assertEqual(self.run_words("close")[:2], (0, "closed\n"))
 
     def test_the_count_of_another_person(self) -> None:
