@@ -74,6 +74,14 @@ gate_place half_size half used = 16 + half_start half half_size + used
 abbrev pub IsText : Content → List ℕ → Type 0
 IsText content bytes = (half_size half used : ℕ) × IsTextAt bytes content half_size half used
 
+-- these bytes are a text in this half
+abbrev pub IsTextIn : ℕ → List ℕ → Type 0
+IsTextIn half bytes = (content : Content) × (half_size : ℕ) × (used : ℕ) × IsTextAt bytes content half_size half used
+
+-- these bytes are a text in this half, where a body of so many bytes still fits
+abbrev pub HasPlaceIn : ℕ → ℕ → List ℕ → Type 0
+HasPlaceIn half len bytes = (content : Content) × (half_size : ℕ) × (used : ℕ) × IsTextAt bytes content half_size half used × (used + 5 + len ≤ half_size)
+
 -- with nothing behind the snapshot
 abbrev pub without_batch : ℕ → List ℕ → Content
 without_batch version snapshot = record { version = version; snapshot = snapshot; batches = [] }
