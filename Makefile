@@ -1,5 +1,5 @@
 # What a person would ask for. The toolchain's command `rt` has to be on the PATH.
-.PHONY: help demo drill example soak build test refusals bench sweep install uninstall
+.PHONY: help demo drill example services soak takeover build test refusals bench sweep install uninstall deb
 
 PREFIX ?= /usr/local
 # So many checks run at a time, each on one processor and with up to 4 GB of memory.
@@ -9,13 +9,16 @@ help:
 	@echo 'make demo      eight services and a coordinator that is killed in the middle of a reset and started again'
 	@echo 'make drill     one reset of two nodes, each line that the drill reads beside what it prints'
 	@echo 'make example   the example services of examples/ around a coordinator, in a few seconds'
+	@echo 'make services  tries what services rest on: restore, members that come again, torn and lost lines, 64 members, messages'
 	@echo 'make build     proves every crate, and leaves the program at bin/resetd'
 	@echo 'make test      the gate: every proof from nothing, the must-fail edits, every test and both programs'
 	@echo 'make refusals  tries the other wrong bodies, which the prover has to refuse (CRATE=NAME for one crate)'
 	@echo 'make bench     measures the drill on a ring of 64 nodes with chords, its parts, the store, the ledger, the engine and the server'
 	@echo 'make soak      kills a coordinator 200 times and looks for what was lost (ROUNDS=N for N times)'
+	@echo 'make takeover  a coordinator on a replicated volume of three hosts, each in namespaces; hosts and bricks are lost'
 	@echo 'make sweep     refuses each allocation of every test and of the programs in turn, for 12 seconds each (EACH=N for N, 0 for all)'
-	@echo 'make install   copies bin/resetd and its manual page below PREFIX (/usr/local); make uninstall takes them away'
+	@echo 'make install   copies the program, resetctl, the client library, examples, documents and manual pages below PREFIX (/usr/local); make uninstall takes them away'
+	@echo 'make deb       builds a Debian package of all that with dpkg-deb'
 	@echo 'make help      prints this'
 
 demo:
@@ -27,8 +30,15 @@ drill:
 example: bin/resetd
 	@examples/run
 
+services: bin/resetd
+	@python3 -m unittest discover -s client/tests
+	@tools/test_services
+
 soak: bin/resetd
 	@tools/soak --rounds $(or $(ROUNDS),200)
+
+takeover: bin/resetd
+	@tools/takeover
 
 build:
 	rt all check --jobs $(JOBS)
@@ -53,13 +63,33 @@ sweep:
 test:
 	rt ci
 
+SHARE = $(DESTDIR)$(PREFIX)/share/resetd
+
+# What stands below share/resetd has the places of the repository, so that each part finds the others.
 install: bin/resetd
 	install -D -m 755 bin/resetd $(DESTDIR)$(PREFIX)/bin/resetd
+	install -d $(SHARE)/client/resetd_client $(SHARE)/tools/picture $(SHARE)/examples $(SHARE)/docs
+	install -m 755 client/resetctl $(SHARE)/client/
+	install -m 644 client/resetd_client/*.py $(SHARE)/client/resetd_client/
+	install -m 755 tools/wave $(SHARE)/tools/
+	install -m 644 tools/picture/*.py $(SHARE)/tools/picture/
+	install -m 755 examples/ask examples/gateway examples/local_check examples/member examples/run examples/service examples/talk $(SHARE)/examples/
+	install -m 644 examples/coordinator.py examples/ring.toml $(SHARE)/examples/
+	for unit in examples/*.service examples/*.timer; do sed 's|/usr/local/bin/|$(PREFIX)/bin/|' $$unit > $(SHARE)/$$unit; chmod 644 $(SHARE)/$$unit; done
+	install -m 644 docs/OPERATING.md docs/FORMATS.md docs/SERVICES.md docs/PROTOCOL.md docs/*.svg $(SHARE)/docs/
+	install -m 644 CHANGELOG.md $(SHARE)/
+	ln -sfn ../share/resetd/client/resetctl $(DESTDIR)$(PREFIX)/bin/resetctl
 	install -D -m 644 docs/resetd.8 $(DESTDIR)$(PREFIX)/share/man/man8/resetd.8
+	install -D -m 644 docs/resetctl.8 $(DESTDIR)$(PREFIX)/share/man/man8/resetctl.8
+
+deb: bin/resetd
+	@tools/deb
 
 bin/resetd:
 	@echo 'there is no proved program yet: make build makes it' >&2
 	@exit 1
 
 uninstall:
-	rm -f $(DESTDIR)$(PREFIX)/bin/resetd $(DESTDIR)$(PREFIX)/share/man/man8/resetd.8
+	rm -f $(DESTDIR)$(PREFIX)/bin/resetd $(DESTDIR)$(PREFIX)/bin/resetctl
+	rm -f $(DESTDIR)$(PREFIX)/share/man/man8/resetd.8 $(DESTDIR)$(PREFIX)/share/man/man8/resetctl.8
+	rm -rf $(SHARE)

@@ -43,6 +43,8 @@ def one_fault(ring, call, place, error):
     if ended != (STOPPED_BY_DEVICE if has_failed else (0, "")):
         raise Lost(f"{call} {place} ({error}): the coordinator ended with {ended}")
     ring.history.note_signals(server.new_signals())
+    ring.history.look_into(server)
+    ring.history.note_taken()
     kills.finish(ring)
     return has_failed
 

@@ -9,6 +9,8 @@ class History:
         self.epochs = {}  # the greatest epoch of each node that was printed or shown
         self.printed = set()
         self.count = 0  # how many steps the store had when it was last looked into
+        self.accounted = {}  # up to which epoch of each node every signal was printed, or taken by a kill
+        self.taken = 0  # how many signals were taken by a kill
 
     def note_signals(self, signals):
         for node, epoch in signals:
@@ -23,6 +25,22 @@ class History:
             if epochs.get(node, 0) < epoch:
                 raise Lost(f"node {node} was seen in epoch {epoch}, and is in epoch {epochs.get(node)}")
         self.epochs = dict(epochs)
+
+    def unprinted(self):
+        """The signals of epochs that were shown, which were neither printed nor taken by a kill before."""
+        return [(node, epoch) for node, last in self.epochs.items()
+                for epoch in range(self.accounted.get(node, 0) + 1, last + 1) if (node, epoch) not in self.printed]
+
+    def expect_printed(self):
+        """Where nothing was killed and the device has not failed, each signal that was settled was printed."""
+        if missing := self.unprinted():
+            raise Lost(f"signal {missing[0][0]} {missing[0][1]} was settled and not printed, one of {len(missing)}")
+        self.accounted = dict(self.epochs)
+
+    def note_taken(self):
+        """Signals that were settled may be taken by a kill, or by a fault of the device, before they are printed."""
+        self.taken += len(self.unprinted())
+        self.accounted = dict(self.epochs)
 
     def look_into(self, server):
         """Checks and shows a store that no process serves: how many steps it has, and whether a reset is on its way."""

@@ -71,6 +71,7 @@ def after_kill(ring, listened):
         raise Lost(f"the coordinator ended by itself with status {status}: {told}")
     ring.history.note_signals(ring.server.new_signals())
     _, is_going = ring.history.look_into(ring.server)
+    ring.history.note_taken()
     return "before it listened" if not listened else "in a reset" if is_going else "between resets"
 
 
@@ -89,11 +90,11 @@ def finish(ring):
     ring.server.must_close()
     ring.history.note_signals(ring.server.new_signals())
     ring.history.look_into(ring.server)
+    ring.history.expect_printed()
 
 
 def tell(ring, done, kinds):
     history = ring.history
-    lost = sum(history.epochs.values()) - len(history.printed)
     where = ", ".join(f"{number} {kind}" for kind, number in kinds.items())
     print(f"{done} kills ({where}): {history.count} steps, {len(history.printed)} signals printed, each once; "
-          f"{lost} settled and taken by a kill, so told by epochs alone", flush=True)
+          f"{history.taken} settled and taken by a kill, so told by epochs alone", flush=True)

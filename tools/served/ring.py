@@ -65,9 +65,19 @@ class Ring:
             self.history.note_epochs(epochs)
             if all(row[2] == "ready" for row in view["nodes"]) and self.server.ask({"op": "resend"}) == \
                     {"count": 0, "kind": "resent"}:
-                return self.compare(epochs)
+                self.compare(epochs)
+                return self.await_signals(until)
             time.sleep(0.005)
         raise Lost(f"a reset has not come to its end within {PATIENCE} seconds")
+
+    def await_signals(self, until):
+        """Waits until each signal that was settled is printed: that comes behind the answers."""
+        while self.history.unprinted() and time.monotonic() < until:
+            if self.server.process.poll() is not None:
+                raise Away("the coordinator is gone")
+            self.history.note_signals(self.server.new_signals())
+            time.sleep(0.005)
+        self.history.expect_printed()
 
     def compare(self, epochs):
         """Where no reset was started, no epoch rose; one alone raised each by one; of several, each node that

@@ -1,10 +1,13 @@
 pub mod Blip
 pub mod Failing
-pub mod File
 pub mod Filled
 pub mod Fuse
 pub mod Gate
 pub mod History
 pub mod Left
 pub mod Memory
+pub mod MemoryFile
 pub mod MemoryLaws
+pub mod Raw
+pub mod System
+pub mod Torn

@@ -11,6 +11,17 @@ pub struct Blip {
     left: Option<u64>,
 }
 
+impl Blip {
+    ghost use Rattle.coord_disk.specs.Disks.Blip.{left_of};
+
+    /// With the number of the call to fail, counted from 0.
+    pub(crate) fn at(fails: u64) -> Self
+        ensures { left_of result ≡ Some fails }
+    {
+        Blip { left: Some(fails) }
+    }
+}
+
 /// A disk that fails one call.
 pub type BlipDisk<D> = FailingDisk<D, Blip>;
 
@@ -37,6 +48,6 @@ impl<D: Disk> FailingDisk<D, Blip> {
         ensures calls { calls_of result ≡ 0 }
         ensures failed { failed_of result ≡ 0 }
     {
-        FailingDisk::over(inner, Blip { left: Some(fails) })
+        FailingDisk::over(inner, Blip::at(fails))
     }
 }

@@ -8,7 +8,13 @@
 //! syncs (`write_at` and `sync`, clauses `crash` and `time`); its `crash` leaves what was chosen.
 //! A `FailingDisk` is any disk with calls that fail by a `Rule`, as a fuse (`FuseDisk`), a blip
 //! (`BlipDisk`) or a gate at which syncs wait (`GateDisk`), and are passed on once otherwise. A
-//! `FileDisk` is a file of the system, and claims no model.
+//! `TornDisk` writes the first bytes of a write that fails.
+//!
+//! `RawFile` is a file as the system has it: the calls that a disk makes of it, and what it may keep.
+//! A `RawDisk` is the disk over such a file. It keeps the model where the file does, and its clauses
+//! `call` and `none` say which calls it makes. A `MemFile`, in memory, keeps the model and promises
+//! no more; a `SystemFile` claims nothing: that a file of the system keeps the model is the premise.
+//! A `FileDisk` is the disk over one.
 #![tactic(auto)]
 
 mod blip;
@@ -17,18 +23,26 @@ mod crash;
 mod disk;
 mod failing;
 mod fault;
-mod file;
 mod fuse;
 mod gate;
 mod history;
 mod memory;
+mod memory_file;
+mod over;
+mod raw;
+mod system;
+mod torn;
 
 pub use blip::{Blip, BlipDisk};
 pub use choice::Choice;
 pub use disk::{CrashDisk, Disk};
 pub use failing::{Call, FailingDisk, Rule};
 pub use fault::DiskFault;
-pub use file::FileDisk;
 pub use fuse::{Fuse, FuseDisk};
 pub use gate::{Gate, GateDisk};
 pub use memory::MemDisk;
+pub use memory_file::{MemFile, Syncs};
+pub use over::RawDisk;
+pub use raw::RawFile;
+pub use system::{FileDisk, SystemFile};
+pub use torn::TornDisk;

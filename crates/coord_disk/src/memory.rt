@@ -1,6 +1,6 @@
 //! A disk in memory, which may be crashed at will.
 
-ghost use Rattle.std.specs.Prelude.{◌≡◌, ◌+◌, ◌<◌, ◌≤◌, ◌^◌, [], true, List, ℕ, length, Some, None, IfOk, OnOk, OnErr, IsSome};
+ghost use Rattle.std.specs.Prelude.{◌≡◌, ◌↔◌, ◌+◌, ◌<◌, ◌≤◌, ◌^◌, [], true, List, ℕ, length, Some, None, IsTrue, IfOk, OnOk, OnErr, IsSome};
 ghost use Rattle.std.specs.Option.{ForSome};
 ghost use Rattle.coord_disk.specs.Model.Present.{IsImage, overwritten, whole, written_at};
 ghost use Rattle.coord_disk.specs.Disks.History.{Past, LedTo, Adds, LeftSince, past_with, present_after};
@@ -73,6 +73,16 @@ impl MemDisk {
         ensures failures { failures_of self.new ≡ failures_of self.old }
     {
         self.choice = choice;
+    }
+
+    /// Whether the length is the one that is synced.
+    pub(crate) fn is_level(&self) -> bool
+        ensures { IsTrue result ↔ (length (present_of self.now).synced ≡ length (present_of self.now).read) }
+    {
+        match &self.history {
+            Some(history) => history.synced.len() == self.read.len(),
+            None => true,
+        }
     }
 
     // From here on what is done is recorded.

@@ -1,5 +1,5 @@
 -- Notes of packets' steps.
-use Rattle.std.proofs.Common.{◌≡◌, List, [], ◌∷◌, ◌++◌, Result, Ok, Err, sym, ap, ◌∙◌}
+use Rattle.std.proofs.Common.{◌≡◌, List, [], ◌∷◌, ◌++◌, Result, Ok, Err, sym, ap, ◌∙◌, subst}
 use Rattle.std.specs.Prelude.{All}
 use Rattle.std.proofs.lemmas.List.{append-nil, append_assoc}
 use Rattle.std.proofs.lemmas.List.Elements.{All-append, All-nil, All-push}
@@ -12,6 +12,7 @@ use Rattle.coord_ledger.specs.declared.ticket.Note.{Note}
 use Rattle.coord_ledger.specs.ledger.State.{Claim}
 use Rattle.coord_engine.specs.Calls.{AnswersStep, LedgerAndNotes, note_of, told}
 use Rattle.coord_engine.specs.Port.{step_of}
+use Rattle.coord_engine.specs.State.{Basis}
 use Rattle.coord_engine.specs.Threads.{AtSomeMoment, Submits}
 use Rattle.coord_engine.specs.Working.{AddsPackets, IsOfPacket}
 
@@ -28,6 +29,10 @@ adds_more a b c f g =
       packets = All-append IsOfPacket f.added g.added f.packets g.packets;
     }
 
+-- where all notes were of packets, they still are
+pub all_of_packets : (notes later : List Note) → AddsPackets notes later → All IsOfPacket notes → All IsOfPacket later
+all_of_packets notes later adds all = subst (All IsOfPacket) (sym adds.are) (All-append IsOfPacket notes adds.added all adds.packets)
+
 -- what is added with an answer to a packet's step
 answered : (D : Type 0) (p : Packet) (s : Step) → s ≡ step_of p → (v : Result Verdict Refusal) (before : LedgerAndNotes D) (answer : Result Claim Refusal) (after : LedgerAndNotes D) → AnswersStep s v before answer after → AddsPackets before.notes after.notes
 answered D p s is (Ok (Fresh kind)) before (Ok claim) after a =
@@ -43,5 +48,5 @@ answered D p s is (Ok (Repeat kept)) before (Err refusal) after a = adds_none be
 answered D p s is (Err why) before (Err refusal) after a = adds_none before.notes after.notes (ap (λ (x : LedgerAndNotes D). x.notes) a.1)
 
 -- what is added where it was submitted
-pub adds_packet : {D : Type 0} (p : Packet) (s : Step) → s ≡ step_of p → (answer : Result Claim Refusal) (notes later : List Note) → AtSomeMoment (Submits {D = D} s answer notes later) → AddsPackets notes later
-adds_packet {D} p s is answer notes later moment = answered D p s is (told moment.state s) (record { ledger = moment.state.ledger; notes = notes }) answer (record { ledger = moment.so.0; notes = later }) moment.so.1
+pub adds_packet : {D : Type 0} (b : Basis D) (p : Packet) (s : Step) → s ≡ step_of p → (answer : Result Claim Refusal) (notes later : List Note) → AtSomeMoment b (Submits {D = D} s answer notes later) → AddsPackets notes later
+adds_packet {D} b p s is answer notes later moment = answered D p s is (told moment.state s) (record { ledger = moment.state.ledger; notes = notes }) answer (record { ledger = moment.so.0; notes = later }) moment.so.1

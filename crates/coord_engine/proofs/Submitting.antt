@@ -61,6 +61,18 @@ module _ {D : Type 0} where
   accepted_step s (Ok (Repeat kept)) l later claim notes a grown = absurd (grown (as_long (a.repeated kept refl).1))
   accepted_step s (Err why) l later claim notes a grown = absurd (subst is_ticket (a.refused why refl) tt)
 
+  -- it is the next step of the trail
+  pub stepped : (s : Step) (v : Result Verdict Refusal) (l later : LedgerState D) (claim : Claim) → LedgerAnswers s v l later (Ok claim) → (length later.log.trail ≡ length l.log.trail → ⊥) → later ≡ with_accepted l s
+  stepped s (Ok (Fresh kind)) l later claim a grown = (a.fresh kind refl).1
+  stepped s (Ok (Repeat kept)) l later claim a grown = absurd (grown (as_long (a.repeated kept refl).1))
+  stepped s (Err why) l later claim a grown = absurd (subst is_ticket (a.refused why refl) tt)
+
+  -- where it didn't grow, nothing has changed
+  pub stayed : (s : Step) (v : Result Verdict Refusal) (l later : LedgerState D) (claim : Claim) → LedgerAnswers s v l later (Ok claim) → length later.log.trail ≡ length l.log.trail → later ≡ l
+  stayed s (Ok (Fresh kind)) l later claim a short = absurd (omega (arith, short, longer l s (a.fresh kind refl).1))
+  stayed s (Ok (Repeat kept)) l later claim a short = (a.repeated kept refl).1
+  stayed s (Err why) l later claim a short = absurd (subst is_ticket (a.refused why refl) tt)
+
   -- and one with which it didn't was a repeat
   pub repeated_step : (s : Step) (v : Result Verdict Refusal) (l later : LedgerState D) (claim : Claim) (notes : List Note) → LedgerAnswers s v l later (Ok claim) → length later.log.trail ≡ length l.log.trail
       → AnswersStep s v (held l notes) (Ok claim) (held later notes)

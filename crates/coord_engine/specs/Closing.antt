@@ -1,5 +1,7 @@
 -- Why an engine isn't taken apart, and the numbers and names of these faults.
-use Rattle.std.specs.Prelude.{◌≡◌, ◌≢◌, ℕ, ◌+◌, true, false, List, codes, drop, is_none, length}
+use Rattle.std.specs.Prelude.{◌≡◌, ◌≢◌, ℕ, ◌+◌, true, false, List, codes, drop, is_none, length, take}
+use Rattle.coord_types.specs.declared.steps.Step.{Step}
+use Rattle.coord_world.specs.protocol.NumberedWorld.{World}
 use Rattle.coord_ledger.specs.declared.ticket.Note.{Note}
 use Rattle.coord_engine.specs.Named.{IsNamed}
 use Rattle.coord_engine.specs.State.{GuardedState}
@@ -15,6 +17,12 @@ abbrev pub fault_name : CloseFault → List ℕ
 fault_name FlightOut = codes "FlightOut"
 fault_name SharesMissing = codes "SharesMissing"
 fault_name NotNamed = codes "NotNamed"
+
+-- What is left is of a ledger that had this base and had accepted these steps, and that has accepted since just what the shares noted: each step once, and each share's own in order.
+pub record IsSince (base : World) (before : List Step) (shares : List (List Note)) (left : World) (trail : List Step) : Type 0 where
+  pub same_base : left ≡ base
+  pub begins : take (length before) trail ≡ before
+  pub named : IsNamed shares (base.count + length before) (drop (length before) trail)
 
 -- the steps that were accepted since the engine was made are what the shares noted
 abbrev pub IsNamedBy : {D : Type 0} → GuardedState D → List (List Note) → Type 0

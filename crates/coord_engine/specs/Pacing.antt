@@ -26,4 +26,4 @@ wakes_flusher g = not (is_idle g) && (nat_eq (pending_count g) 1 || starts_at_on
 
 -- with another count of packets in hand
 abbrev pub with_in_hand : {D : Type 0} → GuardedState D → ℕ → GuardedState D
-with_in_hand g n = record { ledger = g.ledger; start = g.start; given = g.given; finishing = g.finishing; in_hand = n }
+with_in_hand g n = record g { in_hand = n }

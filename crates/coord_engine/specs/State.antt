@@ -1,5 +1,9 @@
 -- The value under an engine's lock as contracts see it, what a lock can hold, and what becomes of it.
-use Rattle.std.specs.Prelude.{◌≡◌, ℕ, ◌+◌, ◌≤◌, Bool, true, false, is_none, is_some, length, IfSome}
+use Rattle.std.specs.Prelude.{◌≡◌, ℕ, ◌+◌, ◌≤◌, Bool, true, false, List, None, is_none, is_some, length, take, IfSome}
+use Rattle.coord_disk.specs.Model.Present.{Present}
+use Rattle.coord_types.specs.declared.steps.Step.{Step}
+use Rattle.coord_world.specs.protocol.NumberedWorld.{World}
+use Rattle.coord_ledger.specs.ledger.Calls.{LedgerGives}
 use Rattle.coord_ledger.specs.ledger.State.{LedgerState}
 use Rattle.coord_ledger.specs.machine.Answers.{most_in_flight}
 use Rattle.coord_ledger.specs.machine.Consistent.{IsConsistentLog}
@@ -7,6 +11,7 @@ use Rattle.coord_ledger.specs.machine.Consistent.{IsConsistentLog}
 pub record GuardedState (D : Type 0) : Type 0 where
   pub ledger : LedgerState D
   pub start : ℕ  -- how many steps the trail had when the engine was made
+  pub noted : ℕ  -- how many steps all shares have noted
   pub given : ℕ  -- how many shares were given out
   pub finishing : Bool  -- no more steps are accepted
   pub in_hand : ℕ  -- how many packets callers may still turn into steps: a hint
@@ -15,27 +20,49 @@ pub record GuardedState (D : Type 0) : Type 0 where
 abbrev pub most_shares : ℕ
 most_shares = 65535
 
--- What the type of the value keeps of it: the steps that are out are the next ones, and the store is out with them; those in doubt are of the trail; the trail has not shrunk.
-pub record CanHold {D : Type 0} (g : GuardedState D) : Type 0 where
+-- What an engine is based on: what its disk's bytes may be, and the base and the steps of the ledger that it was made over.
+pub record Basis (D : Type 0) : Type 0 where
+  pub keeps_model : D → Bool
+  pub present : D → Present
+  pub base : World
+  pub before : List Step
+
+abbrev pub based_on : {D : Type 0} → (D → Bool) → (D → Present) → World → List Step → Basis D
+based_on keeps_model present base before = record { keeps_model = keeps_model; present = present; base = base; before = before }
+
+-- the trail is that of the ledger that the engine was made over, and has grown by what the shares noted
+pub record HasGrown {D : Type 0} (b : Basis D) (g : GuardedState D) : Type 0 where
+  pub same_base : g.ledger.log.base ≡ b.base
+  pub since : g.start ≡ length b.before
+  pub begins : take g.start g.ledger.log.trail ≡ b.before
+  pub by_shares : length g.ledger.log.trail ≡ g.start + g.noted
+
+-- What the type of the value keeps of it: the trail has grown by what the shares noted; the steps that are out are the next ones, and the store is out with them; once it has stopped no flight is out, and the steps in doubt are of the trail; the images of the disk give the settled steps, and after a stop perhaps those in doubt.
+pub record CanHold {D : Type 0} (b : Basis D) (g : GuardedState D) : Type 0 where
   pub log : IsConsistentLog g.ledger.log
+  pub grown : HasGrown b g
+  pub shares : g.given ≤ most_shares
   pub out : IfSome g.ledger.out (λ size. (1 ≤ size) × (size ≤ most_in_flight) × (g.ledger.log.settled + size ≤ length g.ledger.log.trail))
   pub home : is_some g.ledger.out ≡ is_none g.ledger.disk
-  pub doubt : IfSome g.ledger.doubt (λ size. g.ledger.log.settled + size ≤ length g.ledger.log.trail)
-  pub grown : g.start ≤ length g.ledger.log.trail
-  pub shares : g.given ≤ most_shares
+  pub doubt : IfSome g.ledger.doubt (λ size. (g.ledger.log.settled + size ≤ length g.ledger.log.trail) × (g.ledger.out ≡ None))
+  pub images : IfSome g.ledger.disk (λ disk. b.keeps_model disk ≡ true → LedgerGives b.present g.ledger disk)
 
 -- the engine was just made over this ledger
 abbrev pub guarded_over : {D : Type 0} → LedgerState D → GuardedState D
-guarded_over l = record { ledger = l; start = length l.log.trail; given = 0; finishing = false; in_hand = 0 }
+guarded_over l = record { ledger = l; start = length l.log.trail; noted = 0; given = 0; finishing = false; in_hand = 0 }
 
 -- with its ledger changed
 abbrev pub with_ledger : {D : Type 0} → GuardedState D → LedgerState D → GuardedState D
-with_ledger g l = record { ledger = l; start = g.start; given = g.given; finishing = g.finishing; in_hand = g.in_hand }
+with_ledger g l = record g { ledger = l }
+
+-- with its ledger changed, and so many steps noted
+abbrev pub with_noted : {D : Type 0} → GuardedState D → LedgerState D → ℕ → GuardedState D
+with_noted g l n = record g { ledger = l; noted = n }
 
 -- with one more share given out
 abbrev pub with_share : {D : Type 0} → GuardedState D → GuardedState D
-with_share g = record { ledger = g.ledger; start = g.start; given = g.given + 1; finishing = g.finishing; in_hand = g.in_hand }
+with_share g = record g { given = g.given + 1 }
 
 -- and no step is accepted any more
 abbrev pub with_finish : {D : Type 0} → GuardedState D → GuardedState D
-with_finish g = record { ledger = g.ledger; start = g.start; given = g.given; finishing = true; in_hand = g.in_hand }
+with_finish g = record g { finishing = true }

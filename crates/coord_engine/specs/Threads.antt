@@ -16,12 +16,12 @@ use Rattle.coord_ledger.specs.machine.Log.{accepted_count, pending, settled_coun
 use Rattle.coord_ledger.specs.machine.Shown.{Shown, shown}
 use Rattle.coord_engine.specs.Calls.{AnswersStep, told}
 use Rattle.coord_engine.specs.Closing.{MayClose}
-use Rattle.coord_engine.specs.State.{CanHold, GuardedState}
+use Rattle.coord_engine.specs.State.{Basis, CanHold, GuardedState}
 
 -- so it is in some state that the value under the lock can have
-pub record AtSomeMoment {D : Type 0} (P : GuardedState D → Type 0) : Type 0 where
+pub record AtSomeMoment {D : Type 0} (b : Basis D) (P : GuardedState D → Type 0) : Type 0 where
   pub state : GuardedState D
-  pub held : CanHold state
+  pub held : CanHold b state
   pub so : P state
 
 -- a step was submitted

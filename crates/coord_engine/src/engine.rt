@@ -5,24 +5,24 @@ ghost use Rattle.coord_store.specs.declared.faults.CommitFault.TheVariants.{Devi
 ghost use Rattle.coord_ledger.specs.ledger.Calls.{keeps_store, releases_in};
 ghost use Rattle.coord_ledger.specs.ledger.State.{IsCollectable, reply_of};
 ghost use Rattle.coord_engine.specs.Calls.{RefusesTicket};
-ghost use Rattle.coord_engine.specs.Closing.{RefusesClosing};
-ghost use Rattle.coord_engine.specs.State.{most_shares};
+ghost use Rattle.coord_engine.specs.Closing.{IsSince, RefusesClosing};
+ghost use Rattle.coord_engine.specs.State.{based_on, most_shares};
 ghost use Rattle.coord_engine.specs.Threads.{AtSomeMoment, Closes, Flushes, Leaves, RefusesShow, SendsAgain, Shows, Submits};
 
-use crate::{CloseFault, Closed, Collected, Guarded, Share};
+use crate::{CloseFault, Closed, Collected, Guarded, Origin, Share};
 use coord_disk::Disk;
 use coord_ledger::{Flight, Ledger, Releases, Seen, Ticket, View};
 use coord_store::CommitFault;
 use coord_types::{Refusal, Reply, Step};
 use std::alloc::{AllocError, Global};
-use std::sync::ledger::{Blank, Ledger as Count};
+use std::sync::ledger::Blank;
 use std::sync::{Condvar, Mutex, Wait};
 use std::thread;
 
 /// One ledger that threads share. Each call but `collect`, `flush_once` and `close` takes the lock
 /// once.
 #[derive(Drop)]
-pub struct Engine<D: Disk, L: Count> {
+pub struct Engine<D: Disk, L: Origin> {
     pub(crate) guarded: Mutex<Guarded<D, L>>,
     /// On which callers wait for their replies.
     pub(crate) changed: Condvar,
@@ -30,13 +30,16 @@ pub struct Engine<D: Disk, L: Count> {
     pub(crate) work: Condvar,
 }
 
-impl<D: Disk, L: Count> Engine<D, L> {
-    /// Over a ledger whose store is at home. The blank has 65,536 parts. No clause can say what lies
-    /// behind a lock; that is `Guarded::new`.
+impl<D: Disk, L: Origin> Engine<D, L> {
+    /// Over a ledger whose store is at home, and which `L` names: its base, and the steps that it has
+    /// accepted. The blank has 65,536 parts. No clause can say what lies behind a lock; that is
+    /// `Guarded::new`, and what `close` tells of `L`.
     pub fn new(alloc: Global, blank: Blank, ledger: Ledger<D>) -> Self
         requires name { blank.name ≡ L.name }
         requires parts { (blank.parts ≡ L.parts) × (L.parts ≡ 65536) }
         requires home { ledger.out ≡ None }
+        requires base { ledger.log.base ≡ L.base }
+        requires before { ledger.log.trail ≡ L.before }
     {
         Engine {
             guarded: Mutex::new(Guarded::new(alloc, blank, ledger)),
@@ -47,8 +50,8 @@ impl<D: Disk, L: Count> Engine<D, L> {
 
     /// A share without notes, where not all 65,535 were given out.
     pub fn share<R: Wait>(&self, rt: &R) -> Option<Share<L>>
-        ensures given { IfSome result (λ share. (share ≡ []) × AtSomeMoment {D = D} (λ g. g.given < most_shares)) }
-        ensures none { IfNone result (AtSomeMoment {D = D} (λ g. g.given ≡ most_shares)) }
+        ensures given { IfSome result (λ share. (share ≡ []) × AtSomeMoment (based_on D.keeps_model D.present L.base L.before) (λ g. g.given < most_shares)) }
+        ensures none { IfNone result (AtSomeMoment (based_on D.keeps_model D.present L.base L.before) (λ g. g.given ≡ most_shares)) }
     {
         let mut guarded = self.guarded.lock(rt);
         guarded.keeps();
@@ -63,7 +66,7 @@ impl<D: Disk, L: Count> Engine<D, L> {
         step: Step,
         mine: &mut Share<L>,
     ) -> Result<Ticket, Refusal>
-        ensures { AtSomeMoment (Submits {D = D} step result mine.old mine.new) }
+        ensures { AtSomeMoment (based_on D.keeps_model D.present L.base L.before) (Submits {D = D} step result mine.old mine.new) }
     {
         let mut guarded = self.guarded.lock(rt);
         guarded.keeps();
@@ -80,8 +83,8 @@ impl<D: Disk, L: Count> Engine<D, L> {
     /// of another ledger, and `Stopped` one whose step will not be settled any more; both give it
     /// back.
     pub fn collect<R: Wait>(&self, rt: &R, ticket: Ticket) -> Result<Reply, (Refusal, Ticket)>
-        ensures settled { IfOk result (λ reply. (reply ≡ reply_of ticket) × AtSomeMoment {D = D} (λ g. IsCollectable g.ledger.log ticket)) }
-        ensures refused { IfErr result (λ refused. (refused.1 ≡ ticket) × AtSomeMoment {D = D} (λ g. RefusesTicket g.ledger ticket refused.0)) }
+        ensures settled { IfOk result (λ reply. (reply ≡ reply_of ticket) × AtSomeMoment (based_on D.keeps_model D.present L.base L.before) (λ g. IsCollectable g.ledger.log ticket)) }
+        ensures refused { IfErr result (λ refused. (refused.1 ≡ ticket) × AtSomeMoment (based_on D.keeps_model D.present L.base L.before) (λ g. RefusesTicket g.ledger ticket refused.0)) }
     {
         let mut waiting = ticket;
         let mut guarded = self.guarded.lock(rt);
@@ -99,8 +102,8 @@ impl<D: Disk, L: Count> Engine<D, L> {
 
     /// Shows the settled world, of which the caller must not have seen more.
     pub fn show<R: Wait>(&self, rt: &R, seen: &mut Seen) -> Result<View, Refusal>
-        ensures shown { IfOk result (λ view. AtSomeMoment (Shows {D = D} view seen.old seen.new)) }
-        ensures refused { IfErr result (λ refusal. AtSomeMoment (RefusesShow {D = D} refusal seen.old)) }
+        ensures shown { IfOk result (λ view. AtSomeMoment (based_on D.keeps_model D.present L.base L.before) (Shows {D = D} view seen.old seen.new)) }
+        ensures refused { IfErr result (λ refusal. AtSomeMoment (based_on D.keeps_model D.present L.base L.before) (RefusesShow {D = D} refusal seen.old)) }
         ensures unseen { OnErr result (seen.new ≡ seen.old) }
     {
         let guarded = self.guarded.lock(rt);
@@ -110,7 +113,7 @@ impl<D: Disk, L: Count> Engine<D, L> {
 
     /// The packets that may have been lost, to be sent again as of step 0.
     pub fn resend<R: Wait>(&self, rt: &R) -> Result<Releases, AllocError>
-        ensures { IfOk result (λ releases. AtSomeMoment (SendsAgain {D = D} releases)) }
+        ensures { IfOk result (λ releases. AtSomeMoment (based_on D.keeps_model D.present L.base L.before) (SendsAgain {D = D} releases)) }
     {
         let guarded = self.guarded.lock(rt);
         guarded.keeps();
@@ -122,8 +125,8 @@ impl<D: Disk, L: Count> Engine<D, L> {
     ///
     /// After `OutOfMemory` it may be tried again; after `Device` the ledger has stopped.
     pub fn flush_once<R: Wait>(&self, rt: &R) -> Result<Option<Releases>, CommitFault>
-        ensures flushed { IfOk result (λ begun. IfSome begun (λ releases. AtSomeMoment (Flushes {D = D} releases))) }
-        ensures nothing { IfOk result (λ begun. IfNone begun (AtSomeMoment {D = D} (λ g. keeps_store g.ledger ≡ true))) }
+        ensures flushed { IfOk result (λ begun. IfSome begun (λ releases. AtSomeMoment (based_on D.keeps_model D.present L.base L.before) (Flushes {D = D} releases))) }
+        ensures nothing { IfOk result (λ begun. IfNone begun (AtSomeMoment (based_on D.keeps_model D.present L.base L.before) (λ g. keeps_store g.ledger ≡ true))) }
         ensures refused { IfErr result (λ fault. (fault ≡ Device) ⊎ (fault ≡ OutOfMemory)) }
     {
         let mut flight = match self.begin(rt)? {
@@ -145,8 +148,8 @@ impl<D: Disk, L: Count> Engine<D, L> {
 
     /// Sends the next flight out.
     fn begin<R: Wait>(&self, rt: &R) -> Result<Option<Flight<D>>, AllocError>
-        ensures begun { IfOk result (λ begun. IfSome begun (λ flight. AtSomeMoment (Leaves {D = D} flight))) }
-        ensures nothing { IfOk result (λ begun. IfNone begun (AtSomeMoment {D = D} (λ g. keeps_store g.ledger ≡ true))) }
+        ensures begun { IfOk result (λ begun. IfSome begun (λ flight. AtSomeMoment (based_on D.keeps_model D.present L.base L.before) (Leaves {D = D} flight))) }
+        ensures nothing { IfOk result (λ begun. IfNone begun (AtSomeMoment (based_on D.keeps_model D.present L.base L.before) (λ g. keeps_store g.ledger ≡ true))) }
     {
         let mut guarded = self.guarded.lock(rt);
         guarded.keeps();
@@ -180,14 +183,16 @@ impl<D: Disk, L: Count> Engine<D, L> {
     }
 
     /// Takes the engine apart, where no flight is out, all shares are there and what they noted is
-    /// what was accepted since the engine was made. It takes no memory.
+    /// what was accepted since the engine was made: then the base is that of the ledger that it was
+    /// made over, and the trail begins with that ledger's. It takes no memory.
     pub fn close(
         self,
         shares: Vec<Share<L>>,
     ) -> Result<Closed<D>, (CloseFault, Self, Vec<Share<L>>)>
         requires { L.parts ≡ 65536 }
-        ensures closed { IfOk result (λ closed. AtSomeMoment {D = D} (Closes closed.store closed.base closed.trail.items closed.settled shares.items)) }
-        ensures refused { IfErr result (λ refused. AtSomeMoment {D = D} (λ g. RefusesClosing g shares.items refused.0)) }
+        ensures since { IfOk result (λ closed. IsSince L.base L.before shares.items closed.base closed.trail.items) }
+        ensures closed { IfOk result (λ closed. AtSomeMoment (based_on D.keeps_model D.present L.base L.before) (Closes closed.store closed.base closed.trail.items closed.settled shares.items)) }
+        ensures refused { IfErr result (λ refused. AtSomeMoment (based_on D.keeps_model D.present L.base L.before) (λ g. RefusesClosing g shares.items refused.0)) }
         ensures back { IfErr result (λ refused. refused.2.items ≡ shares.items) }
     {
         let Engine {

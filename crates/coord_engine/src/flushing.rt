@@ -3,12 +3,11 @@
 ghost use Rattle.std.specs.Prelude.{◌≡◌, length};
 
 use crate::port::{Delivery, Port};
-use crate::{Engine, Guarded};
+use crate::{Engine, Guarded, Origin};
 use coord_disk::Disk;
 use coord_ledger::Releases;
 use coord_store::CommitFault;
 use std::sync::Wait;
-use std::sync::ledger::Ledger as Count;
 use std::thread;
 use std::time::{Clock, Duration};
 
@@ -18,7 +17,7 @@ const PATIENCE: u64 = 5;
 /// How many milliseconds a flusher that found no memory waits before it tries again.
 const REST: u64 = 1;
 
-impl<D: Disk, L: Count> Engine<D, L> {
+impl<D: Disk, L: Origin> Engine<D, L> {
     /// A packet is handed to a port: it is in hand, unless the port says that it is lost.
     fn hand_packet<P: Port, R: Wait>(&self, rt: &R, port: &P, delivery: Delivery) {
         self.guarded.lock(rt).raise_in_hand();
@@ -57,7 +56,7 @@ impl<D: Disk, L: Count> Engine<D, L> {
 
 /// Hands all that was released to a port, and answers how much that was. What the port answers that
 /// it has lost is lost.
-pub fn hand_over<D: Disk, L: Count, P: Port, R: Wait>(
+pub fn hand_over<D: Disk, L: Origin, P: Port, R: Wait>(
     rt: &R,
     engine: &Engine<D, L>,
     port: &P,
@@ -86,7 +85,7 @@ pub fn hand_over<D: Disk, L: Count, P: Port, R: Wait>(
 ///
 /// It ends after a fault of the device, and after `Engine::finish` once nothing is pending. Where it
 /// finds no memory it tries again.
-pub fn flusher<D: Disk, L: Count, P: Port, R: Wait + Clock>(
+pub fn flusher<D: Disk, L: Origin, P: Port, R: Wait + Clock>(
     rt: &R,
     engine: &Engine<D, L>,
     port: &P,

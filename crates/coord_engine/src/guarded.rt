@@ -4,7 +4,7 @@
 //! calls it.
 
 ghost use Rattle.std.specs.Prelude.{◌≡◌, ◌<◌, [], IfNone, IfSome, None};
-ghost use Rattle.coord_engine.specs.State.{CanHold, guarded_over, most_shares, with_finish, with_share};
+ghost use Rattle.coord_engine.specs.State.{CanHold, based_on, guarded_over, most_shares, with_finish, with_share};
 
 mod closing;
 mod collecting;
@@ -13,22 +13,23 @@ mod flushing;
 mod pacing;
 mod submitting;
 
-use crate::Share;
+use crate::{Origin, Share};
 use coord_disk::Disk;
 use coord_ledger::Ledger;
 use std::alloc::Global;
 use std::marker::Model;
-use std::sync::ledger::{Blank, Book, Ledger as Count, Share as Part};
+use std::sync::ledger::{Blank, Book, Share as Part};
 
 /// How many shares an engine gives out; one more part of the count stays with it.
 const MOST_SHARES: u32 = 65_535;
 
 /// The value under the lock. Contracts see `GuardedState` (`specs/State.antt`).
 ///
-/// Its type keeps, beside what the ledger's type keeps, that the trail has grown by as many steps
-/// as all shares have noted.
+/// Its type keeps, beside what the ledger's type keeps, that the trail is that of the ledger that
+/// `L` names, grown by as many steps as all shares have noted, and that no flight is out once the
+/// ledger has stopped.
 #[derive(Drop)]
-pub struct Guarded<D: Disk, L: Count> {
+pub struct Guarded<D: Disk, L: Origin> {
     alloc: Global,
     ledger: Ledger<D>,
     /// Counts the steps that were accepted for shares.
@@ -41,23 +42,29 @@ pub struct Guarded<D: Disk, L: Count> {
     in_hand: u64,
 }
 
-impl<D: Disk, L: Count> Model for Guarded<D, L> {
-    ghost use Rattle.std.specs.Prelude.{◌≡◌, ◌+◌, ◌≤◌, length};
+impl<D: Disk, L: Origin> Model for Guarded<D, L> {
+    ghost use Rattle.std.specs.Prelude.{◌≡◌, ◌+◌, ◌≤◌, length, take, IfSome, None};
     ghost use Rattle.coord_engine.specs.State.{GuardedState, most_shares};
 
     ghost Value = { GuardedState D };
 
-    ghost view = { λ g. record { ledger = g.ledger; start = g.start; given = g.given; finishing = g.finishing; in_hand = g.in_hand } };
+    ghost view = { λ g. record { ledger = g.ledger; start = g.start; noted = g.book.total; given = g.given; finishing = g.finishing; in_hand = g.in_hand } };
 
-    ghost invariant = { λ g. (g.given ≤ most_shares) × (g.rest.parts + g.given ≡ most_shares + 1) × (g.rest.amount ≡ 0) × (length g.ledger.log.trail ≡ g.start + g.book.total) };
+    ghost invariant = { λ g.
+        (g.given ≤ most_shares) × (g.rest.parts + g.given ≡ most_shares + 1) × (g.rest.amount ≡ 0)
+        × (length g.ledger.log.trail ≡ g.start + g.book.total)
+        × (g.ledger.log.base ≡ L.base) × (g.start ≡ length L.before) × (take g.start g.ledger.log.trail ≡ L.before)
+        × IfSome g.ledger.doubt (λ _. g.ledger.out ≡ None) };
 }
 
-impl<D: Disk, L: Count> Guarded<D, L> {
-    /// Over a ledger whose store is at home. The blank has 65,536 parts.
+impl<D: Disk, L: Origin> Guarded<D, L> {
+    /// Over a ledger whose store is at home, and which `L` names. The blank has 65,536 parts.
     pub fn new(alloc: Global, blank: Blank, ledger: Ledger<D>) -> Self
         requires name { blank.name ≡ L.name }
         requires parts { (blank.parts ≡ L.parts) × (L.parts ≡ 65536) }
         requires home { ledger.out ≡ None }
+        requires base { ledger.log.base ≡ L.base }
+        requires before { ledger.log.trail ≡ L.before }
         ensures { result ≡ guarded_over ledger }
     {
         let (book, rest) = blank.open::<L>();
@@ -106,8 +113,9 @@ impl<D: Disk, L: Count> Guarded<D, L> {
 
     /// Does nothing: its contract is what the type keeps, so what any lock holds that is taken.
     pub fn keeps(&self)
-        ensures { CanHold self.now }
+        ensures { CanHold (based_on D.keeps_model D.present L.base L.before) self.now }
     {
         self.ledger.log_is_consistent();
+        self.ledger.images_give_settled();
     }
 }

@@ -3,17 +3,16 @@
 ghost use Rattle.coord_engine.specs.Working.{AddsPackets};
 
 use crate::port::step_of;
-use crate::{Engine, Share, Waiting};
+use crate::{Engine, Origin, PacketShare, Share, Waiting};
 use coord_disk::Disk;
 use coord_types::{Packet, Refusal};
 use crossbeam_channel::Receiver;
 use std::alloc::Global;
 use std::sync::Wait;
-use std::sync::ledger::Ledger as Count;
 
 /// Submits a packet's step. Whether the packet has to wait: there was no room for the step.
 #[tactic(auto, using(crate::proofs::PacketNotes::adds_packet))]
-fn has_to_wait<D: Disk, L: Count, R: Wait>(
+fn has_to_wait<D: Disk, L: Origin, R: Wait>(
     rt: &R,
     engine: &Engine<D, L>,
     packet: &Packet,
@@ -32,7 +31,7 @@ fn has_to_wait<D: Disk, L: Count, R: Wait>(
 
 /// Submits those that wait, in order and up to one that still has to.
 #[tactic(auto, using(crate::proofs::PacketNotes::adds_none, crate::proofs::PacketNotes::adds_more))]
-fn try_waiting<D: Disk, L: Count, R: Wait>(
+fn try_waiting<D: Disk, L: Origin, R: Wait>(
     rt: &R,
     engine: &Engine<D, L>,
     waiting: &mut Waiting,
@@ -52,7 +51,7 @@ fn try_waiting<D: Disk, L: Count, R: Wait>(
 }
 
 /// Submits a packet that came. Where it has to wait it is kept, if there is memory for it.
-fn submit_or_keep<D: Disk, L: Count, R: Wait>(
+fn submit_or_keep<D: Disk, L: Origin, R: Wait>(
     rt: &R,
     engine: &Engine<D, L>,
     packet: &Packet,
@@ -73,7 +72,7 @@ fn submit_or_keep<D: Disk, L: Count, R: Wait>(
 /// kept again before it takes the next one. After any other refusal, and where there is no memory
 /// to keep it, it drops the packet: what was needed is sent again.
 #[tactic(auto, using(crate::proofs::PacketNotes::adds_none, crate::proofs::PacketNotes::adds_more))]
-pub fn worker<D: Disk, L: Count, R: Wait>(
+pub fn worker<D: Disk, L: Origin, R: Wait>(
     rt: &R,
     alloc: Global,
     engine: &Engine<D, L>,
@@ -93,4 +92,19 @@ pub fn worker<D: Disk, L: Count, R: Wait>(
         engine.put_down(rt);
     }
     share
+}
+
+/// A worker whose share says by its type that its notes are of packets, for a thread of its own.
+pub fn packet_worker<D: Disk, L: Origin, R: Wait>(
+    rt: &R,
+    alloc: Global,
+    engine: &Engine<D, L>,
+    packets: Receiver<Packet>,
+    share: PacketShare<L>,
+) -> PacketShare<L>
+    ensures { AddsPackets share result }
+{
+    PacketShare {
+        share: worker(rt, alloc, engine, packets, share.into_share()),
+    }
 }

@@ -5,13 +5,13 @@ use Rattle.std.specs.Int.{w64, to_be_bytes, from_be_bytes}
 use Rattle.std.proofs.lemmas.Nat.{from_be_bytes-to_be_bytes_8}
 use Rattle.std.proofs.lemmas.List.{take_at, drop_at, drop-drop, take-append-drop}
 use Rattle.coord_journal.specs.Half.{IsHalf}
-use Rattle.coord_journal.specs.Text.{Content, HasHeader, IsHalfSize, IsText, IsTextAt, formatted, half_front, half_start, magic, sized, without_batch}
+use Rattle.coord_journal.specs.Text.{Content, HasHeader, IsHalfSize, IsText, IsTextAt, formatted, half_front, half_start, magic, sized, used_by, without_batch}
 use Rattle.coord_journal.specs.declared.layout.TheConstants.{MAX_SNAPSHOT}
 use Rattle.coord_journal.specs.Faults.{BeginsWithHeader, IsReadFault, RefusesOpen}
 use Rattle.coord_journal.specs.declared.fault.JournalFault.{JournalFault}
 use Rattle.coord_journal.specs.declared.fault.JournalFault.TheVariants.{BadRecord}
 use Rattle.coord_journal.proofs.Appended.{lead_push, length_sized}
-use Rattle.coord_journal.proofs.Halves.{half_cut, half_long, half_same, half_whole}
+use Rattle.coord_journal.proofs.Halves.{half_cut, half_long, half_same, half_used, half_whole}
 
 -- what a header says is told by the bytes
 selector_read : (bytes : List ℕ) (selector half_size : ℕ) (rest : List ℕ) → HasHeader bytes selector half_size rest → get_or bytes 0 0 ≡ selector
@@ -76,6 +76,19 @@ text_same bytes c d one other =
     half_same (drop (half_start other.1 other.0) (behind_header bytes d other.0 other.1 other.2 t)) c d one.2 other.2
     (half_in bytes c one.0 one.1 one.2 one.3 t.selector other.0 other.1 (behind_header bytes d other.0 other.1 other.2 t) t.selected (text_header bytes d other.0 other.1 other.2 t))
     (text_half bytes d other.0 other.1 other.2 t)
+
+-- and in one half, of which so much is used
+pub text_place : (bytes : List ℕ) (c d : Content) (m n h k u v : ℕ) → IsTextAt bytes c m h u → IsTextAt bytes d n k v → (m ≡ n) × (h ≡ k) × (u ≡ v)
+text_place bytes c d m n h k u v one other =
+    let front = behind_header bytes c m h u one in
+    let behind = behind_header bytes d n k v other in
+    let here = text_header bytes c m h u one in
+    let there = text_header bytes d n k v other in
+    let content : c ≡ d = text_same bytes c d (m, h, u, one) (n, k, v, other) in (
+      same_half_size bytes one.selector other.selector m n front behind here there,
+      sym one.selected ∙ ap (λ (s : ℕ). s % 2) (same_selector bytes one.selector other.selector m n front behind here there) ∙ other.selected,
+      half_used (drop (half_start h m) front) c u (text_half bytes c m h u one) ∙ ap used_by content ∙ sym (half_used (drop (half_start k n) behind) d v (text_half bytes d n k v other)),
+    )
 
 module _ (bytes : List ℕ) (selector half_size half : ℕ) (rest : List ℕ) (header : HasHeader bytes selector half_size rest) (named : selector % 2 ≡ half) (start : ℕ) (starts : start ≡ half_start half half_size) where
   abbrev half_bytes : List ℕ

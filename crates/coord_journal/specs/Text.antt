@@ -1,6 +1,7 @@
 -- The text of a journal: a header, and a half that ends at its first closed gate.
 use Rattle.std.specs.Prelude.{◌≡◌, ◌≢◌, ◌⊎◌, ℕ, ◌+◌, ◌*◌, ◌%◌, ◌≤◌, List, [], ◌∷◌, ◌++◌, length}
 use Rattle.std.specs.Int.{w32, w64, to_be_bytes}
+use Rattle.coord_disk.specs.Model.Present.{overwritten}
 use Rattle.coord_journal.specs.declared.layout.TheConstants.{MIN_HALF, MAX_HALF, MAX_SNAPSHOT, MAX_BODY}
 
 pub record Content : Type 0 where
@@ -73,6 +74,14 @@ gate_place half_size half used = 16 + half_start half half_size + used
 abbrev pub IsText : Content → List ℕ → Type 0
 IsText content bytes = (half_size half used : ℕ) × IsTextAt bytes content half_size half used
 
+-- these bytes are a text in this half
+abbrev pub IsTextIn : ℕ → List ℕ → Type 0
+IsTextIn half bytes = (content : Content) × (half_size : ℕ) × (used : ℕ) × IsTextAt bytes content half_size half used
+
+-- these bytes are a text in this half, where a body of so many bytes still fits
+abbrev pub HasPlaceIn : ℕ → ℕ → List ℕ → Type 0
+HasPlaceIn half len bytes = (content : Content) × (half_size : ℕ) × (used : ℕ) × IsTextAt bytes content half_size half used × (used + 5 + len ≤ half_size)
+
 -- with nothing behind the snapshot
 abbrev pub without_batch : ℕ → List ℕ → Content
 without_batch version snapshot = record { version = version; snapshot = snapshot; batches = [] }
@@ -87,6 +96,14 @@ IsEitherText one other bytes = IsText one bytes ⊎ IsText other bytes
 -- a journal that was just made: half 0 is selected, and its gate is the last byte
 abbrev pub formatted : ℕ → ℕ → List ℕ → List ℕ
 formatted half_size version snapshot = lead 0 half_size [] (half_front version snapshot []) ++ 0 ∷ []
+
+-- the bytes once a body and a closed gate were written behind the closed gate at this place, and that one was opened by a 1
+abbrev pub with_body_at : ℕ → List ℕ → List ℕ → List ℕ
+with_body_at gate body bytes = overwritten (overwritten bytes (gate + 1) (sized body ++ 0 ∷ [])) gate (1 ∷ [])
+
+-- the bytes once a half with nothing behind its snapshot was written, and selected by its number, 0 or 1
+abbrev pub with_half : ℕ → ℕ → ℕ → List ℕ → List ℕ → List ℕ
+with_half half half_size version snapshot bytes = overwritten (overwritten bytes (17 + half_start half half_size) (half_front version snapshot [] ++ 0 ∷ [])) 0 (half ∷ [])
 
 -- how much of a half such batches take
 abbrev pub size_of : List (List ℕ) → ℕ

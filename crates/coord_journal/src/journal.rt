@@ -2,8 +2,9 @@
 
 ghost use Rattle.std.specs.Prelude.{◌≡◌, ◌≢◌, ◌↔◌, ◌+◌, ◌-◌, ◌*◌, ◌≤◌, true, false, length, IsTrue, IfErr, is_ok, OnOk, IsErrOf, if◌then◌else◌};
 ghost use Rattle.coord_disk.specs.Model.Moments.{LeavesOnly};
+ghost use Rattle.coord_disk.specs.Model.Present.{whole};
 ghost use Rattle.coord_journal.specs.declared.layout.TheConstants.{MAX_BODY, MAX_HALF, MAX_SNAPSHOT, MIN_HALF};
-ghost use Rattle.coord_journal.specs.Text.{Content, IsEitherText, gate_place, with_batch, without_batch};
+ghost use Rattle.coord_journal.specs.Text.{Content, IsEitherText, gate_place, with_batch, with_body_at, with_half, without_batch};
 
 use crate::JournalFault;
 use crate::half::Half;
@@ -99,6 +100,8 @@ impl<D: Disk> Journal<D> {
         // Once it has returned Ok, with it.
         ensures done { (content : Content) → D.keeps_model (disk_of self.old) ≡ true → IsReady D.present self.old content
             → OnOk result (IsReady D.present self.new (with_batch content body.now)) }
+        ensures bytes { D.keeps_model (disk_of self.old) ≡ true → let gate = gate_place (half_size_of self.old) (half_of self.old) (used_of self.old) in
+            OnOk result (D.present (disk_of self.new) ≡ whole (with_body_at gate body.now (D.present (disk_of self.old)).read)) }
         ensures used { used_of self.new ≡ (if is_ok result then used_of self.old + 5 + length body.now else used_of self.old) }
         ensures half { half_of self.new ≡ half_of self.old }
         ensures half_size { half_size_of self.new ≡ half_size_of self.old }
@@ -139,6 +142,8 @@ impl<D: Disk> Journal<D> {
         // Once it has returned Ok, of the new one, and a body of any size fits.
         ensures done { (content : Content) → D.keeps_model (disk_of self.old) ≡ true → IsReady D.present self.old content
             → OnOk result (IsReady D.present self.new (without_batch version snapshot.now)) }
+        ensures bytes { D.keeps_model (disk_of self.old) ≡ true → let half = 1 - half_of self.old in
+            OnOk result (D.present (disk_of self.new) ≡ whole (with_half half (half_size_of self.old) version snapshot.now (D.present (disk_of self.old)).read)) }
         ensures fits { OnOk result (HasRoomFor self.new MAX_BODY) }
         ensures used { used_of self.new ≡ (if is_ok result then 6 + length snapshot.now else used_of self.old) }
         ensures half { half_of self.new ≡ (if is_ok result then 1 - half_of self.old else half_of self.old) }

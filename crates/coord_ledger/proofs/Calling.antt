@@ -13,7 +13,7 @@ use Rattle.coord_ledger.specs.declared.mark.Mark.{Mark}
 use Rattle.coord_ledger.specs.declared.mark.Mark.TheVariants.{New, Good, Torn}
 use Rattle.coord_ledger.specs.declared.release.Release.{Release}
 use Rattle.coord_ledger.specs.ledger.Calls.{FlightGives, GivesFlown, GivesSettled, LedgerGives, keeps_store, next_flight, releases_in, taken_back, with_out}
-use Rattle.coord_ledger.specs.ledger.Follows.{Follows, FollowsTo, Held, ImagesGive, IsOut, flight_out}
+use Rattle.coord_ledger.specs.ledger.Follows.{Follows, FollowsTo, GivesOneOf, Held, ImagesGive, IsOut, flight_out}
 use Rattle.coord_ledger.specs.ledger.State.{FlightState, LedgerState, ledger_over}
 use Rattle.coord_ledger.specs.machine.After.{releases_of, settling_releases}
 use Rattle.coord_ledger.specs.machine.Answers.{IsOneOf, kept, kept_by, most_in_flight}
@@ -79,18 +79,22 @@ ledger_images l disk keeps_model present gives model image here = by_doubt l.dou
     by_doubt (Some b) (inl given) = (l.log.settled, (inl refl, given))
     by_doubt (Some b) (inr given) = (l.log.settled + b, (inr (inl refl), given))
 
--- of the disk of a flight that is out
-pub flight_images : {D : Type 0} (l : LedgerState D) (f : FlightState D) (keeps_model : Bool) (present : D → Present) → IsOut l f → (keeps_model ≡ true → FlightGives present f) → ImagesGive keeps_model (present f.disk) l.log (kept_by l.log.settled (Some (flight_out f)) l.doubt)
-flight_images l f keeps_model present own gives model image here = by_mark f.mark (gives model image here)
+-- what bytes give of a flight's world, they give of its ledger's log
+pub flight_gives : {D : Type 0} (l : LedgerState D) (f : FlightState D) (image : List ℕ) → IsOut l f → GivesFlown f.mark f.world f.steps image → GivesOneOf l.log (kept_by l.log.settled (Some (flight_out f)) l.doubt) image
+flight_gives l f image own gives = by_mark f.mark gives
   where
     all : fold f.world f.steps ≡ world_after l.log (l.log.settled + length f.steps)
     all = (λ i. fold (own.world i) (own.steps i)) ∙ sym (world-add l.log l.log.settled (length f.steps))
 
-    by_mark : (m : Mark) → GivesFlown m f.world f.steps image → (n : ℕ) × (IsOneOf n (kept_by l.log.settled (Some (record { size = length f.steps; mark = m })) l.doubt) × Recovered image (world_after l.log n))
+    by_mark : (m : Mark) → GivesFlown m f.world f.steps image → GivesOneOf l.log (kept_by l.log.settled (Some (record { size = length f.steps; mark = m })) l.doubt) image
     by_mark New given = (l.log.settled, (inl refl, subst (Recovered image) own.world given))
     by_mark Good given = (l.log.settled + length f.steps, (inl refl, subst (Recovered image) all given))
     by_mark Torn (inl given) = (l.log.settled, (inl refl, subst (Recovered image) own.world given))
     by_mark Torn (inr given) = (l.log.settled + length f.steps, (inr (inl refl), subst (Recovered image) all given))
+
+-- of the disk of a flight that is out
+pub flight_images : {D : Type 0} (l : LedgerState D) (f : FlightState D) (keeps_model : Bool) (present : D → Present) → IsOut l f → (keeps_model ≡ true → FlightGives present f) → ImagesGive keeps_model (present f.disk) l.log (kept_by l.log.settled (Some (flight_out f)) l.doubt)
+flight_images l f keeps_model present own gives model image here = flight_gives l f image own (gives model image here)
 
 -- ---- crash
 

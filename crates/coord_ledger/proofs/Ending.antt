@@ -11,8 +11,8 @@ use Rattle.coord_ledger.specs.declared.mark.Mark.{Mark}
 use Rattle.coord_ledger.specs.declared.mark.Mark.TheVariants.{New, Good, Torn}
 use Rattle.coord_ledger.specs.declared.release.Release.{Release}
 use Rattle.coord_ledger.specs.ledger.Calls.{LedgerGives, releases_in, taken_back}
-use Rattle.coord_ledger.specs.ledger.Driver.{brought_home}
-use Rattle.coord_ledger.specs.ledger.Follows.{Drives, Follows, Held, HoldsFlight, ImagesGive, flight_out}
+use Rattle.coord_ledger.specs.ledger.Driver.{Drives, brought_home, disk_held, disk_with}
+use Rattle.coord_ledger.specs.ledger.Follows.{Follows, Held, HoldsFlight, ImagesGive, flight_out}
 use Rattle.coord_ledger.specs.ledger.State.{FlightState, LedgerState, started}
 use Rattle.coord_ledger.specs.machine.After.{after_finish, finished}
 use Rattle.coord_ledger.specs.machine.Answers.{IsOneOf, kept, kept_by}
@@ -20,9 +20,9 @@ use Rattle.coord_ledger.specs.machine.Consistent.{IsConsistent}
 use Rattle.coord_ledger.specs.machine.Log.{world_after}
 use Rattle.coord_ledger.specs.machine.Machine.{FlightOut, Machine}
 use Rattle.coord_ledger.specs.machine.Runs.{run}
-use Rattle.coord_ledger.specs.promises.Headline.{IsLeft, Promised, Ran, ended}
+use Rattle.coord_ledger.specs.promises.Headline.{EachMoment, IsLeft, Promised, Ran, ended}
 use Rattle.coord_ledger.proofs.Calling.{follows_returned, ledger_images}
-use Rattle.coord_ledger.proofs.Driving.{Underway}
+use Rattle.coord_ledger.proofs.Driving.{Underway, same_model}
 use Rattle.coord_ledger.proofs.FollowingCrashes.{images_follow}
 use Rattle.coord_ledger.proofs.Safe.{finish_keeps_kept, prefix_from_images}
 use Rattle.coord_ledger.proofs.Signals.{signals_once}
@@ -78,29 +78,45 @@ home_images {D} l s keeps_model present is back images model image here =
     let one = images_follow back.held t keeps_model present back.follows of_held model image here in
     (one.0, (subst (IsOneOf one.0) (finish_keeps_kept s is) one.1.0, subst (Recovered image) (same_worlds s s.flight one.0) one.1.1))
 
--- a run whose ledger is left at home
-pub ran_home : {D : Type 0} (start : LedgerState D) (events : List Event) (given : List Answer) (h : Held D) (l : LedgerState D) (released : List Release) (keeps_model : D → Bool) (present : D → Present) (disk : D) → Drives start events given h →
-    l ≡ brought_home h.ledger h.flight → released ≡ h.released → IfSome l.disk (λ d. keeps_model d ≡ true → LedgerGives present l d) → l.disk ≡ Some disk →
-    Ran (started start) events given released l (keeps_model disk) (present disk)
-ran_home {D} start events given h l released keeps_model present disk drives home given_out gives at_home =
-    let s = run (started start) events given in
-    let told = drives.consistent.told in
-    let back : IsBack l (ended s) = subst (λ m. IsBack m (ended s)) (sym home) (is_back h s drives.consistent drives.follows) in
-    let images = ledger_images l disk (keeps_model disk) present (subst (λ o. IfSome o (λ d. keeps_model d ≡ true → LedgerGives present l d)) at_home gives) in
-    record {
-      answered = drives.answered;
-      released_is = given_out ∙ drives.follows.released;
-      prefix = prefix_from_images s (keeps_model disk) (present disk) drives.consistent (home_images l s (keeps_model disk) (present disk) drives.consistent back images);
-      once = told.once;
-      again = told.again;
-      signalled = signals_once s drives.consistent;
-      replied = told.truly;
-      ledger = is_left l (ended s) back;
-    }
+-- the disk stays as it is
+home_disk : {D : Type 0} (l : LedgerState D) (f : Option (FlightState D)) → (brought_home l f).disk ≡ disk_with l.disk f
+home_disk l None = refl
+home_disk {D} l (Some f) = by_mark f.mark
+  where
+    by_mark : (m : Mark) → (taken_back l (length f.steps) m f.disk).disk ≡ Some f.disk
+    by_mark New = refl
+    by_mark Good = refl
+    by_mark Torn = refl
 
--- once all events were answered
-pub ran_all : {D : Type 0} (keeps_model : D → Bool) (start : LedgerState D) (events : List Event) (at : ℕ) (given : List Answer) (h : Held D) (Promise : Type 0) → Underway keeps_model start events at given h → at ≡ length events → (Drives start events given h → Promise) →
-    (before : D) → start.disk ≡ Some before → Promised (keeps_model before) events Promise
-ran_all keeps_model start events at given h Promise way last gives before disk promised =
-    let all : take at events ≡ events = ap (λ n. take n events) last ∙ take-length events in
-    gives (subst (λ l. Drives start l given h) all (way.drives before disk promised))
+module _ {D : Type 0} (present : D → Present) (clock : D → ℕ) (left_since : D → ℕ → List ℕ → Type 0) (crashes : D → D → Type 0) where
+  -- a run whose ledger is left at home
+  pub ran_home : (start : LedgerState D) (first : D) (events : List Event) (given : List Answer) (h : Held D) (l : LedgerState D) (released : List Release) (keeps_model : D → Bool) (disk : D) → Drives present clock left_since crashes (keeps_model disk) first start events given h →
+      l ≡ brought_home h.ledger h.flight → released ≡ h.released → IfSome l.disk (λ d. keeps_model d ≡ true → LedgerGives present l d) → l.disk ≡ Some disk →
+      Ran present clock left_since crashes (started start) events given released l (keeps_model disk) first disk
+  ran_home start first events given h l released keeps_model disk drives home given_out gives at_home =
+      let s = run (started start) events given in
+      let told = drives.consistent.told in
+      let back : IsBack l (ended s) = subst (λ m. IsBack m (ended s)) (sym home) (is_back h s drives.consistent drives.follows) in
+      let images = ledger_images l disk (keeps_model disk) present (subst (λ o. IfSome o (λ d. keeps_model d ≡ true → LedgerGives present l d)) at_home gives) in
+      let its : Some drives.disk ≡ Some disk = sym drives.holds ∙ sym (home_disk h.ledger h.flight) ∙ sym (ap (λ (m : LedgerState D). m.disk) home) ∙ at_home in
+      let same : drives.disk ≡ disk = cc in
+      record {
+        answered = drives.answered;
+        released_is = given_out ∙ drives.follows.released;
+        prefix = prefix_from_images s (keeps_model disk) (present disk) drives.consistent (home_images l s (keeps_model disk) (present disk) drives.consistent back images);
+        moments = subst (EachMoment present clock left_since crashes (keeps_model disk) (started start) events given first) same drives.moments;
+        once = told.once;
+        again = told.again;
+        signalled = signals_once s drives.consistent;
+        replied = told.truly;
+        ledger = is_left l (ended s) back;
+      }
+
+  -- once all events were answered
+  pub ran_all : (keeps_model : D → Bool) (start : LedgerState D) (events : List Event) (at : ℕ) (given : List Answer) (h : Held D) (after : D) (Promise : D → Type 0) → Underway present clock left_since crashes keeps_model start events at given h → at ≡ length events → disk_held h ≡ Some after →
+      ((first : D) → Drives present clock left_since crashes (keeps_model after) first start events given h → Promise first) → (before : D) → start.disk ≡ Some before → Promised (keeps_model before) events (Promise before)
+  ran_all keeps_model start events at given h after Promise way last there gives before disk promised =
+      let all : take at events ≡ events = ap (λ n. take n events) last ∙ take-length events in
+      let same = same_model present clock left_since crashes keeps_model start events at given h way before after disk there in
+      gives before (subst (λ b. Drives present clock left_since crashes b before start events given h) (sym same)
+      (subst (λ l. Drives present clock left_since crashes (keeps_model before) before start l given h) all (way.drives before disk promised)))

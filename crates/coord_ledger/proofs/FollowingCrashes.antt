@@ -11,7 +11,7 @@ use Rattle.coord_ledger.specs.declared.events.Event.TheVariants.{Crash}
 use Rattle.coord_ledger.specs.declared.mark.Mark.{Mark}
 use Rattle.coord_ledger.specs.declared.mark.Mark.TheVariants.{New, Good, Torn}
 use Rattle.coord_ledger.specs.declared.release.Release.{Release}
-use Rattle.coord_ledger.specs.ledger.Follows.{Follows, FollowsTo, Held, ImagesGive, flight_out}
+use Rattle.coord_ledger.specs.ledger.Follows.{Follows, FollowsTo, GivesOneOf, Held, ImagesGive, flight_out}
 use Rattle.coord_ledger.specs.ledger.State.{ledger_over}
 use Rattle.coord_ledger.specs.machine.After.{crashed}
 use Rattle.coord_ledger.specs.machine.Answers.{IsOneOf, answers, kept, kept_by, kept_with}
@@ -82,12 +82,11 @@ kept_on c d n f o one = by_flight f o one
     by_flight None (Some b) (inr (inr never)) = absurd never
     by_flight (Some f) o one = by_mark f.size f.mark one
 
--- what the images of a disk give of the ledger's log, they give of the machine's
-pub images_follow : {D : Type 0} (h : Held D) (s : Machine) (keeps_model : Bool) (present : Present) → Follows h s →
-    ImagesGive keeps_model present h.ledger.log (kept_by h.ledger.log.settled (option_map flight_out h.flight) h.ledger.doubt) → ImagesGive keeps_model present s.log (kept s)
-images_follow h s keeps_model present follows gives model image here =
+-- what bytes give of the ledger's log, they give of the machine's
+pub given_follows : {D : Type 0} (h : Held D) (s : Machine) (image : List ℕ) → Follows h s →
+    GivesOneOf h.ledger.log (kept_by h.ledger.log.settled (option_map flight_out h.flight) h.ledger.doubt) image → GivesOneOf s.log (kept s) image
+given_follows h s image follows given =
     let by = follows.by in
-    let given = gives model image here in
     let n = given.0 in
     let settled : h.ledger.log.settled ≡ s.log.settled - by = ap (λ (g : Log). g.settled) follows.log in
     let same : kept_by h.ledger.log.settled (option_map flight_out h.flight) h.ledger.doubt ≡ kept_by (s.log.settled - by) s.flight s.doubt = λ i. kept_by (settled i) (follows.flight i) (follows.doubt i) in
@@ -98,3 +97,8 @@ images_follow h s keeps_model present follows gives model image here =
         subst (Recovered image) (ap (λ g. world_after g n) follows.log ∙ sym (world-add s.log by n)) given.1.1,
       ),
     )
+
+-- so do the images of a disk
+pub images_follow : {D : Type 0} (h : Held D) (s : Machine) (keeps_model : Bool) (present : Present) → Follows h s →
+    ImagesGive keeps_model present h.ledger.log (kept_by h.ledger.log.settled (option_map flight_out h.flight) h.ledger.doubt) → ImagesGive keeps_model present s.log (kept s)
+images_follow h s keeps_model present follows gives model image here = given_follows h s image follows (gives model image here)

@@ -18,6 +18,7 @@ pub mod FollowingFlights
 pub mod FollowingTickets
 pub mod FollowingCrashes
 pub mod Calling
+pub mod Moments
 pub mod CutShort
 pub mod Driving
 pub mod Ending

@@ -57,9 +57,9 @@ crash_fault model b present log counts OutOfMemory is images cause = tt
 crash_fault model b present log counts (Store fault) is images cause = (refl, λ on. let keeps = some_is b (sym is ∙ on) in cause keeps (λ image here. let one = images keeps image here in (world_after log one.0, one.1.1)))
 
 -- a ledger that was made anew follows it
-pub follows_reopened : {D : Type 0} (s : Machine) (keeps_model : D → Bool) (present : D → Present) (before : D) (l : LedgerState D) (released : List Release) → IsConsistent s → released ≡ s.released → ImagesGive (keeps_model before) (present before) s.log (kept s) → keeps_model before ≡ true → IsReopened keeps_model present before l →
+pub follows_reopened : {D : Type 0} (s : Machine) (keeps_model : D → Bool) (present : D → Present) (clock : D → ℕ) (left_since : D → ℕ → List ℕ → Type 0) (crashes : D → D → Type 0) (before : D) (l : LedgerState D) (released : List Release) → IsConsistent s → released ≡ s.released → ImagesGive (keeps_model before) (present before) s.log (kept s) → keeps_model before ≡ true → IsReopened keeps_model present clock left_since crashes before l →
     FollowsTo s Crash (Opened (settled_world l.log).count) (record { ledger = l; flight = None; claims = []; seen = 0; released = released })
-follows_reopened {D} s keeps_model present before l released is given images keeps opened =
+follows_reopened {D} s keeps_model present clock left_since crashes before l released is given images keeps opened =
     let from = opened.from keeps in
     subst (λ (m : LedgerState D). FollowsTo s Crash (Opened (settled_world m.log).count) (record { ledger = m; flight = None; claims = []; seen = 0; released = released })) (sym opened.is)
     (follows_crash s released (keeps_model before) (present before) from.0 opened.world opened.disk is given images keeps from.1.0 from.1.1)

@@ -14,12 +14,14 @@ use Rattle.coord_ledger.specs.declared.mark.Mark.{Mark}
 use Rattle.coord_ledger.specs.declared.mark.Mark.TheVariants.{New, Good, Torn}
 use Rattle.coord_ledger.specs.declared.release.Release.{Release}
 use Rattle.coord_ledger.specs.laws.Laws.{FinishKeepsKept, HasAnswer, KeptIsSafe, PrefixFromImages}
+use Rattle.coord_ledger.specs.ledger.Follows.{GivesOneOf}
 use Rattle.coord_ledger.specs.machine.After.{after_finish, finished}
 use Rattle.coord_ledger.specs.machine.Answers.{IsOneOf, kept, kept_by, kept_with, next_size, stays_home, ticket, to_collect, to_commit, to_finish, to_submit, verdict_on, with_flight}
-use Rattle.coord_ledger.specs.machine.Consistent.{DoubtFits}
+use Rattle.coord_ledger.specs.machine.Consistent.{DoubtFits, IsConsistent}
 use Rattle.coord_ledger.specs.machine.Log.{accepted_count, settled_count, settled_world, world_after}
 use Rattle.coord_ledger.specs.machine.Machine.{FlightOut, Machine, has_stopped}
 use Rattle.coord_ledger.specs.machine.Shown.{shown}
+use Rattle.coord_ledger.specs.promises.Headline.{Survives}
 use Rattle.coord_ledger.proofs.ConsistentFlights.{kept_more, no_doubt}
 use Rattle.coord_ledger.proofs.Lists.{all_raised}
 use Rattle.coord_ledger.proofs.Logs.{count_after}
@@ -56,11 +58,13 @@ finish_keeps s (Some f) is fits = by_mark f.mark
 pub finish_keeps_kept : FinishKeepsKept
 finish_keeps_kept s is = finish_keeps s s.flight refl is.doubt
 
--- the headline, from what the store says of its images
+-- the headline for one image, from what the store says of it
+pub given_survives : (s : Machine) (image : List ℕ) → IsConsistent s → GivesOneOf s.log (kept s) image → Survives s image
+given_survives s image is given = record { steps = given.0; allowed = given.1.0; recovered = given.1.1; safe = kept_is_safe s given.0 is given.1.0 }
+
+-- and for all images of a disk
 pub prefix_from_images : PrefixFromImages
-prefix_from_images s keeps_model present is each model image here =
-    let given = each model image here in
-    record { steps = given.0; allowed = given.1.0; recovered = given.1.1; safe = kept_is_safe s given.0 is given.1.0 }
+prefix_from_images s keeps_model present is each model image here = given_survives s image is (each model image here)
 
 -- ---- each event has an answer
 

@@ -27,9 +27,10 @@ use std::alloc::Global;
 /// skipped and none in part. That prefix holds every step whose reply, packet or signal had been
 /// released, and every link predicate holds in that world.
 ///
-/// A run that is stopped after one of its events is a shorter run. Inside an event only a commit and
-/// the opening after a crash touch the disk: `Flight::commit` and `Store::open` say of each of their
-/// moments what a crash may then leave.
+/// It says so of each moment of the run, between two events and inside each of them: what the run
+/// does to its disk is told event by event (`EachMoment`), each from the disk that the one before it
+/// left, down to the disk of the ledger that is given back. After a fault the disk is gone, and
+/// nothing is said of it from there on.
 pub fn run_events<D: CrashDisk>(
     alloc: Global,
     ledger: Ledger<D>,
@@ -40,13 +41,13 @@ pub fn run_events<D: CrashDisk>(
 
     // A run that is answered: the main theorem, and the ledger that is left.
     ensures ran { IfOk result (λ r. (before : D) → (after : D) → ledger.disk ≡ Some before → r.1.disk ≡ Some after
-        → Promised (D.keeps_model before) events.now (Ran (started ledger) events.now r.0.answers.items r.0.released.items r.1 (D.keeps_model after) (D.present after))) }
+        → Promised (D.keeps_model before) events.now (Ran D.present D.clock D.left_since D.crashes (started ledger) events.now r.0.answers.items r.0.released.items r.1 (D.keeps_model after) before after)) }
     ensures at_home { IfOk result (λ r. r.1.out ≡ None) }
     ensures same_model { IfOk result (λ r. option_map D.keeps_model r.1.disk ≡ option_map D.keeps_model ledger.disk) }
 
     // A run that ended early.
     ensures broke { IfErr result (λ fault. (before : D) → ledger.disk ≡ Some before
-        → Promised (D.keeps_model before) events.now (Broke (started ledger) events.now fault.at fault.trace.answers.items fault.trace.released.items)) }
+        → Promised (D.keeps_model before) events.now (Broke D.present D.clock D.left_since D.crashes (started ledger) events.now fault.at fault.trace.answers.items fault.trace.released.items (D.keeps_model before) before)) }
     ensures cause { IfErr result (λ fault. (before : D) → ledger.disk ≡ Some before → HasCause (D.keeps_model before) events.now fault.at fault.kind) }
 {
     ledger.log_is_consistent();
@@ -57,6 +58,7 @@ pub fn run_events<D: CrashDisk>(
         seen: Seen::new(),
         released: Vec::new(alloc),
     };
+    held.survives();
     let mut answers = Vec::new(alloc);
     for (at, event) in events.iter().enumerate() {
         if answers.reserve(1).is_err() {
@@ -64,6 +66,7 @@ pub fn run_events<D: CrashDisk>(
         }
         match held.meet(alloc, *event) {
             Ok((answer, next)) => {
+                next.survives();
                 answers.push_reserved(answer);
                 held = next;
             }

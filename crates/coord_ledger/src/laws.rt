@@ -1,6 +1,7 @@
 //! Laws of the event machine, over the definitions alone: functions that do nothing, whose contracts
 //! are the laws.
 
+ghost use Rattle.coord_ledger.specs.laws.Commits.{CommitIsSafe};
 ghost use Rattle.coord_ledger.specs.laws.Laws.{AdoptedIsConsistent, FinishKeepsKept, HasAnswer, KeptIsSafe, LogStays, PrefixFromImages, RunGoesOn, RunIsConsistent, SettledStays, SignalsOnce, StaysConsistent, SubmitOrder};
 ghost use Rattle.coord_ledger.specs.laws.Moving.{CrashReopens, MovedAnswersAlike, MovedGoesOn, MovedIsConsistent};
 
@@ -50,6 +51,12 @@ pub fn run_goes_on()
 /// no step that was not accepted.
 pub fn kept_is_safe()
     ensures { KeptIsSafe }
+{}
+
+/// While a flight is committed, the worlds from before its steps and from after them are both legal,
+/// each with every step of which anything was told, and with no step that was not accepted.
+pub fn commit_is_safe()
+    ensures { CommitIsSafe }
 {}
 
 /// No step has signalled a node twice, crashes included.

@@ -230,9 +230,3 @@ fn other_desks(rt: HostRuntime) -> Result<(), Fail> {
     );
     Ok(())
 }
-
-#[test]
-fn laws_do_nothing() {
-    coord_admin::worked_requests();
-    coord_admin::worked_replies();
-}

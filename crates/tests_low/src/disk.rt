@@ -3,13 +3,12 @@
 ghost use Rattle.std.specs.Prelude.{◌+◌, ◌<◌, ◌^◌, length};
 
 use coord_disk::{
-    BlipDisk, Choice, CrashDisk, Disk, DiskFault, FileDisk, FuseDisk, GateDisk, MemDisk,
+    BlipDisk, Choice, CrashDisk, Disk, DiskFault, FuseDisk, GateDisk, MemDisk, TornDisk,
 };
 use std::alloc::{AllocError, Global};
 use std::sync::Arc;
 use std::sync::atomic::{AtomicBool, Ordering};
 use std::test::Fail;
-use std::{env, fs};
 
 // Whether a crash by this choice leaves these bytes of three synced ones and, behind a gap of two places, two that are not.
 fn leaves(alloc: Global, choice: Choice, want: &[u8]) -> Result<bool, AllocError> {
@@ -143,6 +142,25 @@ fn a_blip_fails_one_call(rt: HostRuntime) -> Result<(), Fail> {
     Ok(())
 }
 
+// Whether one write writes its first bytes and fails, and the other calls pass.
+fn tears(alloc: Global) -> Result<bool, AllocError> {
+    let mut disk = TornDisk::new(MemDisk::new(alloc), 1, 2);
+    let first = written(&mut disk, 0, &[1]);
+    let failed = disk.write_at(0, &[2, 3, 4]) == Err(DiskFault);
+    let second = written(&mut disk, 2, &[5]);
+    let counted = disk.calls() == 3;
+    let is_torn = disk.into_inner().bytes() == [2, 3, 5].as_slice();
+    first?;
+    second?;
+    Ok(failed && counted && is_torn)
+}
+
+#[test]
+fn a_write_is_torn(rt: HostRuntime) -> Result<(), Fail> {
+    assert!(rt; tears(rt.alloc())?);
+    Ok(())
+}
+
 // A device in memory whose syncs wait at a gate with these flags.
 fn gated(
     alloc: Global,
@@ -187,63 +205,6 @@ fn waits_at_a_gate(alloc: Global, is_open: bool) -> Result<bool, Fail> {
 #[test]
 fn a_sync_waits_at_a_gate(rt: HostRuntime) -> Result<(), Fail> {
     assert!(rt; waits_at_a_gate(rt.alloc(), true)? && waits_at_a_gate(rt.alloc(), false)?);
-    Ok(())
-}
-
-// Whether an empty file is read as it was written, and neither read nor written past its end.
-fn holds_what_is_written(disk: &mut FileDisk) -> Result<bool, DiskFault> {
-    let is_empty = disk.len() == Ok(0);
-    disk.write_at(2, &[7, 8])?;
-    disk.sync()?;
-    let mut buf = [9u8; 4];
-    disk.read(0, &mut buf)?;
-    let is_written = buf == [0, 0, 7, 8] && disk.len() == Ok(4);
-    let past_the_end = disk.read(1, &mut buf) == Err(DiskFault)
-        && disk.write_at(1 << 63, &[1]) == Err(DiskFault)
-        && disk.len() == Ok(4);
-    Ok(is_empty && is_written && past_the_end)
-}
-
-// Whether a file of four bytes that was opened to read is read, and a write fails.
-fn is_read_only(reader: &mut FileDisk) -> bool {
-    let is_read = reader.len() == Ok(4) && reader.read(0, &mut [9u8; 4]) == Ok(());
-    is_read && reader.write_at(0, &[1]) == Err(DiskFault)
-}
-
-// Whether others may open the file of a disk to read alone, and one of them to write once the disk is closed.
-fn is_shared(rt: &HostRuntime, path: &str, disk: FileDisk) -> Result<bool, DiskFault> {
-    let mut disk = disk;
-    let is_locked = FileDisk::open(rt, path).is_err();
-    match FileDisk::open_to_read(rt, path) {
-        Ok(mut reader) => {
-            let is_kept = is_read_only(&mut reader) && disk.len() == Ok(4);
-            drop(disk);
-            let is_free = FileDisk::open(rt, path).is_ok();
-            drop(reader);
-            Ok(is_locked && is_kept && is_free)
-        }
-        Err(fault) => {
-            drop(disk);
-            Err(fault)
-        }
-    }
-}
-
-// Whether a file is made, and read as it was written, while no other process may open it for writing.
-fn is_a_disk(rt: &HostRuntime, path: &str) -> Result<bool, Fail> {
-    let mut disk = FileDisk::open(rt, path)?;
-    let held = holds_what_is_written(&mut disk);
-    let shared = is_shared(rt, path, disk);
-    Ok(held? && shared?)
-}
-
-#[test]
-fn a_file_is_a_disk(rt: HostRuntime) -> Result<(), Fail> {
-    let path = format!(in rt.alloc(); "{}/resetd_file_disk", env::temp_dir(&rt)?.as_str())?;
-    let _ = fs::remove_file(&rt, &path);
-    let is_a_disk = is_a_disk(&rt, &path)?;
-    fs::remove_file(&rt, &path)?;
-    assert!(rt; is_a_disk);
     Ok(())
 }
 

@@ -6,4 +6,6 @@ mod check;
 #[cfg(test)]
 mod codec;
 #[cfg(test)]
+mod retried;
+#[cfg(test)]
 mod world;

@@ -1,14 +1,14 @@
 //! The value under the lock taken apart.
 
 ghost use Rattle.std.specs.Prelude.{◌≡◌, ◌↔◌, ◌+◌, ◌≤◌, drop, length, is_some, sum_by, IfErr, IfOk, IsTrue, Some};
-ghost use Rattle.coord_engine.specs.Closing.{MayClose, RefusesClosing};
+ghost use Rattle.coord_engine.specs.Closing.{IsSince, MayClose, RefusesClosing};
 ghost use Rattle.coord_engine.specs.Named.{AreNoted};
 ghost use Rattle.coord_ledger.specs.machine.Log.{settled_count, settled_world};
 ghost use Rattle.coord_store.specs.Kept.{has_stopped};
 
 use super::Guarded;
 use super::comparing::{all_ascending, all_noted};
-use crate::{CloseFault, Closed, Share};
+use crate::{CloseFault, Closed, Origin, Share};
 use coord_disk::Disk;
 use coord_types::Step;
 use std::sync::ledger::{Book, Ledger as Count, Share as Part};
@@ -37,7 +37,7 @@ fn steps_from(trail: &[Step], start: usize) -> &[Step]
     &trail[start..]
 }
 
-impl<D: Disk, L: Count> Guarded<D, L> {
+impl<D: Disk, L: Origin> Guarded<D, L> {
     /// Whether the shares noted, each in order, all that was accepted since the start. That they
     /// noted no more shows in the count.
     fn are_noted(&self, shares: &[Share<L>]) -> bool
@@ -59,6 +59,7 @@ impl<D: Disk, L: Count> Guarded<D, L> {
     ) -> Result<Closed<D>, (CloseFault, Self, Vec<Share<L>>)>
         requires { L.parts ≡ 65536 }
         ensures may { IfOk result (λ closed. MayClose self shares.items) }
+        ensures since { IfOk result (λ closed. IsSince L.base L.before shares.items closed.base closed.trail.items) }
         ensures store { IfOk result (λ closed. (self.ledger.disk ≡ Some closed.store.disk) × (closed.store.world ≡ settled_world self.ledger.log) × (has_stopped closed.store ≡ is_some self.ledger.doubt)) }
         ensures log { IfOk result (λ closed. (closed.base ≡ self.ledger.log.base) × (closed.trail.items ≡ self.ledger.log.trail) × (closed.settled ≡ settled_count self.ledger.log)) }
         ensures refused { IfErr result (λ refused. RefusesClosing self shares.items refused.0) }

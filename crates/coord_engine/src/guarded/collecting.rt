@@ -4,13 +4,12 @@ ghost use Rattle.std.specs.Prelude.{◌≡◌};
 ghost use Rattle.coord_engine.specs.Calls.{CollectsAs};
 
 use super::Guarded;
-use crate::Collected;
+use crate::{Collected, Origin};
 use coord_disk::Disk;
 use coord_ledger::Ticket;
 use coord_types::Refusal;
-use std::sync::ledger::Ledger as Count;
 
-impl<D: Disk, L: Count> Guarded<D, L> {
+impl<D: Disk, L: Origin> Guarded<D, L> {
     /// The reply to the ticket's step once it is settled. `Stranger` refuses a ticket of another
     /// ledger once a step with its number is settled, and `Stopped` one whose step will not be
     /// settled any more; any other has to wait.

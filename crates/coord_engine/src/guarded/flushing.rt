@@ -7,13 +7,13 @@ ghost use Rattle.coord_ledger.specs.ledger.Follows.{IsOut};
 ghost use Rattle.coord_ledger.specs.machine.Log.{pending};
 
 use super::Guarded;
+use crate::Origin;
 use coord_disk::Disk;
 use coord_ledger::{Flight, Releases};
 use coord_types::Refusal;
 use std::alloc::AllocError;
-use std::sync::ledger::Ledger as Count;
 
-impl<D: Disk, L: Count> Guarded<D, L> {
+impl<D: Disk, L: Origin> Guarded<D, L> {
     /// How many steps are accepted and not settled.
     pub fn pending(&self) -> usize
         ensures { result ≡ length (pending self.now.ledger.log) }

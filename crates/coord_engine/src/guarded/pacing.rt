@@ -7,11 +7,11 @@ ghost use Rattle.std.specs.Prelude.{◌≡◌, ◌+◌, ◌-◌, ◌^◌, min};
 ghost use Rattle.coord_engine.specs.Pacing.{is_idle, is_over, starts_at_once, wakes_flusher, with_in_hand};
 
 use super::Guarded;
+use crate::Origin;
 use coord_disk::Disk;
 use coord_types::MAX_BATCH_STEPS;
-use std::sync::ledger::Ledger as Count;
 
-impl<D: Disk, L: Count> Guarded<D, L> {
+impl<D: Disk, L: Origin> Guarded<D, L> {
     /// One more packet is handed over.
     pub fn raise_in_hand(&mut self)
         ensures { self.new ≡ with_in_hand self.old (min (self.old.in_hand + 1) (2 ^ 64 - 1)) }

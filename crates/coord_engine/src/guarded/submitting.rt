@@ -1,24 +1,24 @@
 //! How steps are accepted for shares.
 
-ghost use Rattle.std.specs.Prelude.{◌≡◌, Err, MatchResult, Ok, OnErr, IfOk};
+ghost use Rattle.std.specs.Prelude.{◌≡◌, ◌+◌, length};
 ghost use Rattle.coord_engine.specs.Calls.{AnswersStep, told};
-ghost use Rattle.coord_engine.specs.State.{with_ledger};
+ghost use Rattle.coord_engine.specs.State.{with_noted};
 
 use super::Guarded;
-use crate::Share;
+use crate::{Origin, Share};
 use coord_disk::Disk;
 use coord_ledger::Ticket;
 use coord_types::{Refusal, Step};
-use std::sync::ledger::Ledger as Count;
 
-impl<D: Disk, L: Count> Guarded<D, L> {
+impl<D: Disk, L: Origin> Guarded<D, L> {
     /// Accepts a step as the ledger does, and notes it in the caller's share. A repeat is not noted.
     ///
     /// Room for the note is taken first, so `OutOfMemory` may come before any other refusal. Then
     /// comes `Stopped`, also where the engine is finishing.
     pub fn submit(&mut self, step: Step, mine: &mut Share<L>) -> Result<Ticket, Refusal>
         ensures answer { AnswersStep step (told self.old step) (record { ledger = self.old.ledger; notes = mine.old }) result (record { ledger = self.new.ledger; notes = mine.new }) }
-        ensures ledger_alone { self.new ≡ with_ledger self.old self.new.ledger }
+        ensures noted { self.new.noted + length mine.old ≡ self.old.noted + length mine.new }
+        ensures others { self.new ≡ with_noted self.old self.new.ledger self.new.noted }
     {
         if mine.notes.reserve(1).is_err() {
             return Err(Refusal::OutOfMemory);

@@ -5,14 +5,19 @@ use Rattle.coord_disk.specs.Model.Present.{Present, IsImage}
 use Rattle.coord_store.specs.Recovered.{Recovered}
 use Rattle.coord_store.specs.Refused.{IsPassing}
 use Rattle.coord_world.specs.protocol.NumberedWorld.{World}
+use Rattle.coord_ledger.specs.declared.events.Answer.{Answer}
 use Rattle.coord_ledger.specs.declared.events.Event.{Event}
 use Rattle.coord_ledger.specs.declared.events.Event.TheVariants.{Crash}
 use Rattle.coord_ledger.specs.declared.trace.RunFaultKind.{RunFaultKind}
 use Rattle.coord_ledger.specs.declared.trace.RunFaultKind.TheVariants.{OutOfMemory, Store}
 use Rattle.coord_ledger.specs.ledger.Calls.{taken_back}
-use Rattle.coord_ledger.specs.ledger.Follows.{Held}
-use Rattle.coord_ledger.specs.ledger.State.{FlightState, LedgerState, ledger_over}
-use Rattle.coord_ledger.specs.promises.Headline.{is_crash}
+use Rattle.coord_ledger.specs.ledger.Follows.{Follows, Held}
+use Rattle.coord_ledger.specs.ledger.State.{FlightState, LedgerState, ledger_over, started}
+use Rattle.coord_ledger.specs.machine.Consistent.{IsConsistent}
+use Rattle.coord_ledger.specs.machine.Machine.{Machine}
+use Rattle.coord_ledger.specs.machine.Runs.{Answered, run}
+use Rattle.coord_ledger.specs.promises.Headline.{CrashPrefix, EachMoment, Survives, Touches, is_crash}
+use Rattle.coord_ledger.specs.promises.Moments.{Reopens}
 
 abbrev pub disk_with : {D : Type 0} → Option D → Option (FlightState D) → Option D
 disk_with disk None = disk
@@ -35,12 +40,13 @@ abbrev pub IsPromised : Option Bool → Event → Type 0
 IsPromised model e = (model ≡ Some true) ⊎ (is_crash e ≡ false)
 
 -- a ledger that was made anew after a crash of this disk, of the world that one of its images gives
-pub record IsReopened {D : Type 0} (keeps_model : D → Bool) (present : D → Present) (before : D) (l : LedgerState D) : Type 0 where
+pub record IsReopened {D : Type 0} (keeps_model : D → Bool) (present : D → Present) (clock : D → ℕ) (left_since : D → ℕ → List ℕ → Type 0) (crashes : D → D → Type 0) (before : D) (l : LedgerState D) : Type 0 where
   pub world : World
   pub disk : D
   pub is : l ≡ ledger_over world disk
   pub same_model : keeps_model disk ≡ keeps_model before
   pub from : keeps_model before ≡ true → (image : List ℕ) × (IsImage (present before) image × Recovered image world)
+  pub moments : keeps_model before ≡ true → Reopens present clock left_since crashes (IsImage (present before)) before disk
 
 -- why none was: where each image gives a world, for want of memory or a failure of the device alone
 abbrev pub IsReopenFault : Bool → Present → RunFaultKind → Type 0
@@ -51,3 +57,26 @@ IsReopenFault keeps_model present (Store fault) = keeps_model ≡ true → ((ima
 abbrev pub IsEventFault : Option Bool → Event → RunFaultKind → Type 0
 IsEventFault model e OutOfMemory = Unit {0}
 IsEventFault model e (Store fault) = (e ≡ Crash) × (model ≡ Some true → IsPassing fault)
+
+-- what an event has made of the disk that is held, where a crash inside it finds this machine
+abbrev pub HeldTouches : {D : Type 0} → (D → Bool) → (D → Present) → (D → ℕ) → (D → ℕ → List ℕ → Type 0) → (D → D → Type 0) → Machine → Bool → Event → Held D → Held D → Type 0
+HeldTouches {D} keeps_model present clock left_since crashes found touches e h next =
+    (old : D) → disk_held h ≡ Some old → (new : D) × ((disk_held next ≡ Some new) × Touches present clock left_since crashes (keeps_model old) found touches e old new)
+
+-- where the event was cut short this disk was given up: the one that is held, or in a crash one behind the taking of an image
+abbrev pub IsLost : {D : Type 0} → (D → Bool) → (D → Present) → (D → ℕ) → (D → ℕ → List ℕ → Type 0) → (D → D → Type 0) → Machine → Event → Held D → D → Type 0
+IsLost {D} keeps_model present clock left_since crashes s e h lost =
+    (old : D) → disk_held h ≡ Some old → (lost ≡ old) ⊎ ((e ≡ Crash) × (keeps_model old ≡ true → Reopens present clock left_since crashes (Survives s) old lost))
+
+-- whatever a crash between two events may leave survives
+abbrev pub HeldSurvives : {D : Type 0} → (D → Bool) → (D → Present) → Held D → Machine → Type 0
+HeldSurvives {D} keeps_model present h s = (disk : D) → disk_held h ≡ Some disk → CrashPrefix s (keeps_model disk) (present disk)
+
+-- what a driver keeps after some events with these answers, of which the first found this disk
+pub record Drives {D : Type 0} (present : D → Present) (clock : D → ℕ) (left_since : D → ℕ → List ℕ → Type 0) (crashes : D → D → Type 0) (keeps_model : Bool) (first : D) (start : LedgerState D) (events : List Event) (given : List Answer) (h : Held D) : Type 0 where
+  pub answered : Answered (started start) events given
+  pub consistent : IsConsistent (run (started start) events given)
+  pub follows : Follows h (run (started start) events given)
+  pub disk : D
+  pub holds : disk_held h ≡ Some disk
+  pub moments : EachMoment present clock left_since crashes keeps_model (started start) events given first disk

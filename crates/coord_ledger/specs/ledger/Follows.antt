@@ -10,17 +10,19 @@ use Rattle.coord_store.specs.Recovered.{Recovered}
 use Rattle.coord_ledger.specs.declared.events.Answer.{Answer}
 use Rattle.coord_ledger.specs.declared.events.Event.{Event}
 use Rattle.coord_ledger.specs.declared.release.Release.{Release}
-use Rattle.coord_ledger.specs.ledger.State.{Claim, FlightState, IsGranted, LedgerState, reply_of, started}
+use Rattle.coord_ledger.specs.ledger.State.{Claim, FlightState, IsGranted, LedgerState, reply_of}
 use Rattle.coord_ledger.specs.machine.After.{after}
 use Rattle.coord_ledger.specs.machine.Answers.{IsOneOf, answers}
-use Rattle.coord_ledger.specs.machine.Consistent.{IsConsistent}
 use Rattle.coord_ledger.specs.machine.Log.{Log, moved, pending, settled_count, settled_world, world_after}
 use Rattle.coord_ledger.specs.machine.Machine.{FlightOut, Machine}
-use Rattle.coord_ledger.specs.machine.Runs.{Answered, run}
 
--- each image of a disk gives the log's world after one of these numbers of steps
+-- these bytes give the log's world after one of these numbers of steps
+abbrev pub GivesOneOf : Log → List ℕ → List ℕ → Type 0
+GivesOneOf log counts bytes = (n : ℕ) × (IsOneOf n counts × Recovered bytes (world_after log n))
+
+-- so does each image of a disk
 abbrev pub ImagesGive : Bool → Present → Log → List ℕ → Type 0
-ImagesGive keeps_model present log counts = keeps_model ≡ true → (image : List ℕ) → IsImage present image → (n : ℕ) × (IsOneOf n counts × Recovered image (world_after log n))
+ImagesGive keeps_model present log counts = keeps_model ≡ true → (image : List ℕ) → IsImage present image → GivesOneOf log counts image
 
 -- the flight is the one that went out of this ledger: its number, its steps and its world are those of what is next
 pub record IsOut {D : Type 0} (l : LedgerState D) (f : FlightState D) : Type 0 where
@@ -74,9 +76,3 @@ pub record Follows {D : Type 0} (h : Held D) (s : Machine) : Type 0 where
 pub record FollowsTo {D : Type 0} (s : Machine) (e : Event) (a : Answer) (h : Held D) : Type 0 where
   pub allowed : IsOneOf a (answers s e)
   pub follows : Follows h (after s e a)
-
--- what a driver keeps after some events with these answers
-pub record Drives {D : Type 0} (start : LedgerState D) (events : List Event) (given : List Answer) (h : Held D) : Type 0 where
-  pub answered : Answered (started start) events given
-  pub consistent : IsConsistent (run (started start) events given)
-  pub follows : Follows h (run (started start) events given)

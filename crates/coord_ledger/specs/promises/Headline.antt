@@ -5,10 +5,16 @@
 -- packet or signal had been released; and every link predicate holds in that world.
 --
 -- A run is a list of events with its answers. `Survives` is the sentence for one image of the disk, `CrashPrefix` for
--- all of them, and `Ran` has it beside what else a run promises: that the answers are the event machine's, that what
--- was released and collected is true of the steps that are kept, and which ledger is left. `Broke` and `HasCause` are
--- what is promised of a run that ends early: what was answered and released until then, and why.
-use Rattle.std.specs.Prelude.{◌≡◌, ◌⊎◌, ℕ, ◌≤◌, ◌==◌, ◌&&◌, Bool, true, false, List, ◌++◌, map, length, take, slice_get, count_by, Some, None}
+-- all images of a disk between two events, and `EachMoment` for each moment of a run, within its events too: what the
+-- run does to its disk is told event by event, each from the disk that the event before it left. A commit leaves at
+-- each of its moments only images of the world before it or after it. A crash takes one of the disk's images, and the
+-- opening behind it leaves only images of that. No other event touches the disk. So at every moment inside every event
+-- of every run, whatever the disk may hold survives.
+--
+-- `Ran` has these beside what else a run promises: that the answers are the event machine's, that what was released and
+-- collected is true of the steps that are kept, and which ledger is left. `Broke` and `HasCause` are what is promised of
+-- a run that ends early: its moments, what was answered and released until then, and why.
+use Rattle.std.specs.Prelude.{◌≡◌, ◌⊎◌, ℕ, ◌≤◌, ◌==◌, ◌&&◌, Bool, true, false, List, [], ◌∷◌, ◌++◌, map, length, take, slice_get, count_by, Some, None}
 use Rattle.std.specs.List.{AllByRecursion}
 use Rattle.coord_disk.specs.Model.Present.{Present, IsImage}
 use Rattle.coord_types.specs.Table.{get}
@@ -16,6 +22,7 @@ use Rattle.coord_types.specs.declared.steps.Reply.{Reply}
 use Rattle.coord_types.specs.declared.steps.Session.{Session}
 use Rattle.coord_types.specs.declared.steps.Step.{Step}
 use Rattle.coord_store.specs.Recovered.{Recovered}
+use Rattle.coord_store.specs.declared.faults.CommitFault.TheVariants as fault
 use Rattle.coord_store.specs.Refused.{IsPassing}
 use Rattle.coord_world.specs.laws.Release.{IsReleased}
 use Rattle.coord_world.specs.laws.Waves.{is_signal_of}
@@ -23,8 +30,9 @@ use Rattle.coord_world.specs.protocol.Legal.{Legal}
 use Rattle.coord_world.specs.protocol.NumberedWorld.{World}
 use Rattle.coord_world.specs.protocol.Outputs.{outs}
 use Rattle.coord_ledger.specs.declared.events.Answer.{Answer}
+use Rattle.coord_ledger.specs.declared.events.Answer.TheVariants.{Committed, Failed}
 use Rattle.coord_ledger.specs.declared.events.Event.{Event}
-use Rattle.coord_ledger.specs.declared.events.Event.TheVariants.{Crash}
+use Rattle.coord_ledger.specs.declared.events.Event.TheVariants.{Commit, Crash}
 use Rattle.coord_ledger.specs.declared.release.Release.{Release}
 use Rattle.coord_ledger.specs.declared.trace.RunFaultKind.{RunFaultKind}
 use Rattle.coord_ledger.specs.declared.trace.RunFaultKind.TheVariants.{OutOfMemory, Store}
@@ -34,6 +42,7 @@ use Rattle.coord_ledger.specs.machine.Answers.{IsOneOf, answers, kept}
 use Rattle.coord_ledger.specs.machine.Log.{Log, accepted_count, moved, settled_steps, world_after}
 use Rattle.coord_ledger.specs.machine.Machine.{Machine}
 use Rattle.coord_ledger.specs.machine.Runs.{Answered, run}
+use Rattle.coord_ledger.specs.promises.Moments.{LeavesWithin, Reopens, touches_disk}
 use Rattle.coord_ledger.specs.promises.Parts.{IsPartOf, released_first}
 
 -- ---- wherever it is stopped
@@ -55,6 +64,31 @@ pub record Survives (s : Machine) (bytes : List ℕ) : Type 0 where
 -- crash prefix: so does whatever a disk that keeps the model may hold
 abbrev pub CrashPrefix : Machine → Bool → Present → Type 0
 CrashPrefix s keeps_model present = keeps_model ≡ true → (image : List ℕ) → IsImage present image → Survives s image
+
+-- ---- at each moment
+
+-- The machine as a crash inside an event finds it. While a commit is under way its steps are on the disk or not, as
+-- they are once the device has failed in it.
+abbrev pub found_by_crash : Machine → Event → Answer → Machine
+found_by_crash s Commit Committed = after s Commit (Failed fault.Device)
+found_by_crash s Commit (Failed fault.Device) = after s Commit (Failed fault.Device)
+found_by_crash s event answer = s
+
+-- What an event has made of the disk: nothing where it doesn't touch it, and at each moment since it began, a crash
+-- that then finds this machine leaves only what survives.
+pub record Touches {D : Type 0} (present : D → Present) (clock : D → ℕ) (left_since : D → ℕ → List ℕ → Type 0) (crashes : D → D → Type 0) (keeps_model : Bool) (found : Machine) (touches : Bool) (e : Event) (old new : D) : Type 0 where
+  pub untouched : touches ≡ false → new ≡ old
+  pub inside : keeps_model ≡ true → LeavesWithin present clock left_since crashes e (Survives found) old new
+
+-- A run, moment by moment, from its first disk to its last: whatever a crash between two events or inside one may leave
+-- survives.
+abbrev pub EachMoment : {D : Type 0} → (D → Present) → (D → ℕ) → (D → ℕ → List ℕ → Type 0) → (D → D → Type 0) → Bool → Machine → List Event → List Answer → D → D → Type 0
+EachMoment {D} present clock left_since crashes keeps_model s [] [] first last = (last ≡ first) × CrashPrefix s keeps_model (present last)
+EachMoment {D} present clock left_since crashes keeps_model s [] (a ∷ given) first last = ⊥
+EachMoment {D} present clock left_since crashes keeps_model s (e ∷ es) [] first last = ⊥
+EachMoment {D} present clock left_since crashes keeps_model s (e ∷ es) (a ∷ given) first last =
+    CrashPrefix s keeps_model (present first)
+    × ((next : D) × (Touches present clock left_since crashes keeps_model (found_by_crash s e a) (touches_disk e a) e first next × EachMoment present clock left_since crashes keeps_model (after s e a) es given next last))
 
 -- ---- what was given out
 
@@ -107,13 +141,14 @@ pub record IsLeft {D : Type 0} (s : Machine) (l : LedgerState D) : Type 0 where
   pub doubt : l.doubt ≡ s.doubt
   pub home : l.out ≡ None
 
--- A run from a ledger at home that hasn't stopped: the answers are the machine's, these were released, wherever it is
--- stopped, the headline holds, and this ledger is left. It is what `run_events` ensures where it answers a trace and a
--- ledger.
-pub record Ran {D : Type 0} (start : Machine) (events : List Event) (given : List Answer) (released : List Release) (left : LedgerState D) (keeps_model : Bool) (present : Present) : Type 0 where
+-- A run from a ledger at home that hasn't stopped, on a disk that it has led from one state to another: the answers are
+-- the machine's, these were released, wherever it is stopped, after an event or at any moment inside one, the headline
+-- holds, and this ledger is left. It is what `run_events` ensures where it answers a trace and a ledger.
+pub record Ran {D : Type 0} (present : D → Present) (clock : D → ℕ) (left_since : D → ℕ → List ℕ → Type 0) (crashes : D → D → Type 0) (start : Machine) (events : List Event) (given : List Answer) (released : List Release) (left : LedgerState D) (keeps_model : Bool) (first last : D) : Type 0 where
   pub answered : Answered start events given
   pub released_is : released ≡ (run start events given).released
-  pub prefix : CrashPrefix (run start events given) keeps_model present
+  pub prefix : CrashPrefix (run start events given) keeps_model (present last)
+  pub moments : EachMoment present clock left_since crashes keeps_model start events given first last
   pub once : ReleasedOnce (run start events given)
   pub again : AgainTruly (run start events given)
   pub signalled : SignalledOnce (run start events given)
@@ -130,12 +165,17 @@ pub record IsCutShort (before : Machine) (e : Event) (released : List Release) :
   pub ends : (after before e answer).released ≡ released ++ rest
 
 -- A run that ended early, at an event, or behind the last one where the flight that was out could not be taken back:
--- the answers to the events before are the machine's. It is what `run_events` ensures where it answers a fault.
-pub record Broke (start : Machine) (events : List Event) (at : ℕ) (given : List Answer) (released : List Release) : Type 0 where
+-- the answers to the events before are the machine's, and at each moment of it, also inside the event that was cut
+-- short, the headline holds. It is what `run_events` ensures where it answers a fault.
+pub record Broke {D : Type 0} (present : D → Present) (clock : D → ℕ) (left_since : D → ℕ → List ℕ → Type 0) (crashes : D → D → Type 0) (start : Machine) (events : List Event) (at : ℕ) (given : List Answer) (released : List Release) (keeps_model : Bool) (first : D) : Type 0 where
   pub within : at ≤ length events
   pub answered : Answered start (take at events) given
   pub during : (e : Event) → slice_get events at ≡ Some e → IsCutShort (run start (take at events) given) e released
   pub behind : at ≡ length events → released ≡ (run start events given).released
+  pub disk : D  -- as the events before have left it
+  pub moments : EachMoment present clock left_since crashes keeps_model start (take at events) given first disk
+  pub lost : D  -- as it was given up, in a crash perhaps behind the taking of an image
+  pub inside : (lost ≡ disk) ⊎ ((slice_get events at ≡ Some Crash) × (keeps_model ≡ true → Reopens present clock left_since crashes (Survives (run start (take at events) given)) disk lost))
 
 -- a store's fault comes of a crash alone; on a disk that keeps the model it is want of memory or a failure of the device
 abbrev pub HasCause : Bool → List Event → ℕ → RunFaultKind → Type 0

@@ -2,11 +2,12 @@
 
 ghost use Rattle.std.specs.Prelude.{◌≡◌, IfOk, OnErr, None, Some};
 ghost use Rattle.coord_ledger.specs.declared.events.Event.TheVariants.{Submit, Collect, Resend, Show, Commit};
-ghost use Rattle.coord_ledger.specs.ledger.Driver.{model_of};
+ghost use Rattle.coord_ledger.specs.ledger.Driver.{HeldSurvives, HeldTouches, disk_held, model_of};
 ghost use Rattle.coord_ledger.specs.ledger.Follows.{Follows, FollowsTo};
 ghost use Rattle.coord_ledger.specs.machine.Consistent.{IsConsistent};
 ghost use Rattle.coord_ledger.specs.machine.Machine.{Machine};
-ghost use Rattle.coord_ledger.specs.promises.Headline.{IsCutShort};
+ghost use Rattle.coord_ledger.specs.promises.Headline.{IsCutShort, found_by_crash};
+ghost use Rattle.coord_ledger.specs.promises.Moments.{touches_disk};
 
 use super::released::push_releases;
 use crate::{Answer, Flight, Ledger, Release, Seen, Ticket};
@@ -37,11 +38,23 @@ impl<D: CrashDisk> Model for Driver<D> {
 }
 
 impl<D: CrashDisk> Driver<D> {
+    /// Does nothing: its contract is what the types of its parts keep of the disk. Whatever a crash
+    /// may leave between two events is the world after a prefix of the accepted steps that holds all
+    /// that was released, and a legal one.
+    pub fn survives(&self)
+        ensures { (s : Machine) → IsConsistent s → Follows self.now s → HeldSurvives D.keeps_model D.present self.now s }
+    {
+        match &self.flight {
+            Some(flight) => flight.images_give_world(),
+            None => self.ledger.images_give_settled(),
+        }
+    }
+
     /// A step is handed in.
     pub fn submit(&mut self, step: Step) -> Result<Answer, AllocError>
         ensures answered { (s : Machine) → IsConsistent s → Follows self.old s → IfOk result (λ answer. FollowsTo s (Submit step) answer self.new) }
         ensures err { OnErr result (self.new ≡ self.old) }
-        ensures model { model_of D.keeps_model self.new ≡ model_of D.keeps_model self.old }
+        ensures disk { disk_held self.new ≡ disk_held self.old }
     {
         self.tickets.reserve(1)?;
         self.ledger.log_is_consistent();
@@ -66,7 +79,7 @@ impl<D: CrashDisk> Driver<D> {
     /// A ticket is collected.
     pub fn collect(&mut self, index: usize) -> Answer
         ensures answered { (s : Machine) → IsConsistent s → Follows self.old s → FollowsTo s (Collect index) result self.new }
-        ensures model { model_of D.keeps_model self.new ≡ model_of D.keeps_model self.old }
+        ensures disk { disk_held self.new ≡ disk_held self.old }
     {
         if index >= self.tickets.len() {
             return Answer::NoTicket;
@@ -88,8 +101,11 @@ impl<D: CrashDisk> Driver<D> {
     /// The flight that is out is committed.
     pub fn commit(&mut self) -> Answer
         ensures answered { (s : Machine) → IsConsistent s → Follows self.old s → FollowsTo s Commit result self.new }
+        ensures disk { (s : Machine) → IsConsistent s → Follows self.old s
+            → HeldTouches D.keeps_model D.present D.clock D.left_since D.crashes (found_by_crash s Commit result) (touches_disk Commit result) Commit self.old self.new }
         ensures model { model_of D.keeps_model self.new ≡ model_of D.keeps_model self.old }
     {
+        self.survives();
         match &mut self.flight {
             None => Answer::NoFlight,
             Some(flight) => match flight.commit() {
@@ -103,7 +119,7 @@ impl<D: CrashDisk> Driver<D> {
     pub fn resend(&mut self) -> Result<Answer, AllocError>
         ensures answered { (s : Machine) → IsConsistent s → Follows self.old s → IfOk result (λ answer. FollowsTo s Resend answer self.new) }
         ensures cut { (s : Machine) → IsConsistent s → Follows self.old s → OnErr result (IsCutShort s Resend self.new.released) }
-        ensures model { model_of D.keeps_model self.new ≡ model_of D.keeps_model self.old }
+        ensures disk { disk_held self.new ≡ disk_held self.old }
     {
         match self.ledger.resend() {
             Ok(releases) => {
@@ -117,7 +133,7 @@ impl<D: CrashDisk> Driver<D> {
     /// The settled world is shown.
     pub fn show(&mut self) -> Answer
         ensures answered { (s : Machine) → IsConsistent s → Follows self.old s → FollowsTo s Show result self.new }
-        ensures model { model_of D.keeps_model self.new ≡ model_of D.keeps_model self.old }
+        ensures disk { disk_held self.new ≡ disk_held self.old }
     {
         match self.ledger.show(&mut self.seen) {
             Ok(view) => Answer::Shown(view),

@@ -1,12 +1,10 @@
 //! The end of a run.
 
-ghost use Rattle.std.specs.Prelude.{◌≡◌, List, None, IfErr, IfOk, Some};
-ghost use Rattle.std.specs.Option.{option_map};
+ghost use Rattle.std.specs.Prelude.{◌≡◌, List, None, IfErr, IfOk, MatchResult, Some};
 ghost use Rattle.coord_ledger.specs.declared.events.Answer.{Answer as Reaction};
 ghost use Rattle.coord_ledger.specs.declared.events.Event.{Event as What};
 ghost use Rattle.coord_ledger.specs.declared.trace.RunFaultKind.TheVariants.{OutOfMemory};
-ghost use Rattle.coord_ledger.specs.ledger.Driver.{brought_home, model_of};
-ghost use Rattle.coord_ledger.specs.ledger.Follows.{Drives};
+ghost use Rattle.coord_ledger.specs.ledger.Driver.{Drives, brought_home, disk_held, disk_with};
 ghost use Rattle.coord_ledger.specs.ledger.State.{LedgerState, started};
 ghost use Rattle.coord_ledger.specs.promises.Headline.{Ran};
 
@@ -15,14 +13,15 @@ use super::flights::Broken;
 use super::released::forget_all;
 use crate::{Flight, Ledger, Release, RunFaultKind};
 use coord_disk::CrashDisk;
-use std::alloc::AllocError;
 
-/// Takes back the flight that is out of a ledger. What it releases is lost.
+/// Takes back the flight that is out of a ledger. What it releases is lost. Where it finds no
+/// memory, it gives the disk.
 fn bring_home<D: CrashDisk>(
     mut ledger: Ledger<D>,
     flight: Option<Flight<D>>,
-) -> Result<Ledger<D>, AllocError>
-    ensures { IfOk result (λ home. home ≡ brought_home ledger flight) }
+) -> Result<Ledger<D>, D>
+    ensures home { IfOk result (λ home. home ≡ brought_home ledger flight) }
+    ensures disk { IfErr result (λ disk. disk_with ledger.disk flight ≡ Some disk) }
 {
     let Some(flight) = flight else {
         return Ok(ledger);
@@ -32,21 +31,19 @@ fn bring_home<D: CrashDisk>(
             releases.lose_rest();
             Ok(ledger)
         }
-        Err((_, flight)) => {
-            let _disk = flight.into_disk();
-            Err(AllocError)
-        }
+        Err((_, flight)) => Err(flight.into_disk()),
     }
 }
 
 impl<D: CrashDisk> Driver<D> {
     /// Takes back the flight that is out, and gives up what it releases and the tickets that are
     /// left.
-    pub fn end(self) -> Result<(Vec<Release>, Ledger<D>), Broken>
-        ensures ran { (start : LedgerState D) → (events : List What) → (given : List Reaction) → Drives start events given self
-            → IfOk result (λ r. (after : D) → r.1.disk ≡ Some after → Ran (started start) events given r.0.items r.1 (D.keeps_model after) (D.present after)) }
+    pub fn end(self) -> Result<(Vec<Release>, Ledger<D>), Broken<D>>
+        ensures ran { (start : LedgerState D) → (first : D) → (events : List What) → (given : List Reaction) → (after : D)
+            → Drives D.present D.clock D.left_since D.crashes (D.keeps_model after) first start events given self
+            → IfOk result (λ r. r.1.disk ≡ Some after → Ran D.present D.clock D.left_since D.crashes (started start) events given r.0.items r.1 (D.keeps_model after) first after) }
         ensures home { IfOk result (λ r. r.1.out ≡ None) }
-        ensures model { IfOk result (λ r. option_map D.keeps_model r.1.disk ≡ model_of D.keeps_model self) }
+        ensures disk { MatchResult result (λ r. r.1.disk ≡ disk_held self) (λ broken. disk_held self ≡ Some broken.disk) }
         ensures refused { IfErr result (λ broken. broken.released.items ≡ self.released) }
         ensures kind { IfErr result (λ broken. broken.kind ≡ OutOfMemory) }
     {
@@ -63,9 +60,10 @@ impl<D: CrashDisk> Driver<D> {
                 ledger.images_give_settled();
                 Ok((released, ledger))
             }
-            Err(_) => Err(Broken {
+            Err(disk) => Err(Broken {
                 kind: RunFaultKind::OutOfMemory,
                 released,
+                disk,
             }),
         }
     }

@@ -1,13 +1,15 @@
 //! Any event of a run.
 
-ghost use Rattle.std.specs.Prelude.{◌≡◌, IfErr, IfOk, MatchResult};
+ghost use Rattle.std.specs.Prelude.{◌≡◌, IfErr, IfOk, MatchResult, Some};
 ghost use Rattle.coord_ledger.specs.declared.trace.RunFaultKind.TheVariants.{OutOfMemory};
-ghost use Rattle.coord_ledger.specs.ledger.Driver.{IsEventFault, IsPromised, model_of};
+ghost use Rattle.coord_ledger.specs.ledger.Driver.{HeldTouches, IsEventFault, IsLost, IsPromised, disk_held, model_of};
 ghost use Rattle.coord_ledger.specs.ledger.Follows.{Follows, FollowsTo};
 ghost use Rattle.coord_ledger.specs.machine.Consistent.{EventInRange, IsConsistent};
 ghost use Rattle.coord_ledger.specs.machine.Machine.{Machine};
-ghost use Rattle.coord_ledger.specs.promises.Headline.{IsCutShort};
+ghost use Rattle.coord_ledger.specs.promises.Headline.{IsCutShort, found_by_crash};
+ghost use Rattle.coord_ledger.specs.promises.Moments.{touches_disk};
 
+use super::crashes::disk_of;
 use super::driver::Driver;
 use super::flights::Broken;
 use super::released::forget_all;
@@ -17,36 +19,38 @@ use std::alloc::Global;
 
 impl<D: CrashDisk> Driver<D> {
     /// Gives up all but what was released, for want of memory.
-    pub fn lose(self) -> Broken
+    pub fn lose(self) -> Broken<D>
         ensures kind { result.kind ≡ OutOfMemory }
         ensures released { result.released.items ≡ self.released }
+        ensures disk { disk_held self ≡ Some result.disk }
     {
         let Driver {
-            ledger: _ledger,
+            ledger,
             flight,
             tickets,
             seen: _,
             released,
         } = self;
         forget_all(tickets);
-        if let Some(flight) = flight {
-            let _disk = flight.into_disk();
-        }
         Broken {
             kind: RunFaultKind::OutOfMemory,
             released,
+            disk: disk_of(ledger, flight),
         }
     }
 
     /// One event. Where the driver's own lists find no memory, or the disk isn't opened after a
     /// crash, all but what was released is gone.
-    pub fn meet(self, alloc: Global, event: Event) -> Result<(Answer, Self), Broken>
+    pub fn meet(self, alloc: Global, event: Event) -> Result<(Answer, Self), Broken<D>>
         ensures answered { (s : Machine) → IsConsistent s → Follows self s → IsPromised (model_of D.keeps_model self) event
             → MatchResult result (λ held. FollowsTo s event held.0 held.1) (λ broken. IsCutShort s event broken.released.items) }
+        ensures disk { (s : Machine) → IsConsistent s → Follows self s
+            → MatchResult result (λ held. HeldTouches D.keeps_model D.present D.clock D.left_since D.crashes (found_by_crash s event held.0) (touches_disk event held.0) event self held.1) (λ broken. IsLost D.keeps_model D.present D.clock D.left_since D.crashes s event self broken.disk) }
         ensures named { EventInRange event }
         ensures model { IfOk result (λ held. model_of D.keeps_model held.1 ≡ model_of D.keeps_model self) }
         ensures cause { IfErr result (λ broken. IsEventFault (model_of D.keeps_model self) event broken.kind) }
     {
+        self.survives();
         let mut held = self;
         let answer = match event {
             Event::Submit(step) => {

@@ -1,27 +1,29 @@
 //! The events of a run that move the store: a flight goes out and comes back, and the disk crashes.
 
-ghost use Rattle.std.specs.Prelude.{◌≡◌, IfErr, IfOk, MatchResult};
+ghost use Rattle.std.specs.Prelude.{◌≡◌, IfErr, IfOk, MatchResult, Some};
 ghost use Rattle.coord_ledger.specs.declared.events.Event.TheVariants.{Begin, Finish};
 ghost use Rattle.coord_ledger.specs.declared.trace.RunFaultKind.TheVariants.{OutOfMemory};
-ghost use Rattle.coord_ledger.specs.ledger.Driver.{model_of};
+ghost use Rattle.coord_ledger.specs.ledger.Driver.{disk_held};
 ghost use Rattle.coord_ledger.specs.ledger.Follows.{Follows, FollowsTo};
 ghost use Rattle.coord_ledger.specs.machine.Consistent.{IsConsistent};
 ghost use Rattle.coord_ledger.specs.machine.Machine.{Machine};
 ghost use Rattle.coord_ledger.specs.promises.Headline.{IsCutShort};
 
+use super::crashes::disk_of;
 use super::driver::Driver;
 use super::released::{forget_all, push_releases};
 use crate::{Answer, Release, RunFault, RunFaultKind, Trace};
 use coord_disk::CrashDisk;
 use coord_types::Refusal;
 
-/// Why an event was not answered, and what was released until then.
-pub struct Broken {
+/// Why an event was not answered, what was released until then, and the disk.
+pub struct Broken<D: CrashDisk> {
     pub kind: RunFaultKind,
     pub released: Vec<Release>,
+    pub disk: D,
 }
 
-impl Broken {
+impl<D: CrashDisk> Broken<D> {
     /// The fault of a run that ended at this event, with the answers before it.
     pub fn at(self, at: usize, answers: Vec<Answer>) -> RunFault
         ensures at { result.at ≡ at }
@@ -29,7 +31,11 @@ impl Broken {
         ensures released { result.trace.released.items ≡ self.released.items }
         ensures kind { result.kind ≡ self.kind }
     {
-        let Broken { kind, released } = self;
+        let Broken {
+            kind,
+            released,
+            disk: _disk,
+        } = self;
         let trace = Trace { answers, released };
         RunFault { at, trace, kind }
     }
@@ -39,7 +45,7 @@ impl<D: CrashDisk> Driver<D> {
     /// A flight goes out. While one is out, none does.
     pub fn begin(self) -> (Answer, Self)
         ensures answered { (s : Machine) → IsConsistent s → Follows self s → FollowsTo s Begin result.0 result.1 }
-        ensures model { model_of D.keeps_model result.1 ≡ model_of D.keeps_model self }
+        ensures disk { disk_held result.1 ≡ disk_held self }
     {
         let Driver {
             mut ledger,
@@ -75,9 +81,9 @@ impl<D: CrashDisk> Driver<D> {
     }
 
     /// The flight comes back, and what it releases is kept.
-    pub fn finish(self) -> Result<(Answer, Self), Broken>
+    pub fn finish(self) -> Result<(Answer, Self), Broken<D>>
         ensures answered { (s : Machine) → IsConsistent s → Follows self s → MatchResult result (λ held. FollowsTo s Finish held.0 held.1) (λ broken. IsCutShort s Finish broken.released.items) }
-        ensures model { IfOk result (λ held. model_of D.keeps_model held.1 ≡ model_of D.keeps_model self) }
+        ensures disk { MatchResult result (λ held. disk_held held.1 ≡ disk_held self) (λ broken. disk_held self ≡ Some broken.disk) }
         ensures kind { IfErr result (λ broken. broken.kind ≡ OutOfMemory) }
     {
         let Driver {
@@ -104,6 +110,7 @@ impl<D: CrashDisk> Driver<D> {
                     return Err(Broken {
                         kind: RunFaultKind::OutOfMemory,
                         released,
+                        disk: disk_of(ledger, None),
                     });
                 }
                 ledger.log_is_consistent();

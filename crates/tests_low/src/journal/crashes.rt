@@ -1,7 +1,7 @@
 //! What a crash leaves inside an append and a replace, and what a device that fails once leaves.
 
 use super::{BODY, CREATED, opened};
-use coord_disk::{BlipDisk, Choice, CrashDisk, Disk, FuseDisk, MemDisk};
+use coord_disk::{BlipDisk, Choice, CrashDisk, Disk, FuseDisk, MemDisk, TornDisk};
 use coord_journal::{Journal, JournalFault};
 use std::alloc::Global;
 use std::test::Fail;
@@ -163,6 +163,57 @@ fn first_wrong_blip(alloc: Global) -> Result<Option<(Act, u64, usize)>, JournalF
 #[test]
 fn a_call_that_fails_once_stops_the_journal(rt: HostRuntime) -> Result<(), Fail> {
     let wrong = first_wrong_blip(rt.alloc())?;
+    assert!(rt; wrong.is_none(), "{wrong:?}");
+    Ok(())
+}
+
+// Whether it is so where one write writes its first bytes and fails. Of a body or a half they are not
+// read; of a gate or a selector the first byte is the whole of it, which a crash then may leave.
+fn torn_leaves(
+    alloc: Global,
+    act: Act,
+    failed: u64,
+    kept: usize,
+    which: usize,
+) -> Result<bool, JournalFault> {
+    let call = failed.saturating_add(OPENING);
+    let disk = TornDisk::new(before(alloc, act, which)?, call, kept);
+    let (mut journal, _) = opened(alloc, disk)?;
+    let answer = done(&mut journal, act);
+    let is_stopped = has_stopped(&mut journal);
+    let disk = journal.into_disk();
+    let calls = disk.calls();
+    let found = left(alloc, disk.into_inner())?;
+    if calls <= call || answer == Err(JournalFault::OutOfMemory) {
+        answer?;
+    }
+    let is_answered = answer == Err(JournalFault::Device) && calls == call.saturating_add(1);
+    let reached = if failed == 2 && kept != 0 { 3 } else { failed };
+    Ok(is_answered && is_stopped && found == want(act, is_left(act, reached, which)))
+}
+
+// How many bytes of a write may be there, of which a replace has six.
+const KEPT: [usize; 5] = [0, 1, 3, 5, 6];
+
+// The first act, write, number of its bytes and choice for which it is not so.
+fn first_wrong_torn(alloc: Global) -> Result<Option<(Act, u64, usize, usize)>, JournalFault> {
+    for act in ACTS {
+        for failed in [0, 2] {
+            for kept in KEPT {
+                for which in 0..CHOICES {
+                    if !torn_leaves(alloc, act, failed, kept, which)? {
+                        return Ok(Some((act, failed, kept, which)));
+                    }
+                }
+            }
+        }
+    }
+    Ok(None)
+}
+
+#[test]
+fn a_torn_write_leaves_it_done_or_not(rt: HostRuntime) -> Result<(), Fail> {
+    let wrong = first_wrong_torn(rt.alloc())?;
     assert!(rt; wrong.is_none(), "{wrong:?}");
     Ok(())
 }

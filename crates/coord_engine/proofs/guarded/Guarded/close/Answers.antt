@@ -2,9 +2,10 @@ use Rattle.std.proofs.Common.{◌≡◌, ◌+◌, false, drop, length, refl, rul
 use Rattle.std.proofs.lemmas.Bool.{false≢true}
 use Rattle.std.proofs.lemmas.List.{length-drop}
 use Rattle.std.specs.Prelude.{is_none, sum_by}
-use Rattle.coord_engine.specs.Named.{AreNoted}
+use Rattle.coord_engine.specs.Named.{AreNoted, IsNamed}
 use Rattle.coord_engine.specs.State.{GuardedState}
 use Rattle.coord_engine.proofs.Naming.{named, named_noted}
+use Rattle.coord_engine.proofs.Since.{since}
 use Rattle.coord_engine.proofs.guarded.Guarded.close.Goals as goal
 
 pub returns-then-not-are_noted-clause-refused : goal.returns-then-not-are_noted-clause-refused
@@ -26,3 +27,16 @@ returns-clause-may g c =
     let trail = ap (λ (x : GuardedState g.row.D.Denot). length x.ledger.log.trail) c.self.view_is in
     let count : sum_by (λ notes. length notes) c.args.shares.items ≡ length steps = omega (arith, c.gather.ensures, c.self.invariant.3, start, trail, length-drop c.args.self.start c.args.self.ledger.log.trail) in
     record { home = home; all = all; named = named c.args.shares.items n steps are count }
+
+pub returns-clause-since : goal.returns-clause-since
+returns-clause-since g c =
+    let shares = c.args.shares.items in
+    let n = c.args.self.ledger.log.base.count + c.args.self.start in
+    let steps = drop c.args.self.start c.args.self.ledger.log.trail in
+    let are : AreNoted shares n steps = subst (λ s. AreNoted s n steps) c.deref.ensures.value (c.if-not-are_noted.ensures.0 refl) in
+    let start = ap (λ (x : GuardedState g.row.D.Denot). x.start) c.self.view_is in
+    let trail = ap (λ (x : GuardedState g.row.D.Denot). length x.ledger.log.trail) c.self.view_is in
+    let count : sum_by (λ notes. length notes) shares ≡ length steps = omega (arith, c.gather.ensures, c.self.invariant.3, start, trail, length-drop c.args.self.start c.args.self.ledger.log.trail) in
+    let is = subst (λ (x : GuardedState g.row.D.Denot). IsNamed shares (x.ledger.log.base.count + x.start) (drop x.start x.ledger.log.trail)) (sym c.self.view_is) (named shares n steps are count) in
+    let inv = c.self.invariant in
+    since g.L.Origin.base g.L.Origin.before shares c.self.inside.ledger.log c.self.inside.start c.in-Ok.base c.in-Ok.trail.items inv.4 inv.5 inv.6 is c.in-Ok.ensures.base c.in-Ok.ensures.trail

@@ -1,10 +1,9 @@
 use Rattle.std.proofs.Common.{◌∷◌, ◌++◌, [], Some, sym, ap, ◌∙◌, subst, arith}
-use Rattle.std.specs.Option.{option_map}
 use Rattle.coord_world.specs.protocol.NumberedWorld.{World}
 use Rattle.coord_world.specs.protocol.Ranges.{InRange}
 use Rattle.coord_ledger.specs.declared.events.Answer.TheVariants.{Accepted, Refused, Repeated}
 use Rattle.coord_ledger.specs.declared.events.Event.TheVariants.{Submit}
-use Rattle.coord_ledger.specs.ledger.Driver.{disk_with, model_of}
+use Rattle.coord_ledger.specs.ledger.Driver.{disk_held, disk_with}
 use Rattle.coord_ledger.specs.ledger.Follows.{Follows, FollowsTo, Held}
 use Rattle.coord_ledger.proofs.Running.{follows_submitted, follows_unsubmitted}
 use Rattle.coord_ledger.proofs.RunningFlights.{submitted}
@@ -15,10 +14,10 @@ pub invariant_of-self-in-Ok : goal.invariant_of-self-in-Ok
 invariant_of-self-in-Ok g c =
     (submitted c.self.inside.ledger c.submit.new.self c.self.inside.flight c.args.step c.in-Ok.ticket c.log_is_consistent.ensures.log c.self.invariant c.in-Ok.ensures.fresh c.in-Ok.ensures.repeated (λ why judged. let other = c.in-Ok.ensures.refused why judged in cc)).own
 
-pub returns-after-before-number-clause-model : goal.returns-after-before-number-clause-model
-returns-after-before-number-clause-model g c =
+pub returns-after-before-number-clause-disk : goal.returns-after-before-number-clause-disk
+returns-after-before-number-clause-disk g c =
     let same = (submitted c.self.inside.ledger c.submit.new.self c.self.inside.flight c.args.step c.in-Ok.ticket c.log_is_consistent.ensures.log c.self.invariant c.in-Ok.ensures.fresh c.in-Ok.ensures.repeated (λ why judged. let other = c.in-Ok.ensures.refused why judged in cc)).disk in
-    ap (λ d. option_map g.D.Disk.keeps_model (disk_with d c.self.inside.flight)) same ∙ ap (model_of g.D.Disk.keeps_model) c.self.view_is
+    ap (λ d. disk_with d c.self.inside.flight) same ∙ ap disk_held c.self.view_is
 
 pub returns-after-before-number-clause-answered : goal.returns-after-before-number-clause-answered
 returns-after-before-number-clause-answered g c s is follows =

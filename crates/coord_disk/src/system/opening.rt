@@ -1,10 +1,6 @@
 //! How a file is opened.
 
-ghost use Rattle.std.specs.Prelude.{◌≡◌, false, IfOk};
-ghost use Rattle.coord_disk.specs.Disks.File.{failures_of, has_lost};
-
-use super::FileDisk;
-use http_server::Log;
+use super::SystemFile;
 use std::fs::{File, OpenOptions};
 use std::io;
 use std::io::ErrorKind;
@@ -13,31 +9,25 @@ use std::path::Path;
 use std::rt::Files;
 
 /// The file and its folder, under a lock that no other process has.
-pub fn open_locked<R: Files<File = File>>(rt: &R, path: &str) -> io::Result<FileDisk>
-    ensures failures { IfOk result (λ disk. failures_of disk ≡ 0) }
-    ensures whole { IfOk result (λ disk. has_lost disk ≡ false) }
-{
+pub fn open_locked<R: Files<File = File>>(rt: &R, path: &str) -> io::Result<SystemFile<File>> {
     let file = match OpenOptions::new().read(true).write(true).open(rt, path) {
         Err(error) if error.kind() == ErrorKind::NotFound => make(rt, path)?,
         opened => opened?,
     };
     file.try_lock()?;
     let folder = open_folder(rt, path)?;
-    over(file, Some(folder))
+    Ok(SystemFile::over(file, Some(folder)))
 }
 
-/// The file, to be read alone. The entry of a file that is made here is still to be synced.
-pub fn open_unlocked<R: Files<File = File>>(rt: &R, path: &str) -> io::Result<FileDisk>
-    ensures failures { IfOk result (λ disk. failures_of disk ≡ 0) }
-    ensures whole { IfOk result (λ disk. has_lost disk ≡ false) }
-{
+/// The file, to be read alone, and its folder where the file is made here.
+pub fn open_unlocked<R: Files<File = File>>(rt: &R, path: &str) -> io::Result<SystemFile<File>> {
     match File::open(rt, path) {
         Err(error) if error.kind() == ErrorKind::NotFound => {
             let file = make(rt, path)?;
             let folder = open_folder(rt, path)?;
-            over(file, Some(folder))
+            Ok(SystemFile::over(file, Some(folder)))
         }
-        opened => over(opened?, None),
+        opened => Ok(SystemFile::over(opened?, None)),
     }
 }
 
@@ -56,19 +46,4 @@ fn open_folder<R: Files<File = File>>(rt: &R, path: &str) -> io::Result<File> {
         Some(folder) if !folder.as_str().is_empty() => File::open(rt, folder),
         _ => File::open(rt, "."),
     }
-}
-
-fn over(file: File, folder: Option<File>) -> io::Result<FileDisk>
-    ensures failures { IfOk result (λ disk. failures_of disk ≡ 0) }
-    ensures whole { IfOk result (λ disk. has_lost disk ≡ false) }
-{
-    let length = file.metadata()?.len();
-    Ok(FileDisk {
-        file,
-        folder,
-        length,
-        grown: false,
-        lost: false,
-        failed: Log::new(),
-    })
 }

@@ -1,0 +1,131 @@
+"""What a coordinator answers to a line: a reply, a refusal or a fault, each a value with its name."""
+
+from __future__ import annotations
+
+import enum
+import json
+from dataclasses import dataclass
+from typing import Any
+
+
+class Refusal(enum.IntEnum):
+    """The refusals of orders, by number. A refusal changes nothing, and the order's number stays free."""
+
+    STOPPED = 1
+    OUT_OF_MEMORY = 2
+    EXHAUSTED = 3
+    OUT_OF_TURN = 4
+    NUMBER_REUSED = 5
+    UNKNOWN_NODE = 6
+    NODE_EXISTS = 7
+    HAS_LINKS = 8
+    SAME_NODE = 9
+    OTHER_GROUP = 10
+    LINK_EXISTS = 11
+    NO_LINK = 12
+    DEGREE_FULL = 13
+    LINKS_FULL = 14
+    BAD_EPOCH = 15
+    OLD = 16
+    EARLY = 17
+    DIFFERS = 18
+    NOT_RELEASED = 19
+    PENDING_FULL = 20
+    BEHIND = 21
+    STRANGER = 22
+
+
+class Fault(enum.Enum):
+    """The faults of lines that are no request, and want of memory."""
+
+    UNFINISHED = "Unfinished"
+    TOO_LONG = "TooLong"
+    BAD_TEXT = "BadText"
+    BAD_JSON = "BadJson"
+    BAD_REQUEST = "BadRequest"
+    UNKNOWN_OP = "UnknownOp"
+    OUT_OF_MEMORY = "OutOfMemory"
+
+
+PASSING_REFUSALS = frozenset({Refusal.STOPPED, Refusal.OUT_OF_MEMORY, Refusal.PENDING_FULL})
+
+
+class Away(Exception):
+    """No answer came, or one that says "not now": the same line is to be sent again. An order that was sent may
+    have been carried out or not; sent again with the same number it is carried out once."""
+
+
+class NotNow(Away):
+    """The coordinator answered Stopped, PendingFull or OutOfMemory; `name` says which."""
+
+    def __init__(self, name: str) -> None:
+        super().__init__(name)
+        self.name = name
+
+
+class NotTaken(Exception):
+    """The coordinator refused an order, or does not know the line. The same line would be answered so again."""
+
+    name: str
+
+
+class Refused(NotTaken):
+    """A refusal. `refusal` is None where this library does not know the number."""
+
+    def __init__(self, number: int, name: str) -> None:
+        super().__init__(f"{number} {name}")
+        self.number = number
+        self.name = name
+        self.refusal = Refusal(number) if number in set(Refusal) else None
+
+
+class Faulted(NotTaken):
+    """A line that is no request. `fault` is None where this library does not know the name."""
+
+    def __init__(self, name: str) -> None:
+        super().__init__(name)
+        self.name = name
+        self.fault = next((fault for fault in Fault if fault.value == name), None)
+
+
+class Garbled(NotTaken):
+    """What came is no answer of a coordinator: something else listens at the address."""
+
+    name = "Garbled"
+
+
+@dataclass(frozen=True)
+class Reply:
+    """An order that was carried out: `done`, `started`, `finished` or `joined`, and the number of its step."""
+
+    kind: str
+    step: int
+
+
+def members_of(line: str) -> dict[str, Any]:
+    """The members of an answer line that is no refusal and no fault. Raises NotNow, Refused, Faulted, Garbled."""
+    try:
+        answer = json.loads(line)
+    except ValueError:
+        raise Garbled(line) from None
+    if not isinstance(answer, dict):
+        raise Garbled(line)
+    if "refused" in answer:
+        number, name = int(answer["refused"]), str(answer.get("name"))
+        if number in PASSING_REFUSALS:
+            raise NotNow(name)
+        raise Refused(number, name)
+    if "fault" in answer:
+        name = str(answer["fault"])
+        if name == Fault.OUT_OF_MEMORY.value:
+            raise NotNow(name)
+        raise Faulted(name)
+    return answer
+
+
+def reply_of(answer: dict[str, Any]) -> Reply:
+    """The reply to an order."""
+    try:
+        return Reply(str(answer["kind"]), int(answer["step"]))
+    except (KeyError, ValueError) as missing:
+        raise Garbled(json.dumps(answer)) from missing

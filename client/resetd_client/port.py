@@ -1,0 +1,182 @@
+"""The administration port of a coordinator, at one address or at the first of several that answers."""
+
+from __future__ import annotations
+
+import json
+import random
+import socket
+import time
+from collections.abc import Callable, Iterator, Mapping, Sequence
+from typing import Any, TypeVar
+
+from .answers import Away, Garbled, NotNow, NotTaken, members_of
+from .view import View
+
+T = TypeVar("T")
+Request = Mapping[str, Any]
+
+MOST_BYTES = 512  # of a line
+AT_ONCE = 64  # lines that are sent before their answers are read: neither side then fills the other's buffers
+REPLY_SECONDS = 20.0  # a server serves one connection at a time, and ends one that is silent
+
+
+class Port:
+    """Asks a coordinator, one connection after the other, each closed at once: the port serves one at a time.
+
+    `addresses` are `HOST:PORT`, one or several with commas between, all of one coordinator, of which one serves at a
+    time; they are tried in turn, beginning with the one that answered last. One that gives no answer, or answers
+    Stopped, PendingFull or OutOfMemory, gives way to the next.
+    """
+
+    def __init__(self, addresses: str, seconds: float = REPLY_SECONDS) -> None:
+        self.addresses = [address_of(text) for text in addresses.split(",")]
+        self.seconds = seconds
+        self._last = 0
+
+    def ask(self, request: Request) -> dict[str, Any]:
+        """The members of the answer to one request. Raises Away (NotNow is one), or NotTaken."""
+        return self._at_one(lambda address: members_of(self._answer(address, request)))
+
+    def raw(self, request: Request) -> str:
+        """The line that answers one request, whatever it says. Raises Away where none came."""
+        return self._at_one(lambda address: self._answer(address, request))
+
+    def show(self) -> View:
+        """The nodes and links, as far as they are on the disk."""
+        answer = self.ask({"op": "show"})
+        try:
+            return View.of(answer)
+        except (KeyError, ValueError, TypeError, IndexError) as fault:
+            raise Garbled(json.dumps(answer)) from fault
+
+    def resend(self) -> int:
+        """Has what is on its way sent again, and answers how many packets that are."""
+        return int(self.ask({"op": "resend"})["count"])
+
+    def close(self) -> None:
+        """Ends the server in order: what was accepted is settled first."""
+        if self.ask({"op": "close"}).get("kind") != "closed":
+            raise Garbled("close")
+
+    def ask_many(self, requests: Sequence[Request]) -> Iterator[dict[str, Any] | NotTaken]:
+        """The answers to many requests, in their order, over few connections: a server may end one between two
+        lines, and then the rest goes on over the next. Where nothing is answered over one, raises Away."""
+        done = 0
+        while done < len(requests):
+            before = done
+            with self._connected() as connection:
+                for answer in self._spoken(connection, requests[done:]):
+                    done += 1
+                    yield answer
+            if done == before:
+                raise Away("no answer came")
+
+    def _spoken(self, connection: socket.socket, requests: Sequence[Request]) -> Iterator[dict[str, Any] | NotTaken]:
+        """The answers over one connection, as far as they come."""
+        for place in range(0, len(requests), AT_ONCE):
+            part = requests[place:place + AT_ONCE]
+            came = 0
+            for line in spoken(connection, part):
+                came += 1
+                try:
+                    yield members_of(line)
+                except NotTaken as not_taken:
+                    yield not_taken
+            if came < len(part):
+                return
+
+    def _connected(self) -> socket.socket:
+        return self._at_one(lambda address: connected(address, self.seconds))
+
+    def _answer(self, address: tuple[str, int], request: Request) -> str:
+        """The line that answers one request, over a connection of its own."""
+        with connected(address, self.seconds) as connection:
+            for line in spoken(connection, [request]):
+                return line
+        raise Away(f"{address[0]}:{address[1]}: no answer came")
+
+    def _at_one(self, call: Callable[[tuple[str, int]], T]) -> T:
+        """What a call gives at the first address that answers. Raises what the last one raised; where one of them
+        answered "not now", that."""
+        fault: Away = Away("no address")
+        for turn in range(len(self.addresses)):
+            place = (self._last + turn) % len(self.addresses)
+            try:
+                result = call(self.addresses[place])
+            except Away as away:
+                fault = away if not isinstance(fault, NotNow) or isinstance(away, NotNow) else fault
+                continue
+            except NotTaken:
+                self._last = place
+                raise
+            self._last = place
+            return result
+        raise fault
+
+
+def address_of(text: str) -> tuple[str, int]:
+    """The host and the port of `HOST:PORT`. Raises ValueError."""
+    host, colon, port = text.strip().rpartition(":")
+    if not colon or not host or not port.isdigit() or not 0 < int(port) < 65536:
+        raise ValueError(f"{text!r} is no address: HOST:PORT is meant")
+    return host, int(port)
+
+
+def connected(address: tuple[str, int], seconds: float) -> socket.socket:
+    """A connection. Raises Away."""
+    try:
+        connection = socket.create_connection(address, timeout=min(seconds, 5.0))
+        connection.settimeout(seconds)
+        connection.setsockopt(socket.IPPROTO_TCP, socket.TCP_NODELAY, 1)
+    except OSError as fault:
+        raise Away(f"{address[0]}:{address[1]}: {fault}") from fault
+    return connection
+
+
+def spoken(connection: socket.socket, requests: Sequence[Request]) -> Iterator[str]:
+    """Sends requests at once and gives the lines that come in answer, as many as come whole."""
+    text = b"".join(line_of(request) for request in requests)
+    try:
+        connection.sendall(text)
+    except OSError:
+        return
+    rest, came = b"", 0
+    until = time.monotonic() + (connection.gettimeout() or REPLY_SECONDS) * (1 + len(requests) / AT_ONCE)
+    while came < len(requests):
+        try:
+            read = connection.recv(65536)
+        except OSError:
+            return
+        if not read or time.monotonic() > until:
+            return
+        *lines, rest = (rest + read).split(b"\n")
+        for line in lines[:len(requests) - came]:
+            came += 1
+            yield line.decode("utf-8", "replace")
+
+
+def line_of(request: Request) -> bytes:
+    """The line of a request. Raises ValueError where it would be too long to be read."""
+    line = json.dumps(dict(request), separators=(",", ":")).encode() + b"\n"
+    if len(line) > MOST_BYTES + 1:
+        raise ValueError(f"a line has at most {MOST_BYTES} bytes")
+    return line
+
+
+def patiently(call: Callable[[], T], seconds: float | None = None, told: Callable[[Away], None] | None = None) -> T:
+    """Makes a call again and again while it raises Away, for so many seconds, or for ever. `told` hears of the
+    first Away of each row."""
+    until = None if seconds is None else time.monotonic() + seconds
+    wait = 0.1
+    is_first = True
+    while True:
+        try:
+            return call()
+        except Away as away:
+            if until is not None and time.monotonic() >= until:
+                raise
+            if told and is_first:
+                told(away)
+            is_first = False
+        time.sleep(wait * random.uniform(0.75, 1.25))
+        wait = min(wait * 1.5, 2.0)

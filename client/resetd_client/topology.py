@@ -1,0 +1,166 @@
+"""Topology files, and the orders that make a network what such a file wants."""
+
+from __future__ import annotations
+
+import tomllib
+from collections.abc import Iterable, Iterator
+from dataclasses import dataclass, field
+from typing import Any
+
+from .view import View
+
+MOST_BYTES = 65_536
+MOST_NODES, MOST_GROUPS = 64, 16
+MOST_LINKS_AT_NODE, MOST_LINKS = 16, 128
+HALVES = range(32_768, 16_777_217)
+
+Pair = tuple[int, int]
+
+
+class BadTopology(Exception):
+    """The file is no topology, or one that no network can have."""
+
+
+@dataclass
+class Network:
+    """Nodes with their groups, and links as pairs with the lesser number first."""
+
+    groups: dict[int, int] = field(default_factory=dict)
+    links: set[Pair] = field(default_factory=set)
+
+    @staticmethod
+    def of(view: View) -> Network:
+        """What `show` says."""
+        return Network({node.node: node.group for node in view.nodes}, {pair(link.a, link.b) for link in view.links})
+
+    def degree(self, node: int) -> int:
+        return sum(node in link for link in self.links)
+
+    def links_of(self, nodes: Iterable[int]) -> set[Pair]:
+        """The links with an end among these nodes."""
+        ends = set(nodes)
+        return {link for link in self.links if ends & set(link)}
+
+
+def pair(a: int, b: int) -> Pair:
+    return (a, b) if a < b else (b, a)
+
+
+@dataclass(frozen=True)
+class Order:
+    """An order of a plan, with what a person should know of it."""
+
+    op: str
+    members: dict[str, int]
+    note: str = ""
+
+    def __str__(self) -> str:
+        words = " ".join([self.op, *map(str, self.members.values())])
+        return f"{words}    # {self.note}" if self.note else words
+
+
+def read_topology(text: bytes) -> Network:
+    """The network of a topology file. Raises BadTopology."""
+    if len(text) > MOST_BYTES:
+        raise BadTopology(f"over {MOST_BYTES} bytes")
+    try:
+        top = tomllib.loads(text.decode("utf-8"))
+    except ValueError as fault:
+        raise BadTopology(f"no TOML: {fault}") from None
+    check_keys(top, required=set(), optional={"half", "node", "link"}, where="the top")
+    if "half" in top:
+        number(top["half"], HALVES, "half")
+    network = Network()
+    for row in tables(top, "node", {"id", "group"}):
+        node = number(row["id"], range(1, MOST_NODES + 1), "id")
+        if node in network.groups:
+            raise BadTopology(f"node {node} stands twice")
+        network.groups[node] = number(row["group"], range(1, MOST_GROUPS + 1), f"group of node {node}")
+    for row in tables(top, "link", {"a", "b"}):
+        add_link(network, *(number(row[end], range(1, MOST_NODES + 1), end) for end in ("a", "b")))
+    return network
+
+
+def add_link(network: Network, a: int, b: int) -> None:
+    """Adds a link that a network can have. Raises BadTopology."""
+    for end in (a, b):
+        if end not in network.groups:
+            raise BadTopology(f"link {a} {b}: there is no node {end}")
+    if a == b:
+        raise BadTopology(f"link {a} {b}: one node")
+    if network.groups[a] != network.groups[b]:
+        raise BadTopology(f"link {a} {b}: two groups")
+    if pair(a, b) in network.links:
+        raise BadTopology(f"link {a} {b} stands twice")
+    network.links.add(pair(a, b))
+    if max(network.degree(a), network.degree(b)) > MOST_LINKS_AT_NODE:
+        raise BadTopology(f"link {a} {b}: a node has at most {MOST_LINKS_AT_NODE} links")
+    if len(network.links) > MOST_LINKS:
+        raise BadTopology(f"more than {MOST_LINKS} links")
+
+
+def tables(top: dict[str, Any], key: str, members: set[str]) -> Iterator[dict[str, Any]]:
+    rows = top.get(key, [])
+    if not isinstance(rows, list) or not all(isinstance(row, dict) for row in rows):
+        raise BadTopology(f"{key} is to be written as [[{key}]]")
+    for row in rows:
+        check_keys(row, required=members, optional=set(), where=f"a [[{key}]]")
+        yield row
+
+
+def check_keys(table: dict[str, Any], required: set[str], optional: set[str], where: str) -> None:
+    if missing := required - set(table):
+        raise BadTopology(f"{where} lacks {' and '.join(sorted(missing))}")
+    if extra := set(table) - required - optional:
+        raise BadTopology(f"{where} has {' and '.join(sorted(extra))}, which mean nothing")
+
+
+def number(value: Any, limits: range, what: str) -> int:
+    if not isinstance(value, int) or isinstance(value, bool) or value not in limits:
+        raise BadTopology(f"{what} is to be a whole number from {limits[0]} to {limits[-1]}")
+    return value
+
+
+def plan(have: Network, want: Network) -> list[Order]:
+    """The orders that make of one network the other: nodes whose group changes go and come again; then nodes are
+    added, links joined before others are dropped, so that nobody is cut off meanwhile, and nodes removed. Where a
+    join has no room, a link that is to go is dropped first, and the order says so."""
+    now = Network(dict(have.groups), set(have.links))
+    orders: list[Order] = []
+
+    def order(op: str, note: str = "", **members: int) -> None:
+        orders.append(Order(op, members, note))
+
+    def drop(link: Pair, note: str = "") -> None:
+        now.links.remove(link)
+        order("drop", note, a=link[0], b=link[1])
+
+    regrouped = sorted(n for n in have.groups if n in want.groups and have.groups[n] != want.groups[n])
+    for link in sorted(now.links_of(regrouped)):
+        drop(link, "an end changes its group")
+    for node in regrouped:
+        order("remove", f"its group changes from {have.groups[node]} to {want.groups[node]}", node=node)
+        order("add", "its epochs begin again", node=node, group=want.groups[node])
+    for node in sorted(set(want.groups) - set(have.groups)):
+        order("add", node=node, group=want.groups[node])
+    for link in sorted(want.links - now.links):
+        for room in rooms(now, want, link):
+            drop(room, f"before {link[0]} and {link[1]} are joined: there is no room for both")
+        now.links.add(link)
+        order("join", a=link[0], b=link[1])
+    for link in sorted(now.links - want.links):
+        drop(link)
+    for node in sorted(set(have.groups) - set(want.groups)):
+        order("remove", node=node)
+    return orders
+
+
+def rooms(now: Network, want: Network, link: Pair) -> list[Pair]:
+    """The links to be dropped before a link can be joined; of those that are to go anyway."""
+    going, chosen = now.links - want.links, set[Pair]()
+    for end in link:
+        if now.degree(end) - sum(end in other for other in chosen) >= MOST_LINKS_AT_NODE:
+            chosen.add(min(other for other in going if end in other))
+    if len(now.links) - len(chosen) >= MOST_LINKS:
+        chosen.add(min(going - chosen))
+    return sorted(chosen)

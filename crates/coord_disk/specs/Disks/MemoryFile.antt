@@ -1,0 +1,30 @@
+-- A file in memory.
+use Rattle.std.specs.Prelude.{◌≡◌, ℕ, ◌+◌, ◌-◌, ◌^◌, min, Bool}
+use Rattle.coord_disk.specs.declared.memory.MemDisk.{MemDisk}
+use Rattle.coord_disk.specs.declared.memory_file.MemFile.{MemFile}
+use Rattle.coord_disk.specs.declared.memory_file.Syncs.{Syncs}
+use Rattle.coord_disk.specs.Model.RawCalls.{RawCall}
+use Rattle.coord_disk.specs.Model.RawCalls.RawCall.{SyncData, SyncAll, SyncFolder}
+
+-- its bytes
+abbrev pub disk_of : MemFile → MemDisk
+disk_of file = file.disk
+
+-- whether its folder has it
+abbrev pub has_entry : MemFile → Bool
+has_entry file = file.entered
+
+-- the syncs so far
+abbrev pub syncs_of : MemFile → Syncs
+syncs_of file = file.syncs
+
+-- one more, up to the greatest u64
+abbrev pub one_more : ℕ → ℕ
+one_more n = min (n + 1) (2 ^ 64 - 1)
+
+-- a sync is counted by its kind
+abbrev pub counted : RawCall → Syncs → Syncs
+counted SyncData syncs = record syncs { bytes = one_more syncs.bytes }
+counted SyncAll syncs = record syncs { all = one_more syncs.all }
+counted SyncFolder syncs = record syncs { folder = one_more syncs.folder }
+counted _ syncs = syncs

@@ -1,0 +1,170 @@
+//! A raw file in memory, which may be crashed at will.
+
+ghost use Rattle.std.specs.Prelude.{◌≡◌, ◌+◌, ◌<◌, ◌≤◌, ◌^◌, [], true, false, List, ℕ, length, is_ok, Ok, IfOk};
+ghost use Rattle.coord_disk.specs.Disks.Memory.{present_of};
+ghost use Rattle.coord_disk.specs.Model.Present.{IsImage, whole};
+
+use crate::{Choice, CrashDisk, Disk, DiskFault, MemDisk, RawFile};
+use std::alloc::Global;
+use std::io;
+
+/// How many syncs of each kind there were. Each count stays at the greatest u64.
+#[derive(Clone, Copy, Debug, PartialEq, Eq)]
+pub struct Syncs {
+    /// Of the bytes alone.
+    pub bytes: u64,
+    /// Of the bytes and the length.
+    pub all: u64,
+    /// Of the folder.
+    pub folder: u64,
+}
+
+/// A raw file in memory. It syncs no more than it has to, counts its syncs, and fails a call where
+/// it finds no memory.
+#[derive(Drop)]
+pub struct MemFile {
+    disk: MemDisk,
+    entered: bool,
+    syncs: Syncs,
+    ghost absent: { entered ≡ false → (present_of disk).synced ≡ [] },
+}
+
+impl MemFile {
+    ghost use Rattle.coord_disk.specs.Disks.Memory.{choice_of, CrashesByChoice};
+    ghost use Rattle.coord_disk.specs.Disks.MemoryFile.{disk_of, has_entry, syncs_of};
+    ghost use Rattle.coord_disk.specs.declared.choice.Choice.TheVariants.{Lost};
+
+    /// A new file with nothing in it, which its folder may lack, and which loses what is not synced.
+    pub fn new(alloc: Global) -> Self
+        ensures present { present_of (disk_of result) ≡ whole [] }
+        ensures choice { choice_of (disk_of result) ≡ Lost }
+        ensures entry { has_entry result ≡ false }
+        ensures syncs { syncs_of result ≡ record { bytes = 0; all = 0; folder = 0 } }
+    {
+        MemFile {
+            disk: MemDisk::new(alloc),
+            entered: false,
+            syncs: Syncs {
+                bytes: 0,
+                all: 0,
+                folder: 0,
+            },
+        }
+    }
+
+    /// The bytes as a read gives them.
+    pub fn bytes(&self) -> &[u8]
+        ensures { result.now ≡ (present_of (disk_of self.now)).read }
+    {
+        self.disk.bytes()
+    }
+
+    /// The syncs so far.
+    pub fn syncs(&self) -> Syncs
+        ensures { result ≡ syncs_of self.now }
+    {
+        self.syncs
+    }
+
+    /// Says what the next crash leaves.
+    pub fn choose(&mut self, choice: Choice)
+        ensures present { present_of (disk_of self.new) ≡ present_of (disk_of self.old) }
+        ensures choice { choice_of (disk_of self.new) ≡ choice }
+        ensures entry { has_entry self.new ≡ has_entry self.old }
+        ensures syncs { syncs_of self.new ≡ syncs_of self.old }
+    {
+        self.disk.choose(choice);
+    }
+
+    /// It leaves what was chosen. Where that is a byte or more, the folder has the file.
+    pub fn crash(self) -> Self
+        ensures crashes { CrashesByChoice (disk_of self) (disk_of result) }
+        ensures image { IsImage (present_of (disk_of self)) (present_of (disk_of result)).read }
+        ensures synced { present_of (disk_of result) ≡ whole (present_of (disk_of result)).read }
+        ensures entry { has_entry self ≡ true → has_entry result ≡ true }
+        ensures syncs { syncs_of result ≡ syncs_of self }
+    {
+        let disk = self.disk.crash();
+        let is_found = !disk.bytes().is_empty();
+        MemFile {
+            disk,
+            entered: self.entered || is_found,
+            syncs: self.syncs,
+        }
+    }
+}
+
+/// A disk in memory fails for want of memory alone.
+fn told<T>(answer: Result<T, DiskFault>) -> io::Result<T>
+    ensures ok { IfOk result (λ value. answer ≡ Ok value) }
+    ensures same { is_ok result ≡ is_ok answer }
+{
+    match answer {
+        Ok(value) => Ok(value),
+        Err(_) => Err(io::ErrorKind::OutOfMemory.into()),
+    }
+}
+
+impl RawFile for MemFile {
+    ghost use Rattle.std.specs.Prelude.{take, drop, is_ok, Ok, IfOk, OnOk};
+    ghost use Rattle.coord_disk.specs.Disks.History.{LeftSince};
+    ghost use Rattle.coord_disk.specs.Disks.Memory.{past_of, clock_of};
+    ghost use Rattle.coord_disk.specs.Disks.MemoryFile.{counted, disk_of, has_entry, syncs_of};
+    ghost use Rattle.coord_disk.specs.Disks.MemoryLaws.{counts_now, only_now, reads_image};
+
+    ghost present = { λ f. present_of f.disk };
+
+    ghost keeps_model = { λ _. true };
+
+    ghost clock = { λ f. clock_of f.disk };
+
+    ghost left_since = { λ f. LeftSince (past_of f.disk) };
+
+    ghost is_entered = { has_entry };
+
+    ghost made = { λ old call _ new. syncs_of new ≡ counted call (syncs_of old) };
+
+    ghost counts_now = { λ f t image _ le now. counts_now (past_of f.disk) t image le now };
+
+    ghost only_now = { λ f image _ left. only_now (past_of f.disk) image left };
+
+    ghost reads_image = { λ f _. reads_image f.disk.read.items f.disk.history f.disk.led };
+
+    ghost may_be_absent = { λ f _ out. f.absent out };
+
+    fn len(&mut self) -> io::Result<u64> {
+        told(self.disk.len())
+    }
+
+    fn read(&mut self, at: u64, buf: &mut [u8]) -> io::Result<()> {
+        told(self.disk.read(at, buf))
+    }
+
+    fn write_at(&mut self, at: u64, bytes: &[u8]) -> io::Result<()> {
+        told(self.disk.write_at(at, bytes))
+    }
+
+    /// Does nothing where the length is not the one that is synced.
+    fn sync_data(&mut self) -> io::Result<()> {
+        self.syncs.bytes = self.syncs.bytes.saturating_add(1);
+        if !self.entered || !self.disk.is_level() {
+            return Ok(());
+        }
+        told(self.disk.sync())
+    }
+
+    /// Does nothing where the folder may lack the file.
+    fn sync_all(&mut self) -> io::Result<()> {
+        self.syncs.all = self.syncs.all.saturating_add(1);
+        if !self.entered {
+            return Ok(());
+        }
+        told(self.disk.sync())
+    }
+
+    fn sync_folder(&mut self) -> io::Result<()> {
+        self.syncs.folder = self.syncs.folder.saturating_add(1);
+        self.entered = true;
+        Ok(())
+    }
+}

@@ -1,0 +1,120 @@
+//! A file of the system.
+
+ghost use Rattle.std.specs.Prelude.{◌≡◌, false, true, IfOk};
+ghost use Rattle.coord_disk.specs.Disks.Raw.{failures_of, has_grown, has_lost};
+
+mod opening;
+
+use crate::{DiskFault, RawDisk, RawFile};
+use std::fs::{File, OpenFile};
+use std::io;
+use std::os::unix::fs::FileExt;
+use std::rt::Files;
+
+/// A file of the system, and its folder. Each call is one of the system, or one after the other until
+/// all bytes are read or written.
+///
+/// It claims no model: that a file keeps it is a premise.
+#[derive(Drop)]
+pub struct SystemFile<F> {
+    file: F,
+    /// None where there is no entry to sync.
+    folder: Option<F>,
+}
+
+/// A file of the system as a disk.
+pub type FileDisk = RawDisk<SystemFile<File>>;
+
+impl<F: OpenFile + FileExt + Drop> SystemFile<F> {
+    /// A file that is open, and its folder where the entry there is to be synced.
+    pub fn over(file: F, folder: Option<F>) -> Self {
+        SystemFile { file, folder }
+    }
+
+    /// Gives both back.
+    pub fn into_parts(self) -> (F, Option<F>) {
+        (self.file, self.folder)
+    }
+}
+
+impl RawDisk<SystemFile<File>> {
+    /// Opens a file for reading and writing. Where there is none, an empty one is made, which just
+    /// its owner may read and write. Its entry in its folder is synced.
+    ///
+    /// The file is locked until the disk is dropped, and nothing is read of it before that. It is a
+    /// fault where another process holds that lock.
+    pub fn open<R: Files<File = File>>(rt: &R, path: &str) -> Result<FileDisk, DiskFault>
+        ensures failures { IfOk result (λ disk. failures_of disk ≡ 0) }
+        ensures whole { IfOk result (λ disk. has_lost disk ≡ false) }
+    {
+        match opening::open_locked(rt, path) {
+            Ok(file) => RawDisk::over(file),
+            Err(_) => Err(DiskFault),
+        }
+    }
+
+    /// Opens a file for reading alone, without a lock: writes fail. Where there is none, an empty
+    /// one is made, as by `open`.
+    pub fn open_to_read<R: Files<File = File>>(rt: &R, path: &str) -> Result<FileDisk, DiskFault>
+        ensures failures { IfOk result (λ disk. failures_of disk ≡ 0) }
+        ensures whole { IfOk result (λ disk. has_lost disk ≡ false) }
+    {
+        match opening::open_unlocked(rt, path) {
+            Ok(file) => RawDisk::over(file),
+            Err(_) => Err(DiskFault),
+        }
+    }
+}
+
+impl<F: OpenFile + FileExt + Drop> RawFile for SystemFile<F> {
+    ghost use Rattle.std.specs.Prelude.{[]};
+    ghost use Rattle.coord_disk.specs.Disks.System.{claims_nothing};
+    ghost use Rattle.coord_disk.specs.Model.Present.{IsImage, whole};
+
+    ghost present = { λ _. whole [] };
+
+    ghost keeps_model = { λ _. false };
+
+    ghost clock = { λ _. 0 };
+
+    ghost left_since = { λ _ _ image. IsImage (whole []) image };
+
+    ghost is_entered = { λ _. false };
+
+    ghost made = { λ _ _ _ _. Unit {0} };
+
+    ghost counts_now = { λ _ _ _ _ _ now. now };
+
+    ghost only_now = { λ _ _ _ left. left };
+
+    ghost reads_image = { λ _ claim. claims_nothing claim };
+
+    ghost may_be_absent = { λ _ claim _. claims_nothing claim };
+
+    fn len(&mut self) -> io::Result<u64> {
+        Ok(self.file.metadata()?.len())
+    }
+
+    fn read(&mut self, at: u64, buf: &mut [u8]) -> io::Result<()> {
+        self.file.read_exact_at(buf, at)
+    }
+
+    fn write_at(&mut self, at: u64, bytes: &[u8]) -> io::Result<()> {
+        self.file.write_all_at(bytes, at)
+    }
+
+    fn sync_data(&mut self) -> io::Result<()> {
+        self.file.sync_data()
+    }
+
+    fn sync_all(&mut self) -> io::Result<()> {
+        self.file.sync_all()
+    }
+
+    fn sync_folder(&mut self) -> io::Result<()> {
+        match &self.folder {
+            Some(folder) => folder.sync_all(),
+            None => Ok(()),
+        }
+    }
+}

@@ -1,0 +1,18 @@
+-- What is left of an engine against the ledger that it was made over.
+use Rattle.std.proofs.Common.{◌≡◌, ℕ, ◌+◌, List, drop, length, take, sym, ap, ◌∙◌, subst}
+use Rattle.coord_types.specs.declared.steps.Step.{Step}
+use Rattle.coord_world.specs.protocol.NumberedWorld.{World}
+use Rattle.coord_ledger.specs.declared.ticket.Note.{Note}
+use Rattle.coord_ledger.specs.machine.Log.{Log}
+use Rattle.coord_engine.specs.Closing.{IsSince}
+use Rattle.coord_engine.specs.Named.{IsNamed}
+
+pub since : (base : World) (before : List Step) (shares : List (List Note)) (log : Log) (start : ℕ) (left : World) (trail : List Step)
+    → log.base ≡ base → start ≡ length before → take start log.trail ≡ before → IsNamed shares (log.base.count + start) (drop start log.trail) → left ≡ log.base → trail ≡ log.trail → IsSince base before shares left trail
+since base before shares log start left trail same_base at begins named is_left is_trail = record {
+  same_base = is_left ∙ same_base;
+  begins = ap (λ n. take n trail) (sym at) ∙ ap (take start) is_trail ∙ begins;
+  named = subst (λ w. IsNamed shares (w.count + length before) (drop (length before) trail)) same_base
+      (subst (λ k. IsNamed shares (log.base.count + k) (drop k trail)) at
+      (subst (λ t. IsNamed shares (log.base.count + start) (drop start t)) (sym is_trail) named));
+}

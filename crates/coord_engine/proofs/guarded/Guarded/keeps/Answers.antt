@@ -1,0 +1,20 @@
+use Rattle.std.proofs.Common.{◌≡◌, ◌+◌, ◌≤◌, None, length, subst}
+use Rattle.coord_engine.specs.State.{CanHold, GuardedState, based_on}
+use Rattle.coord_engine.proofs.Growing.{both_of_some}
+use Rattle.coord_engine.proofs.guarded.Guarded.keeps.Goals as goal
+
+pub returns : goal.returns
+returns g c =
+    let b = based_on g.D.Disk.keeps_model g.D.Disk.present g.L.Origin.base g.L.Origin.before in
+    let inv = c.self.invariant in
+    let l = c.self.inside.ledger in
+    let e = c.log_is_consistent.ensures in
+    subst (CanHold b) c.self.view_is (record {
+      log = e.log;
+      grown = record { same_base = inv.4; since = inv.5; begins = inv.6; by_shares = inv.3 };
+      shares = inv.0;
+      out = e.out;
+      home = e.home;
+      doubt = both_of_some l.doubt (λ size. l.log.settled + size ≤ length l.log.trail) (λ _. l.out ≡ None) e.doubt inv.7;
+      images = c.images_give_settled.ensures;
+    })

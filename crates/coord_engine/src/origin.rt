@@ -1,0 +1,27 @@
+//! What an engine was made over.
+
+ghost use Rattle.std.specs.Prelude.{List, []};
+ghost use Rattle.coord_types.specs.declared.steps.Step.{Step};
+ghost use Rattle.coord_world.specs.protocol.NumberedWorld.{World, no_world};
+
+use std::marker::Brand;
+use std::sync::ledger::Ledger as Count;
+
+/// Names an engine: the count of its shares, and the ledger that it was made over. It is asked for
+/// by `Engine::new` and told by `Engine::close`, since no clause can say what lies behind a lock.
+///
+/// An engine is made in code that is generic over this name and called with `Brand`, which picks
+/// the base and the steps of the ledger at hand.
+pub trait Origin: Count {
+    /// The world before the ledger's first step.
+    ghost base: { World };
+
+    /// The steps that the ledger had accepted.
+    ghost before: { List Step };
+}
+
+impl Origin for Brand {
+    ghost base = { no_world };
+
+    ghost before = { [] };
+}

@@ -1,0 +1,32 @@
+-- What an event does to the disk, and what a crash at a moment of it may leave.
+use Rattle.std.specs.Prelude.{◌≡◌, ℕ, List, Bool, true, false}
+use Rattle.coord_disk.specs.Model.Moments.{LeavesOnly}
+use Rattle.coord_disk.specs.Model.Present.{Present, IsImage, whole}
+use Rattle.coord_store.specs.declared.faults.CommitFault.TheVariants as fault
+use Rattle.coord_ledger.specs.declared.events.Answer.{Answer}
+use Rattle.coord_ledger.specs.declared.events.Answer.TheVariants.{Committed, Failed}
+use Rattle.coord_ledger.specs.declared.events.Event.{Event}
+use Rattle.coord_ledger.specs.declared.events.Event.TheVariants.{Commit, Crash}
+
+-- a commit that was tried and a crash touch the disk, and nothing else does
+abbrev pub touches_disk : Event → Answer → Bool
+touches_disk Commit Committed = true
+touches_disk Commit (Failed fault.Device) = true
+touches_disk Commit (Failed fault.OutOfMemory) = true
+touches_disk Crash answer = true
+touches_disk event answer = false
+
+-- A crash has taken one of the disk's images, and at each moment of the opening behind it a crash left only images of
+-- what was taken. These have P.
+pub record Reopens {D : Type 0} (present : D → Present) (clock : D → ℕ) (left_since : D → ℕ → List ℕ → Type 0) (crashes : D → D → Type 0) (P : List ℕ → Type 0) (old new : D) : Type 0 where
+  pub taken : D
+  pub crash : crashes old taken
+  pub image : IsImage (present old) (present taken).read
+  pub synced : present taken ≡ whole (present taken).read
+  pub opening : LeavesOnly clock left_since taken new (IsImage (present taken))
+  pub each : (bytes : List ℕ) → IsImage (present taken) bytes → P bytes
+
+-- at each moment since an event began a crash left only what has P
+abbrev pub LeavesWithin : {D : Type 0} → (D → Present) → (D → ℕ) → (D → ℕ → List ℕ → Type 0) → (D → D → Type 0) → Event → (List ℕ → Type 0) → D → D → Type 0
+LeavesWithin present clock left_since crashes Crash P old new = Reopens present clock left_since crashes P old new
+LeavesWithin present clock left_since crashes event P old new = LeavesOnly clock left_since old new P

@@ -1,0 +1,85 @@
+//! Calls of a world that find no memory, where allocations are refused under the tests: each leaves
+//! the world as it was, and gives its answer when it is called once more. With ample memory this test
+//! sees the answers alone.
+
+ghost use Rattle.coord_world.specs.protocol.Legal.{Legal};
+
+use coord_types::{Client, Command, Group, Kind, NodeId, Step};
+use coord_world::{Outcome, Verdict, World};
+use std::alloc::{AllocError, Global};
+use std::test::Fail;
+
+fn copied(world: &World) -> Result<World, AllocError> {
+    match world.copy() {
+        Ok(copy) => Ok(copy),
+        Err(_) => world.copy(),
+    }
+}
+
+// Takes a fresh step; where that finds no memory, the world has to be as it was, and takes it then.
+fn taken(world: &mut World, step: &Step) -> Result<Outcome, Fail>
+    requires { Legal world.old }
+    ensures { Legal world.new }
+{
+    let before = copied(world)?;
+    let Ok(Verdict::Fresh(_)) = world.judge(&before, step) else {
+        return Err("refused, or a repeat")?;
+    };
+    match world.apply(step) {
+        Ok(outcome) => Ok(outcome),
+        Err(_) => taken_then(world, &before, step),
+    }
+}
+
+fn taken_then(world: &mut World, before: &World, step: &Step) -> Result<Outcome, Fail>
+    requires { Legal world.old }
+    ensures { Legal world.new }
+{
+    if *world != *before {
+        return Err("changed")?;
+    }
+    let Ok(Verdict::Fresh(_)) = world.judge(before, step) else {
+        return Err("refused, or a repeat")?;
+    };
+    Ok(world.apply(step)?)
+}
+
+fn orders(node: NodeId, other: NodeId, group: Group) -> [(Command, Kind, usize); 5] {
+    [
+        (Command::Add(node, group), Kind::Done, 0),
+        (Command::Add(other, group), Kind::Done, 0),
+        (Command::Join(node, other), Kind::Done, 0),
+        (Command::Reset(node), Kind::Started, 1),
+        (Command::Drop(node, other), Kind::Done, 1),
+    ]
+}
+
+// Whether each order is taken with its kind and its count of outputs.
+fn takes_all(world: &mut World, orders: &[(Command, Kind, usize)]) -> Result<bool, Fail>
+    requires { Legal world.old }
+    ensures { Legal world.new }
+{
+    let client = Client::new(1).ok_or("a client's number")?;
+    let mut number = 0u64;
+    for (command, kind, outputs) in orders {
+        number = number.saturating_add(1);
+        let outcome = taken(world, &Step::Order(client, number, *command))?;
+        if outcome.reply.kind != *kind || outcome.outputs.len() != *outputs {
+            return Ok(false);
+        }
+    }
+    Ok(true)
+}
+
+fn retries(alloc: Global) -> Result<bool, Fail> {
+    let (node, other) = (NodeId::new(1).ok_or("node")?, NodeId::new(2).ok_or("node")?);
+    let group = Group::new(1).ok_or("group")?;
+    let mut world = World::empty(alloc);
+    takes_all(&mut world, orders(node, other, group).as_slice())
+}
+
+#[test]
+fn each_call_leaves_the_world_as_it_was(rt: HostRuntime) -> Result<(), Fail> {
+    assert!(rt; retries(rt.alloc())?);
+    Ok(())
+}

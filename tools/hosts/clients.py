@@ -1,0 +1,145 @@
+"""Clients of a coordinator that is to be found on one of several hosts: they try the addresses in turn."""
+
+import json
+import random
+import socket
+import threading
+import time
+
+STOPPED, OLD_EPOCH = 1, 15
+PATIENCE = 2  # seconds for one answer, before the next address is tried
+
+
+class Lost(Exception):
+    """Something that was promised does not hold."""
+
+
+class Away(Exception):
+    """No answer came from this address."""
+
+
+def ask(host, address, request, seconds=PATIENCE):
+    """One request to an address, from the network of a host, and its reply."""
+    name, port = address.rsplit(":", 1)
+    try:
+        with host.network():
+            connection = socket.socket()
+        with connection:
+            connection.settimeout(seconds)
+            connection.connect((name, int(port)))
+            connection.sendall(json.dumps(request).encode() + b"\n")
+            with connection.makefile("rb") as lines:
+                line = lines.readline()
+    except OSError as fault:
+        raise Away(fault) from fault
+    if not line.endswith(b"\n"):
+        raise Away("no answer came")
+    return json.loads(line)
+
+
+class Site:
+    """Where the clients are, and the addresses that they try; the last one that served is tried first. A coordinator
+    that says Stopped is sent a close: it serves nobody, and keeps the lock of the file as long as it runs."""
+
+    def __init__(self, host, keepers):
+        self.host, self.keepers, self.present = host, keepers, keepers[0]
+
+    def next_after(self, keeper):
+        """To the next address, unless another client went there already."""
+        if self.present is keeper:
+            self.present = self.keepers[(self.keepers.index(keeper) + 1) % len(self.keepers)]
+
+    def ask(self, request, seconds, is_wanted=lambda: True):
+        """Sends a request until somebody carries it out: the reply and who gave it. None where it is not wanted any
+        more."""
+        until = time.monotonic() + seconds
+        while time.monotonic() < until and is_wanted():
+            keeper = self.present
+            try:
+                reply = ask(self.host, keeper.address, request)
+                if reply.get("refused") != STOPPED:
+                    return reply, keeper
+                ask(self.host, keeper.address, {"op": "close"})
+            except Away:
+                pass
+            self.next_after(keeper)
+            time.sleep(0.05)
+        if is_wanted():
+            raise Lost(f"{request} was not answered within {seconds} s")
+        return None
+
+
+class Client:
+    """One client's orders: the last one that was answered with its reply, and one that waits for its answer."""
+
+    def __init__(self, number, site, records):
+        self.number, self.site, self.records = number, site, records
+        self.answered, self.reply, self.unanswered = None, None, None
+        self.refused = None
+        self.drops = 0  # every so many answers are dropped, to see that it is found
+
+    def order(self, op, seconds=120, is_wanted=lambda: True, **members):
+        """Carries out an order; where one still waits for its answer, that one. Its reply or its refusal."""
+        if self.unanswered is None:
+            number = self.answered["number"] + 1 if self.answered else 1
+            self.unanswered = {"op": op, "client": self.number, "number": number, **members}
+        met = self.site.ask(self.unanswered, seconds, is_wanted)
+        if met is None:
+            return None
+        reply, keeper = met
+        order, self.unanswered = self.unanswered, None
+        if "kind" not in reply:
+            self.refused = f"{order} was answered {reply} by {keeper.host.name}, after {self.answered}: {self.reply}"
+            return reply
+        self.note(order, reply, keeper)
+        return reply
+
+    def note(self, order, reply, keeper):
+        self.records.note_answer(order, reply, keeper)
+        if self.drops == 0 or order["number"] % self.drops:
+            self.answered, self.reply = order, reply
+
+    def repeat(self):
+        """The last answered order again: it gives the same answer."""
+        if self.answered is None:
+            return
+        reply, _ = self.site.ask(self.answered, 60)
+        if reply != self.reply:
+            raise Lost(f"{self.answered} was answered {self.reply}, and sent again {reply}")
+
+
+class Load:
+    """Clients that ask for resets of members at random, each as soon as it has its answer."""
+
+    def __init__(self, clients, members):
+        self.clients, self.members, self.threads, self.fault = clients, members, [], None
+        self.is_on = False
+
+    def start(self):
+        self.is_on = True
+        self.threads = [threading.Thread(target=self.run, args=(client,), daemon=True) for client in self.clients]
+        for thread in self.threads:
+            thread.start()
+
+    def run(self, client):
+        choice = random.Random()
+        try:
+            while self.is_on:
+                reply = client.order("reset", is_wanted=lambda: self.is_on, node=choice.choice(self.members))
+                if reply is not None and "kind" not in reply:
+                    raise Lost(client.refused)
+        except Exception as fault:  # told by `stop`
+            self.fault = fault
+
+    def stop(self):
+        """No further order; one without an answer is sent again by `finish`."""
+        self.is_on = False
+        for thread in self.threads:
+            thread.join()
+        if self.fault:
+            raise self.fault
+
+    def finish(self):
+        for client in self.clients:
+            if client.unanswered:
+                client.order("")

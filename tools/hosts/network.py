@@ -1,0 +1,142 @@
+"""Hosts of the trial: namespaces with a network, mounts, a name and processes of their own, joined by one switch.
+
+All of it stands inside the namespaces that tools/takeover began, so that nothing is bound or mounted outside, and
+the end of its first process ends everything in it.
+"""
+
+import contextlib
+import ctypes
+import os
+import socket
+import subprocess
+import threading
+import time
+
+LIBC = ctypes.CDLL(None, use_errno=True)
+NEW_NETWORK = 0x40000000
+SWITCH = "switch"
+
+# The first process of a host. What it starts from: its own folders in the place of the machine's, and an empty /run.
+BOOT = r"""
+set -e
+hostname "$1"
+mount --bind "$2/glusterd" /var/lib/glusterd
+mount --bind "$2/log" /var/log/glusterfs
+mount --bind "$2/srv" /srv
+mount --bind "$2/../names" /etc/hosts
+mount -t tmpfs -o mode=755 run /run
+ip link set lo up
+echo up
+read linked
+ip address add "$3/24" dev eth0
+ip link set eth0 up
+echo linked
+exec "$4" -c 'import signal
+signal.signal(signal.SIGCHLD, signal.SIG_IGN)
+while True:
+    signal.pause()'
+"""
+
+
+class Failed(Exception):
+    """A step of the trial's own setting could not be made; it says nothing of the coordinator."""
+
+
+def run(words, seconds=60, is_checked=True):
+    """Runs a command to its end: its status, and what it printed."""
+    done = subprocess.run(words, stdin=subprocess.DEVNULL, stdout=subprocess.PIPE, stderr=subprocess.STDOUT,
+                          encoding="utf-8", errors="replace", timeout=seconds, check=False)
+    if is_checked and done.returncode != 0:
+        raise Failed(f"{' '.join(words)}: status {done.returncode}: {done.stdout.strip()}")
+    return done.returncode, done.stdout
+
+
+def make_switch():
+    run(["ip", "link", "set", "lo", "up"])
+    run(["ip", "link", "add", SWITCH, "type", "bridge"])
+    run(["ip", "link", "set", SWITCH, "up"])
+
+
+class Host:
+    """One machine, on or off. Its folder is its disk and outlives it; its processes and its mounts don't."""
+
+    def __init__(self, number, folder):
+        self.number, self.name, self.address = number, f"host{number}", f"10.77.0.{number}"
+        self.folder, self.port = f"{folder}/host{number}", f"port{number}"
+        self.first, self.process = None, None
+        for part in ("glusterd", "log", "srv/brick", "srv/resetd"):
+            os.makedirs(f"{self.folder}/{part}")
+
+    def boot(self):
+        words = ["unshare", "--net", "--mount", "--pid", "--uts", "--fork", "--kill-child", "--mount-proc",
+                 "sh", "-c", BOOT, "boot", self.name, self.folder, self.address, "/usr/bin/env"]
+        words[-1] = os.path.realpath(os.sys.executable)
+        with open(f"{self.folder}/boot", "ab") as faults:
+            self.process = subprocess.Popen(words, stdin=subprocess.PIPE, stdout=subprocess.PIPE, stderr=faults,
+                                            encoding="utf-8")
+        self.expect("up")
+        with open(f"/proc/{self.process.pid}/task/{self.process.pid}/children", encoding="utf-8") as children:
+            self.first = int(children.read().split()[0])
+        run(["ip", "link", "add", self.port, "type", "veth", "peer", "name", "eth0", "netns", str(self.first)])
+        run(["ip", "link", "set", self.port, "master", SWITCH, "up"])
+        self.process.stdin.write("linked\n")
+        self.process.stdin.flush()
+        self.expect("linked")
+
+    def expect(self, word):
+        line = self.process.stdout.readline().strip()
+        if line != word:
+            raise Failed(f"{self.name} did not start: {line or self.process.wait()}")
+
+    @property
+    def is_on(self):
+        return self.first is not None
+
+    def kill(self):
+        """Signal 9 to the first process, and so to all: none can send a last word, since the link goes down first."""
+        self.cut()
+        os.kill(self.first, 9)
+        self.process.wait()
+        self.process.stdin.close()
+        self.process.stdout.close()
+        self.first = None
+        run(["ip", "link", "delete", self.port], is_checked=False)
+
+    def cut(self):
+        run(["ip", "link", "set", self.port, "down"])
+
+    def link(self):
+        run(["ip", "link", "set", self.port, "up"])
+
+    def inside(self, *words):
+        """The words that run a command on this host."""
+        return ["nsenter", f"--target={self.first}", "--mount", "--net", "--pid", "--uts", "--wd=/", *words]
+
+    def run(self, *words, seconds=60, is_checked=True):
+        return run(self.inside(*words), seconds, is_checked)
+
+    @contextlib.contextmanager
+    def network(self):
+        """Within it the thread that calls has this host's network: what it connects to, the host connects to."""
+        with open(f"/proc/{self.first}/ns/net", "rb") as there, \
+                open(f"/proc/self/task/{threading.get_native_id()}/ns/net", "rb") as back:
+            enter(there)
+            try:
+                yield
+            finally:
+                enter(back)
+
+
+def enter(namespace):
+    if LIBC.setns(namespace.fileno(), NEW_NETWORK) != 0:
+        raise Failed(f"no way into a network namespace: {os.strerror(ctypes.get_errno())}")
+
+
+def wait_for(what, seconds, is_so, pause=0.05):
+    """Waits until something is so, and answers how long that took."""
+    begun = time.monotonic()
+    while not is_so():
+        if time.monotonic() - begun > seconds:
+            raise Failed(f"{what}: not within {seconds} s")
+        time.sleep(pause)
+    return time.monotonic() - begun

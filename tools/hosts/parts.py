@@ -1,0 +1,184 @@
+"""The five parts of the trial: what is lost in each, and who goes on."""
+
+import time
+
+from .clients import Lost, ask
+from .keeper import look_into
+from .network import wait_for
+from .trial import QUICK, tell
+
+LATER = 3  # seconds of load before and after what is done to a host
+
+
+def killed_in_wave(trial):
+    print("1. A reset is asked for, and in the middle of it host 1, on which the coordinator is, is killed whole.",
+          flush=True)
+    old, new = trial.present, trial.other(trial.present)
+    asker = trial.load.clients[0]
+    for _ in range(20):
+        trial.wait_quiet()
+        before = len(old.lines("signals"))
+        asker.order("reset", node=6)
+        wait_for("a signal", 10, lambda: len(old.lines("signals")) > before, 0.0005)
+        old.host.kill()
+        killed = time.monotonic()
+        old.wait_over()
+        left = [row[1] for row in look_into(trial.program, trial.volume.bytes()[1], trial.folder)[2]
+                if row[3] != "ready"]
+        if left:
+            break
+        trial.restart(old)
+        wait_for("a coordinator", 60, lambda: asker.repeat() is None)
+    else:
+        raise Lost("no kill came in the middle of a reset")
+    signalled = [line.split()[1] for line in old.lines("signals")[before:]]
+    tell(f"signalled before the kill: {' '.join(signalled)}; in the store still in the reset: {' '.join(left)}")
+    if trial.planted == "old-copy":
+        new.host.run("cp", f"{trial.folder}/old", "/srv/resetd/store")
+    trial.load.start()
+    took = trial.wait_takeover(new, killed)
+    tell(f"host2 answered the first order {took:.1f} s after the kill")
+    trial.load.stop()
+    trial.load.finish()
+    trial.wait_quiet()
+    tell("the reset that was cut went on to its end; each member has begun its epoch and confirmed it")
+    trial.restart(old)
+    trial.check()
+    return took
+
+
+def cut_in_load(trial):
+    old, new = trial.present, trial.other(trial.present)
+    print(f"2. {old.host.name}, on which the coordinator is, is cut off from the network in the middle of load.",
+          flush=True)
+    trial.load.start()
+    time.sleep(LATER)
+    old.host.cut()
+    cut = time.monotonic()
+    took = trial.wait_takeover(new, cut)
+    tell(f"{new.host.name} answered the first order {took:.1f} s after the cut")
+    time.sleep(LATER)
+    old.host.link()
+    tell(f"{old.host.name} is linked again; orders go on")
+    time.sleep(LATER)
+    linked_old_is_asked(trial, old)
+    trial.load.stop()
+    trial.load.finish()
+    trial.check()
+    return took
+
+
+def linked_old_is_asked(trial, old):
+    """The old coordinator, over a new connection, with an order of a client that nobody else is."""
+    request = {"op": "reset", "client": 15, "number": 1, "node": 1}
+    tell(f"the old coordinator on {old.host.name} answers a new order Stopped, and ends by close: status "
+         f"{trial.end_old(old, request)}")
+
+
+def cut_while_idle(trial):
+    old, new = trial.present, trial.other(trial.present)
+    print(f"3. {old.host.name} is cut off while its coordinator is idle.", flush=True)
+    trial.wait_quiet()
+    old.host.cut()
+    cut = time.monotonic()
+    trial.load.start()
+    took = trial.wait_takeover(new, cut)
+    tell(f"{new.host.name} answered the first order {took:.1f} s after the cut")
+    trial.load.stop()
+    trial.load.finish()
+    trial.wait_quiet()
+    old.host.link()
+    before, _ = trial.volume.wait_healed(new.host)
+    shown = ask(trial.site.host, old.address, {"op": "show"}, 30)
+    tell(f"{old.host.name} is linked again, and all three bricks have the same {len(before)} bytes")
+    if "accepted" in shown:
+        tell(f"the old coordinator, asked for show, tells its own past: {shown['accepted']} steps")
+    linked_old_is_asked(trial, old)
+    refused = old.wait_refused()
+    if trial.volume.wait_healed(new.host)[0] != before:
+        raise Lost(f"the old coordinator on {old.host.name} has written")
+    tell(f"all three bricks have just these bytes; {old.host.name} is a standby now: status {refused}")
+    trial.check()
+    return took
+
+
+def bricks_in_turn(trial):
+    print("4. One brick is killed and comes back under load; then another one.", flush=True)
+    trial.load.start()
+    begun = time.monotonic()
+    for host in (trial.hosts[2], trial.present.host):
+        time.sleep(LATER)
+        starts = trial.starts()
+        without = one_brick(trial, host)
+        if trial.starts() != starts:
+            raise Lost(f"the coordinator did not outlive the brick of {host.name}")
+        closed = time.monotonic()
+        trial.hand_over()
+        healed = wait_for("healing", 90, lambda: trial.volume.is_healed(host), 0.5)
+        handed = trial.records.longest_gap(closed)
+        tell(f"the brick of {host.name} is killed and started again: at most {without:.1f} s between two answers; a "
+             f"close, and {trial.present.host.name} serves: {handed:.1f} s; healed {healed:.1f} s later")
+    time.sleep(LATER)
+    trial.load.stop()
+    gap = trial.records.longest_gap(begun)
+    tell(f"{trial.records.count(begun)} orders were answered all the while")
+    trial.load.finish()
+    if gap > QUICK:
+        raise Lost(f"no order was answered for {gap:.1f} s")
+    trial.check()
+    return gap
+
+
+def one_brick(trial, host):
+    """Kills a brick and starts it again: the longest time without an answer."""
+    killed = time.monotonic()
+    trial.volume.kill_brick(host)
+    time.sleep(LATER)
+    trial.volume.start_brick(host)
+    time.sleep(2 * LATER)
+    return trial.records.longest_gap(killed)
+
+
+def majority_lost(trial):
+    keeper = trial.present
+    away = [host for host in trial.hosts if host is not keeper.host]
+    print(f"5. Two of the three bricks are cut off, those of {away[0].name} and {away[1].name}: no majority.",
+          flush=True)
+    site, usual = trial.site, trial.site.host
+    trial.site.host = keeper.host
+    trial.load.start()
+    time.sleep(LATER)
+    starts = trial.starts()
+    for host in away:
+        host.cut()
+    cut = time.monotonic()
+    time.sleep(10)
+    late = trial.records.count(cut + 5)
+    if late:
+        raise Lost(f"{late} orders were answered without a majority")
+    tell(f"after 10 s no order was answered any more; {keeper.host.name} answers "
+         f"{what_it_answers(keeper)}")
+    for host in away:
+        host.link()
+    linked = time.monotonic()
+    tell("the two are linked again")
+    site.host = usual
+    wait_for("an answer", 90, lambda: trial.load.fault or trial.records.count(linked), 0.01)
+    took = time.monotonic() - linked
+    trial.load.stop()
+    trial.load.finish()
+    if trial.starts() == starts:
+        raise Lost("no new start was needed: the majority was not lost")
+    tell(f"{trial.present.host.name} answered the first order {took:.1f} s after that, after a new start")
+    trial.check()
+    return took
+
+
+def what_it_answers(keeper):
+    try:
+        return ask(keeper.host, keeper.address, {"op": "show"}, 5).get("name", "show alone")
+    except Exception:
+        return "nothing"
+
+
+PARTS = [killed_in_wave, cut_in_load, cut_while_idle, bricks_in_turn, majority_lost]

@@ -1,0 +1,64 @@
+"""Small services, one for each member: at a signal each begins anew and confirms the epoch."""
+
+import threading
+import time
+
+from .clients import OLD_EPOCH, Lost
+
+LOOK = 2  # seconds between two looks at `show`
+
+
+class Service:
+    """Follows the lines that the coordinators of all hosts print, and looks at `show` after each `listening`, and
+    every few seconds, since a signal can go with a host."""
+
+    def __init__(self, node, client, keepers):
+        self.node, self.client, self.keepers = node, client, keepers
+        self.begun, self.read, self.looked, self.fault = 0, [0] * len(keepers), 0, None
+        self.is_on = True
+        self.thread = threading.Thread(target=self.run, daemon=True)
+
+    def run(self):
+        try:
+            while self.is_on:
+                for place, keeper in enumerate(self.keepers):
+                    self.follow(place, keeper.lines("signals"))
+                if time.monotonic() > self.looked + LOOK:
+                    self.look()
+                time.sleep(0.02)
+        except Exception as fault:  # told by `stop`
+            self.fault = fault
+
+    def follow(self, place, lines):
+        new, self.read[place] = lines[self.read[place]:], len(lines)
+        for line in new:
+            words = line.split()
+            if words[0] == "listening":
+                self.look()
+            elif words[:2] == ["signal", str(self.node)]:
+                self.begin(int(words[2]))
+
+    def look(self):
+        met = self.client.site.ask({"op": "show"}, 120, lambda: self.is_on)
+        if met:
+            self.begin(next(row[4] for row in met[0]["nodes"] if row[0] == self.node))
+        self.looked = time.monotonic()
+
+    def begin(self, epoch):
+        """An epoch that was begun before is not begun again."""
+        if epoch <= self.begun:
+            return
+        self.begun = epoch
+        while self.is_on:
+            mine = self.client.unanswered is None or self.client.unanswered["epoch"] == epoch
+            reply = self.client.order("confirm", is_wanted=lambda: self.is_on, node=self.node, epoch=epoch)
+            if reply is not None and "kind" not in reply and reply["refused"] != OLD_EPOCH:
+                raise Lost(f"member {self.node} confirmed epoch {epoch} and was answered {reply}")
+            if mine:
+                return
+
+    def stop(self):
+        self.is_on = False
+        self.thread.join()
+        if self.fault:
+            raise self.fault

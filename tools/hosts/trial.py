@@ -1,0 +1,184 @@
+"""The setting of the trial, and what has to hold after each of its parts."""
+
+import os
+import time
+
+from .clients import Client, Load, Lost, Site, ask
+from .keeper import Keeper, look_into
+from .network import Host, make_switch, wait_for
+from .records import Records
+from .services import Service
+from .volume import DIRECT, FRESH, OPTIONS, STRICT_LOCKS, Volume
+
+MEMBERS = range(1, 9)
+LOAD_CLIENTS = range(9, 14)
+QUICK = 10  # seconds within which another host has to answer
+PLANTED = ("no-strict-locks", "page-cache", "other-brick", "dropped-answers", "old-copy", "signal-again")
+
+
+def tell(text):
+    print(f"  {text}", flush=True)
+
+
+def topology():
+    """A ring: each member is linked to the next one."""
+    nodes = "".join(f"[[node]]\nid = {node}\ngroup = 1\n" for node in MEMBERS)
+    links = "".join(f"[[link]]\na = {node}\nb = {node % len(MEMBERS) + 1}\n" for node in MEMBERS)
+    return f"half = 32768\n{nodes}{links}"
+
+
+class Trial:
+    def __init__(self, program, folder, planted):
+        self.program, self.folder, self.planted = program, folder, planted
+        with open(f"{folder}/names", "w", encoding="utf-8") as names:
+            names.write("127.0.0.1 localhost\n" + "".join(f"10.77.0.{n} host{n}\n" for n in (1, 2, 3)))
+        self.hosts = [Host(number, folder) for number in (1, 2, 3)]
+        options = {**OPTIONS, STRICT_LOCKS: "off"} if planted == "no-strict-locks" else OPTIONS
+        self.volume = Volume(self.hosts, options, FRESH if planted == "page-cache" else f"{DIRECT},{FRESH}")
+        self.keepers = [Keeper(program, host) for host in self.hosts[:2]]
+        self.records = Records(self.keepers)
+        self.site = Site(self.hosts[2], self.keepers)
+        self.clients = [Client(number, self.site, self.records) for number in (*MEMBERS, *LOAD_CLIENTS)]
+        self.services = []
+        self.load = Load(self.clients[len(MEMBERS):], list(MEMBERS))
+        if planted == "dropped-answers":
+            self.load.clients[0].drops = 5
+
+    def begin(self):
+        """Everything up to a coordinator on host 1 and a standby on host 2 that was refused by the lock."""
+        make_switch()
+        for host in self.hosts:
+            host.boot()
+        self.volume.make()
+        with open(f"{self.folder}/ring.toml", "w", encoding="utf-8") as file:
+            file.write(topology())
+        first, second = self.keepers
+        status, printed = first.command("init", f"{self.folder}/ring.toml")
+        if status != 0:
+            raise Lost(f"resetd init: {printed}")
+        with open(f"{self.folder}/old", "wb") as old:
+            old.write(self.volume.bytes()[0])
+        tell(f"host1: resetd init /srv/resetd/store ring.toml: {printed.strip()}")
+        first.start()
+        wait_for("a coordinator on host 1", 30, lambda: first.starts() == 1)
+        tell(f"host1: resetd serve /srv/resetd/store {first.address}: listening")
+        second.start()
+        tell(f"host2: the same, {second.address}: status {second.wait_refused()}")
+        self.services = [Service(node, self.clients[node - 1], self.keepers) for node in MEMBERS]
+        for service in self.services:
+            service.thread.start()
+
+    @property
+    def present(self):
+        return self.site.present
+
+    def other(self, keeper):
+        return next(other for other in self.keepers if other is not keeper)
+
+    def restart(self, keeper):
+        """The host of a keeper is switched on again, with its brick, the volume and a standby."""
+        keeper.host.boot()
+        self.volume.join(keeper.host)
+        keeper.start()
+
+    def wait_takeover(self, keeper, since):
+        """Waits until another host's coordinator has answered an order of the load: what it took."""
+        wait_for(f"an answer of {keeper.host.name}", 90,
+                 lambda: self.load.fault or self.records.first_answer(keeper, since), 0.01)
+        answered = self.records.first_answer(keeper, since)
+        if answered is None:
+            raise self.load.fault
+        if answered - since > QUICK:
+            raise Lost(f"{keeper.host.name} took over after {answered - since:.1f} s, and was to within {QUICK} s")
+        return answered - since
+
+    def wait_quiet(self, seconds=60):
+        """Until no reset is on its way and each member has confirmed: the epochs."""
+        keeper, until = self.present, time.monotonic() + seconds
+        while time.monotonic() < until:
+            view, keeper = self.site.ask({"op": "show"}, seconds)
+            rows = view["nodes"]
+            if all(row[2] == "ready" and row[4] == row[5] for row in rows) and \
+                    self.site.ask({"op": "resend"}, seconds)[0] == {"count": 0, "kind": "resent"}:
+                return keeper, view, {row[0]: row[4] for row in rows}
+            for service in self.services:
+                if service.fault:
+                    raise service.fault
+            time.sleep(0.05)
+        raise Lost(f"a reset has not come to its end within {seconds} s: {rows}")
+
+    def check(self):
+        """All that was promised, with no order on its way."""
+        keeper, view, epochs = self.wait_quiet()
+        for client in self.clients:
+            client.repeat()
+        if view["accepted"] < self.records.last_step():
+            raise Lost(f"step {self.records.last_step()} was answered, and {keeper.host.name} has {view['accepted']}")
+        self.plant(keeper)
+        self.records.note_epochs(epochs)
+        signals = len(self.records.signals())
+        held, healed = self.volume.wait_healed(keeper.host)
+        self.check_file(held, view["accepted"])
+        tell(f"all {len(self.records.steps)} answered orders are there, the last one of each client answers the same "
+             f"again; {signals} signals, none twice; no epoch went back")
+        tell(f"the three bricks have the same {len(held)} bytes ({healed:.1f} s to heal); resetd check: "
+             f"legal {view['accepted']}")
+        took = self.hand_over()
+        tell(f"handed over by a close, so that the file is open on all three: {self.present.host.name} answers after "
+             f"{took:.1f} s\n")
+
+    def plant(self, keeper):
+        """What is wrong on purpose, to see that it is found."""
+        if self.planted == "other-brick":
+            with open(f"{self.hosts[2].folder}/srv/brick/resetd/store", "r+b") as file:
+                file.seek(20)
+                old = file.read(1)
+                file.seek(20)
+                file.write(bytes([old[0] ^ 1]))
+        elif self.planted == "signal-again":
+            with open(keeper.path("signals"), "a", encoding="utf-8") as file:
+                file.write(f"{self.keepers[0].lines('signals')[-1]}\n")
+
+    def check_file(self, held, steps):
+        """The bytes are a legal store of just these steps, whose epochs are those that were shown."""
+        status, printed, rows = look_into(self.program, held, self.folder)
+        if status != 0 or printed != f"legal {steps}":
+            raise Lost(f"resetd check ended with status {status}: {printed}, and {steps} steps were shown")
+        self.records.note_epochs({int(row[1]): int(row[5]) for row in rows})
+
+    def end_old(self, keeper, request):
+        """An old coordinator is asked: it has to refuse, and ends by `close` with the fault of its device."""
+        before = len(keeper.ends())
+        reply = ask(self.site.host, keeper.address, request, 30)
+        if reply.get("name") != "Stopped":
+            raise Lost(f"the old coordinator on {keeper.host.name} answered {reply}")
+        closed = ask(self.site.host, keeper.address, {"op": "close"}, 30)
+        wait_for(f"the end on {keeper.host.name}", 30, lambda: len(keeper.ends()) > before)
+        ended = keeper.ends()[before]
+        if ended != "3 resetd: Device" or closed != {"kind": "closed"}:
+            raise Lost(f"the old coordinator on {keeper.host.name} ended with {ended}")
+        return ended
+
+    def starts(self):
+        return sum(keeper.starts() for keeper in self.keepers)
+
+    def hand_over(self):
+        """Ends the present coordinator in order, and waits for the next start, here or there: what it took. A
+        coordinator has the file open on the bricks that were there when it opened it."""
+        starts, begun, keeper = self.starts(), time.monotonic(), self.present
+        ended = len(keeper.ends())
+        self.site.ask({"op": "close"}, 30)
+        wait_for("a start after the close", 30, lambda: self.starts() > starts, 0.01)
+        self.site.ask({"op": "show"}, 30)
+        if keeper.ends()[ended] != "0":
+            raise Lost(f"closed in order, the coordinator on {keeper.host.name} ended with {keeper.ends()[ended]}")
+        return time.monotonic() - begun
+
+    def stop(self):
+        for service in self.services:
+            service.stop()
+        keeper = self.present
+        before = len(keeper.ends())
+        self.site.ask({"op": "close"}, 30)
+        wait_for("the end", 30, lambda: len(keeper.ends()) > before)
+        return keeper, keeper.ends()[before]

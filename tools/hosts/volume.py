@@ -1,0 +1,120 @@
+"""The replicated volume: made on three hosts, mounted on each, and looked into at its bricks."""
+
+import hashlib
+
+from .clients import Lost
+from .network import Failed, wait_for
+
+NAME, BRICK, MOUNT = "resetd", "/srv/brick/resetd", "/srv/resetd"
+# Without direct I/O a host that served before reads what its own memory still has of the file, not what it is now.
+DIRECT, FRESH = "direct-io-mode=enable", "attribute-timeout=0,entry-timeout=0"
+STRICT_LOCKS = "client.strict-locks"
+
+# docs/OPERATING.md has the reason of each.
+OPTIONS = {
+    # the file's lock is the volume's, and one that lost it can't go on
+    STRICT_LOCKS: "on",
+    # a write needs two of three bricks
+    "cluster.quorum-type": "auto",
+    # no answer before the bricks have it, no read that a cache answers
+    "performance.write-behind": "off",
+    "performance.open-behind": "off",
+    "performance.quick-read": "off",
+    "performance.io-cache": "off",
+    "performance.read-ahead": "off",
+    "performance.stat-prefetch": "off",
+    # how soon a lost host is noticed
+    "network.ping-timeout": "4",
+    "client.tcp-user-timeout": "4",
+    "server.tcp-user-timeout": "4",
+    "client.keepalive-time": "2",
+    "client.keepalive-interval": "1",
+    "client.keepalive-count": "2",
+    "server.keepalive-time": "2",
+    "server.keepalive-interval": "1",
+    "server.keepalive-count": "2",
+    # how soon a brick that was away is looked at
+    "cluster.heal-timeout": "5",
+}
+
+
+class Volume:
+    def __init__(self, hosts, options, mount_options):
+        self.hosts, self.options, self.mount_options = hosts, options, mount_options
+
+    def gluster(self, host, *words, seconds=60, is_checked=True):
+        return host.run("gluster", "--mode=script", *words, seconds=seconds, is_checked=is_checked)
+
+    def make(self):
+        """On hosts that are on: glusterd on each, one pool, the volume with its options, mounted on each."""
+        first = self.hosts[0]
+        for host in self.hosts:
+            self.manage(host)
+        for host in self.hosts[1:]:
+            self.gluster(first, "peer", "probe", host.name)
+        self.wait_peers(first)
+        bricks = [f"{host.name}:{BRICK}" for host in self.hosts]
+        self.gluster(first, "volume", "create", NAME, "replica", "3", *bricks, "force")
+        for option, value in self.options.items():
+            self.gluster(first, "volume", "set", NAME, option, value)
+        self.gluster(first, "volume", "start", NAME)
+        for host in self.hosts:
+            self.mount(host)
+
+    def manage(self, host):
+        host.run("glusterd")
+        wait_for(f"glusterd of {host.name}", 30,
+                 lambda: self.gluster(host, "--timeout=5", "pool", "list", is_checked=False)[0] == 0)
+
+    def wait_peers(self, host):
+        wait_for("the hosts of the pool", 30,
+                 lambda: self.gluster(host, "pool", "list", is_checked=False)[1].count("Connected") == len(self.hosts))
+
+    def mount(self, host, is_checked=True):
+        """Whether the volume is mounted now."""
+        words = ["mount", "-t", "glusterfs", "-o", self.mount_options, f"{host.name}:/{NAME}", MOUNT]
+        return host.run(*words, is_checked=is_checked)[0] == 0
+
+    def join(self, host):
+        """A host that was switched on again: its glusterd starts its brick, and the volume is mounted."""
+        self.manage(host)
+        wait_for(f"the brick of {host.name}", 30, lambda: self.brick_process(host) is not None)
+        wait_for(f"the volume on {host.name}", 30, lambda: self.mount(host, is_checked=False), 0.5)
+
+    def brick_process(self, host):
+        """The number of the brick's process on its host, if there is one."""
+        _, printed = host.run("sh", "-c", "cat /run/gluster/vols/*/*.pid", is_checked=False)
+        number = printed.strip()
+        is_there = number.isdigit() and host.run("kill", "-0", number, is_checked=False)[0] == 0
+        return number if is_there else None
+
+    def kill_brick(self, host):
+        host.run("kill", "-9", self.brick_process(host))
+
+    def start_brick(self, host):
+        self.gluster(host, "volume", "start", NAME, "force")
+        wait_for(f"the brick of {host.name}", 30, lambda: self.brick_process(host) is not None)
+
+    def is_healed(self, host):
+        """Whether all three bricks are there and none owes another one anything."""
+        status, printed = self.gluster(host, "volume", "heal", NAME, "info", seconds=120, is_checked=False)
+        return status == 0 and printed.count("Number of entries: 0") == len(self.hosts)
+
+    def wait_healed(self, host, seconds=60):
+        """Until no brick owes another one anything and all have the same bytes: these bytes, and what it took. The
+        bytes count too, since a write of the last second may not stand in the bricks' lists yet."""
+        try:
+            took = wait_for("healing", seconds, lambda: self.is_healed(host) and len(set(self.bytes())) == 1, 0.5)
+        except Failed as late:
+            told = ", ".join(f"{host.name} {hashlib.sha256(held).hexdigest()[:12]}"
+                             for host, held in zip(self.hosts, self.bytes()))
+            raise Lost(f"the bricks differ, or owe one another something after {seconds} s: {told}") from late
+        return self.bytes()[0], took
+
+    def bytes(self, name="store"):
+        """What each brick holds as a file of the volume, read below it on its host's disk."""
+        held = []
+        for host in self.hosts:
+            with open(f"{host.folder}{BRICK}/{name}", "rb") as file:
+                held.append(file.read())
+        return held
