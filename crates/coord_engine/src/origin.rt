@@ -21,7 +21,7 @@ pub trait Origin: Count {
 }
 
 impl Origin for Brand {
-    ghost base = { no_world };
+    ghost base = { no_world 1 };
 
     ghost before = { [] };
 }

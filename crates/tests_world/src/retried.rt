@@ -4,7 +4,7 @@
 
 ghost use Rattle.coord_world.specs.protocol.Legal.{Legal};
 
-use coord_types::{Client, Command, Group, Kind, NodeId, Step};
+use coord_types::{Client, Command, Group, Kind, NodeId, Step, Version};
 use coord_world::{Outcome, Verdict, World};
 use std::alloc::{AllocError, Global};
 use std::test::Fail;
@@ -74,7 +74,7 @@ fn takes_all(world: &mut World, orders: &[(Command, Kind, usize)]) -> Result<boo
 fn retries(alloc: Global) -> Result<bool, Fail> {
     let (node, other) = (NodeId::new(1).ok_or("node")?, NodeId::new(2).ok_or("node")?);
     let group = Group::new(1).ok_or("group")?;
-    let mut world = World::empty(alloc);
+    let mut world = World::empty(alloc, Version::new(1).unwrap());
     takes_all(&mut world, orders(node, other, group).as_slice())
 }
 
