@@ -9,6 +9,7 @@ import ctypes
 import os
 import socket
 import subprocess
+import sys
 import threading
 import time
 
@@ -51,7 +52,10 @@ def run(words, seconds=60, is_checked=True):
     return done.returncode, done.stdout
 
 
-def make_switch():
+def make_switch(folder):
+    """What joins the hosts, and the file that has their names."""
+    with open(f"{folder}/names", "w", encoding="utf-8") as names:
+        names.write("127.0.0.1 localhost\n" + "".join(f"10.77.0.{n} host{n}\n" for n in (1, 2, 3)))
     run(["ip", "link", "set", "lo", "up"])
     run(["ip", "link", "add", SWITCH, "type", "bridge"])
     run(["ip", "link", "set", SWITCH, "up"])
@@ -67,10 +71,12 @@ class Host:
         for part in ("glusterd", "log", "srv/brick", "srv/resetd"):
             os.makedirs(f"{self.folder}/{part}")
 
-    def boot(self):
-        words = ["unshare", "--net", "--mount", "--pid", "--uts", "--fork", "--kill-child", "--mount-proc",
-                 "sh", "-c", BOOT, "boot", self.name, self.folder, self.address, "/usr/bin/env"]
-        words[-1] = os.path.realpath(os.sys.executable)
+    def boot(self, script=BOOT, *more, group=None):
+        """In a control group of its own, where one is named: systemd wants to be the only one in its group."""
+        words = ["sh", "-c", 'echo $$ > "$0/cgroup.procs"; exec "$@"', group] if group else []
+        words += ["unshare", "--net", "--mount", "--pid", "--uts", "--ipc", "--cgroup", "--fork", "--kill-child",
+                 "--mount-proc", "sh", "-c", script, "boot", self.name, self.folder, self.address,
+                 os.path.realpath(sys.executable), *more]
         with open(f"{self.folder}/boot", "ab") as faults:
             self.process = subprocess.Popen(words, stdin=subprocess.PIPE, stdout=subprocess.PIPE, stderr=faults,
                                             encoding="utf-8")
@@ -110,7 +116,8 @@ class Host:
 
     def inside(self, *words):
         """The words that run a command on this host."""
-        return ["nsenter", f"--target={self.first}", "--mount", "--net", "--pid", "--uts", "--wd=/", *words]
+        return ["nsenter", f"--target={self.first}", "--mount", "--net", "--pid", "--uts", "--ipc", "--cgroup",
+                "--wd=/", *words]
 
     def run(self, *words, seconds=60, is_checked=True):
         return run(self.inside(*words), seconds, is_checked)

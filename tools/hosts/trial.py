@@ -30,8 +30,6 @@ def topology():
 class Trial:
     def __init__(self, program, folder, planted):
         self.program, self.folder, self.planted = program, folder, planted
-        with open(f"{folder}/names", "w", encoding="utf-8") as names:
-            names.write("127.0.0.1 localhost\n" + "".join(f"10.77.0.{n} host{n}\n" for n in (1, 2, 3)))
         self.hosts = [Host(number, folder) for number in (1, 2, 3)]
         options = {**OPTIONS, STRICT_LOCKS: "off"} if planted == "no-strict-locks" else OPTIONS
         self.volume = Volume(self.hosts, options, FRESH if planted == "page-cache" else f"{DIRECT},{FRESH}")
@@ -46,7 +44,7 @@ class Trial:
 
     def begin(self):
         """Everything up to a coordinator on host 1 and a standby on host 2 that was refused by the lock."""
-        make_switch()
+        make_switch(self.folder)
         for host in self.hosts:
             host.boot()
         self.volume.make()

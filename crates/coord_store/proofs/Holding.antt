@@ -1,5 +1,5 @@
 -- What the images of a journal's disk give.
-use Rattle.std.proofs.Common.{◌≡◌, ℕ, ◌+◌, Bool, true, false, List, None, Some, Option, is_some, Result, Ok, Err, IfErr, inl, inr, ⊎_elim, refl, sym, ap, ◌∙◌, subst}
+use Rattle.std.proofs.Common.{◌≡◌, ℕ, ◌+◌, Bool, true, false, List, length, None, Some, Option, is_some, Result, Ok, Err, IfErr, inl, inr, ⊎_elim, refl, sym, ap, ◌∙◌, subst, arith}
 use Rattle.coord_batch.specs.Batches.{IsBatch, pair}
 use Rattle.coord_batch.specs.Steps.{batch}
 use Rattle.coord_codec.specs.Worlds.{world}
@@ -7,9 +7,10 @@ use Rattle.coord_disk.specs.Model.Moments.{LeavesOnly}
 use Rattle.coord_disk.specs.Model.Present.{Present, IsImage}
 use Rattle.coord_disk.proofs.MomentLemmas.{started}
 use Rattle.coord_disk.proofs.TornWrites.{whole_image}
-use Rattle.coord_journal.specs.Journal.{disk_of, half_of, half_size_of, has_stopped, used_of}
-use Rattle.coord_journal.specs.Text.{Content, IsEitherText, IsText, with_batch, without_batch}
+use Rattle.coord_journal.specs.Journal.{HasRoomFor, disk_of, half_of, half_size_of, has_stopped, used_of}
+use Rattle.coord_journal.specs.Text.{Content, HasPlaceIn, IsEitherText, IsText, IsTextAt, IsTextIn, with_batch, without_batch}
 use Rattle.coord_journal.specs.declared.journal.Journal.{Journal}
+use Rattle.coord_journal.proofs.Texts.{text_place}
 use Rattle.coord_types.specs.declared.steps.Step.{Step}
 use Rattle.coord_world.specs.protocol.Legal.{Legal}
 use Rattle.coord_world.specs.protocol.Next.{fold}
@@ -17,7 +18,7 @@ use Rattle.coord_world.specs.protocol.NumberedWorld.{World}
 use Rattle.coord_world.specs.protocol.Rows.{rows_of}
 use Rattle.coord_world.specs.protocol.Ranges.{InRange}
 use Rattle.coord_store.specs.Kept.{GivesEither, Holds, IsKept, IsOnlyWorld}
-use Rattle.coord_store.specs.Recovered.{AllFresh, Gives, Recovered, Takes}
+use Rattle.coord_store.specs.Recovered.{AllFresh, Gives, IsBody, Recovered, Takes}
 use Rattle.coord_store.proofs.Replaying.{replays-push}
 
 pub text_gives : (content : Content) (w : World) (bytes : List ℕ) → Gives content w → IsText content bytes → Recovered bytes w
@@ -45,6 +46,11 @@ taken w version n body items steps one counts is spelled fits fresh = record {
   };
   fresh = fresh;
 }
+
+-- all bodies of these steps are as long
+pub body_length : (w : World) (version n : ℕ) (written items body : List ℕ) (steps : List Step) → version ≡ w.version → n ≡ w.count → written ≡ items → items ≡ (batch version).text (pair (n + 1) steps) → IsBody w body steps → length body ≡ length written
+body_length w version n written items body steps one counts is spelled spells =
+    ap length (spells.spelled ∙ sym (is ∙ spelled ∙ (λ i. (batch (one i)).text (pair (counts i + 1) steps))))
 
 pub none_of : (o : Option World) (b : Bool) → b ≡ is_some o → b ≡ false → o ≡ None
 none_of None b is clear = refl
@@ -74,6 +80,15 @@ module _ {D : Type 0} (present : D → Present) (keeps_model : D → Bool) where
   image_gives journal w holds image is =
       text_gives holds.content w image holds.gives
       (subst (IsText holds.content) (sym (whole_image (present (disk_of journal)).read (present (disk_of journal)) holds.ready.synced image is)) (half_size_of journal, half_of journal, used_of journal, holds.ready.text))
+
+  -- where its text has room, it has
+  pub has_room : (journal : Journal D) (w : World) (half len : ℕ) → Holds present journal w → HasPlaceIn half len (present (disk_of journal)).read → HasRoomFor journal len × (half_of journal ≡ half)
+  has_room journal w half len holds place =
+      let same = text_place (present (disk_of journal)).read holds.content place.0 (half_size_of journal) place.1 (half_of journal) half (used_of journal) place.2 holds.ready.text place.3 in
+      (omega (arith, same.0, same.2, place.4), same.1)
+
+  pub in_half : (journal : Journal D) (w : World) (half : ℕ) → Holds present journal w → half_of journal ≡ half → IsTextIn half (present (disk_of journal)).read
+  in_half journal w half holds same = (holds.content, half_size_of journal, used_of journal, subst (λ (h : ℕ). IsTextAt (present (disk_of journal)).read holds.content (half_size_of journal) h (used_of journal)) same holds.ready.text)
 
   -- before any call
   pub begun : (clock : D → ℕ) (left_since : D → ℕ → List ℕ → Type 0) (journal : Journal D) (w : World) → Holds present journal w → ((image : List ℕ) → left_since (disk_of journal) (clock (disk_of journal)) image → IsImage (present (disk_of journal)) image)

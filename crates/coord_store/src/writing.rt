@@ -4,7 +4,7 @@
 ghost use Rattle.std.specs.Prelude.{◌≡◌, ◌≢◌, ◌⊎◌, ◌+◌, ◌≤◌, true, false, List, length, OnOk, IfErr, IsErrOf};
 ghost use Rattle.coord_disk.specs.Model.Moments.{LeavesOnly};
 ghost use Rattle.coord_journal.specs.Faults.{IsWriteFault};
-ghost use Rattle.coord_journal.specs.Journal.{HasRoomFor, disk_of, has_stopped};
+ghost use Rattle.coord_journal.specs.Journal.{HasRoomFor, disk_of, half_of, has_stopped};
 ghost use Rattle.coord_journal.specs.declared.layout.TheConstants.{MAX_BODY};
 ghost use Rattle.coord_store.specs.Faults.{commit_fault_of, failures_in};
 ghost use Rattle.coord_store.specs.Kept.{GivesEither, Holds, IsOnlyWorld};
@@ -108,6 +108,7 @@ fn append<D: Disk>(journal: &mut Journal<D>, body: &[u8]) -> Result<(), CommitFa
     ensures any_moment_refused { (w : Numbered) → D.keeps_model (disk_of journal.old) ≡ true → Holds D.present journal.old w
         → IfErr result (λ fault. fault ≢ Device → LeavesOnly D.clock D.left_since (disk_of journal.old) (disk_of journal.new) (IsOnlyWorld w)) }
     ensures going { OnOk result (has_stopped journal.new ≡ false) }
+    ensures half { half_of journal.new ≡ half_of journal.old }
     ensures fault { IfErr result (λ fault. (fault ≡ OutOfMemory) ⊎ (fault ≡ Device)) }
     ensures unchanged { IfErr result (λ fault. fault ≢ Device → journal.new ≡ journal.old) }
     ensures device { IsErrOf result CommitFault.Device → has_stopped journal.new ≡ true }
@@ -145,6 +146,8 @@ pub fn write<D: Disk>(
     ensures device { IsErrOf result CommitFault.Device → has_stopped journal.new ≡ true }
     ensures failures { D.failures (disk_of journal.new) ≡ D.failures (disk_of journal.old) + failures_in result }
     ensures calls { D.keeps_model (disk_of journal.old) ≡ true → D.clock (disk_of journal.new) ≤ D.clock (disk_of journal.old) + 8 }
+    ensures calls_where_it_fits { D.keeps_model (disk_of journal.old) ≡ true → HasRoomFor journal.old (length body.now) → D.clock (disk_of journal.new) ≤ D.clock (disk_of journal.old) + 4 }
+    ensures half_where_it_fits { HasRoomFor journal.old (length body.now) → half_of journal.new ≡ half_of journal.old }
     ensures model { D.keeps_model (disk_of journal.new) ≡ D.keeps_model (disk_of journal.old) }
 {
     if journal.fits(body.len()) {

@@ -1,5 +1,5 @@
 -- A file in memory.
-use Rattle.std.specs.Prelude.{◌≡◌, ℕ, ◌+◌, ◌-◌, ◌^◌, min, Bool}
+use Rattle.std.specs.Prelude.{ℕ, ◌+◌, ◌-◌, ◌^◌, min, Bool}
 use Rattle.coord_disk.specs.declared.memory.MemDisk.{MemDisk}
 use Rattle.coord_disk.specs.declared.memory_file.MemFile.{MemFile}
 use Rattle.coord_disk.specs.declared.memory_file.Syncs.{Syncs}

@@ -1,5 +1,5 @@
 -- A disk that tears a write.
-use Rattle.std.specs.Prelude.{◌≡◌, ℕ, ◌+◌, ◌-◌, ◌^◌, min, take, length, List, Bool, true, false, Result, IsErr}
+use Rattle.std.specs.Prelude.{◌≡◌, ℕ, ◌+◌, ◌-◌, ◌^◌, min, length, Bool, true, false, Result, IsErr}
 use Rattle.coord_disk.specs.declared.fault.DiskFault.{DiskFault}
 use Rattle.coord_disk.specs.declared.torn.TornDisk.{TornDisk}
 use Rattle.coord_disk.specs.Disks.Blip.{left_of, is_due, one_less}

@@ -1,13 +1,14 @@
 //! Commits.
 
-ghost use Rattle.std.specs.Prelude.{◌≡◌, ◌≢◌, ◌⊎◌, ◌↔◌, ◌+◌, ◌≤◌, true, None, Some, length, IsTrue, OnOk, IfOk, IfErr, IsErrOf};
+ghost use Rattle.std.specs.Prelude.{◌≡◌, ◌≢◌, ◌⊎◌, ◌↔◌, ◌+◌, ◌≤◌, true, None, Some, List, ℕ, length, IsTrue, OnOk, IfOk, IfErr, IsErrOf};
 ghost use Rattle.std.specs.List.{AllByRecursion};
 ghost use Rattle.coord_batch.specs.Batches.{IsNumbered};
 ghost use Rattle.coord_types.specs.declared.limits.TheConstants.{MAX_BATCH_STEPS};
 ghost use Rattle.coord_disk.specs.Model.Moments.{LeavesOnly};
+ghost use Rattle.coord_journal.specs.Text.{HasPlaceIn, IsTextIn};
 ghost use Rattle.coord_store.specs.Faults.{failures_in};
 ghost use Rattle.coord_store.specs.Kept.{GivesEither, IsOnlyWorld, has_stopped};
-ghost use Rattle.coord_store.specs.Recovered.{AllFresh};
+ghost use Rattle.coord_store.specs.Recovered.{AllFresh, IsBody};
 ghost use Rattle.coord_store.specs.declared.faults.CommitFault.TheVariants.{OutOfMemory, Device, Stopped};
 ghost use Rattle.coord_world.specs.protocol.Next.{fold};
 
@@ -68,6 +69,12 @@ impl<D: Disk> Store<D> {
         ensures fault { IfErr result (λ fault. (fault ≡ Stopped) ⊎ ((fault ≡ OutOfMemory) ⊎ (fault ≡ Device))) }
         ensures failures { D.failures self.new.disk ≡ D.failures self.old.disk + failures_in result }
         ensures calls { D.keeps_model self.old.disk ≡ true → D.clock self.new.disk ≤ D.clock self.old.disk + 8 }
+
+        // Where the body of the batch fits behind what is there, no checkpoint is made.
+        ensures calls_where_it_fits { (half : ℕ) (body : List ℕ) → D.keeps_model self.old.disk ≡ true → self.old.torn ≡ None → IsBody self.old.world body steps.now → HasPlaceIn half (length body) (D.present self.old.disk).read
+            → D.clock self.new.disk ≤ D.clock self.old.disk + 4 }
+        ensures half_where_it_fits { (half : ℕ) (body : List ℕ) → D.keeps_model self.old.disk ≡ true → self.old.torn ≡ None → IsBody self.old.world body steps.now → HasPlaceIn half (length body) (D.present self.old.disk).read
+            → OnOk result (IsTextIn half (D.present self.new.disk).read) }
         ensures model { D.keeps_model self.new.disk ≡ D.keeps_model self.old.disk }
     {
         if self.torn.is_some() {

@@ -1,14 +1,16 @@
-use Rattle.std.proofs.Common.{◌≡◌, ◌≢◌, true, None, IfErr, rules, arith, sym, ap, ◌∙◌, subst}
+use Rattle.std.proofs.Common.{◌≡◌, ◌≢◌, ℕ, ◌+◌, ◌≤◌, List, length, true, None, IfErr, rules, arith, sym, ap, ◌∙◌, subst}
 use Rattle.coord_disk.specs.Model.Moments.{LeavesOnly}
+use Rattle.coord_journal.specs.Journal.{HasRoomFor}
+use Rattle.coord_journal.specs.Text.{HasPlaceIn, IsTextIn}
 use Rattle.coord_store.specs.Kept.{GivesEither, Holds, IsOnlyWorld, Kept}
-use Rattle.coord_store.specs.Recovered.{AllFresh}
+use Rattle.coord_store.specs.Recovered.{AllFresh, IsBody}
 use Rattle.coord_store.specs.declared.faults.CommitFault.TheVariants.{Device}
 use Rattle.coord_world.specs.protocol.Next.{fold}
 use Rattle.std.specs.List.{AllByRecursion}
 use Rattle.coord_batch.specs.Batches.{BringsRightly}
 use Rattle.coord_world.specs.protocol.NumberedWorld.{World}
 use Rattle.coord_store.proofs.Freshness.{all_writable, first_number}
-use Rattle.coord_store.proofs.Holding.{begun, kept_on, kept_torn, none_of, taken, whenever}
+use Rattle.coord_store.proofs.Holding.{begun, body_length, has_room, in_half, kept_on, kept_torn, none_of, taken, whenever}
 use Rattle.coord_store.proofs.store.Store.commit.Goals as goal
 use Rattle.coord_store.proofs.store.Store.commit.Goals.{then-eq, else-eq}
 
@@ -86,3 +88,40 @@ returns-in_err-body-clause-any_moment_refused g c =
     let answer = c.from_residual-in_err-body.result in
     let P : Kept g.row.D.Denot → Type 0 = λ o. g.D.Disk.keeps_model o.disk ≡ true → o.torn ≡ None → IfErr answer (λ fault. fault ≢ Device → LeavesOnly g.D.Disk.clock g.D.Disk.left_since o.disk o.disk (IsOnlyWorld o.world)) in
     subst P c.self.view_is (λ k none. whenever answer (λ fault. fault ≢ Device) _ (begun g.D.Disk.present g.D.Disk.keeps_model g.D.Disk.clock g.D.Disk.left_since journal c.self.inside.world (c.self.invariant.holds k none) (λ image. g.met.D.Disk.only_now journal.disk image k)))
+
+pub returns-in-Ok-clause-calls_where_it_fits : goal.returns-in-Ok-clause-calls_where_it_fits
+returns-in-Ok-clause-calls_where_it_fits g c =
+    let w = c.self.inside.world in
+    let steps = c.args.steps.now in
+    let journal = c.self.inside.journal in
+    let P : Kept g.row.D.Denot → Type 0 = λ o. (half : ℕ) (body : List ℕ) → g.D.Disk.keeps_model o.disk ≡ true → o.torn ≡ None → IsBody o.world body steps → HasPlaceIn half (length body) (g.D.Disk.present o.disk).read → g.D.Disk.clock c.write.new.journal.disk ≤ g.D.Disk.clock o.disk + 4 in
+    subst P c.self.view_is (λ half body k none spells place.
+    let long = body_length w c.version.result c.count.result c.deref.result.now c.in_ok-body.body.items body steps c.version.ensures c.count.ensures c.deref.ensures.value c.in_ok-body.ensures.spelled spells in
+    let room = has_room g.D.Disk.present g.D.Disk.keeps_model journal w half (length body) (c.self.invariant.holds k none) place in
+    c.write.ensures.calls_where_it_fits k (subst (λ n. HasRoomFor journal n) long room.0))
+
+pub returns-in-Ok-clause-half_where_it_fits : goal.returns-in-Ok-clause-half_where_it_fits
+returns-in-Ok-clause-half_where_it_fits g c =
+    let w = c.self.inside.world in
+    let steps = c.args.steps.now in
+    let journal = c.self.inside.journal in
+    let fresh = subst (λ x. AllFresh x x steps) (sym (ap (λ (k : Kept g.row.D.Denot). k.world) c.self.view_is)) c.requires.fresh in
+    let takes = taken w c.version.result c.count.result c.deref.result.now c.in_ok-body.body.items steps c.version.ensures c.count.ensures c.deref.ensures.value c.in_ok-body.ensures.spelled c.in_ok-body.ensures.fits fresh in
+    let P : Kept g.row.D.Denot → Type 0 = λ o. (half : ℕ) (body : List ℕ) → g.D.Disk.keeps_model o.disk ≡ true → o.torn ≡ None → IsBody o.world body steps → HasPlaceIn half (length body) (g.D.Disk.present o.disk).read → IsTextIn half (g.D.Disk.present c.write.new.journal.disk).read in
+    subst P c.self.view_is (λ half body k none spells place.
+    let holds = c.self.invariant.holds k none in
+    let long = body_length w c.version.result c.count.result c.deref.result.now c.in_ok-body.body.items body steps c.version.ensures c.count.ensures c.deref.ensures.value c.in_ok-body.ensures.spelled spells in
+    let room = has_room g.D.Disk.present g.D.Disk.keeps_model journal w half (length body) holds place in
+    in_half g.D.Disk.present g.D.Disk.keeps_model c.write.new.journal (fold w steps) half (c.in-Ok.ensures.done steps k holds takes) (c.write.ensures.half_where_it_fits (subst (λ n. HasRoomFor journal n) long room.0) ∙ room.1))
+
+pub returns-clause-calls_where_it_fits : goal.returns-clause-calls_where_it_fits
+returns-clause-calls_where_it_fits g c =
+    let w = c.self.inside.world in
+    let steps = c.args.steps.now in
+    let journal = c.self.inside.journal in
+    let disk : c.write.new.journal.disk ≡ c.if-eq.self.disk = elim c.if-eq.branch [ then-eq w ↦ sym (ap (λ (k : Kept g.row.D.Denot). k.disk) w.self-is) | else-eq w ↦ sym (ap (λ (k : Kept g.row.D.Denot). k.disk) w.self-is) ] in
+    let P : Kept g.row.D.Denot → Type 0 = λ o. (half : ℕ) (body : List ℕ) → g.D.Disk.keeps_model o.disk ≡ true → o.torn ≡ None → IsBody o.world body steps → HasPlaceIn half (length body) (g.D.Disk.present o.disk).read → g.D.Disk.clock c.if-eq.self.disk ≤ g.D.Disk.clock o.disk + 4 in
+    subst P c.self.view_is (λ half body k none spells place.
+    let long = body_length w c.version.result c.count.result c.deref.result.now c.in_ok-body.body.items body steps c.version.ensures c.count.ensures c.deref.ensures.value c.in_ok-body.ensures.spelled spells in
+    let room = has_room g.D.Disk.present g.D.Disk.keeps_model journal w half (length body) (c.self.invariant.holds k none) place in
+    subst (λ d. g.D.Disk.clock d ≤ g.D.Disk.clock journal.disk + 4) disk (c.write.ensures.calls_where_it_fits k (subst (λ n. HasRoomFor journal n) long room.0)))

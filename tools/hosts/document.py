@@ -1,0 +1,152 @@
+"""The words of docs/OPERATING.md, "Another machine takes over", typed on three machines under systemd.
+
+Each block of words there stands below a line that says on which hosts they are typed. Packages are not installed
+again: the three machines have what this one has. What stands between the words and a takeover is tried after them.
+"""
+
+import os
+import re
+import time
+
+from .clients import Away, Lost, ask
+from .network import Failed, Host, make_switch, run, wait_for
+from .trial import QUICK, tell
+
+ROOT = os.path.dirname(os.path.dirname(os.path.dirname(os.path.abspath(__file__))))
+SECTION = "## Another machine takes over"
+TYPED = re.compile(r"^On (?P<hosts>[^\n:]*):\n\n```\n(?P<words>.*?)\n```$", re.MULTILINE | re.DOTALL)
+ON = {"each of the three hosts": (1, 2, 3), "host1": (1,), "host1 and host2": (1, 2)}
+PORT = "127.0.0.1:4170"
+GROUPS = "groups"
+
+# A machine of its own: this one's files below a layer that keeps what is changed, and systemd as its first process.
+BOOT = r"""
+set -e
+hostname "$1"
+root="$2/root"
+mkdir -p "$root" "$2/layer/upper" "$2/layer/work" "$2/layer/brick"
+mount -t overlay -o "lowerdir=/,upperdir=$2/layer/upper,workdir=$2/layer/work" overlay "$root"
+for place in dev sys; do mount --rbind "/$place" "$root/$place"; done
+mount -t proc proc "$root/proc"
+mount -t tmpfs -o mode=755 run "$root/run"
+mount -t tmpfs tmp "$root/tmp"
+mkdir -p "$root/$5"
+mount --bind "$5" "$root/$5"
+cat "$2/../names" > "$root/etc/hosts"
+if [ ! -e "$root/etc/prepared" ]; then
+  touch "$root/etc/prepared"
+  rm -rf "$root"/etc/systemd/system/*.wants "$root"/var/lib/glusterd
+  : > "$root/etc/fstab"
+fi
+mkdir -p "$root/srv/brick" "$root/old"
+mount --bind "$2/layer/brick" "$root/srv/brick"
+ip link set lo up
+echo up
+read linked
+ip address add "$3/24" dev eth0
+ip link set eth0 up
+echo linked
+cd "$root"
+pivot_root . old
+umount -R /sys/fs/cgroup || true
+mount -t cgroup2 none /sys/fs/cgroup
+umount -l /old
+container=other exec /lib/systemd/systemd --system --unit=multi-user.target > /dev/null 2>&1
+"""
+
+
+class Machine(Host):
+    def __init__(self, number, folder, program):
+        super().__init__(number, folder)
+        os.makedirs(f"{self.folder}/layer")
+        run(["mount", "-t", "tmpfs", "layer", f"{self.folder}/layer"])
+        run(["install", "-D", "-m", "755", program, f"{self.folder}/layer/upper/usr/local/bin/resetd"])
+        self.group = f"{folder}/{GROUPS}/{os.path.basename(folder)}/{self.name}"
+
+    def boot(self):
+        os.makedirs(self.group, exist_ok=True)
+        super().boot(BOOT, ROOT, group=self.group)
+        wait_for(f"systemd of {self.name}", 60, lambda: self.run(
+            "systemctl", "is-system-running", is_checked=False)[1].strip() in ("running", "degraded"), 0.5)
+
+    def unit(self, property_):
+        """What systemd says of the coordinator's unit."""
+        return self.run("systemctl", "show", "--value", "-p", property_, "resetd", is_checked=False)[1].strip()
+
+    def listens(self):
+        try:
+            return "nodes" in ask(self, PORT, {"op": "show"})
+        except Away:
+            return False
+
+
+def blocks():
+    """The hosts and the words of each block, in order."""
+    with open(f"{ROOT}/docs/OPERATING.md", encoding="utf-8") as file:
+        section = file.read().split(SECTION + "\n")[1].split("\n## ")[0]
+    return [(ON[met["hosts"]], met["words"]) for met in TYPED.finditer(section)]
+
+
+def try_words(program, folder):
+    """Types the words, and then loses the host that serves."""
+    make_switch(folder)
+    os.makedirs(f"{folder}/{GROUPS}")
+    run(["mount", "-t", "cgroup2", "groups", f"{folder}/{GROUPS}"])
+    machines = [Machine(number, folder, program) for number in (1, 2, 3)]
+    for machine in machines:
+        machine.boot()
+    for numbers, words in blocks():
+        typed = [line for line in words.splitlines() if not line.startswith("apt-get ")]
+        for number in numbers:
+            machines[number - 1].run("sh", "-ec", f"cd {ROOT}\n" + "\n".join(typed), seconds=120)
+        print(f"on {' '.join(machines[number - 1].name for number in numbers)}:\n    " + "\n    ".join(typed), flush=True)
+    print()
+    lose_one(machines[:2])
+
+
+def wait_standby(machine):
+    """Until the unit tried, and was refused by the lock."""
+    try:
+        return wait_for("a refused try", 60, lambda: machine.unit("ExecMainStatus") == "3", 0.5)
+    except Failed as late:
+        _, told = machine.run("systemctl", "status", "--no-pager", "--lines=5", "resetd", "srv-resetd.mount", "glusterd",
+                              is_checked=False)
+        raise Failed(f"{late}; on {machine.name}:\n{told}") from late
+
+
+def lose_one(machines):
+    wait_for("a coordinator", 30, lambda: any(machine.listens() for machine in machines))
+    first = next(machine for machine in machines if machine.listens())
+    second = next(machine for machine in machines if machine is not first)
+    wait_standby(second)
+    order = {"op": "reset", "client": 1, "number": 1, "node": 3}
+    reply = ask(first, PORT, order)
+    tell(f"{first.name} serves: {reply}; the unit of {second.name} was refused, status 3")
+    first.kill()
+    killed = time.monotonic()
+    wait_for("another coordinator", 60, second.listens)
+    took = time.monotonic() - killed
+    if ask(second, PORT, order) != reply or took > QUICK:
+        raise Lost(f"{second.name} answered {ask(second, PORT, order)} after {took:.1f} s")
+    tell(f"{first.name} was killed whole; {second.name} answers after {took:.1f} s, and the same to the same order")
+    first.boot()
+    wait_standby(first)
+    tell(f"{first.name} is switched on again, and is a standby now")
+    late_mount(first)
+    ask(second, PORT, {"op": "close"})
+    wait_for("a start after the close", 30, lambda: any(machine.listens() for machine in machines))
+    tell(f"a close to {second.name}: {next(m for m in machines if m.listens()).name} serves")
+
+
+def late_mount(machine):
+    """A standby whose volume is not there, and comes late: nothing is made in its place."""
+    machine.run("sh", "-c", "systemctl mask --runtime --now srv-resetd.mount; mountpoint /srv/resetd", is_checked=False)
+    before = int(machine.unit("NRestarts"))
+    wait_for("tries without a mount", 30, lambda: int(machine.unit("NRestarts")) > before + 2)
+    _, there = machine.run("ls", "-A", "/srv/resetd")
+    if there:
+        raise Lost(f"without the volume {machine.name} made {there}")
+    machine.run("systemctl", "unmask", "--runtime", "srv-resetd.mount")
+    wait_for("the mount", 60, lambda: machine.run("mountpoint", "-q", "/srv/resetd", is_checked=False)[0] == 0, 0.5)
+    wait_standby(machine)
+    tell(f"without its mount the unit of {machine.name} tried again and made no file; it mounted the volume late")
