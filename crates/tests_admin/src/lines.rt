@@ -241,14 +241,6 @@ fn other_desks(rt: HostRuntime) -> Result<(), Fail> {
     );
     Ok(())
 }
-<<<<<<< HEAD
-=======
-
-#[test]
-fn laws_do_nothing() {
-    coord_admin::worked_requests();
-    coord_admin::worked_replies();
-}
 
 /// A long line that is no JSON is told so.
 #[test]
@@ -271,4 +263,3 @@ fn a_long_line_that_is_no_json(rt: HostRuntime) -> Result<(), Fail> {
     );
     Ok(())
 }
->>>>>>> bf92e3e
