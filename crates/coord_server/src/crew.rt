@@ -5,14 +5,13 @@ ghost use Rattle.std.specs.Thread.{IsSend, IsSync};
 use crate::{EngineDesk, LocalPort, ServerFault, WORKERS};
 use coord_admin::{Desk, serve_connections};
 use coord_disk::Disk;
-use coord_engine::{Engine, Port, Share, flusher, worker};
+use coord_engine::{Engine, Origin, Port, Share, flusher, worker};
 use coord_types::Packet;
 use crossbeam_channel::Receiver;
 use std::alloc::Global;
 use std::io::{Read, Write};
 use std::net::{OpenListener, OpenStream};
 use std::sync::Wait;
-use std::sync::ledger::Ledger as Count;
 use std::thread;
 use std::thread::{JoinHandle, Scope, Threads};
 use std::time::Clock;
@@ -21,7 +20,7 @@ use std::time::Clock;
 /// that were given out, unless a thread could not be started; beside them, how the server ended.
 pub fn run<
     D: Disk + Send,
-    L: Count + Send + Sync,
+    L: Origin + Send + Sync,
     S: Read + Write + OpenStream + Drop,
     A: OpenListener<Stream = S>,
     W: Write + Send + Drop,
@@ -85,7 +84,7 @@ fn start_flusher<
     'p: 's,
     E,
     D: Disk + Send,
-    L: Count + Send + Sync,
+    L: Origin + Send + Sync,
     P: Port + Sync,
     R: Wait + Clock + Sync,
 >(
@@ -101,7 +100,7 @@ fn start_flusher<
 fn serve_over<
     'a,
     D: Disk,
-    L: Count,
+    L: Origin,
     S: Read + Write + OpenStream + Drop,
     A: OpenListener<Stream = S>,
     W: Write,
@@ -122,7 +121,7 @@ fn serve_over<
 /// Prints the address, sends again what may have been lost, and serves connections.
 fn serve_clients<
     D: Disk,
-    L: Count,
+    L: Origin,
     S: Read + Write + OpenStream + Drop,
     A: OpenListener<Stream = S>,
     W: Write,

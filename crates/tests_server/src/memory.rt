@@ -5,7 +5,7 @@ ghost use Rattle.std.specs.Thread.{IsSend, IsSync};
 
 use coord_admin::{Desk, serve};
 use coord_disk::{Disk, MemDisk};
-use coord_engine::{Closed, Engine, Share, flusher};
+use coord_engine::{Closed, Engine, Origin, Share, flusher};
 use coord_ledger::{Ledger, View};
 use coord_server::{EngineDesk, LocalPort, Printer};
 use coord_store::Store;
@@ -13,7 +13,7 @@ use coord_types::{Client, Command, Group, NodeId, Refusal, Reply, Step};
 use std::alloc::{AllocError, Global};
 use std::marker::Brand;
 use std::sync::Wait;
-use std::sync::ledger::{Blank, Ledger as Count};
+use std::sync::ledger::Blank;
 use std::test::Fail;
 use std::thread;
 use std::thread::Threads;
@@ -75,7 +75,7 @@ fn is_replied_at_last<E: Desk>(alloc: Global, desk: &mut E) -> Result<bool, Refu
 }
 
 /// Runs a flusher while the line is sent. The share of the desk, and whether there was a reply.
-fn run<D: Disk + Send, L: Count + Send + Sync, R: Threads + Wait + Clock + Sync>(
+fn run<D: Disk + Send, L: Origin + Send + Sync, R: Threads + Wait + Clock + Sync>(
     rt: &R,
     alloc: Global,
     engine: &Engine<D, L>,
@@ -112,7 +112,7 @@ fn holds_once<D: Disk>(closed: &Closed<D>, order: &Step) -> bool {
 }
 
 /// Takes an engine apart, and whether it accepted the one order alone.
-fn ends_with_one<D: Disk, L: Count>(
+fn ends_with_one<D: Disk, L: Origin>(
     engine: Engine<D, L>,
     shares: Vec<Share<L>>,
     order: &Step,
@@ -131,7 +131,7 @@ fn order() -> Option<Step> {
     Some(Step::Order(Client::new(1)?, 1, added))
 }
 
-fn order_once<D: Disk + Send, L: Count + Send + Sync, R: Threads + Wait + Clock + Sync>(
+fn order_once<D: Disk + Send, L: Origin + Send + Sync, R: Threads + Wait + Clock + Sync>(
     rt: &R,
     alloc: Global,
     blank: Blank,
@@ -140,6 +140,8 @@ fn order_once<D: Disk + Send, L: Count + Send + Sync, R: Threads + Wait + Clock 
 ) -> Result<bool, Refusal>
     requires name { blank.name ≡ L.name }
     requires parts { (blank.parts ≡ L.parts) × (L.parts ≡ 65536) }
+    requires base { ledger.log.base ≡ L.base }
+    requires before { ledger.log.trail ≡ L.before }
     requires home { ledger.out ≡ None }
 {
     let Ok(shares) = Vec::with_capacity(alloc, 1) else {
