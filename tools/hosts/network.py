@@ -6,8 +6,10 @@ the end of its first process ends everything in it.
 
 import contextlib
 import ctypes
+import fcntl
 import os
 import socket
+import struct
 import subprocess
 import sys
 import threading
@@ -15,6 +17,7 @@ import time
 
 LIBC = ctypes.CDLL(None, use_errno=True)
 NEW_NETWORK = 0x40000000
+GET_FLAGS, SET_FLAGS, UP = 0x8913, 0x8914, 1
 SWITCH = "switch"
 
 # The first process of a host. What it starts from: its own folders in the place of the machine's, and an empty /run.
@@ -109,10 +112,10 @@ class Host:
         run(["ip", "link", "delete", self.port], is_checked=False)
 
     def cut(self):
-        run(["ip", "link", "set", self.port, "down"])
+        set_link(self.port, False)
 
     def link(self):
-        run(["ip", "link", "set", self.port, "up"])
+        set_link(self.port, True)
 
     def inside(self, *words):
         """The words that run a command on this host."""
@@ -132,6 +135,14 @@ class Host:
                 yield
             finally:
                 enter(back)
+
+
+def set_link(name, is_up):
+    """At once, without a command that would first have to start."""
+    with socket.socket(socket.AF_INET, socket.SOCK_DGRAM) as any_socket:
+        asked = fcntl.ioctl(any_socket, GET_FLAGS, struct.pack("16sh22x", name.encode(), 0))
+        flags = struct.unpack("16sh22x", asked)[1] & ~UP | (UP if is_up else 0)
+        fcntl.ioctl(any_socket, SET_FLAGS, struct.pack("16sh22x", name.encode(), flags))
 
 
 def enter(namespace):

@@ -15,11 +15,12 @@ def killed_in_wave(trial):
           flush=True)
     old, new = trial.present, trial.other(trial.present)
     asker = trial.load.clients[0]
-    for _ in range(20):
+    for is_late in (False, True, True):
         trial.wait_quiet()
         before = len(old.lines("signals"))
         asker.order("reset", node=6)
-        wait_for("a signal", 10, lambda: len(old.lines("signals")) > before, 0.0005)
+        if not is_late:
+            wait_for("a signal", 10, lambda: len(old.lines("signals")) > before, 0.0005)
         old.host.kill()
         killed = time.monotonic()
         old.wait_over()
@@ -27,12 +28,14 @@ def killed_in_wave(trial):
                 if row[3] != "ready"]
         if left:
             break
+        tell("(the reset was through when the kill came; at the next try it comes right at the answer)")
         trial.restart(old)
-        wait_for("a coordinator", 60, lambda: asker.repeat() is None)
+        asker.repeat()
+        trial.hand_over_to(old)
     else:
         raise Lost("no kill came in the middle of a reset")
     signalled = [line.split()[1] for line in old.lines("signals")[before:]]
-    tell(f"signalled before the kill: {' '.join(signalled)}; in the store still in the reset: {' '.join(left)}")
+    tell(f"signalled before the kill: {' '.join(signalled) or 'none'}; in the store still in the reset: {' '.join(left)}")
     if trial.planted == "old-copy":
         new.host.run("cp", f"{trial.folder}/old", "/srv/resetd/store")
     trial.load.start()

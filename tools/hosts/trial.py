@@ -172,6 +172,14 @@ class Trial:
             raise Lost(f"closed in order, the coordinator on {keeper.host.name} ended with {keeper.ends()[ended]}")
         return time.monotonic() - begun
 
+    def hand_over_to(self, keeper):
+        """Closes until this one serves."""
+        until = time.monotonic() + 60
+        while self.present is not keeper:
+            if time.monotonic() > until:
+                raise Lost(f"{keeper.host.name} did not serve again")
+            self.hand_over()
+
     def stop(self):
         for service in self.services:
             service.stop()

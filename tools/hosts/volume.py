@@ -40,7 +40,7 @@ OPTIONS = {
 
 class Volume:
     def __init__(self, hosts, options, mount_options):
-        self.hosts, self.options, self.mount_options = hosts, options, mount_options
+        self.hosts, self.options, self.mount_options = hosts, dict(options), mount_options
 
     def gluster(self, host, *words, seconds=60, is_checked=True):
         return host.run("gluster", "--mode=script", *words, seconds=seconds, is_checked=is_checked)
@@ -56,7 +56,8 @@ class Volume:
         bricks = [f"{host.name}:{BRICK}" for host in self.hosts]
         self.gluster(first, "volume", "create", NAME, "replica", "3", *bricks, "force")
         for option, value in self.options.items():
-            self.gluster(first, "volume", "set", NAME, option, value)
+            if value:
+                self.gluster(first, "volume", "set", NAME, option, value)
         self.gluster(first, "volume", "start", NAME)
         for host in self.hosts:
             self.mount(host)

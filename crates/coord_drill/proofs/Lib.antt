@@ -1,3 +1,4 @@
+mod Answering
 mod Crashing
 mod Doing
 mod FirstParts

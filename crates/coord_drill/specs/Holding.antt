@@ -1,6 +1,8 @@
 -- What the code holds: a ledger with its store at home, and a ticket for each pending step; and what it prints of these.
 use Rattle.std.specs.Prelude.{◌≡◌, ℕ, ◌==◌, ◌≤◌, nat_le, false, true, List, [], ◌∷◌, ◌++◌, length, Option, Some, None, Ok, Err, if◌then◌else◌, Bool}
 use Rattle.std.specs.Option.{option_map_or}
+use Rattle.coord_disk.specs.Disks.Memory.{present_of}
+use Rattle.coord_disk.specs.Model.Present.{Present}
 use Rattle.coord_disk.specs.declared.memory.MemDisk.{MemDisk}
 use Rattle.coord_store.specs.declared.faults.CommitFault.TheVariants.{Device, OutOfMemory}
 use Rattle.coord_types.specs.declared.steps.Kind.{Kind}
@@ -41,6 +43,10 @@ IsReadyWith (Some l) claims = IsHeld l claims
 
 abbrev pub IsReady : Drill → Type 0
 IsReady d = IsReadyWith d.ledger d.tickets.items
+
+-- its store is at home, and its disk is so
+abbrev pub HasDisk : Drill → Present → Type 0
+HasDisk d present = (l : LedgerState MemDisk) × (disk : MemDisk) × (d.ledger ≡ Some l) × (l.disk ≡ Some disk) × (present_of disk ≡ present)
 
 -- the state of a drill over this ledger
 abbrev pub drill_of : LedgerState MemDisk → Bool → DrillState

@@ -1,3 +1,4 @@
+pub mod Faults
 pub mod Format
 pub mod Grammar
 pub mod Asked

@@ -11,6 +11,7 @@ ghost use Rattle.coord_drill.specs.declared.fault.Fault.TheVariants.{TooManyRead
 
 mod lines;
 
+use crate::answers::read_once;
 use crate::drill::Drill;
 use crate::fault::Fault;
 use crate::writing::{fault_of, write_text};
@@ -92,8 +93,9 @@ impl Console {
     {
         let mut bytes = [0; READ_LEN];
         for _ in 0..MOST_READS {
-            let Ok(count) = reader.read(&mut bytes) else {
-                return Err(Fault::Read);
+            let count = match read_once(reader, &mut bytes) {
+                Ok(count) => count,
+                Err(fault) => return Err(fault),
             };
             if count == 0 {
                 return self.finish(writer);

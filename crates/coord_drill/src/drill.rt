@@ -1,13 +1,13 @@
 //! A drill: a ledger over a disk in memory, and a ticket for each step that is not settled.
 
 ghost use Rattle.std.specs.Prelude.{◌≡◌, ◌++◌, ◌+◌, ◌≤◌, [], false, IfOk, OnOk, string_bytes, IfErr};
-ghost use Rattle.coord_store.specs.Kept.{has_stopped};
+ghost use Rattle.coord_store.specs.Kept.{has_stopped, made};
 ghost use Rattle.coord_world.specs.protocol.NumberedWorld.{no_world};
 ghost use Rattle.coord_drill.specs.Answered.{Does};
 ghost use Rattle.coord_drill.specs.Asked.{asked};
 ghost use Rattle.coord_drill.specs.Drill.{drill_over};
 ghost use Rattle.coord_drill.specs.Drilled.{IsOfWork};
-ghost use Rattle.coord_drill.specs.Holding.{IsReady, Tells, front_of, state_of};
+ghost use Rattle.coord_drill.specs.Holding.{HasDisk, IsReady, Tells, front_of, state_of};
 ghost use Rattle.coord_drill.specs.declared.asked.Asked.TheVariants as ask;
 
 mod crashing;
@@ -18,7 +18,7 @@ mod telling;
 use crate::asked::{Asked, wanted_by};
 use crate::fault::Fault;
 use crate::request::Request;
-use coord_disk::{Choice, MemDisk};
+use coord_disk::MemDisk;
 use coord_ledger::{Ledger, Ticket};
 use coord_store::Store;
 use std::alloc::Global;
@@ -38,14 +38,14 @@ pub struct Drill {
 }
 
 impl Drill {
-    /// A drill in the world before any step, over a disk that keeps in a crash what a read gives.
+    /// A drill in the world before any step, over a disk in memory with halves of 65,536 bytes.
     pub fn new(alloc: Global) -> Result<Self, Fault>
         ensures ready { IfOk result IsReady }
+        ensures disk { IfOk result (λ drill. HasDisk drill (made 65_536 1)) }
         ensures state { IfOk result (λ drill. state_of drill ≡ drill_over (no_world 1)) }
         ensures fault { IfErr result IsOfWork }
     {
-        let mut disk = MemDisk::new(alloc);
-        disk.choose(Choice::Kept);
+        let disk = MemDisk::new(alloc);
         let store = match Store::create(alloc, disk, HALF_SIZE, 1) {
             Ok(store) => store,
             Err((fault, _disk)) => return Err(fault.into()),

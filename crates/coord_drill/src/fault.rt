@@ -19,10 +19,10 @@ pub enum Fault {
 }
 
 impl From<StoreFault> for Fault {
-    ghost use Rattle.std.specs.Prelude.{◌≡◌, ◌⊎◌};
-    ghost use Rattle.coord_drill.specs.declared.fault.Fault.TheVariants.{Device, OutOfMemory};
+    ghost use Rattle.std.specs.Prelude.{◌≡◌};
+    ghost use Rattle.coord_drill.specs.Faults.{store_fault};
 
-    ghost from_gives = { λ _ fault. (fault ≡ OutOfMemory) ⊎ (fault ≡ Device) };
+    ghost from_gives = { λ told fault. fault ≡ store_fault told };
 
     // The bytes of a drill's disk are a store's, so no other fault is met.
     fn from(fault: StoreFault) -> Fault {

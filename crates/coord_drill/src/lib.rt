@@ -15,6 +15,7 @@
 //! [`print_view`] adds the lines of `show`, for other callers too.
 #![tactic(auto)]
 
+mod answers;
 mod asked;
 mod console;
 mod drill;

@@ -5,6 +5,7 @@ ghost use Rattle.std.specs.Io.KnownBytes.{Appends};
 ghost use Rattle.std.specs.IoError.{error_kind};
 ghost use Rattle.coord_drill.specs.Drilled.{IsOfWork, WritesFirstPart};
 
+use crate::answers::write_once;
 use crate::fault::Fault;
 use std::io::{Error, ErrorKind, Write};
 
@@ -22,15 +23,8 @@ pub fn write_text<W: Write>(writer: &mut W, text: &[u8]) -> Result<(), Fault>
         if rest.is_empty() {
             return Ok(());
         }
-        match writer.write(rest) {
-            Ok(0) => return Err(Fault::Write),
-            Ok(count) => rest = &rest[count..],
-            Err(error) => {
-                if error.kind() != ErrorKind::Interrupted {
-                    return Err(fault_of(&error));
-                }
-            }
-        }
+        let count = write_once(writer, rest)?;
+        rest = &rest[count..];
     }
     Err(Fault::Write)
 }

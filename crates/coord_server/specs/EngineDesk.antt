@@ -10,6 +10,7 @@ use Rattle.coord_ledger.specs.declared.ticket.Note.{Note}
 use Rattle.coord_ledger.specs.ledger.State.{Claim}
 use Rattle.coord_ledger.specs.machine.Shown as shown
 use Rattle.coord_engine.specs.Calls.{CollectsAs}
+use Rattle.coord_engine.specs.State.{Basis}
 use Rattle.coord_engine.specs.Threads.{AtSomeMoment, RefusesShow, SendsAgain, Shows, Submits}
 use Rattle.coord_engine.specs.declared.collected.Collected.TheVariants.{Settled, Refused}
 use Rattle.coord_admin.specs.Replies.{order_answer, resend_answer, show_answer}
@@ -24,34 +25,34 @@ pub record DeskState : Type 0 where
   pub seen : ℕ
 
 -- a step was submitted, and its ticket is this claim
-abbrev pub IsAccepted : Type 0 → Step → Claim → List Note → List Note → Type 0
-IsAccepted D s claim before after = AtSomeMoment {D = D} (Submits {D = D} s (Ok claim) before after)
+abbrev pub IsAccepted : {D : Type 0} → Basis D → Step → Claim → List Note → List Note → Type 0
+IsAccepted {D} b s claim before after = AtSomeMoment b (Submits {D = D} s (Ok claim) before after)
 
 -- A reply is given once its step is settled. A refusal is one of the submitting, or it comes while the reply is waited for: then the step was accepted, and a repeat of its number tells.
-abbrev pub Orders : Type 0 → Step → Result Reply Refusal → List Note → List Note → Type 0
-Orders D s (Ok reply) before after = (claim : Claim) × IsAccepted D s claim before after × AtSomeMoment {D = D} (λ g. CollectsAs {D = D} g.ledger claim (Settled reply))
-Orders D s (Err refusal) before after =
-    AtSomeMoment {D = D} (Submits {D = D} s (Err refusal) before after)
-    ⊎ ((claim : Claim) × IsAccepted D s claim before after × AtSomeMoment {D = D} (λ g. CollectsAs {D = D} g.ledger claim (Refused refusal claim)))
+abbrev pub Orders : {D : Type 0} → Basis D → Step → Result Reply Refusal → List Note → List Note → Type 0
+Orders {D} b s (Ok reply) before after = (claim : Claim) × IsAccepted b s claim before after × AtSomeMoment b (λ g. CollectsAs {D = D} g.ledger claim (Settled reply))
+Orders {D} b s (Err refusal) before after =
+    AtSomeMoment b (Submits {D = D} s (Err refusal) before after)
+    ⊎ ((claim : Claim) × IsAccepted b s claim before after × AtSomeMoment b (λ g. CollectsAs {D = D} g.ledger claim (Refused refusal claim)))
 
 abbrev pub seen_after : Result Reply Refusal → ℕ → ℕ
 seen_after (Ok reply) seen = max seen reply.step
 seen_after (Err refusal) seen = seen
 
 -- the settled world is shown, of which the desk has seen no more
-abbrev pub ShowsTo : Type 0 → Result shown.Shown Refusal → ℕ → ℕ → Type 0
-ShowsTo D (Ok view) before after = AtSomeMoment {D = D} (Shows {D = D} view before after)
-ShowsTo D (Err refusal) before after = AtSomeMoment {D = D} (RefusesShow {D = D} refusal before) × (after ≡ before)
+abbrev pub ShowsTo : {D : Type 0} → Basis D → Result shown.Shown Refusal → ℕ → ℕ → Type 0
+ShowsTo {D} b (Ok view) before after = AtSomeMoment b (Shows {D = D} view before after)
+ShowsTo {D} b (Err refusal) before after = AtSomeMoment b (RefusesShow {D = D} refusal before) × (after ≡ before)
 
 -- how many packets were sent again
-abbrev pub Resends : Type 0 → Result ℕ Refusal → Type 0
-Resends D (Ok count) = (released : List Release) × AtSomeMoment {D = D} (SendsAgain {D = D} released) × (count ≡ length released)
-Resends D (Err refusal) = refusal ≡ OutOfMemory
+abbrev pub Resends : {D : Type 0} → Basis D → Result ℕ Refusal → Type 0
+Resends {D} b (Ok count) = (released : List Release) × AtSomeMoment b (SendsAgain {D = D} released) × (count ≡ length released)
+Resends {D} b (Err refusal) = refusal ≡ OutOfMemory
 
-abbrev pub DeskAnswers : Type 0 → DeskState → Request → Answer → DeskState → Type 0
-DeskAnswers D d (request.Order client number command) answer e =
-    (result : Result Reply Refusal) × (answer ≡ order_answer result) × Orders D (step.Order client number command) result d.notes e.notes × (e.seen ≡ seen_after result d.seen)
-DeskAnswers D d request.Show answer e =
-    (result : Result shown.Shown Refusal) × (answer ≡ show_answer result) × ShowsTo D result d.seen e.seen × (e.notes ≡ d.notes)
-DeskAnswers D d request.Resend answer e = (result : Result ℕ Refusal) × (answer ≡ resend_answer result) × Resends D result × (e ≡ d)
-DeskAnswers D d request.Close answer e = (answer ≡ Closed) × (e ≡ d)
+abbrev pub DeskAnswers : {D : Type 0} → Basis D → DeskState → Request → Answer → DeskState → Type 0
+DeskAnswers {D} b d (request.Order client number command) answer e =
+    (result : Result Reply Refusal) × (answer ≡ order_answer result) × Orders b (step.Order client number command) result d.notes e.notes × (e.seen ≡ seen_after result d.seen)
+DeskAnswers {D} b d request.Show answer e =
+    (result : Result shown.Shown Refusal) × (answer ≡ show_answer result) × ShowsTo b result d.seen e.seen × (e.notes ≡ d.notes)
+DeskAnswers {D} b d request.Resend answer e = (result : Result ℕ Refusal) × (answer ≡ resend_answer result) × Resends b result × (e ≡ d)
+DeskAnswers {D} b d request.Close answer e = (answer ≡ Closed) × (e ≡ d)

@@ -2,21 +2,21 @@
 
 ghost use Rattle.std.specs.Prelude.{◌≡◌, IfErr, IfOk, length};
 ghost use Rattle.coord_types.specs.declared.refusals.Refusal.TheVariants.{OutOfMemory};
+ghost use Rattle.coord_engine.specs.State.{based_on};
 ghost use Rattle.coord_server.specs.EngineDesk.{DeskAnswers, Orders, Resends};
 
 use coord_admin::Desk;
 use coord_disk::Disk;
-use coord_engine::{Engine, Port, Share, hand_over};
+use coord_engine::{Engine, Origin, Port, Share, hand_over};
 use coord_ledger::{Seen, View};
 use coord_types::{Client, Command, Refusal, Reply, Step};
 use std::marker::Model;
 use std::sync::Wait;
-use std::sync::ledger::Ledger as Count;
 
 /// Asks an engine, and hands what is to be sent again to a port. Contracts see the notes of its
 /// share, and how much it has seen.
 #[derive(Drop)]
-pub struct EngineDesk<'a, D: Disk, L: Count, P: Port, R: Wait> {
+pub struct EngineDesk<'a, D: Disk, L: Origin, P: Port, R: Wait> {
     rt: &'a R,
     engine: &'a Engine<D, L>,
     port: &'a P,
@@ -24,7 +24,7 @@ pub struct EngineDesk<'a, D: Disk, L: Count, P: Port, R: Wait> {
     seen: Seen,
 }
 
-impl<'a, D: Disk, L: Count, P: Port, R: Wait> Model for EngineDesk<'a, D, L, P, R> {
+impl<'a, D: Disk, L: Origin, P: Port, R: Wait> Model for EngineDesk<'a, D, L, P, R> {
     ghost use Rattle.coord_server.specs.EngineDesk.{DeskState};
 
     ghost Value = { DeskState };
@@ -32,7 +32,7 @@ impl<'a, D: Disk, L: Count, P: Port, R: Wait> Model for EngineDesk<'a, D, L, P, 
     ghost view = { λ d. record { notes = d.share; seen = d.seen } };
 }
 
-impl<'a, D: Disk, L: Count, P: Port, R: Wait> EngineDesk<'a, D, L, P, R> {
+impl<'a, D: Disk, L: Origin, P: Port, R: Wait> EngineDesk<'a, D, L, P, R> {
     /// A desk that has seen nothing yet.
     pub fn new(rt: &'a R, engine: &'a Engine<D, L>, port: &'a P, share: Share<L>) -> Self
         ensures { result ≡ record { notes = share; seen = 0 } }
@@ -62,13 +62,13 @@ impl<'a, D: Disk, L: Count, P: Port, R: Wait> EngineDesk<'a, D, L, P, R> {
 }
 
 /// Submits a step, and waits for its reply.
-fn order<D: Disk, L: Count, R: Wait>(
+fn order<D: Disk, L: Origin, R: Wait>(
     rt: &R,
     engine: &Engine<D, L>,
     step: Step,
     share: &mut Share<L>,
 ) -> Result<Reply, Refusal>
-    ensures { Orders D step result share.old share.new }
+    ensures { Orders (based_on D.keeps_model D.present L.base L.before) step result share.old share.new }
 {
     let ticket = engine.submit(rt, step, share)?;
     match engine.collect(rt, ticket) {
@@ -81,12 +81,12 @@ fn order<D: Disk, L: Count, R: Wait>(
 }
 
 /// Hands to a port again what may have been lost, and answers how many packets that are.
-fn resend<D: Disk, L: Count, P: Port, R: Wait>(
+fn resend<D: Disk, L: Origin, P: Port, R: Wait>(
     rt: &R,
     engine: &Engine<D, L>,
     port: &P,
 ) -> Result<u64, Refusal>
-    ensures { Resends D result }
+    ensures { Resends (based_on D.keeps_model D.present L.base L.before) result }
 {
     match engine.resend(rt) {
         Ok(releases) => Ok(hand_over(rt, engine, port, releases)),
@@ -94,10 +94,11 @@ fn resend<D: Disk, L: Count, P: Port, R: Wait>(
     }
 }
 
-impl<'a, D: Disk, L: Count, P: Port, R: Wait> Desk for EngineDesk<'a, D, L, P, R> {
+impl<'a, D: Disk, L: Origin, P: Port, R: Wait> Desk for EngineDesk<'a, D, L, P, R> {
+    ghost use Rattle.coord_engine.specs.State.{based_on};
     ghost use Rattle.coord_server.specs.EngineDesk.{DeskAnswers};
 
-    ghost answers = { DeskAnswers D };
+    ghost answers = { DeskAnswers (based_on D.keeps_model D.present L.base L.before) };
 
     fn order(&mut self, client: Client, number: u64, command: Command) -> Result<Reply, Refusal> {
         let step = Step::Order(client, number, command);

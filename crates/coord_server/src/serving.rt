@@ -1,14 +1,15 @@
 //! An engine with its threads, which serves connections.
 
-ghost use Rattle.std.specs.Prelude.{◌≡◌, false, true, IfErr, IfOk, IsErrOf, IsOk, MatchResult, None, OnOk};
+ghost use Rattle.std.specs.Prelude.{◌≡◌, [], false, true, IfErr, IfOk, IsErrOf, IsOk, MatchResult, None, OnOk};
 ghost use Rattle.coord_server.specs.declared.fault.ServerFault.TheVariants as ServerFault;
+ghost use Rattle.coord_engine.specs.State.{based_on};
 ghost use Rattle.coord_store.specs.Kept.{has_stopped};
 ghost use Rattle.coord_server.specs.Ending.{IsOneHistory, LeavesOf};
 
-use crate::crew::run;
+use crate::crew::{Ran, Received, run};
 use crate::{LocalPort, Printer, ServerFault, WORKERS};
 use coord_disk::Disk;
-use coord_engine::{CloseFault, Closed, Engine, Share};
+use coord_engine::{CloseFault, Closed, Engine, Origin, Share};
 use coord_ledger::Ledger;
 use coord_store::Store;
 use coord_types::Packet;
@@ -18,18 +19,20 @@ use std::io::{Read, Write};
 use std::marker::Brand;
 use std::net::{OpenListener, OpenStream};
 use std::sync::Wait;
-use std::sync::ledger::{Blank, Ledger as Count};
+use std::sync::ledger::Blank;
 use std::thread::Threads;
 use std::time::Clock;
 
 /// Serves a store to the connections of a listener, one after the other, until a line closes it,
 /// and gives back what is left of the engine.
 ///
-/// The flusher and the workers run meanwhile. First `listening` and the listener's address is
-/// printed, and what a crash may have lost is sent again; each signal that is released is printed
-/// as a line. Where a line can't be printed, no more are, and the server goes on: a signal that was
-/// not printed is told by the epochs that are shown. Then, or after a fault, everything is ended in
-/// order: what was accepted is settled, the flusher ends, and then the workers.
+/// First `listening` and the listener's address is printed. Then a flusher, the workers and a
+/// thread that prints run meanwhile, and what a crash may have lost is sent again. Each signal that
+/// is released is printed as a line, in order, from a channel without bound: an output that is slow
+/// holds up nothing else. Where a line can't be printed, no more are, and the server goes on: a
+/// signal that was not printed is told by the epochs that are shown. Then, or after a fault,
+/// everything is ended in order: what was accepted is settled, the flusher ends, then the workers,
+/// and then what is left is printed, however long the output takes it.
 pub fn serve_store<
     D: Disk + Send,
     S: Read + Write + OpenStream + Drop,
@@ -38,7 +41,7 @@ pub fn serve_store<
     R: Threads + Wait + Clock + Sync,
 >(rt: &R, alloc: Global, store: Store<D>, listener: &A, output: W) -> Result<Closed<D>, ServerFault>
     requires { has_stopped store ≡ false }
-    ensures { IfOk result (λ closed. LeavesOf {D = D} closed.store closed.base closed.trail.items closed.settled) }
+    ensures { IfOk result (λ closed. LeavesOf (based_on D.keeps_model D.present store.world []) closed.store closed.base closed.trail.items closed.settled) }
 {
     match Ledger::adopt(alloc, store) {
         Ok(ledger) => {
@@ -52,7 +55,7 @@ pub fn serve_store<
 
 fn serve_ledger<
     D: Disk + Send,
-    L: Count + Send + Sync,
+    L: Origin + Send + Sync,
     S: Read + Write + OpenStream + Drop,
     A: OpenListener<Stream = S>,
     W: Write + Send + Drop,
@@ -68,25 +71,34 @@ fn serve_ledger<
     requires name { blank.name ≡ L.name }
     requires parts { (blank.parts ≡ L.parts) × (L.parts ≡ 65536) }
     requires home { ledger.out ≡ None }
-    ensures { IfOk result (λ closed. LeavesOf {D = D} closed.store closed.base closed.trail.items closed.settled) }
+    requires base { ledger.log.base ≡ L.base }
+    requires before { ledger.log.trail ≡ L.before }
+    ensures { IfOk result (λ closed. LeavesOf (based_on D.keeps_model D.present L.base L.before) closed.store closed.base closed.trail.items closed.settled) }
 {
-    let (to, from) = channels(alloc)?;
+    let (to, packets) = channels(alloc)?;
+    let (told, signals) = crossbeam_channel::unbounded(alloc)?;
     // Room for all shares: none of them may be lost for want of memory.
     let shares = Vec::with_capacity(alloc, usize::from(WORKERS) + 1)?;
-    let port = LocalPort::new(rt, to, printer);
+    let port = LocalPort::new(rt, to, told);
     let engine: Engine<D, L> = Engine::new(alloc, blank, ledger);
-    let (shares, served) = run(rt, alloc, &engine, &port, from, shares, listener);
-    let is_broken = port.is_broken();
-    end(close(engine, shares), served, is_broken)
+    let received = Received { packets, signals };
+    let Ran {
+        shares,
+        served,
+        is_broken,
+    } = run(
+        rt, alloc, &engine, &port, received, shares, listener, printer,
+    );
+    end::<D, L>(close(engine, shares), served, is_broken)
 }
 
 /// Takes an engine apart.
-fn close<D: Disk, L: Count>(
+fn close<D: Disk, L: Origin>(
     engine: Engine<D, L>,
     shares: Vec<Share<L>>,
 ) -> Result<Closed<D>, CloseFault>
     requires { L.parts ≡ 65536 }
-    ensures { IfOk result (λ closed. IsOneHistory {D = D} closed.store closed.base closed.trail.items closed.settled) }
+    ensures { IfOk result (λ closed. IsOneHistory (based_on D.keeps_model D.present L.base L.before) closed.store closed.base closed.trail.items closed.settled) }
 {
     match engine.close(shares) {
         Ok(closed) => Ok(closed),
@@ -96,13 +108,13 @@ fn close<D: Disk, L: Count>(
 
 /// What is left at the end, or the fault that is told of all that were met: a stopped store, then
 /// what ended the serving, then an engine that could not be taken apart, then the output.
-fn end<D: Disk>(
+fn end<D: Disk, L: Origin>(
     closed: Result<Closed<D>, CloseFault>,
     served: Result<(), ServerFault>,
     is_broken: bool,
 ) -> Result<Closed<D>, ServerFault>
-    requires { IfOk closed (λ closed. IsOneHistory {D = D} closed.store closed.base closed.trail.items closed.settled) }
-    ensures left { IfOk result (λ closed. LeavesOf {D = D} closed.store closed.base closed.trail.items closed.settled) }
+    requires { IfOk closed (λ closed. IsOneHistory (based_on D.keeps_model D.present L.base L.before) closed.store closed.base closed.trail.items closed.settled) }
+    ensures left { IfOk result (λ closed. LeavesOf (based_on D.keeps_model D.present L.base L.before) closed.store closed.base closed.trail.items closed.settled) }
     ensures not_closed { IfErr closed (λ fault. MatchResult served (λ _. IsErrOf result (ServerFault.NotClosed fault)) (λ met. IsErrOf result met)) }
     ensures device { IfOk closed (λ closed. has_stopped closed.store ≡ true → IsErrOf result ServerFault.Device) }
     ensures served { IfOk closed (λ closed. has_stopped closed.store ≡ false → IfErr served (λ met. IsErrOf result met)) }

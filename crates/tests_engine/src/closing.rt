@@ -4,19 +4,19 @@ ghost use Rattle.std.specs.Prelude.{◌≡◌};
 
 use crate::scripts::{closed, created, engine};
 use coord_disk::{Disk, MemDisk};
-use coord_engine::{Engine, Share};
+use coord_engine::{Engine, Origin, Share};
 use coord_ledger::Ledger;
 use std::alloc::{AllocError, Global};
 use std::marker::Brand;
 use std::sync::Wait;
-use std::sync::ledger::{Blank, Ledger as Count};
+use std::sync::ledger::Blank;
 use std::test::Fail;
 
 /// How many shares an engine gives out.
 const MOST: usize = 65_535;
 
 // All the shares.
-fn all_shares<D: Disk, L: Count, R: Wait>(
+fn all_shares<D: Disk, L: Origin, R: Wait>(
     rt: &R,
     alloc: Global,
     engine: &Engine<D, L>,
@@ -31,7 +31,7 @@ fn all_shares<D: Disk, L: Count, R: Wait>(
 }
 
 // Whether all shares are given and no more, and the engine closes with them and not without one.
-fn gives_all<D: Disk, L: Count, R: Wait>(
+fn gives_all<D: Disk, L: Origin, R: Wait>(
     rt: &R,
     alloc: Global,
     blank: Blank,
@@ -39,6 +39,8 @@ fn gives_all<D: Disk, L: Count, R: Wait>(
 ) -> Result<bool, AllocError>
     requires name { blank.name ≡ L.name }
     requires parts { (blank.parts ≡ L.parts) × (L.parts ≡ 65536) }
+    requires base { ledger.log.base ≡ L.base }
+    requires before { ledger.log.trail ≡ L.before }
 {
     let Some(engine) = engine::<D, L>(alloc, blank, ledger) else {
         return Ok(false);

@@ -4,18 +4,18 @@ ghost use Rattle.std.specs.Prelude.{◌≡◌};
 
 use crate::scripts::{HALF, adding, adopted, created, engine};
 use coord_disk::{BlipDisk, Disk, MemDisk};
-use coord_engine::{Engine, Share};
+use coord_engine::{Engine, Origin, Share};
 use coord_ledger::{Ledger, Ticket};
 use coord_store::{CommitFault, Store};
 use coord_types::{Refusal, Step};
 use std::alloc::Global;
 use std::marker::Brand;
 use std::sync::Wait;
-use std::sync::ledger::{Blank, Ledger as Count};
+use std::sync::ledger::Blank;
 use std::test::Fail;
 
 // Whether a flight fails with its device.
-fn fails<D: Disk, L: Count, R: Wait>(rt: &R, engine: &Engine<D, L>) -> Result<bool, Fail> {
+fn fails<D: Disk, L: Origin, R: Wait>(rt: &R, engine: &Engine<D, L>) -> Result<bool, Fail> {
     match engine.flush_once(rt) {
         Ok(None) => Ok(false),
         Ok(Some(releases)) => {
@@ -28,7 +28,7 @@ fn fails<D: Disk, L: Count, R: Wait>(rt: &R, engine: &Engine<D, L>) -> Result<bo
 }
 
 // Whether there will be no reply to a ticket, and it comes back.
-fn gets_none<D: Disk, L: Count, R: Wait>(rt: &R, engine: &Engine<D, L>, ticket: Ticket) -> bool {
+fn gets_none<D: Disk, L: Origin, R: Wait>(rt: &R, engine: &Engine<D, L>, ticket: Ticket) -> bool {
     let step = ticket.step();
     match engine.collect(rt, ticket) {
         Ok(_) => false,
@@ -41,7 +41,7 @@ fn gets_none<D: Disk, L: Count, R: Wait>(rt: &R, engine: &Engine<D, L>, ticket: 
 }
 
 // Whether no more steps are accepted.
-fn is_stopped<D: Disk, L: Count, R: Wait>(
+fn is_stopped<D: Disk, L: Origin, R: Wait>(
     rt: &R,
     engine: &Engine<D, L>,
     share: &mut Share<L>,
@@ -59,7 +59,7 @@ fn is_stopped<D: Disk, L: Count, R: Wait>(
 
 // Whether the first of two steps gets no reply once its flight has failed, and the second is not
 // accepted.
-fn is_not_answered<D: Disk, L: Count, R: Wait>(
+fn is_not_answered<D: Disk, L: Origin, R: Wait>(
     rt: &R,
     engine: &Engine<D, L>,
     share: &mut Share<L>,
@@ -77,7 +77,7 @@ fn is_not_answered<D: Disk, L: Count, R: Wait>(
     Ok(is_stopped(rt, engine, share, steps[1])? && refused)
 }
 
-fn refuse_unsettled<D: Disk, L: Count, R: Wait>(
+fn refuse_unsettled<D: Disk, L: Origin, R: Wait>(
     rt: &R,
     alloc: Global,
     blank: Blank,
@@ -86,6 +86,8 @@ fn refuse_unsettled<D: Disk, L: Count, R: Wait>(
 ) -> Result<bool, Fail>
     requires name { blank.name ≡ L.name }
     requires parts { (blank.parts ≡ L.parts) × (L.parts ≡ 65536) }
+    requires base { ledger.log.base ≡ L.base }
+    requires before { ledger.log.trail ≡ L.before }
 {
     let Some(engine) = engine::<D, L>(alloc, blank, ledger) else {
         return Ok(false);

@@ -5,17 +5,17 @@ ghost use Rattle.std.specs.Prelude.{◌≡◌};
 
 use crate::scripts::{adding, created, engine};
 use coord_disk::{Disk, MemDisk};
-use coord_engine::{Engine, Share};
+use coord_engine::{Engine, Origin, Share};
 use coord_ledger::{Ledger, Seen};
 use coord_store::CommitFault;
 use coord_types::{Refusal, Step};
 use std::alloc::{AllocError, Global};
 use std::marker::Brand;
 use std::sync::Wait;
-use std::sync::ledger::{Blank, Ledger as Count};
+use std::sync::ledger::Blank;
 use std::test::Fail;
 
-fn submit<D: Disk, L: Count, R: Wait>(
+fn submit<D: Disk, L: Origin, R: Wait>(
     rt: &R,
     engine: &Engine<D, L>,
     share: Option<Share<L>>,
@@ -35,7 +35,7 @@ fn submit<D: Disk, L: Count, R: Wait>(
 }
 
 // How much a flight releases; None where none went out.
-fn flushed<D: Disk, L: Count, R: Wait>(
+fn flushed<D: Disk, L: Origin, R: Wait>(
     rt: &R,
     engine: &Engine<D, L>,
 ) -> Result<Option<u64>, CommitFault> {
@@ -46,7 +46,7 @@ fn flushed<D: Disk, L: Count, R: Wait>(
 }
 
 // How many steps are shown as settled.
-fn shown<D: Disk, L: Count, R: Wait>(rt: &R, engine: &Engine<D, L>) -> Result<u64, Refusal> {
+fn shown<D: Disk, L: Origin, R: Wait>(rt: &R, engine: &Engine<D, L>) -> Result<u64, Refusal> {
     match engine.show(rt, &mut Seen::new()) {
         Ok(view) => Ok(view.settled),
         Err(refusal) => Err(refusal),
@@ -54,7 +54,7 @@ fn shown<D: Disk, L: Count, R: Wait>(rt: &R, engine: &Engine<D, L>) -> Result<u6
 }
 
 // How much is sent again.
-fn sent_again<D: Disk, L: Count, R: Wait>(
+fn sent_again<D: Disk, L: Origin, R: Wait>(
     rt: &R,
     engine: &Engine<D, L>,
 ) -> Result<u64, AllocError> {
@@ -65,7 +65,7 @@ fn sent_again<D: Disk, L: Count, R: Wait>(
 }
 
 // Whether one step is settled by one flight, and is shown then.
-fn settles<D: Disk, L: Count, R: Wait>(
+fn settles<D: Disk, L: Origin, R: Wait>(
     rt: &R,
     engine: &Engine<D, L>,
     step: Step,
@@ -78,7 +78,7 @@ fn settles<D: Disk, L: Count, R: Wait>(
     Ok(accepted && first == Some(0) && second.is_none() && settled == 1 && again == 0)
 }
 
-fn settle_one<D: Disk, L: Count, R: Wait>(
+fn settle_one<D: Disk, L: Origin, R: Wait>(
     rt: &R,
     alloc: Global,
     blank: Blank,
@@ -87,6 +87,8 @@ fn settle_one<D: Disk, L: Count, R: Wait>(
 ) -> Result<bool, Fail>
     requires name { blank.name ≡ L.name }
     requires parts { (blank.parts ≡ L.parts) × (L.parts ≡ 65536) }
+    requires base { ledger.log.base ≡ L.base }
+    requires before { ledger.log.trail ≡ L.before }
 {
     match engine::<D, L>(alloc, blank, ledger) {
         Some(engine) => settles(rt, &engine, step),

@@ -3,12 +3,12 @@
 ghost use Rattle.std.specs.Prelude.{◌≡◌};
 
 use coord_disk::Disk;
-use coord_engine::{CloseFault, Closed, Engine, Share};
+use coord_engine::{CloseFault, Closed, Engine, Origin, Share};
 use coord_ledger::Ledger;
 use coord_store::Store;
 use coord_types::{Client, Command, Group, NodeId, Refusal, Step};
 use std::alloc::Global;
-use std::sync::ledger::{Blank, Ledger as Count};
+use std::sync::ledger::Blank;
 use std::test::Fail;
 
 /// The least size of a half.
@@ -46,13 +46,15 @@ pub(crate) fn created<D: Disk>(alloc: Global, disk: D, steps: &[Step]) -> Result
 }
 
 /// An engine over a ledger that has its store at home.
-pub(crate) fn engine<D: Disk, L: Count>(
+pub(crate) fn engine<D: Disk, L: Origin>(
     alloc: Global,
     blank: Blank,
     ledger: Ledger<D>,
 ) -> Option<Engine<D, L>>
     requires name { blank.name ≡ L.name }
     requires parts { (blank.parts ≡ L.parts) × (L.parts ≡ 65536) }
+    requires base { ledger.log.base ≡ L.base }
+    requires before { ledger.log.trail ≡ L.before }
 {
     if ledger.is_out() {
         return None;
@@ -60,7 +62,7 @@ pub(crate) fn engine<D: Disk, L: Count>(
     Some(Engine::new(alloc, blank, ledger))
 }
 
-fn closed_by<D: Disk, L: Count>(
+fn closed_by<D: Disk, L: Origin>(
     engine: Engine<D, L>,
     shares: Vec<Share<L>>,
     last: Option<Share<L>>,
@@ -75,7 +77,7 @@ fn closed_by<D: Disk, L: Count>(
 }
 
 /// What is left of an engine that closes with these shares, and not without the last one.
-pub(crate) fn closed<D: Disk, L: Count>(
+pub(crate) fn closed<D: Disk, L: Origin>(
     engine: Engine<D, L>,
     shares: Vec<Share<L>>,
 ) -> Option<Closed<D>>

@@ -1,6 +1,8 @@
 //! The disk crashes, and is opened again.
 
 ghost use Rattle.std.specs.Prelude.{◌≡◌, Some, IfOk, OnOk, string_bytes, IfErr};
+ghost use Rattle.coord_disk.specs.Disks.Memory.{present_of};
+ghost use Rattle.coord_disk.specs.Model.Present.{IsImage, whole};
 ghost use Rattle.coord_disk.specs.declared.memory.MemDisk.{MemDisk as Disk};
 ghost use Rattle.coord_drill.specs.Answered.{Does};
 ghost use Rattle.coord_drill.specs.Drilled.{IsOfWork};
@@ -10,7 +12,7 @@ ghost use Rattle.coord_drill.specs.declared.asked.Asked.TheVariants.{Crash};
 use super::{Drill, forget_all};
 use crate::fault::Fault;
 use crate::print::print_opened;
-use coord_disk::{CrashDisk, MemDisk};
+use coord_disk::{Choice, CrashDisk, MemDisk};
 use coord_ledger::Ledger;
 use coord_store::Store;
 use std::alloc::Global;
@@ -36,6 +38,17 @@ impl Drill {
     }
 }
 
+/// The disk after a crash that keeps what a read gives.
+fn crashed(disk: MemDisk) -> MemDisk
+    ensures kept { (present_of result).read ≡ (present_of disk).read }
+    ensures image { IsImage (present_of disk) (present_of result).read }
+    ensures synced { present_of result ≡ whole (present_of result).read }
+{
+    let mut disk = disk;
+    disk.choose(Choice::Kept);
+    disk.crash()
+}
+
 /// What is opened after a crash of a ledger's disk.
 fn reopened(alloc: Global, ledger: Ledger<MemDisk>) -> Result<Ledger<MemDisk>, Fault>
     requires { (disk : Disk) × (ledger.disk ≡ Some disk) }
@@ -44,7 +57,7 @@ fn reopened(alloc: Global, ledger: Ledger<MemDisk>) -> Result<Ledger<MemDisk>, F
 {
     ledger.images_give_settled();
     let disk = match ledger.close() {
-        Ok(store) => store.into_disk().crash(),
+        Ok(store) => crashed(store.into_disk()),
         Err(_) => unreachable!(),
     };
     let store = match Store::open(alloc, disk) {

@@ -4,13 +4,13 @@ ghost use Rattle.std.specs.Prelude.{◌≡◌};
 
 use crate::scripts::{adding, closed, created, engine, resetting};
 use coord_disk::{Disk, MemDisk};
-use coord_engine::{Closed, Engine, Share};
+use coord_engine::{Closed, Engine, Origin, Share};
 use coord_ledger::{Ledger, Note, Seen, Ticket};
 use coord_types::{Kind, Reply, Step};
 use std::alloc::Global;
 use std::marker::Brand;
 use std::sync::Wait;
-use std::sync::ledger::{Blank, Ledger as Count};
+use std::sync::ledger::Blank;
 use std::test::Fail;
 use std::thread;
 use std::thread::Threads;
@@ -22,7 +22,7 @@ const RESETS: u64 = 100;
 const STEPS: usize = 202;
 
 // Resets a node again and again, as the client with its number, and brings back the tickets.
-fn call<D: Disk, L: Count, R: Wait>(
+fn call<D: Disk, L: Origin, R: Wait>(
     rt: &R,
     alloc: Global,
     engine: &Engine<D, L>,
@@ -46,7 +46,7 @@ fn call<D: Disk, L: Count, R: Wait>(
 }
 
 // Whether what is pending is settled by a few flights.
-fn is_flushed<D: Disk, L: Count, R: Wait>(rt: &R, engine: &Engine<D, L>) -> bool {
+fn is_flushed<D: Disk, L: Origin, R: Wait>(rt: &R, engine: &Engine<D, L>) -> bool {
     for _ in 0..8 {
         match engine.flush_once(rt) {
             Ok(Some(releases)) => {
@@ -60,7 +60,7 @@ fn is_flushed<D: Disk, L: Count, R: Wait>(rt: &R, engine: &Engine<D, L>) -> bool
 }
 
 // Whether this is the reply to a reset, with the ticket's number.
-fn is_finished<D: Disk, L: Count, R: Wait>(rt: &R, engine: &Engine<D, L>, ticket: Ticket) -> bool {
+fn is_finished<D: Disk, L: Origin, R: Wait>(rt: &R, engine: &Engine<D, L>, ticket: Ticket) -> bool {
     let step = ticket.step();
     match engine.collect(rt, ticket) {
         Ok(reply) => {
@@ -79,7 +79,7 @@ fn is_finished<D: Disk, L: Count, R: Wait>(rt: &R, engine: &Engine<D, L>, ticket
 
 // Whether there is a ticket of each reset, and all are. Where not all steps are settled no ticket is
 // collected, since the call would wait.
-fn are_finished<D: Disk, L: Count, R: Wait>(
+fn are_finished<D: Disk, L: Origin, R: Wait>(
     rt: &R,
     engine: &Engine<D, L>,
     tickets: Vec<Ticket>,
@@ -100,7 +100,7 @@ fn are_finished<D: Disk, L: Count, R: Wait>(
 }
 
 // Whether a caller that has seen all steps is shown all steps, and the two nodes.
-fn is_shown<D: Disk, L: Count, R: Wait>(rt: &R, engine: &Engine<D, L>) -> bool {
+fn is_shown<D: Disk, L: Origin, R: Wait>(rt: &R, engine: &Engine<D, L>) -> bool {
     let mut seen = Seen::new();
     seen.note(STEPS as u64);
     let Ok(view) = engine.show(rt, &mut seen) else {
@@ -115,7 +115,7 @@ fn is_shown<D: Disk, L: Count, R: Wait>(rt: &R, engine: &Engine<D, L>) -> bool {
 }
 
 // Whether nothing has to be sent again.
-fn nothing_is_sent_again<D: Disk, L: Count, R: Wait>(rt: &R, engine: &Engine<D, L>) -> bool {
+fn nothing_is_sent_again<D: Disk, L: Origin, R: Wait>(rt: &R, engine: &Engine<D, L>) -> bool {
     match engine.resend(rt) {
         Ok(releases) => releases.lose_rest() == 0,
         Err(_) => false,
@@ -123,7 +123,7 @@ fn nothing_is_sent_again<D: Disk, L: Count, R: Wait>(rt: &R, engine: &Engine<D, 
 }
 
 // Both shares.
-fn pair<L: Count>(alloc: Global, one: Share<L>, two: Share<L>) -> Vec<Share<L>> {
+fn pair<L: Origin>(alloc: Global, one: Share<L>, two: Share<L>) -> Vec<Share<L>> {
     let mut shares = Vec::new(alloc);
     let _ = shares.push(one);
     let _ = shares.push(two);
@@ -131,7 +131,7 @@ fn pair<L: Count>(alloc: Global, one: Share<L>, two: Share<L>) -> Vec<Share<L>> 
 }
 
 // The shares of two callers, and whether all that they submitted is settled and collected.
-fn two_callers<D: Disk + Send, L: Count + Send + Sync, R: Threads + Wait + Sync>(
+fn two_callers<D: Disk + Send, L: Origin + Send + Sync, R: Threads + Wait + Sync>(
     rt: &R,
     alloc: Global,
     engine: &Engine<D, L>,
@@ -175,7 +175,7 @@ fn is_history<D: Disk>(closed: &Closed<D>, notes: &[Note]) -> bool {
 }
 
 // The notes of all shares.
-fn all_notes<L: Count>(alloc: Global, shares: &[Share<L>]) -> Vec<Note> {
+fn all_notes<L: Origin>(alloc: Global, shares: &[Share<L>]) -> Vec<Note> {
     let mut notes = Vec::new(alloc);
     for share in shares {
         let _ = notes.extend_from_slice(share.notes());
@@ -184,7 +184,7 @@ fn all_notes<L: Count>(alloc: Global, shares: &[Share<L>]) -> Vec<Note> {
 }
 
 // Whether the engine closes with the shares, over a history of just their notes.
-fn closes<D: Disk, L: Count>(alloc: Global, engine: Engine<D, L>, shares: Vec<Share<L>>) -> bool
+fn closes<D: Disk, L: Origin>(alloc: Global, engine: Engine<D, L>, shares: Vec<Share<L>>) -> bool
     requires { L.parts ≡ 65536 }
 {
     let notes = all_notes(alloc, &shares);
@@ -194,7 +194,7 @@ fn closes<D: Disk, L: Count>(alloc: Global, engine: Engine<D, L>, shares: Vec<Sh
     }
 }
 
-fn make_one_history<D: Disk + Send, L: Count + Send + Sync, R: Threads + Wait + Sync>(
+fn make_one_history<D: Disk + Send, L: Origin + Send + Sync, R: Threads + Wait + Sync>(
     rt: &R,
     alloc: Global,
     blank: Blank,
@@ -202,6 +202,8 @@ fn make_one_history<D: Disk + Send, L: Count + Send + Sync, R: Threads + Wait + 
 ) -> bool
     requires name { blank.name ≡ L.name }
     requires parts { (blank.parts ≡ L.parts) × (L.parts ≡ 65536) }
+    requires base { ledger.log.base ≡ L.base }
+    requires before { ledger.log.trail ≡ L.before }
 {
     let Some(engine) = engine::<D, L>(alloc, blank, ledger) else {
         return false;

@@ -4,12 +4,12 @@ ghost use Rattle.std.specs.Prelude.{◌≡◌};
 
 use crate::scripts::{adding, created, engine};
 use coord_disk::{Disk, GateDisk, MemDisk};
-use coord_engine::{Engine, Share};
+use coord_engine::{Engine, Origin, Share};
 use coord_ledger::Ledger;
 use std::alloc::{AllocError, Global};
 use std::marker::Brand;
 use std::sync::atomic::{AtomicBool, Ordering};
-use std::sync::ledger::{Blank, Ledger as Count};
+use std::sync::ledger::Blank;
 use std::sync::{Arc, Wait};
 use std::test::Fail;
 use std::thread;
@@ -19,7 +19,7 @@ use std::thread::Threads;
 const LOOKS: u64 = 100_000_000;
 
 // Whether the client's first order is accepted; it adds the node with its number.
-fn is_accepted<D: Disk, L: Count, R: Wait>(
+fn is_accepted<D: Disk, L: Origin, R: Wait>(
     rt: &R,
     engine: &Engine<D, L>,
     share: &mut Share<L>,
@@ -38,7 +38,7 @@ fn is_accepted<D: Disk, L: Count, R: Wait>(
 }
 
 // Whether a step is accepted while a sync stands at the gate, which is opened then.
-fn is_accepted_meanwhile<D: Disk, L: Count, R: Wait>(
+fn is_accepted_meanwhile<D: Disk, L: Origin, R: Wait>(
     rt: &R,
     engine: &Engine<D, L>,
     share: Share<L>,
@@ -57,7 +57,7 @@ fn is_accepted_meanwhile<D: Disk, L: Count, R: Wait>(
 }
 
 // Whether a flight settles something.
-fn flushes<D: Disk, L: Count, R: Wait>(rt: &R, engine: &Engine<D, L>) -> bool {
+fn flushes<D: Disk, L: Origin, R: Wait>(rt: &R, engine: &Engine<D, L>) -> bool {
     match engine.flush_once(rt) {
         Ok(Some(releases)) => {
             releases.lose_rest();
@@ -68,7 +68,7 @@ fn flushes<D: Disk, L: Count, R: Wait>(rt: &R, engine: &Engine<D, L>) -> bool {
 }
 
 // Whether one thread's step is settled, and another's accepted meanwhile.
-fn is_accepted_in_sync<D: Disk + Send, L: Count + Send + Sync, R: Threads + Wait + Sync>(
+fn is_accepted_in_sync<D: Disk + Send, L: Origin + Send + Sync, R: Threads + Wait + Sync>(
     rt: &R,
     engine: &Engine<D, L>,
     mine: Share<L>,
@@ -86,7 +86,7 @@ fn is_accepted_in_sync<D: Disk + Send, L: Count + Send + Sync, R: Threads + Wait
     pending && flushed && accepted
 }
 
-fn accept_in_sync<D: Disk + Send, L: Count + Send + Sync, R: Threads + Wait + Sync>(
+fn accept_in_sync<D: Disk + Send, L: Origin + Send + Sync, R: Threads + Wait + Sync>(
     rt: &R,
     alloc: Global,
     blank: Blank,
@@ -96,6 +96,8 @@ fn accept_in_sync<D: Disk + Send, L: Count + Send + Sync, R: Threads + Wait + Sy
 ) -> bool
     requires name { blank.name ≡ L.name }
     requires parts { (blank.parts ≡ L.parts) × (L.parts ≡ 65536) }
+    requires base { ledger.log.base ≡ L.base }
+    requires before { ledger.log.trail ≡ L.before }
 {
     let Some(engine) = engine::<D, L>(alloc, blank, ledger) else {
         return false;

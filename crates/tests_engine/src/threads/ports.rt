@@ -3,7 +3,7 @@
 use coord_engine::Port;
 use coord_types::{NodeId, Packet};
 use crossbeam_channel::Sender;
-use std::sync::atomic::{AtomicU64, Ordering};
+use std::alloc::Global;
 use std::sync::{Mutex, Wait};
 
 /// What becomes of a packet on its way.
@@ -89,16 +89,33 @@ impl Carrier {
     }
 }
 
+/// A signal that has come.
+#[derive(Clone, Copy, Drop)]
+struct Signal {
+    node: NodeId,
+    epoch: u64,
+}
+
+// Whether the node with this number has signalled with this epoch.
+fn has_signalled(signals: &[Signal], id: u8, epoch: u64) -> bool {
+    for signal in signals {
+        if signal.node.number() == id && signal.epoch == epoch {
+            return true;
+        }
+    }
+    false
+}
+
 /// A port over a channel for each of the nodes 1, 2 and so on.
 #[derive(Drop)]
 pub(crate) struct Ring<R: Wait> {
     rt: R,
     carrier: Mutex<Carrier>,
-    signals: AtomicU64,
+    signals: Mutex<Vec<Signal>>,
 }
 
 impl<R: Wait> Ring<R> {
-    pub(crate) fn new(rt: R, channels: Vec<Sender<Packet>>, manner: Manner) -> Self {
+    pub(crate) fn new(rt: R, alloc: Global, channels: Vec<Sender<Packet>>, manner: Manner) -> Self {
         Ring {
             rt,
             carrier: Mutex::new(Carrier {
@@ -107,13 +124,24 @@ impl<R: Wait> Ring<R> {
                 count: 0,
                 held: None,
             }),
-            signals: AtomicU64::new(0),
+            signals: Mutex::new(Vec::new(alloc)),
         }
     }
 
     /// How many signals have come.
-    pub(crate) fn signals(&self) -> u64 {
-        self.signals.load(Ordering::SeqCst)
+    pub(crate) fn signals(&self) -> usize {
+        self.signals.lock(&self.rt).len()
+    }
+
+    /// Whether the nodes up to this one have signalled, each once and with this epoch, and no other.
+    pub(crate) fn has_each_once(&self, last: u8, epoch: u64) -> bool {
+        let signals = self.signals.lock(&self.rt);
+        for id in 1..=last {
+            if !has_signalled(signals.as_slice(), id, epoch) {
+                return false;
+            }
+        }
+        signals.len() == usize::from(last)
     }
 
     /// Closes the channels.
@@ -128,8 +156,8 @@ impl<R: Wait> Port for Ring<R> {
         self.carrier.lock(&self.rt).carry(&self.rt, to, packet)
     }
 
-    fn signal(&self, _node: NodeId, _epoch: u64) -> bool {
-        self.signals.fetch_add(1, Ordering::SeqCst);
-        true
+    fn signal(&self, node: NodeId, epoch: u64) -> bool {
+        let mut signals = self.signals.lock(&self.rt);
+        signals.push(Signal { node, epoch }).is_ok()
     }
 }

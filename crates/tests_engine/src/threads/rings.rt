@@ -1,4 +1,4 @@
-//! Rings of eight nodes, each with a worker of its own: one reset makes all of them signal.
+//! Rings of eight nodes, each with a worker of its own: one reset makes each of them signal once.
 
 ghost use Rattle.std.specs.Prelude.{◌≡◌};
 ghost use Rattle.std.specs.Thread.{IsSend, IsSync};
@@ -7,14 +7,14 @@ use super::ports::{Manner, Ring};
 use crate::scripts::{closed, created, engine, resetting, ring_steps};
 use coord_check::check;
 use coord_disk::{Disk, MemDisk};
-use coord_engine::{Engine, Port, Share, flusher, hand_over, worker};
+use coord_engine::{Engine, Origin, Port, Share, flusher, hand_over, worker};
 use coord_ledger::Ledger;
 use coord_types::{Packet, Step};
 use crossbeam_channel::{Receiver, Sender};
 use std::alloc::Global;
 use std::marker::Brand;
 use std::sync::Wait;
-use std::sync::ledger::{Blank, Ledger as Count};
+use std::sync::ledger::Blank;
 use std::test::Fail;
 use std::thread;
 use std::thread::{JoinHandle, Scope, Threads};
@@ -39,21 +39,21 @@ fn channels(alloc: Global) -> Option<(Vec<Sender<Packet>>, Vec<Receiver<Packet>>
 }
 
 // Sends again what may have been lost.
-fn resend<D: Disk, L: Count, R: Wait>(rt: &R, engine: &Engine<D, L>, ring: &Ring<&R>) {
+fn resend<D: Disk, L: Origin, R: Wait>(rt: &R, engine: &Engine<D, L>, ring: &Ring<&R>) {
     if let Ok(releases) = engine.resend(rt) {
         hand_over(rt, engine, ring, releases);
     }
 }
 
 // Waits until all nodes have signalled. Where packets get lost they are sent again meanwhile.
-fn all_signal<D: Disk, L: Count, R: Wait + Clock>(
+fn all_signal<D: Disk, L: Origin, R: Wait + Clock>(
     rt: &R,
     engine: &Engine<D, L>,
     ring: &Ring<&R>,
     manner: Manner,
 ) -> bool {
     for _ in 0..LOOKS {
-        if ring.signals() >= NODES as u64 {
+        if ring.signals() >= usize::from(NODES) {
             return true;
         }
         if manner == Manner::Lossy {
@@ -65,7 +65,7 @@ fn all_signal<D: Disk, L: Count, R: Wait + Clock>(
 }
 
 // The share of a caller whose step was accepted.
-fn submitted<D: Disk, L: Count, R: Wait>(
+fn submitted<D: Disk, L: Origin, R: Wait>(
     rt: &R,
     engine: &Engine<D, L>,
     step: Step,
@@ -82,7 +82,7 @@ fn submitted<D: Disk, L: Count, R: Wait>(
 
 // Resets a node, with a flusher and a worker on each channel, until all nodes have signalled. All
 // shares, and whether they have. Where something was missing, so is a share.
-fn run<D: Disk + Send, L: Count + Send + Sync, R: Threads + Wait + Clock + Sync>(
+fn run<D: Disk + Send, L: Origin + Send + Sync, R: Threads + Wait + Clock + Sync>(
     rt: &R,
     alloc: Global,
     engine: &Engine<D, L>,
@@ -135,7 +135,7 @@ fn start_flusher<
     'p: 's,
     E,
     D: Disk + Send,
-    L: Count + Send + Sync,
+    L: Origin + Send + Sync,
     P: Port + Sync,
     R: Wait + Clock + Sync,
 >(
@@ -147,8 +147,8 @@ fn start_flusher<
     scope.spawn(move || flusher(rt, engine, port)).ok()
 }
 
-// Whether all nodes of a ring signal, and its engine closes with all shares over a legal store.
-fn reset_ring<D: Disk + Send, L: Count + Send + Sync, R: Threads + Wait + Clock + Sync>(
+// Whether each node of a ring signals once, and its engine closes with all shares over a legal store.
+fn reset_ring<D: Disk + Send, L: Origin + Send + Sync, R: Threads + Wait + Clock + Sync>(
     rt: &R,
     alloc: Global,
     blank: Blank,
@@ -159,15 +159,20 @@ fn reset_ring<D: Disk + Send, L: Count + Send + Sync, R: Threads + Wait + Clock 
 ) -> bool
     requires name { blank.name ≡ L.name }
     requires parts { (blank.parts ≡ L.parts) × (L.parts ≡ 65536) }
+    requires base { ledger.log.base ≡ L.base }
+    requires before { ledger.log.trail ≡ L.before }
 {
     let Some(engine) = engine::<D, L>(alloc, blank, ledger) else {
         return false;
     };
     let (to, from) = channels;
-    let ring = Ring::new(rt, to, manner);
+    let ring = Ring::new(rt, alloc, to, manner);
     let (shares, signalled) = run(rt, alloc, &engine, &ring, from, reset, manner);
     match closed(engine, shares) {
-        Some(closed) => signalled && check(closed.store.world()).is_none(),
+        Some(closed) => {
+            let each_once = ring.has_each_once(NODES, 1);
+            signalled && each_once && check(closed.store.world()).is_none()
+        }
         None => false,
     }
 }

@@ -27,20 +27,20 @@ returns-then-count-eq0-clause-printed g c =
     let first = c.args.self.now in
     let now = c.loop.self in
     let seen = inv.2.0 in
-    let consumed = Consumes-none _ _ _ seen c.read.new.buf c.in-Ok.count inv.2.1 c.in-Ok.ensures.bytes.0 c.if-count-eq0.true in
-    let ended : IsAtEnd (g.R.Read.remaining c.read.new.self) = search rules in
+    let consumed = Consumes-none _ _ _ seen c.read_once.new.buf c.in-Ok.count inv.2.1 c.in-Ok.ensures.bytes.0 c.if-count-eq0.true in
+    let ended : IsAtEnd (g.R.Read.remaining c.read_once.new.reader) = search rules in
     prints-whole c.finish.result (state_of first.drill) (state_of now.drill) first.line now.line (now.number + 1) _ _ _ _ _ seen inv.2.3.0 c.finish.ensures.printed consumed ended inv.2.3.1 inv.2.3.2
 
-pub returns-in_default-clause-failed : goal.returns-in_default-clause-failed
-returns-in_default-clause-failed g c =
+pub returns-in-Err-clause-failed : goal.returns-in-Err-clause-failed
+returns-in-Err-clause-failed g c =
     let inv = c.loop.invariant in
     let first = c.args.self.now in
     let now = c.loop.self in
     let later = prints_somehow (state_of now.drill) (now.number + 1) (lines_on now.line []) in (
       inv.2.0,
-      Consumes-kept _ _ _ inv.2.0 inv.2.1 c.in_default.ensures.bytes,
+      Consumes-kept _ _ _ inv.2.0 inv.2.1 c.in-Err.ensures.bytes,
       (inv.2.3.0 ++ later.0, prints-so_far (state_of first.drill) 1 first.line inv.2.0 _ (inv.2.3.2 [] later.0 later.1), first_part-whole _ _ inv.2.3.0 later.0 inv.2.3.1),
-      λ e. absurd cc,
+      λ e. absurd (cc (c.in-Err.ensures.fault, e)),
     )
 
 pub returns-clause-failed : goal.returns-clause-failed
@@ -60,7 +60,7 @@ returns-then-count-eq0-clause-failed g c =
     let inv = c.loop.invariant in
     let first = c.args.self.now in
     let seen = inv.2.0 in
-    let consumed = Consumes-none _ _ _ seen c.read.new.buf c.in-Ok.count inv.2.1 c.in-Ok.ensures.bytes.0 c.if-count-eq0.true in
+    let consumed = Consumes-none _ _ _ seen c.read_once.new.buf c.in-Ok.count inv.2.1 c.in-Ok.ensures.bytes.0 c.if-count-eq0.true in
     IfErr-of_work c.finish.result c.finish.ensures.failed c.finish.ensures.fault
     (λ fault kind part. (
       seen,
@@ -74,7 +74,7 @@ returns-in_err-answer-clause-failed g c =
     let inv = c.loop.invariant in
     let first = c.args.self.now in
     let seen = inv.2.0 in
-    let came = take c.in-Ok.count c.read.new.buf in
+    let came = take c.in-Ok.count c.read_once.new.buf in
     let consumed = Consumes-trans _ _ _ seen came inv.2.1 c.in-Ok.ensures.bytes.0 in
     let now = c.loop.self in
     IfErr-of_piece c.from_residual.result _ _ (state_of now.drill) (now.number + 1) now.line came (search rules) (search rules)
@@ -91,14 +91,14 @@ loop-preserved g c =
     let seen = inv.2.0 in
     let text = inv.2.3.0 in
     let now = c.in_ok-answer.ensures in
-    let came = take c.in-Ok.count c.read.new.buf in
+    let came = take c.in-Ok.count c.read_once.new.buf in
     let first = c.args.self.now in (
       now.ready,
       search rules,
       (
         seen ++ came,
         Consumes-trans _ _ _ seen came inv.2.1 (search rules),
-        omega (arith, inv.2.2, length-append seen came, length-take-le c.in-Ok.count c.read.new.buf (search rules)),
+        omega (arith, inv.2.2, length-append seen came, length-take-le c.in-Ok.count c.read_once.new.buf (search rules)),
         (
           text ++ now.printed.0,
           Appends-trans _ _ _ text now.printed.0 inv.2.3.1 now.printed.1,

@@ -1,0 +1,64 @@
+//! One read and one write, and what their answers tell.
+
+ghost use Rattle.std.specs.Prelude.{◌≡◌, ◌≢◌, Ok, Err, IfOk, IfErr, MatchResult};
+ghost use Rattle.std.specs.Io.{ReadsAtMost, WritesAtMost};
+ghost use Rattle.std.specs.Io.KnownBytes.{ReadConsumes, WriteAppends};
+ghost use Rattle.std.specs.IoError.{error_kind};
+ghost use Rattle.coord_drill.specs.Drilled.{IsOfWork};
+ghost use Rattle.coord_drill.specs.Faults.{TellsOfWrite};
+
+use crate::fault::Fault;
+use crate::writing::fault_of;
+use std::io;
+use std::io::{ErrorKind, Read, Write};
+
+/// How many bytes came in a read, or `Read`.
+fn came(answer: io::Result<usize>) -> Result<usize, Fault>
+    ensures { MatchResult answer (λ count. result ≡ Ok count) (λ _. result ≡ Err Fault.Read) }
+{
+    match answer {
+        Ok(count) => Ok(count),
+        Err(_) => Err(Fault::Read),
+    }
+}
+
+/// How many bytes were taken in a write of some, or the fault. One that was interrupted took none.
+fn taken(answer: io::Result<usize>) -> Result<usize, Fault>
+    ensures some { IfOk answer (λ count. count ≢ 0 → result ≡ Ok count) }
+    ensures none { IfOk answer (λ count. count ≡ 0 → result ≡ Err Fault.Write) }
+    ensures again { IfErr answer (λ error. error_kind error ≡ ErrorKind.Interrupted → result ≡ Ok 0) }
+    ensures memory { IfErr answer (λ error. error_kind error ≡ ErrorKind.OutOfMemory → result ≡ Err Fault.OutOfMemory) }
+    ensures other { IfErr answer (λ error. error_kind error ≢ ErrorKind.Interrupted → error_kind error ≢ ErrorKind.OutOfMemory → result ≡ Err Fault.Write) }
+    ensures bytes { TellsOfWrite answer result }
+    ensures fault { IfErr result IsOfWork }
+{
+    match answer {
+        Ok(0) => Err(Fault::Write),
+        Ok(count) => Ok(count),
+        Err(error) => {
+            if error.kind() == ErrorKind::Interrupted {
+                Ok(0)
+            } else {
+                Err(fault_of(&error))
+            }
+        }
+    }
+}
+
+/// Reads once.
+pub fn read_once<R: Read>(reader: &mut R, buf: &mut [u8]) -> Result<usize, Fault>
+    ensures bound { ReadsAtMost result buf.new }
+    ensures bytes { ReadConsumes (R.remaining reader.old) (R.remaining reader.new) result buf.new }
+    ensures fault { IfErr result (λ fault. fault ≡ Fault.Read) }
+{
+    came(reader.read(buf))
+}
+
+/// Writes once.
+pub fn write_once<W: Write>(writer: &mut W, text: &[u8]) -> Result<usize, Fault>
+    ensures bound { WritesAtMost result text.now }
+    ensures bytes { WriteAppends (W.contents writer.old) (W.contents writer.new) result text.now }
+    ensures fault { IfErr result IsOfWork }
+{
+    taken(writer.write(text))
+}
