@@ -1,6 +1,5 @@
 """The setting of the trial, and what has to hold after each of its parts."""
 
-import os
 import time
 
 from .clients import Client, Load, Lost, Site, ask
