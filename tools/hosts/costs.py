@@ -2,7 +2,6 @@
 
 import time
 
-from .clients import ask
 from .trial import tell
 from .volume import MOUNT
 

@@ -99,7 +99,8 @@ def try_words(program, folder):
         typed = [line for line in words.splitlines() if not line.startswith("apt-get ")]
         for number in numbers:
             machines[number - 1].run("sh", "-ec", f"cd {ROOT}\n" + "\n".join(typed), seconds=120)
-        print(f"on {' '.join(machines[number - 1].name for number in numbers)}:\n    " + "\n    ".join(typed), flush=True)
+        where = " ".join(machines[number - 1].name for number in numbers)
+        print(f"on {where}:\n    " + "\n    ".join(typed), flush=True)
     print()
     lose_one(machines[:2])
 
@@ -109,8 +110,8 @@ def wait_standby(machine):
     try:
         return wait_for("a refused try", 60, lambda: machine.unit("ExecMainStatus") == "3", 0.5)
     except Failed as late:
-        _, told = machine.run("systemctl", "status", "--no-pager", "--lines=5", "resetd", "srv-resetd.mount", "glusterd",
-                              is_checked=False)
+        _, told = machine.run("systemctl", "status", "--no-pager", "--lines=5", "resetd", "srv-resetd.mount",
+                              "glusterd", is_checked=False)
         raise Failed(f"{late}; on {machine.name}:\n{told}") from late
 
 

@@ -1,4 +1,4 @@
-"""A coordinator or a standby on one host: `serve` started again and again, as examples/resetd-standby.service has it."""
+"""A coordinator or a standby on one host: `serve` started again and again, as by examples/resetd-standby.service."""
 
 import os
 import subprocess

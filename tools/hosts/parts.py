@@ -7,7 +7,9 @@ from .keeper import look_into
 from .network import wait_for
 from .trial import QUICK, tell
 
-LATER = 3  # seconds of load before and after what is done to a host
+LATER = 2  # seconds of load before and after what is done to a host
+RECONNECTED = 6  # seconds after which all hosts have found a brick again
+AWAY = 9  # seconds for which the host without a coordinator, or the majority, is away
 
 
 def killed_in_wave(trial):
@@ -35,7 +37,8 @@ def killed_in_wave(trial):
     else:
         raise Lost("no kill came in the middle of a reset")
     signalled = [line.split()[1] for line in old.lines("signals")[before:]]
-    tell(f"signalled before the kill: {' '.join(signalled) or 'none'}; in the store still in the reset: {' '.join(left)}")
+    tell(f"signalled before the kill: {' '.join(signalled) or 'none'}; in the store still in the reset: "
+         f"{' '.join(left)}")
     if trial.planted == "old-copy":
         new.host.run("cp", f"{trial.folder}/old", "/srv/resetd/store")
     trial.load.start()
@@ -138,7 +141,7 @@ def one_brick(trial, host):
     trial.volume.kill_brick(host)
     time.sleep(LATER)
     trial.volume.start_brick(host)
-    time.sleep(2 * LATER)
+    time.sleep(RECONNECTED)
     return trial.records.longest_gap(killed)
 
 
@@ -149,7 +152,7 @@ def third_host_away(trial):
     time.sleep(LATER)
     away.cut()
     cut = time.monotonic()
-    time.sleep(3 * LATER)
+    time.sleep(AWAY)
     gap = trial.records.longest_gap(cut)
     away.link()
     time.sleep(LATER)
@@ -172,11 +175,11 @@ def majority_lost(trial):
     for host in away:
         host.cut()
     cut = time.monotonic()
-    time.sleep(10)
+    time.sleep(AWAY)
     late = trial.records.count(cut + 5)
     if late:
         raise Lost(f"{late} orders were answered without a majority")
-    tell(f"after 10 s no order was answered any more; {keeper.host.name} answers "
+    tell(f"after {AWAY} s no order was answered any more; {keeper.host.name} answers "
          f"{what_it_answers(keeper)}")
     for host in away:
         host.link()

@@ -1,6 +1,5 @@
 """The setting of the trial, and what has to hold after each of its parts."""
 
-import os
 import time
 
 from .clients import Client, Load, Lost, Site, ask
@@ -162,7 +161,9 @@ class Trial:
 
     def hand_over(self):
         """Ends the present coordinator in order, and waits for the next start, here or there: what it took. A
-        coordinator has the file open on the bricks that were there when it opened it."""
+        coordinator has the file open on the bricks that its host had when it opened it, so each has to have all."""
+        for keeper in self.keepers:
+            wait_for(f"{keeper.host.name}: all bricks", 30, lambda: self.volume.is_connected(keeper.host), 0.2)
         starts, begun, keeper = self.starts(), time.monotonic(), self.present
         ended = len(keeper.ends())
         self.site.ask({"op": "close"}, 30)

@@ -96,6 +96,11 @@ class Volume:
         self.gluster(host, "volume", "start", NAME, "force")
         wait_for(f"the brick of {host.name}", 30, lambda: self.brick_process(host) is not None)
 
+    def is_connected(self, host):
+        """Whether the volume's client on a host has all three bricks. After a loss it looks for them every 3 s."""
+        _, printed = host.run("sh", "-c", f"cat {MOUNT}/.meta/graphs/active/{NAME}-client-*/private", is_checked=False)
+        return printed.count("connected = 1") == len(self.hosts)
+
     def is_healed(self, host):
         """Whether all three bricks are there and none owes another one anything."""
         status, printed = self.gluster(host, "volume", "heal", NAME, "info", seconds=120, is_checked=False)
