@@ -10,6 +10,7 @@ from __future__ import annotations
 import argparse
 import json
 import os
+import shutil
 import sys
 import time
 from collections.abc import Callable
@@ -177,6 +178,9 @@ def watch(control: Control) -> int:
             text = f"the server answers {not_now.name}"
         except Away as away:
             text = f"no answer: {away}"
+        if is_terminal:  # a line that the terminal would break can't be drawn over
+            width = shutil.get_terminal_size().columns - 1
+            text = "\n".join(line[:width] for line in text.split("\n"))
         if text != drawn:
             up = f"\x1b[{drawn.count(chr(10)) + 1}A\x1b[J" if drawn is not None and is_terminal else ""
             print(f"{up}{text}" if is_terminal else text.replace("\n", "  "), flush=True)
@@ -186,11 +190,12 @@ def watch(control: Control) -> int:
 
 
 def picture(view: View) -> str:
-    """The nodes in order: how many steps, a mark for each node's mode, and each node that is not through."""
+    """A mark for each node's mode, in order, how many steps there are, and each node that is not through."""
     marks = "".join(MARKS.get(node.mode, "?") if node.mode != "ready" or node.is_begun else "o" for node in view.nodes)
     open_nodes = [f"{node.node}:{node.epoch}/{node.confirmed}" for node in view.nodes if not node.is_begun]
-    return (f"{view.settled:8d} steps  [{marks}]  · through  o to be confirmed  A abort  C converge\n"
-            f"epoch/confirmed {' '.join(open_nodes) or 'equal at every node'}")
+    return (f"[{marks}] {view.settled} steps\n"
+            f"· through  o to be confirmed  A abort  C converge; epoch/confirmed\n"
+            f"{' '.join(open_nodes) or 'equal at every node'}")
 
 
 def health(control: Control) -> int:

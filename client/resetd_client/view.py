@@ -46,12 +46,12 @@ class View:
 
     @staticmethod
     def of(answer: Mapping[str, Any]) -> View:
-        """The view of an answer's members."""
+        """The view of an answer's members. What a later version adds behind a row is left out."""
         return View(
             int(answer["accepted"]), int(answer["settled"]),
             tuple(Node(int(n), int(g), str(mode), int(parent), int(e), int(c))
-                  for n, g, mode, parent, e, c in answer["nodes"]),
-            tuple(Link(int(a), int(b), int(inc)) for a, b, inc in answer["links"]))
+                  for n, g, mode, parent, e, c, *_ in answer["nodes"]),
+            tuple(Link(int(a), int(b), int(inc)) for a, b, inc, *_ in answer["links"]))
 
     def members(self) -> dict[str, Any]:
         """The members of the answer that this is the view of."""

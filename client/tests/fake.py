@@ -164,7 +164,7 @@ class Fake:
             fault = self.faults.pop(0) if self.faults else ""
             if fault == "lose":
                 return
-            text = json.dumps(self.answer(request)) if fault in ("", "mute") else fault
+            text = json.dumps(self.answer(request), separators=(",", ":")) if fault in ("", "mute") else fault
             if fault == "mute":
                 return
             connection.sendall(text.encode() + b"\n")

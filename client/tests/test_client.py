@@ -34,7 +34,7 @@ class Case(unittest.TestCase):
         temporary = tempfile.TemporaryDirectory()
         self.addCleanup(temporary.cleanup)
         self.folder = temporary.name
-        self.port = Port(self.fake.address, 2)
+        self.port = Port(self.fake.address, 10)
         self.told: list[str] = []
 
     def orders(self, client: int = 1, name: str = "orders", recovers: bool = False) -> Orders:
@@ -76,7 +76,7 @@ class Answers(Case):
         self.addCleanup(other.close)
         other.ring(2)
         self.fake.is_stopped = True
-        both = Port(f"127.0.0.1:1,{self.fake.address},{other.address}", 2)
+        both = Port(f"127.0.0.1:1,{self.fake.address},{other.address}", 10)
         self.assertEqual(len(both.show().nodes), 2)
         other.is_stopped = True
         self.assertRaises(NotNow, both.show)
@@ -166,7 +166,7 @@ class Numbers(Case):
     def test_a_count_is_found_without_nodes(self) -> None:
         fake = Fake()
         self.addCleanup(fake.close)
-        self.assertEqual(find_count(Port(fake.address, 2), 3), 0)
+        self.assertEqual(find_count(Port(fake.address, 10), 3), 0)
 
     def test_a_search_is_bounded_and_says_so(self) -> None:
         orders = self.orders()
@@ -198,6 +198,9 @@ class Views(Case):
         view = self.port.show()
         self.assertEqual(view.node(2), Node(2, 1, "ready", 0, 0, 0))
         self.assertEqual(View.of(view.members()), view)
+        longer = view.members()
+        longer["nodes"] = [[*row, 7] for row in longer["nodes"]]
+        self.assertEqual(View.of(longer), view)
 
     def test_connected_and_tag(self) -> None:
         self.fake.ring(3)

@@ -13,7 +13,9 @@ KEEP = r"""
 while :; do
   if [ -s "$2" ]; then
     "$1" serve "$2" "$3" >> "$4/signals" 2> "$4/error"
-    echo "$? $(cat "$4/error")" >> "$4/ended"
+    status=$?
+    echo "$status $(cat "$4/error")" >> "$4/ended"
+    case $status in 1|2) exit;; esac
   fi
   sleep "$5"
 done

@@ -106,7 +106,7 @@ def cut_while_idle(trial):
 
 
 def bricks_in_turn(trial):
-    print("4. One brick is killed and comes back under load; then another one.", flush=True)
+    print("4. One brick is killed and comes back under load; then another one; then a whole host is away.", flush=True)
     trial.load.start()
     begun = time.monotonic()
     for host in (trial.hosts[2], trial.present.host):
@@ -121,7 +121,7 @@ def bricks_in_turn(trial):
         handed = trial.records.longest_gap(closed)
         tell(f"the brick of {host.name} is killed and started again: at most {without:.1f} s between two answers; a "
              f"close, and {trial.present.host.name} serves: {handed:.1f} s; healed {healed:.1f} s later")
-    time.sleep(LATER)
+    tell(f"host3 is cut off and linked again: at most {third_host_away(trial):.1f} s between two answers")
     trial.load.stop()
     gap = trial.records.longest_gap(begun)
     tell(f"{trial.records.count(begun)} orders were answered all the while")
@@ -140,6 +140,23 @@ def one_brick(trial, host):
     trial.volume.start_brick(host)
     time.sleep(2 * LATER)
     return trial.records.longest_gap(killed)
+
+
+def third_host_away(trial):
+    """The host without a coordinator: the longest time without an answer, to clients on the coordinator's host."""
+    away, trial.site.host = trial.site.host, trial.present.host
+    starts = trial.starts()
+    time.sleep(LATER)
+    away.cut()
+    cut = time.monotonic()
+    time.sleep(3 * LATER)
+    gap = trial.records.longest_gap(cut)
+    away.link()
+    time.sleep(LATER)
+    trial.site.host = away
+    if trial.starts() != starts:
+        raise Lost(f"the coordinator did not outlive {away.name}")
+    return gap
 
 
 def majority_lost(trial):

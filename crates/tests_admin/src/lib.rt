@@ -11,5 +11,3 @@ mod hostile;
 mod lines;
 #[cfg(test)]
 mod memory;
-#[cfg(test)]
-mod scripted;

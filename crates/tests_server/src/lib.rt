@@ -2,14 +2,8 @@
 #![tactic(auto)]
 
 #[cfg(test)]
-mod asking;
-#[cfg(test)]
 mod loopback;
 #[cfg(test)]
 mod memory;
 #[cfg(test)]
 mod printing;
-#[cfg(test)]
-mod rings;
-#[cfg(test)]
-mod slow_output;
