@@ -13,7 +13,7 @@ scratch=$(mktemp -d)
 trap 'rm -rf "$scratch"' EXIT
 
 crate=$scratch/crates/measures
-mkdir -p "$crate/src" "$crate/proofs/are_numbered"
+mkdir -p "$crate/src" "$crate/proofs/are_writable"
 libraries='coord_types coord_link coord_node coord_tables coord_world coord_check coord_batch coord_codec'
 for name in $libraries; do
   cp -r "$here/crates/$name" "$scratch/crates/$name"
@@ -23,7 +23,7 @@ echo "measures: $libraries" >> "$scratch/crates.txt"
 for name in main fault samples wave; do
   cp "$here/bench/measures/$name.rt.txt" "$crate/src/$name.rt"
 done
-cp "$here/bench/measures/Invariants.antt.txt" "$crate/proofs/are_numbered/Invariants.antt"
+cp "$here/bench/measures/Invariants.antt.txt" "$crate/proofs/are_writable/Invariants.antt"
 
 (cd "$crate" && "${RT:-rt}" run > "$scratch/build.txt" 2>&1) || { tail -n 40 "$scratch/build.txt"; exit 1; }
 if [ -n "${YARDSTICK:-}" ]; then

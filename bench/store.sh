@@ -12,7 +12,7 @@ scratch=$(mktemp -d)
 trap 'rm -rf "$scratch"' EXIT
 
 crate=$scratch/crates/store_bench
-mkdir -p "$crate/src" "$crate/proofs/steps/are_numbered"
+mkdir -p "$crate/src" "$crate/proofs/steps/are_numbered" "$crate/proofs/full/are_writable"
 for name in coord_disk coord_journal coord_types coord_link coord_node coord_tables coord_world coord_check coord_batch coord_codec coord_store; do
   cp -r "$here/crates/$name" "$scratch/crates/$name"
   grep "^$name:" "$here/crates.txt" >> "$scratch/crates.txt"
@@ -22,6 +22,7 @@ for name in main fault steps full; do
   cp "$here/bench/store/$name.rt.txt" "$crate/src/$name.rt"
 done
 cp "$here/bench/store/Invariants.antt.txt" "$crate/proofs/steps/are_numbered/Invariants.antt"
+cp "$here/bench/store/Writable.antt.txt" "$crate/proofs/full/are_writable/Invariants.antt"
 
 (cd "$crate" && "${RT:-rt}" run > "$scratch/build.txt" 2>&1) || { tail -n 40 "$scratch/build.txt"; exit 1; }
 for ((round = 0; round < rounds; round++)); do
