@@ -61,6 +61,7 @@ sweep:
 	bench/refused_allocations --seconds $(or $(EACH),12) $$(sed -n 's/^\([a-z][a-z0-9_]*\).*/\1/p' crates.txt)
 
 test:
+	@tools/layers
 	rt ci
 
 SHARE = $(DESTDIR)$(PREFIX)/share/resetd
