@@ -7,6 +7,14 @@
 //! `specs/Kept.antt` is what contracts see of a store: its disk, its world, and what a torn commit
 //! was to make.
 //!
+//! Why a commit is there whole or not at all, in five lines:
+//! 1. Its steps are one batch, and a batch is one text behind the journal's closed gate.
+//! 2. Until the gate opens, by one byte, the bytes give the world from before.
+//! 3. Once it is open they give that world with all the steps taken, since none was left unwritten.
+//! 4. Where a batch has no room, the world is first written as a snapshot into the other half; one
+//!    byte selects it, and the halves on both sides of that byte give the same world.
+//! 5. But for these single bytes nothing is written where a reader of the device looks.
+//!
 //! `Store::create` makes a store, `Store::open` answers exactly what the bytes of the device give,
 //! and `Store::commit` takes steps. The main theorem stands on these: at each moment of a commit, also
 //! inside its checkpoint, whatever a crash may leave gives the world from before it or from after
