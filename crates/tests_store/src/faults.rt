@@ -2,7 +2,7 @@
 //! twelfth makes a checkpoint.
 
 use crate::scripts::{adding, choice, commits, count_on, created, opened, resets};
-use coord_disk::{BlipDisk, CrashDisk, Disk, FuseDisk, MemDisk};
+use coord_disk::{BlipDisk, CrashDisk, Disk, FuseDisk, MemDisk, TornDisk};
 use coord_store::{CommitFault, Store, StoreFault};
 use std::alloc::Global;
 use std::test::Fail;
@@ -105,6 +105,35 @@ fn is_left_by_blip(alloc: Global, call: u64, which: usize) -> Result<bool, Store
     )
 }
 
+// The same where one write writes its first bytes and fails. Of a body or a snapshot they are not
+// read; of a gate or a selector the first byte is the whole of it, which a crash then may leave.
+fn is_left_by_torn(
+    alloc: Global,
+    call: u64,
+    kept: usize,
+    which: usize,
+) -> Result<bool, StoreFault> {
+    let failed = call.saturating_add(OPENING);
+    let disk = TornDisk::new(fresh(alloc, which)?, failed, kept);
+    let mut store = opened(alloc, disk)?;
+    let answer = run(alloc, &mut store);
+    let has_stopped = store.stopped();
+    let disk = store.into_disk();
+    let calls = disk.calls();
+    let steps = left(alloc, disk.into_inner())?;
+    let reached = if call % 4 == 2 {
+        call.saturating_add(1)
+    } else {
+        call
+    };
+    Ok(
+        is_told(answer, calls > failed)?
+            && has_stopped
+            && calls == failed.saturating_add(1)
+            && steps == count(reached, which),
+    )
+}
+
 // The first number of calls and choice for which a stop leaves something else.
 fn first_wrong_stop(alloc: Global) -> Result<Option<(u64, usize)>, StoreFault> {
     for calls in 0..57 {
@@ -139,6 +168,27 @@ fn first_wrong_fault(alloc: Global) -> Result<Option<(u64, usize)>, StoreFault> 
 #[test]
 fn a_fault_at_each_call_leaves_what_was_committed(rt: HostRuntime) -> Result<(), Fail> {
     let wrong = first_wrong_fault(rt.alloc())?;
+    assert!(rt; wrong.is_none(), "{wrong:?}");
+    Ok(())
+}
+
+// The first write, number of its bytes and choice for which a torn write leaves something else.
+fn first_wrong_torn(alloc: Global) -> Result<Option<(u64, usize, usize)>, StoreFault> {
+    for write in 0..28 {
+        for kept in [1, 20] {
+            for which in 0..CHOICES {
+                if !is_left_by_torn(alloc, 2 * write, kept, which)? {
+                    return Ok(Some((2 * write, kept, which)));
+                }
+            }
+        }
+    }
+    Ok(None)
+}
+
+#[test]
+fn a_torn_write_leaves_what_was_committed(rt: HostRuntime) -> Result<(), Fail> {
+    let wrong = first_wrong_torn(rt.alloc())?;
     assert!(rt; wrong.is_none(), "{wrong:?}");
     Ok(())
 }
