@@ -115,7 +115,12 @@ fn is_left_by_blip(alloc: Global, version: u8, call: u64, which: usize) -> Resul
 
 // The same where one write writes its first bytes and fails. Of a body or a snapshot they are not
 // read; of a gate or a selector the first byte is the whole of it, which a crash then may leave.
-fn is_left_by_torn(alloc: Global, call: u64, kept: usize, which: usize) -> Result<bool, StoreFault> {
+fn is_left_by_torn(
+    alloc: Global,
+    call: u64,
+    kept: usize,
+    which: usize,
+) -> Result<bool, StoreFault> {
     let failed = call.saturating_add(OPENING);
     let disk = TornDisk::new(fresh(alloc, 2, which)?, failed, kept);
     let mut store = opened(alloc, disk)?;
