@@ -18,7 +18,7 @@ from .port import Port, patiently
 from .signals import Clock, Follower, Stream, Wake, Wakes
 from .view import Link, Node, View
 
-__version__ = "0.9.0"  # that of the first heading of CHANGELOG.md
+__version__ = "0.10.0"  # that of the first heading of CHANGELOG.md
 
 __all__ = [
     "Away", "CLIENTS", "Clock", "CountLost", "CountNotFound", "Fault", "Faulted", "Follower", "Garbled", "Gateway",

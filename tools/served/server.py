@@ -68,6 +68,11 @@ class Server:
             os.kill(process, signal.SIGKILL)
         self.process.wait()
 
+    def end(self):
+        """Kills the server where it still runs."""
+        if self.process and self.process.poll() is None:
+            self.kill()
+
     def close(self):
         """Ends the server in order: its exit status, and its faults."""
         try:

@@ -1,0 +1,203 @@
+"""Copies of a store of version 1 that are migrated and killed on the way, and what is found in them."""
+
+import hashlib
+import os
+import re
+import shutil
+import subprocess
+import threading
+import time
+
+from . import faults
+from .clients import Client, Lost
+from .ring import NODES, Ring
+from .server import Server
+
+HALF = 32_768
+# Selector, magic, length of a half; version 1, a snapshot of eleven zeros (the empty world), a closed gate: the worked
+# dump of docs/FORMATS.md.
+EMPTY = b"\0ACRRESET" + HALF.to_bytes(8, "big") + b"\1" + (11).to_bytes(4, "big") + bytes(11) + b"\0"
+KILLED = -9
+# The calls of a migration, which leave version 1 up to the second, and version 2 from the last on.
+WRITE, SYNCS = "pwrite64", ("fsync", "fdatasync")
+
+
+def run(program, folder, choice, rounds):
+    """Kills so many migrations, at a random moment and at each call of the device in turn."""
+    first, copy = Server(program, f"{folder}/first"), Server(program, f"{folder}/copy")
+    ring = Ring(first, choice)
+    try:
+        kill_all(Trial(ring, copy, fill(ring)), choice, rounds)
+    finally:
+        first.end()
+        copy.end()
+
+
+def kill_all(trial, choice, rounds):
+    usual = trial.usual()
+    calls = trial.calls() if faults.can_inject() else []
+    print(f"a store of version 1 with {trial.count} steps, migrated in {usual:.3f} s", flush=True)
+    for done in range(rounds):
+        place = done % (len(calls) + 1)
+        if place == 0:
+            trial.kill_after(choice.uniform(0, usual * 1.2))
+        else:
+            trial.kill_at_call(place, *calls[place - 1])
+        trial.finish()
+    trial.tell(rounds, calls)
+    trial.go_on()
+
+
+def fill(ring):
+    """Makes the store from its bytes, gives it a ring and resets through a server. How many steps it has then."""
+    with open(ring.server.store, "wb") as file:
+        file.write(EMPTY)
+    ring.server.must_start()
+    operator = Client(16)
+    for node in range(1, NODES + 1):
+        operator.order(ring.server, "add", node=node, group=1)
+    for node in range(1, NODES + 1):
+        operator.order(ring.server, "join", a=node, b=node % NODES + 1)
+    for resets in (1, len(ring.clients)):
+        ring.ask_resets(resets)
+        ring.follow()
+    ring.clients.append(operator)
+    ring.server.must_close()
+    if version(ring.server.store) != 1:
+        raise Lost("a server made another version than 1 of a store of version 1")
+    return ring.history.look_into(ring.server)[0]
+
+
+def version(store):
+    """The version byte of the half that the first byte selects (docs/FORMATS.md, "Device")."""
+    with open(store, "rb") as file:
+        header = file.read(17)
+        file.seek(17 + header[0] % 2 * int.from_bytes(header[9:], "big"))
+        return file.read(1)[0]
+
+
+def digest(path):
+    with open(path, "rb") as file:
+        return hashlib.sha256(file.read()).digest()
+
+
+class Trial:
+    """A copy of the store, which is made anew for each migration."""
+
+    def __init__(self, ring, server, count):
+        self.ring, self.server, self.count = ring, server, count
+        self.first = ring.server.store
+        self.words = [server.program, "migrate", server.store]
+        self.rows = ring.server.command("show")
+        self.found = {1: 0, 2: 0}  # how many were found in each version after a kill
+        self.too_late = 0  # how many had ended before the kill
+
+    def copy(self):
+        shutil.copyfile(self.first, self.server.store)
+
+    def usual(self):
+        """How long a migration takes that nobody kills, for choosing moments."""
+        took = []
+        for _ in range(5):
+            self.copy()
+            began = time.monotonic()
+            self.migrate()
+            took.append(time.monotonic() - began)
+        return max(took)
+
+    def migrate(self):
+        """A migration to its end, and a second one, which writes nothing."""
+        for _ in range(2):
+            before = digest(self.server.store) if version(self.server.store) == 2 else None
+            done = self.server.command("migrate")
+            if done != (0, [f"migrated {self.count}"]) or version(self.server.store) != 2:
+                raise Lost(f"resetd migrate: {done}, and the store has version {version(self.server.store)}")
+            if before not in (None, digest(self.server.store)):
+                raise Lost("resetd migrate has written to a store of version 2")
+
+    def calls(self):
+        """The four device calls of a migration: of each its name, and which one of that name it is in the run."""
+        self.copy()
+        log = f"{self.server.store}.strace"
+        names = ",".join((WRITE, *SYNCS))
+        subprocess.run(["strace", "-f", "-qq", "-o", log, "-e", f"trace={names}", *self.words], check=True,
+                       stdout=subprocess.DEVNULL)
+        with open(log, encoding="utf-8", errors="replace") as file:
+            made = re.findall(r"^(?:\d+ +)?([a-z0-9]+)\(", file.read(), re.MULTILINE)
+        last = made[-4:]
+        if len(last) < 4 or last[0::2] != [WRITE, WRITE] or not set(last[1::2]) <= set(SYNCS):
+            raise Lost(f"a migration made these calls of its device: {' '.join(made)}")
+        return [(name, made[:place].count(name)) for place, name in enumerate(made, 1)][-4:]
+
+    def kill_after(self, seconds):
+        """Kills a migration some time after its start."""
+        self.copy()
+        process = subprocess.Popen(self.words, stdout=subprocess.PIPE, stderr=subprocess.STDOUT)
+        killer = threading.Timer(seconds, process.kill)
+        killer.start()
+        printed = process.communicate()[0].decode()
+        killer.cancel()
+        if process.returncode == KILLED:
+            self.look(f"after {seconds:.4f} s")
+        elif (process.returncode, printed) == (0, f"migrated {self.count}\n"):
+            self.too_late += 1
+        else:
+            raise Lost(f"resetd migrate ended by itself with status {process.returncode}: {printed}")
+
+    def kill_at_call(self, place, name, when):
+        """Kills a migration as it makes a call of the device, the first to the fourth."""
+        self.copy()
+        status = subprocess.run(["strace", "-f", "-qq", "-o", os.devnull, "-e", f"trace={name}",
+                                 "-e", f"inject={name}:signal=9:when={when}", *self.words],
+                                capture_output=True, check=False).returncode
+        if status != KILLED:
+            raise Lost(f"strace did not kill a migration at its call {place} ({name} {when}): status {status}")
+        left = self.look(f"at its call {place} ({name})")
+        # The selector is written by the third one.
+        if (place < 3 and left != 1) or (place == 4 and left != 2):
+            raise Lost(f"a migration that was killed at its call {place} ({name}) left version {left}")
+
+    def look(self, where):
+        """What a kill left is legal, has the same rows, and answers each client's last order as before. Its version."""
+        left = version(self.server.store)
+        legal = self.server.command("check")
+        if legal != (0, [f"legal {self.count}"]) or self.server.command("show") != self.rows or left not in self.found:
+            raise Lost(f"a migration was killed {where}, and then resetd check says {legal}, of version {left}")
+        self.server.must_start()
+        for client in self.ring.clients:
+            client.repeat(self.server, self.count)
+        self.server.must_close()
+        legal = self.server.command("check")
+        if legal != (0, [f"legal {self.count}"]) or version(self.server.store) != left:
+            raise Lost(f"a migration was killed {where}; served and closed, resetd check says {legal}")
+        self.found[left] += 1
+        return left
+
+    def finish(self):
+        """The same words once more make version 2 of whatever was left, with the same rows."""
+        self.migrate()
+        if self.server.command("show") != self.rows:
+            raise Lost("a store that was migrated shows other rows")
+
+    def tell(self, rounds, calls):
+        where = f"at a random moment and at {', '.join(name for name, _ in calls)}" if calls else \
+            "at a random moment (strace is not installed, or may not trace here)"
+        print(f"{rounds} migrations killed {where}: {self.found[1]} left version 1, {self.found[2]} version 2, "
+              f"{self.too_late} had ended; each had all steps and sessions, and was then migrated", flush=True)
+        if calls and 0 in self.found.values() and rounds > len(calls):
+            raise Lost("a kill left one version only: the kills did not meet the migrations")
+
+    def go_on(self):
+        """Resets go through what was migrated, and it stays version 2."""
+        self.ring.server = self.server
+        self.server.must_start()
+        self.ring.repeat_orders(self.count)
+        for resets in (1, 1, 3):
+            self.ring.ask_resets(resets)
+            self.ring.follow()
+        self.server.must_close()
+        self.ring.history.note_signals(self.server.new_signals())
+        self.ring.history.look_into(self.server)
+        self.ring.history.expect_printed()
+        if version(self.server.store) != 2:
+            raise Lost("a server made another version than 2 of a store of version 2")
