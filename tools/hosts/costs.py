@@ -17,6 +17,18 @@ for place in range(int(sys.argv[2])):
 os.remove(sys.argv[1])
 """
 
+LARGE = 65536
+# What a start does before it serves, with a file of some length: nanoseconds.
+REWRITE = r"""
+head -c "$2" /dev/zero > "$1"
+for time in $(seq "$3"); do
+  begun=$(date +%s%N)
+  dd if="$1" of="$1" bs=1M conv=notrunc,fsync status=none
+  echo $(($(date +%s%N) - begun))
+done
+rm "$1"
+"""
+
 
 def half_and_most(seconds):
     ordered = sorted(seconds)
@@ -35,6 +47,9 @@ def measure(trial):
     disk = half_and_most(map(float, host.run("python3", "-c", RAW, "/srv/raw", str(COUNT))[1].split()))
     tell(f"a write and a sync on the host's own disk     half {disk[0]:.2f} ms, 99 of 100 {disk[1]:.2f} ms")
     tell(f"a write and a sync on the volume              half {raw[0]:.2f} ms, 99 of 100 {raw[1]:.2f} ms")
+    _, printed = host.run("sh", "-c", REWRITE, "rewrite", f"{MOUNT}/raw", str(LARGE), str(COUNT // 10))
+    half, most = half_and_most(float(line) / 1e9 for line in printed.split())
+    tell(f"{LARGE} bytes on it written over themselves   half {half:.2f} ms, the longest {most:.2f} ms")
     usual = trial.site.host
     for name, asker in (("the same host", host), ("another host", usual)):
         trial.site.host = asker

@@ -66,8 +66,15 @@ class Machine(Host):
     def boot(self):
         os.makedirs(self.group, exist_ok=True)
         super().boot(BOOT, ROOT, group=self.group)
-        wait_for(f"systemd of {self.name}", 60, lambda: self.run(
-            "systemctl", "is-system-running", is_checked=False)[1].strip() in ("running", "degraded"), 0.5)
+        try:
+            wait_for(f"systemd of {self.name}", 60, self.is_up, 0.5)
+        except Failed as late:
+            _, jobs = self.run("systemctl", "list-jobs", "--no-pager", is_checked=False)
+            raise Failed(f"{late}:\n{jobs}") from late
+
+    def is_up(self):
+        _, told = self.run("systemctl", "is-system-running", is_checked=False)
+        return told.strip() in ("running", "degraded")
 
     def unit(self, property_):
         """What systemd says of the coordinator's unit."""

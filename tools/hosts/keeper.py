@@ -3,31 +3,45 @@
 import os
 import subprocess
 
+from .clients import Lost
 from .network import run, wait_for
 from .volume import MOUNT
 
-PORT, STORE, AGAIN = 4170, f"{MOUNT}/store", 1
+PORT, STORE, TURN, AGAIN = 4170, f"{MOUNT}/store", f"{MOUNT}/turn", 1
+REFUSED = "3 resetd: Device"
 
 # Only where the volume is mounted and has the file: `serve` would make an absent one.
 KEEP = r"""
+store=$1 folder=$2 again=$3
+shift 3
 while :; do
-  if [ -s "$2" ]; then
-    "$1" serve "$2" "$3" >> "$4/signals" 2> "$4/error"
+  if [ -s "$store" ] && [ ! -e "$folder/paused" ]; then
+    "$@" >> "$folder/signals" 2> "$folder/error"
     status=$?
-    echo "$status $(cat "$4/error")" >> "$4/ended"
+    echo "$status $(cat "$folder/error")" >> "$folder/ended"
     case $status in 1|2) exit;; esac
   fi
-  sleep "$5"
+  sleep "$again"
 done
+"""
+
+# The file is written over itself before it is opened to be served, so that what is read of it is not one brick's
+# alone (docs/OPERATING.md, "What one brick alone has"). No other host comes in between: it is not its turn.
+TAKE_TURN = ["flock", "--no-fork", "--nonblock", "--conflict-exit-code", "3", TURN]
+REWRITE_AND_SERVE = r"""
+flock --nonblock "$1" dd if="$1" of="$1" bs=1M conv=notrunc,fsync status=none || exit 3
+exec "$0" serve "$1" "$2"
 """
 
 
 class Keeper:
     """What it printed stands in files of its host, one list of lines over all its starts."""
 
-    def __init__(self, program, host):
+    def __init__(self, program, host, rewrites=True):
         self.program, self.host, self.process = program, host, None
         self.address = f"{host.address}:{PORT}"
+        self.serve = [*TAKE_TURN, "sh", "-c", REWRITE_AND_SERVE, program, STORE, self.address] if rewrites else \
+            [program, "serve", STORE, self.address]
         for name in ("signals", "ended", "error"):
             with open(self.path(name), "w", encoding="utf-8"):
                 pass
@@ -41,9 +55,16 @@ class Keeper:
         return text[:text.rfind("\n") + 1].splitlines()
 
     def start(self):
-        words = self.host.inside("sh", "-c", KEEP, "keeper", self.program, STORE, self.address, self.host.folder,
-                                 str(AGAIN))
+        words = self.host.inside("sh", "-c", KEEP, "keeper", STORE, self.host.folder, str(AGAIN), *self.serve)
         self.process = subprocess.Popen(words, stdin=subprocess.DEVNULL)
+
+    def pause(self):
+        """No further start, until `go_on`."""
+        with open(self.path("paused"), "w", encoding="utf-8"):
+            pass
+
+    def go_on(self):
+        os.remove(self.path("paused"))
 
     def wait_over(self):
         """After the end of its host."""
@@ -58,10 +79,19 @@ class Keeper:
         return [line.strip() for line in self.lines("ended")]
 
     def wait_refused(self):
-        """A standby tries, and is refused by the lock of the file."""
+        """A standby tries, and is refused by a lock: its status."""
         before = len(self.ends())
         wait_for(f"a try of the standby on {self.host.name}", 30, lambda: len(self.ends()) > before)
-        return self.ends()[-1]
+        if self.ends()[-1] not in ("3", REFUSED):
+            raise Lost(f"the standby on {self.host.name} ended with {self.ends()[-1]}")
+        return 3
+
+    def serve_by_hand(self):
+        """`serve` typed where another host has the file: it is refused by the lock of the file."""
+        status, printed = self.command("serve", self.address)
+        if f"{status} {printed.strip()}" != REFUSED:
+            raise Lost(f"beside another coordinator, serve on {self.host.name} ended with {status}: {printed}")
+        return REFUSED
 
     def command(self, word, *words):
         """Another command of the program on the volume's file, on this host."""

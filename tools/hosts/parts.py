@@ -1,7 +1,8 @@
-"""The five parts of the trial: what is lost in each, and who goes on."""
+"""The parts of the trial: what is lost in each, and who goes on."""
 
 import time
 
+from . import half
 from .clients import Lost, ask
 from .keeper import look_into
 from .network import wait_for
@@ -204,4 +205,4 @@ def what_it_answers(keeper):
         return "nothing"
 
 
-PARTS = [killed_in_wave, cut_in_load, cut_while_idle, bricks_in_turn, majority_lost]
+PARTS = [killed_in_wave, cut_in_load, cut_while_idle, bricks_in_turn, majority_lost, half.half_written]

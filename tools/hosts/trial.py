@@ -3,7 +3,7 @@
 import time
 
 from .clients import Client, Load, Lost, Site, ask
-from .keeper import Keeper, look_into
+from .keeper import REFUSED, Keeper, look_into
 from .network import Host, make_switch, wait_for
 from .records import Records
 from .services import Service
@@ -12,7 +12,8 @@ from .volume import DIRECT, FRESH, OPTIONS, STRICT_LOCKS, Volume
 MEMBERS = range(1, 9)
 LOAD_CLIENTS = range(9, 14)
 QUICK = 10  # seconds within which another host has to answer
-PLANTED = ("no-strict-locks", "page-cache", "other-brick", "dropped-answers", "old-copy", "signal-again")
+PLANTED = ("no-strict-locks", "page-cache", "other-brick", "dropped-answers", "old-copy", "signal-again",
+           "not-rewritten")
 
 
 def tell(text):
@@ -32,7 +33,7 @@ class Trial:
         self.hosts = [Host(number, folder) for number in (1, 2, 3)]
         options = {**OPTIONS, STRICT_LOCKS: "off"} if planted == "no-strict-locks" else OPTIONS
         self.volume = Volume(self.hosts, options, FRESH if planted == "page-cache" else f"{DIRECT},{FRESH}")
-        self.keepers = [Keeper(program, host) for host in self.hosts[:2]]
+        self.keepers = [Keeper(program, host, planted != "not-rewritten") for host in self.hosts[:2]]
         self.records = Records(self.keepers)
         self.site = Site(self.hosts[2], self.keepers)
         self.clients = [Client(number, self.site, self.records) for number in (*MEMBERS, *LOAD_CLIENTS)]
@@ -42,7 +43,7 @@ class Trial:
             self.load.clients[0].drops = 5
 
     def begin(self):
-        """Everything up to a coordinator on host 1 and a standby on host 2 that was refused by the lock."""
+        """Everything up to a coordinator on host 1 and a standby on host 2 that was refused."""
         make_switch(self.folder)
         for host in self.hosts:
             host.boot()
@@ -59,8 +60,9 @@ class Trial:
         first.start()
         wait_for("a coordinator on host 1", 30, lambda: first.starts() == 1)
         tell(f"host1: resetd serve /srv/resetd/store {first.address}: listening")
+        tell(f"host2: the same, {second.address}: status {second.serve_by_hand()}")
         second.start()
-        tell(f"host2: the same, {second.address}: status {second.wait_refused()}")
+        second.wait_refused()
         self.services = [Service(node, self.clients[node - 1], self.keepers) for node in MEMBERS]
         for service in self.services:
             service.thread.start()
@@ -152,7 +154,7 @@ class Trial:
         closed = ask(self.site.host, keeper.address, {"op": "close"}, 30)
         wait_for(f"the end on {keeper.host.name}", 30, lambda: len(keeper.ends()) > before)
         ended = keeper.ends()[before]
-        if ended != "3 resetd: Device" or closed != {"kind": "closed"}:
+        if ended != REFUSED or closed != {"kind": "closed"}:
             raise Lost(f"the old coordinator on {keeper.host.name} ended with {ended}")
         return ended
 

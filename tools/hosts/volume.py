@@ -92,6 +92,14 @@ class Volume:
     def kill_brick(self, host):
         host.run("kill", "-9", self.brick_process(host))
 
+    def freeze_brick(self, host):
+        """What comes to it is not looked at any more."""
+        host.run("kill", "-STOP", self.brick_process(host))
+
+    def set_healing(self, is_on):
+        """Whether a brick that owes another one something is looked at."""
+        self.gluster(self.hosts[0], "volume", "set", NAME, "cluster.self-heal-daemon", "on" if is_on else "off")
+
     def start_brick(self, host):
         self.gluster(host, "volume", "start", NAME, "force")
         wait_for(f"the brick of {host.name}", 30, lambda: self.brick_process(host) is not None)
