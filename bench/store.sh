@@ -1,7 +1,7 @@
 #!/usr/bin/env bash
 # How long the store takes to commit 256 steps, as a multiple of judging and applying them, and to open
 # a device of which a half of 4, 8 or 16 MiB is full, as bytes per second and as a multiple of a plain
-# read of as many bytes: all over a disk in memory, in one run. The program of bench/store is proved and
+# read of as many bytes, and to migrate a full store: all over a disk in memory, in one run. The program of bench/store is proved and
 # built in a scratch repository over copies of the crates with what rt keeps in their out/, and runs
 # ROUNDS times; the least time of each part counts. Its files end in .txt, since the gate refuses a
 # source file that belongs to no crate.
@@ -17,10 +17,12 @@ for name in coord_disk coord_journal coord_types coord_link coord_node coord_tab
   cp -r "$here/crates/$name" "$scratch/crates/$name"
   grep "^$name:" "$here/crates.txt" >> "$scratch/crates.txt"
 done
-echo 'store_bench: coord_disk coord_types coord_world coord_batch coord_store' >> "$scratch/crates.txt"
+echo 'store_bench: coord_disk coord_types coord_world coord_batch coord_codec coord_store' >> "$scratch/crates.txt"
 for name in main fault steps full; do
   cp "$here/bench/store/$name.rt.txt" "$crate/src/$name.rt"
 done
+cp "$here/bench/store/migration.rt.txt" "$crate/src/migration.rt"
+cp "$here/bench/measures/wave.rt.txt" "$crate/src/wave.rt"
 cp "$here/bench/store/Invariants.antt.txt" "$crate/proofs/steps/are_numbered/Invariants.antt"
 cp "$here/bench/store/Writable.antt.txt" "$crate/proofs/full/are_writable/Invariants.antt"
 
@@ -33,6 +35,10 @@ done | awk '
     judged = least["judged 0"] / steps["judged 0"]; committed = least["committed 0"] / steps["committed 0"]
     printf "256 steps judged and applied %9.0f ns\n", 256 * judged
     printf "256 steps committed          %9.0f ns, %.2f times that\n", 256 * committed, committed / judged
+    for (part in least) if (part ~ /^migrated/) {
+      split(part, words)
+      printf "migrated a world of %d bytes %9.0f ns\n", words[2], least[part]
+    }
     for (part in least) if (part ~ /^opened/) {
       split(part, words); bytes = words[2]; read = least["read " bytes]
       printf "opened %9d bytes, %7d steps %9.0f ms, %6.2f MB/s, %7.0f steps/s, %6.0f reads\n", bytes, steps[part], least[part] / 1e6, 1e3 * bytes / least[part], 1e9 * steps[part] / least[part], least[part] / read | "sort -k2n"

@@ -31,7 +31,7 @@ reopens present l new disk gone opened w image gives home same is_image only is 
 pub crash_held : (l new : LedgerState MemDisk) (claims : List Claim) → ReopenedTo l new → claims ≡ [] → IsHeld new claims
 crash_held l new claims to none = new_held new (world_after l.log to.0) to.2.0 claims to.2.1 none
 
-pub crash_told : (l new : LedgerState MemDisk) (holds : Bool) → ReopenedTo l new → Does (drill_of l holds) Crash (opened_line (front_world new.log).count) (drill_of new false)
-crash_told l new holds to =
-    subst (λ (m : LedgerState MemDisk). Does (drill_of l holds) Crash (opened_line (front_world m.log).count) (drill_of m false)) (sym to.2.1)
-    (does_crash (drill_of l holds) to.0 to.1)
+pub crash_told : (l new : LedgerState MemDisk) (holds begun : Bool) → ReopenedTo l new → Does (drill_of l holds begun) Crash (opened_line (front_world new.log).count) (drill_of new false begun)
+crash_told l new holds begun to =
+    subst (λ (m : LedgerState MemDisk). Does (drill_of l holds begun) Crash (opened_line (front_world m.log).count) (drill_of m false begun)) (sym to.2.1)
+    (does_crash (drill_of l holds begun) to.0 to.1)

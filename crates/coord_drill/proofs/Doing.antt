@@ -24,8 +24,8 @@ use Rattle.coord_drill.proofs.Quiet.{does_quietly, quiet_luck, settled_kept}
 
 -- ---- drills over a ledger
 
-state_is : (d : Drill) (l : LedgerState MemDisk) → d.ledger ≡ Some l → state_of d ≡ drill_of l d.holds
-state_is d l is = ap (λ o. record { log = option_map_or (λ (k : LedgerState MemDisk). k.log) o (log_over (no_world 1)); doubt = option_map_or (λ (k : LedgerState MemDisk). k.doubt) o None; holds = d.holds }) is
+state_is : (d : Drill) (l : LedgerState MemDisk) → d.ledger ≡ Some l → state_of d ≡ drill_of l d.holds d.has_begun
+state_is d l is = ap (λ o. record { log = option_map_or (λ (k : LedgerState MemDisk). k.log) o (log_over (no_world 1)); doubt = option_map_or (λ (k : LedgerState MemDisk). k.doubt) o None; holds = d.holds; has_begun = d.has_begun }) is
 
 pub held_is : (d : Drill) (l : LedgerState MemDisk) → d.ledger ≡ Some l → IsReady d → IsHeld l d.tickets.items
 held_is d l is ready = subst (λ o. IsReadyWith o d.tickets.items) is ready
@@ -35,7 +35,7 @@ pub new_held : (l : LedgerState MemDisk) (w : World) (disk : MemDisk) (claims : 
 new_held l w disk claims is none = subst (λ cs. IsHeld l cs) (sym none) (subst (λ m. IsHeld m []) (sym is) (record { home = refl; here = (disk, refl); within = omega arith; tickets = refl }))
 
 -- what is told of a ledger is told of its drill
-pub tells_of : (P : DrillState → List ℕ → Type 0) (d : Drill) (l : LedgerState MemDisk) (old new told : List ℕ) → d.ledger ≡ Some l → new ≡ old ++ told → P (drill_of l d.holds) told → Tells old new (P (state_of d))
+pub tells_of : (P : DrillState → List ℕ → Type 0) (d : Drill) (l : LedgerState MemDisk) (old new told : List ℕ) → d.ledger ≡ Some l → new ≡ old ++ told → P (drill_of l d.holds d.has_begun) told → Tells old new (P (state_of d))
 tells_of P d l old new told is text done = (told, (text, subst (λ s. P s told) (sym (state_is d l is)) done))
 
 -- ---- flights
@@ -100,6 +100,6 @@ does_settle_step s x k told t is free flown =
 
 -- ---- crashes
 
-pub does_crash : (s : DrillState) (n : ℕ) → IsOneOf n (kept_by s.log.settled None s.doubt) → Does s Crash (opened_line (world_after s.log n).count) (drill_over (world_after s.log n))
+pub does_crash : (s : DrillState) (n : ℕ) → IsOneOf n (kept_by s.log.settled None s.doubt) → Does s Crash (opened_line (world_after s.log n).count) (record { log = log_over (world_after s.log n); doubt = None; holds = false; has_begun = s.has_begun })
 unfolding asked_lines after_asked
 does_crash s n allowed = record { luck = record { commit = Committed; kept = n }; allowed = record { commit = inl refl; kept = allowed }; printed = refl; goes_on = refl }

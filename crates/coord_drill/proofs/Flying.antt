@@ -30,7 +30,7 @@ use Rattle.coord_drill.specs.Holding.{FlownTo, IsBack, IsHeld, claims_of, collec
 use Rattle.coord_drill.specs.Printed.{commit_line, settled_lines}
 use Rattle.coord_drill.specs.declared.drill.flying.Flown.TheVariants as flown
 use Rattle.coord_drill.proofs.Doing.{flies, stays}
-use Rattle.coord_drill.proofs.Settling.{collected_are, granted_from, waiting_are}
+use Rattle.coord_drill.proofs.Settling.{collected_are, fold_version, granted_from, waiting_are}
 
 -- ---- out and back
 
@@ -111,23 +111,23 @@ module _ (l out new : LedgerState MemDisk) (f g : FlightState MemDisk) (away : k
 
 -- ---- what is printed
 
-abbrev state : Log → Option ℕ → Bool → DrillState
-state log doubt holds = record { log = log; doubt = doubt; holds = holds }
+abbrev state : Log → Option ℕ → Bool → Bool → DrillState
+state log doubt holds begun = record { log = log; doubt = doubt; holds = holds; has_begun = begun }
 
 module _ (l new : LedgerState MemDisk) (claims : List Claim) (held : IsHeld l claims) where
   -- none is out, so what keeps the store is what a drill sees
-  seen : (holds : Bool) → has_no_flight (drill_of l holds) ≡ keeps_store l
-  seen holds = ap (λ o. stays_home (is_some l.doubt) (is_some o) l.log) (sym held.home)
+  seen : (holds begun : Bool) → has_no_flight (drill_of l holds begun) ≡ keeps_store l
+  seen holds begun = ap (λ o. stays_home (is_some l.doubt) (is_some o) l.log) (sym held.home)
 
-  pub nothing_told : (holds : Bool) → FlownTo l flown.Nothing new → Flies (drill_of l holds) [] (drill_of new holds)
-  nothing_told holds to = subst (λ m. Flies (drill_of l holds) [] (drill_of m holds)) (sym to.1) (stays (drill_of l holds) (seen holds ∙ to.0))
+  pub nothing_told : (holds begun : Bool) → FlownTo l flown.Nothing new → Flies (drill_of l holds begun) [] (drill_of new holds begun)
+  nothing_told holds begun to = subst (λ m. Flies (drill_of l holds begun) [] (drill_of m holds begun)) (sym to.1) (stays (drill_of l holds begun) (seen holds begun ∙ to.0))
 
-  back_told : (holds : Bool) (answer : Answer) (log : Log) (doubt : Option ℕ) → IsBack l log doubt new → IsOneOf answer (to_commit New) → after_commit (drill_of l holds) answer ≡ state log doubt holds
-      → Flies (drill_of l holds) (commit_lines l.log answer) (drill_of new holds)
-  back_told holds answer log doubt back allowed after =
-      let same : after_commit (drill_of l holds) answer ≡ drill_of new holds =
-      after ∙ sym (ap (λ g. state g new.doubt holds) back.log_is ∙ ap (λ d. state log d holds) back.doubt_is) in
-      subst (λ t. Flies (drill_of l holds) (commit_lines l.log answer) t) same (flies (drill_of l holds) answer (seen holds ∙ back.away) allowed)
+  back_told : (holds begun : Bool) (answer : Answer) (log : Log) (doubt : Option ℕ) → IsBack l log doubt new → IsOneOf answer (to_commit New) → after_commit (drill_of l holds begun) answer ≡ state log doubt holds begun
+      → Flies (drill_of l holds begun) (commit_lines l.log answer) (drill_of new holds begun)
+  back_told holds begun answer log doubt back allowed after =
+      let same : after_commit (drill_of l holds begun) answer ≡ drill_of new holds begun =
+      after ∙ sym (ap (λ g. state g new.doubt holds begun) back.log_is ∙ ap (λ d. state log d holds begun) back.doubt_is) in
+      subst (λ t. Flies (drill_of l holds begun) (commit_lines l.log answer) t) same (flies (drill_of l holds begun) answer (seen holds begun ∙ back.away) allowed)
 
   -- of a flight that was not committed
   same_held : (doubt : Option ℕ) → IsBack l l.log doubt new → IsHeld new claims
@@ -138,12 +138,12 @@ module _ (l new : LedgerState MemDisk) (claims : List Claim) (held : IsHeld l cl
     tickets = held.tickets ∙ ap (λ g. claims_of (settled_world g) (pending g)) (sym back.log_is);
   }
 
-  pub failed_told : (holds : Bool) (fault : CommitFault) → FlownTo l (flown.Failed fault) new → Flies (drill_of l holds) (commit_line fault) (drill_of new holds)
-  failed_told holds commit.Device back = back_told holds (Failed commit.Device) l.log (Some (next_size l.log)) back (inr (inl refl)) refl
-  failed_told holds commit.OutOfMemory back = back_told holds (Failed commit.OutOfMemory) l.log l.doubt back (inr (inr (inl refl))) refl
-  failed_told holds commit.Full back = absurd back
-  failed_told holds commit.Stopped back = absurd back
-  failed_told holds commit.Again back = absurd back
+  pub failed_told : (holds begun : Bool) (fault : CommitFault) → FlownTo l (flown.Failed fault) new → Flies (drill_of l holds begun) (commit_line fault) (drill_of new holds begun)
+  failed_told holds begun commit.Device back = back_told holds begun (Failed commit.Device) l.log (Some (next_size l.log)) back (inr (inl refl)) refl
+  failed_told holds begun commit.OutOfMemory back = back_told holds begun (Failed commit.OutOfMemory) l.log l.doubt back (inr (inr (inl refl))) refl
+  failed_told holds begun commit.Full back = absurd back
+  failed_told holds begun commit.Stopped back = absurd back
+  failed_told holds begun commit.Again back = absurd back
 
   pub failed_held : (fault : CommitFault) → FlownTo l (flown.Failed fault) new → IsHeld new claims
   failed_held commit.Device back = same_held (Some (next_size l.log)) back
@@ -163,17 +163,21 @@ module _ (l new : LedgerState MemDisk) (claims : List Claim) (held : IsHeld l cl
     settles : settled_world new.log ≡ fold (settled_world l.log) (take (next_size l.log) (pending l.log))
     settles = ap settled_world to.0.log_is ∙ world-add l.log l.log.settled (next_size l.log)
 
-    lines : collected_lines (settled_world new.log).count claims rs ≡ settled_lines (outs (settled_world l.log) (take (next_size l.log) (pending l.log)))
-    lines =
-        ap (λ (v : World). collected_lines v.count claims rs) settles
-        ∙ ap (λ cs. collected_lines (fold (settled_world l.log) (take (next_size l.log) (pending l.log))).count cs rs) held.tickets
-        ∙ ap (λ given. collected_lines (fold (settled_world l.log) (take (next_size l.log) (pending l.log))).count (claims_of (settled_world l.log) (pending l.log)) given) to.1
-        ∙ collected_are (settled_world l.log) (next_size l.log) (pending l.log)
+    same : (settled_world new.log).version ≡ (settled_world l.log).version
+    same = ap (λ (v : World). v.version) settles ∙ fold_version (settled_world l.log) (take (next_size l.log) (pending l.log))
 
-    pub settled_told : (holds : Bool) → Flies (drill_of l holds) (collected_lines (settled_world new.log).count claims rs) (drill_of new holds)
-    settled_told holds =
-        subst (λ told. Flies (drill_of l holds) told (drill_of new holds)) (sym lines)
-        (back_told holds Committed (with_settled l.log (next_size l.log)) l.doubt to.0 (inl refl) refl)
+    lines : collected_lines (settled_world new.log).version (settled_world new.log).count claims rs ≡ settled_lines (settled_world l.log).version (outs (settled_world l.log) (take (next_size l.log) (pending l.log)))
+    lines =
+        ap (λ n. collected_lines n (settled_world new.log).count claims rs) same
+        ∙ ap (λ (v : World). collected_lines (settled_world l.log).version v.count claims rs) settles
+        ∙ ap (λ cs. collected_lines (settled_world l.log).version (fold (settled_world l.log) (take (next_size l.log) (pending l.log))).count cs rs) held.tickets
+        ∙ ap (λ given. collected_lines (settled_world l.log).version (fold (settled_world l.log) (take (next_size l.log) (pending l.log))).count (claims_of (settled_world l.log) (pending l.log)) given) to.1
+        ∙ collected_are (settled_world l.log).version (settled_world l.log) (next_size l.log) (pending l.log)
+
+    pub settled_told : (holds begun : Bool) → Flies (drill_of l holds begun) (collected_lines (settled_world new.log).version (settled_world new.log).count claims rs) (drill_of new holds begun)
+    settled_told holds begun =
+        subst (λ told. Flies (drill_of l holds begun) told (drill_of new holds begun)) (sym lines)
+        (back_told holds begun Committed (with_settled l.log (next_size l.log)) l.doubt to.0 (inl refl) refl)
 
     pub settled_held : (rest : List Claim) → rest ≡ waiting (settled_world new.log).count claims → IsHeld new rest
     settled_held rest is = record {

@@ -92,22 +92,22 @@ repeated_granted l new x t to =
 
 -- ---- what is printed
 
-module _ (l new : LedgerState MemDisk) (holds : Bool) (x : Step) where
-  pub refused_told : (e : Refusal) → HandedTo l x (Refused e) new → Does (drill_of l holds) (Submit x) (refusal_line e) (drill_of new holds)
-  refused_told e to = subst (λ m. Does (drill_of l holds) (Submit x) (refusal_line e) (drill_of m holds)) (sym to.1) (does_refuse (drill_of l holds) x e to.0)
+module _ (l new : LedgerState MemDisk) (holds begun : Bool) (x : Step) where
+  pub refused_told : (e : Refusal) → HandedTo l x (Refused e) new → Does (drill_of l holds begun) (Submit x) (refusal_line e) (drill_of new holds begun)
+  refused_told e to = subst (λ m. Does (drill_of l holds begun) (Submit x) (refusal_line e) (drill_of m holds begun)) (sym to.1) (does_refuse (drill_of l holds begun) x e to.0)
 
-  pub repeated_told : (t : Claim) → HandedTo l x (Repeated t) new → Does (drill_of l holds) (Submit x) (kept_line (settled_count new.log) (reply_of t)) (drill_of new holds)
+  pub repeated_told : (t : Claim) → HandedTo l x (Repeated t) new → Does (drill_of l holds begun) (Submit x) (kept_line (settled_count new.log) (reply_of t)) (drill_of new holds begun)
   repeated_told t to =
-      subst (λ (m : LedgerState MemDisk). Does (drill_of l holds) (Submit x) (kept_line (settled_count m.log) (reply_of t)) (drill_of m holds)) (sym to.3)
-      (subst (λ c. Does (drill_of l holds) (Submit x) (kept_line (settled_count l.log) (reply_of c)) (drill_of l holds)) (sym to.2)
-      (does_repeat (drill_of l holds) x to.0 to.1))
+      subst (λ (m : LedgerState MemDisk). Does (drill_of l holds begun) (Submit x) (kept_line (settled_count m.log) (reply_of t)) (drill_of m holds begun)) (sym to.3)
+      (subst (λ c. Does (drill_of l holds begun) (Submit x) (kept_line (settled_count l.log) (reply_of c)) (drill_of l holds begun)) (sym to.2)
+      (does_repeat (drill_of l holds begun) x to.0 to.1))
 
-  pub held_told : (t : Claim) → HandedTo l x (Accepted t) new → holds ≡ true → Does (drill_of l holds) (Submit x) (pending_line t.step) (drill_of new holds)
+  pub held_told : (t : Claim) → HandedTo l x (Accepted t) new → holds ≡ true → Does (drill_of l holds begun) (Submit x) (pending_line t.step) (drill_of new holds true)
   held_told t to is =
-      subst (λ (m : LedgerState MemDisk). Does (drill_of l holds) (Submit x) (pending_line t.step) (drill_of m holds)) (sym to.3)
-      (subst (λ (c : Claim). Does (drill_of l holds) (Submit x) (pending_line c.step) (drill_of (with_accepted l x) holds)) (sym to.2)
-      (does_hold_step (drill_of l holds) x to.0 to.1 is))
+      subst (λ (m : LedgerState MemDisk). Does (drill_of l holds begun) (Submit x) (pending_line t.step) (drill_of m holds true)) (sym to.3)
+      (subst (λ (c : Claim). Does (drill_of l holds begun) (Submit x) (pending_line c.step) (drill_of (with_accepted l x) holds true)) (sym to.2)
+      (does_hold_step (drill_of l holds begun) x to.0 to.1 is))
 
-  pub settled_told : (t : Claim) (told : List ℕ) (after : DrillState) → HandedTo l x (Accepted t) new → holds ≡ false → Flies (drill_of new holds) told after → Does (drill_of l holds) (Submit x) told after
+  pub settled_told : (t : Claim) (told : List ℕ) (after : DrillState) → HandedTo l x (Accepted t) new → holds ≡ false → Flies (drill_of new holds true) told after → Does (drill_of l holds begun) (Submit x) told after
   settled_told t told after to is flown =
-      does_settle_step (drill_of l holds) x to.0 told after to.1 is (subst (λ m. Flies (drill_of m holds) told after) to.3 flown)
+      does_settle_step (drill_of l holds begun) x to.0 told after to.1 is (subst (λ m. Flies (drill_of m holds true) told after) to.3 flown)

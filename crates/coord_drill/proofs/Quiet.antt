@@ -3,10 +3,11 @@ use Rattle.std.proofs.Common.{◌≡◌, ℕ, ◌+◌, Bool, true, false, List, 
 use Rattle.coord_check.specs.Faults.{first, faults}
 use Rattle.coord_lines.specs.Lines.{Line}
 use Rattle.coord_types.specs.declared.refusals.Refusal.{Refusal}
+use Rattle.coord_world.specs.protocol.NumberedWorld.{no_world}
 use Rattle.coord_world.specs.protocol.Outputs.{again}
 use Rattle.coord_ledger.specs.declared.events.Answer.TheVariants.{Committed}
 use Rattle.coord_ledger.specs.machine.Answers.{IsOneOf, kept_by}
-use Rattle.coord_ledger.specs.machine.Log.{front_world, settled_world}
+use Rattle.coord_ledger.specs.machine.Log.{front_world, log_over, settled_world}
 use Rattle.coord_drill.specs.Answered.{Does, Responds, asked_lines, shown_lines}
 use Rattle.coord_drill.specs.Asked.{asked}
 use Rattle.coord_drill.specs.Drill.{DrillState, IsAllowed, Luck, after_asked}
@@ -32,9 +33,13 @@ quiet_allowed s = record { commit = inl refl; kept = settled_kept s.log.settled 
 pub does_quietly : (s : DrillState) (a : Asked) (told : List ℕ) (t : DrillState) → told ≡ asked_lines (quiet_luck s) s a → t ≡ after_asked (quiet_luck s) s a → Does s a told t
 does_quietly s a told t printed goes_on = record { luck = quiet_luck s; allowed = quiet_allowed s; printed = printed; goes_on = goes_on }
 
-pub does_hold : (s : DrillState) → Does s ask.Hold [] (record { log = s.log; doubt = s.doubt; holds = true })
+pub does_hold : (s : DrillState) → Does s ask.Hold [] (record { log = s.log; doubt = s.doubt; holds = true; has_begun = s.has_begun })
 unfolding asked_lines after_asked
 does_hold s = does_quietly s ask.Hold [] _ refl refl
+
+pub does_begin : (s : DrillState) → Does s ask.Version2 [] (record { log = log_over (no_world 2); doubt = None; holds = s.holds; has_begun = s.has_begun })
+unfolding asked_lines after_asked
+does_begin s = does_quietly s ask.Version2 [] _ refl refl
 
 -- ---- texts that change nothing
 
@@ -50,9 +55,9 @@ pub tells_check : (s : DrillState) (old new : List ℕ) → new ≡ old ++ fault
 unfolding asked_lines after_asked
 tells_check s old new is = (fault_line (first (faults (front_world s.log))), (is, does_quietly s ask.Check _ s refl refl))
 
-pub tells_resent : (s : DrillState) (old new : List ℕ) → new ≡ old ++ output_lines (again (settled_world s.log)) → Tells old new (λ told. Does s ask.Resend told s)
+pub tells_resent : (s : DrillState) (old new : List ℕ) → new ≡ old ++ output_lines (settled_world s.log).version (again (settled_world s.log)) → Tells old new (λ told. Does s ask.Resend told s)
 unfolding asked_lines after_asked
-tells_resent s old new is = (output_lines (again (settled_world s.log)), (is, does_quietly s ask.Resend _ s refl refl))
+tells_resent s old new is = (output_lines (settled_world s.log).version (again (settled_world s.log)), (is, does_quietly s ask.Resend _ s refl refl))
 
 pub tells_show : (s : DrillState) (old new : List ℕ) → new ≡ old ++ shown_lines s.log s.doubt → Tells old new (λ told. Does s ask.Show told s)
 unfolding asked_lines after_asked
@@ -73,9 +78,9 @@ pub line_somehow : (s : DrillState) (n : ℕ) (line : Line) → Somehow (LineRes
 line_somehow s n None = responds_somehow s n None
 line_somehow s n (Some line) = unless (is_skipped line)
   where
-    unless : (b : Bool) → Somehow (λ told t. UnlessSkipped b s told t (Responds s n (asked_by line) told t))
+    unless : (b : Bool) → Somehow (λ told t. UnlessSkipped b s told t (Responds s n (asked_by s line) told t))
     unless true = ([], s, (refl, refl))
-    unless false = responds_somehow s n (asked_by line)
+    unless false = responds_somehow s n (asked_by s line)
 
 pub prints_somehow : (s : DrillState) (n : ℕ) (lines : List Line) → (text : List ℕ) × Prints s n lines text
 prints_somehow s n [] = ([], refl)

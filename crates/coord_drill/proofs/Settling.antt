@@ -6,7 +6,7 @@ use Rattle.std.specs.List.{AllByRecursion}
 use Rattle.std.specs.Prelude.{nat_le, slice_get}
 use Rattle.coord_types.specs.declared.outputs.Output.{Output}
 use Rattle.coord_types.specs.declared.steps.Step.{Step}
-use Rattle.coord_world.proofs.Facade.{by_test, fold-append, fold_counts}
+use Rattle.coord_world.proofs.Facade.{by_test, fold-append, fold_counts, same_version}
 use Rattle.coord_world.specs.protocol.Next.{fold, next, reply}
 use Rattle.coord_world.specs.protocol.NumberedWorld.{World}
 use Rattle.coord_world.specs.protocol.Outputs.{again, outputs, outs}
@@ -20,14 +20,14 @@ use Rattle.coord_drill.specs.Printed.{output_line, output_lines, reply_line, set
 -- ---- the releases of one step
 
 -- later steps have later numbers
-none_later : (v : World) (steps : List Step) (n : ℕ) → n ≤ v.count → released_lines n (releases_of (outs v steps)) ≡ []
-none_later v [] n le = refl
-none_later v (s ∷ ss) n le = first (none_later (next v s) ss n (omega (arith, le))) (outputs v s)
+none_later : (version : ℕ) (v : World) (steps : List Step) (n : ℕ) → n ≤ v.count → released_lines version n (releases_of (outs v steps)) ≡ []
+none_later version v [] n le = refl
+none_later version v (s ∷ ss) n le = first (none_later version (next v s) ss n (omega (arith, le))) (outputs v s)
   where
-    first : released_lines n (releases_of (outs (next v s) ss)) ≡ [] → (os : List Output) → released_lines n (map (release_of (v.count + 1)) os ++ releases_of (outs (next v s) ss)) ≡ []
+    first : released_lines version n (releases_of (outs (next v s) ss)) ≡ [] → (os : List Output) → released_lines version n (map (release_of (v.count + 1)) os ++ releases_of (outs (next v s) ss)) ≡ []
     first none [] = none
     first none (o ∷ os) =
-        by_test ((v.count + 1) == n) (λ b. cond b (output_line o ++ released_lines n (map (release_of (v.count + 1)) os ++ releases_of (outs (next v s) ss))) [] ≡ [])
+        by_test ((v.count + 1) == n) (λ b. cond b (output_line version o ++ released_lines version n (map (release_of (v.count + 1)) os ++ releases_of (outs (next v s) ss))) [] ≡ [])
         (λ same. absurd (grind (arith, nat_tests, same, le)))
         (λ _. refl)
 
@@ -44,11 +44,11 @@ all_later v (s ∷ ss) n le = first (all_later (next v s) ss n (omega (arith, le
         (λ _. refl)
 
 -- those of a step, before later ones
-pub own_lines : (n : ℕ) (os : List Output) (rest : List Release) → released_lines n rest ≡ [] → released_lines n (map (release_of n) os ++ rest) ≡ output_lines os
-own_lines n [] rest none = none
-own_lines n (o ∷ os) rest none =
-    by_test (n == n) (λ b. cond b (output_line o ++ released_lines n (map (release_of n) os ++ rest)) [] ≡ output_line o ++ output_lines os)
-    (λ _. ap (λ l. output_line o ++ l) (own_lines n os rest none))
+pub own_lines : (version n : ℕ) (os : List Output) (rest : List Release) → released_lines version n rest ≡ [] → released_lines version n (map (release_of n) os ++ rest) ≡ output_lines version os
+own_lines version n [] rest none = none
+own_lines version n (o ∷ os) rest none =
+    by_test (n == n) (λ b. cond b (output_line version o ++ released_lines version n (map (release_of n) os ++ rest)) [] ≡ output_line version o ++ output_lines version os)
+    (λ _. ap (λ l. output_line version o ++ l) (own_lines version n os rest none))
     (λ apart. absurd (grind (arith, nat_tests, apart)))
 
 own_behind : (n : ℕ) (os : List Output) (rest : List Release) → behind n rest ≡ rest → behind n (map (release_of n) os ++ rest) ≡ rest
@@ -60,31 +60,36 @@ own_behind n (o ∷ os) rest all =
 
 -- ---- the steps of a flight
 
+-- they keep the version
+pub fold_version : (w : World) (steps : List Step) → (fold w steps).version ≡ w.version
+fold_version w [] = refl
+fold_version w (s ∷ ss) = fold_version (next w s) ss ∙ same_version w s
+
 after_first : (w : World) (b : ℕ) (s : Step) (ss : List Step) → nat_le (w.count + 1) (fold (next w s) (take b ss)).count ≡ true
 after_first w b s ss = grind (arith, nat_tests, fold_counts (next w s) (take b ss))
 
 -- what is collected is what the steps that are settled gave out
-pub collected_are : (w : World) (b : ℕ) (steps : List Step) → collected_lines (fold w (take b steps)).count (claims_of w steps) (releases_of (outs w (take b steps))) ≡ settled_lines (outs w (take b steps))
-collected_are w zero [] = refl
-collected_are w zero (s ∷ ss) =
-    let lines = reply_line (reply w s) ++ (released_lines (w.count + 1) [] ++ collected_lines w.count (claims_of (next w s) ss) (behind (w.count + 1) [])) in
+pub collected_are : (version : ℕ) (w : World) (b : ℕ) (steps : List Step) → collected_lines version (fold w (take b steps)).count (claims_of w steps) (releases_of (outs w (take b steps))) ≡ settled_lines version (outs w (take b steps))
+collected_are version w zero [] = refl
+collected_are version w zero (s ∷ ss) =
+    let lines = reply_line (reply w s) ++ (released_lines version (w.count + 1) [] ++ collected_lines version w.count (claims_of (next w s) ss) (behind (w.count + 1) [])) in
     by_test (nat_le (w.count + 1) w.count) (λ b. cond b lines [] ≡ [])
     (λ le. absurd (grind (arith, nat_tests, le)))
     (λ _. refl)
-collected_are w (suc b) [] = refl
-collected_are w (suc b) (s ∷ ss) =
+collected_are version w (suc b) [] = refl
+collected_are version w (suc b) (s ∷ ss) =
     let v = next w s in
     let n = w.count + 1 in
     let rest = releases_of (outs v (take b ss)) in
     let count = (fold v (take b ss)).count in
-    let own = own_lines n (outputs w s) rest (none_later v (take b ss) n (omega arith)) in
+    let own = own_lines version n (outputs w s) rest (none_later version v (take b ss) n (omega arith)) in
     let later = own_behind n (outputs w s) rest (all_later v (take b ss) n (omega arith)) in
-    let told = reply_line (reply w s) ++ (released_lines n (map (release_of n) (outputs w s) ++ rest) ++ collected_lines count (claims_of v ss) (behind n (map (release_of n) (outputs w s) ++ rest))) in
+    let told = reply_line (reply w s) ++ (released_lines version n (map (release_of n) (outputs w s) ++ rest) ++ collected_lines version count (claims_of v ss) (behind n (map (release_of n) (outputs w s) ++ rest))) in
     ap (λ t. cond t told []) (after_first w b s ss)
-    ∙ ap (λ l. reply_line (reply w s) ++ (l ++ collected_lines count (claims_of v ss) (behind n (map (release_of n) (outputs w s) ++ rest)))) own
-    ∙ ap (λ l. reply_line (reply w s) ++ (output_lines (outputs w s) ++ collected_lines count (claims_of v ss) l)) later
-    ∙ ap (λ l. reply_line (reply w s) ++ (output_lines (outputs w s) ++ l)) (collected_are v b ss)
-    ∙ sym (append_assoc (reply_line (reply w s)) (output_lines (outputs w s)) _)
+    ∙ ap (λ l. reply_line (reply w s) ++ (l ++ collected_lines version count (claims_of v ss) (behind n (map (release_of n) (outputs w s) ++ rest)))) own
+    ∙ ap (λ l. reply_line (reply w s) ++ (output_lines version (outputs w s) ++ collected_lines version count (claims_of v ss) l)) later
+    ∙ ap (λ l. reply_line (reply w s) ++ (output_lines version (outputs w s) ++ l)) (collected_are version v b ss)
+    ∙ sym (append_assoc (reply_line (reply w s)) (output_lines version (outputs w s)) _)
 
 -- and the tickets of the others are left
 pub waiting_are : (w : World) (b : ℕ) (steps : List Step) → waiting (fold w (take b steps)).count (claims_of w steps) ≡ claims_of (fold w (take b steps)) (drop b steps)
@@ -133,5 +138,5 @@ looked_at [] = refl
 looked_at (r ∷ rs) = refl
 
 -- what is sent again is all of one step, 0
-pub resent_lines : (w : World) → released_lines 0 (resent w) ≡ output_lines (again w)
-resent_lines w = ap (released_lines 0) (sym (append-nil (resent w))) ∙ own_lines 0 (again w) [] refl
+pub resent_lines : (version : ℕ) (w : World) → released_lines version 0 (resent w) ≡ output_lines version (again w)
+resent_lines version w = ap (released_lines version 0) (sym (append-nil (resent w))) ∙ own_lines version 0 (again w) [] refl

@@ -1,7 +1,7 @@
--- What is spelled of a field is read so: numbers, and the names of messages.
-use Rattle.std.proofs.Common.{◌≡◌, ℕ, ◌+◌, ◌<◌, ◌^◌, Bool, true, false, cond, not, ltb, leb, ◌&&◌, [], ◌∷◌, length, decimal, Some, None, refl, sym, ap, ◌∙◌, subst, arith}
+-- What is spelled of a field is read so: numbers, distances, and the word 2.
+use Rattle.std.proofs.Common.{◌≡◌, ℕ, ◌+◌, ◌<◌, ◌^◌, Bool, true, false, cond, not, ltb, leb, ◌&&◌, List, [], ◌∷◌, ◌++◌, length, decimal, Some, None, refl, sym, ap, ◌∙◌, subst, arith}
 use Rattle.std.specs.List.{position_or_len}
-use Rattle.std.specs.Prelude.{codes, ◌==◌}
+use Rattle.std.specs.Prelude.{bytes_eq, codes, ◌==◌, if◌then◌else◌}
 use Rattle.std.specs.Str.{all_ascii_digits}
 use Rattle.std.specs.Str.Parse.{digits_value}
 use Rattle.std.proofs.lemmas.Bool.{ne_eqb}
@@ -9,13 +9,9 @@ use Rattle.std.proofs.lemmas.Bool.Decides.{nat_tests}
 use Rattle.std.proofs.lemmas.Fmt.{decimal_is_IsNumeral}
 use Rattle.std.proofs.lemmas.Grind.{common_steps}
 use Rattle.std.proofs.lemmas.Str.Parse.{numerals_by_value, tells_all_ascii_digits}
-use Rattle.coord_types.specs.Messages.{brought}
-use Rattle.coord_types.specs.Names.{msg_name}
-use Rattle.coord_types.specs.declared.messages.Msg.{Msg}
-use Rattle.coord_types.specs.declared.messages.Msg.TheVariants as msg
-use Rattle.coord_drill.specs.Format.{◌>>=◌, Word}
-use Rattle.coord_drill.specs.Grammar.{is_space, number_of, up_to, message_of, number, number_to, node, group, client, message}
-use Rattle.coord_drill.proofs.Formats.{IsPlain, IsFormat, field_format}
+use Rattle.coord_drill.specs.Format.{◌>>=◌, Word, field}
+use Rattle.coord_drill.specs.Grammar.{distance, is_space, number_of, up_to, number, number_to, node, group, client}
+use Rattle.coord_drill.proofs.Formats.{ArePlain, IsPlain, IsFormat, field_format}
 
 -- digits are no spaces
 digits_plain : (w : Word) → all_ascii_digits w ≡ true → IsPlain w
@@ -69,18 +65,33 @@ pub client_format : IsFormat client
 unfolding client
 client_format = number_to_format 16 (omega arith)
 
--- the name of a message is read as it
-message_is : (m : Msg) → brought m ≡ 0 → (message_of (msg_name m) ≡ Some m) × IsPlain (msg_name m)
-unfolding message_of
-message_is (msg.Abort k) none = subst (λ n. (message_of (codes "abort") ≡ Some (msg.Abort n)) × IsPlain (codes "abort")) (sym none) (refl, refl)
-message_is msg.Ack none = (refl, refl)
-message_is msg.Ready none = (refl, refl)
+-- a distance: in version 2 a number, and in version 1 no word
+distance_again : (version k : ℕ) (ws rest : List Word) (b : Bool) → (version == 2) ≡ b → cond b (number.spell k) (cond (k == 0) (Some []) None) ≡ Some ws → cond b (number.read (ws ++ rest)) (Some (0, ws ++ rest)) ≡ Some (k, rest)
+distance_again version k ws rest true is e = number_format.again k ws rest e
+distance_again version k ws rest false is e = zero_again (k == 0) refl e
+  where
+    zero_again : (z : Bool) → (k == 0) ≡ z → cond z (Some []) None ≡ Some ws → Some (0, ws ++ rest) ≡ Some (k, rest)
+    zero_again true none f =
+        let same : [] ≡ ws = cc in
+        let zero : 0 ≡ k = grind (arith, nat_tests, none) in
+        subst (λ vs. Some (0, vs ++ rest) ≡ Some (k, rest)) same (ap (λ n. Some (n, rest)) zero)
+    zero_again false none f = absurd cc
 
--- a message
-message_agrees : (m : Msg) (w : Word) (b : Bool) → (brought m == 0) ≡ b → cond b (Some (msg_name m)) None ≡ Some w → (message_of w ≡ Some m) × IsPlain w
-message_agrees m w true e f = let same : msg_name m ≡ w = cc in subst (λ v. (message_of v ≡ Some m) × IsPlain v) same (message_is m (grind (arith, nat_tests)))
-message_agrees m w false e f = absurd cc
+distance_plain : (version k : ℕ) (ws : List Word) (b : Bool) → cond b (number.spell k) (cond (k == 0) (Some []) None) ≡ Some ws → ArePlain ws
+distance_plain version k ws true e = number_format.plain k ws e
+distance_plain version k ws false e = zero_plain (k == 0) e
+  where
+    zero_plain : (z : Bool) → cond z (Some []) None ≡ Some ws → ArePlain ws
+    zero_plain true f = let same : [] ≡ ws = cc in subst ArePlain same tt
+    zero_plain false f = absurd cc
 
-pub message_format : IsFormat message
-unfolding message
-message_format = field_format _ _ (λ m w e. message_agrees m w _ refl e)
+pub distance_format : (version : ℕ) → IsFormat (distance version)
+unfolding distance
+distance_format version = record { again = λ k ws rest e. distance_again version k ws rest (version == 2) refl e; plain = λ k ws e. distance_plain version k ws (version == 2) e }
+
+-- the word 2
+two_agrees : (x : Unit {0}) (w : Word) → Some (codes "2") ≡ Some w → (cond (bytes_eq w (codes "2")) (Some tt) None ≡ Some x) × IsPlain w
+two_agrees x w e = let same : codes "2" ≡ w = cc in subst (λ v. (cond (bytes_eq v (codes "2")) (Some tt) None ≡ Some x) × IsPlain v) same (refl, refl)
+
+pub two_format : IsFormat (field (λ (_ : Unit {0}). Some (codes "2")) (λ word. if bytes_eq word (codes "2") then Some tt else None))
+two_format = field_format _ _ two_agrees

@@ -2,13 +2,14 @@
 use Rattle.std.proofs.Common.{◌≡◌, ℕ, not, ◌&&◌, List, [], ◌∷◌, map, Some, None, refl, ap, ◌∙◌}
 use Rattle.std.specs.Prelude.{bytes_eq}
 use Rattle.coord_types.specs.declared.messages.Msg.{Msg}
+use Rattle.coord_types.specs.declared.messages.Msg.TheVariants.{Abort, Ack, Ready}
 use Rattle.coord_types.specs.declared.steps.Command.{Command}
 use Rattle.coord_drill.specs.declared.request.Request.{Request}
-use Rattle.coord_drill.specs.declared.request.Request.TheVariants.{Next, Order, Take, Clear, Data, Receipt, Resend, Check, Show, Hold, Flush, Crash}
+use Rattle.coord_drill.specs.declared.request.Request.TheVariants.{Next, Order, Take, Clear, Data, Receipt, Resend, Check, Show, Hold, Flush, Crash, Version2}
 use Rattle.coord_drill.specs.Format.{Row}
-use Rattle.coord_drill.specs.Grammar.{commands, next_row, order_fields, data_fields, receipt_fields, other_requests, requests}
+use Rattle.coord_drill.specs.Grammar.{commands, next_row, messages, order_fields, data_fields, receipt_fields, version_fields, other_requests, requests}
 use Rattle.coord_drill.proofs.Formats.{IsFormat, nothing_format, made_of, both, by_parts, is_other, IsTable, one_of_format}
-use Rattle.coord_drill.proofs.SpelledFields.{number_format, node_format, client_format, message_format}
+use Rattle.coord_drill.proofs.SpelledFields.{distance_format, number_format, node_format, client_format, two_format}
 use Rattle.coord_drill.proofs.SpelledCommands.{commands_table}
 
 -- of the parts that the table gives of a request, that request is made
@@ -42,15 +43,37 @@ clear_parts : (y : Request) (x : ℕ × ℕ) → (elim y [ Clear u v ↦ Some (u
 clear_parts (Clear u v) x e = made_of (λ p. Clear p.0 p.1) (u, v) x e
 clear_parts _ x e = absurd cc
 
+abort_parts : (y : Msg) (x : ℕ) → (elim y [ Abort k ↦ Some k | _ ↦ None ]) ≡ Some x → Abort x ≡ y
+abort_parts (Abort k) x e = made_of Abort k x e
+abort_parts _ x e = absurd cc
+
+ack_parts : (y : Msg) (x : Unit {0}) → (elim y [ Ack ↦ Some tt | _ ↦ None ]) ≡ Some x → Ack ≡ y
+ack_parts Ack x e = refl
+ack_parts _ x e = absurd cc
+
+ready_parts : (y : Msg) (x : Unit {0}) → (elim y [ Ready ↦ Some tt | _ ↦ None ]) ≡ Some x → Ready ≡ y
+ready_parts Ready x e = refl
+ready_parts _ x e = absurd cc
+
+-- the names of messages differ, and each row is read as it is spelled
+messages_table : (version : ℕ) → IsTable (messages version)
+unfolding messages
+messages_table version = (
+  by_parts _ _ abort_parts (distance_format version),
+  refl,
+  refl,
+  (by_parts _ _ ack_parts nothing_format, refl, refl, (by_parts _ _ ready_parts nothing_format, refl, refl, tt)),
+)
+
 data_parts : (y : Request) (x : ℕ × (ℕ × (ℕ × (ℕ × Msg)))) → (elim y [ Data d ↦ Some (d.from, (d.to, (d.inc, (d.number, d.msg)))) | _ ↦ None ]) ≡ Some x
     → Data (record { from = x.0; to = x.1.0; inc = x.1.1.0; number = x.1.1.1.0; msg = x.1.1.1.1 }) ≡ y
 data_parts (Data d) x e =
     made_of (λ p. Data (record { from = p.0; to = p.1.0; inc = p.1.1.0; number = p.1.1.1.0; msg = p.1.1.1.1 })) (d.from, (d.to, (d.inc, (d.number, d.msg)))) x e
 data_parts _ x e = absurd cc
 
-data_format : IsFormat data_fields
+data_format : (version : ℕ) → IsFormat (data_fields version)
 unfolding data_fields
-data_format = by_parts _ _ data_parts (both node_format (both node_format (both number_format (both number_format message_format))))
+data_format version = by_parts _ _ data_parts (both node_format (both node_format (both number_format (both number_format (one_of_format (messages version) (messages_table version))))))
 
 receipt_parts : (y : Request) (x : ℕ × (ℕ × (ℕ × ℕ))) → (elim y [ Receipt r ↦ Some (r.from, (r.to, (r.inc, r.number))) | _ ↦ None ]) ≡ Some x
     → Receipt (record { from = x.0; to = x.1.0; inc = x.1.1.0; number = x.1.1.1 }) ≡ y
@@ -85,10 +108,18 @@ crash_parts : (y : Request) (x : Unit {0}) → (elim y [ Crash ↦ Some tt | _ �
 crash_parts Crash x e = refl
 crash_parts _ x e = absurd cc
 
+version_parts : (y : Request) (x : Unit {0}) → (elim y [ Version2 ↦ Some tt | _ ↦ None ]) ≡ Some x → Version2 ≡ y
+version_parts Version2 x e = refl
+version_parts _ x e = absurd cc
+
+version_format : IsFormat version_fields
+unfolding version_fields
+version_format = by_parts _ _ version_parts two_format
+
 -- so do those of requests
-pub requests_table : IsTable requests
+pub requests_table : (version : ℕ) → IsTable (requests version)
 unfolding other_requests commands
-requests_table = (
+requests_table version = (
   order_format,
   refl,
   refl,
@@ -101,7 +132,7 @@ requests_table = (
       refl,
       refl,
       (
-        data_format,
+        data_format version,
         refl,
         refl,
         (
@@ -124,7 +155,7 @@ requests_table = (
                   by_parts _ _ hold_parts nothing_format,
                   refl,
                   refl,
-                  (by_parts _ _ flush_parts nothing_format, refl, refl, (by_parts _ _ crash_parts nothing_format, refl, refl, next_table commands commands_table)),
+                  (by_parts _ _ flush_parts nothing_format, refl, refl, (by_parts _ _ crash_parts nothing_format, refl, refl, (version_format, refl, refl, next_table commands commands_table))),
                 ),
               ),
             ),

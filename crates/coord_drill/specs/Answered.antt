@@ -18,14 +18,14 @@ use Rattle.coord_drill.specs.Asked.{asked}
 use Rattle.coord_drill.specs.Drill.{DrillState, IsAllowed, Luck, after_asked, after_flight, has_no_flight, said, with_accepted}
 use Rattle.coord_drill.specs.Printed.{bad_line, commit_line, count_line, fault_line, idle_line, opened_line, output_lines, pending_line, refusal_line, reply_line, settled_lines, view_lines}
 use Rattle.coord_drill.specs.declared.asked.Asked.{Asked}
-use Rattle.coord_drill.specs.declared.asked.Asked.TheVariants.{Submit, Refuse, Nothing, Resend, Check, Show, Hold, Flush, Crash}
+use Rattle.coord_drill.specs.declared.asked.Asked.TheVariants.{Submit, Refuse, Nothing, Resend, Check, Show, Hold, Flush, Crash, Version2}
 use Rattle.coord_drill.specs.declared.request.Request.{Request}
 
 -- ---- flights: begin_flush, commit, end_flush, and for each step that is settled collect and the releases
 
 -- a flight of the next steps settles them, or tells why it was not committed
 abbrev pub commit_lines : Log → Answer → List ℕ
-commit_lines log Committed = settled_lines (outs (settled_world log) (take (next_size log) (pending log)))
+commit_lines log Committed = settled_lines (settled_world log).version (outs (settled_world log) (take (next_size log) (pending log)))
 commit_lines log (Failed fault) = commit_line fault
 commit_lines log answer = []
 
@@ -56,12 +56,13 @@ unfoldable pub asked_lines : Luck → DrillState → Asked → List ℕ
 asked_lines luck s (Submit x) = step_lines luck s x
 asked_lines luck s (Refuse refusal) = refusal_line refusal
 asked_lines luck s Nothing = idle_line
-asked_lines luck s Resend = output_lines (again (settled_world s.log))
+asked_lines luck s Resend = output_lines (settled_world s.log).version (again (settled_world s.log))
 asked_lines luck s Check = fault_line (first (faults (front_world s.log)))
 asked_lines luck s Show = shown_lines s.log s.doubt
 asked_lines luck s Hold = []
 asked_lines luck s Flush = flight_lines luck.commit s ++ count_line (settled_world (after_flight luck.commit s).log).count
 asked_lines luck s Crash = opened_line (world_after s.log luck.kept).count
+asked_lines luck s Version2 = []
 
 -- ---- what may be answered
 

@@ -14,7 +14,7 @@ use Rattle.coord_world.specs.protocol.Outputs.{receipt, front_packet}
 use Rattle.coord_drill.specs.declared.request.Request.{Request}
 use Rattle.coord_drill.specs.declared.request.Request.TheVariants as request
 use Rattle.coord_drill.specs.declared.asked.Asked.{Asked}
-use Rattle.coord_drill.specs.declared.asked.Asked.TheVariants.{Submit, Refuse, Nothing, Resend, Check, Show, Hold, Flush, Crash}
+use Rattle.coord_drill.specs.declared.asked.Asked.TheVariants.{Submit, Refuse, Nothing, Resend, Check, Show, Hold, Flush, Crash, Version2}
 
 -- the packet of the front of a lane from u to v, if there is one
 abbrev pub packet_of : ℕ → ℕ → Lane → List Msg → Option DataPacket
@@ -55,3 +55,4 @@ asked w request.Show = Show
 asked w request.Hold = Hold
 asked w request.Flush = Flush
 asked w request.Crash = Crash
+asked w request.Version2 = Version2

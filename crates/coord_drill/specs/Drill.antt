@@ -8,24 +8,29 @@ use Rattle.coord_types.specs.declared.steps.Step.{Step}
 use Rattle.coord_store.specs.declared.faults.CommitFault.TheVariants as fault
 use Rattle.coord_world.specs.declared.verdicts.Verdict.{Verdict}
 use Rattle.coord_world.specs.declared.verdicts.Verdict.TheVariants.{Fresh, Repeat}
-use Rattle.coord_world.specs.protocol.NumberedWorld.{World}
+use Rattle.coord_world.specs.protocol.NumberedWorld.{World, no_world}
 use Rattle.coord_ledger.specs.declared.events.Answer.{Answer}
 use Rattle.coord_ledger.specs.declared.events.Answer.TheVariants.{Committed, Failed}
 use Rattle.coord_ledger.specs.declared.mark.Mark.TheVariants.{New}
 use Rattle.coord_ledger.specs.machine.Answers.{IsOneOf, kept_by, next_size, stays_home, to_commit}
-use Rattle.coord_ledger.specs.machine.Log.{Log, log_over, with_settled, with_step, world_after}
+use Rattle.coord_ledger.specs.machine.Log.{Log, front_world, log_over, with_settled, with_step, world_after}
 use Rattle.coord_ledger.specs.machine.Submits.{verdict}
 use Rattle.coord_drill.specs.declared.asked.Asked.{Asked}
-use Rattle.coord_drill.specs.declared.asked.Asked.TheVariants.{Submit, Refuse, Nothing, Resend, Check, Show, Hold, Flush, Crash}
+use Rattle.coord_drill.specs.declared.asked.Asked.TheVariants.{Submit, Refuse, Nothing, Resend, Check, Show, Hold, Flush, Crash, Version2}
 
 pub record DrillState : Type 0 where
   pub log : Log
   pub doubt : Option ℕ  -- it has stopped, and so many steps behind the settled ones are on the disk, or none of them
   pub holds : Bool  -- accepted steps are not settled at once
+  pub has_begun : Bool  -- a step was accepted, be it lost since
 
 -- over a ledger of this world, that goes on
 abbrev pub drill_over : World → DrillState
-drill_over w = record { log = log_over w; doubt = None; holds = false }
+drill_over w = record { log = log_over w; doubt = None; holds = false; has_begun = false }
+
+-- a drill is of its world's version
+abbrev pub version_of : DrillState → ℕ
+version_of s = (front_world s.log).version
 
 -- ---- luck
 
@@ -47,8 +52,8 @@ has_no_flight s = stays_home (is_some s.doubt) false s.log
 
 -- a flight of the next steps was committed, or not
 abbrev pub after_commit : DrillState → Answer → DrillState
-after_commit s Committed = record { log = with_settled s.log (next_size s.log); doubt = s.doubt; holds = s.holds }
-after_commit s (Failed fault.Device) = record { log = s.log; doubt = Some (next_size s.log); holds = s.holds }
+after_commit s Committed = record { log = with_settled s.log (next_size s.log); doubt = s.doubt; holds = s.holds; has_begun = s.has_begun }
+after_commit s (Failed fault.Device) = record { log = s.log; doubt = Some (next_size s.log); holds = s.holds; has_begun = s.has_begun }
 after_commit s answer = s
 
 unfoldable pub after_flight : Answer → DrillState → DrillState
@@ -57,7 +62,7 @@ after_flight answer s = if has_no_flight s then s else after_commit s answer
 -- ---- lines
 
 abbrev pub with_accepted : DrillState → Step → DrillState
-with_accepted s x = record { log = with_step s.log x; doubt = s.doubt; holds = s.holds }
+with_accepted s x = record { log = with_step s.log x; doubt = s.doubt; holds = s.holds; has_begun = true }
 
 -- a step that is accepted is settled at once, unless steps are held
 abbrev pub after_verdict : Luck → DrillState → Step → Result Verdict Refusal → DrillState
@@ -72,12 +77,13 @@ said s x = verdict (is_some s.doubt) s.log x
 unfoldable pub after_step : Luck → DrillState → Step → DrillState
 after_step luck s x = after_verdict luck s x (said s x)
 
--- after a crash a drill goes on from the world that was opened
+-- after a crash a drill goes on from the world that was opened; one of version 2 begins before any step
 unfoldable pub after_asked : Luck → DrillState → Asked → DrillState
 after_asked luck s (Submit x) = after_step luck s x
-after_asked luck s Hold = record { log = s.log; doubt = s.doubt; holds = true }
+after_asked luck s Hold = record { log = s.log; doubt = s.doubt; holds = true; has_begun = s.has_begun }
 after_asked luck s Flush = after_flight luck.commit s
-after_asked luck s Crash = drill_over (world_after s.log luck.kept)
+after_asked luck s Crash = record { log = log_over (world_after s.log luck.kept); doubt = None; holds = false; has_begun = s.has_begun }
+after_asked luck s Version2 = record { log = log_over (no_world 2); doubt = None; holds = s.holds; has_begun = s.has_begun }
 after_asked luck s (Refuse refusal) = s
 after_asked luck s Nothing = s
 after_asked luck s Resend = s

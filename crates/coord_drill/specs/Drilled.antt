@@ -5,10 +5,12 @@ use Rattle.std.specs.Str.{is_utf8}
 use Rattle.coord_lines.specs.Lines.{Line, lines_of}
 use Rattle.coord_world.specs.protocol.NumberedWorld.{no_world}
 use Rattle.coord_drill.specs.declared.request.Request.{Request}
+use Rattle.coord_drill.specs.declared.request.Request.TheVariants.{Version2}
 use Rattle.coord_drill.specs.declared.fault.Fault.{Fault}
 use Rattle.coord_drill.specs.declared.fault.Fault.TheVariants.{Read, TooManyReads}
 use Rattle.coord_drill.specs.Answered.{Responds}
-use Rattle.coord_drill.specs.Drill.{DrillState, drill_over}
+use Rattle.coord_drill.specs.Drill.{DrillState, drill_over, version_of}
+use Rattle.coord_drill.specs.Format.{◌>>=◌}
 use Rattle.coord_drill.specs.Grammar.{request_of}
 
 -- an empty line and a comment
@@ -16,9 +18,18 @@ abbrev pub is_skipped : List ℕ → Bool
 is_skipped [] = true
 is_skipped (c ∷ cs) = c == 35
 
+-- what a line spells in a drill of this version; None for a bad line
+abbrev pub parsed : ℕ → List ℕ → Option Request
+parsed version line = if is_utf8 line then request_of version line else None
+
+-- version 2 is chosen before the first accepted step, and never later
+abbrev pub unless_late : DrillState → Request → Option Request
+unless_late s Version2 = if s.has_begun then None else Some Version2
+unless_late s request = Some request
+
 -- what a line asks for; None for a bad line
-abbrev pub asked_by : List ℕ → Option Request
-asked_by line = if is_utf8 line then request_of line else None
+abbrev pub asked_by : DrillState → List ℕ → Option Request
+asked_by s line = parsed (version_of s) line >>= unless_late s
 
 -- a skipped line prints nothing and changes nothing
 abbrev pub UnlessSkipped : Bool → DrillState → List ℕ → DrillState → Type 0 → Type 0
@@ -28,14 +39,14 @@ UnlessSkipped false s told t Otherwise = Otherwise
 -- the line of this number may print this and leave the drill so; a line over the limit is bad, be it a comment or not
 abbrev pub LineResponds : DrillState → ℕ → Line → List ℕ → DrillState → Type 0
 LineResponds s n None told t = Responds s n None told t
-LineResponds s n (Some line) told t = UnlessSkipped (is_skipped line) s told t (Responds s n (asked_by line) told t)
+LineResponds s n (Some line) told t = UnlessSkipped (is_skipped line) s told t (Responds s n (asked_by s line) told t)
 
 -- lines of which the first has this number may print this
 abbrev pub Prints : DrillState → ℕ → List Line → List ℕ → Type 0
 Prints s n [] text = text ≡ []
 Prints s n (l ∷ ls) text = (told : List ℕ) × (t : DrillState) × (rest : List ℕ) × LineResponds s n l told t × Prints t (n + 1) ls rest × (text ≡ told ++ rest)
 
--- a drill may print this to its input
+-- a drill may print this to its input; it begins in version 1
 abbrev pub IsDrilled : List ℕ → List ℕ → Type 0
 IsDrilled input text = Prints (drill_over (no_world 1)) 1 (lines_of input) text
 

@@ -1,16 +1,14 @@
--- The grammar of a drill's lines: a table of verbs and the fields behind them.
+-- The grammar of a drill's lines: a table of verbs and the fields behind them. An Abort has its distance behind it in version 2 alone.
 use Rattle.std.specs.Prelude.{ℕ, ◌^◌, ◌==◌, ◌&&◌, nat_le, nat_lt, Bool, List, [], ◌∷◌, ◌++◌, length, map, codes, decimal, bytes_eq, Option, Some, None, if◌then◌else◌}
 use Rattle.std.specs.List.{slice_split, join_with_byte}
 use Rattle.std.specs.Str.{all_ascii_digits}
 use Rattle.std.specs.Str.Parse.{digits_value}
-use Rattle.coord_types.specs.Messages.{brought}
-use Rattle.coord_types.specs.Names.{msg_name}
 use Rattle.coord_types.specs.declared.messages.Msg.{Msg}
-use Rattle.coord_types.specs.declared.messages.Msg.TheVariants as msg
+use Rattle.coord_types.specs.declared.messages.Msg.TheVariants.{Abort, Ack, Ready}
 use Rattle.coord_types.specs.declared.steps.Command.{Command}
 use Rattle.coord_types.specs.declared.steps.Command.TheVariants.{Add, Remove, Join, Drop, Reset, Confirm}
 use Rattle.coord_drill.specs.declared.request.Request.{Request}
-use Rattle.coord_drill.specs.declared.request.Request.TheVariants.{Next, Order, Take, Clear, Data, Receipt, Resend, Check, Show, Hold, Flush, Crash}
+use Rattle.coord_drill.specs.declared.request.Request.TheVariants.{Next, Order, Take, Clear, Data, Receipt, Resend, Check, Show, Hold, Flush, Crash, Version2}
 use Rattle.coord_drill.specs.Format.{◌>>=◌, Word, Format, field, nothing, ◌&◌, made, Row, one_of}
 
 -- ---- words
@@ -34,12 +32,6 @@ number_of word = if is_number word then Some (digits_value 10 word) else None
 abbrev pub up_to : ℕ → ℕ → Option ℕ
 up_to most n = if nat_le 1 n && nat_le n most then Some n else None
 
-unfoldable pub message_of : Word → Option Msg
-message_of word =
-    if bytes_eq word (codes "abort") then Some (msg.Abort 0)
-    else (if bytes_eq word (codes "ack") then Some msg.Ack
-    else (if bytes_eq word (codes "ready") then Some msg.Ready else None))
-
 unfoldable pub number : Format ℕ
 number = field (λ n. if nat_lt n (2 ^ 64) then Some (decimal n) else None) number_of
 
@@ -56,15 +48,25 @@ group = number_to 16
 unfoldable pub client : Format ℕ
 client = number_to 16
 
--- a message that brings no distance, by its name
-unfoldable pub message : Format Msg
-message = field (λ m. if brought m == 0 then Some (msg_name m) else None) message_of
+-- the distance behind an Abort: a number in version 2, and no word in version 1, where it is 0
+unfoldable pub distance : ℕ → Format ℕ
+distance version = record {
+  spell = λ k. if version == 2 then number.spell k else (if k == 0 then Some [] else None);
+  read = λ ws. if version == 2 then number.read ws else Some (0, ws);
+}
 
--- ---- the table
+-- ---- the tables
 
 -- a row by its verb, what its fields make, and the fields of what it makes
 abbrev pub row : {A B : Type 0} → Word → Format A → (A → B) → (B → Option A) → Row B
 row verb fields make parts = record { verb = verb; fields = made make parts fields }
+
+unfoldable pub messages : ℕ → List (Row Msg)
+messages version =
+    row (codes "abort") (distance version) Abort (λ m. elim m [ Abort k ↦ Some k | _ ↦ None ])
+    ∷ row (codes "ack") nothing (λ _. Ack) (λ m. elim m [ Ack ↦ Some tt | _ ↦ None ])
+    ∷ row (codes "ready") nothing (λ _. Ready) (λ m. elim m [ Ready ↦ Some tt | _ ↦ None ])
+    ∷ []
 
 unfoldable pub commands : List (Row Command)
 commands =
@@ -83,22 +85,27 @@ next_row r = row r.verb r.fields Next (λ x. elim x [ Next c ↦ Some c | _ ↦ 
 unfoldable pub order_fields : Format Request
 order_fields = made (λ p. Order p.0 p.1.0 p.1.1) (λ x. elim x [ Order c n y ↦ Some (c, (n, y)) | _ ↦ None ]) (client & (number & one_of commands))
 
-unfoldable pub data_fields : Format Request
-data_fields = made (λ p. Data (record { from = p.0; to = p.1.0; inc = p.1.1.0; number = p.1.1.1.0; msg = p.1.1.1.1 }))
+unfoldable pub data_fields : ℕ → Format Request
+data_fields version = made (λ p. Data (record { from = p.0; to = p.1.0; inc = p.1.1.0; number = p.1.1.1.0; msg = p.1.1.1.1 }))
     (λ x. elim x [ Data d ↦ Some (d.from, (d.to, (d.inc, (d.number, d.msg)))) | _ ↦ None ])
-    (node & (node & (number & (number & message))))
+    (node & (node & (number & (number & one_of (messages version)))))
 
 unfoldable pub receipt_fields : Format Request
 receipt_fields = made (λ p. Receipt (record { from = p.0; to = p.1.0; inc = p.1.1.0; number = p.1.1.1 }))
     (λ x. elim x [ Receipt r ↦ Some (r.from, (r.to, (r.inc, r.number))) | _ ↦ None ])
     (node & (node & (number & number)))
 
-unfoldable pub other_requests : List (Row Request)
-other_requests =
+-- the word 2, and no other spelling of it
+unfoldable pub version_fields : Format Request
+version_fields = made (λ _. Version2) (λ x. elim x [ Version2 ↦ Some tt | _ ↦ None ])
+    (field (λ _. Some (codes "2")) (λ word. if bytes_eq word (codes "2") then Some tt else None))
+
+unfoldable pub other_requests : ℕ → List (Row Request)
+other_requests version =
     record { verb = codes "order"; fields = order_fields }
     ∷ row (codes "take") (node & node) (λ p. Take p.0 p.1) (λ x. elim x [ Take u v ↦ Some (u, v) | _ ↦ None ])
     ∷ row (codes "clear") (node & node) (λ p. Clear p.0 p.1) (λ x. elim x [ Clear u v ↦ Some (u, v) | _ ↦ None ])
-    ∷ record { verb = codes "data"; fields = data_fields }
+    ∷ record { verb = codes "data"; fields = data_fields version }
     ∷ record { verb = codes "receipt"; fields = receipt_fields }
     ∷ row (codes "resend") nothing (λ _. Resend) (λ x. elim x [ Resend ↦ Some tt | _ ↦ None ])
     ∷ row (codes "check") nothing (λ _. Check) (λ x. elim x [ Check ↦ Some tt | _ ↦ None ])
@@ -106,10 +113,11 @@ other_requests =
     ∷ row (codes "hold") nothing (λ _. Hold) (λ x. elim x [ Hold ↦ Some tt | _ ↦ None ])
     ∷ row (codes "flush") nothing (λ _. Flush) (λ x. elim x [ Flush ↦ Some tt | _ ↦ None ])
     ∷ row (codes "crash") nothing (λ _. Crash) (λ x. elim x [ Crash ↦ Some tt | _ ↦ None ])
+    ∷ record { verb = codes "version"; fields = version_fields }
     ∷ []
 
-abbrev pub requests : List (Row Request)
-requests = other_requests ++ map next_row commands
+abbrev pub requests : ℕ → List (Row Request)
+requests version = other_requests version ++ map next_row commands
 
 -- ---- lines
 
@@ -117,10 +125,10 @@ abbrev pub all_read : {A : Type 0} → A × List Word → Option A
 all_read (x, []) = Some x
 all_read (x, w ∷ ws) = None
 
--- the request that a line spells; None for a bad line
-unfoldable pub request_of : List ℕ → Option Request
-request_of line = (one_of requests).read (words_of line) >>= all_read
+-- the request that a line spells in a drill of this version; None for a bad line
+unfoldable pub request_of : ℕ → List ℕ → Option Request
+request_of version line = (one_of (requests version)).read (words_of line) >>= all_read
 
 -- the spelling of a request: its words, with one space between each two
-unfoldable pub spelled : Request → Option (List ℕ)
-spelled request = (one_of requests).spell request >>= λ words. Some (join_with_byte 32 words)
+unfoldable pub spelled : ℕ → Request → Option (List ℕ)
+spelled version request = (one_of (requests version)).spell request >>= λ words. Some (join_with_byte 32 words)

@@ -4,6 +4,7 @@ use Rattle.std.specs.Option.{option_map_or}
 use Rattle.coord_disk.specs.Disks.Memory.{present_of}
 use Rattle.coord_disk.specs.Model.Present.{Present}
 use Rattle.coord_disk.specs.declared.memory.MemDisk.{MemDisk}
+use Rattle.coord_store.specs.Kept.{made}
 use Rattle.coord_store.specs.declared.faults.CommitFault.TheVariants.{Device, OutOfMemory}
 use Rattle.coord_types.specs.declared.steps.Kind.{Kind}
 use Rattle.coord_types.specs.declared.steps.Reply.{Reply as Answered}
@@ -49,16 +50,22 @@ abbrev pub HasDisk : Drill → Present → Type 0
 HasDisk d present = (l : LedgerState MemDisk) × (disk : MemDisk) × (d.ledger ≡ Some l) × (l.disk ≡ Some disk) × (present_of disk ≡ present)
 
 -- the state of a drill over this ledger
-abbrev pub drill_of : LedgerState MemDisk → Bool → DrillState
-drill_of l holds = record { log = l.log; doubt = l.doubt; holds = holds }
+abbrev pub drill_of : LedgerState MemDisk → Bool → Bool → DrillState
+drill_of l holds begun = record { log = l.log; doubt = l.doubt; holds = holds; has_begun = begun }
 
 abbrev pub state_of : Drill → DrillState
-state_of d = record { log = option_map_or (λ l. l.log) d.ledger (log_over (no_world 1)); doubt = option_map_or (λ l. l.doubt) d.ledger None; holds = d.holds }
+state_of d = record { log = option_map_or (λ l. l.log) d.ledger (log_over (no_world 1)); doubt = option_map_or (λ l. l.doubt) d.ledger None; holds = d.holds; has_begun = d.has_begun }
 
 abbrev pub front_of : Drill → World
 front_of d = front_world (state_of d).log
 
 -- ---- what calls make of a ledger
+
+-- it is over the world of this version before any step, and so is its disk
+pub record IsMade (version : ℕ) (l : LedgerState MemDisk) : Type 0 where
+  pub disk : MemDisk
+  pub adopted : l ≡ ledger_over (no_world version) disk
+  pub present : present_of disk ≡ made 65536 version
 
 -- a flight went out and is back, with this log and this doubt
 pub record IsBack (l : LedgerState MemDisk) (log : Log) (doubt : Option ℕ) (new : LedgerState MemDisk) : Type 0 where
@@ -98,9 +105,9 @@ left None rs = []
 left (Some r) rs = r ∷ rs
 
 -- the lines of the first releases, as long as they are of this step
-abbrev pub released_lines : ℕ → List Release → List ℕ
-released_lines n [] = []
-released_lines n (r ∷ rs) = if r.step == n then output_line r.output ++ released_lines n rs else []
+abbrev pub released_lines : ℕ → ℕ → List Release → List ℕ
+released_lines version n [] = []
+released_lines version n (r ∷ rs) = if r.step == n then output_line version r.output ++ released_lines version n rs else []
 
 -- and the releases behind them
 abbrev pub behind : ℕ → List Release → List Release
@@ -108,9 +115,9 @@ behind n [] = []
 behind n (r ∷ rs) = if r.step == n then behind n rs else r ∷ rs
 
 -- the lines of the first claims, as long as their steps are among the first so many: of each its reply, and its releases
-abbrev pub collected_lines : ℕ → List Claim → List Release → List ℕ
-collected_lines count [] rs = []
-collected_lines count (c ∷ cs) rs = if nat_le c.step count then reply_line (reply_of c) ++ (released_lines c.step rs ++ collected_lines count cs (behind c.step rs)) else []
+abbrev pub collected_lines : ℕ → ℕ → List Claim → List Release → List ℕ
+collected_lines version count [] rs = []
+collected_lines version count (c ∷ cs) rs = if nat_le c.step count then reply_line (reply_of c) ++ (released_lines version c.step rs ++ collected_lines version count cs (behind c.step rs)) else []
 
 -- and the claims behind them
 abbrev pub waiting : ℕ → List Claim → List Claim

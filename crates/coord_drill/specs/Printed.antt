@@ -1,8 +1,10 @@
 -- The lines that a drill prints, each ended by a line feed.
-use Rattle.std.specs.Prelude.{ℕ, List, ◌++◌, codes, decimal, Option, Some, None}
+use Rattle.std.specs.Prelude.{ℕ, ◌==◌, List, ◌++◌, codes, decimal, Option, Some, None, if◌then◌else◌}
 use Rattle.std.specs.List.{flat_map}
 use Rattle.std.specs.Option.{option_map_or}
 use Rattle.coord_types.specs.Names.{kind_name, mode_name, msg_name, refusal_text}
+use Rattle.coord_types.specs.declared.messages.Msg.{Msg}
+use Rattle.coord_types.specs.declared.messages.Msg.TheVariants.{Abort}
 use Rattle.coord_types.specs.declared.steps.Reply.{Reply}
 use Rattle.coord_types.specs.declared.refusals.Refusal.{Refusal}
 use Rattle.coord_types.specs.declared.outputs.Output.{Output}
@@ -31,17 +33,22 @@ refusal_line r = codes "no " ++ (refusal_text r ++ codes "\n")
 abbrev pub idle_line : List ℕ
 idle_line = codes "idle\n"
 
-abbrev pub output_line : Output → List ℕ
-output_line (Receipted p) = codes "receipt " ++ (decimal p.from ++ (codes " " ++ (decimal p.to ++ (codes " " ++ (decimal p.number ++ codes "\n")))))
-output_line (Signalled u e) = codes "signal " ++ (decimal u ++ (codes " " ++ (decimal e ++ codes "\n")))
-output_line (Sent p) = codes "data " ++ (decimal p.from ++ (codes " " ++ (decimal p.to ++ (codes " " ++ (decimal p.number ++ (codes " " ++ (msg_name p.msg ++ codes "\n")))))))
+-- in version 2 an Abort is told with its distance
+abbrev pub message_text : ℕ → Msg → List ℕ
+message_text version (Abort k) = if version == 2 then codes "abort " ++ decimal k else codes "abort"
+message_text version m = msg_name m
 
-abbrev pub output_lines : List Output → List ℕ
-output_lines os = flat_map output_line os
+abbrev pub output_line : ℕ → Output → List ℕ
+output_line version (Receipted p) = codes "receipt " ++ (decimal p.from ++ (codes " " ++ (decimal p.to ++ (codes " " ++ (decimal p.number ++ codes "\n")))))
+output_line version (Signalled u e) = codes "signal " ++ (decimal u ++ (codes " " ++ (decimal e ++ codes "\n")))
+output_line version (Sent p) = codes "data " ++ (decimal p.from ++ (codes " " ++ (decimal p.to ++ (codes " " ++ (decimal p.number ++ (codes " " ++ (message_text version p.msg ++ codes "\n")))))))
+
+abbrev pub output_lines : ℕ → List Output → List ℕ
+output_lines version os = flat_map (output_line version) os
 
 -- the steps in order, and for each its reply before what it gives out
-abbrev pub settled_lines : List StepOutcome → List ℕ
-settled_lines outcomes = flat_map (λ o. reply_line o.reply ++ output_lines o.outputs) outcomes
+abbrev pub settled_lines : ℕ → List StepOutcome → List ℕ
+settled_lines version outcomes = flat_map (λ o. reply_line o.reply ++ output_lines version o.outputs) outcomes
 
 abbrev pub commit_line : CommitFault → List ℕ
 commit_line fault = codes "commit " ++ (decimal (commit_number fault) ++ (codes " " ++ (commit_name fault ++ codes "\n")))

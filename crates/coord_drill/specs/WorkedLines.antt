@@ -3,12 +3,15 @@ use Rattle.std.specs.Prelude.{◌≡◌, ℕ, List, codes, Some}
 use Rattle.coord_types.specs.declared.messages.Msg.TheVariants as msg
 use Rattle.coord_types.specs.declared.steps.Command.TheVariants.{Add, Remove, Join, Drop, Reset, Confirm}
 use Rattle.coord_drill.specs.declared.request.Request.{Request}
-use Rattle.coord_drill.specs.declared.request.Request.TheVariants.{Next, Order, Take, Clear, Data, Receipt, Resend, Check, Show, Hold, Flush, Crash}
+use Rattle.coord_drill.specs.declared.request.Request.TheVariants.{Next, Order, Take, Clear, Data, Receipt, Resend, Check, Show, Hold, Flush, Crash, Version2}
 use Rattle.coord_drill.specs.Grammar.{request_of, spelled}
 
--- a request is spelled so, and the line is read as it
+-- in a drill of this version a request is spelled so, and the line is read as it
+abbrev pub IsSpelledIn : ℕ → Request → List ℕ → Type 0
+IsSpelledIn version request line = (spelled version request ≡ Some line) × (request_of version line ≡ Some request)
+
 abbrev pub IsSpelled : Request → List ℕ → Type 0
-IsSpelled request line = (spelled request ≡ Some line) × (request_of line ≡ Some request)
+IsSpelled = IsSpelledIn 1
 
 abbrev pub WorkedLines : Type 0
 WorkedLines =
@@ -29,3 +32,5 @@ WorkedLines =
     × IsSpelled Hold (codes "hold")
     × IsSpelled Flush (codes "flush")
     × IsSpelled Crash (codes "crash")
+    × IsSpelled Version2 (codes "version 2")
+    × IsSpelledIn 2 (Data (record { from = 1; to = 2; inc = 3; number = 4; msg = msg.Abort 7 })) (codes "data 1 2 3 4 abort 7")

@@ -29,6 +29,8 @@ pub enum Asked {
     Flush,
     /// To crash the disk and open it again.
     Crash,
+    /// To begin again over an empty store of version 2.
+    Version2,
 }
 
 /// What a request asks for where this is the front world.
@@ -62,6 +64,7 @@ pub fn wanted_by(front: &World, request: &Request) -> Asked
         Request::Hold => Asked::Hold,
         Request::Flush => Asked::Flush,
         Request::Crash => Asked::Crash,
+        Request::Version2 => Asked::Version2,
     }
 }
 

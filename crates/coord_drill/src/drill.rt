@@ -6,8 +6,8 @@ ghost use Rattle.coord_world.specs.protocol.NumberedWorld.{no_world};
 ghost use Rattle.coord_drill.specs.Answered.{Does};
 ghost use Rattle.coord_drill.specs.Asked.{asked};
 ghost use Rattle.coord_drill.specs.Drill.{drill_over};
-ghost use Rattle.coord_drill.specs.Drilled.{IsOfWork};
-ghost use Rattle.coord_drill.specs.Holding.{HasDisk, IsReady, Tells, front_of, state_of};
+ghost use Rattle.coord_drill.specs.Drilled.{IsOfWork, asked_by};
+ghost use Rattle.coord_drill.specs.Holding.{HasDisk, IsMade, IsReady, Tells, front_of, state_of};
 ghost use Rattle.coord_drill.specs.declared.asked.Asked.TheVariants as ask;
 
 mod crashing;
@@ -17,6 +17,7 @@ mod telling;
 
 use crate::asked::{Asked, wanted_by};
 use crate::fault::Fault;
+use crate::reading::parse;
 use crate::request::Request;
 use coord_disk::MemDisk;
 use coord_ledger::{Ledger, Ticket};
@@ -35,6 +36,8 @@ pub struct Drill {
     tickets: VecDeque<Ticket>,
     /// Accepted steps are not settled at once.
     holds: bool,
+    /// A step was accepted, be it lost since.
+    has_begun: bool,
 }
 
 impl Drill {
@@ -45,19 +48,26 @@ impl Drill {
         ensures state { IfOk result (λ drill. state_of drill ≡ drill_over (no_world 1)) }
         ensures fault { IfErr result IsOfWork }
     {
-        let disk = MemDisk::new(alloc);
-        let store = match Store::create(alloc, disk, HALF_SIZE, 1) {
-            Ok(store) => store,
-            Err((fault, _disk)) => return Err(fault.into()),
+        Ok(Drill {
+            alloc,
+            ledger: Some(new_ledger(alloc, 1)?),
+            tickets: VecDeque::new(alloc),
+            holds: false,
+            has_begun: false,
+        })
+    }
+
+    /// What a line asks for; None for a bad line.
+    pub fn read(&self, line: &[u8]) -> Option<Request>
+        requires ready { IsReady self.now }
+        ensures { result ≡ asked_by (state_of self.now) line.now }
+    {
+        let Some(ledger) = &self.ledger else {
+            unreachable!()
         };
-        match Ledger::adopt(alloc, store) {
-            Ok(ledger) => Ok(Drill {
-                alloc,
-                ledger: Some(ledger),
-                tickets: VecDeque::new(alloc),
-                holds: false,
-            }),
-            Err((fault, _store)) => Err(fault.into()),
+        match parse(ledger.front().version(), line)? {
+            Request::Version2 if self.has_begun => None,
+            request => Some(request),
         }
     }
 
@@ -76,6 +86,7 @@ impl Drill {
             Asked::Submit(step) => self.submit(step, text),
             Asked::Flush => self.flush(text),
             Asked::Crash => self.crash(text),
+            Asked::Version2 => self.begin_version_2(),
             Asked::Hold => {
                 self.hold();
                 Ok(())
@@ -98,6 +109,18 @@ impl Drill {
         self.holds = true;
     }
 
+    /// Goes on over an empty store of version 2.
+    fn begin_version_2(&mut self) -> Result<(), Fault>
+        ensures ready { OnOk result (IsReady self.new) }
+        ensures disk { OnOk result (HasDisk self.new (made 65_536 2)) }
+        ensures told { OnOk result (Does (state_of self.old) ask.Version2 [] (state_of self.new)) }
+        ensures fault { IfErr result IsOfWork }
+    {
+        self.ledger = Some(new_ledger(self.alloc, 2)?);
+        forget_all(&mut self.tickets);
+        Ok(())
+    }
+
     /// Ends the drill. What is pending is lost.
     pub fn end(self) {
         let Drill {
@@ -105,9 +128,27 @@ impl Drill {
             ledger: _,
             mut tickets,
             holds: _,
+            has_begun: _,
         } = self;
         forget_all(&mut tickets);
         tickets.destroy_empty();
+    }
+}
+
+/// A ledger over an empty store of this version, on a new disk in memory.
+fn new_ledger(alloc: Global, version: u8) -> Result<Ledger<MemDisk>, Fault>
+    requires { (1 ≤ version) × (version ≤ 2) }
+    ensures made { IfOk result (IsMade version) }
+    ensures fault { IfErr result IsOfWork }
+{
+    let disk = MemDisk::new(alloc);
+    let store = match Store::create(alloc, disk, HALF_SIZE, version) {
+        Ok(store) => store,
+        Err((fault, _disk)) => return Err(fault.into()),
+    };
+    match Ledger::adopt(alloc, store) {
+        Ok(ledger) => Ok(ledger),
+        Err((fault, _store)) => Err(fault.into()),
     }
 }
 

@@ -8,7 +8,7 @@ ghost use Rattle.coord_types.specs.declared.outputs.Output.TheVariants.{Receipte
 use coord_check::Violation;
 use coord_ledger::{LinkView, NodeView, View};
 use coord_store::CommitFault;
-use coord_types::{DataPacket, Output, ReceiptPacket, Refusal, Reply};
+use coord_types::{DataPacket, Msg, Output, ReceiptPacket, Refusal, Reply, Version};
 use std::alloc::AllocError;
 
 /// Adds the line for a bad line, of which the number is given, counted from 1.
@@ -123,9 +123,9 @@ fn print_link(text: &mut String, view: &LinkView) -> Result<(), AllocError>
     writeln!(text, "link {a} {b} {inc}")
 }
 
-/// Adds the line of a packet or a signal that goes out.
-pub fn print_output(text: &mut String, output: &Output) -> Result<(), AllocError>
-    ensures { OnOk result (string_bytes text.new ≡ string_bytes text.old ++ output_line output.now) }
+/// Adds the line of a packet or a signal that goes out in a world of this version.
+pub fn print_output(text: &mut String, version: Version, output: &Output) -> Result<(), AllocError>
+    ensures { OnOk result (string_bytes text.new ≡ string_bytes text.old ++ output_line version output.now) }
 {
     match *output {
         Output::Receipted(packet) => print_receipt(text, packet),
@@ -133,12 +133,12 @@ pub fn print_output(text: &mut String, output: &Output) -> Result<(), AllocError
             let id = id.number();
             writeln!(text, "signal {id} {epoch}")
         }
-        Output::Sent(packet) => print_data(text, packet),
+        Output::Sent(packet) => print_data(text, version, packet),
     }
 }
 
 fn print_receipt(text: &mut String, packet: ReceiptPacket) -> Result<(), AllocError>
-    ensures { OnOk result (string_bytes text.new ≡ string_bytes text.old ++ output_line (Receipted packet)) }
+    ensures { OnOk result (string_bytes text.new ≡ string_bytes text.old ++ output_line 1 (Receipted packet)) }
 {
     let from = packet.from.number();
     let to = packet.to.number();
@@ -146,12 +146,17 @@ fn print_receipt(text: &mut String, packet: ReceiptPacket) -> Result<(), AllocEr
     writeln!(text, "receipt {from} {to} {number}")
 }
 
-fn print_data(text: &mut String, packet: DataPacket) -> Result<(), AllocError>
-    ensures { OnOk result (string_bytes text.new ≡ string_bytes text.old ++ output_line (Sent packet)) }
+fn print_data(text: &mut String, version: Version, packet: DataPacket) -> Result<(), AllocError>
+    ensures { OnOk result (string_bytes text.new ≡ string_bytes text.old ++ output_line version (Sent packet)) }
 {
     let from = packet.from.number();
     let to = packet.to.number();
     let number = packet.number;
     let word = packet.msg.name();
-    writeln!(text, "data {from} {to} {number} {word}")
+    match packet.msg {
+        Msg::Abort(distance) if version.number() == 2 => {
+            writeln!(text, "data {from} {to} {number} {word} {distance}")
+        }
+        _ => writeln!(text, "data {from} {to} {number} {word}"),
+    }
 }

@@ -1,32 +1,32 @@
 //! The reading of a line. Each row of the grammar's table is an arm here.
 
 ghost use Rattle.std.specs.Prelude.{◌≡◌, map};
-ghost use Rattle.coord_drill.specs.Drilled.{asked_by};
+ghost use Rattle.coord_drill.specs.Drilled.{parsed};
 ghost use Rattle.coord_drill.specs.Format.{Reads, read_by};
-ghost use Rattle.coord_drill.specs.Grammar.{commands, next_row, requests, request_of, order_fields, data_fields, receipt_fields};
+ghost use Rattle.coord_drill.specs.Grammar.{commands, next_row, messages, requests, request_of, order_fields, data_fields, receipt_fields, version_fields};
 
 use crate::request::Request;
 use crate::words::Words;
-use coord_types::{Command, DataPacket, ReceiptPacket};
+use coord_types::{Command, DataPacket, Msg, ReceiptPacket, Version};
 use std::str;
 
-/// The request that a line spells; None for a bad line.
-pub fn parse(line: &[u8]) -> Option<Request>
-    ensures { result ≡ asked_by line.now }
+/// The request that a line spells in a drill of this version; None for a bad line.
+pub fn parse(version: Version, line: &[u8]) -> Option<Request>
+    ensures { result ≡ parsed version line.now }
 {
     match str::from_utf8(line) {
-        Ok(text) => read_line(text),
+        Ok(text) => read_line(version, text),
         Err(_) => None,
     }
 }
 
 #[tactic(auto, unfolding(crate::specs::Grammar::request_of))]
-fn read_line(line: &str) -> Option<Request>
-    ensures { result ≡ request_of line.now }
+fn read_line(version: Version, line: &str) -> Option<Request>
+    ensures { result ≡ request_of version line.now }
 {
     let mut words = Words::of(line);
     let verb = words.next()?;
-    let request = read_request(verb, &mut words)?;
+    let request = read_request(version, verb, &mut words)?;
     match words.next() {
         Some(_) => None,
         None => Some(request),
@@ -34,14 +34,14 @@ fn read_line(line: &str) -> Option<Request>
 }
 
 #[tactic(auto, unfolding(crate::specs::Grammar::other_requests))]
-fn read_request(verb: &str, words: &mut Words<'_>) -> Option<Request>
-    ensures { Reads (read_by requests verb.now words.old) result words.new }
+fn read_request(version: Version, verb: &str, words: &mut Words<'_>) -> Option<Request>
+    ensures { Reads (read_by (requests version) verb.now words.old) result words.new }
 {
     match verb {
         "order" => read_order(words),
         "take" => Some(Request::Take(words.node()?, words.node()?)),
         "clear" => Some(Request::Clear(words.node()?, words.node()?)),
-        "data" => read_data(words),
+        "data" => read_data(version, words),
         "receipt" => read_receipt(words),
         "resend" => Some(Request::Resend),
         "check" => Some(Request::Check),
@@ -49,6 +49,7 @@ fn read_request(verb: &str, words: &mut Words<'_>) -> Option<Request>
         "hold" => Some(Request::Hold),
         "flush" => Some(Request::Flush),
         "crash" => Some(Request::Crash),
+        "version" => read_version(words),
         _ => read_next(verb, words),
     }
 }
@@ -64,16 +65,34 @@ fn read_order(words: &mut Words<'_>) -> Option<Request>
 }
 
 #[tactic(auto, unfolding(crate::specs::Grammar::data_fields))]
-fn read_data(words: &mut Words<'_>) -> Option<Request>
-    ensures { Reads (data_fields.read words.old) result words.new }
+fn read_data(version: Version, words: &mut Words<'_>) -> Option<Request>
+    ensures { Reads ((data_fields version).read words.old) result words.new }
 {
+    let from = words.node()?;
+    let to = words.node()?;
+    let inc = words.number()?;
+    let number = words.number()?;
+    let name = words.next()?;
+    let msg = read_message(version, name, words)?;
     Some(Request::Data(DataPacket {
-        from: words.node()?,
-        to: words.node()?,
-        inc: words.number()?,
-        number: words.number()?,
-        msg: words.message()?,
+        from,
+        to,
+        inc,
+        number,
+        msg,
     }))
+}
+
+#[tactic(auto, unfolding(crate::specs::Grammar::messages))]
+fn read_message(version: Version, name: &str, words: &mut Words<'_>) -> Option<Msg>
+    ensures { Reads (read_by (messages version) name.now words.old) result words.new }
+{
+    match name {
+        "abort" => Some(Msg::Abort(words.distance(version)?)),
+        "ack" => Some(Msg::Ack),
+        "ready" => Some(Msg::Ready),
+        _ => None,
+    }
 }
 
 #[tactic(auto, unfolding(crate::specs::Grammar::receipt_fields))]
@@ -86,6 +105,16 @@ fn read_receipt(words: &mut Words<'_>) -> Option<Request>
         inc: words.number()?,
         number: words.number()?,
     }))
+}
+
+#[tactic(auto, unfolding(crate::specs::Grammar::version_fields))]
+fn read_version(words: &mut Words<'_>) -> Option<Request>
+    ensures { Reads (version_fields.read words.old) result words.new }
+{
+    match words.next()? {
+        "2" => Some(Request::Version2),
+        _ => None,
+    }
 }
 
 /// A command alone is an order of the operator.

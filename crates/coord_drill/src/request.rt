@@ -29,4 +29,6 @@ pub enum Request {
     Flush,
     /// The disk crashes and is opened again; pending steps are lost.
     Crash,
+    /// The drill is one of version 2, which is chosen before its first accepted step.
+    Version2,
 }

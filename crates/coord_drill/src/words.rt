@@ -2,9 +2,9 @@
 
 ghost use Rattle.std.specs.Prelude.{◌≡◌, MatchOption, ◌∷◌, [], Some, None, nat_lt, option_and_then, if◌then◌else◌};
 ghost use Rattle.coord_drill.specs.Format.{Reads};
-ghost use Rattle.coord_drill.specs.Grammar.{words_of, number_of, message_of, number, node, group, client, message};
+ghost use Rattle.coord_drill.specs.Grammar.{words_of, number_of, number, node, group, client, distance};
 
-use coord_types::{Client, Group, Msg, NodeId};
+use coord_types::{Client, Group, NodeId, Version};
 use std::marker::Model;
 
 /// The words of a line that are still to be read.
@@ -80,16 +80,15 @@ impl<'a> Words<'a> {
         Client::new(small_number_in(self.next()?)?)
     }
 
-    /// The next word as the name of a message.
-    #[tactic(auto, unfolding(crate::specs::Grammar::message, crate::specs::Grammar::message_of))]
-    pub fn message(&mut self) -> Option<Msg>
-        ensures { Reads (message.read self.old) result self.new }
+    /// The distance behind an Abort: in version 2 the next word as a number, and in version 1 no word.
+    #[tactic(auto, unfolding(crate::specs::Grammar::distance))]
+    pub fn distance(&mut self, version: Version) -> Option<u64>
+        ensures { Reads ((distance version).read self.old) result self.new }
     {
-        match self.next()? {
-            "abort" => Some(Msg::Abort(0)),
-            "ack" => Some(Msg::Ack),
-            "ready" => Some(Msg::Ready),
-            _ => None,
+        if version.number() == 2 {
+            self.number()
+        } else {
+            Some(0)
         }
     }
 }

@@ -1,7 +1,7 @@
 //! Runs of the drill, through the program's words.
 
 use crate::program::{Ending, ended, is_ending};
-use crate::scripts::{all_bad_lines, runs};
+use crate::scripts::{all_bad_lines, runs, version_2};
 use std::alloc::{AllocError, Global};
 use std::fs::File;
 use std::io::{Read, Write};
@@ -53,6 +53,14 @@ fn prints<S: Files<File = File> + Net + Threads + Wait + Clock + Sync + AllocGlo
 #[test]
 fn worked_runs(rt: HostRuntime) -> Result<(), Fail> {
     for (name, script, expected) in runs() {
+        assert!(rt; prints(&rt, script.as_bytes(), expected)?, "{name}");
+    }
+    Ok(())
+}
+
+#[test]
+fn worked_runs_of_version_2(rt: HostRuntime) -> Result<(), Fail> {
+    for (name, script, expected) in version_2::runs() {
         assert!(rt; prints(&rt, script.as_bytes(), expected)?, "{name}");
     }
     Ok(())
@@ -222,6 +230,96 @@ fn failed_write(rt: HostRuntime) -> Result<(), Fail> {
         status == 3 && output.taken == 7 && errors.as_slice() == b"resetd: Write\n".as_slice()
     );
     Ok(())
+}
+
+/// More than 1,048,576 bytes are read to their end: the bound is one of reads, and a read asks for 512.
+#[test]
+fn long_input(rt: HostRuntime) -> Result<(), Fail> {
+    let mut input = Vec::with_capacity(rt.alloc(), 1_200_010)?;
+    input.resize(1_200_000, b'\n')?;
+    input.extend_from_slice(b"add 1 1\n")?;
+    assert!(rt; prints(&rt, &input, "done 1\n")?);
+    Ok(())
+}
+
+/// Takes a byte in each call, none once it is full, and counts its flushes, which fail where it is
+/// broken.
+#[derive(Drop)]
+struct Slow {
+    taken: Vec<u8>,
+    room: usize,
+    flushes: u64,
+    broken: bool,
+}
+
+impl Write for Slow {
+    fn write(&mut self, buf: &[u8]) -> io::Result<usize> {
+        match buf.first() {
+            Some(byte) if self.taken.len() < self.room => {
+                self.taken.push(*byte)?;
+                Ok(1)
+            }
+            _ => Ok(0),
+        }
+    }
+
+    fn flush(&mut self) -> io::Result<()> {
+        self.flushes = self.flushes.saturating_add(1);
+        if self.broken {
+            return Err(io::Error::other("broken"));
+        }
+        Ok(())
+    }
+}
+
+/// What a drill with a slow writer ends with: its status, what was written, how often it was flushed,
+/// and what was told.
+type Ended<'a> = (u8, &'a str, u64, &'a str);
+
+/// Whether a drill ends so where its writer has this room, and its flush may fail.
+fn ends_slowly(
+    alloc: Global,
+    room: usize,
+    broken: bool,
+    expected: Ended,
+) -> Result<bool, AllocError> {
+    let mut input = b"add 1 1\nreset 1\n".as_slice();
+    let mut output = Slow {
+        taken: Vec::with_capacity(alloc, 64)?,
+        room,
+        flushes: 0,
+        broken,
+    };
+    let mut errors = Vec::with_capacity(alloc, 64)?;
+    let status = coord_commands::drill(alloc, &mut input, &mut output, &mut errors);
+    if status == 4 {
+        return Err(AllocError);
+    }
+    let (wanted, printed, flushes, told) = expected;
+    Ok(
+        status == wanted
+            && output.taken.as_slice() == printed.as_bytes()
+            && output.flushes == flushes
+            && errors.as_slice() == told.as_bytes(),
+    )
+}
+
+/// A writer that takes a byte in each call gets all, and is flushed once; one that takes nothing more,
+/// or whose flush fails, is told as `Write`, and gets nothing behind it.
+#[test]
+fn slow_writers(rt: HostRuntime) -> Result<(), Fail> {
+    let alloc = rt.alloc();
+    let printed = "done 1\nfinished 2\nsignal 1 1\n";
+    assert!(rt; ends_slowly(alloc, 64, false, (0, printed, 1, ""))?);
+    assert!(rt; ends_slowly(alloc, 9, false, (3, "done 1\nfi", 0, "resetd: Write\n"))?);
+    assert!(rt; ends_slowly(alloc, 64, true, (3, printed, 1, "resetd: Write\n"))?);
+    Ok(())
+}
+
+#[test]
+fn laws_do_nothing() {
+    coord_lines::pieces_have_the_lines_of_the_whole();
+    coord_drill::worked_lines();
 }
 
 /// A script that holds so many resets of one node, and what is printed to it up to there.

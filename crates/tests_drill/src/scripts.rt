@@ -1,5 +1,7 @@
 //! Scripts of the drill, and what is printed to each.
 
+pub(crate) mod version_2;
+
 /// A name, a script, and the lines that it prints.
 pub(crate) type Run = (&'static str, &'static str, &'static str);
 
@@ -688,7 +690,7 @@ pub(crate) fn all_bad_lines() -> &'static [&'static str] {
 }
 
 /// Lines that ask for nothing.
-const BAD_LINES: [&str; 48] = [
+const BAD_LINES: [&str; 51] = [
     "fly 1",
     "add",
     "add 1",
@@ -735,6 +737,9 @@ const BAD_LINES: [&str; 48] = [
     "crash 1",
     "show 1",
     "check 1",
+    "version",
     "version 1",
+    "version 02",
+    "version 2 2",
     "add 1 \u{e9}",
 ];

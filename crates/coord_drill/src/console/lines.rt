@@ -1,19 +1,18 @@
 //! The lines of a drill's input.
 
-ghost use Rattle.std.specs.Prelude.{◌≡◌, ◌++◌, ◌<◌, ◌≤◌, ◌+◌, ◌-◌, ◌^◌, ℕ, List, [], OnOk, OnErr, IfErr, Some, length, string_bytes};
+ghost use Rattle.std.specs.Prelude.{◌≡◌, ◌++◌, ◌<◌, ◌≤◌, ◌+◌, ◌-◌, ◌^◌, ℕ, List, [], OnOk, OnErr, IfErr, Some, length, option_and_then, string_bytes};
+ghost use Rattle.std.specs.Option.{option_copied};
 ghost use Rattle.std.specs.Io.KnownBytes.{Appends};
 ghost use Rattle.coord_lines.specs.Lines.{lines_on, IsWithin};
 ghost use Rattle.coord_drill.specs.Answered.{Responds};
 ghost use Rattle.coord_drill.specs.Drill.{DrillState};
-ghost use Rattle.coord_drill.specs.Drilled.{is_skipped, IsOfWork, LineResponds, Prints, WritesFirstPart};
+ghost use Rattle.coord_drill.specs.Drilled.{asked_by, is_skipped, IsOfWork, LineResponds, Prints, WritesFirstPart};
 ghost use Rattle.coord_drill.specs.Holding.{IsReady, Tells, state_of};
 
 use super::Console;
 use crate::drill::Drill;
 use crate::fault::Fault;
 use crate::print::print_bad_line;
-use crate::reading::parse;
-use crate::request::Request;
 use crate::writing::write_text;
 use std::io::Write;
 
@@ -75,12 +74,7 @@ impl Console {
         self.text.clear();
         match self.line.get() {
             Some(line) if is_skipped(line) => {}
-            line => respond(
-                &mut self.drill,
-                line.and_then(parse),
-                self.number,
-                &mut self.text,
-            )?,
+            line => respond(&mut self.drill, line, self.number, &mut self.text)?,
         }
         self.line.clear();
         Ok(())
@@ -88,19 +82,23 @@ impl Console {
 }
 
 /// Carries out what the line of this number asks for, and adds its answer to a text. A bad line
-/// asks for nothing.
+/// asks for nothing, and so does one over the limit, for which None stands.
 fn respond(
     drill: &mut Drill,
-    request: Option<Request>,
+    line: Option<&[u8]>,
     number: u64,
     text: &mut String,
 ) -> Result<(), Fault>
     requires ready { IsReady drill.old }
     ensures ready { OnOk result (IsReady drill.new) }
     ensures told { OnOk result (Tells (string_bytes text.old) (string_bytes text.new)
-        (λ told. Responds (state_of drill.old) number request told (state_of drill.new))) }
+        (λ told. Responds (state_of drill.old) number (option_and_then (asked_by (state_of drill.old)) (option_copied line)) told (state_of drill.new))) }
     ensures fault { IfErr result IsOfWork }
 {
+    let request = match line {
+        Some(line) => drill.read(line),
+        None => None,
+    };
     match request {
         Some(request) => drill.answer(&request, text),
         None => Ok(print_bad_line(text, number)?),

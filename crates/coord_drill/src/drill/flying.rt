@@ -1,6 +1,6 @@
 //! Flights: pending steps are settled, and what they gave out is printed.
 
-ghost use Rattle.std.specs.Prelude.{◌≡◌, ◌≤◌, ◌∷◌, ◌++◌, List, [], OnOk, IfOk, IfSome, IfNone, length, string_bytes, IfErr};
+ghost use Rattle.std.specs.Prelude.{◌≡◌, ◌≤◌, ◌∷◌, ◌++◌, ℕ, List, [], OnOk, IfOk, IfSome, IfNone, length, string_bytes, IfErr};
 ghost use Rattle.std.specs.List.{AllByRecursion};
 ghost use Rattle.coord_ledger.specs.declared.release.Release.{Release as Row};
 ghost use Rattle.coord_ledger.specs.ledger.Calls.{releases_in, taken_back};
@@ -18,7 +18,7 @@ use crate::print::{print_commit_fault, print_count, print_output, print_reply};
 use coord_disk::MemDisk;
 use coord_ledger::{Flight, Ledger, Release, Releases, Ticket};
 use coord_store::CommitFault;
-use coord_types::Reply;
+use coord_types::{Reply, Version};
 use std::alloc::AllocError;
 use std::collections::VecDeque;
 
@@ -113,7 +113,7 @@ fn print_settled(
     text: &mut String,
 ) -> Result<(), AllocError>
     requires granted { AllByRecursion (IsGranted ledger.now.log) tickets.old.items }
-    ensures printed { OnOk result (string_bytes text.new ≡ string_bytes text.old ++ collected_lines (settled_world ledger.now.log).count tickets.old.items releases) }
+    ensures printed { OnOk result (string_bytes text.new ≡ string_bytes text.old ++ collected_lines (settled_world ledger.now.log).version (settled_world ledger.now.log).count tickets.old.items releases) }
     ensures waiting { OnOk result (tickets.new.items ≡ waiting (settled_world ledger.now.log).count tickets.old.items) }
 {
     let printed = print_collected(ledger, tickets, &mut releases, text);
@@ -129,15 +129,16 @@ fn print_collected(
     text: &mut String,
 ) -> Result<(), AllocError>
     requires granted { AllByRecursion (IsGranted ledger.now.log) tickets.old.items }
-    ensures printed { OnOk result (string_bytes text.new ≡ string_bytes text.old ++ collected_lines (settled_world ledger.now.log).count tickets.old.items releases.old) }
+    ensures printed { OnOk result (string_bytes text.new ≡ string_bytes text.old ++ collected_lines (settled_world ledger.now.log).version (settled_world ledger.now.log).count tickets.old.items releases.old) }
     ensures waiting { OnOk result (tickets.new.items ≡ waiting (settled_world ledger.now.log).count tickets.old.items) }
 {
     let settled = ledger.settled().count();
+    let version = ledger.settled().version();
     let mut ahead = releases.next();
     while let Some(ticket) = next_settled(tickets, settled) {
         let reply = collected(ledger, ticket);
         print_reply(text, reply)?;
-        print_released(text, reply.step, &mut ahead, releases)?;
+        print_released(text, version, reply.step, &mut ahead, releases)?;
     }
     Ok(())
 }
@@ -146,7 +147,7 @@ fn print_collected(
 fn next_settled(tickets: &mut VecDeque<Ticket>, settled: u64) -> Option<Ticket>
     ensures some { IfSome result (λ ticket. (tickets.old.items ≡ ticket ∷ tickets.new.items) × (ticket.step ≤ settled)) }
     ensures none { IfNone result ((waiting settled tickets.old.items ≡ tickets.old.items) × (tickets.new.items ≡ tickets.old.items)) }
-    ensures nothing { IfNone result ((releases : List Row) → collected_lines settled tickets.old.items releases ≡ []) }
+    ensures nothing { IfNone result ((version : ℕ) (releases : List Row) → collected_lines version settled tickets.old.items releases ≡ []) }
 {
     match tickets.front() {
         Some(ticket) if ticket.step() <= settled => tickets.pop_front(),
@@ -173,18 +174,19 @@ fn collected(ledger: &Ledger<MemDisk>, ticket: Ticket) -> Reply
 /// Prints the next releases, as long as they are of one step.
 pub(super) fn print_released(
     text: &mut String,
+    version: Version,
     step: u64,
     ahead: &mut Option<Release>,
     releases: &mut Releases,
 ) -> Result<(), AllocError>
-    ensures printed { OnOk result (string_bytes text.new ≡ string_bytes text.old ++ released_lines step (left ahead.old releases.old)) }
+    ensures printed { OnOk result (string_bytes text.new ≡ string_bytes text.old ++ released_lines version step (left ahead.old releases.old)) }
     ensures rest { OnOk result (left ahead.new releases.new ≡ behind step (left ahead.old releases.old)) }
 {
     while let Some(release) = *ahead {
         if release.step != step {
             return Ok(());
         }
-        print_output(text, &release.output)?;
+        print_output(text, version, &release.output)?;
         *ahead = releases.next();
     }
     Ok(())

@@ -40,6 +40,7 @@ impl Drill {
             Outcome::Accepted(ticket) => {
                 let number = ticket.step();
                 self.tickets.push_back_reserved(ticket);
+                self.has_begun = true;
                 if self.holds {
                     return Ok(print_pending(text, number)?);
                 }

@@ -49,7 +49,8 @@ impl Drill {
         let mut releases = ledger.resend()?;
         let mut ahead = releases.next();
         // All of it is as of step 0.
-        let printed = print_released(text, 0, &mut ahead, &mut releases);
+        let version = ledger.settled().version();
+        let printed = print_released(text, version, 0, &mut ahead, &mut releases);
         releases.lose_rest();
         printed?;
         Ok(())

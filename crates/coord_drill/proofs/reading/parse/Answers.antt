@@ -5,7 +5,7 @@ use Rattle.coord_drill.proofs.NoText.{no_text}
 use Rattle.coord_drill.proofs.reading.parse.Goals as goal
 
 pub returns-in-Ok : goal.returns-in-Ok
-returns-in-Ok c = rw (is_utf8-from_IsUtf8 c.args.line.now c.in-Ok.ensures.cases.1) (c.read_line.ensures ∙ ap request_of c.in-Ok.ensures.cases.0)
+returns-in-Ok c = rw (is_utf8-from_IsUtf8 c.args.line.now c.in-Ok.ensures.cases.1) (c.read_line.ensures ∙ ap (request_of c.args.version) c.in-Ok.ensures.cases.0)
 
 pub returns-in-Err : goal.returns-in-Err
-returns-in-Err c = sym (no_text c.args.line.now c.in-Err.ensures.cases.0)
+returns-in-Err c = sym (no_text c.args.version c.args.line.now c.in-Err.ensures.cases.0)

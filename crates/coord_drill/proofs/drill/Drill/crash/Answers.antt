@@ -19,5 +19,5 @@ returns-clause-told c =
     let new = c.in_ok-ledger.ledger in
     let is : d.ledger ≡ Some l = search rules in
     let text : string_bytes c.print_opened.new.text ≡ string_bytes c.args.text.now ++ opened_line (front_world new.log).count = search rules in
-    tells_of (λ s told. Does s Crash told (drill_of new false)) d l (string_bytes c.args.text.now) (string_bytes c.print_opened.new.text) (opened_line (front_world new.log).count) is text
-    (crash_told l new d.holds c.in_ok-ledger.ensures.reopened)
+    tells_of (λ s told. Does s Crash told (drill_of new false d.has_begun)) d l (string_bytes c.args.text.now) (string_bytes c.print_opened.new.text) (opened_line (front_world new.log).count) is text
+    (crash_told l new d.holds d.has_begun c.in_ok-ledger.ensures.reopened)

@@ -22,8 +22,8 @@ returns-in-Nothing-clause-told c =
     let l = c.in-Some.ledger in
     let new = c.send_out.new.ledger in
     let to : FlownTo l Nothing new = subst (λ o. FlownTo l o new) c.in-Nothing.is c.in_ok-send_out.ensures.flown in
-    tells_of (λ s told. Flies s told (drill_of new d.holds)) d l (string_bytes c.args.text.now) (string_bytes c.args.text.now) [] c.in-Some.is (sym (append-nil (string_bytes c.args.text.now)))
-    (nothing_told l new d.tickets.items (held_is d l c.in-Some.is c.requires.ready) d.holds to)
+    tells_of (λ s told. Flies s told (drill_of new d.holds d.has_begun)) d l (string_bytes c.args.text.now) (string_bytes c.args.text.now) [] c.in-Some.is (sym (append-nil (string_bytes c.args.text.now)))
+    (nothing_told l new d.tickets.items (held_is d l c.in-Some.is c.requires.ready) d.holds d.has_begun to)
 
 pub returns-in_ok-print_settled-in-Settled-clause-ready : goal.returns-in_ok-print_settled-in-Settled-clause-ready
 returns-in_ok-print_settled-in-Settled-clause-ready c =
@@ -39,9 +39,9 @@ returns-in_ok-print_settled-in-Settled-clause-told c =
     let l = c.in-Some.ledger in
     let new = c.send_out.new.ledger in
     let to : FlownTo l (Settled c.in-Settled.releases) new = subst (λ o. FlownTo l o new) c.in-Settled.is c.in_ok-send_out.ensures.flown in
-    tells_of (λ s told. Flies s told (drill_of new d.holds)) d l (string_bytes c.args.text.now) (string_bytes c.print_settled.new.text) (collected_lines (settled_world new.log).count d.tickets.items c.in-Settled.releases)
+    tells_of (λ s told. Flies s told (drill_of new d.holds d.has_begun)) d l (string_bytes c.args.text.now) (string_bytes c.print_settled.new.text) (collected_lines (settled_world new.log).version (settled_world new.log).count d.tickets.items c.in-Settled.releases)
     c.in-Some.is c.in_ok-print_settled-in-Settled.ensures.printed
-    (settled_told l new d.tickets.items (held_is d l c.in-Some.is c.requires.ready) c.in-Settled.releases to d.holds)
+    (settled_told l new d.tickets.items (held_is d l c.in-Some.is c.requires.ready) c.in-Settled.releases to d.holds d.has_begun)
 
 pub returns-in_ok-print_commit_fault-in-Failed-clause-ready : goal.returns-in_ok-print_commit_fault-in-Failed-clause-ready
 returns-in_ok-print_commit_fault-in-Failed-clause-ready c =
@@ -57,6 +57,6 @@ returns-in_ok-print_commit_fault-in-Failed-clause-told c =
     let l = c.in-Some.ledger in
     let new = c.send_out.new.ledger in
     let to : FlownTo l (Failed c.in-Failed.fault) new = subst (λ o. FlownTo l o new) c.in-Failed.is c.in_ok-send_out.ensures.flown in
-    tells_of (λ s told. Flies s told (drill_of new d.holds)) d l (string_bytes c.args.text.now) (string_bytes c.print_commit_fault.new.text) (commit_line c.in-Failed.fault)
+    tells_of (λ s told. Flies s told (drill_of new d.holds d.has_begun)) d l (string_bytes c.args.text.now) (string_bytes c.print_commit_fault.new.text) (commit_line c.in-Failed.fault)
     c.in-Some.is c.in_ok-print_commit_fault-in-Failed.ensures
-    (failed_told l new d.tickets.items (held_is d l c.in-Some.is c.requires.ready) d.holds c.in-Failed.fault to)
+    (failed_told l new d.tickets.items (held_is d l c.in-Some.is c.requires.ready) d.holds d.has_begun c.in-Failed.fault to)

@@ -1,10 +1,14 @@
 use Rattle.std.proofs.Common.{ap, refl}
+use Rattle.coord_world.specs.protocol.NumberedWorld.{no_world}
 use Rattle.coord_drill.proofs.Doing.{new_held}
 use Rattle.coord_drill.proofs.drill.Drill.new.Goals as goal
 
-pub returns-in-Ok-adopt-clause-ready : goal.returns-in-Ok-adopt-clause-ready
-returns-in-Ok-adopt-clause-ready c = new_held c.in-Ok-adopt.ledger c.in-Ok.store.world c.in-Ok.store.disk c.new.result.items c.in-Ok-adopt.ensures.adopted c.new.ensures.items
+pub returns-clause-ready : goal.returns-clause-ready
+returns-clause-ready c =
+    let made = c.in_ok-new_ledger.ensures.made in
+    new_held c.in_ok-new_ledger.ledger (no_world 1) made.disk c.new.result.items made.adopted c.new.ensures.items
 
-pub returns-in-Ok-adopt-clause-disk : goal.returns-in-Ok-adopt-clause-disk
-returns-in-Ok-adopt-clause-disk c =
-    (c.in-Ok-adopt.ledger, c.in-Ok.store.disk, refl, ap (λ l. l.disk) c.in-Ok-adopt.ensures.adopted, c.in-Ok.ensures.bytes refl)
+pub returns-clause-disk : goal.returns-clause-disk
+returns-clause-disk c =
+    let made = c.in_ok-new_ledger.ensures.made in
+    (c.in_ok-new_ledger.ledger, made.disk, refl, ap (λ l. l.disk) made.adopted, made.present)

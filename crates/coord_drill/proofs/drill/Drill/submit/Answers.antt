@@ -36,8 +36,8 @@ returns-then-self-clause-told c =
     let new = c.handed_in.new.ledger in
     let to : HandedTo l c.args.step (Accepted c.in-Accepted.ticket) new = subst (λ o. HandedTo l c.args.step o new) c.in-Accepted.is c.in_ok-ticket.ensures.handed in
     let text : string_bytes c.print_pending.new.text ≡ string_bytes c.args.text.now ++ pending_line c.in-Accepted.ticket.step = search rules in
-    tells_of (λ s told. Does s (Submit c.args.step) told (drill_of new d.holds)) d l (string_bytes c.args.text.now) (string_bytes c.print_pending.new.text) (pending_line c.in-Accepted.ticket.step) c.in-Some.is text
-    (held_told l new d.holds c.args.step c.in-Accepted.ticket to (search rules))
+    tells_of (λ s told. Does s (Submit c.args.step) told (drill_of new d.holds true)) d l (string_bytes c.args.text.now) (string_bytes c.print_pending.new.text) (pending_line c.in-Accepted.ticket.step) c.in-Some.is text
+    (held_told l new d.holds d.has_begun c.args.step c.in-Accepted.ticket to (search rules))
 
 pub returns-else-self-clause-told : goal.returns-else-self-clause-told
 returns-else-self-clause-told c =
@@ -47,7 +47,7 @@ returns-else-self-clause-told c =
     let to : HandedTo l c.args.step (Accepted c.in-Accepted.ticket) new = subst (λ o. HandedTo l c.args.step o new) c.in-Accepted.is c.in_ok-ticket.ensures.handed in
     on_ok_weaker c.fly.result
     (λ flown. tells_of (λ s told. Does s (Submit c.args.step) told (state_of c.fly.new.self)) d l (string_bytes c.args.text.now) (string_bytes c.fly.new.text) flown.0 c.in-Some.is flown.1.0
-    (settled_told l new d.holds c.args.step c.in-Accepted.ticket flown.0 (state_of c.fly.new.self) to (search rules) flown.1.1))
+    (settled_told l new d.holds d.has_begun c.args.step c.in-Accepted.ticket flown.0 (state_of c.fly.new.self) to (search rules) flown.1.1))
     c.fly.ensures.told
 
 pub print_kept-requires : goal.print_kept-requires
@@ -64,8 +64,8 @@ returns-in_ok-print_kept-in-Repeated-clause-told c =
     let new = c.handed_in.new.ledger in
     let to : HandedTo l c.args.step (Repeated c.in-Repeated.ticket) new = subst (λ o. HandedTo l c.args.step o new) c.in-Repeated.is c.in_ok-ticket.ensures.handed in
     let text : string_bytes c.print_kept.new.text ≡ string_bytes c.args.text.now ++ kept_line (settled_count new.log) (reply_of c.in-Repeated.ticket) = search rules in
-    tells_of (λ s told. Does s (Submit c.args.step) told (drill_of new d.holds)) d l (string_bytes c.args.text.now) (string_bytes c.print_kept.new.text) (kept_line (settled_count new.log) (reply_of c.in-Repeated.ticket)) c.in-Some.is text
-    (repeated_told l new d.holds c.args.step c.in-Repeated.ticket to)
+    tells_of (λ s told. Does s (Submit c.args.step) told (drill_of new d.holds d.has_begun)) d l (string_bytes c.args.text.now) (string_bytes c.print_kept.new.text) (kept_line (settled_count new.log) (reply_of c.in-Repeated.ticket)) c.in-Some.is text
+    (repeated_told l new d.holds d.has_begun c.args.step c.in-Repeated.ticket to)
 
 pub returns-in_ok-print_refusal-in-Refused-clause-told : goal.returns-in_ok-print_refusal-in-Refused-clause-told
 returns-in_ok-print_refusal-in-Refused-clause-told c =
@@ -74,5 +74,5 @@ returns-in_ok-print_refusal-in-Refused-clause-told c =
     let new = c.handed_in.new.ledger in
     let to : HandedTo l c.args.step (Refused c.in-Refused.refusal) new = subst (λ o. HandedTo l c.args.step o new) c.in-Refused.is c.in_ok-ticket.ensures.handed in
     let text : string_bytes c.print_refusal.new.text ≡ string_bytes c.args.text.now ++ refusal_line c.in-Refused.refusal = search rules in
-    tells_of (λ s told. Does s (Submit c.args.step) told (drill_of new d.holds)) d l (string_bytes c.args.text.now) (string_bytes c.print_refusal.new.text) (refusal_line c.in-Refused.refusal) c.in-Some.is text
-    (refused_told l new d.holds c.args.step c.in-Refused.refusal to)
+    tells_of (λ s told. Does s (Submit c.args.step) told (drill_of new d.holds d.has_begun)) d l (string_bytes c.args.text.now) (string_bytes c.print_refusal.new.text) (refusal_line c.in-Refused.refusal) c.in-Some.is text
+    (refused_told l new d.holds d.has_begun c.args.step c.in-Refused.refusal to)

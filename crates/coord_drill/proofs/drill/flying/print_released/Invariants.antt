@@ -5,7 +5,7 @@ use Rattle.coord_drill.proofs.drill.flying.print_released.Given as goal
 -- what is printed and what is still to be printed, and the releases of other steps
 abbrev pub invariant-loop-ahead : goal.invariant-loop-ahead
 invariant-loop-ahead l =
-    (string_bytes l.text ++ released_lines l.step (left l.ahead l.releases) ≡ string_bytes l.initial.text ++ released_lines l.step (left l.initial.ahead l.initial.releases))
+    (string_bytes l.text ++ released_lines l.version l.step (left l.ahead l.releases) ≡ string_bytes l.initial.text ++ released_lines l.version l.step (left l.initial.ahead l.initial.releases))
     × (behind l.step (left l.ahead l.releases) ≡ behind l.step (left l.initial.ahead l.initial.releases))
 
 abbrev pub decreases-loop-ahead : goal.decreases-loop-ahead
