@@ -64,7 +64,7 @@ group = 1\n\
 id = 1\n\
 group = 1\n";
 
-const TOPOLOGY_RUNS: [Run; 9] = [
+const TOPOLOGY_RUNS: [Run; 10] = [
     ("resetd init @/store @/pair", (0, "created 3\n", "")),
     (
         "resetd show @/store",
@@ -79,6 +79,7 @@ const TOPOLOGY_RUNS: [Run; 9] = [
     ),
     ("resetd check @/store", (0, "legal 3\n", "")),
     ("resetd init @/store @/pair", (1, "", "resetd: NotEmpty\n")),
+    ("resetd check @/store", (0, "legal 3\n", "")),
     (
         "resetd init @/other @/repeated",
         (1, "", "resetd: 7 NodeExists\n"),

@@ -1,0 +1,81 @@
+//! Where the disks and texts of names are.
+
+ghost use Rattle.std.specs.Prelude.{◌≡◌, Option, List, ℕ, Some, None, IfOk, IfSome};
+ghost use Rattle.coord_commands.specs.Folders.{bytes_of};
+
+use coord_disk::{Disk, DiskFault, FileDisk};
+use std::fs::File;
+use std::io;
+use std::io::Read;
+use std::rt::Files;
+
+/// Where the disks and texts of names are.
+///
+/// `holds` are the bytes of the disk of a name, and `says` those of the text of a name, where they
+/// are known: of real files nothing is, of disks in memory all.
+pub trait Folder {
+    /// A disk under a name.
+    type Disk: Disk + Send;
+
+    /// A text under a name, as it is read.
+    type Text: Read + Drop;
+
+    ghost holds: { Self → List ℕ → Option (List ℕ) };
+
+    ghost says: { Self → List ℕ → Option (List ℕ) };
+
+    /// Opens the disk of a name, to read it alone.
+    fn open_to_read(&self, name: &str) -> Result<Self::Disk, DiskFault>
+        ensures { IfOk result (λ disk. bytes_of Self.Disk.keeps_model Self.Disk.present disk ≡ holds self.now name.now) };
+
+    /// Takes the disk of a name, to read and write it. Nobody else has it until it is put back.
+    fn open(&mut self, name: &str) -> Result<Self::Disk, DiskFault>
+        ensures { IfOk result (λ disk. bytes_of Self.Disk.keeps_model Self.Disk.present disk ≡ holds self.old name.now) };
+
+    /// Puts the disk of a name back.
+    fn close(&mut self, name: &str, disk: Self::Disk)
+        ensures { IfSome (holds self.new name.now) (λ bytes. bytes_of Self.Disk.keeps_model Self.Disk.present disk ≡ Some bytes) };
+
+    /// Opens the text of a name.
+    fn read(&self, name: &str) -> io::Result<Self::Text>
+        ensures { IfOk result (λ text. Self.Text.remaining text ≡ says self.now name.now) };
+}
+
+/// The files of the system, by their paths. It claims nothing of them.
+#[derive(Drop)]
+pub struct FileFolder<'a, S> {
+    rt: &'a S,
+}
+
+impl<'a, S: Files<File = File>> FileFolder<'a, S> {
+    pub fn new(rt: &'a S) -> Self {
+        FileFolder { rt }
+    }
+}
+
+impl<S: Files<File = File>> Folder for FileFolder<'_, S> {
+    type Disk = FileDisk;
+
+    type Text = File;
+
+    ghost holds = { λ _ _. None };
+
+    ghost says = { λ _ _. None };
+
+    fn open_to_read(&self, name: &str) -> Result<FileDisk, DiskFault> {
+        FileDisk::open_to_read(self.rt, name)
+    }
+
+    /// The file is locked until the disk is dropped.
+    fn open(&mut self, name: &str) -> Result<FileDisk, DiskFault> {
+        FileDisk::open(self.rt, name)
+    }
+
+    fn close(&mut self, _name: &str, disk: FileDisk) {
+        drop(disk);
+    }
+
+    fn read(&self, name: &str) -> io::Result<File> {
+        File::open(self.rt, name)
+    }
+}
