@@ -1,5 +1,5 @@
 -- How commands end, from what their parts answer.
-use Rattle.std.proofs.Common.{◌≡◌, ℕ, List, Option, Some, None, IfSome, Result, Ok, Err, inl, inr}
+use Rattle.std.proofs.Common.{◌≡◌, ℕ, List, Option, Some, None, IfSome, Result, Ok, Err, inl, inr, subst, sym}
 use Rattle.std.specs.Prelude.{MatchResult, OnOk, OnErr, IfErr}
 use Rattle.std.specs.Io.KnownBytes.{Appends, Keeps}
 use Rattle.coord_drill.specs.Drilled.{WritesFirstPart}
@@ -41,3 +41,7 @@ served bytes after (Err fault) status old new is told opened closed of = inr (re
 pub if_known : (known : Option (List ℕ)) (P : List ℕ → Type 0) → ((bytes : List ℕ) → P bytes) → IfSome known P
 if_known None P all = tt
 if_known (Some bytes) P all = all bytes
+
+-- what is an error with a fault
+pub err_last : {A : Type 0} (P : Fault → Type 0) (result : Result A Fault) (fault : Fault) → result ≡ Err fault → P fault → IfErr result P
+err_last P result fault is has = subst (λ r. IfErr r P) (sym is) has

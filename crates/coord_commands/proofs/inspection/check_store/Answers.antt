@@ -1,5 +1,7 @@
-use Rattle.std.proofs.Common.{◌≡◌, rules}
-use Rattle.coord_commands.specs.Printed.{legal_line}
+use Rattle.std.proofs.Common.{◌≡◌, inl, inr, rules, subst}
+use Rattle.coord_store.specs.Refused.{RefusesOpen}
+use Rattle.coord_commands.specs.Printed.{legal_line, violated_line}
+use Rattle.coord_commands.proofs.Endings.{err_last}
 use Rattle.coord_commands.proofs.Opening.{if_keeps}
 use Rattle.coord_commands.proofs.inspection.check_store.Goals as goal
 
@@ -8,3 +10,17 @@ returns-in-Ok-clause-legal g c = λ _.
     let w = c.in-Ok.store.world in
     let text : c.deref.result.now ≡ legal_line w.count = search rules in
     (c.deref.result.now, record { world = w; legal = c.images_give_world.ensures.legal; given = if_keeps _ _ _ c.in-Ok.ensures.world; counted = text }, c.in_ok-print-in-Ok.ensures.ok)
+
+pub returns-in_err-print-in-Ok-clause-cut : goal.returns-in_err-print-in-Ok-clause-cut
+returns-in_err-print-in-Ok-clause-cut g c =
+    let w = c.in-Ok.store.world in
+    let text : c.deref.result.now ≡ legal_line w.count = search rules in
+    err_last _ _ c.in_err-print-in-Ok.field-0.0 (search rules)
+    (inr (
+      c.in_err-print-in-Ok.ensures.fault,
+      (
+        c.deref.result.now,
+        inl (record { world = w; legal = c.images_give_world.ensures.legal; given = if_keeps _ _ _ c.in-Ok.ensures.world; counted = text }),
+        c.in_err-print-in-Ok.ensures.err,
+      ),
+    ))
