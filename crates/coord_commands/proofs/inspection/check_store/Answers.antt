@@ -1,6 +1,9 @@
-use Rattle.std.proofs.Common.{◌≡◌, inl, inr, rules, subst}
-use Rattle.coord_store.specs.Refused.{RefusesOpen}
-use Rattle.coord_commands.specs.Printed.{legal_line, violated_line}
+use Rattle.std.proofs.Common.{◌≡◌, inl, inr, rules}
+use Rattle.coord_commands.specs.Ending.{IsCutShort}
+use Rattle.coord_commands.specs.Folders.{bytes_of}
+use Rattle.coord_commands.specs.Inspection.{IsCheckedLine}
+use Rattle.coord_commands.specs.Printed.{legal_line}
+use Rattle.coord_commands.specs.declared.fault.Fault.{Fault}
 use Rattle.coord_commands.proofs.Endings.{err_last}
 use Rattle.coord_commands.proofs.Opening.{if_keeps}
 use Rattle.coord_commands.proofs.inspection.check_store.Goals as goal
@@ -15,7 +18,8 @@ pub returns-in_err-print-in-Ok-clause-cut : goal.returns-in_err-print-in-Ok-clau
 returns-in_err-print-in-Ok-clause-cut g c =
     let w = c.in-Ok.store.world in
     let text : c.deref.result.now ≡ legal_line w.count = search rules in
-    err_last _ _ c.in_err-print-in-Ok.field-0.0 (search rules)
+    let P : Fault → Type 0 = IsCutShort (IsCheckedLine (bytes_of g.D.Disk.keeps_model g.D.Disk.present c.args.disk)) (g.W.Write.contents c.args.output.now) (g.W.Write.contents c.print.new.output) in
+    err_last P _ c.in_err-print-in-Ok.field-0.0 (search rules)
     (inr (
       c.in_err-print-in-Ok.ensures.fault,
       (

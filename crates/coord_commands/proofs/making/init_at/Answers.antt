@@ -22,9 +22,10 @@ of_text before after (NotClosed fault) is = absurd is
 
 pub returns-in_err-topology-clause-fault : goal.returns-in_err-topology-clause-fault
 returns-in_err-topology-clause-fault g c =
+    let same = g.F.Folder.holds c.args.folder.now c.args.file.now in
     let is : IsOfText c.in_err-topology.field-0.0 = subst (λ r. IfErr r IsOfText) c.in_err-topology.was c.topology_from.ensures.named in
     let returned : c.from_residual.result ≡ Err c.in_err-topology.field-0.0 = search rules in
-    subst (λ r. IfErr r (IsOfMaking _ _)) (sym returned) (of_text _ _ c.in_err-topology.field-0.0 is)
+    subst (λ r. IfErr r (IsOfMaking same same)) (sym returned) (of_text same same c.in_err-topology.field-0.0 is)
 
 pub returns-clause-cut : goal.returns-clause-cut
 returns-clause-cut g c =
