@@ -21,9 +21,13 @@ takes_show : (name file : Text) → takes resetd (name ∷ codes "show" ∷ (47 
 unfolding clap_on_literals
 takes_show name file = refl
 
+takes_migrate : (name file : Text) → takes resetd (name ∷ codes "migrate" ∷ (47 ∷ file) ∷ []) ≡ true
+unfolding clap_on_literals
+takes_migrate name file = refl
+
 takes_serve : (name file address : Text) → takes resetd (name ∷ codes "serve" ∷ (47 ∷ file) ∷ (49 ∷ address) ∷ []) ≡ true
 unfolding clap_on_literals
 takes_serve name file address = refl
 
 pub commands_are_taken : CommandsAreTaken
-commands_are_taken = record { drill = takes_drill; init = takes_init; check = takes_check; show = takes_show; serve = takes_serve }
+commands_are_taken = record { drill = takes_drill; init = takes_init; check = takes_check; show = takes_show; migrate = takes_migrate; serve = takes_serve }

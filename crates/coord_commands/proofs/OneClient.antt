@@ -55,7 +55,7 @@ last_after w c n x =
     ap last_number (get-insert before c session c ∙ ap (λ b. cond b (Some session) (get before c)) same)
 
 -- at first there is none
-pub none_yet : last_number (get (no_world 1).sessions founder) ≡ 0
+pub none_yet : last_number (get (no_world 2).sessions founder) ≡ 0
 unfolding get empty
 none_yet = refl
 

@@ -1,5 +1,5 @@
 -- The texts and the exit statuses of faults, and what is printed of them.
-use Rattle.std.specs.Prelude.{ℕ, List, ◌++◌, codes, Result, Ok, Err}
+use Rattle.std.specs.Prelude.{ℕ, List, ◌++◌, codes, decimal, Result, Ok, Err}
 use Rattle.coord_types.specs.Names.{refusal_text}
 use Rattle.coord_config.specs.Faults.{fault_name as topology_name}
 use Rattle.coord_config.specs.declared.fault.ConfigFault.TheVariants as of_topology
@@ -15,7 +15,7 @@ use Rattle.coord_drill.specs.declared.fault.Fault.TheVariants as of_drill
 use Rattle.coord_commands.specs.declared.fault.Fault.{Fault}
 use Rattle.coord_commands.specs.declared.fault.Fault.TheVariants.{Usage, Read, Write, Socket, TooManyReads, OutOfMemory, Topology, Store, Refused, NotClosed}
 
--- a refusal is told with its number
+-- a refusal is told with its number, and a store that is not quiet with the node that is in a reset
 abbrev pub fault_text : Fault → List ℕ
 fault_text Usage = codes "Usage"
 fault_text Read = codes "Read"
@@ -24,6 +24,7 @@ fault_text Socket = codes "Socket"
 fault_text TooManyReads = codes "Turns"
 fault_text OutOfMemory = codes "OutOfMemory"
 fault_text (Topology fault) = topology_name fault
+fault_text (Store (of_store.NotQuiet node)) = codes "NotQuiet " ++ decimal node
 fault_text (Store fault) = store_name fault
 fault_text (Refused refusal) = refusal_text refusal
 fault_text (NotClosed fault) = close_name fault

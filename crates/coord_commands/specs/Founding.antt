@@ -46,8 +46,8 @@ pub record IsRefusedBy (steps : List Step) (refusal : Refusal) : Type 0 where
   pub refused : Step
   pub rest : List Step
   pub split : steps ≡ front ++ refused ∷ rest
-  pub fresh : AllFresh (no_world 1) (no_world 1) front
-  pub why : accepts (fold (no_world 1) front) (no_world 1) refused ≡ Err refusal
+  pub fresh : AllFresh (no_world 2) (no_world 2) front
+  pub why : accepts (fold (no_world 2) front) (no_world 2) refused ≡ Err refusal
 
 -- A store cannot begin with the steps: one of them is refused, or they are too many for one commit.
 abbrev pub RefusesToBegin : List Step → Refusal → Type 0
@@ -55,8 +55,8 @@ RefusesToBegin steps refusal = IsRefusedBy steps refusal ⊎ ((refusal ≡ Pendi
 
 -- The steps that were submitted to an empty store, none of them settled yet, have all been taken.
 pub record IsUnderWay (f : Founding) : Type 0 where
-  pub nothing_settled : f.settled ≡ no_world 1
-  pub world : f.world ≡ fold (no_world 1) f.steps.items
-  pub fresh : AllFresh (no_world 1) (no_world 1) f.steps.items
+  pub nothing_settled : f.settled ≡ no_world 2
+  pub world : f.world ≡ fold (no_world 2) f.steps.items
+  pub fresh : AllFresh (no_world 2) (no_world 2) f.steps.items
   pub legal : Legal f.world
   pub numbered : last_number (get f.world.sessions founder) ≡ length f.steps.items

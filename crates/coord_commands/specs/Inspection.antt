@@ -1,12 +1,57 @@
--- What may end a look at the store on a disk.
-use Rattle.std.specs.Prelude.{ℕ, List}
-use Rattle.coord_store.specs.Refused.{RefusesOpen}
+-- What `check` and `show` print of the store on a disk, and what may end them.
+use Rattle.std.specs.Prelude.{◌≡◌, ◌⊎◌, ℕ, List, Option, IfSome}
+use Rattle.coord_check.specs.declared.violation.Violation.{Violation}
+use Rattle.coord_store.specs.Recovered.{Recovered}
+use Rattle.coord_store.specs.Refused.{IsOpenFault, RefusesOpen}
+use Rattle.coord_store.specs.declared.faults.StoreFault.TheVariants.{Device, Violated}
+use Rattle.coord_world.specs.protocol.Legal.{Legal}
+use Rattle.coord_world.specs.protocol.NumberedWorld.{World}
+use Rattle.coord_commands.specs.Ending.{Ends, Fails, PrintsOne, Streams, Succeeds}
+use Rattle.coord_commands.specs.Printed.{legal_line, shown, violated_line}
 use Rattle.coord_commands.specs.declared.fault.Fault.{Fault}
 use Rattle.coord_commands.specs.declared.fault.Fault.TheVariants.{Write, OutOfMemory, Store}
+use Rattle.std.specs.Io.KnownBytes.{Keeps}
+
+-- these bytes of a disk, where they are known, give a legal world, of which this is the line
+pub record IsLegalLine (bytes : Option (List ℕ)) (line : List ℕ) : Type 0 where
+  pub world : World
+  pub legal : Legal world
+  pub given : IfSome bytes (λ known. Recovered known world)
+  pub counted : line ≡ legal_line world.count
+
+-- the world of their snapshot violates a predicate, of which this is the line
+pub record IsViolatedLine (bytes : Option (List ℕ)) (line : List ℕ) : Type 0 where
+  pub violation : Violation
+  pub refused : IfSome bytes (λ known. RefusesOpen known (Violated violation))
+  pub named : line ≡ violated_line violation
+
+abbrev pub IsCheckedLine : Option (List ℕ) → List ℕ → Type 0
+IsCheckedLine bytes line = IsLegalLine bytes line ⊎ IsViolatedLine bytes line
+
+-- they give a world, of which these are the lines
+pub record IsShown (bytes : Option (List ℕ)) (lines : List ℕ) : Type 0 where
+  pub world : World
+  pub given : IfSome bytes (λ known. Recovered known world)
+  pub told : lines ≡ shown world
 
 -- output cannot be written, there is no memory, or a device of these bytes is refused so
-abbrev pub IsOfOpening : List ℕ → Fault → Type 0
+abbrev pub IsOfOpening : Option (List ℕ) → Fault → Type 0
 IsOfOpening bytes Write = Unit {0}
 IsOfOpening bytes OutOfMemory = Unit {0}
-IsOfOpening bytes (Store fault) = RefusesOpen bytes fault
+IsOfOpening bytes (Store Device) = Unit {0}
+IsOfOpening bytes (Store fault) = IsOpenFault fault × IfSome bytes (λ known. RefusesOpen known fault)
 IsOfOpening bytes fault = ⊥
+
+-- the status 1 and the line of a violation
+pub record IsViolated (bytes : Option (List ℕ)) (status : ℕ) (old new : Streams) : Type 0 where
+  pub number : status ≡ 1
+  pub printed : PrintsOne (IsViolatedLine bytes) old.output new.output
+  pub silent : Keeps old.errors new.errors
+
+-- what `check` does, where these are the bytes of the disk
+abbrev pub Checks : Option (List ℕ) → ℕ → Streams → Streams → Type 0
+Checks bytes status old new = Succeeds (IsLegalLine bytes) status old new ⊎ (IsViolated bytes status old new ⊎ Fails (IsOfOpening bytes) (IsCheckedLine bytes) status old new)
+
+-- and what `show` does
+abbrev pub Shows : Option (List ℕ) → ℕ → Streams → Streams → Type 0
+Shows bytes status old new = Ends (IsOfOpening bytes) (IsShown bytes) status old new

@@ -9,4 +9,5 @@ pub record CommandsAreTaken : Type 0 where
   pub init : (name file topology : Text) → takes resetd (name ∷ codes "init" ∷ (47 ∷ file) ∷ (47 ∷ topology) ∷ []) ≡ true
   pub check : (name file : Text) → takes resetd (name ∷ codes "check" ∷ (47 ∷ file) ∷ []) ≡ true
   pub show : (name file : Text) → takes resetd (name ∷ codes "show" ∷ (47 ∷ file) ∷ []) ≡ true
+  pub migrate : (name file : Text) → takes resetd (name ∷ codes "migrate" ∷ (47 ∷ file) ∷ []) ≡ true
   pub serve : (name file address : Text) → takes resetd (name ∷ codes "serve" ∷ (47 ∷ file) ∷ (49 ∷ address) ∷ []) ≡ true

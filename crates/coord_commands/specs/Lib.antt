@@ -1,7 +1,14 @@
+pub mod Creation
+pub mod Ending
 pub mod Faults
+pub mod Folders
 pub mod Founding
 pub mod Inspection
 pub mod Laws
+pub mod Making
+pub mod Migrating
 pub mod Printed
+pub mod Running
+pub mod Serving
 pub mod Topology
 pub mod Words

@@ -10,6 +10,10 @@ use Rattle.coord_world.specs.protocol.NumberedWorld.{World}
 abbrev pub created_line : ℕ → List ℕ
 created_line count = codes "created " ++ (decimal count ++ codes "\n")
 
+-- with the number of steps of a store that was raised to version 2
+abbrev pub migrated_line : ℕ → List ℕ
+migrated_line count = codes "migrated " ++ (decimal count ++ codes "\n")
+
 -- with the number of steps of a legal store
 abbrev pub legal_line : ℕ → List ℕ
 legal_line count = codes "legal " ++ (decimal count ++ codes "\n")

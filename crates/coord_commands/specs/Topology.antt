@@ -5,7 +5,16 @@ use Rattle.coord_config.specs.Reading.{reading}
 use Rattle.coord_config.specs.Topology.{Content}
 use Rattle.coord_config.specs.declared.fault.ConfigFault.{ConfigFault}
 use Rattle.coord_config.specs.declared.fault.ConfigFault.TheVariants.{NotToml}
+use Rattle.coord_commands.specs.declared.fault.Fault.{Fault}
+use Rattle.coord_commands.specs.declared.fault.Fault.TheVariants.{Read, OutOfMemory, Topology}
 
 -- bytes that are no text are no TOML either
 abbrev pub said_by : List ℕ → Result Content ConfigFault
 said_by bytes = if is_utf8 bytes then reading bytes else Err NotToml
+
+-- the faults of a topology file: it cannot be read, or is refused
+abbrev pub IsOfText : Fault → Type 0
+IsOfText Read = Unit {0}
+IsOfText OutOfMemory = Unit {0}
+IsOfText (Topology fault) = Unit {0}
+IsOfText fault = ⊥

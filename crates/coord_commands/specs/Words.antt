@@ -4,19 +4,20 @@ use Rattle.clap.specs.Words.{App, Rule, Text, new_app, new_rule, with_rule, with
 use Rattle.clap.specs.Simple.{on_top}
 use Rattle.clap.specs.declared.builder.action.ArgAction.TheVariants.{Set}
 use Rattle.coord_commands.specs.declared.words.Task.{Task}
-use Rattle.coord_commands.specs.declared.words.Task.TheVariants.{Drill, Init, Check, Show, Serve}
+use Rattle.coord_commands.specs.declared.words.Task.TheVariants.{Drill, Init, Check, Show, Migrate, Serve}
 
 abbrev pub asked_alone : Text → Option Task
 asked_alone word = if bytes_eq word (codes "drill") then Some Drill else None
 
 abbrev pub asked_of_file : Text → Option Task
-asked_of_file word = if bytes_eq word (codes "check") then Some Check else (if bytes_eq word (codes "show") then Some Show else None)
+asked_of_file word =
+    if bytes_eq word (codes "check") then Some Check else (if bytes_eq word (codes "show") then Some Show else (if bytes_eq word (codes "migrate") then Some Migrate else None))
 
 abbrev pub asked_of_two : Text → Option Task
 asked_of_two word = if bytes_eq word (codes "init") then Some Init else (if bytes_eq word (codes "serve") then Some Serve else None)
 
 -- What the words ask for, the first of which is the program's own name: `drill`, `check FILE`, `show FILE`,
--- `init FILE TOPOLOGY` or `serve FILE ADDRESS`.
+-- `migrate FILE`, `init FILE TOPOLOGY` or `serve FILE ADDRESS`.
 abbrev pub task_of : List Text → Option Task
 task_of (name ∷ word ∷ []) = asked_alone word
 task_of (name ∷ word ∷ file ∷ []) = asked_of_file word
@@ -33,8 +34,10 @@ resetd =
     with_subcommand
     (with_subcommand
     (with_subcommand
+    (with_subcommand
     (with_subcommand (with_subcommand (on_top (λ s. record s { subcommand_required = true }) (new_app (codes "resetd"))) (new_app (codes "drill")).top)
     (with_rule (with_rule (new_app (codes "init")) (word_named (codes "file"))) (word_named (codes "topology"))).top)
     (with_rule (new_app (codes "check")) (word_named (codes "file"))).top)
     (with_rule (new_app (codes "show")) (word_named (codes "file"))).top)
-    (with_rule (with_rule (new_app (codes "serve")) (word_named (codes "file"))) (word_named (codes "address"))).top
+    (with_rule (with_rule (new_app (codes "serve")) (word_named (codes "file"))) (word_named (codes "address"))).top)
+    (with_rule (new_app (codes "migrate")) (word_named (codes "file"))).top

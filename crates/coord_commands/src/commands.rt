@@ -1,27 +1,19 @@
-//! The commands, over files, readers and writers.
+//! The commands, over files.
 
-ghost use Rattle.std.specs.Prelude.{◌≡◌, ◌⊎◌, ◌≤◌, ℕ, List, map, true, OnOk, IfOk, IfSome, Some, None, string_bytes};
-ghost use Rattle.std.specs.Io.KnownBytes.{Appends, Keeps};
-ghost use Rattle.coord_drill.specs.Drilled.{IsDrilled};
-ghost use Rattle.coord_commands.specs.Faults.{fault_line, status_of};
-ghost use Rattle.coord_commands.specs.Printed.{created_line, legal_line, shown};
-ghost use Rattle.coord_commands.specs.Words.{task_of};
-ghost use Rattle.coord_commands.specs.declared.words.Task.TheVariants.{Drill};
-ghost use Rattle.coord_world.specs.protocol.Legal.{Legal};
-ghost use Rattle.coord_world.specs.protocol.NumberedWorld.{World as Numbered};
+ghost use Rattle.std.specs.Prelude.{None, map, string_bytes};
+ghost use Rattle.coord_commands.specs.Ending.{Ends};
+ghost use Rattle.coord_commands.specs.Inspection.{Checks, Shows};
+ghost use Rattle.coord_commands.specs.Making.{IsCreatedLine, IsOfMaking};
+ghost use Rattle.coord_commands.specs.Migrating.{IsMigratedLine, IsOfMigrating};
+ghost use Rattle.coord_commands.specs.Running.{Runs};
 
-use crate::creation::create_store;
-use crate::fault::Fault;
-use crate::inspection::{check_store, show_store};
-use crate::lines::print;
-use crate::serving::serve;
-use crate::topology::topology_from;
-use crate::words::{Task, read_words};
-use coord_disk::FileDisk;
-use coord_drill::coord_drill;
-use std::alloc::Global;
+use crate::folder::{FileFolder, Folder};
+use crate::inspection::{check_in, show_in};
+use crate::making::init_in;
+use crate::migrating::migrate_in;
+use crate::running::run_in;
+use crate::serving::serve_in;
 use std::fs::File;
-use std::io;
 use std::io::{Read, Write};
 use std::net::Net;
 use std::rt::Files;
@@ -29,41 +21,38 @@ use std::sync::Wait;
 use std::thread::Threads;
 use std::time::Clock;
 
-/// Carries out what the program's words ask for, and answers the exit status.
+/// Carries out what the program's words ask for, and answers the exit status. Nothing but `serve`
+/// waits for anybody.
 pub fn run<
     S: Files<File = File> + Net + Threads + Wait + Clock + Sync + AllocGlobal,
     R: Read,
     W: Write + Send,
     E: Write,
 >(rt: &S, words: &[String], input: &mut R, output: &mut W, errors: &mut E) -> u8
-    ensures drilled { result ≡ 0 → task_of (map string_bytes words.now) ≡ Some Drill
-        → IfSome (R.remaining input.old) (λ text. (printed : List ℕ) × IsDrilled text printed × Appends (W.contents output.old) (W.contents output.new) printed) }
-    ensures refused { task_of (map string_bytes words.now) ≡ None → ((result ≡ 2) ⊎ (result ≡ 4))
-        × Keeps (R.remaining input.old) (R.remaining input.new) × Keeps (W.contents output.old) (W.contents output.new) }
+    ensures { Runs (map string_bytes words.now) result
+        (record { input = R.remaining input.old; streams = record { output = W.contents output.old; errors = E.contents errors.old }; holds = λ _. None; says = λ _. None })
+        (record { input = R.remaining input.new; streams = record { output = W.contents output.new; errors = E.contents errors.new }; holds = λ _. None; says = λ _. None }) }
 {
-    match read_words(rt.alloc(), words) {
-        Ok(Task::Drill) => drill(rt.alloc(), input, output, errors),
-        Ok(Task::Init) => init(rt, &words[2], &words[3], output, errors),
-        Ok(Task::Check) => check(rt, &words[2], output, errors),
-        Ok(Task::Show) => show(rt, &words[2], output, errors),
-        Ok(Task::Serve) => serve(rt, &words[2], &words[3], output, errors),
-        Err(fault) => report(Err(fault), errors),
-    }
+    let mut folder = FileFolder::new(rt);
+    carry_out(rt, &mut folder, words, input, output, errors)
 }
 
-/// Reads requests from an input, prints what becomes of each, and answers the exit status.
-pub fn drill<R: Read, W: Write, E: Write>(
-    alloc: Global,
-    input: &mut R,
-    output: &mut W,
-    errors: &mut E,
-) -> u8
-    ensures { result ≡ 0 → IfSome (R.remaining input.old) (λ text. (printed : List ℕ) × IsDrilled text printed × Appends (W.contents output.old) (W.contents output.new) printed) }
+/// Carries out what the program's words ask for in a folder, and answers the exit status.
+fn carry_out<
+    S: Net + Threads + Wait + Clock + Sync + AllocGlobal,
+    F: Folder,
+    R: Read,
+    W: Write + Send,
+    E: Write,
+>(rt: &S, folder: &mut F, words: &[String], input: &mut R, output: &mut W, errors: &mut E) -> u8
+    ensures { Runs (map string_bytes words.now) result
+        (record { input = R.remaining input.old; streams = record { output = W.contents output.old; errors = E.contents errors.old }; holds = F.holds folder.old; says = F.says folder.old })
+        (record { input = R.remaining input.new; streams = record { output = W.contents output.new; errors = E.contents errors.new }; holds = F.holds folder.new; says = F.says folder.new }) }
 {
-    report(
-        coord_drill(alloc, input, output).map_err(Fault::from),
-        errors,
-    )
+    match run_in(rt.alloc(), folder, words, input, output, errors) {
+        Some(status) => status,
+        None => serve_in(rt, folder, &words[2], &words[3], output, errors),
+    }
 }
 
 /// Makes a store on a file that is not there yet, or empty, with the nodes and links of a topology
@@ -76,32 +65,25 @@ pub fn init<S: Files<File = File> + AllocGlobal, W: Write, E: Write>(
     output: &mut W,
     errors: &mut E,
 ) -> u8
-    ensures { result ≡ 0 → (count : ℕ) × Appends (W.contents output.old) (W.contents output.new) (created_line count) }
+    ensures { Ends (IsOfMaking None None) (IsCreatedLine None None None) result (record { output = W.contents output.old; errors = E.contents errors.old }) (record { output = W.contents output.new; errors = E.contents errors.new }) }
 {
-    report(init_file(rt, file, topology, output), errors)
+    let mut folder = FileFolder::new(rt);
+    init_in(rt.alloc(), &mut folder, file, topology, output, errors)
 }
 
-fn init_file<S: Files<File = File> + AllocGlobal, W: Write>(
+/// Raises the store on a file to version 2, prints how many steps it has, and answers the exit status.
+/// The file is locked meanwhile, and made where there is none. A store of version 2 is left as it is,
+/// and the same is printed; one with a node in a reset is refused, and left as it is too.
+pub fn migrate<S: Files<File = File> + AllocGlobal, W: Write, E: Write>(
     rt: &S,
     file: &str,
-    topology: &str,
     output: &mut W,
-) -> Result<(), Fault>
-    ensures { OnOk result ((count : ℕ) × Appends (W.contents output.old) (W.contents output.new) (created_line count)) }
+    errors: &mut E,
+) -> u8
+    ensures { Ends (IsOfMigrating None None) (IsMigratedLine None None) result (record { output = W.contents output.old; errors = E.contents errors.old }) (record { output = W.contents output.new; errors = E.contents errors.new }) }
 {
-    let Ok(reader) = File::open(rt, topology) else {
-        return Err(Fault::Read);
-    };
-    let topology = topology_from(rt.alloc(), reader)?;
-    let disk = FileDisk::open(rt, file)?;
-    match create_store(rt.alloc(), disk, &topology) {
-        Ok(store) => {
-            let count = store.world().count();
-            let text = format!(in rt.alloc(); "created {count}\n")?;
-            print(output, &text)
-        }
-        Err((fault, _disk)) => Err(fault),
-    }
+    let mut folder = FileFolder::new(rt);
+    migrate_in(rt.alloc(), &mut folder, file, output, errors)
 }
 
 /// Prints whether the store on a file is legal, and how many steps it has, or else the first
@@ -112,24 +94,9 @@ pub fn check<S: Files<File = File> + AllocGlobal, W: Write, E: Write>(
     output: &mut W,
     errors: &mut E,
 ) -> u8
-    ensures { result ≡ 0 → (w : Numbered) × Legal w × Appends (W.contents output.old) (W.contents output.new) (legal_line w.count) }
+    ensures { Checks None result (record { output = W.contents output.old; errors = E.contents errors.old }) (record { output = W.contents output.new; errors = E.contents errors.new }) }
 {
-    match check_file(rt, file, output) {
-        Ok(true) => 0,
-        Ok(false) => 1,
-        Err(fault) => report(Err(fault), errors),
-    }
-}
-
-fn check_file<S: Files<File = File> + AllocGlobal, W: Write>(
-    rt: &S,
-    file: &str,
-    output: &mut W,
-) -> Result<bool, Fault>
-    ensures { IfOk result (λ legal. legal ≡ true → (w : Numbered) × Legal w × Appends (W.contents output.old) (W.contents output.new) (legal_line w.count)) }
-{
-    let disk = FileDisk::open_to_read(rt, file)?;
-    check_store(rt.alloc(), disk, output)
+    check_in(rt.alloc(), &FileFolder::new(rt), file, output, errors)
 }
 
 /// Prints the nodes and links of the store on a file, and answers the exit status.
@@ -139,38 +106,7 @@ pub fn show<S: Files<File = File> + AllocGlobal, W: Write, E: Write>(
     output: &mut W,
     errors: &mut E,
 ) -> u8
-    ensures { result ≡ 0 → (w : Numbered) × Appends (W.contents output.old) (W.contents output.new) (shown w) }
+    ensures { Shows None result (record { output = W.contents output.old; errors = E.contents errors.old }) (record { output = W.contents output.new; errors = E.contents errors.new }) }
 {
-    report(show_file(rt, file, output), errors)
-}
-
-fn show_file<S: Files<File = File> + AllocGlobal, W: Write>(
-    rt: &S,
-    file: &str,
-    output: &mut W,
-) -> Result<(), Fault>
-    ensures { OnOk result ((w : Numbered) × Appends (W.contents output.old) (W.contents output.new) (shown w)) }
-{
-    let disk = FileDisk::open_to_read(rt, file)?;
-    show_store(rt.alloc(), disk, output)
-}
-
-/// Prints the line of a fault, if a command ended with one, and answers the exit status. A line
-/// that cannot be printed is left out.
-pub fn report<E: Write>(ended: Result<(), Fault>, errors: &mut E) -> u8
-    ensures { result ≡ status_of ended }
-{
-    match &ended {
-        Ok(()) => 0,
-        Err(fault) => {
-            let _ = print_fault(fault, errors);
-            fault.status()
-        }
-    }
-}
-
-fn print_fault<E: Write>(fault: &Fault, errors: &mut E) -> io::Result<()>
-    ensures { OnOk result (Appends (E.contents errors.old) (E.contents errors.new) (fault_line fault.now)) }
-{
-    writeln!(errors, "resetd: {fault}")
+    show_in(rt.alloc(), &FileFolder::new(rt), file, output, errors)
 }

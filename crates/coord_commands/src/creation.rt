@@ -1,26 +1,22 @@
 //! Making the store of a topology on a disk.
 
-ghost use Rattle.std.specs.Prelude.{◌≡◌, true, length, IfErr, IfOk, None};
-ghost use Rattle.coord_codec.specs.Worlds.{world};
+ghost use Rattle.std.specs.Prelude.{◌≡◌, ◌⊎◌, ◌+◌, true, length, IfErr, IfOk, MatchResult, None};
+ghost use Rattle.coord_commands.specs.Creation.{IsOfCreation, RefusesCommitted, failures_at};
 ghost use Rattle.coord_commands.specs.Founding.{RefusesToBegin, orders};
-ghost use Rattle.coord_commands.specs.declared.fault.Fault.TheVariants.{Refused};
+ghost use Rattle.coord_commands.specs.declared.fault.Fault.TheVariants.{Refused, Store as Failed};
 ghost use Rattle.coord_config.specs.Topology.{content};
-ghost use Rattle.coord_disk.specs.Model.Present.{whole};
-ghost use Rattle.coord_journal.specs.Text.{formatted};
+ghost use Rattle.coord_store.specs.Kept.{IsUntouched, made};
+ghost use Rattle.coord_store.specs.declared.faults.StoreFault.TheVariants.{HalfSize, NotEmpty};
 ghost use Rattle.coord_types.specs.declared.refusals.Refusal.{Refusal as Reason};
 ghost use Rattle.coord_world.specs.protocol.Next.{fold};
 ghost use Rattle.coord_world.specs.protocol.NumberedWorld.{no_world};
-ghost use Rattle.coord_world.specs.protocol.Rows.{rows_of};
 
 use crate::fault::Fault;
-use crate::founding::founding_steps;
+use crate::founding::{VERSION, founding_steps};
 use coord_config::Topology;
 use coord_disk::Disk;
 use coord_store::Store;
 use std::alloc::Global;
-
-/// The version of the store that is made.
-const VERSION: u8 = 1;
 
 /// Makes a store on an empty disk, which begins with the nodes and links of a topology, committed at
 /// once. Where one of them is refused, the store is left empty.
@@ -30,11 +26,19 @@ pub fn create_store<D: Disk>(
     topology: &Topology,
 ) -> Result<Store<D>, (Fault, D)>
     ensures empty { D.keeps_model disk ≡ true → IfOk result (λ store. length (D.present disk).read ≡ 0) }
-    ensures world { IfOk result (λ store. store.world ≡ fold (no_world 1) (orders (content topology.now))) }
+    ensures world { IfOk result (λ store. store.world ≡ fold (no_world 2) (orders (content topology.now))) }
     ensures going { IfOk result (λ store. store.torn ≡ None) }
     ensures refused { (reason : Reason) → IfErr result (λ refused. refused.0 ≡ Refused reason → RefusesToBegin (orders (content topology.now)) reason) }
+    ensures fault { D.keeps_model disk ≡ true → IfErr result (λ refused. RefusesCommitted (D.present disk).read topology.now.half refused.0) }
+    ensures named { IfErr result (λ refused. IsOfCreation refused.0) }
+
+    // What a refusal leaves, the device's own faults aside.
+    ensures unchanged { D.keeps_model disk ≡ true → IfErr result (λ refused. (refused.0 ≡ Failed NotEmpty) ⊎ (refused.0 ≡ Failed HalfSize) → IsUntouched D.present D.clock D.left_since disk refused.1) }
     ensures left_empty { (reason : Reason) → D.keeps_model disk ≡ true → IfErr result (λ refused. refused.0 ≡ Refused reason
-        → D.present refused.1 ≡ whole (formatted topology.now.half 1 ((world 1).text (rows_of (no_world 1))))) }
+        → D.present refused.1 ≡ made topology.now.half 2) }
+
+    ensures model { MatchResult result (λ store. D.keeps_model store.disk ≡ D.keeps_model disk) (λ refused. D.keeps_model refused.1 ≡ D.keeps_model disk) }
+    ensures failures { MatchResult result (λ store. D.failures store.disk ≡ D.failures disk) (λ refused. D.failures refused.1 ≡ D.failures disk + failures_at refused.0) }
 {
     let mut store = match Store::create(alloc, disk, topology.half, VERSION) {
         Ok(store) => store,

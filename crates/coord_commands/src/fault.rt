@@ -31,7 +31,7 @@ pub enum Fault {
     OutOfMemory,
     /// The topology file was refused.
     Topology(ConfigFault),
-    /// The store was not made or opened, or its device failed.
+    /// The store was not made, opened or raised to version 2, or its device failed.
     Store(StoreFault),
     /// An order of the topology file was refused.
     Refused(Refusal),
@@ -91,6 +91,7 @@ impl fmt::Display for Fault {
             Fault::TooManyReads => f.write_str("Turns"),
             Fault::OutOfMemory => f.write_str("OutOfMemory"),
             Fault::Topology(fault) => write!(f, "{fault}"),
+            Fault::Store(StoreFault::NotQuiet(node)) => write!(f, "NotQuiet {}", node.number()),
             Fault::Store(fault) => write!(f, "{fault}"),
             Fault::Refused(refusal) => write!(f, "{refusal}"),
             Fault::NotClosed(fault) => write!(f, "{fault}"),

@@ -17,12 +17,15 @@ use coord_types::{Client, Command, MAX_BATCH_STEPS, Refusal, Step, Version};
 use coord_world::{Verdict, World};
 use std::alloc::{AllocError, Global};
 
+/// The version of the world that a store begins with.
+pub const VERSION: u8 = 2;
+
 /// The steps of a store that begins with a topology: the founder's orders, numbered from 1, of which
 /// an empty store takes each after those before it. The first refusal ends it; more than 256 steps,
 /// which no store can take, are refused as `PendingFull`.
 pub fn founding_steps(alloc: Global, topology: &Topology) -> Result<Vec<Step>, Fault>
     ensures steps { IfOk result (λ steps. steps.items ≡ orders (content topology.now)) }
-    ensures fresh { IfOk result (λ steps. AllFresh (no_world 1) (no_world 1) steps.items) }
+    ensures fresh { IfOk result (λ steps. AllFresh (no_world 2) (no_world 2) steps.items) }
     ensures few { IfOk result (λ steps. length steps.items ≤ MAX_BATCH_STEPS) }
     ensures refused { IfErr result (λ fault. (fault ≡ OutOfMemory) ⊎ ((reason : Reason) × (fault ≡ Refused reason) × RefusesToBegin (orders (content topology.now)) reason)) }
 {
@@ -62,7 +65,7 @@ fn join_all(list: &mut Vec<Command>, links: &[LinkEntry]) -> Result<(), AllocErr
 /// Submits commands as the founder's orders.
 fn submit_all(alloc: Global, commands: &[Command]) -> Result<Vec<Step>, Fault>
     ensures steps { IfOk result (λ steps. steps.items ≡ numbered 1 commands.now) }
-    ensures fresh { IfOk result (λ steps. AllFresh (no_world 1) (no_world 1) steps.items) }
+    ensures fresh { IfOk result (λ steps. AllFresh (no_world 2) (no_world 2) steps.items) }
     ensures few { IfOk result (λ steps. length steps.items ≤ MAX_BATCH_STEPS) }
     ensures refused { IfErr result (λ fault. (fault ≡ OutOfMemory) ⊎ ((reason : Reason) × (fault ≡ Refused reason) × RefusesToBegin (numbered 1 commands.now) reason)) }
 {
@@ -102,7 +105,7 @@ impl Founding {
         ensures under_way { OnOk result (IsUnderWay self.new) }
         ensures taken { OnOk result (self.new.steps.items ≡ self.old.steps.items ++ Order founder (length self.old.steps.items + 1) command.now ∷ []) }
         ensures refused { IfErr result (λ fault. (fault ≡ OutOfMemory)
-            ⊎ ((reason : Reason) × (fault ≡ Refused reason) × (accepts self.old.world (no_world 1) (Order founder (length self.old.steps.items + 1) command.now) ≡ Err reason))) }
+            ⊎ ((reason : Reason) × (fault ≡ Refused reason) × (accepts self.old.world (no_world 2) (Order founder (length self.old.steps.items + 1) command.now) ≡ Err reason))) }
     {
         let number = self.steps.len() as u64 + 1;
         let step = Step::Order(founder(), number, *command);
@@ -117,11 +120,11 @@ impl Founding {
     }
 }
 
-/// The version of the world that is begun.
+/// The same.
 fn version() -> Version
-    ensures { result ≡ 1 }
+    ensures { result ≡ 2 }
 {
-    Version::new(1).unwrap()
+    Version::new(VERSION).unwrap()
 }
 
 /// The client that orders what a store begins with.

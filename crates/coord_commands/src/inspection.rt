@@ -1,21 +1,17 @@
 //! Looking at the store on a disk.
 
 ghost use Rattle.std.specs.Prelude.{◌≡◌, false, true, IfErr, IfOk, OnOk};
-ghost use Rattle.std.specs.Io.KnownBytes.{Appends};
-ghost use Rattle.coord_check.specs.declared.violation.Violation.{Violation};
-ghost use Rattle.coord_commands.specs.Inspection.{IsOfOpening};
-ghost use Rattle.coord_commands.specs.Printed.{legal_line, shown, violated_line};
+ghost use Rattle.coord_commands.specs.Ending.{IsCutShort, PrintsOne};
+ghost use Rattle.coord_commands.specs.Folders.{bytes_of, reads};
+ghost use Rattle.coord_commands.specs.Inspection.{Checks, IsCheckedLine, IsLegalLine, IsOfOpening, IsShown, IsViolatedLine, Shows};
 ghost use Rattle.coord_commands.specs.declared.fault.Fault.TheVariants.{OutOfMemory};
 ghost use Rattle.coord_ledger.specs.machine.Shown.{shown as view_of};
 ghost use Rattle.coord_store.specs.Kept.{has_stopped};
-ghost use Rattle.coord_store.specs.Recovered.{Recovered};
-ghost use Rattle.coord_store.specs.Refused.{RefusesOpen};
-ghost use Rattle.coord_store.specs.declared.faults.StoreFault.TheVariants.{Violated};
-ghost use Rattle.coord_world.specs.protocol.Legal.{Legal};
-ghost use Rattle.coord_world.specs.protocol.NumberedWorld.{World as Numbered};
 
 use crate::fault::Fault;
+use crate::folder::Folder;
 use crate::lines::print;
+use crate::status::report;
 use coord_disk::Disk;
 use coord_drill::print_view;
 use coord_ledger::{Ledger, Seen, View};
@@ -23,14 +19,75 @@ use coord_store::{Store, StoreFault};
 use std::alloc::Global;
 use std::io::Write;
 
+/// Prints whether the store on the disk of a name is legal, and how many steps it has, or else the
+/// first predicate that its snapshot violates, and answers the exit status, which is 1 for the
+/// latter. The disk is opened to read it alone.
+pub fn check_in<F: Folder, W: Write, E: Write>(
+    alloc: Global,
+    folder: &F,
+    file: &str,
+    output: &mut W,
+    errors: &mut E,
+) -> u8
+    ensures { Checks (reads (F.holds folder.now file.now)) result (record { output = W.contents output.old; errors = E.contents errors.old }) (record { output = W.contents output.new; errors = E.contents errors.new }) }
+{
+    match check_at(alloc, folder, file, output) {
+        Ok(true) => 0,
+        Ok(false) => 1,
+        Err(fault) => report(Err(fault), errors),
+    }
+}
+
+fn check_at<F: Folder, W: Write>(
+    alloc: Global,
+    folder: &F,
+    file: &str,
+    output: &mut W,
+) -> Result<bool, Fault>
+    ensures legal { IfOk result (λ legal. legal ≡ true → PrintsOne (IsLegalLine (reads (F.holds folder.now file.now))) (W.contents output.old) (W.contents output.new)) }
+    ensures violated { IfOk result (λ legal. legal ≡ false → PrintsOne (IsViolatedLine (reads (F.holds folder.now file.now))) (W.contents output.old) (W.contents output.new)) }
+    ensures fault { IfErr result (IsOfOpening (reads (F.holds folder.now file.now))) }
+    ensures cut { IfErr result (IsCutShort (IsCheckedLine (reads (F.holds folder.now file.now))) (W.contents output.old) (W.contents output.new)) }
+{
+    let disk = folder.open_to_read(file)?;
+    check_store(alloc, disk, output)
+}
+
+/// Prints the nodes and links of the store on the disk of a name, and answers the exit status. The
+/// disk is opened to read it alone.
+pub fn show_in<F: Folder, W: Write, E: Write>(
+    alloc: Global,
+    folder: &F,
+    file: &str,
+    output: &mut W,
+    errors: &mut E,
+) -> u8
+    ensures { Shows (reads (F.holds folder.now file.now)) result (record { output = W.contents output.old; errors = E.contents errors.old }) (record { output = W.contents output.new; errors = E.contents errors.new }) }
+{
+    report(show_at(alloc, folder, file, output), errors)
+}
+
+fn show_at<F: Folder, W: Write>(
+    alloc: Global,
+    folder: &F,
+    file: &str,
+    output: &mut W,
+) -> Result<(), Fault>
+    ensures shown { OnOk result (PrintsOne (IsShown (reads (F.holds folder.now file.now))) (W.contents output.old) (W.contents output.new)) }
+    ensures fault { IfErr result (IsOfOpening (reads (F.holds folder.now file.now))) }
+    ensures cut { IfErr result (IsCutShort (IsShown (reads (F.holds folder.now file.now))) (W.contents output.old) (W.contents output.new)) }
+{
+    let disk = folder.open_to_read(file)?;
+    show_store(alloc, disk, output)
+}
+
 /// Opens the store on a disk, and prints that it is legal, and how many steps it has, or else the
 /// first predicate that its snapshot violates. Whether it is legal is the answer.
 pub fn check_store<D: Disk, W: Write>(alloc: Global, disk: D, output: &mut W) -> Result<bool, Fault>
-    ensures legal { IfOk result (λ legal. legal ≡ true → (w : Numbered) × Legal w × (D.keeps_model disk ≡ true → Recovered (D.present disk).read w)
-        × Appends (W.contents output.old) (W.contents output.new) (legal_line w.count)) }
-    ensures violated { IfOk result (λ legal. legal ≡ false → (v : Violation) × (D.keeps_model disk ≡ true → RefusesOpen (D.present disk).read (Violated v))
-        × Appends (W.contents output.old) (W.contents output.new) (violated_line v)) }
-    ensures fault { D.keeps_model disk ≡ true → IfErr result (IsOfOpening (D.present disk).read) }
+    ensures legal { IfOk result (λ legal. legal ≡ true → PrintsOne (IsLegalLine (bytes_of D.keeps_model D.present disk)) (W.contents output.old) (W.contents output.new)) }
+    ensures violated { IfOk result (λ legal. legal ≡ false → PrintsOne (IsViolatedLine (bytes_of D.keeps_model D.present disk)) (W.contents output.old) (W.contents output.new)) }
+    ensures fault { IfErr result (IsOfOpening (bytes_of D.keeps_model D.present disk)) }
+    ensures cut { IfErr result (IsCutShort (IsCheckedLine (bytes_of D.keeps_model D.present disk)) (W.contents output.old) (W.contents output.new)) }
 {
     match Store::open(alloc, disk) {
         Ok(store) => {
@@ -53,9 +110,9 @@ pub fn check_store<D: Disk, W: Write>(alloc: Global, disk: D, output: &mut W) ->
 
 /// Opens the store on a disk, and prints its nodes and links.
 pub fn show_store<D: Disk, W: Write>(alloc: Global, disk: D, output: &mut W) -> Result<(), Fault>
-    ensures shown { OnOk result ((w : Numbered) × (D.keeps_model disk ≡ true → Recovered (D.present disk).read w)
-        × Appends (W.contents output.old) (W.contents output.new) (shown w)) }
-    ensures fault { D.keeps_model disk ≡ true → IfErr result (IsOfOpening (D.present disk).read) }
+    ensures shown { OnOk result (PrintsOne (IsShown (bytes_of D.keeps_model D.present disk)) (W.contents output.old) (W.contents output.new)) }
+    ensures fault { IfErr result (IsOfOpening (bytes_of D.keeps_model D.present disk)) }
+    ensures cut { IfErr result (IsCutShort (IsShown (bytes_of D.keeps_model D.present disk)) (W.contents output.old) (W.contents output.new)) }
 {
     match Store::open(alloc, disk) {
         Ok(store) => {

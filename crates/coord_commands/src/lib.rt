@@ -4,28 +4,46 @@
 //! called, which status each has and what is printed of it, and `specs/Printed.antt` the lines of a
 //! store. `run` carries out what the words ask for.
 //!
-//! `init`, `check` and `show` are each a thin call, over a file, of a function over any disk:
-//! `create_store`, whose store begins with the orders of a topology (`specs/Founding.antt`),
-//! `check_store` and `show_store` (`specs/Inspection.antt`). `serve` is a thin call of `serve_store`
-//! of coord_server. The main theorems are the contracts of those three, which say exactly which
-//! world the bytes give where the disk keeps the model, and that of `run`, of the drill alone.
+//! Each command but the drill works in a `Folder`, which says where the disks and texts of names are:
+//! `run_in`, `init_in`, `check_in`, `show_in`, `migrate_in` and `serve_in`. The public commands are thin calls of
+//! these over the files of the system, of which nothing is claimed; of a `MemFolder`, whose disks are
+//! in memory, all is known. `run_in` waits for nobody, and leaves just `serve` to its caller.
+//!
+//! Beneath them are functions over any disk: `create_store`, whose store begins with the orders of a
+//! topology (`specs/Founding.antt`), `check_store` and `show_store` (`specs/Inspection.antt`), `migrate_store`
+//! (`specs/Migrating.antt`), and `serve_store` of coord_server. The main theorems are the contracts of `run_in` and `serve_in`:
+//! which line is printed for the world that the bytes of the named disk give, which status is
+//! answered, and which faults each command may end with, in what order (`specs/Running.antt`,
+//! `specs/Making.antt`, `specs/Migrating.antt`, `specs/Inspection.antt`, `specs/Serving.antt`).
 #![tactic(auto)]
 
 mod commands;
 mod creation;
 mod fault;
+mod folder;
 mod founding;
 mod inspection;
 pub mod laws;
 mod lines;
+mod making;
+mod memory;
+mod migrating;
+mod running;
 mod serving;
+mod status;
 mod topology;
 mod words;
 
-pub use commands::{check, drill, init, report, run, show};
+pub use commands::{check, init, migrate, run, show};
 pub use creation::create_store;
 pub use fault::Fault;
-pub use inspection::{check_store, show_store};
-pub use serving::serve;
+pub use folder::{FileFolder, Folder};
+pub use inspection::{check_in, check_store, show_in, show_store};
+pub use making::init_in;
+pub use memory::{MemFolder, Named};
+pub use migrating::{migrate_in, migrate_store};
+pub use running::{drill, run_in};
+pub use serving::{serve, serve_in};
+pub use status::report;
 pub use topology::topology_from;
 pub use words::{Task, read_words};

@@ -1,15 +1,22 @@
-//! Serving the store on a file.
+//! Serving a store in a folder.
 
-ghost use Rattle.std.specs.Prelude.{◌≡◌, Err, IfNone, IfSome};
+ghost use Rattle.std.specs.Prelude.{◌≡◌, false, IfErr, IfNone, IfOk, IfSome, None, OnOk};
+ghost use Rattle.std.specs.Io.KnownBytes.{Keeps};
 ghost use Rattle.std.specs.Net.Grammar.{IsSocketV4Text};
 ghost use Rattle.std.specs.declared.net.socket_addr.SocketAddrV4.{SocketAddrV4};
-ghost use Rattle.coord_commands.specs.declared.fault.Fault.TheVariants.{Usage};
+ghost use Rattle.coord_commands.specs.Folders.{bytes_of, reads};
+ghost use Rattle.coord_commands.specs.Serving.{GivesWorld, IsOfServing, Serves};
+ghost use Rattle.coord_commands.specs.declared.fault.Fault.TheVariants.{Socket, Usage};
+ghost use Rattle.coord_store.specs.Kept.{has_stopped};
 
-use crate::commands::report;
 use crate::fault::Fault;
-use coord_disk::FileDisk;
+use crate::folder::{FileFolder, Folder};
+use crate::status::report;
+use coord_disk::Disk;
+use coord_engine::Closed;
 use coord_server::serve_store;
 use coord_store::Store;
+use std::alloc::Global;
 use std::fs::File;
 use std::io::Write;
 use std::net::{Net, SocketAddr, SocketAddrV4, TcpListener};
@@ -26,37 +33,78 @@ pub fn serve<
     W: Write + Send,
     E: Write,
 >(rt: &S, file: &str, address: &str, output: &mut W, errors: &mut E) -> u8
-    ensures { ((a : SocketAddrV4) → ¬ IsSocketV4Text address.now a) → result ≡ 2 }
+    ensures served { Serves None None result (E.contents errors.old) (E.contents errors.new) }
+    ensures usage { ((a : SocketAddrV4) → ¬ IsSocketV4Text address.now a) → result ≡ 2 }
 {
-    report(serve_file(rt, file, address, output), errors)
+    let mut folder = FileFolder::new(rt);
+    serve_in(rt, &mut folder, file, address, output, errors)
 }
 
-fn serve_file<
-    S: Files<File = File> + Net + Threads + Wait + Clock + Sync + AllocGlobal,
+/// Serves the store on the disk of a name to the connections that come to an address, until one of
+/// them closes it, and answers the exit status. The address is judged before the disk is opened, and
+/// the socket is bound once the store is open. Where it was closed, the disk is put back.
+pub fn serve_in<
+    S: Net + Threads + Wait + Clock + Sync + AllocGlobal,
+    F: Folder,
     W: Write + Send,
->(rt: &S, file: &str, address: &str, output: &mut W) -> Result<(), Fault>
-    ensures { ((a : SocketAddrV4) → ¬ IsSocketV4Text address.now a) → result ≡ Err Usage }
+    E: Write,
+>(rt: &S, folder: &mut F, file: &str, address: &str, output: &mut W, errors: &mut E) -> u8
+    ensures served { Serves (reads (F.holds folder.old file.now)) (reads (F.holds folder.new file.now)) result (E.contents errors.old) (E.contents errors.new) }
+    ensures usage { ((a : SocketAddrV4) → ¬ IsSocketV4Text address.now a) → (result ≡ 2) × (folder.new ≡ folder.old) × Keeps (W.contents output.old) (W.contents output.new) }
 {
-    match address_of(address) {
-        Some(place) => serve_at(rt, file, place, output),
-        None => Err(Fault::Usage),
+    let Some(place) = address_of(address) else {
+        return report(Err(Fault::Usage), errors);
+    };
+    report(serve_at(rt, folder, file, place, output), errors)
+}
+
+fn serve_at<S: Net + Threads + Wait + Clock + Sync + AllocGlobal, F: Folder, W: Write + Send>(
+    rt: &S,
+    folder: &mut F,
+    file: &str,
+    address: SocketAddrV4,
+    output: &mut W,
+) -> Result<(), Fault>
+    ensures opened { OnOk result (GivesWorld (reads (F.holds folder.old file.now))) }
+    ensures closed { OnOk result (GivesWorld (reads (F.holds folder.new file.now))) }
+    ensures fault { IfErr result (IsOfServing (reads (F.holds folder.old file.now))) }
+{
+    let disk = folder.open(file)?;
+    let store = opened(rt.alloc(), disk)?;
+    let listener = bound(rt, address)?;
+    let closed = serve_store(rt, rt.alloc(), store, &listener, output)?;
+    folder.close(file, left(closed));
+    Ok(())
+}
+
+/// The store on a disk.
+fn opened<D: Disk>(alloc: Global, disk: D) -> Result<Store<D>, Fault>
+    ensures world { IfOk result (λ _. GivesWorld (bytes_of D.keeps_model D.present disk)) }
+    ensures going { IfOk result (λ store. has_stopped store ≡ false) }
+    ensures fault { IfErr result (IsOfServing (bytes_of D.keeps_model D.present disk)) }
+{
+    match Store::open(alloc, disk) {
+        Ok(store) => Ok(store),
+        Err((fault, _disk)) => Err(Fault::Store(fault)),
     }
 }
 
-fn serve_at<
-    S: Files<File = File> + Net + Threads + Wait + Clock + Sync + AllocGlobal,
-    W: Write + Send,
->(rt: &S, file: &str, address: SocketAddrV4, output: &mut W) -> Result<(), Fault> {
-    let disk = FileDisk::open(rt, file)?;
-    let store = match Store::open(rt.alloc(), disk) {
-        Ok(store) => store,
-        Err((fault, _disk)) => return Err(Fault::Store(fault)),
-    };
-    let Ok(listener) = TcpListener::bind(rt, SocketAddr::V4(address)) else {
-        return Err(Fault::Socket);
-    };
-    serve_store(rt, rt.alloc(), store, &listener, output)?;
-    Ok(())
+/// A listener at an address.
+fn bound<S: Net>(rt: &S, address: SocketAddrV4) -> Result<S::Listener, Fault>
+    ensures { IfErr result (λ fault. fault ≡ Socket) }
+{
+    match TcpListener::bind(rt, SocketAddr::V4(address)) {
+        Ok(listener) => Ok(listener),
+        Err(_) => Err(Fault::Socket),
+    }
+}
+
+/// The disk of a store that was served and has not stopped.
+fn left<D: Disk>(closed: Closed<D>) -> D
+    requires { has_stopped closed.store ≡ false }
+    ensures { GivesWorld (bytes_of D.keeps_model D.present result) }
+{
+    closed.store.into_disk()
 }
 
 /// The address that a word is: four numbers up to 255 without leading zeros, and a port.

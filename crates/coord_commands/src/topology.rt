@@ -1,7 +1,7 @@
 //! Reading a topology file.
 
 ghost use Rattle.std.specs.Prelude.{◌≡◌, ◌≢◌, ◌⊎◌, take, Err, IfErr, IfOk, IfSome, Ok};
-ghost use Rattle.coord_commands.specs.Topology.{said_by};
+ghost use Rattle.coord_commands.specs.Topology.{IsOfText, said_by};
 ghost use Rattle.coord_commands.specs.declared.fault.Fault.TheVariants.{OutOfMemory as NoMemory, Read as FailedRead, Topology as Refused};
 ghost use Rattle.coord_config.specs.Topology.{content};
 ghost use Rattle.coord_config.specs.declared.fault.ConfigFault.{ConfigFault as Reason};
@@ -21,6 +21,7 @@ pub fn topology_from<R: Read + Drop>(alloc: Global, reader: R) -> Result<Topolog
     ensures ok { IfSome (R.remaining reader) (λ bytes. IfOk result (λ topology. said_by (take MOST_BYTES bytes) ≡ Ok (content topology))) }
     ensures refused { (reason : Reason) → reason ≢ OutOfMemory → IfSome (R.remaining reader) (λ bytes.
         IfErr result (λ fault. fault ≡ Refused reason → said_by (take MOST_BYTES bytes) ≡ Err reason)) }
+    ensures named { IfErr result IsOfText }
 {
     let bytes = front_of(alloc, reader)?;
     topology_of(alloc, &bytes)
@@ -42,6 +43,7 @@ fn front_of<R: Read + Drop>(alloc: Global, reader: R) -> Result<Vec<u8>, Fault>
 fn topology_of(alloc: Global, bytes: &[u8]) -> Result<Topology, Fault>
     ensures ok { IfOk result (λ topology. said_by bytes.now ≡ Ok (content topology)) }
     ensures refused { (reason : Reason) → reason ≢ OutOfMemory → IfErr result (λ fault. fault ≡ Refused reason → said_by bytes.now ≡ Err reason) }
+    ensures named { IfErr result IsOfText }
 {
     match str::from_utf8(bytes) {
         Ok(text) => Ok(read_topology(alloc, text)?),

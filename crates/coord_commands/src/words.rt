@@ -19,6 +19,8 @@ pub enum Task {
     Check,
     /// Show the store on a file.
     Show,
+    /// Raise the store on a file to version 2.
+    Migrate,
     /// Make a store on a file, from a topology file.
     Init,
     /// Serve the store on a file at an address.
@@ -26,8 +28,8 @@ pub enum Task {
 }
 
 /// What the program's words ask for, the first of which is its own name: `drill`, `check FILE`,
-/// `show FILE`, `init FILE TOPOLOGY` or `serve FILE ADDRESS`. All else, and what `clap` refuses, is
-/// refused: `help`, `--help`, `-h` and `--version` too.
+/// `show FILE`, `migrate FILE`, `init FILE TOPOLOGY` or `serve FILE ADDRESS`. All else, and what
+/// `clap` refuses, is refused: `help`, `--help`, `-h` and `--version` too.
 pub fn read_words(alloc: Global, words: &[String]) -> Result<Task, Fault>
     ensures ok { IfOk result (λ task. task_of (map string_bytes words.now) ≡ Some task) }
     ensures err { IfErr result (λ fault. (fault ≡ OutOfMemory)
@@ -53,7 +55,8 @@ fn program<'a>(alloc: Global) -> Result<Command<'a>, AllocError>
     let with_init = add_of_two_words(with_drill, alloc, "init", "file", "topology")?;
     let with_check = add_of_word(with_init, alloc, "check", "file")?;
     let with_show = add_of_word(with_check, alloc, "show", "file")?;
-    add_of_two_words(with_show, alloc, "serve", "file", "address")
+    let with_serve = add_of_two_words(with_show, alloc, "serve", "file", "address")?;
+    add_of_word(with_serve, alloc, "migrate", "file")
 }
 
 /// The program with one more command, which has a word behind it.
@@ -133,6 +136,8 @@ fn of_file(word: &str) -> Option<Task>
         Some(Task::Check)
     } else if word == "show" {
         Some(Task::Show)
+    } else if word == "migrate" {
+        Some(Task::Migrate)
     } else {
         None
     }

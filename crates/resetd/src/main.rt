@@ -2,7 +2,7 @@
 //! `coord_drill`.
 #![tactic(auto)]
 
-pub use coord_commands::{Fault, check, drill, init, report, run, serve, show};
+pub use coord_commands::{Fault, check, drill, init, migrate, report, run, serve, show};
 pub use coord_drill::coord_drill;
 use std::fs::File;
 use std::process::ExitCode;

@@ -12,7 +12,7 @@ use std::time::Clock;
 use std::{env, fs, io};
 
 /// Words, in which `@` stands for the folder of the run, and what a run with them ends with.
-type Run = (&'static str, Ending<'static>);
+pub(crate) type Run = (&'static str, Ending<'static>);
 
 /// A folder of its own for the files of a test.
 pub(crate) fn make_folder(rt: &HostRuntime, name: &str) -> io::Result<String> {
@@ -24,7 +24,9 @@ pub(crate) fn make_folder(rt: &HostRuntime, name: &str) -> io::Result<String> {
 
 /// Carries runs out, one after the other, on files in a folder, which is removed then, and tells the
 /// first that ends otherwise.
-fn first_wrong<S: Files<File = File> + Net + Threads + Wait + Clock + Sync + AllocGlobal>(
+pub(crate) fn first_wrong<
+    S: Files<File = File> + Net + Threads + Wait + Clock + Sync + AllocGlobal,
+>(
     rt: &S,
     folder: &str,
     files: &[(&str, &[u8])],
@@ -64,7 +66,7 @@ group = 1\n\
 id = 1\n\
 group = 1\n";
 
-const TOPOLOGY_RUNS: [Run; 9] = [
+const TOPOLOGY_RUNS: [Run; 10] = [
     ("resetd init @/store @/pair", (0, "created 3\n", "")),
     (
         "resetd show @/store",
@@ -79,6 +81,7 @@ const TOPOLOGY_RUNS: [Run; 9] = [
     ),
     ("resetd check @/store", (0, "legal 3\n", "")),
     ("resetd init @/store @/pair", (1, "", "resetd: NotEmpty\n")),
+    ("resetd check @/store", (0, "legal 3\n", "")),
     (
         "resetd init @/other @/repeated",
         (1, "", "resetd: 7 NodeExists\n"),
@@ -195,7 +198,7 @@ fn violated_store(rt: HostRuntime) -> Result<(), Fail> {
 }
 
 /// Words that are refused.
-const REFUSED_WORDS: [&str; 21] = [
+const REFUSED_WORDS: [&str; 23] = [
     "resetd",
     "resetd help",
     "resetd --help",
@@ -217,6 +220,8 @@ const REFUSED_WORDS: [&str; 21] = [
     "resetd check -f",
     "resetd show F F",
     "resetd show --version",
+    "resetd migrate",
+    "resetd migrate F F",
 ];
 
 #[test]

@@ -6,6 +6,12 @@ mod commands;
 #[cfg(test)]
 mod drill;
 #[cfg(test)]
+mod edges;
+#[cfg(test)]
+mod folders;
+#[cfg(test)]
+mod migrating;
+#[cfg(test)]
 mod program;
 #[cfg(test)]
 mod scripts;

@@ -77,7 +77,7 @@ impl<R: Net<Stream = TcpStream, Listener = TcpListener>> Write for Caller<'_, R>
 }
 
 /// The address that a line announces.
-fn announced(line: &[u8]) -> Option<SocketAddr> {
+pub(crate) fn announced(line: &[u8]) -> Option<SocketAddr> {
     let text = str::from_utf8(line).ok()?;
     let address = text.strip_prefix("listening ")?;
     address.strip_suffix('\n')?.parse().ok()

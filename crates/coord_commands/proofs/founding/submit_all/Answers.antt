@@ -18,7 +18,7 @@ returns-in_err-submit-clause-refused c =
     let x = c.command-item.result in
     let commands = c.args.commands.now in
     let under_way = c.loop-command.invariant.1 in
-    let P : Fault → Type 0 = λ fault. (fault ≡ OutOfMemory) ⊎ ((reason : Refusal) × (fault ≡ Refused reason) × (accepts f.world (no_world 1) (Order founder (length f.steps.items + 1) x) ≡ Err reason)) in
+    let P : Fault → Type 0 = λ fault. (fault ≡ OutOfMemory) ⊎ ((reason : Refusal) × (fault ≡ Refused reason) × (accepts f.world (no_world 2) (Order founder (length f.steps.items + 1) x) ≡ Err reason)) in
     let Q : Fault → Type 0 = λ fault. (fault ≡ OutOfMemory) ⊎ ((reason : Refusal) × (fault ≡ Refused reason) × RefusesToBegin (numbered 1 commands) reason) in
     let refused : P c.in_err-submit.field-0.0 = subst (λ r. IfErr r P) c.in_err-submit.was c.submit.ensures.refused in
     let told : Q c.in_err-submit.field-0.0 = elim refused [
@@ -27,7 +27,7 @@ returns-in_err-submit-clause-refused c =
         why.0,
         why.1,
         inl (refused_next commands c.loop-command.command-index x f.steps.items c.loop-command-test.true c.command-item.is c.loop-command.invariant.0 why.0 under_way.fresh
-            (subst (λ (w : World). accepts w (no_world 1) (Order founder (length f.steps.items + 1) x) ≡ Err why.0) under_way.world why.2)),
+            (subst (λ (w : World). accepts w (no_world 2) (Order founder (length f.steps.items + 1) x) ≡ Err why.0) under_way.world why.2)),
       )
     ] in
     let returned : c.from_residual.result ≡ Err c.in_err-submit.field-0.0 = search rules in

@@ -1,10 +1,30 @@
-use Rattle.std.proofs.Common.{◌≡◌, rules, subst}
-use Rattle.std.specs.Io.KnownBytes.{Appends}
+use Rattle.std.proofs.Common.{◌≡◌, inl, inr, rules}
+use Rattle.coord_commands.specs.Ending.{IsCutShort}
+use Rattle.coord_commands.specs.Folders.{bytes_of}
+use Rattle.coord_commands.specs.Inspection.{IsCheckedLine}
 use Rattle.coord_commands.specs.Printed.{legal_line}
+use Rattle.coord_commands.specs.declared.fault.Fault.{Fault}
+use Rattle.coord_commands.proofs.Endings.{err_last}
+use Rattle.coord_commands.proofs.Opening.{if_keeps}
 use Rattle.coord_commands.proofs.inspection.check_store.Goals as goal
 
 pub returns-in-Ok-clause-legal : goal.returns-in-Ok-clause-legal
 returns-in-Ok-clause-legal g c = λ _.
     let w = c.in-Ok.store.world in
     let text : c.deref.result.now ≡ legal_line w.count = search rules in
-    (w, c.images_give_world.ensures.legal, c.in-Ok.ensures.world, subst (λ t. Appends (g.W.Write.contents c.args.output.now) (g.W.Write.contents c.print.new.output) t) text c.in_ok-print-in-Ok.ensures.ok)
+    (c.deref.result.now, record { world = w; legal = c.images_give_world.ensures.legal; given = if_keeps _ _ _ c.in-Ok.ensures.world; counted = text }, c.in_ok-print-in-Ok.ensures.ok)
+
+pub returns-in_err-print-in-Ok-clause-cut : goal.returns-in_err-print-in-Ok-clause-cut
+returns-in_err-print-in-Ok-clause-cut g c =
+    let w = c.in-Ok.store.world in
+    let text : c.deref.result.now ≡ legal_line w.count = search rules in
+    let P : Fault → Type 0 = IsCutShort (IsCheckedLine (bytes_of g.D.Disk.keeps_model g.D.Disk.present c.args.disk)) (g.W.Write.contents c.args.output.now) (g.W.Write.contents c.print.new.output) in
+    err_last P _ c.in_err-print-in-Ok.field-0.0 (search rules)
+    (inr (
+      c.in_err-print-in-Ok.ensures.fault,
+      (
+        c.deref.result.now,
+        inl (record { world = w; legal = c.images_give_world.ensures.legal; given = if_keeps _ _ _ c.in-Ok.ensures.world; counted = text }),
+        c.in_err-print-in-Ok.ensures.err,
+      ),
+    ))

@@ -13,4 +13,5 @@ returns c =
     let two = c.in_ok-with_init.ensures ∙ ap₂ with_subcommand one refl in
     let three = c.in_ok-with_check.ensures ∙ ap₂ with_subcommand two refl in
     let four = c.in_ok-with_show.ensures ∙ ap₂ with_subcommand three refl in
-    IfOk-weaker c.add_of_two_words-2.result _ _ (λ program is. is ∙ ap₂ with_subcommand four refl) c.add_of_two_words-2.ensures
+    let five = c.in_ok-with_serve.ensures ∙ ap₂ with_subcommand four refl in
+    IfOk-weaker c.add_of_word-3.result _ _ (λ program is. is ∙ ap₂ with_subcommand five refl) c.add_of_word-3.ensures

@@ -28,8 +28,8 @@ returns-clause-under_way c =
     let step : Step = Order c.founder.result (c.len.result + 1) c.args.command.now in
     let items : c.extend_from_slice.new.self.items ≡ steps ++ step ∷ [] = c.in_ok-extend_from_slice.ensures.items in
     let here : IsFresh f.world f.settled step = c.judge.ensures.fresh c.in-Ok-Fresh.field-0-0 (c.in-Ok-Fresh.is ∙ ap (λ v. Ok v) c.in-Ok-Fresh.field-0-is) in
-    let fresh : IsFresh (fold (no_world 1) steps) (no_world 1) step =
-    subst (λ (w : World). IsFresh w (no_world 1) step) c.requires.world (subst (λ (w : World). IsFresh f.world w step) c.requires.nothing_settled here) in
+    let fresh : IsFresh (fold (no_world 2) steps) (no_world 2) step =
+    subst (λ (w : World). IsFresh w (no_world 2) step) c.requires.world (subst (λ (w : World). IsFresh f.world w step) c.requires.nothing_settled here) in
     let last : last_number (get c.apply.new.self.sessions founder) ≡ c.len.result + 1 =
     ap (λ (w : World). last_number (get w.sessions founder)) c.in_ok-apply.ensures.world
     ∙ ap (λ (n : ℕ). last_number (get (next f.world step).sessions n)) (sym c.founder.ensures)
@@ -37,8 +37,8 @@ returns-clause-under_way c =
     let long : c.len.result + 1 ≡ length c.extend_from_slice.new.self.items = omega (arith, size, ap length items, length-append steps (step ∷ [])) in
     record {
       nothing_settled = c.requires.nothing_settled;
-      world = c.in_ok-apply.ensures.world ∙ ap (λ (w : World). next w step) c.requires.world ∙ sym (fold-push steps (no_world 1) step) ∙ sym (ap (λ (l : List Step). fold (no_world 1) l) items);
-      fresh = subst (λ (l : List Step). AllFresh (no_world 1) (no_world 1) l) (sym items) (fresh-push steps (no_world 1) (no_world 1) step c.requires.fresh fresh);
+      world = c.in_ok-apply.ensures.world ∙ ap (λ (w : World). next w step) c.requires.world ∙ sym (fold-push steps (no_world 2) step) ∙ sym (ap (λ (l : List Step). fold (no_world 2) l) items);
+      fresh = subst (λ (l : List Step). AllFresh (no_world 2) (no_world 2) l) (sym items) (fresh-push steps (no_world 2) (no_world 2) step c.requires.fresh fresh);
       legal = c.apply.ensures.legal;
       numbered = last ∙ long;
     }

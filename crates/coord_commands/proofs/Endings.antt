@@ -1,0 +1,47 @@
+-- How commands end, from what their parts answer.
+use Rattle.std.proofs.Common.{◌≡◌, ℕ, List, Option, Some, None, IfSome, Result, Ok, Err, inl, inr, subst, sym}
+use Rattle.std.specs.Prelude.{MatchResult, OnOk, OnErr, IfErr}
+use Rattle.std.specs.Io.KnownBytes.{Appends, Keeps}
+use Rattle.coord_drill.specs.Drilled.{WritesFirstPart}
+use Rattle.coord_commands.specs.Ending.{Ends, IsCutShort, IsOfWriting, PrintsOne, Streams}
+use Rattle.coord_commands.specs.Faults.{fault_line, status_of}
+use Rattle.coord_commands.specs.Serving.{GivesWorld, IsOfServing, Serves}
+use Rattle.coord_commands.specs.declared.fault.Fault.{Fault}
+
+-- what ended is reported
+pub reported : {A : Type 0} (Q : Fault → Type 0) (P : List ℕ → Type 0) (ended : Result A Fault) (status : ℕ) (old new : Streams) → status ≡ status_of ended
+    → MatchResult ended (λ _. Keeps old.errors new.errors) (λ fault. WritesFirstPart old.errors new.errors (fault_line fault))
+    → OnOk ended (PrintsOne P old.output new.output) → IfErr ended Q → IfErr ended (IsCutShort P old.output new.output) → Ends Q P status old new
+reported Q P (Ok x) status old new is told printed of cut = inl (record { number = is; printed = printed; silent = told })
+reported Q P (Err fault) status old new is told printed of cut = inr (record { fault = fault; possible = of; number = is; told = told; cut = cut })
+
+-- a text is printed last
+pub printed_last : {A : Type 0} (P : List ℕ → Type 0) (result : Result A Fault) (old new : Option (List ℕ)) (text : List ℕ) → P text → OnOk result (Appends old new text) → OnOk result (PrintsOne P old new)
+printed_last P (Ok x) old new text has appended = (text, has, appended)
+printed_last P (Err fault) old new text has appended = tt
+
+pub cut_last : {A : Type 0} (P : List ℕ → Type 0) (result : Result A Fault) (old new : Option (List ℕ)) (text : List ℕ) → P text → OnErr result (WritesFirstPart old new text) → IfErr result IsOfWriting
+    → IfErr result (IsCutShort P old new)
+cut_last P (Ok x) old new text has part of = tt
+cut_last P (Err fault) old new text has part of = inr (of, (text, has, part))
+
+-- the faults of a writer are among others
+pub of_writing : {A : Type 0} (Q : Fault → Type 0) (result : Result A Fault) → ((fault : Fault) → IsOfWriting fault → Q fault) → IfErr result IsOfWriting → IfErr result Q
+of_writing Q (Ok x) among of = tt
+of_writing Q (Err fault) among of = among fault of
+
+-- what was served, or was not
+pub served : {A : Type 0} (bytes after : Option (List ℕ)) (ended : Result A Fault) (status : ℕ) (old new : Option (List ℕ)) → status ≡ status_of ended
+    → MatchResult ended (λ _. Keeps old new) (λ fault. WritesFirstPart old new (fault_line fault))
+    → OnOk ended (GivesWorld bytes) → OnOk ended (GivesWorld after) → IfErr ended (IsOfServing bytes) → Serves bytes after status old new
+served bytes after (Ok x) status old new is told opened closed of = inl (record { number = is; opened = opened; closed = closed; silent = told })
+served bytes after (Err fault) status old new is told opened closed of = inr (record { fault = fault; possible = of; number = is; told = told })
+
+-- what is known of every value is known of the one, if it is known
+pub if_known : (known : Option (List ℕ)) (P : List ℕ → Type 0) → ((bytes : List ℕ) → P bytes) → IfSome known P
+if_known None P all = tt
+if_known (Some bytes) P all = all bytes
+
+-- what is an error with a fault
+pub err_last : {A : Type 0} (P : Fault → Type 0) (result : Result A Fault) (fault : Fault) → result ≡ Err fault → P fault → IfErr result P
+err_last P result fault is has = subst (λ r. IfErr r P) (sym is) has

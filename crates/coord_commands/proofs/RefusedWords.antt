@@ -1,0 +1,26 @@
+-- Words that are refused.
+use Rattle.std.proofs.Common.{◌≡◌, ◌⊎◌, inl, inr, ℕ, List, Option, None, true, subst, sym}
+use Rattle.std.proofs.KnownBytes.{Keeps-refl}
+use Rattle.clap.specs.Words.{Text, takes}
+use Rattle.coord_disk.specs.Model.Present.{Present}
+use Rattle.coord_drill.specs.Drilled.{WritesFirstPart}
+use Rattle.coord_commands.specs.Ending.{Streams}
+use Rattle.coord_commands.specs.Faults.{fault_line, fault_status}
+use Rattle.coord_commands.specs.Running.{Around, IsOfWords, RefusesWords}
+use Rattle.coord_commands.specs.Words.{resetd, task_of}
+use Rattle.coord_commands.specs.declared.fault.Fault.{Fault}
+use Rattle.coord_commands.specs.declared.fault.Fault.TheVariants.{Usage, OutOfMemory}
+
+of_words : (words : List Text) (fault : Fault) → (fault ≡ OutOfMemory) ⊎ ((fault ≡ Usage) × (takes resetd words ≡ true → task_of words ≡ None)) → IsOfWords words fault
+of_words words fault (inl is) = subst (λ (f : Fault). IsOfWords words f) (sym is) tt
+of_words words fault (inr why) = subst (λ (f : Fault). IsOfWords words f) (sym why.0) why.1
+
+-- nothing but the fault's line is printed
+pub refused_words : (words : List Text) (fault : Fault) (status : ℕ) (input output old new : Option (List ℕ)) (holds : List ℕ → Option Present) (says : List ℕ → Option (List ℕ))
+    → (fault ≡ OutOfMemory) ⊎ ((fault ≡ Usage) × (takes resetd words ≡ true → task_of words ≡ None)) → status ≡ fault_status fault → WritesFirstPart old new (fault_line fault)
+    → RefusesWords words status (record { input = input; streams = record { output = output; errors = old }; holds = holds; says = says }) (record { input = input; streams = record { output = output; errors = new }; holds = holds; says = says })
+refused_words words fault status input output old new holds says why is told =
+    record {
+      fails = record { fault = fault; possible = of_words words fault why; number = is; told = told; cut = inl (Keeps-refl output) };
+      unread = Keeps-refl input;
+    }

@@ -1,0 +1,15 @@
+use Rattle.std.proofs.Common.{◌≡◌, Option, Some, None, true, false, is_some, refl, subst}
+use Rattle.coord_commands.proofs.Opening.{if_keeps}
+use Rattle.coord_commands.proofs.serving.left.Goals as goal
+
+none_of : {A : Type 0} (o : Option A) → is_some o ≡ false → o ≡ None
+none_of None is = refl
+none_of (Some x) is = cc
+
+pub returns : goal.returns
+returns g c =
+    if_keeps _ _ _
+    (λ keeps. (
+      c.args.closed.store.world,
+      c.into_disk.ensures.reopens (subst (λ d. g.D.Disk.keeps_model d ≡ true) c.into_disk.ensures.disk keeps) (none_of c.args.closed.store.torn c.requires),
+    ))

@@ -1,0 +1,22 @@
+-- Why the store of a topology is not made.
+use Rattle.std.specs.Prelude.{ℕ, List}
+use Rattle.coord_store.specs.Refused.{IsCreateFault, RefusesCreate, failed_in}
+use Rattle.coord_commands.specs.declared.fault.Fault.{Fault}
+use Rattle.coord_commands.specs.declared.fault.Fault.TheVariants.{OutOfMemory, Store, Refused}
+
+-- no store is made, or one of the orders with which it was to begin is refused
+abbrev pub IsOfCreation : Fault → Type 0
+IsOfCreation OutOfMemory = Unit {0}
+IsOfCreation (Store fault) = IsCreateFault fault
+IsOfCreation (Refused refusal) = Unit {0}
+IsOfCreation fault = ⊥
+
+-- the fault of the store is one by which a device of these bytes is refused
+abbrev pub RefusesCommitted : List ℕ → ℕ → Fault → Type 0
+RefusesCommitted bytes half_size (Store fault) = RefusesCreate bytes half_size fault
+RefusesCommitted bytes half_size fault = Unit {0}
+
+-- how often the device has failed in a creation that is refused so
+abbrev pub failures_at : Fault → ℕ
+failures_at (Store fault) = failed_in fault
+failures_at fault = 0

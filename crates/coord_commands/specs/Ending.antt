@@ -1,0 +1,44 @@
+-- How a command ends: its exit status, and what it adds to the output and to standard error.
+use Rattle.std.specs.Prelude.{◌≡◌, ◌⊎◌, ℕ, List, Option}
+use Rattle.std.specs.Io.KnownBytes.{Appends, Keeps}
+use Rattle.coord_drill.specs.Drilled.{WritesFirstPart}
+use Rattle.coord_commands.specs.Faults.{fault_line, fault_status}
+use Rattle.coord_commands.specs.declared.fault.Fault.{Fault}
+use Rattle.coord_commands.specs.declared.fault.Fault.TheVariants.{Write, OutOfMemory}
+
+-- what the output and standard error hold, where that is known
+pub record Streams : Type 0 where
+  pub output : Option (List ℕ)
+  pub errors : Option (List ℕ)
+
+-- a text that has P is printed, and nothing else
+abbrev pub PrintsOne : (List ℕ → Type 0) → Option (List ℕ) → Option (List ℕ) → Type 0
+PrintsOne P old new = (text : List ℕ) × P text × Appends old new text
+
+-- the faults of a writer that fails
+abbrev pub IsOfWriting : Fault → Type 0
+IsOfWriting Write = Unit {0}
+IsOfWriting OutOfMemory = Unit {0}
+IsOfWriting fault = ⊥
+
+-- the output is left alone, unless its writer fails: then it has a first part of a text that has P
+abbrev pub IsCutShort : (List ℕ → Type 0) → Option (List ℕ) → Option (List ℕ) → Fault → Type 0
+IsCutShort P old new fault = Keeps old new ⊎ (IsOfWriting fault × ((text : List ℕ) × P text × WritesFirstPart old new text))
+
+-- a command is done: a text that has P is printed, and standard error is left alone
+pub record Succeeds (P : List ℕ → Type 0) (status : ℕ) (old new : Streams) : Type 0 where
+  pub number : status ≡ 0
+  pub printed : PrintsOne P old.output new.output
+  pub silent : Keeps old.errors new.errors
+
+-- a command ends with a fault that has Q: of the fault's line a first part is printed on standard error
+pub record Fails (Q : Fault → Type 0) (P : List ℕ → Type 0) (status : ℕ) (old new : Streams) : Type 0 where
+  pub fault : Fault
+  pub possible : Q fault
+  pub number : status ≡ fault_status fault
+  pub told : WritesFirstPart old.errors new.errors (fault_line fault)
+  pub cut : IsCutShort P old.output new.output fault
+
+-- one of both
+abbrev pub Ends : (Fault → Type 0) → (List ℕ → Type 0) → ℕ → Streams → Streams → Type 0
+Ends Q P status old new = Succeeds P status old new ⊎ Fails Q P status old new

@@ -1,0 +1,60 @@
+-- What `migrate` does to the disk of a name, as far as what it holds before and after is known.
+use Rattle.std.specs.Prelude.{◌≡◌, ◌⊎◌, ℕ, List, Option, IfSome}
+use Rattle.coord_disk.specs.Model.Present.{Present, IsImage}
+use Rattle.coord_store.specs.Kept.{GivesEither}
+use Rattle.coord_store.specs.Migrating.{RefusesMigration, risen}
+use Rattle.coord_store.specs.Recovered.{Recovered}
+use Rattle.coord_store.specs.Refused.{IsOpenFault, RefusesOpen}
+use Rattle.coord_store.specs.declared.faults.StoreFault.TheVariants.{Device, NotQuiet}
+use Rattle.coord_world.specs.protocol.NumberedWorld.{World}
+use Rattle.coord_commands.specs.Printed.{migrated_line}
+use Rattle.coord_commands.specs.declared.fault.Fault.{Fault}
+use Rattle.coord_commands.specs.declared.fault.Fault.TheVariants.{Write, OutOfMemory, Store}
+
+-- it reads as before
+abbrev pub ReadsAsBefore : Option Present → Option Present → Type 0
+ReadsAsBefore before after = IfSome before (λ old. IfSome after (λ new. new.read ≡ old.read))
+
+-- The world that it gave is now given in version 2. A disk that gave one of version 2 reads as before.
+pub record IsRaised (before after : Option Present) (world : World) : Type 0 where
+  pub given : IfSome before (λ old. Recovered old.read world)
+  pub raised : IfSome after (λ new. Recovered new.read (risen world))
+  pub again : world.version ≡ 2 → ReadsAsBefore before after
+
+-- the line of a store that was raised
+pub record IsMigratedLine (before after : Option Present) (line : List ℕ) : Type 0 where
+  pub world : World
+  pub is_raised : IsRaised before after world
+  pub counted : line ≡ migrated_line world.count
+
+-- A crash then leaves what it could have left before, or what gives the world that the disk gave, in one version or the other.
+abbrev pub GivesEitherVersion : Option Present → Option Present → Type 0
+GivesEitherVersion before after =
+    IfSome before (λ old. IfSome after (λ new. (image : List ℕ) → IsImage new image → IsImage old image ⊎ ((w : World) × Recovered old.read w × GivesEither w (risen w) image)))
+
+-- this is the least node in a reset of the world that it gives, and it reads as before
+pub record IsNotQuiet (before after : Option Present) (node : ℕ) : Type 0 where
+  pub world : World
+  pub given : IfSome before (λ old. Recovered old.read world)
+  pub refuses : RefusesMigration world (NotQuiet node)
+  pub unchanged : ReadsAsBefore before after
+
+-- the faults of a store that is not raised: but for those of the device it reads as before
+abbrev pub IsOfRaising : Option Present → Option Present → Fault → Type 0
+IsOfRaising before after OutOfMemory = ReadsAsBefore before after
+IsOfRaising before after (Store Device) = GivesEitherVersion before after
+IsOfRaising before after (Store (NotQuiet node)) = IsNotQuiet before after node
+IsOfRaising before after (Store fault) = IsOpenFault fault × IfSome before (λ old. RefusesOpen old.read fault) × ReadsAsBefore before after
+IsOfRaising before after fault = ⊥
+
+-- the faults of `migrate`: where the line cannot be written, the store was raised
+abbrev pub IsOfMigrating : Option Present → Option Present → Fault → Type 0
+IsOfMigrating before after Write = (w : World) × IsRaised before after w
+IsOfMigrating before after OutOfMemory = ReadsAsBefore before after ⊎ ((w : World) × IsRaised before after w)
+IsOfMigrating before after fault = IsOfRaising before after fault
+
+-- why an opened store of a world is not raised
+abbrev pub RefusesRaising : World → Fault → Type 0
+RefusesRaising w OutOfMemory = Unit {0}
+RefusesRaising w (Store fault) = RefusesMigration w fault
+RefusesRaising w fault = ⊥

@@ -1,0 +1,82 @@
+-- What a run of the program does, by its words.
+use Rattle.std.specs.Prelude.{◌≡◌, ◌⊎◌, ℕ, ◌≤◌, true, List, [], slice_index_or, length, Option, Some, None, IfSome}
+use Rattle.std.specs.Io.KnownBytes.{Appends, Consumes, IsAtEnd, Keeps}
+use Rattle.clap.specs.Words.{Text, takes}
+use Rattle.coord_disk.specs.Model.Present.{Present}
+use Rattle.coord_drill.specs.Drilled.{IsDrilled, WritesFirstPart}
+use Rattle.coord_drill.specs.declared.console.TheConstants.{MOST_READS}
+use Rattle.coord_drill.specs.declared.fault.Fault.{Fault as DrillFault}
+use Rattle.coord_drill.specs.declared.fault.Fault.TheVariants.{TooManyReads}
+use Rattle.coord_commands.specs.Ending.{Ends, Fails, Streams}
+use Rattle.coord_commands.specs.Faults.{fault_line, fault_of_drill, fault_status}
+use Rattle.coord_commands.specs.Folders.{reads}
+use Rattle.coord_commands.specs.Inspection.{Checks, Shows}
+use Rattle.coord_commands.specs.Making.{IsCreatedLine, IsOfMaking}
+use Rattle.coord_commands.specs.Migrating.{IsMigratedLine, IsOfMigrating}
+use Rattle.coord_commands.specs.Serving.{Serves}
+use Rattle.coord_commands.specs.Words.{resetd, task_of}
+use Rattle.coord_commands.specs.declared.fault.Fault.{Fault}
+use Rattle.coord_commands.specs.declared.fault.Fault.TheVariants.{Usage, OutOfMemory}
+use Rattle.coord_commands.specs.declared.words.Task.{Task}
+use Rattle.coord_commands.specs.declared.words.Task.TheVariants.{Drill, Init, Check, Show, Migrate, Serve}
+
+-- what is known around a run: of its input what is left, its output and standard error, and by names what disks hold, and the bytes of texts
+pub record Around : Type 0 where
+  pub input : Option (List ℕ)
+  pub streams : Streams
+  pub holds : List ℕ → Option Present
+  pub says : List ℕ → Option (List ℕ)
+
+-- the drill has printed what may be printed to all of its input
+pub record HasDrilled (input left : Option (List ℕ)) (status : ℕ) (old new : Streams) : Type 0 where
+  pub number : status ≡ 0
+  pub printed : IfSome input (λ known. (text : List ℕ) × IsDrilled known text × Appends old.output new.output text)
+  pub end : IsAtEnd left
+  pub silent : Keeps old.errors new.errors
+
+-- it has failed, and printed a first part of what may be printed to the input that was read
+pub record FailsToDrill (input left : Option (List ℕ)) (status : ℕ) (old new : Streams) : Type 0 where
+  pub fault : DrillFault
+  pub number : status ≡ fault_status (fault_of_drill fault)
+  pub told : WritesFirstPart old.errors new.errors (fault_line (fault_of_drill fault))
+  pub seen : List ℕ
+  pub read : Consumes input left seen
+  pub printed : (text : List ℕ) × IsDrilled seen text × WritesFirstPart old.output new.output text
+  pub reads : fault ≡ TooManyReads → MOST_READS ≤ length seen
+
+-- the drill, by its input and what of it is left
+abbrev pub Drills : Option (List ℕ) → Option (List ℕ) → ℕ → Streams → Streams → Type 0
+Drills input left status old new = HasDrilled input left status old new ⊎ FailsToDrill input left status old new
+
+-- the word at this place, counted from 0; the first one is the program's own name
+abbrev pub word : ℕ → List Text → Text
+word n words = slice_index_or words n []
+
+-- the task is carried out, with the words behind its name
+abbrev pub Does : Task → List Text → ℕ → Around → Around → Type 0
+Does Drill words status old new = Drills old.input new.input status old.streams new.streams
+Does Init words status old new =
+    let file = word 2 words in
+    let topology = word 3 words in
+    Ends (IsOfMaking (reads (old.holds file)) (reads (new.holds file))) (IsCreatedLine (old.says topology) (reads (old.holds file)) (reads (new.holds file))) status old.streams new.streams
+Does Check words status old new = Checks (reads (old.holds (word 2 words))) status old.streams new.streams
+Does Show words status old new = Shows (reads (old.holds (word 2 words))) status old.streams new.streams
+Does Migrate words status old new =
+    let file = word 2 words in
+    Ends (IsOfMigrating (old.holds file) (new.holds file)) (IsMigratedLine (old.holds file) (new.holds file)) status old.streams new.streams
+Does Serve words status old new = Serves (reads (old.holds (word 2 words))) (reads (new.holds (word 2 words))) status old.streams.errors new.streams.errors
+
+-- the words are refused, or there is no memory to read them
+abbrev pub IsOfWords : List Text → Fault → Type 0
+IsOfWords words OutOfMemory = Unit {0}
+IsOfWords words Usage = takes resetd words ≡ true → task_of words ≡ None
+IsOfWords words fault = ⊥
+
+-- then nothing but the fault's line is printed, and nothing is read
+pub record RefusesWords (words : List Text) (status : ℕ) (old new : Around) : Type 0 where
+  pub fails : Fails (IsOfWords words) (λ _. ⊥) status old.streams new.streams
+  pub unread : Keeps old.input new.input
+
+-- the words are refused, or what they ask for is done
+abbrev pub Runs : List Text → ℕ → Around → Around → Type 0
+Runs words status old new = RefusesWords words status old new ⊎ ((task : Task) × (task_of words ≡ Some task) × Does task words status old new)

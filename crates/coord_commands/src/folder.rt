@@ -1,0 +1,83 @@
+//! Where the disks and texts of names are.
+
+ghost use Rattle.std.specs.Prelude.{◌≡◌, Option, List, ℕ, Some, None, IfErr, IfOk, IfSome};
+ghost use Rattle.coord_commands.specs.Folders.{bytes_of, known_of, reads};
+ghost use Rattle.coord_disk.specs.Model.Present.{Present};
+
+use coord_disk::{Disk, DiskFault, FileDisk};
+use std::fs::File;
+use std::io;
+use std::io::Read;
+use std::rt::Files;
+
+/// Where the disks and texts of names are.
+///
+/// `holds` is what the disk of a name holds, and `says` are the bytes of the text of a name, where
+/// they are known: of real files nothing is, of disks in memory all.
+pub trait Folder {
+    /// A disk under a name.
+    type Disk: Disk + Send;
+
+    /// A text under a name, as it is read.
+    type Text: Read + Drop;
+
+    ghost holds: { Self → List ℕ → Option Present };
+
+    ghost says: { Self → List ℕ → Option (List ℕ) };
+
+    /// Opens the disk of a name, to read it alone.
+    fn open_to_read(&self, name: &str) -> Result<Self::Disk, DiskFault>
+        ensures { IfOk result (λ disk. bytes_of Self.Disk.keeps_model Self.Disk.present disk ≡ reads (holds self.now name.now)) };
+
+    /// Takes the disk of a name, to read and write it. Nobody else has it until it is put back.
+    fn open(&mut self, name: &str) -> Result<Self::Disk, DiskFault>
+        ensures taken { IfOk result (λ disk. known_of Self.Disk.keeps_model Self.Disk.present disk ≡ holds self.old name.now) }
+        ensures refused { IfErr result (λ _. holds self.new name.now ≡ holds self.old name.now) };
+
+    /// Puts the disk of a name back.
+    fn close(&mut self, name: &str, disk: Self::Disk)
+        ensures { IfSome (holds self.new name.now) (λ known. known_of Self.Disk.keeps_model Self.Disk.present disk ≡ Some known) };
+
+    /// Opens the text of a name.
+    fn read(&self, name: &str) -> io::Result<Self::Text>
+        ensures { IfOk result (λ text. Self.Text.remaining text ≡ says self.now name.now) };
+}
+
+/// The files of the system, by their paths. It claims nothing of them.
+#[derive(Drop)]
+pub struct FileFolder<'a, S> {
+    rt: &'a S,
+}
+
+impl<'a, S: Files<File = File>> FileFolder<'a, S> {
+    pub fn new(rt: &'a S) -> Self {
+        FileFolder { rt }
+    }
+}
+
+impl<S: Files<File = File>> Folder for FileFolder<'_, S> {
+    type Disk = FileDisk;
+
+    type Text = File;
+
+    ghost holds = { λ _ _. None };
+
+    ghost says = { λ _ _. None };
+
+    fn open_to_read(&self, name: &str) -> Result<FileDisk, DiskFault> {
+        FileDisk::open_to_read(self.rt, name)
+    }
+
+    /// The file is locked until the disk is dropped.
+    fn open(&mut self, name: &str) -> Result<FileDisk, DiskFault> {
+        FileDisk::open(self.rt, name)
+    }
+
+    fn close(&mut self, _name: &str, disk: FileDisk) {
+        drop(disk);
+    }
+
+    fn read(&self, name: &str) -> io::Result<File> {
+        File::open(self.rt, name)
+    }
+}

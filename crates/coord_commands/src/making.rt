@@ -1,0 +1,91 @@
+//! Making a store in a folder.
+
+ghost use Rattle.std.specs.Prelude.{◌≡◌, ◌⊎◌, true, length, None, IfErr, IfOk, IfSome, MatchResult, OnOk};
+ghost use Rattle.coord_commands.specs.Ending.{Ends, IsCutShort, PrintsOne};
+ghost use Rattle.coord_commands.specs.Folders.{bytes_of, reads};
+ghost use Rattle.coord_commands.specs.Making.{IsCreatedLine, IsMade, IsOfFile, IsOfMaking, begun};
+ghost use Rattle.coord_config.specs.Topology.{content};
+
+use crate::creation::create_store;
+use crate::fault::Fault;
+use crate::folder::Folder;
+use crate::lines::print;
+use crate::status::report;
+use crate::topology::topology_from;
+use coord_config::Topology;
+use coord_disk::Disk;
+use std::alloc::Global;
+use std::io::Write;
+
+/// Makes a store on the disk of a name, which is empty, with the nodes and links of a topology file,
+/// prints how many steps it has, and answers the exit status. The topology is read and judged before
+/// the disk is opened.
+pub fn init_in<F: Folder, W: Write, E: Write>(
+    alloc: Global,
+    folder: &mut F,
+    file: &str,
+    topology: &str,
+    output: &mut W,
+    errors: &mut E,
+) -> u8
+    ensures { Ends (IsOfMaking (reads (F.holds folder.old file.now)) (reads (F.holds folder.new file.now)))
+        (IsCreatedLine (F.says folder.old topology.now) (reads (F.holds folder.old file.now)) (reads (F.holds folder.new file.now)))
+        result (record { output = W.contents output.old; errors = E.contents errors.old }) (record { output = W.contents output.new; errors = E.contents errors.new }) }
+{
+    report(init_at(alloc, folder, file, topology, output), errors)
+}
+
+fn init_at<F: Folder, W: Write>(
+    alloc: Global,
+    folder: &mut F,
+    file: &str,
+    topology: &str,
+    output: &mut W,
+) -> Result<(), Fault>
+    ensures printed { OnOk result (PrintsOne (IsCreatedLine (F.says folder.old topology.now) (reads (F.holds folder.old file.now)) (reads (F.holds folder.new file.now))) (W.contents output.old) (W.contents output.new)) }
+    ensures fault { IfErr result (IsOfMaking (reads (F.holds folder.old file.now)) (reads (F.holds folder.new file.now))) }
+    ensures cut { IfErr result (IsCutShort (IsCreatedLine (F.says folder.old topology.now) (reads (F.holds folder.old file.now)) (reads (F.holds folder.new file.now))) (W.contents output.old) (W.contents output.new)) }
+    ensures early { IfErr result (λ fault. IsOfFile fault → folder.new ≡ folder.old) }
+{
+    let Ok(reader) = folder.read(topology) else {
+        return Err(Fault::Read);
+    };
+    let topology = topology_from(alloc, reader)?;
+    let count = make(alloc, folder, file, &topology)?;
+    let text = format!(in alloc; "created {count}\n")?;
+    print(output, &text)
+}
+
+/// Makes the store of a topology on the disk of a name, and answers how many steps it has.
+fn make<F: Folder>(
+    alloc: Global,
+    folder: &mut F,
+    file: &str,
+    topology: &Topology,
+) -> Result<u64, Fault>
+    ensures made { OnOk result (IsMade (content topology.now) (reads (F.holds folder.old file.now)) (reads (F.holds folder.new file.now))) }
+    ensures count { IfOk result (λ count. count ≡ (begun (content topology.now)).count) }
+    ensures fault { IfErr result (IsOfMaking (reads (F.holds folder.old file.now)) (reads (F.holds folder.new file.now))) }
+    ensures late { IfErr result (λ fault. ¬ IsOfFile fault) }
+{
+    let disk = folder.open(file)?;
+    let (made, disk) = make_on(alloc, disk, topology);
+    folder.close(file, disk);
+    made
+}
+
+/// Makes the store of a topology on a disk, and answers how many steps it has.
+fn make_on<D: Disk>(alloc: Global, disk: D, topology: &Topology) -> (Result<u64, Fault>, D)
+    ensures made { OnOk result.0 (IsMade (content topology.now) (bytes_of D.keeps_model D.present disk) (bytes_of D.keeps_model D.present result.1)) }
+    ensures count { IfOk result.0 (λ count. count ≡ (begun (content topology.now)).count) }
+    ensures fault { IfErr result.0 (IsOfMaking (bytes_of D.keeps_model D.present disk) (bytes_of D.keeps_model D.present result.1)) }
+    ensures late { IfErr result.0 (λ fault. ¬ IsOfFile fault) }
+{
+    match create_store(alloc, disk, topology) {
+        Ok(store) => {
+            let count = store.world().count();
+            (Ok(count), store.into_disk())
+        }
+        Err((fault, disk)) => (Err(fault), disk),
+    }
+}

@@ -1,0 +1,26 @@
+//! What a command answers.
+
+ghost use Rattle.std.specs.Prelude.{◌≡◌, MatchResult};
+ghost use Rattle.std.specs.Io.KnownBytes.{Keeps};
+ghost use Rattle.coord_commands.specs.Faults.{fault_line, status_of};
+ghost use Rattle.coord_drill.specs.Drilled.{WritesFirstPart};
+
+use crate::fault::Fault;
+use crate::lines::print_fault;
+use std::io::Write;
+
+/// Prints the line of a fault, if a command ended with one, and answers the exit status. Of a line
+/// that cannot be printed whole a first part is.
+pub fn report<E: Write>(ended: Result<(), Fault>, errors: &mut E) -> u8
+    ensures status { result ≡ status_of ended }
+    ensures told { MatchResult ended (λ _. Keeps (E.contents errors.old) (E.contents errors.new))
+        (λ fault. WritesFirstPart (E.contents errors.old) (E.contents errors.new) (fault_line fault)) }
+{
+    match &ended {
+        Ok(()) => 0,
+        Err(fault) => {
+            let _ = print_fault(errors, fault);
+            fault.status()
+        }
+    }
+}

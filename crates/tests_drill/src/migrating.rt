@@ -1,0 +1,223 @@
+//! Runs of `migrate`, on disks in memory and on files.
+
+ghost use Rattle.coord_batch.specs.Batches.{IsNumbered};
+
+use crate::commands::{PAIR, Run as FileRun, first_wrong as first_wrong_on_files, make_folder};
+use crate::folders::{Run, bytes_in, first_wrong, folder_of};
+use crate::program::words_of;
+use coord_commands::run_in;
+use coord_disk::{Disk, MemDisk};
+use coord_store::{CommitFault, Store};
+use coord_types::{Client, Command, DataPacket, Group, Msg, NodeId, ReceiptPacket, Step};
+use std::alloc::{AllocError, Global};
+use std::io;
+use std::io::{ErrorKind, Write};
+use std::test::Fail;
+
+/// The nodes whose link carries a reset.
+fn pair() -> (NodeId, NodeId) {
+    (NodeId::new(1).unwrap(), NodeId::new(2).unwrap())
+}
+
+/// Commits a step to a store, and says whether it is fresh.
+fn commits<D: Disk>(store: &mut Store<D>, step: Step) -> Result<bool, CommitFault>
+    requires { IsNumbered step }
+{
+    let steps = [step];
+    let is_fresh = store.takes(&steps)?;
+    if is_fresh {
+        store.commit(&steps)?;
+    }
+    Ok(is_fresh)
+}
+
+/// An order of client 1.
+fn order(number: u64, command: Command) -> Step
+    requires { 1 ≤ number }
+    ensures { IsNumbered result }
+{
+    Step::Order(Client::new(1).unwrap(), number, command)
+}
+
+/// The node takes a message over the link, which is the third step's.
+fn take(from: NodeId, to: NodeId, number: u64, msg: Msg) -> Step
+    ensures { IsNumbered result }
+{
+    Step::Take(DataPacket {
+        from,
+        to,
+        inc: 3,
+        number,
+        msg,
+    })
+}
+
+/// Adds two nodes, links them and resets the first: four steps.
+fn starts<D: Disk>(store: &mut Store<D>) -> Result<bool, CommitFault> {
+    let (one, two) = pair();
+    let group = Group::new(1).unwrap();
+    let are_fresh = commits(store, order(1, Command::Add(one, group)))?
+        && commits(store, order(2, Command::Add(two, group)))?
+        && commits(store, order(3, Command::Join(one, two)))?
+        && commits(store, order(4, Command::Reset(one)))?;
+    Ok(are_fresh)
+}
+
+/// Lets that reset end: four more steps.
+fn ends<D: Disk>(store: &mut Store<D>) -> Result<bool, CommitFault> {
+    let (from, to) = pair();
+    let receipt = ReceiptPacket {
+        from,
+        to,
+        inc: 3,
+        number: 1,
+    };
+    let are_fresh = commits(store, take(from, to, 1, Msg::Abort(0)))?
+        && commits(store, take(to, from, 1, Msg::Ack))?
+        && commits(store, Step::Clear(receipt))?
+        && commits(store, take(from, to, 2, Msg::Ready))?;
+    Ok(are_fresh)
+}
+
+/// A disk with a store of version 1 in which a reset was started, and has ended or has not.
+fn stored(alloc: Global, has_ended: bool) -> Result<MemDisk, Fail> {
+    let Ok(mut store) = Store::create(alloc, MemDisk::new(alloc), 32_768, 1) else {
+        return Err(AllocError.into());
+    };
+    let is_started = starts(&mut store);
+    let is_ended = if has_ended {
+        ends(&mut store)
+    } else {
+        Ok(true)
+    };
+    let disk = store.into_disk();
+    if is_started? && is_ended? {
+        Ok(disk)
+    } else {
+        Err("not fresh")?
+    }
+}
+
+const MIGRATIONS: [Run; 5] = [
+    ("resetd check store", (0, "legal 8\n", "")),
+    ("resetd migrate store", (0, "migrated 8\n", "")),
+    ("resetd check store", (0, "legal 8\n", "")),
+    (
+        "resetd show store",
+        (
+            0,
+            "view 8 8\n\
+             node 1 1 ready 0 1 0\n\
+             node 2 1 ready 0 1 0\n\
+             link 1 2 3\n",
+            "",
+        ),
+    ),
+    ("resetd migrate other", (3, "", "resetd: Device\n")),
+];
+
+/// The same again leaves what the first one wrote.
+const AGAIN: [Run; 1] = [("resetd migrate store", (0, "migrated 8\n", ""))];
+
+#[test]
+fn a_quiet_store_is_migrated(rt: HostRuntime) -> Result<(), Fail> {
+    let alloc = rt.alloc();
+    let mut folder = folder_of(alloc, stored(alloc, true)?)?;
+    let wrong = first_wrong(alloc, &mut folder, &MIGRATIONS)?;
+    let first = bytes_in(&folder).to_vec(alloc)?;
+    let later = first_wrong(alloc, &mut folder, &AGAIN)?;
+    let stays = bytes_in(&folder) == first.as_slice();
+    assert!(rt; wrong.is_none() && later.is_none() && stays, "{wrong:?}");
+    // Its content is in the second half now, and in version 2.
+    assert!(rt; first.first() == Some(&1) && first.get(17 + 32_768) == Some(&2));
+    Ok(())
+}
+
+const REFUSED: [Run; 2] = [
+    ("resetd migrate store", (1, "", "resetd: NotQuiet 1\n")),
+    ("resetd check store", (0, "legal 4\n", "")),
+];
+
+#[test]
+fn a_store_in_a_reset_is_not(rt: HostRuntime) -> Result<(), Fail> {
+    let alloc = rt.alloc();
+    let disk = stored(alloc, false)?;
+    let before = disk.bytes().to_vec(alloc)?;
+    let mut folder = folder_of(alloc, disk)?;
+    let wrong = first_wrong(alloc, &mut folder, &REFUSED)?;
+    assert!(rt;
+        wrong.is_none() && bytes_in(&folder) == before.as_slice(),
+        "{wrong:?}"
+    );
+    Ok(())
+}
+
+/// An output that takes nothing.
+#[derive(Drop)]
+struct Closed;
+
+impl Write for Closed {
+    fn write(&mut self, _buf: &[u8]) -> io::Result<usize> {
+        Err(ErrorKind::BrokenPipe.into())
+    }
+
+    fn flush(&mut self) -> io::Result<()> {
+        Ok(())
+    }
+}
+
+/// The store is raised though the line can't be printed.
+#[test]
+fn a_line_that_is_not_printed(rt: HostRuntime) -> Result<(), Fail> {
+    let alloc = rt.alloc();
+    let mut folder = folder_of(alloc, stored(alloc, true)?)?;
+    let words = words_of(alloc, "resetd migrate store")?;
+    let mut errors = Vec::with_capacity(alloc, 64)?;
+    let mut input = b"".as_slice();
+    let words = words.as_slice();
+    let status = run_in(
+        alloc,
+        &mut folder,
+        words,
+        &mut input,
+        &mut Closed,
+        &mut errors,
+    );
+    let wrong = first_wrong(alloc, &mut folder, &AGAIN)?;
+    assert!(rt; status == Some(3) && errors.as_slice() == b"resetd: Write\n".as_slice());
+    assert!(rt; wrong.is_none() && bytes_in(&folder).first() == Some(&1));
+    Ok(())
+}
+
+/// Files of all kinds: an absent one is made, and one of version 1 becomes one of version 2.
+const FILES: [FileRun; 12] = [
+    ("resetd migrate @/new", (1, "", "resetd: NoMagic\n")),
+    ("resetd init @/new @/pair", (0, "created 3\n", "")),
+    ("resetd migrate @/new", (0, "migrated 3\n", "")),
+    ("resetd migrate @/empty", (1, "", "resetd: NoMagic\n")),
+    ("resetd migrate @/pair", (1, "", "resetd: NoMagic\n")),
+    ("resetd migrate @/absent/store", (3, "", "resetd: Device\n")),
+    ("resetd migrate @", (3, "", "resetd: Device\n")),
+    ("resetd migrate @/busy", (1, "", "resetd: NotQuiet 1\n")),
+    ("resetd check @/busy", (0, "legal 4\n", "")),
+    ("resetd migrate @/old", (0, "migrated 8\n", "")),
+    ("resetd check @/old", (0, "legal 8\n", "")),
+    ("resetd migrate @/old", (0, "migrated 8\n", "")),
+];
+
+#[test]
+fn files_are_migrated(rt: HostRuntime) -> Result<(), Fail> {
+    let alloc = rt.alloc();
+    let busy = stored(alloc, false)?;
+    let old = stored(alloc, true)?;
+    let files = [
+        ("pair", PAIR),
+        ("empty", b"".as_slice()),
+        ("busy", busy.bytes()),
+        ("old", old.bytes()),
+    ];
+    let folder = make_folder(&rt, "migrated")?;
+    let wrong = first_wrong_on_files(&rt, &folder, &files, &FILES)?;
+    assert!(rt; wrong.is_none(), "{wrong:?}");
+    Ok(())
+}
