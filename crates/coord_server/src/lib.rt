@@ -14,10 +14,11 @@ mod desk;
 mod fault;
 mod local;
 mod printer;
+mod printing;
 mod serving;
 
 pub use desk::EngineDesk;
 pub use fault::ServerFault;
-pub use local::{LocalPort, WORKERS};
+pub use local::{LocalPort, Signal, WORKERS};
 pub use printer::Printer;
 pub use serving::serve_store;

@@ -1,48 +1,44 @@
 //! A port within one process.
 
-use crate::Printer;
 use coord_engine::Port;
 use coord_types::{NodeId, Packet};
 use crossbeam_channel::Sender;
-use std::io::Write;
-use std::net::SocketAddr;
 use std::sync::{Mutex, Wait};
 
 /// How many workers there are. Each has the nodes whose numbers leave the same rest on division by
 /// this.
 pub const WORKERS: u8 = 8;
 
-/// Carries packets to the workers' channels, and prints signals.
-#[derive(Drop)]
-pub struct LocalPort<R: Wait, W: Write> {
-    rt: R,
-    channels: Mutex<Vec<Sender<Packet>>>,
-    printer: Mutex<Printer<W>>,
+/// A reset has ended at this node, and this epoch has begun.
+#[derive(Clone, Copy, Debug, PartialEq, Eq, Drop)]
+pub struct Signal {
+    pub node: NodeId,
+    pub epoch: u64,
 }
 
-impl<R: Wait, W: Write> LocalPort<R, W> {
+/// Carries packets to the workers' channels, and signals to the channel of what prints them. It
+/// waits for neither: what a channel has no memory for is lost.
+#[derive(Drop)]
+pub struct LocalPort<R: Wait> {
+    rt: R,
+    channels: Mutex<Vec<Sender<Packet>>>,
+    signals: Mutex<Option<Sender<Signal>>>,
+}
+
+impl<R: Wait> LocalPort<R> {
     /// The channel of the worker i is the i-th.
-    pub fn new(rt: R, channels: Vec<Sender<Packet>>, printer: Printer<W>) -> Self {
+    pub fn new(rt: R, channels: Vec<Sender<Packet>>, signals: Sender<Signal>) -> Self {
         LocalPort {
             rt,
             channels: Mutex::new(channels),
-            printer: Mutex::new(printer),
+            signals: Mutex::new(Some(signals)),
         }
     }
 
-    /// Closes the channels.
+    /// Closes the channels. What they hold is still received.
     pub fn hang_up(&self) {
         self.channels.lock(&self.rt).clear();
-    }
-
-    /// Prints at which address the server listens. Whether it was written.
-    pub fn print_address(&self, address: SocketAddr) -> bool {
-        self.printer.lock(&self.rt).print_address(address)
-    }
-
-    /// Whether a line could not be printed.
-    pub fn is_broken(&self) -> bool {
-        self.printer.lock(&self.rt).is_broken()
+        *self.signals.lock(&self.rt) = None;
     }
 }
 
@@ -54,13 +50,16 @@ fn send<R: Wait>(rt: &R, channels: &[Sender<Packet>], to: NodeId, packet: Packet
     }
 }
 
-impl<R: Wait, W: Write> Port for LocalPort<R, W> {
+impl<R: Wait> Port for LocalPort<R> {
     fn carry(&self, to: NodeId, packet: Packet) -> bool {
         let channels = self.channels.lock(&self.rt);
         send(&self.rt, &channels, to, packet)
     }
 
     fn signal(&self, node: NodeId, epoch: u64) -> bool {
-        self.printer.lock(&self.rt).print_signal(node, epoch)
+        match &*self.signals.lock(&self.rt) {
+            Some(signals) => signals.send(&self.rt, Signal { node, epoch }).is_ok(),
+            None => false,
+        }
     }
 }

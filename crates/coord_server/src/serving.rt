@@ -6,7 +6,7 @@ ghost use Rattle.coord_engine.specs.State.{based_on};
 ghost use Rattle.coord_store.specs.Kept.{has_stopped};
 ghost use Rattle.coord_server.specs.Ending.{IsOneHistory, LeavesOf};
 
-use crate::crew::run;
+use crate::crew::{Ran, Received, run};
 use crate::{LocalPort, Printer, ServerFault, WORKERS};
 use coord_disk::Disk;
 use coord_engine::{CloseFault, Closed, Engine, Origin, Share};
@@ -26,11 +26,13 @@ use std::time::Clock;
 /// Serves a store to the connections of a listener, one after the other, until a line closes it,
 /// and gives back what is left of the engine.
 ///
-/// The flusher and the workers run meanwhile. First `listening` and the listener's address is
-/// printed, and what a crash may have lost is sent again; each signal that is released is printed
-/// as a line. Where a line can't be printed, no more are, and the server goes on: a signal that was
-/// not printed is told by the epochs that are shown. Then, or after a fault, everything is ended in
-/// order: what was accepted is settled, the flusher ends, and then the workers.
+/// First `listening` and the listener's address is printed. Then a flusher, the workers and a
+/// thread that prints run meanwhile, and what a crash may have lost is sent again. Each signal that
+/// is released is printed as a line, in order, from a channel without bound: an output that is slow
+/// holds up nothing else. Where a line can't be printed, no more are, and the server goes on: a
+/// signal that was not printed is told by the epochs that are shown. Then, or after a fault,
+/// everything is ended in order: what was accepted is settled, the flusher ends, then the workers,
+/// and then what is left is printed, however long the output takes it.
 pub fn serve_store<
     D: Disk + Send,
     S: Read + Write + OpenStream + Drop,
@@ -73,13 +75,20 @@ fn serve_ledger<
     requires before { ledger.log.trail ≡ L.before }
     ensures { IfOk result (λ closed. LeavesOf (based_on D.keeps_model D.present L.base L.before) closed.store closed.base closed.trail.items closed.settled) }
 {
-    let (to, from) = channels(alloc)?;
+    let (to, packets) = channels(alloc)?;
+    let (told, signals) = crossbeam_channel::unbounded(alloc)?;
     // Room for all shares: none of them may be lost for want of memory.
     let shares = Vec::with_capacity(alloc, usize::from(WORKERS) + 1)?;
-    let port = LocalPort::new(rt, to, printer);
+    let port = LocalPort::new(rt, to, told);
     let engine: Engine<D, L> = Engine::new(alloc, blank, ledger);
-    let (shares, served) = run(rt, alloc, &engine, &port, from, shares, listener);
-    let is_broken = port.is_broken();
+    let received = Received { packets, signals };
+    let Ran {
+        shares,
+        served,
+        is_broken,
+    } = run(
+        rt, alloc, &engine, &port, received, shares, listener, printer,
+    );
     end::<D, L>(close(engine, shares), served, is_broken)
 }
 
