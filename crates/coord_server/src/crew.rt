@@ -1,17 +1,19 @@
 //! The threads of a server, while connections are served.
 
+ghost use Rattle.std.specs.Prelude.{◌≡◌, [], ℕ, IfSome};
 ghost use Rattle.std.specs.Thread.{IsSend, IsSync};
+ghost use Rattle.coord_engine.specs.State.{based_on};
+ghost use Rattle.coord_server.specs.Ending.{IsOfStart, Serves, new_desk};
 
 use crate::printing::print_signals;
 use crate::{EngineDesk, LocalPort, Printer, ServerFault, Signal, WORKERS};
-use coord_admin::{Accepted, Callers, Desk, Patience, serve_connections};
+use coord_admin::{Callers, Desk, serve_connections};
 use coord_disk::Disk;
-use coord_engine::{Engine, Origin, Port, Share, flusher, worker};
+use coord_engine::{Engine, Origin, PacketShare, Port, Share, flusher, packet_worker};
 use coord_types::Packet;
 use crossbeam_channel::Receiver;
 use std::alloc::Global;
-use std::io::{Read, Write};
-use std::net::{OpenListener, OpenStream};
+use std::io::Write;
 use std::sync::Wait;
 use std::sync::ledger::Ledger as Count;
 use std::thread;
@@ -25,24 +27,26 @@ pub struct Received {
     pub signals: Receiver<Signal>,
 }
 
-/// How the threads of a server ended.
+/// What the threads of a server leave.
 #[derive(Drop)]
-pub struct Ran<L: Count> {
-    /// All that were given out, unless a thread could not be started.
-    pub shares: Vec<Share<L>>,
-    /// How the serving ended.
-    pub served: Result<(), ServerFault>,
+pub struct Ran<L: Count, C> {
+    /// The desk's share.
+    pub own: Share<L>,
+    /// All that workers had, unless a thread could not be started.
+    pub workers: Vec<PacketShare<L>>,
+    pub callers: C,
+    /// What ended the serving, if not a close.
+    pub served: Option<ServerFault>,
     /// Whether a line could not be printed.
     pub is_broken: bool,
 }
 
 /// Prints the address, and then runs a flusher, a worker on each channel and what prints signals,
-/// while connections are served. The shares have room for all that are given out.
+/// while those who call are served.
 pub fn run<
     D: Disk + Send,
     L: Origin + Send + Sync,
-    S: Read + Write + OpenStream + Drop,
-    A: OpenListener<Stream = S>,
+    C: Callers + Drop,
     W: Write + Send + Drop,
     R: Threads + Wait + Clock + Sync,
 >(
@@ -51,36 +55,53 @@ pub fn run<
     engine: &Engine<D, L>,
     port: &LocalPort<&R>,
     received: Received,
-    shares: Vec<Share<L>>,
-    listener: &A,
+    own: Share<L>,
+    callers: C,
     printer: Printer<W>,
-) -> Ran<L> {
+) -> Ran<L, C>
+    requires { own ≡ [] }
+    ensures { (seen : ℕ) × Serves (based_on D.keeps_model D.present L.base L.before) C.met callers result.callers (record { notes = result.own; seen = seen }) result.served }
+{
     let mut printer = printer;
-    match print_listening(listener, &mut printer) {
-        Ok(()) => run_threads(rt, alloc, engine, port, received, shares, listener, printer),
-        Err(fault) => not_run(shares, fault),
+    match print_listening(&callers, &mut printer) {
+        None => run_threads(rt, alloc, engine, port, received, own, callers, printer),
+        Some(fault) => not_run(alloc, own, callers, fault),
     }
 }
 
-/// Says where it listens.
-fn print_listening<A: OpenListener, W: Write>(
-    listener: &A,
+/// Says where they call. Else why not.
+fn print_listening<C: Callers, W: Write>(
+    callers: &C,
     printer: &mut Printer<W>,
-) -> Result<(), ServerFault> {
-    let Ok(address) = listener.local_addr() else {
-        return Err(ServerFault::Socket);
+) -> Option<ServerFault>
+    ensures { IfSome result IsOfStart }
+{
+    let Ok(address) = callers.address() else {
+        return Some(ServerFault::Socket);
     };
-    if !printer.print_address(address) {
-        return Err(ServerFault::Write);
+    if printer.print_address(address) {
+        None
+    } else {
+        Some(ServerFault::Write)
     }
-    Ok(())
 }
 
-/// No thread was started.
-fn not_run<L: Count>(shares: Vec<Share<L>>, fault: ServerFault) -> Ran<L> {
+/// Nobody was served.
+fn not_run<D: Disk, L: Origin, C: Callers>(
+    alloc: Global,
+    own: Share<L>,
+    callers: C,
+    fault: ServerFault,
+) -> Ran<L, C>
+    requires own { own ≡ [] }
+    requires fault { IsOfStart fault }
+    ensures { (seen : ℕ) × Serves (based_on D.keeps_model D.present L.base L.before) C.met callers result.callers (record { notes = result.own; seen = seen }) result.served }
+{
     Ran {
-        shares,
-        served: Err(fault),
+        own,
+        workers: Vec::new(alloc),
+        callers,
+        served: Some(fault),
         is_broken: false,
     }
 }
@@ -88,8 +109,7 @@ fn not_run<L: Count>(shares: Vec<Share<L>>, fault: ServerFault) -> Ran<L> {
 fn run_threads<
     D: Disk + Send,
     L: Origin + Send + Sync,
-    S: Read + Write + OpenStream + Drop,
-    A: OpenListener<Stream = S>,
+    C: Callers + Drop,
     W: Write + Send + Drop,
     R: Threads + Wait + Clock + Sync,
 >(
@@ -98,64 +118,65 @@ fn run_threads<
     engine: &Engine<D, L>,
     port: &LocalPort<&R>,
     received: Received,
-    mut shares: Vec<Share<L>>,
-    listener: &A,
+    own: Share<L>,
+    callers: C,
     printer: Printer<W>,
-) -> Ran<L> {
+) -> Ran<L, C>
+    requires { own ≡ [] }
+    ensures { (seen : ℕ) × Serves (based_on D.keeps_model D.present L.base L.before) C.met callers result.callers (record { notes = result.own; seen = seen }) result.served }
+{
     thread::scope(
         thread::scope_env(),
         rt,
-        |scope| -> Ran<L>
-            requires { IsSend D.row × IsSend L.row × IsSync L.row × IsSend W.row × IsSync R.row }
+        |scope| -> Ran<L, C>
+            requires { IsSend D.row × IsSend L.row × IsSync L.row × IsSend W.row × IsSync R.row × (own ≡ []) }
+            ensures { (seen : ℕ) × Serves (based_on D.keeps_model D.present L.base L.before) C.met callers.entry result.callers (record { notes = result.own; seen = seen }) result.served }
         {
             let Received { packets, signals } = received;
-            let Ok(mut running) = Vec::with_capacity(alloc, usize::from(WORKERS)) else {
-                return not_run(shares, ServerFault::OutOfMemory);
-            };
-            let Some(own) = engine.share(rt) else {
-                return not_run(shares, ServerFault::OutOfMemory);
-            };
             let Some(flushing) = start_flusher(scope, rt, engine, port) else {
-                return not_run(shares, ServerFault::OutOfMemory);
+                return not_run::<D, L, C>(alloc, own, callers, ServerFault::OutOfMemory);
             };
-            let printing = scope
-                .spawn(move || print_signals(rt, signals, printer))
-                .ok();
+            let printing = scope.spawn(move || print_signals(rt, signals, printer)).ok();
+            let mut running = Vec::new(alloc);
             for packets in packets {
-                let Some(share) = engine.share(rt) else {
-                    continue;
-                };
-                if let Ok(started) = scope.spawn(move || worker(
-                    rt, alloc, engine, packets, share,
-                )) {
-                    let _ = running.push(started);
+                if let Some(share) = engine.share(rt) {
+                    let share = PacketShare::new(share);
+                    if let Ok(started) = scope.spawn(move || {
+                        packet_worker(rt, alloc, engine, packets, share)
+                    }) {
+                        let _ = running.push(started);
+                    }
                 }
             }
             let is_whole = printing.is_some() && running.len() == usize::from(WORKERS);
-            let (own, served) = if is_whole {
-                let mut callers = Accepted::new(rt, listener, Patience::usual());
-                serve_over(rt, alloc, engine, port, own, &mut callers)
+            let mut ran = if is_whole {
+                serve_over(rt, alloc, engine, port, own, callers)
             } else {
-                (own, Err(ServerFault::OutOfMemory))
+                not_run::<D, L, C>(alloc, own, callers, ServerFault::OutOfMemory)
             };
             engine.finish(rt);
             flushing.join(rt);
             port.hang_up();
-            let _ = shares.push(own);
-            for started in running {
-                let _ = shares.push(started.join(rt));
+            ran.workers = all_joined(rt, alloc, running);
+            if let Some(started) = printing {
+                ran.is_broken = started.join(rt).is_broken();
             }
-            let is_broken = match printing {
-                Some(started) => started.join(rt).is_broken(),
-                None => false,
-            };
-            Ran {
-                shares,
-                served,
-                is_broken,
-            }
+            ran
         },
     )
+}
+
+/// Waits for all workers. A share for which there is no memory is lost.
+fn all_joined<L: Count, R: Threads + Wait>(
+    rt: &R,
+    alloc: Global,
+    running: Vec<JoinHandle<PacketShare<L>>>,
+) -> Vec<PacketShare<L>> {
+    let mut workers = Vec::new(alloc);
+    for started in running {
+        let _ = workers.push(started.join(rt));
+    }
+    workers
 }
 
 /// Starts a flusher, unless no thread can be had.
@@ -178,31 +199,44 @@ fn start_flusher<
     scope.spawn(move || flusher(rt, engine, port)).ok()
 }
 
-/// Serves connections to a desk with this share. The share, and how the server ended.
+/// Serves those who call by a desk with this share.
 fn serve_over<'a, D: Disk, L: Origin, C: Callers, R: Wait>(
     rt: &'a R,
     alloc: Global,
     engine: &'a Engine<D, L>,
     port: &'a LocalPort<&R>,
     own: Share<L>,
-    callers: &mut C,
-) -> (Share<L>, Result<(), ServerFault>) {
+    callers: C,
+) -> Ran<L, C>
+    requires { own ≡ [] }
+    ensures { (seen : ℕ) × Serves (based_on D.keeps_model D.present L.base L.before) C.met callers result.callers (record { notes = result.own; seen = seen }) result.served }
+{
+    let mut callers = callers;
     let mut desk = EngineDesk::new(rt, engine, port, own);
-    let served = serve_clients(alloc, callers, &mut desk);
-    (desk.into_share(), served)
+    let served = serve_clients(alloc, &mut callers, &mut desk);
+    Ran {
+        own: desk.into_share(),
+        workers: Vec::new(alloc),
+        callers,
+        served,
+        is_broken: false,
+    }
 }
 
-/// Sends again what may have been lost, and serves connections.
-fn serve_clients<C: Callers, E: Desk>(
+/// Sends again what may have been lost, and serves those who call. Else what ended it.
+fn serve_clients<D: Disk, L: Origin, C: Callers, P: Port, R: Wait>(
     alloc: Global,
     callers: &mut C,
-    desk: &mut E,
-) -> Result<(), ServerFault> {
+    desk: &mut EngineDesk<'_, D, L, P, R>,
+) -> Option<ServerFault>
+    requires { desk.old ≡ new_desk }
+    ensures { Serves (based_on D.keeps_model D.present L.base L.before) C.met callers.old callers.new desk.new result }
+{
     if desk.resend().is_err() {
-        return Err(ServerFault::OutOfMemory);
+        return Some(ServerFault::OutOfMemory);
     }
     match serve_connections(alloc, callers, desk) {
-        Ok(()) => Ok(()),
-        Err(_) => Err(ServerFault::Socket),
+        Ok(()) => None,
+        Err(_) => Some(ServerFault::Socket),
     }
 }
