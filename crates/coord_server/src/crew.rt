@@ -65,7 +65,7 @@ pub fn run<
     let mut printer = printer;
     match print_listening(&callers, &mut printer) {
         None => run_threads(rt, alloc, engine, port, received, own, callers, printer),
-        Some(fault) => not_run(alloc, own, callers, fault),
+        Some(fault) => not_run::<D, L, C>(alloc, own, callers, fault),
     }
 }
 
