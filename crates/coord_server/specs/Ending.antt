@@ -45,6 +45,10 @@ module _ {D : Type 0} (b : Basis D) {V : Type 0} (met : V → List Talk → V �
   Serves v w desk (Some fault.Write) = met v [] w × (desk ≡ new_desk)
   Serves v w desk (Some other) = ⊥
 
+-- a desk that began with nothing was served over some connections, the last of which closed it
+abbrev pub IsServedToClose : {D : Type 0} → Basis D → DeskState → Type 0
+IsServedToClose b desk = ServedToClose (DeskAnswers b) (λ (v : Unit {0}) (talks : List Talk) (w : Unit {0}). Unit {0}) tt new_desk tt desk
+
 -- what may be met before anyone is served
 abbrev pub IsOfStart : ServerFault → Type 0
 IsOfStart fault.OutOfMemory = Unit {0}

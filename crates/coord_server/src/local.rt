@@ -1,5 +1,10 @@
 //! A port within one process.
 
+ghost use Rattle.std.specs.Prelude.{◌≡◌};
+ghost use Rattle.std.specs.List.{slice_get};
+ghost use Rattle.std.specs.Option.{option_copied};
+ghost use Rattle.coord_server.specs.Workers.{worker_of};
+
 use coord_engine::Port;
 use coord_types::{NodeId, Packet};
 use crossbeam_channel::Sender;
@@ -42,18 +47,37 @@ impl<R: Wait> LocalPort<R> {
     }
 }
 
-/// Puts a packet into the channel of its node's worker.
-fn send<R: Wait>(rt: &R, channels: &[Sender<Packet>], to: NodeId, packet: Packet) -> bool {
-    match channels.get(usize::from(to.number() % WORKERS)) {
+/// Which worker has the node to which a packet goes.
+fn worker_of(packet: Packet) -> usize
+    ensures { result ≡ worker_of packet }
+{
+    let node = match packet {
+        Packet::Carried(data) => data.to,
+        Packet::Receipted(receipt) => receipt.from,
+    };
+    usize::from(node.number() % WORKERS)
+}
+
+/// The channel of a packet's worker.
+fn channel_of(channels: &[Sender<Packet>], packet: Packet) -> Option<&Sender<Packet>>
+    ensures { option_copied result ≡ slice_get channels.now (worker_of packet) }
+{
+    channels.get(worker_of(packet))
+}
+
+/// Puts a packet into the channel of its worker.
+fn send<R: Wait>(rt: &R, channels: &[Sender<Packet>], packet: Packet) -> bool {
+    match channel_of(channels, packet) {
         Some(channel) => channel.send(rt, packet).is_ok(),
         None => false,
     }
 }
 
 impl<R: Wait> Port for LocalPort<R> {
-    fn carry(&self, to: NodeId, packet: Packet) -> bool {
+    /// A packet says itself where it goes.
+    fn carry(&self, _to: NodeId, packet: Packet) -> bool {
         let channels = self.channels.lock(&self.rt);
-        send(&self.rt, &channels, to, packet)
+        send(&self.rt, &channels, packet)
     }
 
     fn signal(&self, node: NodeId, epoch: u64) -> bool {

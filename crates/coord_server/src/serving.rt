@@ -5,7 +5,7 @@ ghost use Rattle.coord_server.specs.declared.fault.ServerFault.TheVariants as Se
 ghost use Rattle.coord_engine.specs.State.{based_on};
 ghost use Rattle.coord_engine.specs.declared.closed.CloseFault.{CloseFault};
 ghost use Rattle.coord_store.specs.Kept.{has_stopped};
-ghost use Rattle.coord_server.specs.Ending.{IsClosed, IsOneHistory, Serves};
+ghost use Rattle.coord_server.specs.Ending.{IsOneHistory, IsServedToClose, Serves};
 ghost use Rattle.coord_server.specs.EngineDesk.{DeskState};
 
 use crate::crew::{Ran, Received, run};
@@ -38,7 +38,7 @@ pub fn serve_store<
 >(rt: &R, alloc: Global, store: Store<D>, listener: &A, output: W) -> Result<Closed<D>, ServerFault>
     requires { has_stopped store ≡ false }
     ensures going { IfOk result (λ closed. has_stopped closed.store ≡ false) }
-    ensures history { IfOk result (λ closed. (desk : DeskState) × IsOneHistory (based_on D.keeps_model D.present store.world []) desk.notes closed.store closed.base closed.trail.items closed.settled) }
+    ensures history { IfOk result (λ closed. (desk : DeskState) × IsServedToClose (based_on D.keeps_model D.present store.world []) desk × IsOneHistory (based_on D.keeps_model D.present store.world []) desk.notes closed.store closed.base closed.trail.items closed.settled) }
 {
     let callers = Accepted::new(rt, listener, Patience::usual());
     let ended = serve_callers(rt, alloc, store, callers, output)?;
