@@ -131,39 +131,128 @@ fn run_threads<
         |scope| -> Ran<L, C>
             requires { IsSend D.row × IsSend L.row × IsSync L.row × IsSend W.row × IsSync R.row × (own ≡ []) }
             ensures { (seen : ℕ) × Serves (based_on D.keeps_model D.present L.base L.before) C.met callers.entry result.callers (record { notes = result.own; seen = seen }) result.served }
-        {
-            let Received { packets, signals } = received;
-            let Some(flushing) = start_flusher(scope, rt, engine, port) else {
-                return not_run::<D, L, C>(alloc, own, callers, ServerFault::OutOfMemory);
-            };
-            let printing = scope.spawn(move || print_signals(rt, signals, printer)).ok();
-            let mut running = Vec::new(alloc);
-            for packets in packets {
-                if let Some(share) = engine.share(rt) {
-                    let share = PacketShare::new(share);
-                    if let Ok(started) = scope.spawn(move || {
-                        packet_worker(rt, alloc, engine, packets, share)
-                    }) {
-                        let _ = running.push(started);
-                    }
-                }
-            }
-            let is_whole = printing.is_some() && running.len() == usize::from(WORKERS);
-            let mut ran = if is_whole {
-                serve_over(rt, alloc, engine, port, own, callers)
-            } else {
-                not_run::<D, L, C>(alloc, own, callers, ServerFault::OutOfMemory)
-            };
-            engine.finish(rt);
-            flushing.join(rt);
-            port.hang_up();
-            ran.workers = all_joined(rt, alloc, running);
-            if let Some(started) = printing {
-                ran.is_broken = started.join(rt).is_broken();
-            }
-            ran
-        },
+        { run_in(scope, rt, alloc, engine, port, received, own, callers, printer) },
     )
+}
+
+/// Serves while the threads of a scope run, and ends them in order: first the flusher, so that all
+/// that was accepted is settled and handed out, then the workers, and then what prints.
+fn run_in<
+    's,
+    'r: 's,
+    'e: 's,
+    'p: 's,
+    E,
+    D: Disk + Send,
+    L: Origin + Send + Sync,
+    C: Callers + Drop,
+    W: Write + Send + Drop,
+    R: Threads + Wait + Clock + Sync,
+>(
+    scope: &Scope<'s, E>,
+    rt: &'r R,
+    alloc: Global,
+    engine: &'e Engine<D, L>,
+    port: &'p LocalPort<&R>,
+    received: Received,
+    own: Share<L>,
+    callers: C,
+    printer: Printer<W>,
+) -> Ran<L, C>
+    requires { own ≡ [] }
+    ensures { (seen : ℕ) × Serves (based_on D.keeps_model D.present L.base L.before) C.met callers result.callers (record { notes = result.own; seen = seen }) result.served }
+{
+    let Received { packets, signals } = received;
+    let Some(flushing) = start_flusher(scope, rt, engine, port) else {
+        return not_run::<D, L, C>(alloc, own, callers, ServerFault::OutOfMemory);
+    };
+    let printing = start_printing(scope, rt, signals, printer);
+    let running = start_workers(scope, rt, alloc, engine, packets);
+    let is_whole = printing.is_some() && running.len() == usize::from(WORKERS);
+    let mut ran = if is_whole {
+        serve_over(rt, alloc, engine, port, own, callers)
+    } else {
+        not_run::<D, L, C>(alloc, own, callers, ServerFault::OutOfMemory)
+    };
+    engine.finish(rt);
+    flushing.join(rt);
+    port.hang_up();
+    ran.workers = all_joined(rt, alloc, running);
+    ran.is_broken = joined(rt, printing);
+    ran
+}
+
+/// Starts what prints signals, unless no thread can be had.
+fn start_printing<'s, 'r: 's, E, W: Write + Send + Drop, R: Wait + Sync>(
+    scope: &Scope<'s, E>,
+    rt: &'r R,
+    signals: Receiver<Signal>,
+    printer: Printer<W>,
+) -> Option<JoinHandle<Printer<W>>> {
+    scope.spawn(move || print_signals(rt, signals, printer)).ok()
+}
+
+/// Starts a worker on each channel with a share of its own; where no thread can be had, fewer.
+fn start_workers<
+    's,
+    'r: 's,
+    'e: 's,
+    E,
+    D: Disk + Send,
+    L: Origin + Send + Sync,
+    R: Wait + Sync,
+>(
+    scope: &Scope<'s, E>,
+    rt: &'r R,
+    alloc: Global,
+    engine: &'e Engine<D, L>,
+    packets: Vec<Receiver<Packet>>,
+) -> Vec<JoinHandle<PacketShare<L>>> {
+    let mut running = Vec::new(alloc);
+    for packets in packets {
+        if let Some(share) = engine.share(rt) {
+            if let Some(started) = start_worker(scope, rt, alloc, engine, packets, share) {
+                let _ = running.push(started);
+            }
+        }
+    }
+    running
+}
+
+/// Starts a worker, unless no thread can be had.
+fn start_worker<
+    's,
+    'r: 's,
+    'e: 's,
+    E,
+    D: Disk + Send,
+    L: Origin + Send + Sync,
+    R: Wait + Sync,
+>(
+    scope: &Scope<'s, E>,
+    rt: &'r R,
+    alloc: Global,
+    engine: &'e Engine<D, L>,
+    packets: Receiver<Packet>,
+    share: Share<L>,
+) -> Option<JoinHandle<PacketShare<L>>>
+    requires { share ≡ [] }
+{
+    let share = PacketShare::new(share);
+    scope
+        .spawn(move || packet_worker(rt, alloc, engine, packets, share))
+        .ok()
+}
+
+/// Waits for what prints. Whether a line could not be printed.
+fn joined<W: Write + Drop, R: Threads + Wait>(
+    rt: &R,
+    printing: Option<JoinHandle<Printer<W>>>,
+) -> bool {
+    match printing {
+        Some(started) => started.join(rt).is_broken(),
+        None => false,
+    }
 }
 
 /// Waits for all workers. A share for which there is no memory is lost.
