@@ -1,8 +1,6 @@
 -- What was served, where more is read.
 use Rattle.std.proofs.Common.{◌≡◌, ◌≢◌, ℕ, ◌<◌, Bool, true, false, List, [], ◌∷◌, ◌++◌, length, map, Option, Some, Result, Ok, Err, IfOk, String, Global, string_bytes, refl, sym, ap, ◌∙◌, subst, append_assoc, append-nil, arith, take, inl, inr}
-use Rattle.std.specs.Io.KnownBytes.{Appends, Consumes}
 use Rattle.std.specs.List.{slice_split}
-use Rattle.std.proofs.KnownBytes.{Appends-trans, Consumes-trans}
 use Rattle.std.proofs.lemmas.List.Splits.{length-slice_split}
 use Rattle.coord_lines.specs.Lines.{Line, IsWithin, is_line_feed, line_of, lines_of, extended, going_on, lines_on, before_line_feed, behind_line_feed}
 use Rattle.coord_lines.proofs.LinesOn.{lines_on-ended, extended-nothing}
@@ -13,7 +11,7 @@ use Rattle.coord_admin.specs.declared.fault.LineFault.{LineFault}
 use Rattle.coord_admin.specs.declared.fault.LineFault.TheVariants.{Unfinished, TooLong, BadText, BadJson, BadRequest, UnknownOp, OutOfMemory}
 use Rattle.coord_admin.specs.Requests.{asked_by}
 use Rattle.coord_admin.specs.Replies.{made_bytes, reply_line, reply_lines}
-use Rattle.coord_admin.specs.Stream.{is_closed, takes_memory, IsText, MayAnswer, last_answers, IsWritten, WritesFirstPart, Gets, GetsAtLast, AllGet, Reaches, Finishes, Closes, Stops, BreaksOff}
+use Rattle.coord_admin.specs.Stream.{is_closed, takes_memory, IsText, MayAnswer, last_answers, IsWritten, WritesPart, Gets, GetsAtLast, AllGet, Reaches, Finishes, Closes, Stops, BreaksOff}
 
 -- ---- lists
 
@@ -31,12 +29,6 @@ some_line line (part ∷ parts) h = (extended line part, map line_of parts, refl
 -- a text has at least one line
 pub lines_on-some : (line : Line) (text : List ℕ) → (next : Line) × (left : List Line) × (lines_on line text ≡ next ∷ left)
 lines_on-some line text = some_line line (slice_split is_line_feed text) (omega (arith, length-slice_split is_line_feed text))
-
--- a read that gave no byte
-pub Consumes-none : (a b c : Option (List ℕ)) (seen bytes : List ℕ) (count : ℕ) → Consumes a b seen → Consumes b c (take count bytes) → count ≡ 0 → Consumes a c seen
-Consumes-none a b c seen bytes count first second e =
-    let none : take count bytes ≡ [] = rw e refl in
-    subst (Consumes a c) (ap (λ l. seen ++ l) none ∙ append-nil seen) (Consumes-trans a b c seen (take count bytes) first second)
 
 -- ---- what is told of an answer
 
@@ -112,39 +104,8 @@ module _ {D : Type 0} (answers : D → Request → Answer → D → Type 0) wher
   pub line_ended : (line : Line) (piece more behind : List ℕ) (whole : Line) → Some behind ≡ behind_line_feed piece → whole ≡ extended line (before_line_feed piece) → lines_on line (piece ++ more) ≡ whole ∷ lines_on (Some []) (behind ++ more)
   line_ended line piece more behind whole e f = lines_on-ended line piece more behind (sym e) ∙ ap (λ l. l ∷ lines_on (Some []) (behind ++ more)) (sym f)
 
-  -- what is told of an answer that was written
-  pub told-whole : (d e : D) (line : Line) (answer : Answer) (a b : Option (List ℕ)) (closed : Bool) → closed ≡ is_closed answer → Gets answers d line answer e → (told : Answer) × IsWritten answer told × Appends a b (reply_line told)
-      → (told : Answer) × (closed ≡ is_closed told) × Gets answers d line told e × Appends a b (reply_line told)
-  told-whole d e line answer a b closed is h w = (w.0, is ∙ sym (closed-told answer w.0 w.1), gets-told d e line answer w.0 h w.1, w.2)
-
-  pub told-part : (d e : D) (line : Line) (answer : Answer) (a b : Option (List ℕ)) → Gets answers d line answer e → (told : Answer) × IsWritten answer told × WritesFirstPart a b (reply_line told)
-      → (told : Answer) × Gets answers d line told e × WritesFirstPart a b (reply_line told)
-  told-part d e line answer a b h w = (w.0, gets-told d e line answer w.0 h w.1, w.2)
-
   pub all-one : (d f e : D) (done : List Line) (told : List Answer) (line : Line) (a : Answer) → AllGet answers d done told f → Gets answers f line a e → is_closed a ≡ false → AllGet answers d (done ++ line ∷ []) (told ++ a ∷ []) e
   all-one d f e done told line a h gets goes_on = all-append done (line ∷ []) told (a ∷ []) d f e h (e, gets, goes_on, refl)
-
-  -- the reply to the next line was not written whole
-  pub broken-at : (d f e : D) (a b c : Option (List ℕ)) (lines done left : List Line) (line : Line) (told : List Answer) → AllGet answers d done told f → Appends a b (reply_lines told) → lines ≡ done ++ line ∷ left
-      → (x : Answer) × GetsAtLast answers f line x e × WritesFirstPart b c (reply_line x) → (text : List ℕ) × Appends a c text × BreaksOff answers d lines text e
-  broken-at d f e a b c lines done left line told h written same w =
-      (reply_lines told ++ w.2.0, Appends-trans a b c (reply_lines told) w.2.0 written w.2.1, (told, line, left, f, w.0, w.2.0, (done, same, h), w.1, w.2.2, refl))
-
-  pub broken-line : (d f e : D) (a b c : Option (List ℕ)) (lines done left : List Line) (line : Line) (told : List Answer) → AllGet answers d done told f → Appends a b (reply_lines told) → lines ≡ done ++ line ∷ left
-      → (x : Answer) × Gets answers f line x e × WritesFirstPart b c (reply_line x) → (text : List ℕ) × Appends a c text × BreaksOff answers d lines text e
-  broken-line d f e a b c lines done left line told h written same w = broken-at d f e a b c lines done left line told h written same (w.0, inl w.1, w.2)
-
-  -- the next line has closed the desk
-  pub closed-at : (d f e : D) (a b c : Option (List ℕ)) (lines done : List Line) (line : Line) (behind : List ℕ) (told : List Answer) (closed : Bool) → closed ≡ true → AllGet answers d done told f → Appends a b (reply_lines told)
-      → lines ≡ done ++ line ∷ lines_on (Some []) behind
-      → (x : Answer) × (closed ≡ is_closed x) × Gets answers f line x e × Appends b c (reply_line x) → (text : List ℕ) × Appends a c text × Closes answers d lines text e
-  closed-at d f e a b c lines done line behind told closed is h written same w =
-      let other = lines_on-some (Some []) behind in
-      let k = closes-told w.0 (sym w.1 ∙ is) in (
-        reply_lines told ++ reply_line Closed,
-        Appends-trans a b c (reply_lines told) (reply_line Closed) written (subst (λ x. Appends b c (reply_line x)) k w.3),
-        (told, line, other.0, other.1, f, (done, same ∙ ap (λ l. done ++ line ∷ l) other.2, h), subst (λ x. Gets answers f line x e) k w.2, refl),
-      )
 
   -- ---- a text that was read so far
 
@@ -152,7 +113,7 @@ module _ {D : Type 0} (answers : D → Request → Answer → D → Type 0) wher
   pub stops-at : (d e : D) (seen : List ℕ) (line : Line) (done : List Line) (told : List Answer) → AllGet answers d done told e → ((more : List ℕ) → lines_of (seen ++ more) ≡ done ++ lines_on line more) → Stops answers d (lines_of seen) (reply_lines told) e
   stops-at d e seen line done told h lines = (told, extended line [], (done, ap lines_of (sym (append-nil seen)) ∙ lines [], h), refl)
 
-  last_line : (seen : List ℕ) (line : Line) (done : List Line) → IsWithin line → ((more : List ℕ) → lines_of (seen ++ more) ≡ done ++ lines_on line more) → lines_of seen ≡ done ++ line ∷ []
+  pub last_line : (seen : List ℕ) (line : Line) (done : List Line) → IsWithin line → ((more : List ℕ) → lines_of (seen ++ more) ≡ done ++ lines_on line more) → lines_of seen ≡ done ++ line ∷ []
   last_line seen line done within lines = ap lines_of (sym (append-nil seen)) ∙ lines [] ∙ ap (λ l. done ++ l ∷ []) (extended-nothing line within)
 
   -- the input has ended
@@ -160,11 +121,75 @@ module _ {D : Type 0} (answers : D → Request → Answer → D → Type 0) wher
       → Finishes answers d (lines_of seen) (reply_lines told ++ reply_lines (last_answers line)) e
   finishes-at d e seen line done told within h lines = (told, line, (done, last_line seen line done within lines, h), refl)
 
+module _ {D : Type 0} (answers : D → Request → Answer → D → Type 0) {C : Type 0} (exchanged : C → List ℕ → List ℕ → C → Type 0) where
+  -- what is told of an answer that was written
+  pub told-whole : (d e : D) (line : Line) (answer : Answer) (a b : C) (closed : Bool) → closed ≡ is_closed answer → Gets answers d line answer e → (told : Answer) × IsWritten answer told × exchanged a [] (reply_line told) b
+      → (told : Answer) × (closed ≡ is_closed told) × Gets answers d line told e × exchanged a [] (reply_line told) b
+  told-whole d e line answer a b closed is h w = (w.0, is ∙ sym (closed-told answer w.0 w.1), gets-told answers d e line answer w.0 h w.1, w.2)
+
+  pub told-part : (d e : D) (line : Line) (answer : Answer) (a b : C) → Gets answers d line answer e → (told : Answer) × IsWritten answer told × WritesPart exchanged a b (reply_line told)
+      → (told : Answer) × Gets answers d line told e × WritesPart exchanged a b (reply_line told)
+  told-part d e line answer a b h w = (w.0, gets-told answers d e line answer w.0 h w.1, w.2)
+
+-- what is exchanged in turn adds up
+abbrev pub InTurn : {C : Type 0} → (C → List ℕ → List ℕ → C → Type 0) → Type 0
+InTurn {C} exchanged = (a b c : C) (came more went later : List ℕ) → exchanged a came went b → exchanged b more later c → exchanged a (came ++ more) (went ++ later) c
+
+module _ {C : Type 0} (exchanged : C → List ℕ → List ℕ → C → Type 0) (turn : InTurn exchanged) where
+  -- more goes out
+  pub told-on : (a b c : C) (came went text : List ℕ) → exchanged a came went b → exchanged b [] text c → exchanged a came (went ++ text) c
+  told-on a b c came went text first second = subst (λ l. exchanged a l (went ++ text) c) (append-nil came) (turn a b c came [] went text first second)
+
+  -- more comes in
+  pub heard-on : (a b c : C) (came more went : List ℕ) → exchanged a came went b → exchanged b more [] c → exchanged a (came ++ more) went c
+  heard-on a b c came more went first second = subst (λ l. exchanged a (came ++ more) l c) (append-nil went) (turn a b c came more went [] first second)
+
+  -- nothing more comes in
+  pub still : (a b c : C) (came went : List ℕ) → exchanged a came went b → exchanged b [] [] c → exchanged a came went c
+  still a b c came went first second = subst (λ l. exchanged a l went c) (append-nil came) (heard-on a b c came [] went first second)
+
+  -- a read that gave no byte
+  pub no-more : (a b c : C) (came bytes went : List ℕ) (count : ℕ) → exchanged a came went b → exchanged b (take count bytes) [] c → count ≡ 0 → exchanged a came went c
+  no-more a b c came bytes went count first second e =
+      let none : take count bytes ≡ [] = rw e refl in
+      still a b c came went first (subst (λ l. exchanged b l [] c) none second)
+
+  -- one more reply
+  pub told-one : (a b c : C) (told : List Answer) (x : Answer) → exchanged a [] (reply_lines told) b → exchanged b [] (reply_line x) c → exchanged a [] (reply_lines (told ++ x ∷ [])) c
+  told-one a b c told x first second = subst (λ l. exchanged a [] l c) (reply_lines-one told x) (turn a b c [] [] (reply_lines told) (reply_line x) first second)
+
+  -- more replies
+  pub told-all : (a b c : C) (came : List ℕ) (told more : List Answer) → exchanged a came (reply_lines told) b → exchanged b [] (reply_lines more) c → exchanged a came (reply_lines (told ++ more)) c
+  told-all a b c came told more first second = subst (λ l. exchanged a came l c) (sym (reply_lines-append told more)) (told-on a b c came (reply_lines told) (reply_lines more) first second)
+
+module _ {D : Type 0} (answers : D → Request → Answer → D → Type 0) {C : Type 0} (exchanged : C → List ℕ → List ℕ → C → Type 0) (turn : InTurn exchanged) where
+  -- the reply to the next line was not written whole
+  pub broken-at : (d f e : D) (a b c : C) (came : List ℕ) (lines done left : List Line) (line : Line) (told : List Answer) → AllGet answers d done told f → exchanged a came (reply_lines told) b → lines ≡ done ++ line ∷ left
+      → (x : Answer) × GetsAtLast answers f line x e × WritesPart exchanged b c (reply_line x) → (text : List ℕ) × exchanged a came text c × BreaksOff answers d lines text e
+  broken-at d f e a b c came lines done left line told h written same w =
+      (reply_lines told ++ w.2.0, told-on exchanged turn a b c came (reply_lines told) w.2.0 written w.2.1, (told, line, left, f, w.0, w.2.0, (done, same, h), w.1, w.2.2, refl))
+
+  pub broken-line : (d f e : D) (a b c : C) (came : List ℕ) (lines done left : List Line) (line : Line) (told : List Answer) → AllGet answers d done told f → exchanged a came (reply_lines told) b → lines ≡ done ++ line ∷ left
+      → (x : Answer) × Gets answers f line x e × WritesPart exchanged b c (reply_line x) → (text : List ℕ) × exchanged a came text c × BreaksOff answers d lines text e
+  broken-line d f e a b c came lines done left line told h written same w = broken-at d f e a b c came lines done left line told h written same (w.0, inl w.1, w.2)
+
+  -- the next line has closed the desk
+  pub closed-at : (d f e : D) (a b c : C) (came : List ℕ) (lines done : List Line) (line : Line) (behind : List ℕ) (told : List Answer) (closed : Bool) → closed ≡ true → AllGet answers d done told f → exchanged a came (reply_lines told) b
+      → lines ≡ done ++ line ∷ lines_on (Some []) behind
+      → (x : Answer) × (closed ≡ is_closed x) × Gets answers f line x e × exchanged b [] (reply_line x) c → (text : List ℕ) × exchanged a came text c × Closes answers d lines text e
+  closed-at d f e a b c came lines done line behind told closed is h written same w =
+      let other = lines_on-some (Some []) behind in
+      let k = closes-told w.0 (sym w.1 ∙ is) in (
+        reply_lines told ++ reply_line Closed,
+        told-on exchanged turn a b c came (reply_lines told) (reply_line Closed) written (subst (λ x. exchanged b [] (reply_line x) c) k w.3),
+        (told, line, other.0, other.1, f, (done, same ∙ ap (λ l. done ++ line ∷ l) other.2, h), subst (λ x. Gets answers f line x e) k w.2, refl),
+      )
+
   -- it has ended, but that could not be told
-  pub broken-end : (d e : D) (a b c : Option (List ℕ)) (seen : List ℕ) (line : Line) (done : List Line) (told : List Answer) → IsWithin line → AllGet answers d done told e → Appends a b (reply_lines told)
-      → ((more : List ℕ) → lines_of (seen ++ more) ≡ done ++ lines_on line more) → WritesFirstPart b c (reply_line (Faulted Unfinished)) → (text : List ℕ) × Appends a c text × BreaksOff answers d (lines_of seen) text e
-  broken-end d e a b c seen line done told within h written lines part =
-      broken-at d e e a b c (lines_of seen) done [] line told h written (last_line seen line done within lines) (Faulted Unfinished, inr (refl, refl), part)
+  pub broken-end : (d e : D) (a b c : C) (came seen : List ℕ) (line : Line) (done : List Line) (told : List Answer) → IsWithin line → AllGet answers d done told e → exchanged a came (reply_lines told) b
+      → ((more : List ℕ) → lines_of (seen ++ more) ≡ done ++ lines_on line more) → WritesPart exchanged b c (reply_line (Faulted Unfinished)) → (text : List ℕ) × exchanged a came text c × BreaksOff answers d (lines_of seen) text e
+  broken-end d e a b c came seen line done told within h written lines part =
+      broken-at d e e a b c came (lines_of seen) done [] line told h written (last_line answers seen line done within lines) (Faulted Unfinished, inr (refl, refl), part)
 
 -- ---- what is told of an answer, as a line
 

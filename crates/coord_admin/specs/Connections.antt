@@ -1,5 +1,5 @@
 -- What a server does: one connection after the other, each of them served as a stream of lines.
-use Rattle.std.specs.Prelude.{◌≡◌, ℕ, List, [], ◌∷◌, Bool, true, false, Result, Ok, Err}
+use Rattle.std.specs.Prelude.{◌≡◌, ℕ, List, [], ◌∷◌, ◌++◌, map, Bool, true, false, Result, Ok, Err}
 use Rattle.coord_admin.specs.declared.request.Request.{Request}
 use Rattle.coord_admin.specs.declared.answer.Answer.{Answer}
 use Rattle.coord_admin.specs.declared.fault.ServeFault.{ServeFault}
@@ -7,11 +7,19 @@ use Rattle.coord_admin.specs.declared.session.Ended.{Ended}
 use Rattle.coord_admin.specs.declared.session.Ended.TheVariants.{Input, Closed}
 use Rattle.coord_admin.specs.Stream.{Served}
 
--- a connection: what was read from it and written to it, and how it ended
+-- what came in and what went out over a connection
+pub record Talk : Type 0 where
+  pub came : List ℕ
+  pub went : List ℕ
+
+-- a connection that was served: what was read from it and written to it, and how it ended
 pub record Connection : Type 0 where
-  pub seen : List ℕ
-  pub text : List ℕ
+  pub talk : Talk
   pub ended : Result Ended ServeFault
+
+-- what came and went over each
+abbrev pub talks : List Connection → List Talk
+talks cs = map (λ c. c.talk) cs
 
 -- whether a line closed the desk
 abbrev pub has_closed : Result Ended ServeFault → Bool
@@ -21,17 +29,19 @@ has_closed (Err f) = false
 
 module _ {D : Type 0} (answers : D → Request → Answer → D → Type 0) where
   abbrev pub IsServed : D → Connection → D → Type 0
-  IsServed d c e = Served answers d c.seen c.text c.ended e
+  IsServed d c e = Served answers d c.talk.came c.talk.went c.ended e
 
   -- connections one after the other, none of which closed the desk
   abbrev pub AllServed : D → List Connection → D → Type 0
   AllServed d [] e = e ≡ d
   AllServed d (c ∷ cs) e = (f : D) × IsServed d c f × (has_closed c.ended ≡ false) × AllServed f cs e
 
-  -- connections, the last of which closed the desk
-  abbrev pub ServedToClose : D → D → Type 0
-  ServedToClose d e = (cs : List Connection) × (last : Connection) × (f : D) × AllServed d cs f × IsServed f last e × (has_closed last.ended ≡ true)
+  -- `met v talks w`: those who call were v, had these talks, and then are w
+  module _ {V : Type 0} (met : V → List Talk → V → Type 0) where
+    -- the connections that were met, the last of which closed the desk
+    abbrev pub ServedToClose : V → D → V → D → Type 0
+    ServedToClose v d w e = (cs : List Connection) × (last : Connection) × (f : D) × met v (talks (cs ++ last ∷ [])) w × AllServed d cs f × IsServed f last e × (has_closed last.ended ≡ true)
 
-  -- connections, none of which closed the desk
-  abbrev pub ServedOpen : D → D → Type 0
-  ServedOpen d e = (cs : List Connection) × AllServed d cs e
+    -- the connections that were met, none of which closed the desk
+    abbrev pub ServedOpen : V → D → V → D → Type 0
+    ServedOpen v d w e = (cs : List Connection) × met v (talks cs) w × AllServed d cs e

@@ -38,6 +38,15 @@ IsFirstPart part text = (rest : List ℕ) × (text ≡ part ++ rest)
 abbrev pub WritesFirstPart : Option (List ℕ) → Option (List ℕ) → List ℕ → Type 0
 WritesFirstPart old new text = (part : List ℕ) × Appends old new part × IsFirstPart part text
 
+-- of a text a first part went out over a connection, and no more
+abbrev pub WritesPart : {C : Type 0} → (C → List ℕ → List ℕ → C → Type 0) → C → C → List ℕ → Type 0
+WritesPart exchanged old new text = (part : List ℕ) × exchanged old [] part new × IsFirstPart part text
+
+-- whether a line has a byte
+abbrev pub has_begun : Line → Bool
+has_begun (Some []) = false
+has_begun line = true
+
 -- what is told of an answer: itself, or that there was no memory to write it
 abbrev pub IsWritten : Answer → Answer → Type 0
 IsWritten answer told = (told ≡ answer) ⊎ ((told ≡ Faulted OutOfMemory) × (takes_memory answer ≡ true))

@@ -1,32 +1,47 @@
 //! The administration of a reset coordinator: requests as lines of JSON, each with one reply line.
 //!
-//! `serve` reads lines, asks a `Desk`, and writes the replies. Its contract is the main theorem: each
-//! line that was read has its reply, in order, and nothing else is written. `specs/Requests.antt`
-//! says what a line asks for, `specs/Replies.antt` the replies, and `specs/Stream.antt` what `serve`
-//! writes to a whole text, over what its desk may answer. `serve_connections` does so for one
-//! connection of a listener after the other (`specs/Connections.antt`). `CountDesk` is a desk that
-//! only counts.
+//! `serve` reads lines from a `Duplex`, asks a `Desk`, and writes the replies. Its contract is the
+//! main theorem: each line that was read has its reply, in order, and nothing else is written.
+//! `specs/Requests.antt` says what a line asks for, `specs/Replies.antt` the replies, and
+//! `specs/Stream.antt` what `serve` writes to a whole text, over what its desk may answer.
+//! `serve_connections` does so for one connection after the other of those who call
+//! (`specs/Connections.antt`). `Halves` is a reader and a writer as one connection, `Accepted` the
+//! connections of a listener, with bounds on how long a client is waited for. `CountDesk` is a desk
+//! that only counts.
 #![tactic(auto)]
 
 mod answer;
 mod asking;
+mod callers;
 mod connections;
 mod count_desk;
 mod desk;
+mod duplex;
 mod fault;
+mod halves;
 mod laws;
 mod op;
+mod patience;
 mod reading;
 mod replies;
 mod request;
 mod session;
+mod timed;
 mod writing;
 
 pub use answer::Answer;
-pub use connections::{PATIENCE_SECONDS, serve_connections};
+pub use callers::{Accepted, Callers};
+pub use connections::serve_connections;
 pub use count_desk::CountDesk;
 pub use desk::Desk;
+pub use duplex::{Duplex, NotRead, NotWritten};
 pub use fault::{LineFault, ServeFault};
+pub use halves::Halves;
 pub use laws::{worked_replies, worked_requests};
+pub use patience::{
+    ACCEPT_REST_MILLIS, ACCEPT_TRIES, CONNECTION_SECONDS, DISCARD_MILLIS, DISCARD_READS,
+    LINE_SECONDS, Patience, REPLY_SECONDS, SILENCE_SECONDS,
+};
 pub use request::Request;
 pub use session::{Ended, MOST_READS, serve};
+pub use timed::TimedStream;

@@ -1,16 +1,64 @@
--- What a server leaves of its engine.
-use Rattle.std.specs.Prelude.{◌≡◌, ℕ, false, List}
+-- How a server ends, and what it leaves of its engine.
+use Rattle.std.specs.Prelude.{◌≡◌, ◌⊎◌, ℕ, List, [], ◌∷◌, All, Bool, true, false, Option, Some, None}
 use Rattle.coord_types.specs.declared.steps.Step.{Step}
 use Rattle.coord_store.specs.Kept.{Kept, has_stopped}
 use Rattle.coord_world.specs.protocol.NumberedWorld.{World}
 use Rattle.coord_ledger.specs.declared.ticket.Note.{Note}
+use Rattle.coord_engine.specs.Named.{IsNamed}
 use Rattle.coord_engine.specs.State.{Basis}
 use Rattle.coord_engine.specs.Threads.{AtSomeMoment, Closes}
+use Rattle.coord_engine.specs.Working.{IsOfPacket}
+use Rattle.coord_admin.specs.Connections.{Talk, ServedOpen, ServedToClose}
+use Rattle.coord_admin.specs.declared.answer.Answer.{Answer}
+use Rattle.coord_admin.specs.declared.request.Request.{Request}
+use Rattle.coord_server.specs.EngineDesk.{DeskState, DeskAnswers}
+use Rattle.coord_server.specs.declared.fault.ServerFault.{ServerFault}
+use Rattle.coord_server.specs.declared.fault.ServerFault.TheVariants as fault
 
--- Some callers noted the steps that were accepted for them, and these are all that were: one history. The store has the world after those of them that are settled.
-abbrev pub IsOneHistory : {D : Type 0} → Basis D → Kept D → World → List Step → ℕ → Type 0
-IsOneHistory {D} b store base trail settled = (shares : List (List Note)) × AtSomeMoment b (Closes {D = D} store base trail settled shares)
+-- a desk that has noted nothing and seen nothing
+abbrev pub new_desk : DeskState
+new_desk = record { notes = []; seen = 0 }
 
--- and the store has not stopped
-abbrev pub LeavesOf : {D : Type 0} → Basis D → Kept D → World → List Step → ℕ → Type 0
-LeavesOf {D} b store base trail settled = (has_stopped store ≡ false) × IsOneHistory b store base trail settled
+-- One history: what the desk and the workers noted are the steps that were accepted since the store was opened, each once and each one's own in order. What workers noted are steps of packets. The store has the world after those that are settled.
+pub record IsOneHistory {D : Type 0} (b : Basis D) (desk : List Note) (store : Kept D) (base : World) (trail : List Step) (settled : ℕ) : Type 0 where
+  pub workers : List (List Note)
+  pub of_packets : All (All IsOfPacket) workers
+  pub same_base : base ≡ b.base
+  pub named : IsNamed (desk ∷ workers) base.count trail
+  pub closed : AtSomeMoment b (Closes {D = D} store base trail settled (desk ∷ workers))
+
+-- `met v talks w`: those who call were v, had these talks, and then are w
+module _ {D : Type 0} (b : Basis D) {V : Type 0} (met : V → List Talk → V → Type 0) where
+  -- those who called were served by a desk that began with nothing, until one of them closed it
+  abbrev pub IsClosed : V → V → DeskState → Type 0
+  IsClosed v w desk = ServedToClose (DeskAnswers b) met v new_desk w desk
+
+  -- or until no one came any more
+  abbrev pub IsLeft : V → V → DeskState → Type 0
+  IsLeft v w desk = ServedOpen (DeskAnswers b) met v new_desk w desk
+
+  -- how the desk went on until the serving ended so
+  abbrev pub Serves : V → V → DeskState → Option ServerFault → Type 0
+  Serves v w desk None = IsClosed v w desk
+  Serves v w desk (Some fault.Socket) = IsLeft v w desk
+  Serves v w desk (Some fault.OutOfMemory) = met v [] w × (desk ≡ new_desk)
+  Serves v w desk (Some fault.Write) = met v [] w × (desk ≡ new_desk)
+  Serves v w desk (Some other) = ⊥
+
+-- a desk that began with nothing was served over some connections, the last of which closed it
+abbrev pub IsServedToClose : {D : Type 0} → Basis D → DeskState → Type 0
+IsServedToClose b desk = ServedToClose (DeskAnswers b) (λ (v : Unit {0}) (talks : List Talk) (w : Unit {0}). Unit {0}) tt new_desk tt desk
+
+-- what may be met before anyone is served
+abbrev pub IsOfStart : ServerFault → Type 0
+IsOfStart fault.OutOfMemory = Unit {0}
+IsOfStart fault.Socket = Unit {0}
+IsOfStart fault.Write = Unit {0}
+IsOfStart other = ⊥
+
+-- what a server that has ended tells: a store that has stopped first, then what ended the serving, then an output that failed
+abbrev pub told : Bool → Option ServerFault → Bool → Option ServerFault
+told true served is_broken = Some fault.Device
+told false (Some met) is_broken = Some met
+told false None true = Some fault.Write
+told false None false = None

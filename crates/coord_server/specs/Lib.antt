@@ -1,3 +1,4 @@
 pub mod Ending
 pub mod EngineDesk
 pub mod Printed
+pub mod Workers

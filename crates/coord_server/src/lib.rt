@@ -11,13 +11,16 @@
 
 mod crew;
 mod desk;
+mod ended;
 mod fault;
 mod local;
 mod printer;
+mod printing;
 mod serving;
 
 pub use desk::EngineDesk;
+pub use ended::Ended;
 pub use fault::ServerFault;
-pub use local::{LocalPort, WORKERS};
+pub use local::{LocalPort, Signal, WORKERS};
 pub use printer::Printer;
-pub use serving::serve_store;
+pub use serving::{serve_callers, serve_store};

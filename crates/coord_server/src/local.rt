@@ -1,66 +1,89 @@
 //! A port within one process.
 
-use crate::Printer;
+ghost use Rattle.std.specs.Prelude.{◌≡◌};
+ghost use Rattle.std.specs.List.{slice_get};
+ghost use Rattle.std.specs.Option.{option_copied};
+ghost use Rattle.coord_server.specs.Workers.{worker_of};
+
 use coord_engine::Port;
 use coord_types::{NodeId, Packet};
 use crossbeam_channel::Sender;
-use std::io::Write;
-use std::net::SocketAddr;
 use std::sync::{Mutex, Wait};
 
 /// How many workers there are. Each has the nodes whose numbers leave the same rest on division by
 /// this.
 pub const WORKERS: u8 = 8;
 
-/// Carries packets to the workers' channels, and prints signals.
-#[derive(Drop)]
-pub struct LocalPort<R: Wait, W: Write> {
-    rt: R,
-    channels: Mutex<Vec<Sender<Packet>>>,
-    printer: Mutex<Printer<W>>,
+/// A reset has ended at this node, and this epoch has begun.
+#[derive(Clone, Copy, Debug, PartialEq, Eq, Drop)]
+pub struct Signal {
+    pub node: NodeId,
+    pub epoch: u64,
 }
 
-impl<R: Wait, W: Write> LocalPort<R, W> {
+/// Carries packets to the workers' channels, and signals to the channel of what prints them. It
+/// waits for neither: what a channel has no memory for is lost.
+#[derive(Drop)]
+pub struct LocalPort<R: Wait> {
+    rt: R,
+    channels: Mutex<Vec<Sender<Packet>>>,
+    signals: Mutex<Option<Sender<Signal>>>,
+}
+
+impl<R: Wait> LocalPort<R> {
     /// The channel of the worker i is the i-th.
-    pub fn new(rt: R, channels: Vec<Sender<Packet>>, printer: Printer<W>) -> Self {
+    pub fn new(rt: R, channels: Vec<Sender<Packet>>, signals: Sender<Signal>) -> Self {
         LocalPort {
             rt,
             channels: Mutex::new(channels),
-            printer: Mutex::new(printer),
+            signals: Mutex::new(Some(signals)),
         }
     }
 
-    /// Closes the channels.
+    /// Closes the channels. What they hold is still received.
     pub fn hang_up(&self) {
         self.channels.lock(&self.rt).clear();
-    }
-
-    /// Prints at which address the server listens. Whether it was written.
-    pub fn print_address(&self, address: SocketAddr) -> bool {
-        self.printer.lock(&self.rt).print_address(address)
-    }
-
-    /// Whether a line could not be printed.
-    pub fn is_broken(&self) -> bool {
-        self.printer.lock(&self.rt).is_broken()
+        *self.signals.lock(&self.rt) = None;
     }
 }
 
-/// Puts a packet into the channel of its node's worker.
-fn send<R: Wait>(rt: &R, channels: &[Sender<Packet>], to: NodeId, packet: Packet) -> bool {
-    match channels.get(usize::from(to.number() % WORKERS)) {
+/// Which worker has the node to which a packet goes.
+fn worker_of(packet: Packet) -> usize
+    ensures { result ≡ worker_of packet }
+{
+    let node = match packet {
+        Packet::Carried(data) => data.to,
+        Packet::Receipted(receipt) => receipt.from,
+    };
+    usize::from(node.number() % WORKERS)
+}
+
+/// The channel of a packet's worker.
+fn channel_of(channels: &[Sender<Packet>], packet: Packet) -> Option<&Sender<Packet>>
+    ensures { option_copied result ≡ slice_get channels.now (worker_of packet) }
+{
+    channels.get(worker_of(packet))
+}
+
+/// Puts a packet into the channel of its worker.
+fn send<R: Wait>(rt: &R, channels: &[Sender<Packet>], packet: Packet) -> bool {
+    match channel_of(channels, packet) {
         Some(channel) => channel.send(rt, packet).is_ok(),
         None => false,
     }
 }
 
-impl<R: Wait, W: Write> Port for LocalPort<R, W> {
-    fn carry(&self, to: NodeId, packet: Packet) -> bool {
+impl<R: Wait> Port for LocalPort<R> {
+    /// A packet says itself where it goes.
+    fn carry(&self, _to: NodeId, packet: Packet) -> bool {
         let channels = self.channels.lock(&self.rt);
-        send(&self.rt, &channels, to, packet)
+        send(&self.rt, &channels, packet)
     }
 
     fn signal(&self, node: NodeId, epoch: u64) -> bool {
-        self.printer.lock(&self.rt).print_signal(node, epoch)
+        match &*self.signals.lock(&self.rt) {
+            Some(signals) => signals.send(&self.rt, Signal { node, epoch }).is_ok(),
+            None => false,
+        }
     }
 }

@@ -1,15 +1,18 @@
-//! An engine with its threads, which serves connections.
+//! An engine with its threads, which serves those who call.
 
-ghost use Rattle.std.specs.Prelude.{◌≡◌, [], false, true, IfErr, IfOk, IsErrOf, IsOk, MatchResult, None, OnOk};
+ghost use Rattle.std.specs.Prelude.{◌≡◌, ◌⊎◌, ◌+◌, [], false, length, ℕ, IfErr, IfOk, None, ⊤};
 ghost use Rattle.coord_server.specs.declared.fault.ServerFault.TheVariants as ServerFault;
 ghost use Rattle.coord_engine.specs.State.{based_on};
+ghost use Rattle.coord_engine.specs.declared.closed.CloseFault.{CloseFault};
 ghost use Rattle.coord_store.specs.Kept.{has_stopped};
-ghost use Rattle.coord_server.specs.Ending.{IsOneHistory, LeavesOf};
+ghost use Rattle.coord_server.specs.Ending.{IsOneHistory, IsServedToClose, Serves};
+ghost use Rattle.coord_server.specs.EngineDesk.{DeskState};
 
-use crate::crew::run;
-use crate::{LocalPort, Printer, ServerFault, WORKERS};
+use crate::crew::{Ran, Received, run};
+use crate::{Ended, LocalPort, Printer, ServerFault, WORKERS};
+use coord_admin::{Accepted, Callers, Patience};
 use coord_disk::Disk;
-use coord_engine::{CloseFault, Closed, Engine, Origin, Share};
+use coord_engine::{CloseFault, Closed, Engine, Origin, PacketShare, Share};
 use coord_ledger::Ledger;
 use coord_store::Store;
 use coord_types::Packet;
@@ -24,13 +27,8 @@ use std::thread::Threads;
 use std::time::Clock;
 
 /// Serves a store to the connections of a listener, one after the other, until a line closes it,
-/// and gives back what is left of the engine.
-///
-/// The flusher and the workers run meanwhile. First `listening` and the listener's address is
-/// printed, and what a crash may have lost is sent again; each signal that is released is printed
-/// as a line. Where a line can't be printed, no more are, and the server goes on: a signal that was
-/// not printed is told by the epochs that are shown. Then, or after a fault, everything is ended in
-/// order: what was accepted is settled, the flusher ends, and then the workers.
+/// and gives back what is left of the engine. It is `serve_callers` over these connections, with the
+/// usual patience.
 pub fn serve_store<
     D: Disk + Send,
     S: Read + Write + OpenStream + Drop,
@@ -39,13 +37,50 @@ pub fn serve_store<
     R: Threads + Wait + Clock + Sync,
 >(rt: &R, alloc: Global, store: Store<D>, listener: &A, output: W) -> Result<Closed<D>, ServerFault>
     requires { has_stopped store ≡ false }
-    ensures { IfOk result (λ closed. LeavesOf (based_on D.keeps_model D.present store.world []) closed.store closed.base closed.trail.items closed.settled) }
+    ensures going { IfOk result (λ closed. has_stopped closed.store ≡ false) }
+    ensures history { IfOk result (λ closed. (desk : DeskState) × IsServedToClose (based_on D.keeps_model D.present store.world []) desk × IsOneHistory (based_on D.keeps_model D.present store.world []) desk.notes closed.store closed.base closed.trail.items closed.settled) }
+{
+    let callers = Accepted::new(rt, listener, Patience::usual());
+    let ended = serve_callers(rt, alloc, store, callers, output)?;
+    match ended.fault() {
+        None => Ok(ended.closed),
+        Some(fault) => Err(fault),
+    }
+}
+
+/// Serves a store to those who call, one after the other, until a line closes it, and gives back
+/// what is left of the engine.
+///
+/// First `listening` and the address is printed. Then a flusher, the workers and a thread that
+/// prints run meanwhile, and what a crash may have lost is sent again. Each signal that is released
+/// is printed as a line, in order, from a channel without bound: an output that is slow holds up
+/// nothing else. Where a line can't be printed, no more are, and the server goes on: a signal that
+/// was not printed is told by the epochs that are shown. Then, or after a fault, everything is ended
+/// in order: what was accepted is settled, the flusher ends, then the workers, and then what is left
+/// is printed, however long the output takes it.
+///
+/// An error is `OutOfMemory`, where the server did not begin, or that the engine was not taken
+/// apart, to which no call of it leads.
+pub fn serve_callers<
+    D: Disk + Send,
+    C: Callers + Drop,
+    W: Write + Send + Drop,
+    R: Threads + Wait + Clock + Sync,
+>(
+    rt: &R,
+    alloc: Global,
+    store: Store<D>,
+    callers: C,
+    output: W,
+) -> Result<Ended<D, C>, ServerFault>
+    requires { has_stopped store ≡ false }
+    ensures history { IfOk result (λ ended. (desk : DeskState) × Serves (based_on D.keeps_model D.present store.world []) C.met callers ended.callers desk ended.served × IsOneHistory (based_on D.keeps_model D.present store.world []) desk.notes ended.closed.store ended.closed.base ended.closed.trail.items ended.closed.settled) }
 {
     match Ledger::adopt(alloc, store) {
         Ok(ledger) => {
             let blank = Blank::new(65536);
             let printer = Printer::new(alloc, output);
-            serve_ledger::<D, Brand, S, A, W, R>(rt, alloc, blank, ledger, listener, printer)
+            serve_ledger::<D, Brand, C, W, R>(rt, alloc, blank, ledger, callers, printer)
         }
         Err(_) => Err(ServerFault::OutOfMemory),
     }
@@ -54,8 +89,7 @@ pub fn serve_store<
 fn serve_ledger<
     D: Disk + Send,
     L: Origin + Send + Sync,
-    S: Read + Write + OpenStream + Drop,
-    A: OpenListener<Stream = S>,
+    C: Callers + Drop,
     W: Write + Send + Drop,
     R: Threads + Wait + Clock + Sync,
 >(
@@ -63,72 +97,77 @@ fn serve_ledger<
     alloc: Global,
     blank: Blank,
     ledger: Ledger<D>,
-    listener: &A,
+    callers: C,
     printer: Printer<W>,
-) -> Result<Closed<D>, ServerFault>
+) -> Result<Ended<D, C>, ServerFault>
     requires name { blank.name ≡ L.name }
     requires parts { (blank.parts ≡ L.parts) × (L.parts ≡ 65536) }
     requires home { ledger.out ≡ None }
     requires base { ledger.log.base ≡ L.base }
-    requires before { ledger.log.trail ≡ L.before }
-    ensures { IfOk result (λ closed. LeavesOf (based_on D.keeps_model D.present L.base L.before) closed.store closed.base closed.trail.items closed.settled) }
+    requires before { (ledger.log.trail ≡ L.before) × (L.before ≡ []) }
+    ensures { IfOk result (λ ended. (desk : DeskState) × Serves (based_on D.keeps_model D.present L.base L.before) C.met callers ended.callers desk ended.served × IsOneHistory (based_on D.keeps_model D.present L.base L.before) desk.notes ended.closed.store ended.closed.base ended.closed.trail.items ended.closed.settled) }
 {
-    let (to, from) = channels(alloc)?;
+    let (to, packets) = channels(alloc)?;
+    let (told, signals) = crossbeam_channel::unbounded(alloc)?;
     // Room for all shares: none of them may be lost for want of memory.
     let shares = Vec::with_capacity(alloc, usize::from(WORKERS) + 1)?;
-    let port = LocalPort::new(rt, to, printer);
+    let port = LocalPort::new(rt, to, told);
     let engine: Engine<D, L> = Engine::new(alloc, blank, ledger);
-    let (shares, served) = run(rt, alloc, &engine, &port, from, shares, listener);
-    let is_broken = port.is_broken();
-    end::<D, L>(close(engine, shares), served, is_broken)
+    let Some(own) = engine.share(rt) else {
+        return Err(ServerFault::OutOfMemory);
+    };
+    let received = Received { packets, signals };
+    let ran = run(rt, alloc, &engine, &port, received, own, callers, printer);
+    let Ran {
+        own,
+        workers,
+        callers,
+        served,
+        is_broken,
+    } = ran;
+    match close(engine, shares, own, workers) {
+        Ok(closed) => Ok(Ended {
+            closed,
+            callers,
+            served,
+            is_broken,
+        }),
+        // A share is missing where a thread could not be started.
+        Err(fault) => Err(served.unwrap_or(ServerFault::NotClosed(fault))),
+    }
 }
 
-/// Takes an engine apart.
+/// Takes an engine apart, with the shares of the desk and of the workers.
 fn close<D: Disk, L: Origin>(
     engine: Engine<D, L>,
-    shares: Vec<Share<L>>,
+    room: Vec<Share<L>>,
+    own: Share<L>,
+    workers: Vec<PacketShare<L>>,
 ) -> Result<Closed<D>, CloseFault>
-    requires { L.parts ≡ 65536 }
-    ensures { IfOk result (λ closed. IsOneHistory (based_on D.keeps_model D.present L.base L.before) closed.store closed.base closed.trail.items closed.settled) }
+    requires parts { L.parts ≡ 65536 }
+    requires before { L.before ≡ [] }
+    requires room { room.items ≡ [] }
+    ensures { IfOk result (λ closed. IsOneHistory (based_on D.keeps_model D.present L.base L.before) own closed.store closed.base closed.trail.items closed.settled) }
 {
+    let mut shares = room;
+    if shares.push(own).is_err() {
+        return Err(CloseFault::SharesMissing);
+    }
+    for worker in workers {
+        if shares.push(worker.into_share()).is_err() {
+            return Err(CloseFault::SharesMissing);
+        }
+    }
     match engine.close(shares) {
         Ok(closed) => Ok(closed),
         Err((fault, _engine, _shares)) => Err(fault),
     }
 }
 
-/// What is left at the end, or the fault that is told of all that were met: a stopped store, then
-/// what ended the serving, then an engine that could not be taken apart, then the output.
-fn end<D: Disk, L: Origin>(
-    closed: Result<Closed<D>, CloseFault>,
-    served: Result<(), ServerFault>,
-    is_broken: bool,
-) -> Result<Closed<D>, ServerFault>
-    requires { IfOk closed (λ closed. IsOneHistory (based_on D.keeps_model D.present L.base L.before) closed.store closed.base closed.trail.items closed.settled) }
-    ensures left { IfOk result (λ closed. LeavesOf (based_on D.keeps_model D.present L.base L.before) closed.store closed.base closed.trail.items closed.settled) }
-    ensures not_closed { IfErr closed (λ fault. MatchResult served (λ _. IsErrOf result (ServerFault.NotClosed fault)) (λ met. IsErrOf result met)) }
-    ensures device { IfOk closed (λ closed. has_stopped closed.store ≡ true → IsErrOf result ServerFault.Device) }
-    ensures served { IfOk closed (λ closed. has_stopped closed.store ≡ false → IfErr served (λ met. IsErrOf result met)) }
-    ensures broken { IfOk closed (λ closed. has_stopped closed.store ≡ false → OnOk served (is_broken ≡ true → IsErrOf result ServerFault.Write)) }
-    ensures whole { IfOk closed (λ closed. has_stopped closed.store ≡ false → OnOk served (is_broken ≡ false → IsOk result)) }
-{
-    let closed = match closed {
-        Ok(closed) => closed,
-        // A share is missing where a thread could not be started.
-        Err(fault) => return Err(served.err().unwrap_or(ServerFault::NotClosed(fault))),
-    };
-    if closed.store.stopped() {
-        return Err(ServerFault::Device);
-    }
-    served?;
-    if is_broken {
-        return Err(ServerFault::Write);
-    }
-    Ok(closed)
-}
-
 /// The ends of a channel for each worker.
-fn channels(alloc: Global) -> Result<(Vec<Sender<Packet>>, Vec<Receiver<Packet>>), AllocError> {
+fn channels(alloc: Global) -> Result<(Vec<Sender<Packet>>, Vec<Receiver<Packet>>), AllocError>
+    ensures { IfOk result (λ ends. (length ends.0.items ≡ 8) × (length ends.1.items ≡ 8)) }
+{
     let mut to = Vec::new(alloc);
     let mut from = Vec::new(alloc);
     for _ in 0..WORKERS {

@@ -1,19 +1,18 @@
-//! Connections: real ones over loopback, and scripted ones.
+//! Connections over loopback.
 
 use crate::lines::{WORKED_REPLIES, worked_lines};
-use coord_admin::{CountDesk, PATIENCE_SECONDS, serve_connections};
+use coord_admin::{Accepted, CountDesk, Duplex, Patience, TimedStream, serve_connections};
 use std::alloc::Global;
-use std::io::{ErrorKind, Read, Write};
-use std::net::{
-    IpAddr, Ipv4Addr, Net, OpenListener, OpenStream, Shutdown, SocketAddr, TcpListener, TcpStream,
-};
-use std::sync::atomic::{AtomicU64, Ordering};
+use std::io::{Read, Write};
+use std::net::{Net, Shutdown, SocketAddr, TcpListener, TcpStream};
 use std::test::Fail;
 use std::thread::Threads;
-use std::time::Duration;
+use std::time::{Clock, Duration, Instant};
 use std::{io, thread};
 
 const CLOSE: &[u8] = b"{\"op\":\"close\"}\n{\"op\":\"show\"}\n";
+
+const CLOSED: &str = "{\"kind\":\"closed\"}\n";
 
 /// Sends bytes one by one, and then says that there are no more.
 fn send_slowly(stream: TcpStream, bytes: Vec<u8>) -> io::Result<()> {
@@ -27,7 +26,7 @@ fn send_slowly(stream: TcpStream, bytes: Vec<u8>) -> io::Result<()> {
 
 /// Whether a client that sends byte by byte gets its replies, and then one that closes the desk its
 /// own.
-fn is_served<R: Net<Stream = TcpStream, Listener = TcpListener> + Threads>(
+fn is_served<R: Net<Stream = TcpStream, Listener = TcpListener> + Threads + Clock>(
     rt: &R,
     alloc: Global,
 ) -> Result<bool, Fail> {
@@ -40,15 +39,12 @@ fn is_served<R: Net<Stream = TcpStream, Listener = TcpListener> + Threads>(
     let lines = worked_lines(alloc)?;
     let client = thread::spawn(rt, move || send_slowly(sender, lines).is_ok())?;
     let mut desk = CountDesk::new(alloc, 0);
-    serve_connections(alloc, &listener, &mut desk)?;
+    let mut callers = Accepted::new(rt, &listener, Patience::usual());
+    serve_connections(alloc, &mut callers, &mut desk)?;
     let is_sent = client.join(rt);
     let replies = io::read_to_string(alloc, &mut slow)?;
     let closed = io::read_to_string(alloc, &mut closing)?;
-    Ok(
-        is_sent
-            && replies.as_str() == WORKED_REPLIES
-            && closed.as_str() == "{\"kind\":\"closed\"}\n",
-    )
+    Ok(is_sent && replies.as_str() == WORKED_REPLIES && closed.as_str() == CLOSED)
 }
 
 #[test]
@@ -57,155 +53,172 @@ fn lines_over_loopback(rt: HostRuntime) -> Result<(), Fail> {
     Ok(())
 }
 
-/// What a client does.
+/// A client that holds its connection.
 #[derive(Clone, Copy, Debug, PartialEq, Eq)]
-enum Client {
-    /// It leaves before it is accepted.
-    Leaves,
-    /// Its stream takes no options.
-    Unready,
-    /// It says nothing for longer than a read waits.
+enum Holder {
+    /// It says nothing.
     Silent,
-    /// It closes the desk.
-    Closes,
-    /// The listener fails.
-    Breaks,
+    /// It sends a line that never ends, a byte at a time.
+    Trickles,
+    /// It asks again and again, and reads each answer.
+    Asks,
 }
 
-/// Clients that come one after the other, and how many options were set on their streams.
-#[derive(Drop)]
-struct Script {
-    clients: [Client; 6],
-    come: AtomicU64,
-    options: AtomicU64,
-}
+const SHOW: &[u8] = b"{\"op\":\"show\"}\n";
 
-/// A client's stream.
-#[derive(Drop)]
-struct Scripted<'a> {
-    client: Client,
-    options: &'a AtomicU64,
-    is_read: bool,
-}
+/// How often a holder does the same, ten milliseconds apart.
+const TIMES: u64 = 900;
 
-impl<'a> OpenListener for &'a Script {
-    type Stream = Scripted<'a>;
-
-    fn accept(&self) -> io::Result<(Scripted<'a>, SocketAddr)> {
-        let script = *self;
-        let place = script.come.fetch_add(1, Ordering::SeqCst);
-        let place = usize::try_from(place).unwrap_or(usize::MAX);
-        let address = SocketAddr::new(IpAddr::V4(Ipv4Addr::LOCALHOST), 1);
-        match script.clients.get(place) {
-            None | Some(Client::Breaks) => Err(io::Error::other("broken")),
-            Some(Client::Leaves) => Err(ErrorKind::ConnectionAborted.into()),
-            Some(client) => Ok((
-                Scripted {
-                    client: *client,
-                    options: &script.options,
-                    is_read: false,
-                },
-                address,
-            )),
+/// Holds a connection until it is cut off, but for no more than some seconds.
+fn hold<R: Clock>(rt: &R, holder: Holder, stream: &mut TcpStream) -> io::Result<()> {
+    let mut buffer = [0; 512];
+    stream.set_read_timeout(Some(Duration::from_millis(3_000)))?;
+    stream.set_write_timeout(Some(Duration::from_millis(3_000)))?;
+    for _ in 0..TIMES {
+        match holder {
+            Holder::Silent => {
+                stream.read(&mut buffer)?;
+                return Ok(());
+            }
+            Holder::Trickles => stream.write_all(b" ")?,
+            Holder::Asks => {
+                stream.write_all(SHOW)?;
+                if stream.read(&mut buffer)? == 0 {
+                    return Ok(());
+                }
+            }
         }
+        thread::sleep(rt, Duration::from_millis(10));
     }
+    Ok(())
 }
 
-impl OpenStream for Scripted<'_> {
-    fn set_nodelay(&self, nodelay: bool) -> io::Result<()> {
-        if !nodelay || self.client == Client::Unready {
-            return Err(ErrorKind::InvalidInput.into());
-        }
-        self.options.fetch_add(1, Ordering::SeqCst);
-        Ok(())
+/// Short times for what this holder does, and the usual ones for all else.
+fn patience(holder: Holder) -> Patience {
+    let short = Duration::from_millis(100);
+    let mut patience = Patience::usual();
+    match holder {
+        Holder::Silent => patience.silence = short,
+        Holder::Trickles => patience.line = short,
+        Holder::Asks => patience.connection = short,
     }
-
-    fn set_read_timeout(&self, patience: Option<Duration>) -> io::Result<()> {
-        if patience == Some(Duration::from_secs(PATIENCE_SECONDS)) {
-            self.options.fetch_add(10, Ordering::SeqCst);
-        }
-        Ok(())
-    }
-
-    fn set_write_timeout(&self, patience: Option<Duration>) -> io::Result<()> {
-        if patience == Some(Duration::from_secs(PATIENCE_SECONDS)) {
-            self.options.fetch_add(100, Ordering::SeqCst);
-        }
-        Ok(())
-    }
-
-    fn try_clone(&self) -> io::Result<Self> {
-        Ok(Scripted {
-            client: self.client,
-            options: self.options,
-            is_read: self.is_read,
-        })
-    }
+    patience
 }
 
-impl Read for Scripted<'_> {
-    fn read(&mut self, buf: &mut [u8]) -> io::Result<usize> {
-        if self.client == Client::Silent {
-            return Err(ErrorKind::WouldBlock.into());
-        }
-        if self.is_read || buf.len() < CLOSE.len() {
-            return Ok(0);
-        }
-        self.is_read = true;
-        buf[..CLOSE.len()].copy_from_slice(CLOSE);
-        Ok(CLOSE.len())
-    }
+/// Whether a client that holds its connection is cut off, so that the next one is served soon.
+fn is_cut_off<R: Net<Stream = TcpStream, Listener = TcpListener> + Threads + Clock + Sync>(
+    rt: &R,
+    alloc: Global,
+    holder: Holder,
+) -> Result<bool, Fail> {
+    let listener = TcpListener::bind(rt, "127.0.0.1:0")?;
+    let address = listener.local_addr()?;
+    let mut holding = TcpStream::connect(rt, address)?;
+    let mut closing = TcpStream::connect(rt, address)?;
+    closing.write_all(CLOSE)?;
+    let mut callers = Accepted::new(rt, &listener, patience(holder));
+    let start = Instant::now(rt)?;
+    let (took, _) = thread::join(
+        rt,
+        || {
+            let mut desk = CountDesk::new(alloc, 0);
+            serve_connections(alloc, &mut callers, &mut desk)?;
+            start.elapsed(rt)
+        },
+        || hold(rt, holder, &mut holding).is_ok(),
+    );
+    let closed = io::read_to_string(alloc, &mut closing)?;
+    Ok(took? < Duration::from_secs(8) && closed.as_str() == CLOSED)
 }
 
-impl Write for Scripted<'_> {
-    fn write(&mut self, buf: &[u8]) -> io::Result<usize> {
-        Ok(buf.len())
-    }
-
-    fn flush(&mut self) -> io::Result<()> {
-        Ok(())
-    }
-}
-
-/// How a server ends over these clients, how many of them it met, and which options it set.
-fn met(alloc: Global, clients: [Client; 6]) -> (bool, u64, u64) {
-    let script = Script {
-        clients,
-        come: AtomicU64::new(0),
-        options: AtomicU64::new(0),
-    };
-    let mut desk = CountDesk::new(alloc, 0);
-    let ended = serve_connections(alloc, &&script, &mut desk);
-    let come = script.come.load(Ordering::SeqCst);
-    let options = script.options.load(Ordering::SeqCst);
-    (ended.is_ok(), come, options)
-}
-
-/// A client that fails or says nothing ends its own connection alone.
 #[test]
-fn a_close_behind_clients_that_fail(rt: HostRuntime) -> Result<(), Fail> {
-    let clients = [
-        Client::Leaves,
-        Client::Unready,
-        Client::Silent,
-        Client::Silent,
-        Client::Closes,
-        Client::Silent,
-    ];
-    assert!(rt; met(rt.alloc(), clients) == (true, 5, 333));
+fn a_client_that_says_nothing(rt: HostRuntime) -> Result<(), Fail> {
+    assert!(rt; is_cut_off(&rt, rt.alloc(), Holder::Silent)?);
     Ok(())
 }
 
 #[test]
-fn a_listener_that_fails(rt: HostRuntime) -> Result<(), Fail> {
-    let clients = [
-        Client::Silent,
-        Client::Leaves,
-        Client::Breaks,
-        Client::Closes,
-        Client::Closes,
-        Client::Closes,
-    ];
-    assert!(rt; met(rt.alloc(), clients) == (false, 3, 111));
+fn a_line_that_trickles(rt: HostRuntime) -> Result<(), Fail> {
+    assert!(rt; is_cut_off(&rt, rt.alloc(), Holder::Trickles)?);
+    Ok(())
+}
+
+#[test]
+fn a_connection_that_lasts(rt: HostRuntime) -> Result<(), Fail> {
+    assert!(rt; is_cut_off(&rt, rt.alloc(), Holder::Asks)?);
+    Ok(())
+}
+
+/// Whether a reply is given up soon that its client takes no byte of.
+fn is_given_up<R: Net<Stream = TcpStream, Listener = TcpListener> + Clock>(
+    rt: &R,
+    alloc: Global,
+) -> Result<bool, Fail> {
+    let listener = TcpListener::bind(rt, "127.0.0.1:0")?;
+    let _client = TcpStream::connect(rt, listener.local_addr()?)?;
+    let (stream, _) = listener.accept()?;
+    let mut patience = Patience::usual();
+    patience.reply = Duration::from_millis(100);
+    let mut line = TimedStream::new(rt, stream, patience)?;
+    let text = vec![in alloc; b' '; 1_048_576]?;
+    let start = Instant::now(rt)?;
+    for _ in 0..64 {
+        if line.reply(&text).is_err() {
+            return Ok(start.elapsed(rt)? < Duration::from_secs(8));
+        }
+    }
+    Ok(false)
+}
+
+#[test]
+fn replies_that_are_not_read(rt: HostRuntime) -> Result<(), Fail> {
+    assert!(rt; is_given_up(&rt, rt.alloc())?);
+    Ok(())
+}
+
+/// A thousand lines that ask for the desk's count.
+fn many_shows(alloc: Global) -> io::Result<Vec<u8>> {
+    let mut lines = Vec::new(alloc);
+    for _ in 0..1_000 {
+        lines.extend_from_slice(SHOW)?;
+    }
+    Ok(lines)
+}
+
+/// Sends a close and many bytes behind it, and reads only then. Whether it reads the answer alone.
+fn reads_its_answer<R: Net<Stream = TcpStream, Listener = TcpListener>>(
+    rt: &R,
+    alloc: Global,
+    address: SocketAddr,
+) -> io::Result<bool> {
+    let mut stream = TcpStream::connect(rt, address)?;
+    stream.write_all(CLOSE)?;
+    stream.write_all(&many_shows(alloc)?)?;
+    stream.shutdown(Shutdown::Write)?;
+    Ok(io::read_to_string(alloc, &mut stream)?.as_str() == CLOSED)
+}
+
+/// Whether a client that has sent more behind its close still reads the answer.
+fn is_answered<R: Net<Stream = TcpStream, Listener = TcpListener> + Threads + Clock + Sync>(
+    rt: &R,
+    alloc: Global,
+) -> Result<bool, Fail> {
+    let listener = TcpListener::bind(rt, "127.0.0.1:0")?;
+    let address = listener.local_addr()?;
+    let mut callers = Accepted::new(rt, &listener, Patience::usual());
+    let (served, answered) = thread::join(
+        rt,
+        || {
+            let mut desk = CountDesk::new(alloc, 0);
+            serve_connections(alloc, &mut callers, &mut desk).is_ok()
+        },
+        || reads_its_answer(rt, alloc, address),
+    );
+    Ok(served && answered?)
+}
+
+#[test]
+fn a_close_with_more_behind_it(rt: HostRuntime) -> Result<(), Fail> {
+    assert!(rt; is_answered(&rt, rt.alloc())?);
     Ok(())
 }

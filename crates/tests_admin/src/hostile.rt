@@ -1,7 +1,7 @@
 //! Readers and writers that give or take little, and that fail.
 
-use crate::lines::{WORKED_REPLIES, serves, worked_lines};
-use coord_admin::{CountDesk, Desk, Ended, ServeFault, serve};
+use crate::lines::{WORKED_REPLIES, serve_halves, serves, worked_lines};
+use coord_admin::{CountDesk, Desk, Ended, ServeFault};
 use std::io;
 use std::io::{Read, Write};
 use std::test::Fail;
@@ -138,7 +138,7 @@ fn one_write_a_reply(rt: HostRuntime) -> Result<(), Fail> {
     let lines = worked_lines(rt.alloc())?;
     let mut desk = CountDesk::new(rt.alloc(), 0);
     let mut writer = Room { writes: 0, most: 9 };
-    let outcome = serve(rt.alloc(), &mut lines.as_slice(), &mut writer, &mut desk);
+    let outcome = serve_halves(rt.alloc(), &mut lines.as_slice(), &mut writer, &mut desk);
     assert!(rt; outcome == Ok(Ended::Input) && writer.writes == 8);
     Ok(())
 }
@@ -149,7 +149,7 @@ fn failed_write(rt: HostRuntime) -> Result<(), Fail> {
     let lines = worked_lines(rt.alloc())?;
     let mut desk = CountDesk::new(rt.alloc(), 0);
     let mut writer = Room { writes: 0, most: 0 };
-    let outcome = serve(rt.alloc(), &mut lines.as_slice(), &mut writer, &mut desk);
+    let outcome = serve_halves(rt.alloc(), &mut lines.as_slice(), &mut writer, &mut desk);
     let counts = match desk.show() {
         Ok(view) => (view.accepted, view.settled),
         Err(_) => (0, 0),

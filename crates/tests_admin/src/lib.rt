@@ -11,3 +11,5 @@ mod hostile;
 mod lines;
 #[cfg(test)]
 mod memory;
+#[cfg(test)]
+mod scripted;

@@ -1,9 +1,9 @@
 //! Lines and their replies.
 
 use crate::desks::OneLink;
-use coord_admin::{CountDesk, Desk, Ended, ServeFault, serve};
+use coord_admin::{CountDesk, Desk, Ended, Halves, ServeFault, serve};
 use std::alloc::{AllocError, Global};
-use std::io::Read;
+use std::io::{Read, Write};
 use std::test::Fail;
 
 /// Whether these lines get these replies from a desk, and the call ends so. Where memory runs out
@@ -16,11 +16,22 @@ pub(crate) fn serves<R: Read, D: Desk>(
     end: Result<Ended, ServeFault>,
 ) -> Result<bool, AllocError> {
     let mut output = Vec::new(alloc);
-    let outcome = serve(alloc, reader, &mut output, desk);
+    let outcome = serve_halves(alloc, reader, &mut output, desk);
     if outcome == Err(ServeFault::OutOfMemory) {
         return Err(AllocError);
     }
     Ok(outcome == end && output.as_slice() == replies.as_bytes())
+}
+
+/// Serves a reader and a writer as one connection.
+pub(crate) fn serve_halves<R: Read, W: Write, D: Desk>(
+    alloc: Global,
+    reader: &mut R,
+    writer: &mut W,
+    desk: &mut D,
+) -> Result<Ended, ServeFault> {
+    let mut halves = Halves { reader, writer };
+    serve(alloc, &mut halves, desk)
 }
 
 const RESET: &str = "{\"op\":\"reset\",\"client\":1,\"number\":1,\"node\":1}";
@@ -225,6 +236,28 @@ fn other_desks(rt: HostRuntime) -> Result<(), Fail> {
             &mut linked,
             &mut lines,
             expected,
+            Ok(Ended::Input)
+        )?
+    );
+    Ok(())
+}
+
+/// A long line that is no JSON is told so.
+#[test]
+fn a_long_line_that_is_no_json(rt: HostRuntime) -> Result<(), Fail> {
+    let mut line = Vec::new(rt.alloc());
+    for _ in 0..500 {
+        line.push(b'x')?;
+    }
+    line.push(b'\n')?;
+    let mut desk = CountDesk::new(rt.alloc(), 0);
+    let told = "{\"fault\":\"BadJson\"}\n";
+    assert!(rt;
+        serves(
+            rt.alloc(),
+            &mut desk,
+            &mut line.as_slice(),
+            told,
             Ok(Ended::Input)
         )?
     );

@@ -1,8 +1,8 @@
 //! Replies where memory may be refused. The test says the same with memory and where any one
 //! allocation fails.
 
-use crate::lines::{WORKED_REPLIES, worked_lines};
-use coord_admin::{CountDesk, Desk, Ended, ServeFault, serve};
+use crate::lines::{WORKED_REPLIES, serve_halves, worked_lines};
+use coord_admin::{CountDesk, Desk, Ended, ServeFault};
 use std::str;
 use std::test::Fail;
 
@@ -55,7 +55,7 @@ fn each_reply_or_no_memory(rt: HostRuntime) -> Result<(), Fail> {
     let mut desk = CountDesk::new(rt.alloc(), 0);
     // Room for all replies, so that no write is refused.
     let mut output = Vec::with_capacity(rt.alloc(), 512)?;
-    let outcome = serve(rt.alloc(), &mut lines.as_slice(), &mut output, &mut desk);
+    let outcome = serve_halves(rt.alloc(), &mut lines.as_slice(), &mut output, &mut desk);
     let count = counted(desk);
     let begun = outcome == Ok(Ended::Input) && are_allowed(output.as_slice(), count);
     let refused = outcome == Err(ServeFault::OutOfMemory) && output.is_empty() && count == 0;

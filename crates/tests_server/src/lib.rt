@@ -2,8 +2,14 @@
 #![tactic(auto)]
 
 #[cfg(test)]
+mod asking;
+#[cfg(test)]
 mod loopback;
 #[cfg(test)]
 mod memory;
 #[cfg(test)]
 mod printing;
+#[cfg(test)]
+mod rings;
+#[cfg(test)]
+mod slow_output;

@@ -3,11 +3,11 @@
 ghost use Rattle.std.specs.Prelude.{◌≡◌, IfSome, None};
 ghost use Rattle.std.specs.Thread.{IsSend, IsSync};
 
-use coord_admin::{Desk, serve};
+use coord_admin::{Desk, Halves, serve};
 use coord_disk::{Disk, MemDisk};
 use coord_engine::{Closed, Engine, Origin, Share, flusher};
 use coord_ledger::{Ledger, View};
-use coord_server::{EngineDesk, LocalPort, Printer};
+use coord_server::{EngineDesk, LocalPort};
 use coord_store::Store;
 use coord_types::{Client, Command, Group, NodeId, Refusal, Reply, Step};
 use std::alloc::{AllocError, Global};
@@ -65,8 +65,11 @@ impl<E: Desk> Desk for Forgetful<E> {
 fn is_replied_at_last<E: Desk>(alloc: Global, desk: &mut E) -> Result<bool, Refusal> {
     for tried in 0..TRIES {
         let mut told = Vec::new(alloc);
-        let mut line = LINE;
-        let served = serve(alloc, &mut line, &mut told, desk).is_ok();
+        let mut halves = Halves {
+            reader: LINE,
+            writer: &mut told,
+        };
+        let served = serve(alloc, &mut halves, desk).is_ok();
         if served && told.as_slice() != NO_MEMORY.as_bytes() {
             return Ok(tried > 0 && told.as_slice() == REPLY.as_bytes());
         }
@@ -79,7 +82,7 @@ fn run<D: Disk + Send, L: Origin + Send + Sync, R: Threads + Wait + Clock + Sync
     rt: &R,
     alloc: Global,
     engine: &Engine<D, L>,
-    port: &LocalPort<&R, Vec<u8>>,
+    port: &LocalPort<&R>,
     mut shares: Vec<Share<L>>,
 ) -> (Vec<Share<L>>, Result<bool, Refusal>) {
     thread::scope(
@@ -147,7 +150,10 @@ fn order_once<D: Disk + Send, L: Origin + Send + Sync, R: Threads + Wait + Clock
     let Ok(shares) = Vec::with_capacity(alloc, 1) else {
         return Err(Refusal::OutOfMemory);
     };
-    let port = LocalPort::new(rt, Vec::new(alloc), Printer::new(alloc, Vec::new(alloc)));
+    let Ok((signals, _)) = crossbeam_channel::unbounded(alloc) else {
+        return Err(Refusal::OutOfMemory);
+    };
+    let port = LocalPort::new(rt, Vec::new(alloc), signals);
     let engine: Engine<D, L> = Engine::new(alloc, blank, ledger);
     let (shares, replied) = run(rt, alloc, &engine, &port, shares);
     let is_one = ends_with_one(engine, shares, order);

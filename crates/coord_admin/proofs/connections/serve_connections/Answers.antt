@@ -1,18 +1,25 @@
-use Rattle.std.proofs.Common.{[], ◌∷◌, ◌++◌, sym, ◌∙◌}
+use Rattle.std.proofs.Common.{[], sym, ◌∙◌, refl, rules}
 use Rattle.coord_admin.specs.Connections.{Connection}
-use Rattle.coord_admin.proofs.Served.{served_on}
+use Rattle.coord_admin.proofs.Served.{closed_on, open_on, open_still}
 use Rattle.coord_admin.proofs.connections.serve_connections.Goals as goal
 
-pub returns-then-has_closed-clause-closed : goal.returns-then-has_closed-clause-closed
-returns-then-has_closed-clause-closed g c =
-    let so_far = c.loop-stream.invariant.2 in
-    let now = c.serve_connection-ended.ensures in
-    let last : Connection = record { seen = now.0; text = now.1; ended = c.serve_connection-ended.result } in
-    (so_far.0, last, c.loop-stream.desk, so_far.1, now.2, sym c.has_closed.ensures ∙ c.if-has_closed.true)
+-- no one has called yet
+pub loop-init : goal.loop-init
+loop-init g c = ([], g.met.C.Callers.at_rest _, refl)
 
-pub loop-stream-preserved-else-has_closed : goal.loop-stream-preserved-else-has_closed
-loop-stream-preserved-else-has_closed g c =
-    let so_far = c.loop-stream.invariant.2 in
-    let now = c.serve_connection-ended.ensures in
-    let last : Connection = record { seen = now.0; text = now.1; ended = c.serve_connection-ended.result } in
-    (tt, tt, (so_far.0 ++ last ∷ [], served_on g.D.Desk.answers so_far.0 last c.args.desk.now c.loop-stream.desk c.serve_connection-ended.new.desk so_far.1 now.2 (sym c.has_closed.ensures ∙ c.if-has_closed.false)))
+pub returns-in_err-line-clause-failed : goal.returns-in_err-line-clause-failed
+returns-in_err-line-clause-failed g c =
+    let left = open_still g.D.Desk.answers g.C.Callers.met g.met.C.Callers.in_turn _ _ _ _ _ c.loop.invariant c.next.ensures.none_ended in
+    search rules
+
+pub returns-then-closed-clause-closed : goal.returns-then-closed-clause-closed
+returns-then-closed-clause-closed g c =
+    let now = c.serve-ended.ensures.served in
+    let last : Connection = record { talk = record { came = now.0; went = now.1 }; ended = c.serve-ended.result } in
+    closed_on g.D.Desk.answers g.C.Callers.met g.met.C.Callers.in_turn _ _ _ _ _ _ _ last c.loop.invariant c.next.ensures.none_ended (c.end.ensures _ now.0 now.1 c.in_ok-line.ensures.begun now.2) now.3 (sym c.has_closed-closed.ensures ∙ c.if-closed.true)
+
+pub loop-preserved : goal.loop-preserved
+loop-preserved g c =
+    let now = c.serve-ended.ensures.served in
+    let last : Connection = record { talk = record { came = now.0; went = now.1 }; ended = c.serve-ended.result } in
+    open_on g.D.Desk.answers g.C.Callers.met g.met.C.Callers.in_turn _ _ _ _ _ _ _ last c.loop.invariant c.next.ensures.none_ended (c.end.ensures _ now.0 now.1 c.in_ok-line.ensures.begun now.2) now.3 (sym c.has_closed-closed.ensures ∙ c.if-closed.false)

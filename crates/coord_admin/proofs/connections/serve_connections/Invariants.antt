@@ -2,8 +2,5 @@ use Rattle.coord_admin.specs.Connections.{ServedOpen}
 use Rattle.coord_admin.proofs.connections.serve_connections.Given as goal
 
 -- no connection so far has closed the desk
-abbrev pub invariant-loop-stream : goal.invariant-loop-stream
-invariant-loop-stream g l =
-    (goal.iterator-loop-stream g).can_next l.stream-iterator
-    × (goal.iterator-loop-stream g).is_finite l.stream-iterator
-    × ServedOpen g.D.Desk.answers l.fn.desk l.desk
+abbrev pub invariant-loop : goal.invariant-loop
+invariant-loop g l = ServedOpen g.D.Desk.answers g.C.Callers.met l.fn.callers l.fn.desk l.callers l.desk

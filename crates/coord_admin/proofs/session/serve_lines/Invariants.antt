@@ -1,5 +1,4 @@
 use Rattle.std.proofs.Common.{◌≡◌, ◌≤◌, ◌<◌, ℕ, List, ◌++◌, length}
-use Rattle.std.specs.Io.KnownBytes.{Appends, Consumes}
 use Rattle.coord_lines.specs.Lines.{Line, lines_of, lines_on}
 use Rattle.coord_admin.specs.declared.answer.Answer.{Answer}
 use Rattle.coord_admin.specs.Replies.{reply_lines}
@@ -10,8 +9,8 @@ use Rattle.coord_admin.proofs.session.serve_lines.Given as goal
 abbrev pub invariant-loop : goal.invariant-loop
 invariant-loop g l =
     (0 < length l.buffer)
-    × ((seen : List ℕ) × Consumes (g.R.Read.remaining l.fn.reader) (g.R.Read.remaining l.reader) seen × (l.counter ≤ length seen)
+    × ((seen : List ℕ) × (l.counter ≤ length seen)
     × ((done : List Line) × (told : List Answer)
     × AllGet g.D.Desk.answers l.fn.desk done told l.desk
-    × Appends (g.W.Write.contents l.fn.writer) (g.W.Write.contents l.writer) (reply_lines told)
+    × g.C.Duplex.exchanged l.fn.connection seen (reply_lines told) l.connection
     × ((more : List ℕ) → lines_of (seen ++ more) ≡ done ++ lines_on l.line more)))

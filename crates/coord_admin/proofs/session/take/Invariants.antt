@@ -1,5 +1,4 @@
-use Rattle.std.proofs.Common.{◌≡◌, ℕ, List, ◌++◌, length}
-use Rattle.std.specs.Io.KnownBytes.{Appends}
+use Rattle.std.proofs.Common.{◌≡◌, ℕ, List, [], ◌++◌, length}
 use Rattle.coord_lines.specs.Lines.{Line, lines_on}
 use Rattle.coord_admin.specs.declared.answer.Answer.{Answer}
 use Rattle.coord_admin.specs.Replies.{reply_lines}
@@ -11,7 +10,7 @@ abbrev pub invariant-loop-behind : goal.invariant-loop-behind
 invariant-loop-behind g l =
     (done : List Line) × (told : List Answer)
     × AllGet g.D.Desk.answers l.fn.desk done told l.desk
-    × Appends (g.W.Write.contents l.fn.writer) (g.W.Write.contents l.writer) (reply_lines told)
+    × g.C.Duplex.exchanged l.fn.connection [] (reply_lines told) l.connection
     × ((more : List ℕ) → lines_on l.fn.line (l.piece ++ more) ≡ done ++ lines_on l.line (l.rest ++ more))
 
 abbrev pub decreases-loop-behind : goal.decreases-loop-behind

@@ -1,8 +1,8 @@
 use Rattle.std.proofs.Common.{arith, ◌++◌, take, drop, sym, ap, ◌∙◌, append_assoc, take-append-drop}
 use Rattle.std.proofs.lemmas.Grind.{common_steps}
 use Rattle.std.proofs.KnownBytes.{Appends-trans, Appends-kept}
-use Rattle.coord_admin.proofs.writing.write_text.Goals as goal
-use Rattle.coord_admin.proofs.writing.write_text.Goals.{in-Ok-write, in-Err-write+else-ne}
+use Rattle.coord_admin.proofs.halves.write_text.Goals as goal
+use Rattle.coord_admin.proofs.halves.write_text.Goals.{in-Ok-write, in-Err-write+else-ne}
 
 pub loop-preserved : goal.loop-preserved
 loop-preserved g c =

@@ -1,0 +1,134 @@
+//! Those who call a server.
+
+ghost use Rattle.std.specs.Prelude.{◌≡◌, List, [], ◌∷◌, ◌++◌, ℕ, ⊤, IfOk};
+ghost use Rattle.coord_admin.specs.Connections.{Talk};
+
+use crate::duplex::Duplex;
+use crate::patience::{ACCEPT_TRIES, Patience};
+use crate::timed::TimedStream;
+use std::io::{Error, ErrorKind, Read, Write};
+use std::net::{OpenListener, OpenStream, SocketAddr};
+use std::time::Clock;
+use std::{io, thread};
+
+/// Clients that come one after the other, each with a connection of its own.
+pub trait Callers {
+    type Line: Duplex + Drop;
+
+    /// Between two states of it these connections have ended, in order.
+    ghost met: { Self → List Talk → Self → Type 0 };
+
+    /// Nothing has come in or gone out over a connection yet.
+    ghost begins: { Self.Line → Type 0 };
+
+    /// At which address they call.
+    fn address(&self) -> io::Result<SocketAddr>;
+
+    /// Waits for the next one. After an error no one comes any more.
+    fn next(&mut self) -> io::Result<Self::Line>
+        ensures begun { IfOk result begins }
+        ensures none_ended { met self.old [] self.new };
+
+    /// Ends a connection; one that has closed the server is first left open until its client can
+    /// have read the answer.
+    fn end(&mut self, line: Self::Line, has_closed: bool)
+        ensures { (first : Self.Line) (came went : List ℕ) → begins first → Self.Line.exchanged first came went line → met self.old (record { came = came; went = went } ∷ []) self.new };
+
+    ghost at_rest: { (a : Self) → met a [] a };
+
+    ghost in_turn: { (a b c : Self) (some more : List Talk) → met a some b → met b more c → met a (some ++ more) c };
+}
+
+/// The connections that a listener accepts, each with a bound on how long its client is waited for.
+#[derive(Drop)]
+pub struct Accepted<'a, L, T: Clock> {
+    clock: &'a T,
+    listener: &'a L,
+    patience: Patience,
+}
+
+impl<'a, L: OpenListener, T: Clock> Accepted<'a, L, T> {
+    pub fn new(clock: &'a T, listener: &'a L, patience: Patience) -> Self {
+        Accepted {
+            clock,
+            listener,
+            patience,
+        }
+    }
+}
+
+/// What a failure to accept asks for.
+#[derive(Clone, Copy, Debug, PartialEq, Eq)]
+enum Failure {
+    /// A client has left before it was accepted.
+    OfClient,
+    /// Files or memory were short. It may pass.
+    OfMeans,
+    /// The listener is of no use any more.
+    OfListener,
+}
+
+/// The errors of Linux for a table of files that is full, of the process and of the system, and for
+/// no memory and no buffers.
+const OF_MEANS: [i32; 4] = [24, 23, 12, 105];
+
+fn judge(error: &Error) -> Failure {
+    match error.kind() {
+        ErrorKind::ConnectionAborted | ErrorKind::ConnectionReset | ErrorKind::Interrupted => {
+            Failure::OfClient
+        }
+        ErrorKind::OutOfMemory => Failure::OfMeans,
+        _ => match error.raw_os_error() {
+            Some(code) if OF_MEANS.contains(&code) => Failure::OfMeans,
+            _ => Failure::OfListener,
+        },
+    }
+}
+
+impl<'a, S: Read + Write + OpenStream + Drop, L: OpenListener<Stream = S>, T: Clock> Callers
+    for Accepted<'a, L, T> {
+    type Line = TimedStream<'a, S, T>;
+
+    ghost met = { λ _ _ _. ⊤ };
+
+    ghost begins = { λ _. ⊤ };
+
+    fn address(&self) -> io::Result<SocketAddr> {
+        self.listener.local_addr()
+    }
+
+    /// A client that has left, or whose stream can't be made ready, is passed over. A failure that
+    /// may pass is tried again `ACCEPT_TRIES` times, `ACCEPT_REST_MILLIS` apart.
+    fn next(&mut self) -> io::Result<TimedStream<'a, S, T>> {
+        let mut tries = 0;
+        for stream in self.listener.incoming() {
+            match stream {
+                Ok(stream) => {
+                    if let Ok(line) = TimedStream::new(self.clock, stream, self.patience) {
+                        return Ok(line);
+                    }
+                }
+                Err(error) => match judge(&error) {
+                    Failure::OfClient => {}
+                    Failure::OfMeans if tries < ACCEPT_TRIES => {
+                        tries += 1;
+                        thread::sleep(self.clock, self.patience.accept_rest);
+                    }
+                    _ => return Err(error),
+                },
+            }
+        }
+        Err(ErrorKind::TimedOut.into())
+    }
+
+    fn end(&mut self, line: TimedStream<'a, S, T>, has_closed: bool) {
+        let mut line = line;
+        if has_closed {
+            line.discard();
+        }
+    }
+
+    ghost at_rest = { λ _. tt };
+
+    ghost in_turn = { λ _ _ _ _ _ _ _. tt };
+}

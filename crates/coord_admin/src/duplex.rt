@@ -1,0 +1,42 @@
+//! What lines are read from and replies are written to.
+
+ghost use Rattle.std.specs.Prelude.{◌≡◌, ◌<◌, ◌≤◌, ◌++◌, List, [], ℕ, length, take, IfOk, OnErr, OnOk};
+ghost use Rattle.coord_admin.specs.Stream.{IsFirstPart};
+
+/// Nothing more could be read, or not in time.
+#[derive(Clone, Copy, Debug, PartialEq, Eq)]
+pub struct NotRead;
+
+/// A text could not be written whole, or not in time.
+#[derive(Clone, Copy, Debug, PartialEq, Eq)]
+pub struct NotWritten;
+
+/// A connection to one client: bytes come in, and replies go out. Whoever is generic over it has to
+/// read and to write by it, since any instance may keep what came and what went.
+pub trait Duplex {
+    /// Between two states of it these bytes came in, and these went out.
+    ghost exchanged: { Self → List ℕ → List ℕ → Self → Type 0 };
+
+    /// Nothing more comes in.
+    ghost has_ended: { Self → Type 0 };
+
+    /// Takes what has come in next into the front of the buffer, and answers how many bytes that
+    /// are; none where nothing more comes. It is told whether a line has begun whose end has not
+    /// come, for how long it waits.
+    fn receive(&mut self, buffer: &mut [u8], is_within_line: bool) -> Result<usize, NotRead>
+        ensures fits { IfOk result (λ n. n ≤ length buffer.new) }
+        ensures length { length buffer.new ≡ length buffer.old }
+        ensures bytes { IfOk result (λ n. exchanged self.old (take n buffer.new) [] self.new) }
+        ensures end { IfOk result (λ n. n ≡ 0 → 0 < length buffer.old → has_ended self.new) }
+        ensures failed { OnErr result (exchanged self.old [] [] self.new) };
+
+    /// Writes the reply to a line whole.
+    fn reply(&mut self, text: &[u8]) -> Result<(), NotWritten>
+        ensures whole { OnOk result (exchanged self.old [] text.now self.new) }
+        ensures part { OnErr result ((part : List ℕ) × exchanged self.old [] part self.new × IsFirstPart part text.now) }
+        ensures end { has_ended self.old → has_ended self.new };
+
+    ghost at_rest: { (a : Self) → exchanged a [] [] a };
+
+    ghost in_turn: { (a b c : Self) (came more went later : List ℕ) → exchanged a came went b → exchanged b more later c → exchanged a (came ++ more) (went ++ later) c };
+}

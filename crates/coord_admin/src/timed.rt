@@ -1,0 +1,142 @@
+//! A connection over a socket, with bounds on how long its client is waited for.
+
+ghost use Rattle.std.specs.Prelude.{⊤};
+
+use crate::duplex::{Duplex, NotRead, NotWritten};
+use crate::patience::{DISCARD_READS, Patience};
+use std::io;
+use std::io::{ErrorKind, Read, Write};
+use std::net::{OpenStream, Shutdown};
+use std::time::{Clock, Duration, Instant};
+
+/// The most calls of `write` for one reply.
+const MOST_WRITES: u64 = 1_048_576;
+
+/// A stream on which no read and no write waits for longer than its patience. No clause can say what
+/// bytes a socket gives and takes: whoever reads and writes by it is generic over [`Duplex`].
+#[derive(Drop)]
+pub struct TimedStream<'a, S, T: Clock> {
+    clock: &'a T,
+    stream: S,
+    patience: Patience,
+    opened: Instant,
+    /// Since when the end of a line is waited for.
+    line_begun: Option<Instant>,
+}
+
+/// How much of a span of time is left since its start; None once it is over.
+fn left<T: Clock>(clock: &T, start: Instant, span: Duration) -> Option<Duration> {
+    let passed = start.elapsed(clock).ok()?;
+    match span.checked_sub(passed) {
+        Some(left) if !left.is_zero() => Some(left),
+        _ => None,
+    }
+}
+
+impl<'a, S: Read + Write + OpenStream + Drop, T: Clock> TimedStream<'a, S, T> {
+    /// Over a stream whose writes go out at once.
+    pub fn new(clock: &'a T, stream: S, patience: Patience) -> io::Result<Self> {
+        stream.set_nodelay(true)?;
+        let opened = Instant::now(clock)?;
+        Ok(TimedStream {
+            clock,
+            stream,
+            patience,
+            opened,
+            line_begun: None,
+        })
+    }
+
+    /// How long the next bytes are waited for. The time of the whole connection is looked at only
+    /// before a line, or where a line has just begun.
+    fn waits(&mut self, is_within_line: bool) -> Option<Duration> {
+        if self.line_begun.is_none() {
+            left(self.clock, self.opened, self.patience.connection)?;
+        }
+        if !is_within_line {
+            return Some(self.patience.silence);
+        }
+        let begun = match self.line_begun {
+            Some(begun) => begun,
+            None => Instant::now(self.clock).ok()?,
+        };
+        self.line_begun = Some(begun);
+        left(self.clock, begun, self.patience.line)
+    }
+
+    /// Says that no more goes out, and discards what comes in, for a while: a connection that is
+    /// closed before all was read may lose what its client has not read yet.
+    pub fn discard(&mut self) {
+        if self.stream.shutdown(Shutdown::Write).is_err() {
+            return;
+        }
+        let Ok(start) = Instant::now(self.clock) else {
+            return;
+        };
+        let mut buffer = [0; 512];
+        for _ in 0..DISCARD_READS {
+            let Some(wait) = left(self.clock, start, self.patience.discard) else {
+                return;
+            };
+            if self.stream.set_read_timeout(Some(wait)).is_err() {
+                return;
+            }
+            match self.stream.read(&mut buffer) {
+                Ok(0) | Err(_) => return,
+                Ok(_) => {}
+            }
+        }
+    }
+}
+
+impl<'a, S: Read + Write + OpenStream + Drop, T: Clock> Duplex for TimedStream<'a, S, T> {
+    ghost exchanged = { λ _ _ _ _. ⊤ };
+
+    ghost has_ended = { λ _. ⊤ };
+
+    fn receive(&mut self, buffer: &mut [u8], is_within_line: bool) -> Result<usize, NotRead> {
+        let Some(wait) = self.waits(is_within_line) else {
+            return Err(NotRead);
+        };
+        if self.stream.set_read_timeout(Some(wait)).is_err() {
+            return Err(NotRead);
+        }
+        match self.stream.read(buffer) {
+            Ok(count) => Ok(count),
+            Err(_) => Err(NotRead),
+        }
+    }
+
+    fn reply(&mut self, text: &[u8]) -> Result<(), NotWritten> {
+        self.line_begun = None;
+        let Ok(ready) = Instant::now(self.clock) else {
+            return Err(NotWritten);
+        };
+        let mut rest = text;
+        for _ in 0..MOST_WRITES {
+            if rest.is_empty() {
+                return match self.stream.flush() {
+                    Ok(()) => Ok(()),
+                    Err(_) => Err(NotWritten),
+                };
+            }
+            let Some(wait) = left(self.clock, ready, self.patience.reply) else {
+                return Err(NotWritten);
+            };
+            if self.stream.set_write_timeout(Some(wait)).is_err() {
+                return Err(NotWritten);
+            }
+            match self.stream.write(rest) {
+                Ok(0) => return Err(NotWritten),
+                Ok(count) => rest = &rest[count..],
+                Err(error) if error.kind() == ErrorKind::Interrupted => {}
+                Err(_) => return Err(NotWritten),
+            }
+        }
+        Err(NotWritten)
+    }
+
+    ghost at_rest = { λ _. tt };
+
+    ghost in_turn = { λ _ _ _ _ _ _ _ _ _. tt };
+}

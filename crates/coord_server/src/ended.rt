@@ -1,0 +1,37 @@
+//! What a server leaves.
+
+ghost use Rattle.std.specs.Prelude.{◌≡◌};
+ghost use Rattle.coord_store.specs.Kept.{has_stopped};
+ghost use Rattle.coord_server.specs.Ending.{told};
+
+use crate::ServerFault;
+use coord_disk::Disk;
+use coord_engine::Closed;
+
+/// What is left of a server's engine and of those who called, and how the server ended.
+#[derive(Drop)]
+pub struct Ended<D: Disk, C> {
+    pub closed: Closed<D>,
+    pub callers: C,
+    /// What ended the serving, if not a close.
+    pub served: Option<ServerFault>,
+    /// Whether a line could not be printed.
+    pub is_broken: bool,
+}
+
+impl<D: Disk, C> Ended<D, C> {
+    /// What is told of all that was met: a stopped store first, then what ended the serving, then an
+    /// output that failed. None where the server was closed and nothing else was met.
+    pub fn fault(&self) -> Option<ServerFault>
+        ensures { result ≡ told (has_stopped self.now.closed.store) self.now.served self.now.is_broken }
+    {
+        if self.closed.store.stopped() {
+            return Some(ServerFault::Device);
+        }
+        match self.served {
+            Some(fault) => Some(fault),
+            None if self.is_broken => Some(ServerFault::Write),
+            None => None,
+        }
+    }
+}

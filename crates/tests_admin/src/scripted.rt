@@ -1,0 +1,267 @@
+//! Clients by a script, and a listener that fails.
+
+use coord_admin::{ACCEPT_TRIES, Accepted, CountDesk, Patience, serve_connections};
+use std::alloc::Global;
+use std::io::{ErrorKind, Read, Write};
+use std::net::{IpAddr, Ipv4Addr, OpenListener, OpenStream, SocketAddr};
+use std::sync::atomic::{AtomicU64, Ordering};
+use std::test::Fail;
+use std::time::{Clock, Duration};
+use std::{io, thread};
+
+const CLOSE: &[u8] = b"{\"op\":\"close\"}\n";
+
+const CLOSED: &[u8] = b"{\"kind\":\"closed\"}\n";
+
+/// What a client does.
+#[derive(Clone, Copy, Debug, PartialEq, Eq)]
+enum Client {
+    /// It leaves before it is accepted, and the listener tells it so.
+    Leaves(ErrorKind),
+    /// Its stream takes no options.
+    Unready,
+    /// It says nothing for longer than a read waits.
+    Silent,
+    /// It closes the desk.
+    Closes,
+    /// It closes the desk, and takes a byte of the answer every thirty milliseconds.
+    TakesSlowly,
+    /// So often there is no room in the table of files, and then it closes the desk.
+    Waits(u64),
+    /// The listener fails.
+    Breaks,
+}
+
+/// Clients that come one after the other, how many bytes were written to them as they were to be, and
+/// how many times a stream was to wait longer than it may.
+#[derive(Drop)]
+struct Script<T: Clock> {
+    clock: T,
+    clients: [Client; 6],
+    come: AtomicU64,
+    refused: AtomicU64,
+    written: AtomicU64,
+    too_long: AtomicU64,
+}
+
+/// A client's stream.
+#[derive(Drop)]
+struct Scripted<'a, T: Clock> {
+    client: Client,
+    script: &'a Script<T>,
+    is_read: bool,
+    written: usize,
+}
+
+impl<'a, T: Clock> OpenListener for &'a Script<T> {
+    type Stream = Scripted<'a, T>;
+
+    fn accept(&self) -> io::Result<(Scripted<'a, T>, SocketAddr)> {
+        let script = *self;
+        let place = usize::try_from(script.come.load(Ordering::SeqCst)).unwrap_or(usize::MAX);
+        let client = script.clients.get(place).copied().unwrap_or(Client::Breaks);
+        if let Client::Waits(times) = client {
+            if script.refused.fetch_add(1, Ordering::SeqCst) < times {
+                return Err(io::Error::from_raw_os_error(24));
+            }
+        }
+        script.come.fetch_add(1, Ordering::SeqCst);
+        match client {
+            Client::Breaks => Err(io::Error::other("broken")),
+            Client::Leaves(kind) => Err(kind.into()),
+            _ => Ok((
+                Scripted {
+                    client,
+                    script,
+                    is_read: false,
+                    written: 0,
+                },
+                SocketAddr::new(IpAddr::V4(Ipv4Addr::LOCALHOST), 1),
+            )),
+        }
+    }
+}
+
+impl<T: Clock> Scripted<'_, T> {
+    /// Notes a time that is none or longer than this.
+    fn waits(&self, time: Option<Duration>, most: u64) {
+        if time.is_none() || time > Some(Duration::from_secs(most)) {
+            self.script.too_long.fetch_add(1, Ordering::SeqCst);
+        }
+    }
+}
+
+impl<T: Clock> OpenStream for Scripted<'_, T> {
+    fn set_nodelay(&self, nodelay: bool) -> io::Result<()> {
+        if !nodelay || self.client == Client::Unready {
+            return Err(ErrorKind::InvalidInput.into());
+        }
+        Ok(())
+    }
+
+    fn set_read_timeout(&self, patience: Option<Duration>) -> io::Result<()> {
+        self.waits(patience, 15);
+        Ok(())
+    }
+
+    fn set_write_timeout(&self, patience: Option<Duration>) -> io::Result<()> {
+        self.waits(patience, 10);
+        Ok(())
+    }
+}
+
+impl<T: Clock> Read for Scripted<'_, T> {
+    fn read(&mut self, buf: &mut [u8]) -> io::Result<usize> {
+        if self.client == Client::Silent {
+            return Err(ErrorKind::WouldBlock.into());
+        }
+        if self.is_read || buf.len() < CLOSE.len() {
+            return Ok(0);
+        }
+        self.is_read = true;
+        buf[..CLOSE.len()].copy_from_slice(CLOSE);
+        Ok(CLOSE.len())
+    }
+}
+
+impl<T: Clock> Write for Scripted<'_, T> {
+    /// Takes a byte at a time, and counts it where it is the answer's next.
+    fn write(&mut self, buf: &[u8]) -> io::Result<usize> {
+        let Some(byte) = buf.first() else {
+            return Ok(0);
+        };
+        if self.client == Client::TakesSlowly {
+            thread::sleep(&self.script.clock, Duration::from_millis(30));
+        }
+        if CLOSED.get(self.written) == Some(byte) {
+            self.script.written.fetch_add(1, Ordering::SeqCst);
+            self.written += 1;
+        }
+        Ok(1)
+    }
+
+    fn flush(&mut self) -> io::Result<()> {
+        Ok(())
+    }
+}
+
+/// What became of a script: whether a client closed the desk, how many came, how many bytes of the
+/// answer were written, and how often a stream was to wait too long.
+#[derive(Clone, Copy, Debug, PartialEq, Eq)]
+struct Met {
+    is_closed: bool,
+    come: u64,
+    written: u64,
+    too_long: u64,
+}
+
+fn ended<T: Clock>(rt: &T, alloc: Global, clients: [Client; 6], patience: Patience) -> Met {
+    let script = Script {
+        clock: rt,
+        clients,
+        come: AtomicU64::new(0),
+        refused: AtomicU64::new(0),
+        written: AtomicU64::new(0),
+        too_long: AtomicU64::new(0),
+    };
+    let listener = &script;
+    let mut callers = Accepted::new(rt, &listener, patience);
+    let mut desk = CountDesk::new(alloc, 0);
+    let is_closed = serve_connections(alloc, &mut callers, &mut desk).is_ok();
+    Met {
+        is_closed,
+        come: script.come.load(Ordering::SeqCst),
+        written: script.written.load(Ordering::SeqCst),
+        too_long: script.too_long.load(Ordering::SeqCst),
+    }
+}
+
+/// The usual times, but that a full table of files is not waited for.
+fn patience() -> Patience {
+    let mut patience = Patience::usual();
+    patience.accept_rest = Duration::from_millis(0);
+    patience
+}
+
+/// What became of a script in which a client closes the desk.
+fn closed_as(come: u64) -> Met {
+    Met {
+        is_closed: true,
+        come,
+        written: CLOSED.len() as u64,
+        too_long: 0,
+    }
+}
+
+/// What became of one in which none does.
+fn broken_as(come: u64) -> Met {
+    Met {
+        is_closed: false,
+        come,
+        written: 0,
+        too_long: 0,
+    }
+}
+
+/// A client that fails, says nothing or has left ends its own connection alone. An answer that is
+/// taken a byte at a time is written whole.
+#[test]
+fn a_close_behind_clients_that_fail(rt: HostRuntime) -> Result<(), Fail> {
+    let clients = [
+        Client::Leaves(ErrorKind::ConnectionAborted),
+        Client::Leaves(ErrorKind::ConnectionReset),
+        Client::Leaves(ErrorKind::Interrupted),
+        Client::Unready,
+        Client::Silent,
+        Client::Closes,
+    ];
+    assert!(rt; ended(&rt, rt.alloc(), clients, patience()) == closed_as(6));
+    Ok(())
+}
+
+#[test]
+fn a_listener_that_fails(rt: HostRuntime) -> Result<(), Fail> {
+    let mut clients = [Client::Closes; 6];
+    clients[0] = Client::Silent;
+    clients[1] = Client::Breaks;
+    assert!(rt; ended(&rt, rt.alloc(), clients, patience()) == broken_as(2));
+    Ok(())
+}
+
+/// A reply that is taken a little at a time is given up once its time in all is over, and then the
+/// desk was not closed for it.
+#[test]
+fn a_reply_that_is_taken_slowly(rt: HostRuntime) -> Result<(), Fail> {
+    let mut clients = [Client::Closes; 6];
+    clients[0] = Client::TakesSlowly;
+    let mut short = patience();
+    short.reply = Duration::from_millis(100);
+    let short = ended(&rt, rt.alloc(), clients, short);
+    assert!(rt; short.is_closed && short.come == 2);
+    Ok(())
+}
+
+/// A table of files that is full is waited for so often, and not more often.
+#[test]
+fn no_room_for_a_connection(rt: HostRuntime) -> Result<(), Fail> {
+    let waits = [Client::Waits(ACCEPT_TRIES); 6];
+    let gives_up = [Client::Waits(ACCEPT_TRIES + 1); 6];
+    assert!(rt; ended(&rt, rt.alloc(), waits, patience()) == closed_as(1));
+    assert!(rt; ended(&rt, rt.alloc(), gives_up, patience()) == broken_as(0));
+    Ok(())
+}
+
+/// The times that a client is waited for.
+#[test]
+fn the_usual_patience(rt: HostRuntime) -> Result<(), Fail> {
+    let usual = Patience {
+        line: Duration::from_secs(10),
+        reply: Duration::from_secs(10),
+        silence: Duration::from_secs(15),
+        connection: Duration::from_secs(600),
+        discard: Duration::from_secs(1),
+        accept_rest: Duration::from_millis(100),
+    };
+    assert!(rt; Patience::usual() == usual);
+    Ok(())
+}
