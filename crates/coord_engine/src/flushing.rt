@@ -61,6 +61,7 @@ pub fn flush_all<K: Deck, R: Wait>(rt: &R, deck: &mut K)
 }
 
 /// A deck over an engine and a port.
+#[derive(Drop)]
 struct EngineDeck<'a, D: Disk, L: Origin, P: Port, R: Wait> {
     rt: &'a R,
     engine: &'a Engine<D, L>,

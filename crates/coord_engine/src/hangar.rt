@@ -10,6 +10,7 @@ use coord_store::CommitFault;
 use std::sync::Wait;
 
 /// The hangar of an engine.
+#[derive(Drop)]
 pub(crate) struct EngineHangar<'a, D: Disk, L: Origin, R: Wait> {
     pub(crate) rt: &'a R,
     pub(crate) engine: &'a Engine<D, L>,

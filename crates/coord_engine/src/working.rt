@@ -11,6 +11,7 @@ use std::alloc::Global;
 use std::sync::Wait;
 
 /// A bench over an engine, a channel and a share.
+#[derive(Drop)]
 struct EngineBench<'a, D: Disk, L: Origin, R: Wait> {
     rt: &'a R,
     engine: &'a Engine<D, L>,
