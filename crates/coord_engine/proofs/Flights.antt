@@ -25,6 +25,14 @@ abbrev has_flight : {T E : Type 0} → Result (Option T) E → Bool
 has_flight (Ok o) = is_some o
 has_flight (Err e) = false
 
+abbrev is_answer : {T E : Type 0} → Result T E → Bool
+is_answer (Ok x) = true
+is_answer (Err e) = false
+
+-- a refusal is no answer
+pub is_refused : {T E : Type 0} {e : E} {x : T} → ◌≡◌ {A = Result T E} (Err e) (Ok x) → ⊥
+is_refused same = false≢true (ap is_answer same)
+
 module _ {T : Type 0} (o : Option T) where
   -- a flight isn't none
   pub is_flight : {E : Type 0} {x : T} → o ≡ Some x → ◌≡◌ {A = Result (Option T) E} (Ok o) (Ok None) → ⊥

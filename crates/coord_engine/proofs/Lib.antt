@@ -1,6 +1,7 @@
 pub mod Counting
 pub mod Flights
 pub mod Growing
+pub mod Handed
 pub mod Moments
 pub mod Naming
 pub mod Notes
@@ -9,3 +10,6 @@ mod Puts
 pub mod Showing
 pub mod Since
 pub mod Submitting
+pub mod Told
+pub mod Tried
+pub mod Worked

@@ -1,5 +1,10 @@
+pub mod Benches
 pub mod Calls
 pub mod Closing
+pub mod Flights
+pub mod Flushing
+pub mod Flying
+pub mod Handing
 pub mod Named
 pub mod NamedRows
 pub mod Pacing

@@ -1,14 +1,16 @@
 //! The engine: the value under a lock, and a condition on which callers wait.
 
-ghost use Rattle.std.specs.Prelude.{◌≡◌, ◌<◌, ◌⊎◌, [], false, true, None, IfErr, IfNone, IfOk, IfSome, OnErr};
-ghost use Rattle.coord_store.specs.declared.faults.CommitFault.TheVariants.{Device, OutOfMemory};
+ghost use Rattle.std.specs.Prelude.{◌≡◌, ◌<◌, [], false, true, None, IfErr, IfNone, IfOk, IfSome, OnErr};
 ghost use Rattle.coord_ledger.specs.ledger.Calls.{keeps_store, releases_in};
 ghost use Rattle.coord_ledger.specs.ledger.State.{IsCollectable, reply_of};
 ghost use Rattle.coord_engine.specs.Calls.{RefusesTicket};
 ghost use Rattle.coord_engine.specs.Closing.{IsSince, RefusesClosing};
+ghost use Rattle.coord_engine.specs.Flights.{ComesBack, RefusesFlush};
 ghost use Rattle.coord_engine.specs.State.{based_on, most_shares};
 ghost use Rattle.coord_engine.specs.Threads.{AtSomeMoment, Closes, Flushes, Leaves, RefusesShow, SendsAgain, Shows, Submits};
 
+use crate::flying::fly;
+use crate::hangar::EngineHangar;
 use crate::{CloseFault, Closed, Collected, Guarded, Origin, Share};
 use coord_disk::Disk;
 use coord_ledger::{Flight, Ledger, Releases, Seen, Ticket, View};
@@ -127,29 +129,22 @@ impl<D: Disk, L: Origin> Engine<D, L> {
     pub fn flush_once<R: Wait>(&self, rt: &R) -> Result<Option<Releases>, CommitFault>
         ensures flushed { IfOk result (λ begun. IfSome begun (λ releases. AtSomeMoment (based_on D.keeps_model D.present L.base L.before) (Flushes {D = D} releases))) }
         ensures nothing { IfOk result (λ begun. IfNone begun (AtSomeMoment (based_on D.keeps_model D.present L.base L.before) (λ g. keeps_store g.ledger ≡ true))) }
-        ensures refused { IfErr result (λ fault. (fault ≡ Device) ⊎ (fault ≡ OutOfMemory)) }
+        ensures refused { IfErr result (RefusesFlush (based_on D.keeps_model D.present L.base L.before) D.failures) }
     {
-        let mut flight = match self.begin(rt)? {
-            None => return Ok(None),
-            Some(flight) => flight,
-        };
-        let committed = flight.commit();
-        let releases = self.end(rt, flight);
+        fly(&mut EngineHangar { rt, engine: self })
+    }
+
+    /// Wakes all that wait, for replies or for steps.
+    pub(crate) fn wake_all(&self) {
         self.changed.notify_all();
         self.work.notify_all();
-        match committed {
-            Ok(()) => Ok(Some(releases)),
-            Err(fault) => {
-                releases.lose_rest();
-                Err(fault)
-            }
-        }
     }
 
     /// Sends the next flight out.
-    fn begin<R: Wait>(&self, rt: &R) -> Result<Option<Flight<D>>, AllocError>
+    pub(crate) fn begin<R: Wait>(&self, rt: &R) -> Result<Option<Flight<D>>, AllocError>
         ensures begun { IfOk result (λ begun. IfSome begun (λ flight. AtSomeMoment (based_on D.keeps_model D.present L.base L.before) (Leaves {D = D} flight))) }
         ensures nothing { IfOk result (λ begun. IfNone begun (AtSomeMoment (based_on D.keeps_model D.present L.base L.before) (λ g. keeps_store g.ledger ≡ true))) }
+        ensures refused { OnErr result (AtSomeMoment (based_on D.keeps_model D.present L.base L.before) (λ g. keeps_store g.ledger ≡ false)) }
     {
         let mut guarded = self.guarded.lock(rt);
         guarded.keeps();
@@ -161,15 +156,21 @@ impl<D: Disk, L: Origin> Engine<D, L> {
     }
 
     /// Takes a flight back. Where it is refused, for memory, it is tried again.
-    fn end<R: Wait>(&self, rt: &R, flight: Flight<D>) -> Releases
-        ensures { result ≡ releases_in flight flight.mark }
+    pub(crate) fn end<R: Wait>(&self, rt: &R, flight: Flight<D>) -> Releases
+        ensures released { result ≡ releases_in flight flight.mark }
+        ensures back { AtSomeMoment (based_on D.keeps_model D.present L.base L.before) (ComesBack flight) }
     {
         let mut out = flight;
         for _ in rt.forever() {
-            match self.guarded.lock(rt).end(out) {
-                Ok(releases) => return releases,
+            let mut guarded = self.guarded.lock(rt);
+            match guarded.end(out) {
+                Ok(releases) => {
+                    guarded.keeps();
+                    return releases;
+                }
                 Err((_, back)) => out = back,
             }
+            drop(guarded);
             thread::yield_now();
         }
         unreachable!()
@@ -178,8 +179,7 @@ impl<D: Disk, L: Origin> Engine<D, L> {
     /// From now on no step is accepted. What is pending is still settled.
     pub fn finish<R: Wait>(&self, rt: &R) {
         self.guarded.lock(rt).finish();
-        self.changed.notify_all();
-        self.work.notify_all();
+        self.wake_all();
     }
 
     /// Takes the engine apart, where no flight is out, all shares are there and what they noted is

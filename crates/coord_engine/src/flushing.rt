@@ -1,12 +1,15 @@
 //! Flights as they are needed, and what they release handed to a port.
 
 ghost use Rattle.std.specs.Prelude.{◌≡◌, length};
+ghost use Rattle.coord_engine.specs.Flushing.{HasFlushed};
 
+use crate::handing::{Taker, hand_each};
 use crate::port::{Delivery, Port};
-use crate::{Engine, Guarded, Origin};
+use crate::{Engine, Origin};
 use coord_disk::Disk;
 use coord_ledger::Releases;
 use coord_store::CommitFault;
+use coord_types::{NodeId, Packet};
 use std::sync::Wait;
 use std::thread;
 use std::time::{Clock, Duration};
@@ -17,11 +20,91 @@ const PATIENCE: u64 = 5;
 /// How many milliseconds a flusher that found no memory waits before it tries again.
 const REST: u64 = 1;
 
+/// What a flusher works at. Its meaning is what it may be after each call.
+pub trait Deck: Taker {
+    ghost use Rattle.coord_engine.specs.Flushing.{DeckMoves};
+
+    /// What it may be after each call but `take`.
+    ghost moves: { DeckMoves Self };
+
+    /// Waits until a flight starts. False once none will start any more.
+    fn wait(&mut self) -> bool
+        ensures { moves.waits self.old result self.new };
+
+    /// Has the next flight flown.
+    fn flush(&mut self) -> Result<Option<Releases>, CommitFault>
+        ensures { moves.flushes self.old result self.new };
+
+    /// Rests a little.
+    fn rest(&mut self)
+        ensures { moves.rests self.old self.new };
+}
+
+/// Flushes as long as flights start, and hands over what each releases. It ends after a fault of
+/// the device; where no memory is found it rests and goes on.
+pub fn flush_all<K: Deck, R: Wait>(rt: &R, deck: &mut K)
+    ensures { HasFlushed K.moves K.takes deck.old deck.new }
+{
+    for _ in rt.forever() {
+        if !deck.wait() {
+            return;
+        }
+        match deck.flush() {
+            Ok(None) => {}
+            Ok(Some(releases)) => {
+                hand_each(deck, releases);
+            }
+            Err(CommitFault::OutOfMemory) => deck.rest(),
+            Err(_) => return,
+        }
+    }
+}
+
+/// A deck over an engine and a port.
+#[derive(Drop)]
+struct EngineDeck<'a, D: Disk, L: Origin, P: Port, R: Wait> {
+    rt: &'a R,
+    engine: &'a Engine<D, L>,
+    port: &'a P,
+}
+
+impl<'a, D: Disk, L: Origin, P: Port, R: Wait> Taker for EngineDeck<'a, D, L, P, R> {
+    // Nothing is known of what lies behind a lock, nor of a port.
+    ghost takes = { λ _ _ _. Unit {0} };
+
+    fn take(&mut self, delivery: Delivery) {
+        match delivery {
+            Delivery::Signal(node, epoch) => {
+                self.port.signal(node, epoch);
+            }
+            Delivery::Carry(to, packet) => {
+                self.engine.hand_packet(self.rt, self.port, to, packet);
+            }
+        }
+    }
+}
+
+impl<'a, D: Disk, L: Origin, P: Port, R: Wait + Clock> Deck for EngineDeck<'a, D, L, P, R> {
+    ghost moves = { record { waits = λ _ _ _. Unit {0}; flushes = λ _ _ _. Unit {0}; rests = λ _ _. Unit {0} } };
+
+    fn wait(&mut self) -> bool {
+        self.engine.waits_for_flight(self.rt)
+    }
+
+    fn flush(&mut self) -> Result<Option<Releases>, CommitFault> {
+        self.engine.flush_once(self.rt)
+    }
+
+    fn rest(&mut self) {
+        thread::sleep(self.rt, Duration::from_millis(REST));
+    }
+}
+
 impl<D: Disk, L: Origin> Engine<D, L> {
     /// A packet is handed to a port: it is in hand, unless the port says that it is lost.
-    fn hand_packet<P: Port, R: Wait>(&self, rt: &R, port: &P, delivery: Delivery) {
+    fn hand_packet<P: Port, R: Wait>(&self, rt: &R, port: &P, to: NodeId, packet: Packet) {
         self.guarded.lock(rt).raise_in_hand();
-        if !delivery.reaches(port) {
+        if !port.carry(to, packet) {
             self.put_down(rt);
         }
     }
@@ -54,8 +137,8 @@ impl<D: Disk, L: Origin> Engine<D, L> {
     }
 }
 
-/// Hands all that was released to a port, and answers how much that was. What the port answers that
-/// it has lost is lost.
+/// Hands all that was released to a port, in order and each delivery once (`hand_each`), and answers
+/// how much that was. What the port answers that it has lost is lost.
 pub fn hand_over<D: Disk, L: Origin, P: Port, R: Wait>(
     rt: &R,
     engine: &Engine<D, L>,
@@ -64,24 +147,11 @@ pub fn hand_over<D: Disk, L: Origin, P: Port, R: Wait>(
 ) -> u64
     ensures { result ≡ length releases }
 {
-    let mut left = releases;
-    let count = left.len();
-    for _ in 0..count {
-        if let Some(release) = left.next() {
-            match Delivery::of(release.output) {
-                Delivery::Signal(node, epoch) => {
-                    port.signal(node, epoch);
-                }
-                packet => engine.hand_packet(rt, port, packet),
-            }
-        }
-    }
-    left.lose_rest();
-    count
+    hand_each(&mut EngineDeck { rt, engine, port }, releases)
 }
 
-/// Flushes what is accepted, and hands what was released to the port. Before a flight it lets the
-/// packets that it released come back as steps, for some milliseconds at most.
+/// Flushes what is accepted, and hands what was released to the port (`flush_all`). Before a flight
+/// it lets the packets that it released come back as steps, for some milliseconds at most.
 ///
 /// It ends after a fault of the device, and after `Engine::finish` once nothing is pending. Where it
 /// finds no memory it tries again.
@@ -90,19 +160,5 @@ pub fn flusher<D: Disk, L: Origin, P: Port, R: Wait + Clock>(
     engine: &Engine<D, L>,
     port: &P,
 ) {
-    for _ in rt.forever() {
-        if !engine.waits_for_flight(rt) {
-            return;
-        }
-        match engine.flush_once(rt) {
-            Ok(None) => {}
-            Ok(Some(releases)) => {
-                hand_over(rt, engine, port, releases);
-            }
-            Err(CommitFault::OutOfMemory) => {
-                thread::sleep(rt, Duration::from_millis(REST));
-            }
-            Err(_) => return,
-        }
-    }
+    flush_all(rt, &mut EngineDeck { rt, engine, port });
 }

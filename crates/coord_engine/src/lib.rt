@@ -19,11 +19,15 @@
 //! `specs/Waiting.antt` what a worker keeps for another try.
 #![tactic(auto)]
 
+mod bench;
 mod closed;
 mod collected;
 mod engine;
 mod flushing;
+mod flying;
 mod guarded;
+mod handing;
+mod hangar;
 pub mod named_rows;
 mod origin;
 mod packet_share;
@@ -33,11 +37,14 @@ mod share;
 mod waiting;
 mod working;
 
+pub use bench::{Bench, work};
 pub use closed::{CloseFault, Closed};
 pub use collected::Collected;
 pub use engine::Engine;
-pub use flushing::{flusher, hand_over};
+pub use flushing::{Deck, flush_all, flusher, hand_over};
+pub use flying::{Hangar, fly};
 pub use guarded::Guarded;
+pub use handing::{Taker, hand_each};
 pub use origin::Origin;
 pub use packet_share::PacketShare;
 pub use port::{Delivery, Port, step_of};

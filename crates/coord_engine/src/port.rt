@@ -36,14 +36,6 @@ impl Delivery {
             Output::Signalled(node, epoch) => Delivery::Signal(node, epoch),
         }
     }
-
-    /// Asks it of this port.
-    pub(crate) fn reaches<P: Port>(self, port: &P) -> bool {
-        match self {
-            Delivery::Carry(to, packet) => port.carry(to, packet),
-            Delivery::Signal(node, epoch) => port.signal(node, epoch),
-        }
-    }
 }
 
 /// The step that a packet makes where it has come.

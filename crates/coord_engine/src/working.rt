@@ -2,66 +2,46 @@
 
 ghost use Rattle.coord_engine.specs.Working.{AddsPackets};
 
-use crate::port::step_of;
-use crate::{Engine, Origin, PacketShare, Share, Waiting};
+use crate::bench::{Bench, work};
+use crate::{Engine, Origin, PacketShare, Share};
 use coord_disk::Disk;
-use coord_types::{Packet, Refusal};
+use coord_types::{Packet, Refusal, Step};
 use crossbeam_channel::Receiver;
 use std::alloc::Global;
 use std::sync::Wait;
 
-/// Submits a packet's step. Whether the packet has to wait: there was no room for the step.
-#[tactic(auto, using(crate::proofs::PacketNotes::adds_packet))]
-fn has_to_wait<D: Disk, L: Origin, R: Wait>(
-    rt: &R,
-    engine: &Engine<D, L>,
-    packet: &Packet,
-    share: &mut Share<L>,
-) -> bool
-    ensures { AddsPackets share.old share.new }
-{
-    match engine.submit(rt, step_of(*packet), share) {
-        Ok(ticket) => {
-            ticket.forget();
-            false
-        }
-        Err(refusal) => matches!(refusal, Refusal::PendingFull | Refusal::OutOfMemory),
-    }
+/// A bench over an engine, a channel and a share.
+#[derive(Drop)]
+struct EngineBench<'a, D: Disk, L: Origin, R: Wait> {
+    rt: &'a R,
+    engine: &'a Engine<D, L>,
+    packets: Receiver<Packet>,
+    share: Share<L>,
 }
 
-/// Submits those that wait, in order and up to one that still has to.
-#[tactic(auto, using(crate::proofs::PacketNotes::adds_none, crate::proofs::PacketNotes::adds_more))]
-fn try_waiting<D: Disk, L: Origin, R: Wait>(
-    rt: &R,
-    engine: &Engine<D, L>,
-    waiting: &mut Waiting,
-    share: &mut Share<L>,
-)
-    ensures { AddsPackets share.old share.new }
-{
-    for _ in 0..waiting.len() {
-        let Some(packet) = waiting.first() else {
-            return;
-        };
-        if has_to_wait(rt, engine, &packet, share) {
-            return;
-        }
-        waiting.drop_first();
-    }
-}
+impl<'a, D: Disk, L: Origin, R: Wait> Bench for EngineBench<'a, D, L, R> {
+    ghost use Rattle.coord_engine.specs.Working.{bench_moves};
 
-/// Submits a packet that came. Where it has to wait it is kept, if there is memory for it.
-fn submit_or_keep<D: Disk, L: Origin, R: Wait>(
-    rt: &R,
-    engine: &Engine<D, L>,
-    packet: &Packet,
-    waiting: &mut Waiting,
-    share: &mut Share<L>,
-)
-    ensures { AddsPackets share.old share.new }
-{
-    if has_to_wait(rt, engine, packet, share) {
-        let _ = waiting.put(*packet);
+    ghost moves = { bench_moves (λ s. s.share) };
+
+    fn receive(&mut self) -> Option<Packet> {
+        self.packets.recv(self.rt).ok()
+    }
+
+    fn submit(&mut self, step: Step) -> Result<(), Refusal> {
+        match self.engine.submit(self.rt, step, &mut self.share) {
+            Ok(ticket) => {
+                ticket.forget();
+                Ok(())
+            }
+            Err(refusal) => Err(refusal),
+        }
+    }
+
+    fn lose(&mut self, _packet: Packet) {}
+
+    fn put_down(&mut self) {
+        self.engine.put_down(self.rt);
     }
 }
 
@@ -69,9 +49,8 @@ fn submit_or_keep<D: Disk, L: Origin, R: Wait>(
 /// forgotten.
 ///
 /// Where no more steps may be pending, or no memory is found, it keeps the packet, and tries those
-/// kept again before it takes the next one. After any other refusal, and where there is no memory
-/// to keep it, it drops the packet: what was needed is sent again.
-#[tactic(auto, using(crate::proofs::PacketNotes::adds_none, crate::proofs::PacketNotes::adds_more))]
+/// kept again before it takes the next one (`work`). After any other refusal, and where there is no
+/// memory to keep it, it drops the packet: what was needed is sent again.
 pub fn worker<D: Disk, L: Origin, R: Wait>(
     rt: &R,
     alloc: Global,
@@ -81,17 +60,14 @@ pub fn worker<D: Disk, L: Origin, R: Wait>(
 ) -> Share<L>
     ensures { AddsPackets share result }
 {
-    let mut share = share;
-    let mut waiting = Waiting::new(alloc);
-    for _ in rt.forever() {
-        try_waiting(rt, engine, &mut waiting, &mut share);
-        let Ok(packet) = packets.recv(rt) else {
-            break;
-        };
-        submit_or_keep(rt, engine, &packet, &mut waiting, &mut share);
-        engine.put_down(rt);
-    }
-    share
+    let mut bench = EngineBench {
+        rt,
+        engine,
+        packets,
+        share,
+    };
+    work(rt, alloc, &mut bench);
+    bench.share
 }
 
 /// A worker whose share says by its type that its notes are of packets, for a thread of its own.

@@ -3,7 +3,7 @@ use Rattle.coord_ledger.specs.ledger.Calls.{keeps_store, next_flight, with_out}
 use Rattle.coord_ledger.specs.ledger.State.{FlightState}
 use Rattle.coord_engine.specs.State.{based_on, CanHold, with_ledger}
 use Rattle.coord_engine.specs.Threads.{Leaves}
-use Rattle.coord_engine.proofs.Flights.{goes, is_flight, of_flight, of_none, stays}
+use Rattle.coord_engine.proofs.Flights.{goes, is_flight, is_refused, of_flight, of_none, stays}
 use Rattle.coord_engine.proofs.Moments.{then}
 use Rattle.coord_engine.proofs.engine.Engine.begin.Goals as goal
 
@@ -22,3 +22,10 @@ returns-in-Ok-None-clause-nothing g c =
     let Q : FlightState g.row.D.Denot → Type 0 = λ f. (f ≡ next_flight s.ledger.log f.disk) × (s.ledger.disk ≡ Some f.disk) × (c.begin.new.self ≡ with_ledger s (with_out s.ledger (length f.steps))) in
     let kept : keeps_store s.ledger ≡ true = stays (keeps_store s.ledger) (λ k. of_none c.in-Ok-None.field-0 Q c.in-Ok-None.field-0-is (c.in-Ok-None.ensures.begun k)) in
     then b s (subst (CanHold b) (c.deref.ensures ∙ sym c.deref_mut.ensures.value) c.keeps.ensures) (λ x. keeps_store x.ledger ≡ true) kept
+
+pub returns-in-Err-clause-refused : goal.returns-in-Err-clause-refused
+returns-in-Err-clause-refused g c =
+    let b = based_on g.D.Disk.keeps_model g.D.Disk.present g.L.Origin.base g.L.Origin.before in
+    let s = c.deref_mut.result.now in
+    let going : keeps_store s.ledger ≡ false = goes (keeps_store s.ledger) (λ k. is_refused (c.in-Err.ensures.nothing k).0) in
+    then b s (subst (CanHold b) (c.deref.ensures ∙ sym c.deref_mut.ensures.value) c.keeps.ensures) (λ x. keeps_store x.ledger ≡ false) going

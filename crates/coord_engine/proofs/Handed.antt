@@ -1,0 +1,27 @@
+-- One delivery more.
+use Rattle.std.proofs.Common.{◌≡◌, ℕ, zero, suc, List, [], ◌∷◌, ◌++◌, ◌+◌, ◌∙◌, Option, Some, None, drop, take, refl, ap, subst, arith}
+use Rattle.std.specs.Prelude.{slice_get}
+use Rattle.coord_ledger.specs.declared.release.Release.{Release}
+use Rattle.coord_engine.specs.Handing.{TakesAll, deliveries_of}
+use Rattle.coord_engine.specs.Port.{delivery_of}
+use Rattle.coord_engine.specs.declared.port.Delivery.{Delivery}
+
+module _ {S : Type 0} (takes : S → Delivery → S → Type 0) where
+  -- a last one is taken
+  pub takes_last : (s m t : S) (ds : List Delivery) (d : Delivery) → TakesAll takes s ds m → takes m d t → TakesAll takes s (ds ++ d ∷ []) t
+  takes_last s m t [] d is last = (t, subst (λ x. takes x d t) is last, refl)
+  takes_last s m t (e ∷ ds) d is last = (is.0, is.1, takes_last is.0 m t ds d is.2 last)
+
+some_is : {A : Type 0} → A → Option A → A
+some_is d None = d
+some_is d (Some x) = x
+
+next_at : (k : ℕ) (released : List Release) (r : Release) → slice_get (drop k released) 0 ≡ Some r → deliveries_of (take (suc k) released) ≡ deliveries_of (take k released) ++ delivery_of r.output ∷ []
+next_at zero [] r is = cc
+next_at (suc k) [] r is = cc
+next_at zero (x ∷ xs) r is = ap (λ y. delivery_of y.output ∷ []) (ap (some_is r) is)
+next_at (suc k) (x ∷ xs) r is = ap (λ l. delivery_of x.output ∷ l) (next_at k xs r is)
+
+-- the next release is asked for behind those before it
+pub next_asked : (k : ℕ) (released : List Release) (r : Release) → slice_get (drop k released) 0 ≡ Some r → deliveries_of (take (k + 1) released) ≡ deliveries_of (take k released) ++ delivery_of r.output ∷ []
+next_asked k released r is = let e : k + 1 ≡ suc k = omega arith in ap (λ n. deliveries_of (take n released)) e ∙ next_at k released r is
