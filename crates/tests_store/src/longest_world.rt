@@ -150,14 +150,19 @@ fn is_legal(alloc: Global, bytes: &[u8]) -> Result<bool, Fail> {
     Ok(check(&world).is_none() && write_world(alloc, &world)?.as_slice() == bytes)
 }
 
-// Whether a store opens on them.
-fn is_opened(alloc: Global, bytes: &[u8]) -> Result<bool, Fail> {
+// A device with a store of this version over them.
+fn formatted(alloc: Global, version: u8, bytes: &[u8]) -> Result<MemDisk, Fail> {
     if bytes.len() > 16_384 {
-        return Ok(false);
+        return Err("too long")?;
     }
     let mut disk = MemDisk::new(alloc);
-    format(alloc, &mut disk, HALF, 2, bytes)?;
-    Ok(count_on(alloc, disk)? == COUNT)
+    format(alloc, &mut disk, HALF, version, bytes)?;
+    Ok(disk)
+}
+
+// Whether a store opens on them.
+fn is_opened(alloc: Global, bytes: &[u8]) -> Result<bool, Fail> {
+    Ok(count_on(alloc, formatted(alloc, 2, bytes)?)? == COUNT)
 }
 
 fn is_longest(alloc: Global) -> Result<bool, Fail> {
@@ -171,19 +176,21 @@ fn the_longest_legal_world(rt: HostRuntime) -> Result<(), Fail> {
     Ok(())
 }
 
+// The spelling of the world on a device.
+fn spelled_on(alloc: Global, disk: MemDisk) -> Result<Vec<u8>, Fail> {
+    let store = opened(alloc, disk)?;
+    let spelling = write_world(alloc, store.world());
+    drop(store);
+    Ok(spelling?)
+}
+
 // Whether a store of version 1 over these bytes is raised to one whose world is spelled so in version 2.
 fn is_raised(alloc: Global, bytes: &[u8], wanted: &[u8]) -> Result<bool, Fail> {
-    if bytes.len() > 16_384 {
-        return Ok(false);
-    }
-    let mut disk = MemDisk::new(alloc);
-    format(alloc, &mut disk, HALF, 1, bytes)?;
-    let mut store = opened(alloc, disk)?;
+    let mut store = opened(alloc, formatted(alloc, 1, bytes)?)?;
     let answer = store.migrate();
     let disk = store.into_disk();
     answer?;
-    let store = opened(alloc, disk)?;
-    Ok(write_world(alloc, store.world())?.as_slice() == wanted)
+    Ok(spelled_on(alloc, disk)?.as_slice() == wanted)
 }
 
 #[test]

@@ -11,18 +11,19 @@ use coord_world::{Verdict, World};
 use std::alloc::Global;
 use std::test::Fail;
 
-// Raises a store, at the second call where the first one finds no memory: it leaves the store as it
-// was then.
-fn raise(store: &mut Store<MemDisk>) -> Result<(), Fail> {
+// Raises a store, at the second call where the first one finds no memory, and says whether its world is
+// as it was then.
+fn raises(store: &mut Store<MemDisk>) -> Result<bool, StoreFault> {
     let before = store.world().copy()?;
-    let first = store.migrate();
-    if first != Err(StoreFault::OutOfMemory) {
-        return Ok(first?);
+    match store.migrate() {
+        Ok(()) => Ok(true),
+        Err(StoreFault::OutOfMemory) => {
+            let is_same = *store.world() == before;
+            store.migrate()?;
+            Ok(is_same)
+        }
+        Err(fault) => Err(fault),
     }
-    if *store.world() != before || store.stopped() {
-        return Err("the store changed")?;
-    }
-    Ok(store.migrate()?)
 }
 
 fn node(number: u8) -> NodeId
@@ -36,6 +37,7 @@ fn node(number: u8) -> NodeId
 fn making(number: u8) -> Step
     requires least { 1 ≤ number }
     requires greatest { number ≤ 16 }
+    ensures { IsNumbered result }
 {
     let command = match number {
         1..9 => Command::Add(node(number), Group::new(1).unwrap()),
@@ -137,13 +139,12 @@ fn is_answered(world: &World) -> bool {
 // four links away.
 fn goes_on(alloc: Global) -> Result<bool, Fail> {
     let mut store = opened(alloc, ring(alloc)?)?;
-    let raised = raise(&mut store);
+    let is_raised = raises(&mut store);
     let is_answered = is_answered(store.world());
     let greatest = reset_ring(&mut store);
     let are_reset = are_reset(store.world());
     drop(store);
-    raised?;
-    Ok(is_answered && greatest? == 4 && are_reset)
+    Ok(is_raised? && is_answered && greatest? == 4 && are_reset)
 }
 
 #[test]
@@ -164,21 +165,19 @@ fn reset_often(alloc: Global, store: &mut Store<MemDisk>) -> Result<bool, Commit
 // Whether twelve batches fill the half until a checkpoint, which writes version 2 over the first half.
 fn fills_its_half(alloc: Global) -> Result<bool, Fail> {
     let mut store = opened(alloc, begun(alloc, 1)?)?;
-    let raised = raise(&mut store);
+    let is_raised = raises(&mut store);
     let are_fresh = reset_often(alloc, &mut store);
     let disk = store.into_disk();
-    raised?;
     let is_written = disk.bytes().first() == Some(&0) && disk.bytes().get(17) == Some(&2);
-    Ok(are_fresh? && is_written && told_on(alloc, disk)? == (2, 3_073))
+    Ok(is_raised? && are_fresh? && is_written && told_on(alloc, disk)? == (2, 3_073))
 }
 
 // Whether a store without steps is raised.
 fn is_raised_empty(alloc: Global) -> Result<bool, Fail> {
     let mut store = created(alloc, 1)?;
-    let raised = raise(&mut store);
+    let is_raised = raises(&mut store);
     let disk = store.into_disk();
-    raised?;
-    Ok(told_on(alloc, disk)? == (2, 0))
+    Ok(is_raised? && told_on(alloc, disk)? == (2, 0))
 }
 
 #[test]

@@ -170,20 +170,27 @@ fn first_wrong(
     Ok(None)
 }
 
+// The same from the first half, or from the second one.
+fn first_wrong_from(alloc: Global, from_first: bool) -> Result<Option<(u64, usize)>, Fail> {
+    let mut disk = reset_of_two(alloc)?;
+    if !from_first {
+        disk = turned(alloc, disk.bytes())?;
+    }
+    let wrong = first_wrong(alloc, disk.bytes(), from_first);
+    drop(disk);
+    Ok(wrong?)
+}
+
 #[test]
 fn a_migration_leaves_the_one_version_or_the_other(rt: HostRuntime) -> Result<(), Fail> {
-    let alloc = rt.alloc();
-    let disk = reset_of_two(alloc)?;
-    let wrong = first_wrong(alloc, disk.bytes(), true)?;
-    assert!(rt; wrong.is_none(), "from the first half: {wrong:?}");
+    let wrong = first_wrong_from(rt.alloc(), true)?;
+    assert!(rt; wrong.is_none(), "{wrong:?}");
     Ok(())
 }
 
 #[test]
 fn it_does_so_from_the_second_half(rt: HostRuntime) -> Result<(), Fail> {
-    let alloc = rt.alloc();
-    let disk = turned(alloc, reset_of_two(alloc)?.bytes())?;
-    let wrong = first_wrong(alloc, disk.bytes(), false)?;
-    assert!(rt; wrong.is_none(), "from the second half: {wrong:?}");
+    let wrong = first_wrong_from(rt.alloc(), false)?;
+    assert!(rt; wrong.is_none(), "{wrong:?}");
     Ok(())
 }
