@@ -9,7 +9,7 @@ use Rattle.std.proofs.lemmas.Bool.Decides.{nat_tests}
 use Rattle.std.proofs.lemmas.Fmt.{decimal_is_IsNumeral}
 use Rattle.std.proofs.lemmas.Grind.{common_steps}
 use Rattle.std.proofs.lemmas.Str.Parse.{numerals_by_value, tells_all_ascii_digits}
-use Rattle.coord_drill.specs.Format.{◌>>=◌, Word, field}
+use Rattle.coord_drill.specs.Format.{◌>>=◌, Read, Word, field}
 use Rattle.coord_drill.specs.Grammar.{distance, is_space, number_of, up_to, number, number_to, node, group, client}
 use Rattle.coord_drill.proofs.Formats.{ArePlain, IsPlain, IsFormat, field_format}
 
@@ -66,15 +66,18 @@ unfolding client
 client_format = number_to_format 16 (omega arith)
 
 -- a distance: in version 2 a number, and in version 1 no word
-distance_again : (version k : ℕ) (ws rest : List Word) (b : Bool) → (version == 2) ≡ b → cond b (number.spell k) (cond (k == 0) (Some []) None) ≡ Some ws → cond b (number.read (ws ++ rest)) (Some (0, ws ++ rest)) ≡ Some (k, rest)
-distance_again version k ws rest true is e = number_format.again k ws rest e
-distance_again version k ws rest false is e = zero_again (k == 0) refl e
+abbrev read_none : List Word → Read ℕ
+read_none ws = Some (0, ws)
+
+distance_again : (version k : ℕ) (ws rest : List Word) (b : Bool) → cond b (number.spell k) (cond (k == 0) (Some []) None) ≡ Some ws → cond b (number.read (ws ++ rest)) (read_none (ws ++ rest)) ≡ Some (k, rest)
+distance_again version k ws rest true e = number_format.again k ws rest e
+distance_again version k ws rest false e = zero_again (k == 0) refl e
   where
-    zero_again : (z : Bool) → (k == 0) ≡ z → cond z (Some []) None ≡ Some ws → Some (0, ws ++ rest) ≡ Some (k, rest)
+    zero_again : (z : Bool) → (k == 0) ≡ z → cond z (Some []) None ≡ Some ws → read_none (ws ++ rest) ≡ Some (k, rest)
     zero_again true none f =
         let same : [] ≡ ws = cc in
         let zero : 0 ≡ k = grind (arith, nat_tests, none) in
-        subst (λ vs. Some (0, vs ++ rest) ≡ Some (k, rest)) same (ap (λ n. Some (n, rest)) zero)
+        subst (λ vs. read_none (vs ++ rest) ≡ Some (k, rest)) same (subst (λ n. read_none rest ≡ Some (n, rest)) zero refl)
     zero_again false none f = absurd cc
 
 distance_plain : (version k : ℕ) (ws : List Word) (b : Bool) → cond b (number.spell k) (cond (k == 0) (Some []) None) ≡ Some ws → ArePlain ws
@@ -87,11 +90,11 @@ distance_plain version k ws false e = zero_plain (k == 0) e
 
 pub distance_format : (version : ℕ) → IsFormat (distance version)
 unfolding distance
-distance_format version = record { again = λ k ws rest e. distance_again version k ws rest (version == 2) refl e; plain = λ k ws e. distance_plain version k ws (version == 2) e }
+distance_format version = record { again = λ k ws rest e. distance_again version k ws rest (version == 2) e; plain = λ k ws e. distance_plain version k ws (version == 2) e }
 
 -- the word 2
-two_agrees : (x : Unit {0}) (w : Word) → Some (codes "2") ≡ Some w → (cond (bytes_eq w (codes "2")) (Some tt) None ≡ Some x) × IsPlain w
-two_agrees x w e = let same : codes "2" ≡ w = cc in subst (λ v. (cond (bytes_eq v (codes "2")) (Some tt) None ≡ Some x) × IsPlain v) same (refl, refl)
+two_agrees : (x : Unit {0}) (w : Word) → Some (codes "2") ≡ Some w → (cond (bytes_eq w (codes "2")) (Some (tt {0})) None ≡ Some x) × IsPlain w
+two_agrees x w e = let same : codes "2" ≡ w = cc in subst (λ v. (cond (bytes_eq v (codes "2")) (Some (tt {0})) None ≡ Some x) × IsPlain v) same (refl, refl)
 
-pub two_format : IsFormat (field (λ (_ : Unit {0}). Some (codes "2")) (λ word. if bytes_eq word (codes "2") then Some tt else None))
+pub two_format : IsFormat (field (λ (_ : Unit {0}). Some (codes "2")) (λ word. if bytes_eq word (codes "2") then Some (tt {0}) else None))
 two_format = field_format _ _ two_agrees

@@ -98,7 +98,7 @@ receipt_fields = made (λ p. Receipt (record { from = p.0; to = p.1.0; inc = p.1
 -- the word 2, and no other spelling of it
 unfoldable pub version_fields : Format Request
 version_fields = made (λ _. Version2) (λ x. elim x [ Version2 ↦ Some tt | _ ↦ None ])
-    (field (λ _. Some (codes "2")) (λ word. if bytes_eq word (codes "2") then Some tt else None))
+    (field (λ _. Some (codes "2")) (λ word. if bytes_eq word (codes "2") then Some (tt {0}) else None))
 
 unfoldable pub other_requests : ℕ → List (Row Request)
 other_requests version =

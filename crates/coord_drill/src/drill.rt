@@ -100,7 +100,6 @@ impl Drill {
     }
 
     /// From now on accepted steps are not settled at once.
-    #[tactic(auto, using(crate::proofs::Quiet::does_hold))]
     fn hold(&mut self)
         requires ready { IsReady self.old }
         ensures ready { IsReady self.new }

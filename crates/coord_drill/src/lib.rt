@@ -2,7 +2,9 @@
 //! writer.
 //!
 //! It stands on a ledger over a disk in memory. Each accepted step is settled at once by one flight,
-//! unless steps are held; a crash loses what is not settled.
+//! unless steps are held; a crash loses what is not settled. It begins in version 1, and is one of
+//! version 2 from a line `version 2` on, which is read before its first accepted step alone. What is
+//! read and printed of an Abort goes by the version.
 //!
 //! `specs/Grammar.antt` says what a line asks for and `specs/Asked.antt` what that is by the front
 //! world; `specs/Drill.antt` what becomes of a drill, a few events of the event machine for each

@@ -92,7 +92,7 @@ fn respond(
     requires ready { IsReady drill.old }
     ensures ready { OnOk result (IsReady drill.new) }
     ensures told { OnOk result (Tells (string_bytes text.old) (string_bytes text.new)
-        (λ told. Responds (state_of drill.old) number (option_and_then (asked_by (state_of drill.old)) (option_copied line)) told (state_of drill.new))) }
+        (λ told. Responds (state_of drill.old) number (option_and_then (asked_by (state_of drill.old)) (option_copied line.entry)) told (state_of drill.new))) }
     ensures fault { IfErr result IsOfWork }
 {
     let request = match line {

@@ -1,4 +1,4 @@
-use Rattle.std.proofs.Common.{◌≡◌, ◌∷◌, ◌++◌, [], rules, sym, subst, string_bytes}
+use Rattle.std.proofs.Common.{true, ◌≡◌, ◌∷◌, ◌++◌, [], rules, sym, subst, string_bytes}
 use Rattle.std.proofs.lemmas.Result.{on_ok_weaker}
 use Rattle.coord_ledger.specs.ledger.State.{reply_of}
 use Rattle.coord_ledger.specs.machine.Log.{settled_count}
