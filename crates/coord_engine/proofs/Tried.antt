@@ -6,7 +6,7 @@ use Rattle.coord_types.specs.declared.refusals.Refusal.{Refusal}
 use Rattle.coord_engine.specs.Benches.{BenchMoves, TriesAll, has_to_wait}
 use Rattle.coord_engine.specs.Port.{step_of}
 
-some_is : {A : Type 0} (d : A) → Option A → A
+abbrev some_is : {A : Type 0} (d : A) → Option A → A
 some_is d None = d
 some_is d (Some x) = x
 
