@@ -29,8 +29,9 @@ impl<'a, D: Disk, L: Origin, R: Wait> EngineHangar<'a, D, L, R> {
 
     /// A flight that is still out is taken back.
     pub(crate) fn leave(self) {
-        if let Some(flight) = self.out {
-            self.engine.end(self.rt, flight).lose_rest();
+        let EngineHangar { rt, engine, out } = self;
+        if let Some(flight) = out {
+            engine.end(rt, flight).lose_rest();
         }
     }
 }
