@@ -1,13 +1,12 @@
 -- What is told of a flight.
-use Rattle.std.proofs.Common.{◌≡◌, ◌⊎◌, ℕ, List, Option, Some, None, Result, Ok, Err, Bool, true, false, refl, sym, ap, subst, inl, inr}
+use Rattle.std.proofs.Common.{◌≡◌, ℕ, List, Option, Some, None, Result, Ok, Err, true, false, refl, sym, ap, subst, inl, inr}
 use Rattle.std.specs.Prelude.{IfErr, IfNone, IfOk, IfSome, IsSomeAnd}
 use Rattle.coord_store.specs.declared.faults.CommitFault.{CommitFault}
 use Rattle.coord_store.specs.declared.faults.CommitFault.TheVariants.{Again, Device, Full, OutOfMemory, Stopped}
-use Rattle.coord_ledger.specs.declared.mark.Mark.TheVariants.{New, Good, Torn}
 use Rattle.coord_ledger.specs.declared.release.Release.{Release}
 use Rattle.coord_ledger.specs.ledger.Calls.{keeps_store}
 use Rattle.coord_ledger.specs.ledger.State.{FlightState}
-use Rattle.coord_engine.specs.Flights.{Commits, Ended, FlewBack, RefusesFlush, hangar_moves}
+use Rattle.coord_engine.specs.Flights.{Commits, Ended, RefusesFlush, hangar_moves}
 use Rattle.coord_engine.specs.Flying.{Flies, HangarMoves, Tells}
 use Rattle.coord_engine.specs.State.{Basis}
 use Rattle.coord_engine.specs.Threads.{AtSomeMoment, Flushes, Leaves}

@@ -1,5 +1,5 @@
 -- The flights of an engine: how they leave and come back while other threads call too.
-use Rattle.std.specs.Prelude.{◌≡◌, ◌⊎◌, ℕ, ◌+◌, true, false, List, Option, Some, None, Result, Ok, Err, Bool, IsSomeAnd, length}
+use Rattle.std.specs.Prelude.{◌≡◌, ◌⊎◌, ℕ, ◌+◌, true, false, List, Option, Some, Result, Ok, Err, Bool, IsSomeAnd, length}
 use Rattle.coord_store.specs.declared.faults.CommitFault.{CommitFault}
 use Rattle.coord_store.specs.declared.faults.CommitFault.TheVariants.{Device, OutOfMemory}
 use Rattle.coord_ledger.specs.declared.mark.Mark.{Mark}

@@ -1,4 +1,4 @@
-use Rattle.std.proofs.Common.{◌≡◌, true, Some, sym, subst, ◌∙◌}
+use Rattle.std.proofs.Common.{◌≡◌, true, sym, subst, ◌∙◌}
 use Rattle.coord_engine.specs.Benches.{has_to_wait}
 use Rattle.coord_engine.proofs.Tried.{tries_stuck}
 use Rattle.coord_engine.proofs.bench.try_waiting.Goals as goal
