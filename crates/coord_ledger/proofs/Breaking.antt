@@ -1,5 +1,5 @@
 -- A run that ends early: at an event, or behind the last one.
-use Rattle.std.proofs.Common.{◌≡◌, ◌⊎◌, ℕ, ◌<◌, Bool, true, List, length, take, get_or, Some, refl, sym, ap, ◌∙◌, subst, arith, inl, inr}
+use Rattle.std.proofs.Common.{◌≡◌, ◌⊎◌, ℕ, ◌<◌, Bool, true, List, [], ◌∷◌, length, take, get_or, Some, refl, sym, ap, ◌∙◌, subst, arith, inl, inr}
 use Rattle.std.specs.Prelude.{slice_get}
 use Rattle.std.proofs.Math.Seq.{take-length}
 use Rattle.std.proofs.lemmas.Option.{slice_get_past, slice_get_within}
@@ -19,8 +19,12 @@ use Rattle.coord_ledger.specs.machine.Runs.{Answered, run}
 use Rattle.coord_ledger.specs.promises.Headline.{Broke, EachMoment, HasCause, IsCutShort, Promised, Survives}
 use Rattle.coord_ledger.specs.promises.Moments.{Reopens}
 use Rattle.coord_ledger.proofs.CutShort.{cut_before}
-use Rattle.coord_ledger.proofs.Moments.{lost_as_held}
 use Rattle.coord_ledger.proofs.Driving.{Underway, event_promised, event_there, model_there, same_model}
+
+-- with no answer nothing has happened
+none_answered : (s : Machine) (events : List Event) → run s events [] ≡ s
+none_answered s [] = refl
+none_answered s (e ∷ es) = refl
 
 module _ {D : Type 0} (present : D → Present) (clock : D → ℕ) (left_since : D → ℕ → List ℕ → Type 0) (crashes : D → D → Type 0) where
   -- at an event
@@ -73,19 +77,35 @@ module _ {D : Type 0} (present : D → Present) (clock : D → ℕ) (left_since 
         let one = broke_at (keeps_model before) before lost start events at given h e released drives (event_there present clock left_since crashes keeps_model start events at given h way e below is) (cut s drives.consistent drives.follows on) touched in
         subst (λ n. Broke present clock left_since crashes (started start) events n given2 released (keeps_model before) before) (sym here) (subst (λ l. Broke present clock left_since crashes (started start) events at l released (keeps_model before) before) (sym same) one)
 
-    -- before it began
-    pub broke_before : (at2 : ℕ) (given2 : List Answer) (released : List Release) (lost : D) → at2 ≡ at → given2 ≡ given → released ≡ h.released → disk_held h ≡ Some lost →
-        (before : D) → start.disk ≡ Some before → Promised (keeps_model before) events (Broke present clock left_since crashes (started start) events at2 given2 released (keeps_model before) before)
-    broke_before at2 given2 released lost here same kept there =
-        broke_meeting at2 given2 released lost here same (λ s consistent follows on. subst (IsCutShort s e) (sym kept) (cut_before h s e follows)) (λ s consistent follows. lost_as_held present clock left_since crashes keeps_model s e h lost there)
-
     pub caused : (at2 : ℕ) (kind : RunFaultKind) → at2 ≡ at → IsEventFault (model_of keeps_model h) e kind → (before : D) → start.disk ≡ Some before → HasCause (keeps_model before) events at2 kind
     caused at2 kind here cause before disk = subst (λ n. HasCause (keeps_model before) events n kind) (sym here) (by_kind kind cause)
       where
         by_kind : (k : RunFaultKind) → IsEventFault (model_of keeps_model h) e k → HasCause (keeps_model before) events at k
-        by_kind OutOfMemory cause = tt
+        by_kind OutOfMemory cause = inr (inr (e, (event_there present clock left_since crashes keeps_model start events at given h way e below is, cause)))
         by_kind (Store fault) cause =
             (event_there present clock left_since crashes keeps_model start events at given h way e below is ∙ ap Some cause.0, λ on. cause.1 (model_there present clock left_since crashes keeps_model start events at given h way e below is before disk ∙ ap Some on))
+
+  -- before the first event
+  pub broke_first : (keeps_model : D → Bool) (start : LedgerState D) (events : List Event) (at2 : ℕ) (given2 : List Answer) (h : Held D) (released : List Release) (lost : D) → at2 ≡ 0 → given2 ≡ [] → released ≡ h.released → disk_held h ≡ Some lost → Underway present clock left_since crashes keeps_model start events 0 [] h →
+      (before : D) → start.disk ≡ Some before → Promised (keeps_model before) events (Broke present clock left_since crashes (started start) events at2 given2 released (keeps_model before) before)
+  broke_first keeps_model start events at2 given2 h released lost here same kept there way before disk promised =
+      let drives = way.drives before disk promised in
+      let s = started start in
+      let its : lost ≡ drives.disk = cc (there, drives.holds) in
+      let one : Broke present clock left_since crashes s events 0 [] h.released (keeps_model before) before =
+      record {
+        within = omega arith;
+        answered = drives.answered;
+        during = λ e is. cut_before h s e drives.follows;
+        behind = λ _. drives.follows.released ∙ sym (ap (λ (t : Machine). t.released) (none_answered s events));
+        disk = drives.disk;
+        moments = drives.moments;
+        lost = lost;
+        inside = inl its;
+      } in
+      subst (λ n. Broke present clock left_since crashes s events n given2 released (keeps_model before) before) (sym here)
+      (subst (λ l. Broke present clock left_since crashes s events 0 l released (keeps_model before) before) (sym same)
+      (subst (λ l. Broke present clock left_since crashes s events 0 [] l (keeps_model before) before) (sym kept) one))
 
   -- behind the last event
   pub broke_after : (keeps_model : D → Bool) (start : LedgerState D) (events : List Event) (at at2 : ℕ) (given given2 : List Answer) (h : Held D) (released : List Release) → Underway present clock left_since crashes keeps_model start events at given h → at ≡ length events → at2 ≡ length events → given2 ≡ given → released ≡ h.released →

@@ -18,7 +18,7 @@ use Rattle.coord_world.specs.protocol.Legal.{Legal}
 use Rattle.coord_world.specs.protocol.Next.{fold, next}
 use Rattle.coord_world.specs.protocol.NumberedWorld.{World, state}
 use Rattle.coord_world.specs.protocol.Ranges.{StepInRange}
-use Rattle.coord_ledger.specs.code.Holding.{IsAway, IsFlight, IsHome, IsLedger, doubted, kinds_of}
+use Rattle.coord_ledger.specs.code.Holding.{IsAway, IsFlight, IsHome, IsLedger, doubted, kinds_of, out_of}
 use Rattle.coord_ledger.specs.declared.mark.Mark.TheVariants.{New, Good, Torn}
 use Rattle.coord_ledger.specs.machine.Answers.{most_in_flight}
 use Rattle.coord_ledger.specs.machine.Consistent.{IsConsistentLog}
@@ -105,7 +105,7 @@ module _ {D : Type 0} where
         kinds_are = is.kinds_are;
         front_is = is.front_is;
         settled_is = is.settled_is;
-        doubt_within = omega (arith, is.away.within, size);
+        doubt_within = (flight.some, omega (arith, is.away.within, size));
         home = record { world_is = flight.world_is ∙ at; torn_is = flight.torn_is ∙ ap Some flown };
         away = tt;
       }
@@ -123,10 +123,16 @@ module _ {D : Type 0} where
         kinds_are = is.kinds_are;
         front_is = is.front_is;
         settled_is = led ∙ flown;
-        doubt_within = subst (λ o. IfSome o (λ b. log.settled + length steps + b ≤ length log.trail)) (sym none) tt;
+        doubt_within = subst (λ o. IfSome o (λ b. (1 ≤ b) × (log.settled + length steps + b ≤ length log.trail))) (sym none) tt;
         home = record { world_is = flight.world_is ∙ flown; torn_is = flight.torn_is ∙ sym (ap (doubted (with_settled log (length steps))) none) };
         away = tt;
       }
+
+  -- a ledger that has stopped has its store back
+  pub stopped_is_home : (log : Log) (kinds : List Kind) (front settled : World) (out : ℕ) (doubt : Option ℕ) (store : Option (Kept D)) → IsLedger log kinds front settled out doubt store → IfSome doubt (λ _. out_of store out ≡ None)
+  stopped_is_home log kinds front settled out None store is = tt
+  stopped_is_home log kinds front settled out (Some b) None is = let none : Some b ≡ None = is.away.going in cc
+  stopped_is_home log kinds front settled out (Some b) (Some kept) is = refl
 
   -- ---- what the front takes
 

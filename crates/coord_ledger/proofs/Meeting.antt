@@ -16,7 +16,7 @@ use Rattle.coord_ledger.specs.machine.Answers.{kept}
 use Rattle.coord_ledger.specs.machine.Consistent.{IsConsistent}
 use Rattle.coord_ledger.specs.machine.Log.{Log, settled_world, world_after}
 use Rattle.coord_ledger.specs.machine.Machine.{Machine}
-use Rattle.coord_ledger.specs.promises.Headline.{IsCutShort}
+use Rattle.coord_ledger.specs.promises.Headline.{IsCutShort, wants_memory}
 use Rattle.coord_ledger.proofs.Calling.{follows_crash}
 
 -- ---- the event that it was
@@ -39,8 +39,8 @@ pub if_err_map : {A E : Type 0} {P Q : E → Type 0} (r : Result A E) → ((e : 
 if_err_map (Ok a) f p = tt
 if_err_map (Err e) f p = f e p
 
-pub memory_fault : (model : Option Bool) (e : Event) (k : RunFaultKind) → k ≡ OutOfMemory → IsEventFault model e k
-memory_fault model e k is = subst (IsEventFault model e) (sym is) tt
+pub memory_fault : (model : Option Bool) (e : Event) (k : RunFaultKind) → k ≡ OutOfMemory → wants_memory e ≡ true → IsEventFault model e k
+memory_fault model e k is wants = subst (IsEventFault model e) (sym is) wants
 
 -- ---- a crash
 
@@ -53,7 +53,7 @@ crash_promised model b is (inl on) = some_is b (sym is ∙ on)
 crash_promised model b is (inr other) = let none : ⊥ = cc in absurd none
 
 pub crash_fault : (model : Option Bool) (b : Bool) (present : Present) (log : Log) (counts : List ℕ) (k : RunFaultKind) → model ≡ Some b → ImagesGive b present log counts → IsReopenFault b present k → IsEventFault model Crash k
-crash_fault model b present log counts OutOfMemory is images cause = tt
+crash_fault model b present log counts OutOfMemory is images cause = refl
 crash_fault model b present log counts (Store fault) is images cause = (refl, λ on. let keeps = some_is b (sym is ∙ on) in cause keeps (λ image here. let one = images keeps image here in (world_after log one.0, one.1.1)))
 
 -- a ledger that was made anew follows it

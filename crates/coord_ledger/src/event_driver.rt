@@ -60,10 +60,10 @@ pub fn run_events<D: CrashDisk>(
     };
     held.survives();
     let mut answers = Vec::new(alloc);
+    if answers.reserve(events.len()).is_err() {
+        return Err(held.lose().at(0, answers));
+    }
     for (at, event) in events.iter().enumerate() {
-        if answers.reserve(1).is_err() {
-            return Err(held.lose().at(at, answers));
-        }
         match held.meet(alloc, *event) {
             Ok((answer, next)) => {
                 next.survives();

@@ -1,9 +1,11 @@
 //! Flights: steps on their way to the disk.
 
-ghost use Rattle.std.specs.Prelude.{◌≡◌, ◌⊎◌, ◌+◌, ◌≤◌, true, length, Err, IsErrOf, MatchResult};
+ghost use Rattle.std.specs.Prelude.{◌≡◌, ◌⊎◌, ◌+◌, ◌≤◌, true, List, ℕ, length, Err, OnOk, IsErrOf, MatchResult};
 ghost use Rattle.coord_disk.specs.Model.Moments.{LeavesOnly};
+ghost use Rattle.coord_journal.specs.Text.{HasPlaceIn, IsTextIn};
 ghost use Rattle.coord_store.specs.Faults.{failures_in};
 ghost use Rattle.coord_store.specs.Kept.{GivesEither, IsOnlyWorld};
+ghost use Rattle.coord_store.specs.Recovered.{IsBody};
 ghost use Rattle.coord_store.specs.declared.faults.CommitFault.TheVariants.{OutOfMemory, Device, Stopped, Again};
 ghost use Rattle.coord_world.specs.protocol.Next.{fold};
 ghost use Rattle.coord_ledger.specs.declared.mark.Mark.TheVariants.{New, Good, Torn};
@@ -64,6 +66,12 @@ impl<D: Disk> Flight<D> {
         // What it does to the disk.
         ensures failures { D.failures self.new.disk ≡ D.failures self.old.disk + failures_in result }
         ensures calls { D.keeps_model self.old.disk ≡ true → D.clock self.new.disk ≤ D.clock self.old.disk + 8 }
+
+        // Where the body of the batch fits behind what is there, no checkpoint is made.
+        ensures calls_where_it_fits { (half : ℕ) (body : List ℕ) → D.keeps_model self.old.disk ≡ true → self.old.mark ≡ New → IsBody self.old.world body self.old.steps → HasPlaceIn half (length body) (D.present self.old.disk).read
+            → D.clock self.new.disk ≤ D.clock self.old.disk + 4 }
+        ensures half_where_it_fits { (half : ℕ) (body : List ℕ) → D.keeps_model self.old.disk ≡ true → self.old.mark ≡ New → IsBody self.old.world body self.old.steps → HasPlaceIn half (length body) (D.present self.old.disk).read
+            → OnOk result (IsTextIn half (D.present self.new.disk).read) }
         ensures model { D.keeps_model self.new.disk ≡ D.keeps_model self.old.disk }
     {
         match self.mark {

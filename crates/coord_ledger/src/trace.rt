@@ -14,8 +14,9 @@ pub struct Trace {
 /// Why a run ended early.
 #[derive(Clone, Copy, Debug, PartialEq, Eq)]
 pub enum RunFaultKind {
-    /// No memory was found for the run's own lists, for the last flight's return, or for the ledger
-    /// after a crash.
+    /// No memory was found for the list of answers as the run began, for the lists of tickets or of
+    /// releases in `Submit`, `Finish` or `Resend`, for the ledger after a crash, or for the last
+    /// flight's return.
     OutOfMemory,
     /// The store was not opened after a crash.
     Store(StoreFault),

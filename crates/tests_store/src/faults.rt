@@ -4,7 +4,7 @@
 ghost use Rattle.std.specs.Prelude.{◌≤◌};
 
 use crate::scripts::{adding, choice, commits, count_on, created, opened, resets, told_on};
-use coord_disk::{BlipDisk, CrashDisk, Disk, FuseDisk, MemDisk};
+use coord_disk::{BlipDisk, CrashDisk, Disk, FuseDisk, MemDisk, TornDisk};
 use coord_store::{CommitFault, Store, StoreFault};
 use std::alloc::Global;
 use std::test::Fail;
@@ -113,6 +113,35 @@ fn is_left_by_blip(alloc: Global, version: u8, call: u64, which: usize) -> Resul
     )
 }
 
+// The same where one write writes its first bytes and fails. Of a body or a snapshot they are not
+// read; of a gate or a selector the first byte is the whole of it, which a crash then may leave.
+fn is_left_by_torn(
+    alloc: Global,
+    call: u64,
+    kept: usize,
+    which: usize,
+) -> Result<bool, StoreFault> {
+    let failed = call.saturating_add(OPENING);
+    let disk = TornDisk::new(fresh(alloc, 2, which)?, failed, kept);
+    let mut store = opened(alloc, disk)?;
+    let answer = run(alloc, &mut store);
+    let has_stopped = store.stopped();
+    let disk = store.into_disk();
+    let calls = disk.calls();
+    let steps = left(alloc, disk.into_inner())?;
+    let reached = if call % 4 == 2 {
+        call.saturating_add(1)
+    } else {
+        call
+    };
+    Ok(
+        is_told(answer, calls > failed)?
+            && has_stopped
+            && calls == failed.saturating_add(1)
+            && steps == (2, count(reached, which)),
+    )
+}
+
 // The first number of calls and choice for which a stop leaves something else.
 fn first_wrong_stop(alloc: Global, version: u8) -> Result<Option<(u64, usize)>, StoreFault>
     requires { (1 ≤ version) × (version ≤ 2) }
@@ -165,6 +194,27 @@ fn a_fault_at_each_call_leaves_what_was_committed(rt: HostRuntime) -> Result<(),
 #[test]
 fn a_fault_at_each_call_leaves_a_store_with_distances(rt: HostRuntime) -> Result<(), Fail> {
     let wrong = first_wrong_fault(rt.alloc(), 2)?;
+    assert!(rt; wrong.is_none(), "{wrong:?}");
+    Ok(())
+}
+
+// The first write, number of its bytes and choice for which a torn write leaves something else.
+fn first_wrong_torn(alloc: Global) -> Result<Option<(u64, usize, usize)>, StoreFault> {
+    for write in 0..28 {
+        for kept in [1, 20] {
+            for which in 0..CHOICES {
+                if !is_left_by_torn(alloc, 2 * write, kept, which)? {
+                    return Ok(Some((2 * write, kept, which)));
+                }
+            }
+        }
+    }
+    Ok(None)
+}
+
+#[test]
+fn a_torn_write_leaves_what_was_committed(rt: HostRuntime) -> Result<(), Fail> {
+    let wrong = first_wrong_torn(rt.alloc())?;
     assert!(rt; wrong.is_none(), "{wrong:?}");
     Ok(())
 }

@@ -10,6 +10,10 @@ mod faults;
 #[cfg(test)]
 mod longest_world;
 #[cfg(test)]
+mod migrated;
+#[cfg(test)]
 mod migration;
+#[cfg(test)]
+mod migration_stops;
 #[cfg(test)]
 mod scripts;

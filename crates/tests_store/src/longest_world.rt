@@ -1,8 +1,9 @@
-//! The longest legal world, as a snapshot: 64 nodes in a reset, each linked to the next and the next
-//! but one, round in a ring, and 16 clients. On each lane are an Abort that was taken, a Ready and
-//! an Abort.
+//! Worlds at the limits, as snapshots: 64 nodes, each linked to the next and the next but one, round
+//! in a ring, and 16 clients. In the longest legal world the nodes are in a reset, and on each lane
+//! are an Abort that was taken, a Ready and an Abort. In the other one they are Ready, and on each
+//! lane are a message that was taken and a Ready.
 
-use crate::scripts::{HALF, count_on};
+use crate::scripts::{HALF, count_on, opened};
 use coord_check::check;
 use coord_codec::{read_world, write_world};
 use coord_disk::MemDisk;
@@ -29,30 +30,73 @@ fn neighbours(id: u8) -> u64 {
     mask
 }
 
-// Each awaits all of its neighbours, and is at the distance of its number.
-fn put_nodes(out: &mut Vec<u8>) -> Result<(), AllocError> {
+/// Whether the nodes are in a reset, and the version of the spelling.
+#[derive(Clone, Copy)]
+enum Shape {
+    InReset,
+    Ready { version: u8 },
+}
+
+/// Where all are Ready, each distance is 0, which version 1 leaves out.
+fn put_no_distance(out: &mut Vec<u8>, version: u8) -> Result<(), AllocError> {
+    if version == 1 {
+        return Ok(());
+    }
+    put_u64(out, 0)
+}
+
+// In a reset each awaits all of its neighbours, and is at the distance of its number.
+fn put_node(out: &mut Vec<u8>, shape: Shape, id: u8) -> Result<(), AllocError> {
+    let (mode, awaited) = match shape {
+        Shape::InReset => (1, neighbours(id)),
+        Shape::Ready { .. } => (0, 0),
+    };
+    out.extend_from_slice(&[id, 1, mode, 0])?;
+    put_u64(out, awaited)?;
+    put_u64(out, 512 + u64::from(id))?;
+    put_u64(out, 256 + u64::from(id))?;
+    match shape {
+        Shape::InReset => put_u64(out, u64::from(id)),
+        Shape::Ready { version } => put_no_distance(out, version),
+    }
+}
+
+fn put_nodes(out: &mut Vec<u8>, shape: Shape) -> Result<(), AllocError> {
     out.push(64)?;
     for id in 1..=64u8 {
-        out.extend_from_slice(&[id, 1, 1, 0])?;
-        put_u64(out, neighbours(id))?;
-        put_u64(out, 512 + u64::from(id))?;
-        put_u64(out, 256 + u64::from(id))?;
-        put_u64(out, u64::from(id))?;
+        put_node(out, shape, id)?;
     }
     Ok(())
 }
 
-// The front was taken, and the Abort behind the Ready carries one more than its sender's distance.
-fn put_lane(out: &mut Vec<u8>, number: u64, sender: u8) -> Result<(), AllocError> {
-    put_u64(out, number)?;
-    put_u64(out, number.saturating_add(1))?;
+// The Abort behind the Ready carries one more than its sender's distance.
+fn put_reset_queue(out: &mut Vec<u8>, number: u64, sender: u8) -> Result<(), AllocError> {
     out.extend_from_slice(&[3, 0])?;
     put_u64(out, number)?;
     out.extend_from_slice(&[2, 0])?;
     put_u64(out, u64::from(sender) + 1)
 }
 
-fn put_links(out: &mut Vec<u8>) -> Result<(), AllocError> {
+// The front is an Abort, an Ack or a Ready, by the sender's number.
+fn put_ready_queue(out: &mut Vec<u8>, version: u8, sender: u8) -> Result<(), AllocError> {
+    out.extend_from_slice(&[2, sender % 3])?;
+    if sender % 3 == 0 {
+        put_no_distance(out, version)?;
+    }
+    Ok(out.push(2)?)
+}
+
+// The front was taken.
+fn put_lane(out: &mut Vec<u8>, shape: Shape, number: u64, sender: u8) -> Result<(), AllocError> {
+    put_u64(out, number)?;
+    put_u64(out, number.saturating_add(1))?;
+    match shape {
+        Shape::InReset => put_reset_queue(out, number, sender),
+        Shape::Ready { version } => put_ready_queue(out, version, sender),
+    }
+}
+
+fn put_links(out: &mut Vec<u8>, shape: Shape) -> Result<(), AllocError> {
     out.push(128)?;
     for a in 1..=64u8 {
         for b in a..=64u8 {
@@ -60,8 +104,8 @@ fn put_links(out: &mut Vec<u8>) -> Result<(), AllocError> {
                 let number = 64 * u64::from(a) + u64::from(b);
                 out.extend_from_slice(&[a, b])?;
                 put_u64(out, number)?;
-                put_lane(out, number, a)?;
-                put_lane(out, number, b)?;
+                put_lane(out, shape, number, a)?;
+                put_lane(out, shape, number, b)?;
             }
         }
     }
@@ -82,16 +126,16 @@ fn put_clients(out: &mut Vec<u8>) -> Result<(), AllocError> {
     Ok(())
 }
 
-fn put_world(out: &mut Vec<u8>) -> Result<(), AllocError> {
+fn put_world(out: &mut Vec<u8>, shape: Shape) -> Result<(), AllocError> {
     put_u64(out, COUNT)?;
-    put_nodes(out)?;
-    put_links(out)?;
+    put_nodes(out, shape)?;
+    put_links(out, shape)?;
     put_clients(out)
 }
 
-fn longest(alloc: Global) -> Result<Vec<u8>, AllocError> {
+fn spelled(alloc: Global, shape: Shape) -> Result<Vec<u8>, AllocError> {
     let mut out = Vec::new(alloc);
-    match put_world(&mut out) {
+    match put_world(&mut out, shape) {
         Ok(()) => Ok(out),
         Err(fault) => {
             drop(out);
@@ -117,12 +161,36 @@ fn is_opened(alloc: Global, bytes: &[u8]) -> Result<bool, Fail> {
 }
 
 fn is_longest(alloc: Global) -> Result<bool, Fail> {
-    let bytes = longest(alloc)?;
+    let bytes = spelled(alloc, Shape::InReset)?;
     Ok(bytes.len() == LENGTH && is_legal(alloc, &bytes)? && is_opened(alloc, &bytes)?)
 }
 
 #[test]
 fn the_longest_legal_world(rt: HostRuntime) -> Result<(), Fail> {
     assert!(rt; is_longest(rt.alloc())?);
+    Ok(())
+}
+
+// Whether a store of version 1 over these bytes is raised to one whose world is spelled so in version 2.
+fn is_raised(alloc: Global, bytes: &[u8], wanted: &[u8]) -> Result<bool, Fail> {
+    if bytes.len() > 16_384 {
+        return Ok(false);
+    }
+    let mut disk = MemDisk::new(alloc);
+    format(alloc, &mut disk, HALF, 1, bytes)?;
+    let mut store = opened(alloc, disk)?;
+    let answer = store.migrate();
+    let disk = store.into_disk();
+    answer?;
+    let store = opened(alloc, disk)?;
+    Ok(write_world(alloc, store.world())?.as_slice() == wanted)
+}
+
+#[test]
+fn a_world_at_the_limits_is_raised(rt: HostRuntime) -> Result<(), Fail> {
+    let alloc = rt.alloc();
+    let first = spelled(alloc, Shape::Ready { version: 1 })?;
+    let second = spelled(alloc, Shape::Ready { version: 2 })?;
+    assert!(rt; is_raised(alloc, &first, &second)?);
     Ok(())
 }

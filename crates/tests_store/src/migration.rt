@@ -6,8 +6,19 @@ use coord_types::{Command, Group, NodeId};
 use std::alloc::Global;
 use std::test::Fail;
 
-// Whether the store of one node is one of version 2 after a migration, in the other half, and stays
-// so after a second one.
+/// Where the second half begins.
+const SECOND_HALF: usize = 32_785;
+
+/// What a migration writes there: version 2, the world of one node without neighbours, at a distance
+/// of 0, and a client's order that added it, and a closed gate.
+const RAISED: [u8; 74] = [
+    2, 0, 0, 0, 0x44, 0, 0, 0, 0, 0, 0, 0, 1, 1, 1, 1, 0, 0, 0, 0, 0, 0, 0, 0, 0, 0, 0, 0, 0, 0, 0,
+    0, 0, 0, 0, 0, 0, 0, 0, 0, 0, 0, 0, 0, 0, 0, 0, 0, 0, 0, 0, 1, 1, 0, 0, 0, 0, 0, 0, 0, 1, 0, 1,
+    1, 0, 0, 0, 0, 0, 0, 0, 1, 0, 0,
+];
+
+// Whether the store of one node is one of version 2 after a migration, in the other half, and its
+// bytes stay so through a second one.
 fn is_migrated(alloc: Global) -> Result<bool, Fail> {
     let mut store = opened(alloc, begun(alloc, 1)?)?;
     let first = store.migrate();
@@ -16,7 +27,8 @@ fn is_migrated(alloc: Global) -> Result<bool, Fail> {
     first?;
     second?;
     let is_turned = disk.bytes().first() == Some(&1);
-    Ok(is_turned && told_on(alloc, disk)? == (2, 1))
+    let is_written = disk.bytes().get(SECOND_HALF..) == Some(RAISED.as_slice());
+    Ok(is_turned && is_written && told_on(alloc, disk)? == (2, 1))
 }
 
 // Whether it is refused where the node was reset and awaits another one.

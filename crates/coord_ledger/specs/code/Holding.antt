@@ -52,7 +52,7 @@ pub record IsLedger {D : Type 0} (log : Log) (kinds : List Kind) (front settled 
   pub kinds_are : kinds ≡ kinds_of log.base log.trail
   pub front_is : front ≡ front_world log
   pub settled_is : settled ≡ settled_world log
-  pub doubt_within : IfSome doubt (λ b. log.settled + b ≤ length log.trail)
+  pub doubt_within : IfSome doubt (λ b. (1 ≤ b) × (log.settled + b ≤ length log.trail))
   pub home : IfSome store (IsHome log doubt)
   pub away : IfNone store (IsAway log out doubt)
 

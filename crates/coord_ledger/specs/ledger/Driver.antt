@@ -16,7 +16,7 @@ use Rattle.coord_ledger.specs.ledger.State.{FlightState, LedgerState, ledger_ove
 use Rattle.coord_ledger.specs.machine.Consistent.{IsConsistent}
 use Rattle.coord_ledger.specs.machine.Machine.{Machine}
 use Rattle.coord_ledger.specs.machine.Runs.{Answered, run}
-use Rattle.coord_ledger.specs.promises.Headline.{CrashPrefix, EachMoment, Survives, Touches, is_crash}
+use Rattle.coord_ledger.specs.promises.Headline.{CrashPrefix, EachMoment, Survives, Touches, is_crash, wants_memory}
 use Rattle.coord_ledger.specs.promises.Moments.{Reopens}
 
 abbrev pub disk_with : {D : Type 0} → Option D → Option (FlightState D) → Option D
@@ -55,7 +55,7 @@ IsReopenFault keeps_model present (Store fault) = keeps_model ≡ true → ((ima
 
 -- why an event was not answered
 abbrev pub IsEventFault : Option Bool → Event → RunFaultKind → Type 0
-IsEventFault model e OutOfMemory = Unit {0}
+IsEventFault model e OutOfMemory = wants_memory e ≡ true
 IsEventFault model e (Store fault) = (e ≡ Crash) × (model ≡ Some true → IsPassing fault)
 
 -- what an event has made of the disk that is held, where a crash inside it finds this machine

@@ -32,7 +32,7 @@ use Rattle.coord_world.specs.protocol.Outputs.{outs}
 use Rattle.coord_ledger.specs.declared.events.Answer.{Answer}
 use Rattle.coord_ledger.specs.declared.events.Answer.TheVariants.{Committed, Failed}
 use Rattle.coord_ledger.specs.declared.events.Event.{Event}
-use Rattle.coord_ledger.specs.declared.events.Event.TheVariants.{Commit, Crash}
+use Rattle.coord_ledger.specs.declared.events.Event.TheVariants.{Submit, Commit, Finish, Resend, Crash}
 use Rattle.coord_ledger.specs.declared.release.Release.{Release}
 use Rattle.coord_ledger.specs.declared.trace.RunFaultKind.{RunFaultKind}
 use Rattle.coord_ledger.specs.declared.trace.RunFaultKind.TheVariants.{OutOfMemory, Store}
@@ -177,7 +177,16 @@ pub record Broke {D : Type 0} (present : D → Present) (clock : D → ℕ) (lef
   pub lost : D  -- as it was given up, in a crash perhaps behind the taking of an image
   pub inside : (lost ≡ disk) ⊎ ((slice_get events at ≡ Some Crash) × (keeps_model ≡ true → Reopens present clock left_since crashes (Survives (run start (take at events) given)) disk lost))
 
--- a store's fault comes of a crash alone; on a disk that keeps the model it is want of memory or a failure of the device
+-- a driver's own lists can grow in these, or its ledger is made anew: in no other event does it want memory
+abbrev pub wants_memory : Event → Bool
+wants_memory (Submit step) = true
+wants_memory Finish = true
+wants_memory Resend = true
+wants_memory Crash = true
+wants_memory event = false
+
+-- A run wants memory as it begins, for its list of answers, in such an event, or at its end, where the flight comes back.
+-- A store's fault comes of a crash alone; on a disk that keeps the model it is want of memory or a failure of the device.
 abbrev pub HasCause : Bool → List Event → ℕ → RunFaultKind → Type 0
-HasCause keeps_model events at OutOfMemory = Unit {0}
+HasCause keeps_model events at OutOfMemory = (at ≡ 0) ⊎ ((at ≡ length events) ⊎ ((e : Event) × ((slice_get events at ≡ Some e) × (wants_memory e ≡ true))))
 HasCause keeps_model events at (Store fault) = (slice_get events at ≡ Some Crash) × (keeps_model ≡ true → IsPassing fault)

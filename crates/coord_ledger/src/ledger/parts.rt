@@ -69,11 +69,13 @@ impl<D: Disk> Ledger<D> {
     }
 
     /// Does nothing: its contract is what the type keeps of every ledger's log, of the steps that
-    /// are out and of those in doubt, and that the store is out with them.
+    /// are out and of those in doubt, that the store is out with them, and that a ledger that has
+    /// stopped has it back.
     pub fn log_is_consistent(&self)
         ensures log { IsConsistentLog self.now.log }
         ensures out { IfSome self.now.out (λ size. (1 ≤ size) × (size ≤ most_in_flight) × (self.now.log.settled + size ≤ length self.now.log.trail)) }
-        ensures doubt { IfSome self.now.doubt (λ size. self.now.log.settled + size ≤ length self.now.log.trail) }
+        ensures doubted { IfSome self.now.doubt (λ size. (1 ≤ size) × (self.now.log.settled + size ≤ length self.now.log.trail)) }
+        ensures stopped { IfSome self.now.doubt (λ _. self.now.out ≡ None) }
         ensures home { is_some self.now.out ≡ is_none self.now.disk }
     {
         let _ = &self.base;

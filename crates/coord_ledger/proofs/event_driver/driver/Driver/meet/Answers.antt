@@ -3,7 +3,7 @@ use Rattle.std.specs.Prelude.{MatchResult}
 use Rattle.coord_ledger.specs.declared.events.Event.TheVariants.{Begin, Collect, Commit, Finish, Resend, Show, Submit}
 use Rattle.coord_ledger.specs.ledger.Driver.{HeldTouches, IsLost, disk_held, model_of}
 use Rattle.coord_ledger.specs.ledger.Follows.{Held}
-use Rattle.coord_ledger.specs.promises.Headline.{IsCutShort, found_by_crash}
+use Rattle.coord_ledger.specs.promises.Headline.{IsCutShort, found_by_crash, wants_memory}
 use Rattle.coord_ledger.specs.promises.Moments.{touches_disk}
 use Rattle.coord_ledger.proofs.CutShort.{cut_before}
 use Rattle.coord_ledger.proofs.Meeting.{if_err_map, memory_fault, met, met_cut, on_err_map}
@@ -12,7 +12,16 @@ use Rattle.coord_ledger.proofs.event_driver.driver.Driver.meet.Goals as goal
 use Rattle.coord_ledger.proofs.event_driver.driver.Driver.meet.Goals.{in-Submit, in-Commit, in-Collect, in-Resend, in-Show}
 
 pub returns-in-Finish-clause-cause : goal.returns-in-Finish-clause-cause
-returns-in-Finish-clause-cause g c = if_err_map c.finish.result (λ broken is. memory_fault (model_of g.D.Disk.keeps_model c.args.self) c.args.event broken.kind is) c.finish.ensures.kind
+returns-in-Finish-clause-cause g c = if_err_map c.finish.result (λ broken is. memory_fault (model_of g.D.Disk.keeps_model c.args.self) c.args.event broken.kind is (ap wants_memory c.in-Finish.is)) c.finish.ensures.kind
+
+pub returns-in-Err-clause-cause : goal.returns-in-Err-clause-cause
+returns-in-Err-clause-cause g c = elim c.match-event.branch [
+  | in-Submit w ↦ memory_fault (model_of g.D.Disk.keeps_model c.args.self) c.args.event c.lose.result.kind c.lose.ensures.kind (ap wants_memory w.in-Submit.is)
+  | in-Commit w ↦ let no : ⊥ = cc (w.answer-is, c.in-Err.is) in absurd no
+  | in-Collect w ↦ let no : ⊥ = cc (w.answer-is, c.in-Err.is) in absurd no
+  | in-Resend w ↦ memory_fault (model_of g.D.Disk.keeps_model c.args.self) c.args.event c.lose.result.kind c.lose.ensures.kind (ap wants_memory w.in-Resend.is)
+  | in-Show w ↦ let no : ⊥ = cc (w.answer-is, c.in-Err.is) in absurd no
+]
 
 pub returns-in-Ok-clause-answered : goal.returns-in-Ok-clause-answered
 returns-in-Ok-clause-answered g c s is follows promised = elim c.match-event.branch [
