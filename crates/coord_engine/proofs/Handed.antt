@@ -1,5 +1,5 @@
 -- One delivery more.
-use Rattle.std.proofs.Common.{◌≡◌, ℕ, zero, suc, List, [], ◌∷◌, ◌++◌, ◌+◌, ◌∙◌, Option, Some, None, drop, take, refl, ap, subst, arith}
+use Rattle.std.proofs.Common.{◌≡◌, ℕ, zero, suc, List, [], ◌∷◌, ◌++◌, ◌+◌, ◌∙◌, Option, Some, None, drop, take, length, ◌<◌, refl, sym, ap, subst, arith}
 use Rattle.std.specs.Prelude.{slice_get}
 use Rattle.coord_ledger.specs.declared.release.Release.{Release}
 use Rattle.coord_engine.specs.Handing.{TakesAll, deliveries_of}
@@ -12,7 +12,7 @@ module _ {S : Type 0} (takes : S → Delivery → S → Type 0) where
   takes_last s m t [] d is last = (t, subst (λ x. takes x d t) is last, refl)
   takes_last s m t (e ∷ ds) d is last = (is.0, is.1, takes_last is.0 m t ds d is.2 last)
 
-some_is : {A : Type 0} → A → Option A → A
+abbrev some_is : {A : Type 0} → A → Option A → A
 some_is d None = d
 some_is d (Some x) = x
 
@@ -25,3 +25,18 @@ next_at (suc k) (x ∷ xs) r is = ap (λ l. delivery_of x.output ∷ l) (next_at
 -- the next release is asked for behind those before it
 pub next_asked : (k : ℕ) (released : List Release) (r : Release) → slice_get (drop k released) 0 ≡ Some r → deliveries_of (take (k + 1) released) ≡ deliveries_of (take k released) ++ delivery_of r.output ∷ []
 next_asked k released r is = let e : k + 1 ≡ suc k = omega arith in ap (λ n. deliveries_of (take n released)) e ∙ next_at k released r is
+
+-- and there is one as long as not all were handed over
+pub one_left : (k : ℕ) (released : List Release) → slice_get (drop k released) 0 ≡ None → k < length released → ⊥
+one_left zero [] is lt = omega (arith, lt)
+one_left (suc k) [] is lt = omega (arith, lt)
+one_left zero (x ∷ xs) is lt = cc
+one_left (suc k) (x ∷ xs) is lt = one_left k xs is (omega (arith, lt))
+
+module _ {S : Type 0} (takes : S → Delivery → S → Type 0) where
+  -- one more is handed over
+  pub hands_next : (s m t u : S) (k : ℕ) (released left : List Release) (r : Release) (d : Delivery) → left ≡ drop k released → TakesAll takes s (deliveries_of (take k released)) m → slice_get left 0 ≡ Some r → d ≡ delivery_of r.output → takes m d u → t ≡ u → TakesAll takes s (deliveries_of (take (k + 1) released)) t
+  hands_next s m t u k released left r d at is next asked last same =
+      let now : slice_get (drop k released) 0 ≡ Some r = ap (λ l. slice_get l 0) (sym at) ∙ next in
+      let all : TakesAll takes s (deliveries_of (take k released) ++ delivery_of r.output ∷ []) u = takes_last takes s m u (deliveries_of (take k released)) (delivery_of r.output) is (subst (λ x. takes m x u) asked last) in
+      subst (TakesAll takes s (deliveries_of (take (k + 1) released))) (sym same) (subst (λ ds. TakesAll takes s ds u) (sym (next_asked k released r now)) all)

@@ -1,33 +1,48 @@
 -- What is told of a flight.
-use Rattle.std.proofs.Common.{◌≡◌, ◌⊎◌, ℕ, ◌+◌, List, Option, Some, None, Result, Ok, Err, sym, ap, ◌∙◌, subst, inl, inr}
-use Rattle.std.specs.Prelude.{IfErr, IfNone, IfOk, IfSome, true}
-use Rattle.coord_store.specs.Faults.{failed_in}
+use Rattle.std.proofs.Common.{◌≡◌, ℕ, List, Option, Some, None, Result, Ok, Err, true, false, refl, sym, ap, subst, inl, inr}
+use Rattle.std.specs.Prelude.{IfErr, IfNone, IfOk, IfSome, IsSomeAnd}
 use Rattle.coord_store.specs.declared.faults.CommitFault.{CommitFault}
 use Rattle.coord_store.specs.declared.faults.CommitFault.TheVariants.{Again, Device, Full, OutOfMemory, Stopped}
-use Rattle.coord_ledger.specs.declared.mark.Mark.TheVariants.{New, Torn}
 use Rattle.coord_ledger.specs.declared.release.Release.{Release}
 use Rattle.coord_ledger.specs.ledger.Calls.{keeps_store}
 use Rattle.coord_ledger.specs.ledger.State.{FlightState}
-use Rattle.coord_engine.specs.Flights.{RefusesFlush, hangar_moves}
-use Rattle.coord_engine.specs.Flying.{HangarMoves, IsBack, Tells}
+use Rattle.coord_engine.specs.Flights.{Commits, Ended, RefusesFlush, hangar_moves}
+use Rattle.coord_engine.specs.Flying.{Flies, HangarMoves, Tells}
 use Rattle.coord_engine.specs.State.{Basis}
-use Rattle.coord_engine.specs.Threads.{AtSomeMoment, Flushes}
+use Rattle.coord_engine.specs.Threads.{AtSomeMoment, Flushes, Leaves}
 use Rattle.coord_engine.proofs.Flights.{flushed}
 
-module _ {S D : Type 0} (failures : D → ℕ) (h : HangarMoves S D) where
-  -- a flight that was refused is told with its fault
-  pub tells_fault : (s m t : S) (left back : FlightState D) (fault : CommitFault) (lost : List Release) → h.begins s (Ok (Some left)) m → left.mark ≡ New → back.steps ≡ left.steps → back.world ≡ left.world
-      → ((fault ≡ Device) × (back.mark ≡ Torn)) ⊎ ((fault ≡ OutOfMemory) × (back.mark ≡ New)) → failures back.disk ≡ failures left.disk + failed_in fault → h.ends m back lost t → Tells failures h s (Err fault) t
-  tells_fault s m t left back fault lost begun new steps world (inl is) count ended =
-      subst (λ f. Tells failures h s (Err f) t) (sym is.0)
-        (lost, record { meanwhile = m; left = left; back = back; begun = begun; home = record { was_new = new; same_steps = steps; same_world = world; mark_is = is.1; failures_are = count ∙ ap (λ f. failures left.disk + failed_in f) is.0 }; ended = ended })
-  tells_fault s m t left back fault lost begun new steps world (inr is) count ended =
-      subst (λ f. Tells failures h s (Err f) t) (sym is.0)
-        (inr (lost, record { meanwhile = m; left = left; back = back; begun = begun; home = record { was_new = new; same_steps = steps; same_world = world; mark_is = is.1; failures_are = count ∙ ap (λ f. failures left.disk + failed_in f) is.0 }; ended = ended }))
+module _ {S : Type 0} (h : HangarMoves S) where
+  pub tells_none : (s t : S) → h.begins s (Ok false) t → Tells h s (Ok None) t
+  tells_none s t is = inl is
 
-  -- and one that could not leave
-  pub tells_none : (s t : S) (fault : CommitFault) → fault ≡ OutOfMemory → h.begins s (Err fault) t → Tells failures h s (Err fault) t
-  tells_none s t fault is begun = subst (λ f. Tells failures h s (Err f) t) (sym is) (inl (subst (λ f. h.begins s (Err f) t) is begun))
+  pub tells_refused : (s t : S) (fault : CommitFault) → h.begins s (Err fault) t → Tells h s (Err fault) t
+  tells_refused s t fault is = inl is
+
+  of_released : (s t : S) (released : Option (List Release)) → Flies h s (Ok tt) released t → Tells h s (Ok released) t
+  of_released s t None is = inr is
+  of_released s t (Some x) is = is
+
+  pub tells_released : (s m c t : S) (released : Option (List Release)) → h.begins s (Ok true) m → h.commits m (Ok tt) c → h.ends c released t → Tells h s (Ok released) t
+  tells_released s m c t released begun done ended = of_released s t released (record { left = m; committed = c; begins = begun; commits = done; ends = ended })
+
+  pub tells_failed : (s m c t : S) (fault : CommitFault) (lost : Option (List Release)) → h.begins s (Ok true) m → h.commits m (Err fault) c → h.ends c lost t → Tells h s (Err fault) t
+  tells_failed s m c t fault lost begun failed ended = inr (lost, record { left = m; committed = c; begins = begun; commits = failed; ends = ended })
+
+-- what is there is some
+pub there : {T : Type 0} (o : Option T) (P : T → Type 0) → IsSomeAnd o P → (x : T) × (o ≡ Some x) × P x
+there None P is = absurd is
+there (Some x) P is = (x, refl, is)
+
+-- a flight of an engine that was flown: how it left, how it was committed, and what it released when it came back
+record Flown {D : Type 0} (b : Basis D) (failures : D → ℕ) (answer : Result (Unit {0}) CommitFault) (released : Option (List Release)) : Type 0 where
+  left : FlightState D
+  back : FlightState D
+  given : List Release
+  leaves : AtSomeMoment b (Leaves left)
+  commits : Commits failures left answer back
+  is_given : released ≡ Some given
+  ended : Ended b back given
 
 -- what an engine tells of a flight
 abbrev pub Told : {D : Type 0} → Basis D → (D → ℕ) → Result (Option (List Release)) CommitFault → Type 0
@@ -36,14 +51,29 @@ Told b failures answer =
     × IfOk answer (λ begun. IfNone begun (AtSomeMoment b (λ g. keeps_store g.ledger ≡ true)))
     × IfErr answer (RefusesFlush b failures)
 
-module _ {S D : Type 0} (b : Basis D) (failures : D → ℕ) (s t : S) where
-  pub told : (answer : Result (Option (List Release)) CommitFault) → Tells failures (hangar_moves {S = S} b) s answer t → Told b failures answer
-  told (Ok None) is = (tt, is, tt)
-  told (Ok (Some released)) is =
-      ((record { state = is.begun.state; held = is.begun.held; so = flushed is.left is.back is.begun.state released is.begun.so (λ _. is.home.mark_is) is.home.same_steps is.home.same_world is.ended.0 }), tt, tt)
-  told (Err Device) is = (tt, tt, record { left = is.1.left; back = is.1.back; leaves = is.1.begun; home = is.1.home; comes = is.1.ended.1 })
-  told (Err OutOfMemory) (inl none) = (tt, tt, inl none)
-  told (Err OutOfMemory) (inr is) = (tt, tt, inr (record { left = is.1.left; back = is.1.back; leaves = is.1.begun; home = is.1.home; comes = is.1.ended.1 }))
-  told (Err Full) is = absurd is
-  told (Err Stopped) is = absurd is
-  told (Err Again) is = absurd is
+module _ {S D : Type 0} (b : Basis D) (failures : D → ℕ) (out : S → Option (FlightState D)) (s t : S) where
+  flown : (answer : Result (Unit {0}) CommitFault) (released : Option (List Release)) → Flies (hangar_moves b failures out) s answer released t → Flown b failures answer released
+  flown answer released is =
+      let left = there (out is.left) (λ f. AtSomeMoment b (Leaves f)) is.begins in
+      let back = there (out is.committed) (Commits failures left.0 answer) (is.commits left.0 left.1 (ap (λ (f : FlightState D). f.mark) left.2.so.1)) in
+      let given = there released (Ended b back.0) (is.ends back.0 back.1) in
+      record { left = left.0; back = back.0; given = given.0; leaves = left.2; commits = back.2; is_given = given.1; ended = given.2 }
+
+  settled : (released : List Release) → Flown b failures (Ok tt) (Some released) → AtSomeMoment b (Flushes released)
+  settled released is =
+      let given : released ≡ is.given = cc (is.is_given) in
+      subst (λ r. AtSomeMoment b (Flushes r)) (sym given) (record { state = is.leaves.state; held = is.leaves.held; so = flushed is.left is.back is.leaves.state is.given is.leaves.so (λ _. is.commits.mark_is) is.commits.same_steps is.commits.same_world is.ended.0 })
+
+  refused : (fault : CommitFault) (lost : Option (List Release)) → Flown b failures (Err fault) lost → RefusesFlush b failures fault
+  refused Device lost is = record { left = is.left; back = is.back; leaves = is.leaves; tried = is.commits; comes = is.ended.1 }
+  refused OutOfMemory lost is = inr (record { left = is.left; back = is.back; leaves = is.leaves; tried = is.commits; comes = is.ended.1 })
+  refused Full lost is = absurd is.commits
+  refused Stopped lost is = absurd is.commits
+  refused Again lost is = absurd is.commits
+
+  pub told : (answer : Result (Option (List Release)) CommitFault) → Tells (hangar_moves b failures out) s answer t → Told b failures answer
+  told (Ok None) (inl none) = (tt, none, tt)
+  told (Ok None) (inr is) = let f = flown (Ok tt) None is in absurd (cc (f.is_given))
+  told (Ok (Some released)) is = (settled released (flown (Ok tt) (Some released) is), tt, tt)
+  told (Err fault) (inl none) = (tt, tt, subst (RefusesFlush b failures) (sym none.0) (inl none.1))
+  told (Err fault) (inr is) = (tt, tt, refused fault is.0 (flown (Err fault) is.0 is.1))

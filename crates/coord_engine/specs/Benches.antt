@@ -8,7 +8,7 @@ use Rattle.coord_engine.specs.Port.{step_of}
 use Rattle.coord_engine.specs.Waiting.{with_packet}
 
 -- how a worker's bench goes from state to state: a packet or the end is received, a step is submitted, a packet finds no memory to wait in, a packet is put down
-pub record BenchMoves (S : Type 0) : Type 0 where
+pub record BenchMoves (S : Type 0) : Type 1 where
   pub receives : S → Option Packet → S → Type 0
   pub submits : S → Step → Result (Unit {0}) Refusal → S → Type 0
   pub loses : S → Packet → S → Type 0

@@ -7,7 +7,7 @@ use Rattle.coord_engine.specs.Handing.{TakesAll, deliveries_of}
 use Rattle.coord_engine.specs.declared.port.Delivery.{Delivery}
 
 -- how a deck goes from state to state: it waits whether a flight starts, has it flown, and rests where there was no memory
-pub record DeckMoves (S : Type 0) : Type 0 where
+pub record DeckMoves (S : Type 0) : Type 1 where
   pub waits : S → Bool → S → Type 0
   pub flushes : S → Result (Option (List Release)) CommitFault → S → Type 0
   pub rests : S → S → Type 0

@@ -1,5 +1,5 @@
 -- Notes against steps, worked out.
-use Rattle.std.specs.Prelude.{List, [], ◌∷◌}
+use Rattle.std.specs.Prelude.{[], ◌∷◌}
 use Rattle.coord_types.specs.declared.steps.Command.TheVariants.{Reset}
 use Rattle.coord_types.specs.declared.steps.Step.{Step}
 use Rattle.coord_types.specs.declared.steps.Step.TheVariants.{Order}

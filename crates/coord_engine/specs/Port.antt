@@ -1,5 +1,4 @@
 -- What is asked of a port for each output, and which step each packet makes.
-use Rattle.std.specs.Prelude.{ℕ}
 use Rattle.coord_types.specs.declared.outputs.Output.{Output}
 use Rattle.coord_types.specs.declared.outputs.Output.TheVariants as output
 use Rattle.coord_types.specs.declared.packets.Packet.{Packet}

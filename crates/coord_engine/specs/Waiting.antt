@@ -1,6 +1,6 @@
 -- The packets that wait for another try: at most one of each lane and kind, data or receipt, in the
 -- order in which their lanes and kinds came.
-use Rattle.std.specs.Prelude.{ℕ, List, [], ◌∷◌, Bool, false, ◌&&◌, ◌==◌, if◌then◌else◌}
+use Rattle.std.specs.Prelude.{List, [], ◌∷◌, Bool, false, ◌&&◌, ◌==◌, if◌then◌else◌}
 use Rattle.coord_types.specs.declared.packets.Packet.{Packet}
 use Rattle.coord_types.specs.declared.packets.Packet.TheVariants.{Carried, Receipted}
 

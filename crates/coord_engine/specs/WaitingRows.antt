@@ -1,5 +1,5 @@
 -- Packets that wait, worked out.
-use Rattle.std.specs.Prelude.{◌≡◌, ℕ, List, [], ◌∷◌}
+use Rattle.std.specs.Prelude.{◌≡◌, ℕ, [], ◌∷◌}
 use Rattle.coord_types.specs.declared.messages.Msg.TheVariants.{Abort}
 use Rattle.coord_types.specs.declared.packets.Packet.{Packet}
 use Rattle.coord_types.specs.declared.packets.Packet.TheVariants.{Carried, Receipted}

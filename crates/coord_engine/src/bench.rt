@@ -57,19 +57,19 @@ fn try_waiting<B: Bench>(bench: &mut B, waiting: &mut Waiting)
 }
 
 /// Keeps a packet that has to wait. Where there is no memory for it, it is lost.
-fn keep<B: Bench>(bench: &mut B, packet: Packet, waiting: &mut Waiting)
-    ensures { Keeps B.moves true bench.old waiting.old packet bench.new waiting.new }
+fn keep<B: Bench>(bench: &mut B, packet: &Packet, waiting: &mut Waiting)
+    ensures { Keeps B.moves true bench.old waiting.old packet.now bench.new waiting.new }
 {
-    if let Err(packet) = waiting.put(packet) {
+    if let Err(packet) = waiting.put(*packet) {
         bench.lose(packet);
     }
 }
 
 /// Submits a packet that came. Where it has to wait it is kept, if there is memory for it.
-fn submit_or_keep<B: Bench>(bench: &mut B, packet: Packet, waiting: &mut Waiting)
-    ensures { Submits B.moves bench.old waiting.old packet bench.new waiting.new }
+fn submit_or_keep<B: Bench>(bench: &mut B, packet: &Packet, waiting: &mut Waiting)
+    ensures { Submits B.moves bench.old waiting.old packet.now bench.new waiting.new }
 {
-    let answer = bench.submit(step_of(packet));
+    let answer = bench.submit(step_of(*packet));
     if has_to_wait(&answer) {
         keep(bench, packet, waiting);
     }
@@ -86,6 +86,6 @@ pub fn work<B: Bench, R: Wait>(rt: &R, alloc: Global, bench: &mut B)
         let Some(packet) = bench.receive() else {
             return;
         };
-        submit_or_keep(bench, packet, &mut waiting);
+        submit_or_keep(bench, &packet, &mut waiting);
     }
 }

@@ -131,7 +131,10 @@ impl<D: Disk, L: Origin> Engine<D, L> {
         ensures nothing { IfOk result (λ begun. IfNone begun (AtSomeMoment (based_on D.keeps_model D.present L.base L.before) (λ g. keeps_store g.ledger ≡ true))) }
         ensures refused { IfErr result (RefusesFlush (based_on D.keeps_model D.present L.base L.before) D.failures) }
     {
-        fly(&mut EngineHangar { rt, engine: self })
+        let mut hangar = EngineHangar::new(rt, self);
+        let told = fly(&mut hangar);
+        hangar.leave();
+        told
     }
 
     /// Wakes all that wait, for replies or for steps.

@@ -105,6 +105,11 @@ pub(crate) fn adding(client: u8, number: u64, id: u8) -> Option<Step> {
     )
 }
 
+/// The client removes a node.
+pub(crate) fn removing(client: u8, number: u64, id: u8) -> Option<Step> {
+    order(client, number, &Command::Remove(NodeId::new(id)?))
+}
+
 /// The client resets a node.
 pub(crate) fn resetting(client: u8, number: u64, id: u8) -> Option<Step> {
     order(client, number, &Command::Reset(NodeId::new(id)?))

@@ -1,7 +1,7 @@
 //! Ports of a ring of nodes, which carry packets to the workers' channels.
 
 use coord_engine::Port;
-use coord_types::{NodeId, Packet};
+use coord_types::{NodeId, Packet, ReceiptPacket};
 use crossbeam_channel::Sender;
 use std::alloc::Global;
 use std::sync::{Mutex, Wait};
@@ -22,11 +22,13 @@ pub(crate) enum Manner {
     /// It loses every fourth packet, holds every third back until the next one was carried, and
     /// carries every fifth twice.
     Lossy,
+    /// It loses nothing, and no more steps may be pending when the first packets come.
+    Full,
 }
 
 impl Manner {
     fn fate(self, count: u64) -> Fate {
-        if self == Manner::Faithful {
+        if self != Manner::Lossy {
             return Fate::Once;
         }
         if count % 4 == 0 {
@@ -64,6 +66,16 @@ impl Carrier {
         if let Some((to, packet)) = self.held.take() {
             self.send(rt, to, &packet);
         }
+    }
+
+    // Whether all packets were received.
+    fn is_empty(&self) -> bool {
+        for channel in &self.channels {
+            if !channel.is_empty() {
+                return false;
+            }
+        }
+        true
     }
 
     fn carry<R: Wait>(&mut self, rt: &R, to: NodeId, packet: Packet) -> bool {
@@ -106,6 +118,16 @@ fn has_signalled(signals: &[Signal], id: u8, epoch: u64) -> bool {
     false
 }
 
+// The receipt of what no lane has had in front: it names a node as its own neighbour.
+fn nothing_for(node: NodeId) -> Packet {
+    Packet::Receipted(ReceiptPacket {
+        from: node,
+        to: node,
+        inc: 0,
+        number: 0,
+    })
+}
+
 /// A port over a channel for each of the nodes 1, 2 and so on.
 #[derive(Drop)]
 pub(crate) struct Ring<R: Wait> {
@@ -142,6 +164,22 @@ impl<R: Wait> Ring<R> {
             }
         }
         signals.len() == usize::from(last)
+    }
+
+    /// Whether the workers have received all packets.
+    pub(crate) fn is_empty(&self) -> bool {
+        self.carrier.lock(&self.rt).is_empty()
+    }
+
+    /// Sends each of the nodes up to this one a receipt that clears nothing, at which its worker
+    /// looks what waits.
+    pub(crate) fn nudge(&self, last: u8) {
+        let carrier = self.carrier.lock(&self.rt);
+        for id in 1..=last {
+            if let Some(node) = NodeId::new(id) {
+                carrier.send(&self.rt, node, &nothing_for(node));
+            }
+        }
     }
 
     /// Closes the channels.

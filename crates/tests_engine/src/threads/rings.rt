@@ -1,8 +1,10 @@
-//! Rings of eight nodes, each with a worker of its own: one reset makes each of them signal once.
+//! Rings of eight nodes, each with a worker of its own: one reset makes each of them signal once,
+//! also where its first packets come when no more steps may be pending.
 
 ghost use Rattle.std.specs.Prelude.{◌≡◌};
 ghost use Rattle.std.specs.Thread.{IsSend, IsSync};
 
+use super::full::is_met_full;
 use super::ports::{Manner, Ring};
 use crate::scripts::{closed, created, engine, resetting, ring_steps};
 use coord_check::check;
@@ -21,10 +23,10 @@ use std::thread::{JoinHandle, Scope, Threads};
 use std::time::{Clock, Duration};
 
 /// How many nodes there are.
-const NODES: u8 = 8;
+pub(super) const NODES: u8 = 8;
 
 /// How often it is looked whether all nodes have signalled, a millisecond apart.
-const LOOKS: u64 = 20_000;
+pub(super) const LOOKS: u64 = 20_000;
 
 // The ends of a channel for each node.
 fn channels(alloc: Global) -> Option<(Vec<Sender<Packet>>, Vec<Receiver<Packet>>)> {
@@ -45,7 +47,8 @@ fn resend<D: Disk, L: Origin, R: Wait>(rt: &R, engine: &Engine<D, L>, ring: &Rin
     }
 }
 
-// Waits until all nodes have signalled. Where packets get lost they are sent again meanwhile.
+// Waits until all nodes have signalled. Meanwhile packets that get lost are sent again, and workers
+// whose packets wait are made to look.
 fn all_signal<D: Disk, L: Origin, R: Wait + Clock>(
     rt: &R,
     engine: &Engine<D, L>,
@@ -56,8 +59,10 @@ fn all_signal<D: Disk, L: Origin, R: Wait + Clock>(
         if ring.signals() >= usize::from(NODES) {
             return true;
         }
-        if manner == Manner::Lossy {
-            resend(rt, engine, ring);
+        match manner {
+            Manner::Faithful => {}
+            Manner::Lossy => resend(rt, engine, ring),
+            Manner::Full => ring.nudge(NODES),
         }
         thread::sleep(rt, Duration::from_millis(1));
     }
@@ -80,6 +85,22 @@ fn submitted<D: Disk, L: Origin, R: Wait>(
     }
 }
 
+// The share of a caller whose reset was accepted. Where that is wanted, no more steps may be pending
+// when its first packets come.
+fn begun<D: Disk, L: Origin, R: Wait + Clock>(
+    rt: &R,
+    engine: &Engine<D, L>,
+    ring: &Ring<&R>,
+    reset: Step,
+    manner: Manner,
+) -> Option<Share<L>> {
+    let mut share = submitted(rt, engine, reset)?;
+    if manner == Manner::Full && !is_met_full(rt, engine, ring, &mut share) {
+        return None;
+    }
+    Some(share)
+}
+
 // Resets a node, with a flusher and a worker on each channel, until all nodes have signalled. All
 // shares, and whether they have. Where something was missing, so is a share.
 fn run<D: Disk + Send, L: Origin + Send + Sync, R: Threads + Wait + Clock + Sync>(
@@ -97,7 +118,6 @@ fn run<D: Disk + Send, L: Origin + Send + Sync, R: Threads + Wait + Clock + Sync
         |scope| -> (Vec<Share<L>>, bool)
             requires { IsSend D.row × IsSend L.row × IsSync L.row × IsSync R.row }
         {
-            let flushing = start_flusher(scope, rt, engine, ring);
             let mut running = Vec::new(alloc);
             for packets in channels {
                 if let Some(share) = engine.share(rt) {
@@ -108,7 +128,8 @@ fn run<D: Disk + Send, L: Origin + Send + Sync, R: Threads + Wait + Clock + Sync
                     }
                 }
             }
-            let own = submitted(rt, engine, reset);
+            let own = begun(rt, engine, ring, reset, manner);
+            let flushing = start_flusher(scope, rt, engine, ring);
             let signalled = all_signal(rt, engine, ring, manner);
             engine.finish(rt);
             if let Some(flushing) = flushing {
@@ -200,5 +221,11 @@ fn all_nodes_of_a_ring_signal(rt: HostRuntime) -> Result<(), Fail> {
 #[test]
 fn all_nodes_of_a_lossy_ring_signal(rt: HostRuntime) -> Result<(), Fail> {
     assert!(rt; all_nodes_signal(&rt, rt.alloc(), Manner::Lossy)?);
+    Ok(())
+}
+
+#[test]
+fn all_nodes_of_a_full_ring_signal(rt: HostRuntime) -> Result<(), Fail> {
+    assert!(rt; all_nodes_signal(&rt, rt.alloc(), Manner::Full)?);
     Ok(())
 }

@@ -23,8 +23,8 @@ returns-in-Ok-None-clause-nothing g c =
     let kept : keeps_store s.ledger ≡ true = stays (keeps_store s.ledger) (λ k. of_none c.in-Ok-None.field-0 Q c.in-Ok-None.field-0-is (c.in-Ok-None.ensures.begun k)) in
     then b s (subst (CanHold b) (c.deref.ensures ∙ sym c.deref_mut.ensures.value) c.keeps.ensures) (λ x. keeps_store x.ledger ≡ true) kept
 
-pub returns-in-Err-clause-refused : goal.returns-in-Err-clause-refused
-returns-in-Err-clause-refused g c =
+pub returns-clause-refused : goal.returns-clause-refused
+returns-clause-refused g c =
     let b = based_on g.D.Disk.keeps_model g.D.Disk.present g.L.Origin.base g.L.Origin.before in
     let s = c.deref_mut.result.now in
     let going : keeps_store s.ledger ≡ false = goes (keeps_store s.ledger) (λ k. is_refused (c.in-Err.ensures.nothing k).0) in

@@ -1,4 +1,4 @@
-use Rattle.std.proofs.Common.{◌≡◌, ◌<◌, [], sym, subst, ◌∙◌}
+use Rattle.std.proofs.Common.{◌≡◌, ◌<◌, sym, subst, ◌∙◌}
 use Rattle.std.proofs.lemmas.Option.{IfSome_then}
 use Rattle.coord_engine.specs.State.{based_on, CanHold, most_shares}
 use Rattle.coord_engine.proofs.Moments.{on_none, then}

@@ -1,5 +1,5 @@
 use Rattle.std.proofs.Common.{◌≡◌, ◌+◌, ◌≤◌, None, length, subst}
-use Rattle.coord_engine.specs.State.{CanHold, GuardedState, based_on}
+use Rattle.coord_engine.specs.State.{CanHold, based_on}
 use Rattle.coord_engine.proofs.Growing.{both_of_some}
 use Rattle.coord_engine.proofs.guarded.Guarded.keeps.Goals as goal
 

@@ -1,0 +1,16 @@
+use Rattle.std.proofs.Common.{◌≡◌, length, subst}
+use Rattle.coord_ledger.specs.ledger.Calls.{taken_back}
+use Rattle.coord_ledger.specs.ledger.Follows.{IsOut}
+use Rattle.coord_engine.specs.Flights.{ComesBack}
+use Rattle.coord_engine.specs.State.{based_on, CanHold, with_ledger}
+use Rattle.coord_engine.proofs.Moments.{then}
+use Rattle.coord_engine.proofs.engine.Engine.end.Goals as goal
+
+pub returns-in-Ok-clause-back : goal.returns-in-Ok-clause-back
+returns-in-Ok-clause-back g c =
+    let b = based_on g.D.Disk.keeps_model g.D.Disk.present g.L.Origin.base g.L.Origin.before in
+    let s = c.deref_mut.result.now in
+    let own = subst (λ f. IsOut s.ledger f) c.loop.invariant.2 c.in-Ok.ensures.own in
+    let taken = subst (λ f. c.end.new.self ≡ with_ledger s (taken_back s.ledger (length f.steps) f.mark f.disk)) c.loop.invariant.2 c.in-Ok.ensures.taken in
+    let is : CanHold b c.end.new.self = subst (CanHold b) c.deref.ensures c.keeps.ensures in
+    then b c.end.new.self is (ComesBack c.args.flight) (s, own, taken)
