@@ -1,5 +1,5 @@
 -- What the type of the value under the lock keeps of its ledger, when the ledger changes.
-use Rattle.std.proofs.Common.{◌≡◌, ◌≤◌, ℕ, List, [], ◌∷◌, Option, Some, None, length, take, ◌∙◌}
+use Rattle.std.proofs.Common.{◌≡◌, ◌≤◌, ◌+◌, ℕ, List, [], ◌∷◌, Option, Some, None, length, take, ◌∙◌}
 use Rattle.std.specs.Prelude.{IfSome}
 use Rattle.std.proofs.lemmas.List.{take-append-le}
 use Rattle.coord_types.specs.declared.steps.Step.{Step}
@@ -14,6 +14,10 @@ Begun base start before l = (l.log.base ≡ base) × (take start l.log.trail ≡
 pub begun_stepped : {D : Type 0} (base : World) (start : ℕ) (before : List Step) (l : LedgerState D) (s : Step) → start ≤ length l.log.trail → Begun base start before l → Begun base start before (with_accepted l s)
 begun_stepped base start before l s le is = (is.0, take-append-le start l.log.trail (s ∷ []) le ∙ is.1, is.2)
 
-pub both_of_some : {T : Type 0} (o : Option T) (P Q : T → Type 0) → IfSome o P → IfSome o Q → IfSome o (λ x. P x × Q x)
-both_of_some None P Q p q = tt
-both_of_some (Some x) P Q p q = (p, q)
+doubted : {D : Type 0} (l : LedgerState D) (o : Option ℕ) → IfSome o (λ size. (1 ≤ size) × (l.log.settled + size ≤ length l.log.trail)) → IfSome o (λ _. l.out ≡ None) → IfSome o (λ size. (1 ≤ size) × (l.log.settled + size ≤ length l.log.trail) × (l.out ≡ None))
+doubted l None size home = tt
+doubted l (Some n) size home = (size.0, size.1, home)
+
+-- the steps in doubt, and that no flight is out then
+pub of_doubt : {D : Type 0} (l : LedgerState D) → IfSome l.doubt (λ size. (1 ≤ size) × (l.log.settled + size ≤ length l.log.trail)) → IfSome l.doubt (λ _. l.out ≡ None) → IfSome l.doubt (λ size. (1 ≤ size) × (l.log.settled + size ≤ length l.log.trail) × (l.out ≡ None))
+of_doubt l size home = doubted l l.doubt size home

@@ -30,7 +30,7 @@ module _ {S : Type 0} (notes : S → List Note) where
   round_adds : (s : S) (waiting : List Packet) (t : S) (left : List Packet) → Round (bench_moves notes) s waiting t left → AddsPackets (notes s) (notes t)
   round_adds s waiting t left is =
       adds_more (notes s) (notes is.tried) (notes t) (tried_adds s waiting is.tried is.rest is.tries)
-        (adds_more (notes is.tried) (notes is.received) (notes t) (adds_none (notes is.tried) (notes is.received) is.receives) (submitted_adds is.received is.rest is.packet t left is.submits))
+      (adds_more (notes is.tried) (notes is.received) (notes t) (adds_none (notes is.tried) (notes is.received) is.receives) (submitted_adds is.received is.rest is.packet t left is.submits))
 
   rounds_adds : (n : ℕ) (s t : S) (left : List Packet) → Rounds (bench_moves notes) n s t left → AddsPackets (notes s) (notes t)
   rounds_adds zero s t left is = adds_none (notes s) (notes t) (ap notes is.0)
@@ -39,4 +39,4 @@ module _ {S : Type 0} (notes : S → List Note) where
   pub worked_adds : (s t : S) → HasWorked (bench_moves notes) s t → AddsPackets (notes s) (notes t)
   worked_adds s t is =
       adds_more (notes s) (notes is.last) (notes t) (rounds_adds is.count s is.last is.waiting is.rounds)
-        (adds_more (notes is.last) (notes is.tried) (notes t) (tried_adds is.last is.waiting is.tried is.rest is.tries) (adds_none (notes is.tried) (notes t) is.receives))
+      (adds_more (notes is.last) (notes is.tried) (notes t) (tried_adds is.last is.waiting is.tried is.rest is.tries) (adds_none (notes is.tried) (notes t) is.receives))

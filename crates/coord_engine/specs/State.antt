@@ -37,14 +37,14 @@ pub record HasGrown {D : Type 0} (b : Basis D) (g : GuardedState D) : Type 0 whe
   pub begins : take g.start g.ledger.log.trail ≡ b.before
   pub by_shares : length g.ledger.log.trail ≡ g.start + g.noted
 
--- What the type of the value keeps of it: the trail has grown by what the shares noted; the steps that are out are the next ones, and the store is out with them; once it has stopped no flight is out, and the steps in doubt are of the trail; the images of the disk give the settled steps, and after a stop perhaps those in doubt.
+-- What the type of the value keeps of it: the trail has grown by what the shares noted; the steps that are out are the next ones, and the store is out with them; once it has stopped no flight is out, and the steps in doubt are of the trail, at least one; the images of the disk give the settled steps, and after a stop perhaps those in doubt.
 pub record CanHold {D : Type 0} (b : Basis D) (g : GuardedState D) : Type 0 where
   pub log : IsConsistentLog g.ledger.log
   pub grown : HasGrown b g
   pub shares : g.given ≤ most_shares
   pub out : IfSome g.ledger.out (λ size. (1 ≤ size) × (size ≤ most_in_flight) × (g.ledger.log.settled + size ≤ length g.ledger.log.trail))
   pub home : is_some g.ledger.out ≡ is_none g.ledger.disk
-  pub doubt : IfSome g.ledger.doubt (λ size. (g.ledger.log.settled + size ≤ length g.ledger.log.trail) × (g.ledger.out ≡ None))
+  pub doubt : IfSome g.ledger.doubt (λ size. (1 ≤ size) × (g.ledger.log.settled + size ≤ length g.ledger.log.trail) × (g.ledger.out ≡ None))
   pub images : IfSome g.ledger.disk (λ disk. b.keeps_model disk ≡ true → LedgerGives b.present g.ledger disk)
 
 -- the engine was just made over this ledger

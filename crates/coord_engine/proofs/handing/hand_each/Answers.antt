@@ -12,6 +12,6 @@ loop-handed-preserved g c =
     let rest : c.next.new.self ≡ drop (k + 1) c.args.releases = c.next.ensures.rest ∙ ap (drop 1) at ∙ drop-drop 1 k c.args.releases in
     let here : k < length c.args.releases = omega (arith, c.loop-handed-test.true, c.len-count.ensures) in
     elim c.match-next.branch [
-      in-Some w ↦ (rest, hands_next g.T.Taker.takes c.args.taker.now c.loop-handed.taker c.match-next.taker w.take.new.self k c.args.releases c.loop-handed.left w.in-Some.release w.of.result at c.loop-handed.invariant.1 (sym c.next.ensures.first ∙ w.in-Some.is) w.of.ensures w.take.ensures w.taker-is)
-    | in_default w ↦ absurd (one_left k c.args.releases (ap (λ l. slice_get l 0) (sym at) ∙ sym c.next.ensures.first ∙ w.in_default.is) here)
+      | in-Some w ↦ (rest, hands_next g.T.Taker.takes c.args.taker.now c.loop-handed.taker c.match-next.taker w.take.new.self k c.args.releases c.loop-handed.left w.in-Some.release w.of.result at c.loop-handed.invariant.1 (sym c.next.ensures.first ∙ w.in-Some.is) w.of.ensures w.take.ensures w.taker-is)
+      | in_default w ↦ absurd (one_left k c.args.releases (ap (λ l. slice_get l 0) (sym at) ∙ sym c.next.ensures.first ∙ w.in_default.is) here)
     ]

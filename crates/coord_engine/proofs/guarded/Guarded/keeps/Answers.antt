@@ -1,6 +1,6 @@
-use Rattle.std.proofs.Common.{◌≡◌, ◌+◌, ◌≤◌, None, length, subst}
+use Rattle.std.proofs.Common.{subst}
 use Rattle.coord_engine.specs.State.{CanHold, based_on}
-use Rattle.coord_engine.proofs.Growing.{both_of_some}
+use Rattle.coord_engine.proofs.Growing.{of_doubt}
 use Rattle.coord_engine.proofs.guarded.Guarded.keeps.Goals as goal
 
 pub returns : goal.returns
@@ -15,6 +15,6 @@ returns g c =
       shares = inv.0;
       out = e.out;
       home = e.home;
-      doubt = both_of_some l.doubt (λ size. l.log.settled + size ≤ length l.log.trail) (λ _. l.out ≡ None) e.doubt inv.7;
+      doubt = of_doubt l e.doubted inv.7;
       images = c.images_give_settled.ensures;
     })
