@@ -15,7 +15,7 @@ use Rattle.coord_ledger.specs.ledger.State.{Claim, LedgerState, ledger_over}
 use Rattle.coord_ledger.specs.machine.Answers.{IsOneOf, kept_by, to_commit}
 use Rattle.coord_ledger.specs.machine.Log.{front_world, log_over, settled_count, settled_world, world_after}
 use Rattle.coord_drill.specs.Answered.{Does, Flies, asked_lines, commit_lines, flight_lines, kept_line, step_lines, verdict_lines}
-use Rattle.coord_drill.specs.Drill.{DrillState, Luck, after_asked, after_commit, after_flight, after_step, after_verdict, drill_over, has_no_flight, said, with_accepted}
+use Rattle.coord_drill.specs.Drill.{DrillState, Luck, after_asked, after_commit, after_flight, after_step, after_verdict, has_no_flight, said, with_accepted}
 use Rattle.coord_drill.specs.Holding.{IsHeld, IsReady, IsReadyWith, Tells, drill_of, state_of}
 use Rattle.coord_drill.specs.Printed.{count_line, opened_line, pending_line, refusal_line}
 use Rattle.coord_drill.specs.declared.asked.Asked.TheVariants.{Crash, Flush, Submit}
