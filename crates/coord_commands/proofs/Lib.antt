@@ -2,6 +2,7 @@ mod CommandsTaken
 mod Endings
 mod OneClient
 mod Opening
+mod Raising
 mod RefusedWords
 mod SaidBytes
 mod Statuses

@@ -1,5 +1,5 @@
 -- What a run of the program does, by its words.
-use Rattle.std.specs.Prelude.{◌≡◌, ◌⊎◌, ℕ, ◌≤◌, true, List, [], slice_index_or, length, Option, Some, None, IfSome}
+use Rattle.std.specs.Prelude.{◌≡◌, ◌⊎◌, ℕ, ◌≤◌, true, List, length, Option, Some, None, IfSome}
 use Rattle.std.specs.Io.KnownBytes.{Appends, Consumes, IsAtEnd, Keeps}
 use Rattle.clap.specs.Words.{Text, takes}
 use Rattle.coord_disk.specs.Model.Present.{Present}
@@ -14,7 +14,7 @@ use Rattle.coord_commands.specs.Inspection.{Checks, Shows}
 use Rattle.coord_commands.specs.Making.{IsCreatedLine, IsOfMaking}
 use Rattle.coord_commands.specs.Migrating.{IsMigratedLine, IsOfMigrating}
 use Rattle.coord_commands.specs.Serving.{Serves}
-use Rattle.coord_commands.specs.Words.{resetd, task_of}
+use Rattle.coord_commands.specs.Words.{resetd, task_of, word}
 use Rattle.coord_commands.specs.declared.fault.Fault.{Fault}
 use Rattle.coord_commands.specs.declared.fault.Fault.TheVariants.{Usage, OutOfMemory}
 use Rattle.coord_commands.specs.declared.words.Task.{Task}
@@ -47,10 +47,6 @@ pub record FailsToDrill (input left : Option (List ℕ)) (status : ℕ) (old new
 -- the drill, by its input and what of it is left
 abbrev pub Drills : Option (List ℕ) → Option (List ℕ) → ℕ → Streams → Streams → Type 0
 Drills input left status old new = HasDrilled input left status old new ⊎ FailsToDrill input left status old new
-
--- the word at this place, counted from 0; the first one is the program's own name
-abbrev pub word : ℕ → List Text → Text
-word n words = slice_index_or words n []
 
 -- the task is carried out, with the words behind its name
 abbrev pub Does : Task → List Text → ℕ → Around → Around → Type 0

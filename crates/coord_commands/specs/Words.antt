@@ -1,5 +1,5 @@
 -- What the program's words ask for.
-use Rattle.std.specs.Prelude.{true, List, [], ◌∷◌, codes, bytes_eq, Option, Some, None, if◌then◌else◌}
+use Rattle.std.specs.Prelude.{ℕ, true, slice_get, unwrap_or, List, [], ◌∷◌, codes, bytes_eq, Option, Some, None, if◌then◌else◌}
 use Rattle.clap.specs.Words.{App, Rule, Text, new_app, new_rule, with_rule, with_subcommand}
 use Rattle.clap.specs.Simple.{on_top}
 use Rattle.clap.specs.declared.builder.action.ArgAction.TheVariants.{Set}
@@ -23,6 +23,10 @@ task_of (name ∷ word ∷ []) = asked_alone word
 task_of (name ∷ word ∷ file ∷ []) = asked_of_file word
 task_of (name ∷ word ∷ file ∷ second ∷ []) = asked_of_two word
 task_of words = None
+
+-- the word at this place, counted from 0, and none is empty; the first one is the program's own name
+abbrev pub word : ℕ → List Text → Text
+word n words = unwrap_or (slice_get words n) []
 
 -- a word that has to be there
 abbrev pub word_named : Text → Rule

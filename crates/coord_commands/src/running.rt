@@ -11,7 +11,7 @@ use crate::inspection::{check_in, show_in};
 use crate::making::init_in;
 use crate::migrating::migrate_in;
 use crate::status::report;
-use crate::words::{Task, read_words};
+use crate::words::{Task, read_words, word_at};
 use coord_drill::coord_drill;
 use std::alloc::Global;
 use std::io::{Read, Write};
@@ -35,10 +35,17 @@ pub fn run_in<F: Folder, R: Read, W: Write, E: Write>(
 {
     match read_words(alloc, words) {
         Ok(Task::Drill) => Some(drill(alloc, input, output, errors)),
-        Ok(Task::Init) => Some(init_in(alloc, folder, &words[2], &words[3], output, errors)),
-        Ok(Task::Check) => Some(check_in(alloc, folder, &words[2], output, errors)),
-        Ok(Task::Show) => Some(show_in(alloc, folder, &words[2], output, errors)),
-        Ok(Task::Migrate) => Some(migrate_in(alloc, folder, &words[2], output, errors)),
+        Ok(Task::Init) => Some(init_in(
+            alloc,
+            folder,
+            word_at(words, 2),
+            word_at(words, 3),
+            output,
+            errors,
+        )),
+        Ok(Task::Check) => Some(check_in(alloc, folder, word_at(words, 2), output, errors)),
+        Ok(Task::Show) => Some(show_in(alloc, folder, word_at(words, 2), output, errors)),
+        Ok(Task::Migrate) => Some(migrate_in(alloc, folder, word_at(words, 2), output, errors)),
         Ok(Task::Serve) => None,
         Err(fault) => Some(report(Err(fault), errors)),
     }

@@ -3,7 +3,7 @@
 ghost use Rattle.std.specs.Prelude.{◌≡◌, ◌⊎◌, false, true, map, IfOk, IfErr, Some, None, string_bytes};
 ghost use Rattle.clap.specs.Words.{app_of, new_app, rule_of, takes, with_rule, with_subcommand};
 ghost use Rattle.coord_commands.specs.declared.fault.Fault.TheVariants.{Usage, OutOfMemory};
-ghost use Rattle.coord_commands.specs.Words.{asked_alone, asked_of_file, asked_of_two, resetd, task_of, word_named};
+ghost use Rattle.coord_commands.specs.Words.{asked_alone, asked_of_file, asked_of_two, resetd, task_of, word, word_named};
 
 use crate::fault::Fault;
 use clap::error::ErrorKind;
@@ -94,6 +94,16 @@ fn word_named(alloc: Global, id: &str) -> Arg<'_>
     ensures local { result.global ≡ false }
 {
     Arg::new(alloc, id).required(true).action(ArgAction::Set)
+}
+
+/// The word at a place, counted from 0. One that is not there is empty.
+pub fn word_at(words: &[String], place: usize) -> &str
+    ensures { result.now ≡ word place (map string_bytes words.now) }
+{
+    match words.get(place) {
+        Some(word) => word.as_str(),
+        None => "",
+    }
 }
 
 /// The task that the words are those of.

@@ -39,14 +39,14 @@ fn order(number: u64, command: Command) -> Step
     Step::Order(Client::new(1).unwrap(), number, command)
 }
 
-/// The node takes a message over the link, which is the third step's.
-fn take(from: NodeId, to: NodeId, number: u64, msg: Msg) -> Step
+/// A node takes a message over the link that a step made.
+fn take(from: NodeId, to: NodeId, inc: u64, number: u64, msg: Msg) -> Step
     ensures { IsNumbered result }
 {
     Step::Take(DataPacket {
         from,
         to,
-        inc: 3,
+        inc,
         number,
         msg,
     })
@@ -72,10 +72,10 @@ fn ends<D: Disk>(store: &mut Store<D>) -> Result<bool, CommitFault> {
         inc: 3,
         number: 1,
     };
-    let are_fresh = commits(store, take(from, to, 1, Msg::Abort(0)))?
-        && commits(store, take(to, from, 1, Msg::Ack))?
+    let are_fresh = commits(store, take(from, to, 3, 1, Msg::Abort(0)))?
+        && commits(store, take(to, from, 3, 1, Msg::Ack))?
         && commits(store, Step::Clear(receipt))?
-        && commits(store, take(from, to, 2, Msg::Ready))?;
+        && commits(store, take(from, to, 3, 2, Msg::Ready))?;
     Ok(are_fresh)
 }
 
@@ -219,5 +219,77 @@ fn files_are_migrated(rt: HostRuntime) -> Result<(), Fail> {
     let folder = make_folder(&rt, "migrated")?;
     let wrong = first_wrong_on_files(&rt, &folder, &files, &FILES)?;
     assert!(rt; wrong.is_none(), "{wrong:?}");
+    Ok(())
+}
+
+/// A store of version 1 whose three nodes are each the parent of the next, round in a circle, and
+/// each await the next one.
+const CIRCLE: &[u8] = b"\x00ACRRESET\0\0\0\0\0\0\x80\0\
+\x01\0\0\0\xe3\
+\0\0\0\0\0\0\0\x06\
+\x03\
+\x01\x01\x01\x03\0\0\0\0\0\0\0\x02\0\0\0\0\0\0\0\0\0\0\0\0\0\0\0\0\
+\x02\x01\x01\x01\0\0\0\0\0\0\0\x04\0\0\0\0\0\0\0\0\0\0\0\0\0\0\0\0\
+\x03\x01\x01\x02\0\0\0\0\0\0\0\x01\0\0\0\0\0\0\0\0\0\0\0\0\0\0\0\0\
+\x03\
+\x01\x02\0\0\0\0\0\0\0\x04\
+\0\0\0\0\0\0\0\0\0\0\0\0\0\0\0\0\0\
+\0\0\0\0\0\0\0\0\0\0\0\0\0\0\0\0\0\
+\x01\x03\0\0\0\0\0\0\0\x05\
+\0\0\0\0\0\0\0\0\0\0\0\0\0\0\0\0\0\
+\0\0\0\0\0\0\0\0\0\0\0\0\0\0\0\0\0\
+\x02\x03\0\0\0\0\0\0\0\x06\
+\0\0\0\0\0\0\0\0\0\0\0\0\0\0\0\0\0\
+\0\0\0\0\0\0\0\0\0\0\0\0\0\0\0\0\0\
+\0\
+\0";
+
+/// Drops one of its links, so that the reset ends.
+fn opens_circle<D: Disk>(store: &mut Store<D>) -> Result<bool, CommitFault> {
+    let (one, two) = pair();
+    let three = NodeId::new(3).unwrap();
+    let are_fresh = commits(store, order(1, Command::Drop(one, two)))?
+        && commits(store, take(one, three, 5, 1, Msg::Ack))?
+        && commits(store, take(three, two, 6, 1, Msg::Ack))?
+        && commits(store, take(two, three, 6, 1, Msg::Ready))?
+        && commits(store, take(three, one, 5, 1, Msg::Ready))?;
+    Ok(are_fresh)
+}
+
+/// The disk of the circle, once it was opened.
+fn opened_circle(alloc: Global) -> Result<MemDisk, Fail> {
+    let Ok(mut store) = Store::open(alloc, MemDisk::from_bytes(alloc, CIRCLE)?) else {
+        return Err("not opened".into());
+    };
+    let is_open = opens_circle(&mut store);
+    let disk = store.into_disk();
+    if is_open? {
+        Ok(disk)
+    } else {
+        Err("not fresh")?
+    }
+}
+
+const CLOSED_CIRCLE: [Run; 2] = [
+    ("resetd check store", (0, "legal 6\n", "")),
+    ("resetd migrate store", (1, "", "resetd: NotQuiet 1\n")),
+];
+
+const OPENED_CIRCLE: [Run; 2] = [
+    ("resetd migrate store", (0, "migrated 11\n", "")),
+    ("resetd check store", (0, "legal 11\n", "")),
+];
+
+#[test]
+fn a_circle_of_parents_is_opened_first(rt: HostRuntime) -> Result<(), Fail> {
+    let alloc = rt.alloc();
+    let mut closed = folder_of(alloc, MemDisk::from_bytes(alloc, CIRCLE)?)?;
+    let refused = first_wrong(alloc, &mut closed, &CLOSED_CIRCLE)?;
+    let mut opened = folder_of(alloc, opened_circle(alloc)?)?;
+    let raised = first_wrong(alloc, &mut opened, &OPENED_CIRCLE)?;
+    assert!(rt;
+        refused.is_none() && raised.is_none(),
+        "{refused:?} {raised:?}"
+    );
     Ok(())
 }

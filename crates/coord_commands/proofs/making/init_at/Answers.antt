@@ -1,6 +1,7 @@
 use Rattle.std.proofs.Common.{◌≡◌, ℕ, List, Err, Option, rules, subst, sym}
 use Rattle.std.specs.Result.{IfErr}
 use Rattle.coord_commands.proofs.Endings.{cut_last}
+use Rattle.coord_commands.specs.Folders.{reads}
 use Rattle.coord_commands.specs.Making.{IsOfMaking}
 use Rattle.coord_commands.specs.Topology.{IsOfText}
 use Rattle.coord_commands.specs.declared.fault.Fault.{Fault}
@@ -22,7 +23,7 @@ of_text before after (NotClosed fault) is = absurd is
 
 pub returns-in_err-topology-clause-fault : goal.returns-in_err-topology-clause-fault
 returns-in_err-topology-clause-fault g c =
-    let same = g.F.Folder.holds c.args.folder.now c.args.file.now in
+    let same = reads (g.F.Folder.holds c.args.folder.now c.args.file.now) in
     let is : IsOfText c.in_err-topology.field-0.0 = subst (λ r. IfErr r IsOfText) c.in_err-topology.was c.topology_from.ensures.named in
     let returned : c.from_residual.result ≡ Err c.in_err-topology.field-0.0 = search rules in
     subst (λ r. IfErr r (IsOfMaking same same)) (sym returned) (of_text same same c.in_err-topology.field-0.0 is)

@@ -1,0 +1,67 @@
+-- Raising the store on a disk, from what its parts answer.
+use Rattle.std.proofs.Common.{◌≡◌, ◌≢◌, ℕ, Bool, true, false, List, Option, Some, None, IfSome, Result, Ok, Err, inl, inr, refl, sym, subst, if◌then◌else◌, ◌∙◌}
+use Rattle.std.specs.Prelude.{OnOk, IfOk, IfErr, IsErrOf}
+use Rattle.coord_disk.specs.Model.Present.{Present}
+use Rattle.coord_store.specs.Kept.{GivesEither, GivesKept, Kept}
+use Rattle.coord_store.specs.Migrating.{risen}
+use Rattle.coord_store.specs.Recovered.{Recovered}
+use Rattle.coord_store.specs.declared.faults.StoreFault.TheVariants as of_store
+use Rattle.coord_world.specs.protocol.NumberedWorld.{World}
+use Rattle.coord_commands.specs.Migrating.{GivesEitherVersion, IsMigratedLine, IsOfRaising, IsRaised, ReadsAsBefore, RefusesRaising}
+use Rattle.coord_commands.specs.Printed.{migrated_line}
+use Rattle.coord_commands.specs.declared.fault.Fault.{Fault}
+use Rattle.coord_commands.specs.declared.fault.Fault.TheVariants.{Usage, Read, Write, Socket, TooManyReads, OutOfMemory, Topology, Store, Refused, NotClosed}
+
+-- what holds of a disk that keeps the model, holds of what is known of it
+pub if_present : (keeps : Bool) (disk : Present) (P : Present → Type 0) → (keeps ≡ true → P disk) → IfSome (if keeps then Some disk else None) P
+if_present true disk P holds = holds refl
+if_present false disk P holds = tt
+
+any : (known : Option Present) → IfSome known (λ _. Unit {0})
+any None = tt
+any (Some disk) = tt
+
+-- the line of a store that was raised
+pub line_of : {A : Type 0} (text : A → List ℕ) (ended : Result A Fault) (before after : Option Present) (w v : World) (torn : Option World) → IfOk ended (λ line. text line ≡ migrated_line w.count)
+    → OnOk ended (v ≡ risen w) → OnOk ended (torn ≡ None) → (v ≡ risen w → torn ≡ None → IsRaised before after w) → IfOk ended (λ line. IsMigratedLine before after (text line))
+line_of text (Ok line) before after w v torn is world going raised = record { world = w; is_raised = raised world going; counted = is }
+line_of text (Err fault) before after w v torn is world going raised = tt
+
+-- a torn migration: an image gives the world in one version or the other
+pub either_of : {D : Type 0} (kept : Kept D) (w v : World) (image : List ℕ) → kept.world ≡ w → kept.torn ≡ Some v → GivesKept kept image → GivesEither w v image
+either_of kept w v image same torn (inl gives) = inl (subst (λ (x : World). Recovered image x) same gives)
+either_of kept w v image same torn (inr gives) =
+    let is : Some gives.0 ≡ Some v = sym gives.1 ∙ torn in
+    let one : gives.0 ≡ v = cc in inr (subst (λ (x : World). Recovered image x) one gives.2)
+
+module _ {A : Type 0} {Same Torn : Type 0} (ended : Result A Fault) (before after : Option Present) (w : World) (torn : IsErrOf ended (Store of_store.Device) → Torn) (stopped : IsErrOf ended (Store of_store.Stopped) → ⊥) (given : IfSome before (λ old. Recovered old.read w)) (reads : Same → ReadsAsBefore before after) (either : Torn → GivesEitherVersion before after) where
+  -- the fault of a store that was not raised
+  of_raising : (fault : Fault) → ended ≡ Err fault → RefusesRaising w fault → (fault ≢ Store of_store.Device → Same) → IsOfRaising before after fault
+  of_raising Usage is refuses left = absurd refuses
+  of_raising Read is refuses left = absurd refuses
+  of_raising Write is refuses left = absurd refuses
+  of_raising Socket is refuses left = absurd refuses
+  of_raising TooManyReads is refuses left = absurd refuses
+  of_raising OutOfMemory is refuses left = reads (left (λ e. cc))
+  of_raising (Topology fault) is refuses left = absurd refuses
+  of_raising (Store of_store.OutOfMemory) is refuses left = (tt, any before, reads (left (λ e. cc)))
+  of_raising (Store of_store.Device) is refuses left = either (torn is)
+  of_raising (Store of_store.NotEmpty) is refuses left = absurd refuses
+  of_raising (Store of_store.HalfSize) is refuses left = absurd refuses
+  of_raising (Store of_store.NoMagic) is refuses left = absurd refuses
+  of_raising (Store of_store.BadRecord) is refuses left = absurd refuses
+  of_raising (Store of_store.BadSnapshot) is refuses left = absurd refuses
+  of_raising (Store of_store.BadBatch) is refuses left = absurd refuses
+  of_raising (Store (of_store.BadStep batch index)) is refuses left = absurd refuses
+  of_raising (Store (of_store.Violated violation)) is refuses left = absurd refuses
+  of_raising (Store (of_store.NotQuiet node)) is refuses left = record { world = w; given = given; refuses = refuses; unchanged = reads (left (λ e. cc)) }
+  of_raising (Store of_store.Stopped) is refuses left = absurd (stopped is)
+  of_raising (Refused refusal) is refuses left = absurd refuses
+  of_raising (NotClosed fault) is refuses left = absurd refuses
+
+-- the same, of an answer
+pub fault_of : {A : Type 0} {Same Torn : Type 0} (ended : Result A Fault) (before after : Option Present) (w : World) → IfErr ended (RefusesRaising w) → IfErr ended (λ fault. fault ≢ Store of_store.Device → Same)
+    → (IsErrOf ended (Store of_store.Device) → Torn) → (IsErrOf ended (Store of_store.Stopped) → ⊥) → IfSome before (λ old. Recovered old.read w) → (Same → ReadsAsBefore before after) → (Torn → GivesEitherVersion before after)
+    → IfErr ended (IsOfRaising before after)
+fault_of (Ok x) before after w refuses same torn stopped given reads either = tt
+fault_of (Err fault) before after w refuses same torn stopped given reads either = of_raising (Err fault) before after w torn stopped given reads either fault refl refuses same
