@@ -78,6 +78,10 @@ class Keeper:
         """The status and the words of each end."""
         return [line.strip() for line in self.lines("ended")]
 
+    def gave_up(self):
+        """The end after which there is no further start, if there was one: the store was refused."""
+        return next((end for end in self.ends() if end.split()[0] in ("1", "2")), None)
+
     def wait_refused(self):
         """A standby tries, and is refused by a lock: its status."""
         before = len(self.ends())

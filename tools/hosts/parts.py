@@ -60,6 +60,7 @@ def cut_in_load(trial):
           flush=True)
     trial.load.start()
     time.sleep(LATER)
+    ends = len(old.ends())
     old.host.cut()
     cut = time.monotonic()
     took = trial.wait_takeover(new, cut)
@@ -68,24 +69,24 @@ def cut_in_load(trial):
     old.host.link()
     tell(f"{old.host.name} is linked again; orders go on")
     time.sleep(LATER)
-    linked_old_is_asked(trial, old)
+    linked_old_is_asked(trial, old, ends)
     trial.load.stop()
     trial.load.finish()
     trial.check()
     return took
 
 
-def linked_old_is_asked(trial, old):
+def linked_old_is_asked(trial, old, ends):
     """The old coordinator, over a new connection, with an order of a client that nobody else is."""
     request = {"op": "reset", "client": 15, "number": 1, "node": 1}
-    tell(f"the old coordinator on {old.host.name} answers a new order Stopped, and ends by close: status "
-         f"{trial.end_old(old, request)}")
+    tell(f"the old coordinator on {old.host.name} {trial.end_old(old, ends, request)}")
 
 
 def cut_while_idle(trial):
     old, new = trial.present, trial.other(trial.present)
     print(f"3. {old.host.name} is cut off while its coordinator is idle.", flush=True)
     trial.wait_quiet()
+    ends = len(old.ends())
     old.host.cut()
     cut = time.monotonic()
     trial.load.start()
@@ -100,7 +101,7 @@ def cut_while_idle(trial):
     tell(f"{old.host.name} is linked again, and all three bricks have the same {len(before)} bytes")
     if "accepted" in shown:
         tell(f"the old coordinator, asked for show, tells its own past: {shown['accepted']} steps")
-    linked_old_is_asked(trial, old)
+    linked_old_is_asked(trial, old, ends)
     refused = old.wait_refused()
     if trial.volume.wait_healed(new.host)[0] != before:
         raise Lost(f"the old coordinator on {old.host.name} has written")
