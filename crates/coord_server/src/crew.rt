@@ -130,8 +130,12 @@ fn run_threads<
         rt,
         |scope| -> Ran<L, C>
             requires { IsSend D.row × IsSend L.row × IsSync L.row × IsSend W.row × IsSync R.row × (own ≡ []) }
-            ensures { (seen : ℕ) × Serves (based_on D.keeps_model D.present L.base L.before) C.met callers.entry result.callers (record { notes = result.own; seen = seen }) result.served }
-        { run_in(scope, rt, alloc, engine, port, received, own, callers, printer) },
+            ensures { (seen : ℕ) × Serves (based_on D.keeps_model D.present L.base L.before) C.met callers result.callers (record { notes = result.own; seen = seen }) result.served }
+        {
+            run_in(
+                scope, rt, alloc, engine, port, received, own, callers, printer,
+            )
+        },
     )
 }
 
@@ -146,7 +150,7 @@ fn run_in<
     D: Disk + Send,
     L: Origin + Send + Sync,
     C: Callers + Drop,
-    W: Write + Send + Drop,
+    W: Write + Send + Drop + 's,
     R: Threads + Wait + Clock + Sync,
 >(
     scope: &Scope<'s, E>,
@@ -170,7 +174,7 @@ fn run_in<
     let running = start_workers(scope, rt, alloc, engine, packets);
     let is_whole = printing.is_some() && running.len() == usize::from(WORKERS);
     let mut ran = if is_whole {
-        serve_over(rt, alloc, engine, port, own, callers)
+        serve_over(&*rt, alloc, &*engine, &*port, own, callers)
     } else {
         not_run::<D, L, C>(alloc, own, callers, ServerFault::OutOfMemory)
     };
@@ -183,25 +187,19 @@ fn run_in<
 }
 
 /// Starts what prints signals, unless no thread can be had.
-fn start_printing<'s, 'r: 's, E, W: Write + Send + Drop, R: Wait + Sync>(
+fn start_printing<'s, 'r: 's, E, W: Write + Send + Drop + 's, R: Wait + Sync>(
     scope: &Scope<'s, E>,
     rt: &'r R,
     signals: Receiver<Signal>,
     printer: Printer<W>,
 ) -> Option<JoinHandle<Printer<W>>> {
-    scope.spawn(move || print_signals(rt, signals, printer)).ok()
+    scope
+        .spawn(move || print_signals(rt, signals, printer))
+        .ok()
 }
 
 /// Starts a worker on each channel with a share of its own; where no thread can be had, fewer.
-fn start_workers<
-    's,
-    'r: 's,
-    'e: 's,
-    E,
-    D: Disk + Send,
-    L: Origin + Send + Sync,
-    R: Wait + Sync,
->(
+fn start_workers<'s, 'r: 's, 'e: 's, E, D: Disk + Send, L: Origin + Send + Sync, R: Wait + Sync>(
     scope: &Scope<'s, E>,
     rt: &'r R,
     alloc: Global,
@@ -220,15 +218,7 @@ fn start_workers<
 }
 
 /// Starts a worker, unless no thread can be had.
-fn start_worker<
-    's,
-    'r: 's,
-    'e: 's,
-    E,
-    D: Disk + Send,
-    L: Origin + Send + Sync,
-    R: Wait + Sync,
->(
+fn start_worker<'s, 'r: 's, 'e: 's, E, D: Disk + Send, L: Origin + Send + Sync, R: Wait + Sync>(
     scope: &Scope<'s, E>,
     rt: &'r R,
     alloc: Global,
@@ -289,6 +279,7 @@ fn start_flusher<
 }
 
 /// Serves those who call by a desk with this share.
+#[tactic(auto, using(crate::proofs::Ends::serves_with))]
 fn serve_over<'a, D: Disk, L: Origin, C: Callers, R: Wait>(
     rt: &'a R,
     alloc: Global,
@@ -303,8 +294,9 @@ fn serve_over<'a, D: Disk, L: Origin, C: Callers, R: Wait>(
     let mut callers = callers;
     let mut desk = EngineDesk::new(rt, engine, port, own);
     let served = serve_clients(alloc, &mut callers, &mut desk);
+    let own = desk.into_share();
     Ran {
-        own: desk.into_share(),
+        own,
         workers: Vec::new(alloc),
         callers,
         served,

@@ -1,8 +1,6 @@
 //! A port within one process.
 
 ghost use Rattle.std.specs.Prelude.{◌≡◌};
-ghost use Rattle.std.specs.List.{slice_get};
-ghost use Rattle.std.specs.Option.{option_copied};
 ghost use Rattle.coord_server.specs.Workers.{worker_of};
 
 use coord_engine::Port;
@@ -48,8 +46,8 @@ impl<R: Wait> LocalPort<R> {
 }
 
 /// Which worker has the node to which a packet goes.
-fn worker_of(packet: Packet) -> usize
-    ensures { result ≡ worker_of packet }
+fn worker_of(packet: &Packet) -> usize
+    ensures { result ≡ worker_of packet.now }
 {
     let node = match packet {
         Packet::Carried(data) => data.to,
@@ -58,16 +56,10 @@ fn worker_of(packet: Packet) -> usize
     usize::from(node.number() % WORKERS)
 }
 
-/// The channel of a packet's worker.
-fn channel_of(channels: &[Sender<Packet>], packet: Packet) -> Option<&Sender<Packet>>
-    ensures { option_copied result ≡ slice_get channels.now (worker_of packet) }
-{
-    channels.get(worker_of(packet))
-}
-
 /// Puts a packet into the channel of its worker.
 fn send<R: Wait>(rt: &R, channels: &[Sender<Packet>], packet: Packet) -> bool {
-    match channel_of(channels, packet) {
+    let worker = worker_of(&packet);
+    match channels.get(worker) {
         Some(channel) => channel.send(rt, packet).is_ok(),
         None => false,
     }

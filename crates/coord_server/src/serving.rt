@@ -29,6 +29,7 @@ use std::time::Clock;
 /// Serves a store to the connections of a listener, one after the other, until a line closes it,
 /// and gives back what is left of the engine. It is `serve_callers` over these connections, with the
 /// usual patience.
+#[tactic(auto, using(crate::proofs::Ends::going_if_none, crate::proofs::Ends::closed_history))]
 pub fn serve_store<
     D: Disk + Send,
     S: Read + Write + OpenStream + Drop,
@@ -66,13 +67,7 @@ pub fn serve_callers<
     C: Callers + Drop,
     W: Write + Send + Drop,
     R: Threads + Wait + Clock + Sync,
->(
-    rt: &R,
-    alloc: Global,
-    store: Store<D>,
-    callers: C,
-    output: W,
-) -> Result<Ended<D, C>, ServerFault>
+>(rt: &R, alloc: Global, store: Store<D>, callers: C, output: W) -> Result<Ended<D, C>, ServerFault>
     requires { has_stopped store ≡ false }
     ensures history { IfOk result (λ ended. (desk : DeskState) × Serves (based_on D.keeps_model D.present store.world []) C.met callers ended.callers desk ended.served × IsOneHistory (based_on D.keeps_model D.present store.world []) desk.notes ended.closed.store ended.closed.base ended.closed.trail.items ended.closed.settled) }
 {
@@ -86,6 +81,7 @@ pub fn serve_callers<
     }
 }
 
+#[tactic(auto, using(crate::proofs::Ends::left_with))]
 fn serve_ledger<
     D: Disk + Send,
     L: Origin + Send + Sync,
