@@ -18,6 +18,12 @@ pub if_present : (keeps : Bool) (disk : Present) (P : Present → Type 0) → (k
 if_present true disk P holds = holds refl
 if_present false disk P holds = tt
 
+-- and of two disks
+pub if_both : (keeps keeps' : Bool) (disk disk' : Present) (P : Present → Present → Type 0) → (keeps ≡ true → keeps' ≡ true → P disk disk') → IfSome (if keeps then Some disk else None) (λ old. IfSome (if keeps' then Some disk' else None) (λ new. P old new))
+if_both true true disk disk' P holds = holds refl refl
+if_both true false disk disk' P holds = tt
+if_both false keeps' disk disk' P holds = tt
+
 any : (known : Option Present) → IfSome known (λ _. Unit {0})
 any None = tt
 any (Some disk) = tt
