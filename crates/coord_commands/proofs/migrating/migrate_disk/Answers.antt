@@ -33,12 +33,12 @@ returns-in-Ok-clause-fault g c =
     fault_of c.migrate_store-line.result _ _ store.world c.migrate_store-line.ensures.fault c.migrate_store-line.ensures.unchanged c.migrate_store-line.ensures.torn
     (λ is. not_stopped (c.migrate_store-line.ensures.stopped is)) (if_present _ _ _ c.in-Ok.ensures.world)
     (λ same. if_both (g.D.Disk.keeps_model c.args.disk) (g.D.Disk.keeps_model c.into_disk.result) (g.D.Disk.present c.args.disk) (g.D.Disk.present c.into_disk.result)
-      (λ (old new : Present). new.read ≡ old.read) (λ keeps _. reads same keeps))
+    (λ (old new : Present). new.read ≡ old.read) (λ keeps _. reads same keeps))
     (λ torn. if_both (g.D.Disk.keeps_model c.args.disk) (g.D.Disk.keeps_model c.into_disk.result) (g.D.Disk.present c.args.disk) (g.D.Disk.present c.into_disk.result)
-      (λ (old new : Present). (image : List ℕ) → IsImage new image → IsImage old image ⊎ ((w : World) × Recovered old.read w × GivesEither w (risen w) image))
-      (λ keeps kept image is. inr (
-        store.world,
-        c.in-Ok.ensures.world keeps,
-        either_of raised store.world (risen store.world) image torn.0 torn.1
-            (c.images_give_world.ensures.images (subst (λ d. g.D.Disk.keeps_model d ≡ true) back kept) image (subst (λ d. IsImage (g.D.Disk.present d) image) back is)),
-      )))
+    (λ (old new : Present). (image : List ℕ) → IsImage new image → IsImage old image ⊎ ((w : World) × Recovered old.read w × GivesEither w (risen w) image))
+    (λ keeps kept image is. inr (
+      store.world,
+      c.in-Ok.ensures.world keeps,
+      either_of raised store.world (risen store.world) image torn.0 torn.1
+          (c.images_give_world.ensures.images (subst (λ d. g.D.Disk.keeps_model d ≡ true) back kept) image (subst (λ d. IsImage (g.D.Disk.present d) image) back is)),
+    )))

@@ -12,7 +12,7 @@ returns-in-Some c =
     told
     ∙ sym
     (ap (λ (o : Option (List ℕ)). unwrap_or o [])
-      (slice_get-map string_bytes words c.args.place ∙ ap (option_map string_bytes) (slice_get-get_or words c.args.place c.in-Some.word.now found.3.0 ∙ ap (λ w. Some w) (sym found.1))))
+    (slice_get-map string_bytes words c.args.place ∙ ap (option_map string_bytes) (slice_get-get_or words c.args.place c.in-Some.word.now found.3.0 ∙ ap (λ w. Some w) (sym found.1))))
 
 pub returns-in-None : goal.returns-in-None
 returns-in-None c =
