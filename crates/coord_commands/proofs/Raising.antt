@@ -1,13 +1,14 @@
 -- Raising the store on a disk, from what its parts answer.
-use Rattle.std.proofs.Common.{◌≡◌, ◌≢◌, ℕ, Bool, true, false, List, Option, Some, None, IfSome, Result, Ok, Err, inl, inr, refl, sym, subst, if◌then◌else◌, ◌∙◌}
+use Rattle.std.proofs.Common.{◌≡◌, ◌≢◌, ℕ, Bool, true, false, List, Option, Some, None, IfSome, is_some, Result, Ok, Err, inl, inr, refl, sym, subst, if◌then◌else◌, ◌∙◌}
 use Rattle.std.specs.Prelude.{OnOk, IfOk, IfErr, IsErrOf}
 use Rattle.coord_disk.specs.Model.Present.{Present}
-use Rattle.coord_store.specs.Kept.{GivesEither, GivesKept, Kept}
+use Rattle.coord_store.specs.Kept.{GivesEither, GivesKept, Kept, has_stopped}
 use Rattle.coord_store.specs.Migrating.{risen}
 use Rattle.coord_store.specs.Recovered.{Recovered}
 use Rattle.coord_store.specs.declared.faults.StoreFault.TheVariants as of_store
 use Rattle.coord_world.specs.protocol.NumberedWorld.{World}
-use Rattle.coord_commands.specs.Migrating.{GivesEitherVersion, IsMigratedLine, IsOfRaising, IsRaised, ReadsAsBefore, RefusesRaising}
+use Rattle.coord_commands.specs.Ending.{IsOfWriting}
+use Rattle.coord_commands.specs.Migrating.{GivesEitherVersion, IsMigratedLine, IsNotQuiet, IsOfMigrating, IsOfRaising, IsRaised, ReadsAsBefore, RefusesRaising}
 use Rattle.coord_commands.specs.Printed.{migrated_line}
 use Rattle.coord_commands.specs.declared.fault.Fault.{Fault}
 use Rattle.coord_commands.specs.declared.fault.Fault.TheVariants.{Usage, Read, Write, Socket, TooManyReads, OutOfMemory, Topology, Store, Refused, NotClosed}
@@ -16,6 +17,12 @@ use Rattle.coord_commands.specs.declared.fault.Fault.TheVariants.{Usage, Read, W
 pub if_present : (keeps : Bool) (disk : Present) (P : Present → Type 0) → (keeps ≡ true → P disk) → IfSome (if keeps then Some disk else None) P
 if_present true disk P holds = holds refl
 if_present false disk P holds = tt
+
+-- and of two disks
+pub if_both : (keeps keeps' : Bool) (disk disk' : Present) (P : Present → Present → Type 0) → (keeps ≡ true → keeps' ≡ true → P disk disk') → IfSome (if keeps then Some disk else None) (λ old. IfSome (if keeps' then Some disk' else None) (λ new. P old new))
+if_both true true disk disk' P holds = holds refl refl
+if_both true false disk disk' P holds = tt
+if_both false keeps' disk disk' P holds = tt
 
 any : (known : Option Present) → IfSome known (λ _. Unit {0})
 any None = tt
@@ -65,3 +72,76 @@ pub fault_of : {A : Type 0} {Same Torn : Type 0} (ended : Result A Fault) (befor
     → IfErr ended (IsOfRaising before after)
 fault_of (Ok x) before after w refuses same torn stopped given reads either = tt
 fault_of (Err fault) before after w refuses same torn stopped given reads either = of_raising (Err fault) before after w torn stopped given reads either fault refl refuses same
+
+none_is_not : (torn : Option World) → torn ≡ None → is_some torn ≡ true → ⊥
+none_is_not None going is = cc
+none_is_not (Some w) going is = cc
+
+-- a store that goes on has not stopped
+pub going_on : {D : Type 0} (kept : Kept D) → kept.torn ≡ None → has_stopped kept ≡ true → ⊥
+going_on kept going is = none_is_not kept.torn going is
+
+-- a disk is put back: where what it holds then is known, it is what the disk held
+closed : (Q : Option Present → Type 0) (known after : Option Present) → (Q known → Q None) → IfSome after (λ disk. known ≡ Some disk) → Q known → Q after
+closed Q known None less is held = less held
+closed Q known (Some disk) less is held = subst Q is held
+
+unread : (before : Option Present) → ReadsAsBefore before None
+unread None = tt
+unread (Some disk) = tt
+
+either_unread : (before : Option Present) → GivesEitherVersion before None
+either_unread None = tt
+either_unread (Some disk) = tt
+
+less_line : (before known : Option Present) (line : List ℕ) → IsMigratedLine before known line → IsMigratedLine before None line
+less_line before known line of =
+    record { world = of.world; is_raised = record { given = of.is_raised.given; raised = tt; again = λ _. unread before }; counted = of.counted }
+
+less_fault : (before known : Option Present) (fault : Fault) → IsOfRaising before known fault → IsOfRaising before None fault
+less_fault before known Usage of = absurd of
+less_fault before known Read of = absurd of
+less_fault before known Write of = absurd of
+less_fault before known Socket of = absurd of
+less_fault before known TooManyReads of = absurd of
+less_fault before known OutOfMemory of = unread before
+less_fault before known (Topology fault) of = absurd of
+less_fault before known (Store of_store.OutOfMemory) of = (of.0, of.1, unread before)
+less_fault before known (Store of_store.Device) of = either_unread before
+less_fault before known (Store of_store.NotEmpty) of = (of.0, of.1, unread before)
+less_fault before known (Store of_store.HalfSize) of = (of.0, of.1, unread before)
+less_fault before known (Store of_store.NoMagic) of = (of.0, of.1, unread before)
+less_fault before known (Store of_store.BadRecord) of = (of.0, of.1, unread before)
+less_fault before known (Store of_store.BadSnapshot) of = (of.0, of.1, unread before)
+less_fault before known (Store of_store.BadBatch) of = (of.0, of.1, unread before)
+less_fault before known (Store (of_store.BadStep batch index)) of = (of.0, of.1, unread before)
+less_fault before known (Store (of_store.Violated violation)) of = (of.0, of.1, unread before)
+less_fault before known (Store (of_store.NotQuiet node)) of = record { world = of.world; given = of.given; refuses = of.refuses; unchanged = unread before }
+less_fault before known (Store of_store.Stopped) of = (of.0, of.1, unread before)
+less_fault before known (Refused refusal) of = absurd of
+less_fault before known (NotClosed fault) of = absurd of
+
+-- the line, and the fault, of the disk of a name
+pub line_named : {A : Type 0} (text : A → List ℕ) (ended : Result A Fault) (before after taken known : Option Present) → taken ≡ before → IfSome after (λ disk. known ≡ Some disk) → IfOk ended (λ line. IsMigratedLine taken known (text line))
+    → IfOk ended (λ line. IsMigratedLine before after (text line))
+line_named text (Ok line) before after taken known is back of =
+    closed (λ o. IsMigratedLine before o (text line)) known after (less_line before known (text line)) back (subst (λ (o : Option Present). IsMigratedLine o known (text line)) is of)
+line_named text (Err fault) before after taken known is back of = tt
+
+pub fault_named : {A : Type 0} (ended : Result A Fault) (before after taken known : Option Present) → taken ≡ before → IfSome after (λ disk. known ≡ Some disk) → IfErr ended (IsOfRaising taken known) → IfErr ended (IsOfRaising before after)
+fault_named (Ok x) before after taken known is back of = tt
+fault_named (Err fault) before after taken known is back of =
+    closed (λ o. IsOfRaising before o fault) known after (less_fault before known fault) back (subst (λ (o : Option Present). IsOfRaising o known fault) is of)
+
+-- the line of a store that was raised is not written
+pub unwritten : (before after : Option Present) (line : List ℕ) → IsMigratedLine before after line → (fault : Fault) → IsOfWriting fault → IsOfMigrating before after fault
+unwritten before after line of Usage is = absurd is
+unwritten before after line of Read is = absurd is
+unwritten before after line of Write is = (of.world, of.is_raised)
+unwritten before after line of Socket is = absurd is
+unwritten before after line of TooManyReads is = absurd is
+unwritten before after line of OutOfMemory is = inr (of.world, of.is_raised)
+unwritten before after line of (Topology fault) is = absurd is
+unwritten before after line of (Store fault) is = absurd is
+unwritten before after line of (Refused refusal) is = absurd is
+unwritten before after line of (NotClosed fault) is = absurd is

@@ -18,8 +18,8 @@ use coord_disk::Disk;
 use coord_store::Store;
 use std::alloc::Global;
 
-/// Makes a store on an empty disk, which begins with the nodes and links of a topology, committed at
-/// once. Where one of them is refused, the store is left empty.
+/// Makes a store on an empty disk, which begins with the nodes and links of a topology, committed
+/// at once. Where one of them is refused, the store is left empty.
 pub fn create_store<D: Disk>(
     alloc: Global,
     disk: D,

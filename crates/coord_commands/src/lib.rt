@@ -1,20 +1,22 @@
 //! The program's commands: each a function that answers its exit status.
 //!
-//! `specs/Words.antt` says what the program's words ask for, `specs/Faults.antt` what the faults are
-//! called, which status each has and what is printed of it, and `specs/Printed.antt` the lines of a
-//! store. `run` carries out what the words ask for.
+//! `specs/Words.antt` says what the program's words ask for, `specs/Faults.antt` what the faults
+//! are called, which status each has and what is printed of it, and `specs/Printed.antt` the lines
+//! of a store. `run` carries out what the words ask for.
 //!
-//! Each command but the drill works in a `Folder`, which says where the disks and texts of names are:
-//! `run_in`, `init_in`, `check_in`, `show_in`, `migrate_in` and `serve_in`. The public commands are thin calls of
-//! these over the files of the system, of which nothing is claimed; of a `MemFolder`, whose disks are
-//! in memory, all is known. `run_in` waits for nobody, and leaves just `serve` to its caller.
+//! Each command but the drill works in a `Folder`, which says where the disks and texts of names
+//! are: `run_in`, `init_in`, `check_in`, `show_in`, `migrate_in` and `serve_in`. The public
+//! commands are thin calls of these over the files of the system, of which nothing is claimed; of a
+//! `MemFolder`, whose disk and texts are in memory, all is known. `run_in` waits for nobody, and
+//! leaves just `serve` to its caller.
 //!
-//! Beneath them are functions over any disk: `create_store`, whose store begins with the orders of a
-//! topology (`specs/Founding.antt`), `check_store` and `show_store` (`specs/Inspection.antt`), `migrate_store`
-//! (`specs/Migrating.antt`), and `serve_store` of coord_server. The main theorems are the contracts of `run_in` and `serve_in`:
-//! which line is printed for the world that the bytes of the named disk give, which status is
-//! answered, and which faults each command may end with, in what order (`specs/Running.antt`,
-//! `specs/Making.antt`, `specs/Migrating.antt`, `specs/Inspection.antt`, `specs/Serving.antt`).
+//! Beneath them are functions over any disk: `create_store`, whose store begins with the orders of
+//! a topology (`specs/Founding.antt`), `check_store` and `show_store` (`specs/Inspection.antt`),
+//! `migrate_store` (`specs/Migrating.antt`), and `serve_store` of coord_server. The main theorems
+//! are the contracts of `run_in` and `serve_in`: which line is printed for the world that the bytes
+//! of the named disk give, which status is answered, and which faults each command may end with, in
+//! what order (`specs/Running.antt`, `specs/Making.antt`, `specs/Migrating.antt`,
+//! `specs/Inspection.antt`, `specs/Serving.antt`).
 #![tactic(auto)]
 
 mod commands;

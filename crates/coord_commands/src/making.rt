@@ -17,9 +17,9 @@ use coord_disk::Disk;
 use std::alloc::Global;
 use std::io::Write;
 
-/// Makes a store on the disk of a name, which is empty, with the nodes and links of a topology file,
-/// prints how many steps it has, and answers the exit status. The topology is read and judged before
-/// the disk is opened.
+/// Makes a store on the disk of a name, which is empty, with the nodes and links of a topology
+/// file, prints how many steps it has, and answers the exit status. The topology is read and judged
+/// before the disk is opened.
 pub fn init_in<F: Folder, W: Write, E: Write>(
     alloc: Global,
     folder: &mut F,

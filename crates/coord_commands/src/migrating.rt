@@ -19,9 +19,9 @@ use coord_store::Store;
 use std::alloc::Global;
 use std::io::Write;
 
-/// Raises the store on the disk of a name to version 2, prints how many steps it has, and answers the
-/// exit status. A store of version 2 is left as it is, and the same is printed; one with a node in a
-/// reset is refused, and left as it is too.
+/// Raises the store on the disk of a name to version 2, prints how many steps it has, and answers
+/// the exit status. A store of version 2 is left as it is, and the same is printed; one with a node
+/// in a reset is refused, and left as it is too.
 pub fn migrate_in<F: Folder, W: Write, E: Write>(
     alloc: Global,
     folder: &mut F,
@@ -49,8 +49,8 @@ fn migrate_at<F: Folder, W: Write>(
     print(output, &line)
 }
 
-/// Raises the store on the disk of a name, and answers the line that is to be printed. The disk is put
-/// back.
+/// Raises the store on the disk of a name, and answers the line that is to be printed. The disk is
+/// put back.
 fn migrate_named<F: Folder>(alloc: Global, folder: &mut F, file: &str) -> Result<String, Fault>
     ensures line { IfOk result (λ line. IsMigratedLine (F.holds folder.old file.now) (F.holds folder.new file.now) (string_bytes line)) }
     ensures fault { IfErr result (IsOfRaising (F.holds folder.old file.now) (F.holds folder.new file.now)) }
@@ -76,9 +76,9 @@ fn migrate_disk<D: Disk>(alloc: Global, disk: D) -> (Result<String, Fault>, D)
     }
 }
 
-/// Raises an opened store to version 2, and answers the line that is to be printed: with the count of
-/// its steps, which stays. The line is made first, so that want of memory for it leaves the store as
-/// it was.
+/// Raises an opened store to version 2, and answers the line that is to be printed: with the count
+/// of its steps, which stays. The line is made first, so that want of memory for it leaves the
+/// store as it was.
 pub fn migrate_store<D: Disk>(alloc: Global, store: &mut Store<D>) -> Result<String, Fault>
     ensures line { IfOk result (λ line. string_bytes line ≡ migrated_line store.old.world.count) }
     ensures world { OnOk result (store.new.world ≡ risen store.old.world) }

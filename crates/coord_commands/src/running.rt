@@ -16,8 +16,8 @@ use coord_drill::coord_drill;
 use std::alloc::Global;
 use std::io::{Read, Write};
 
-/// Carries out what the program's words ask for in a folder, and answers the exit status; None, with
-/// nothing done, where they ask for `serve`. It waits for nobody.
+/// Carries out what the program's words ask for in a folder, and answers the exit status; None,
+/// with nothing done, where they ask for `serve`. It waits for nobody.
 pub fn run_in<F: Folder, R: Read, W: Write, E: Write>(
     alloc: Global,
     folder: &mut F,

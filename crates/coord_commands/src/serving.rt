@@ -41,8 +41,8 @@ pub fn serve<
 }
 
 /// Serves the store on the disk of a name to the connections that come to an address, until one of
-/// them closes it, and answers the exit status. The address is judged before the disk is opened, and
-/// the socket is bound once the store is open. Where it was closed, the disk is put back.
+/// them closes it, and answers the exit status. The address is judged before the disk is opened,
+/// and the socket is bound once the store is open. Where it was closed, the disk is put back.
 pub fn serve_in<
     S: Net + Threads + Wait + Clock + Sync + AllocGlobal,
     F: Folder,

@@ -22,8 +22,8 @@ pub(crate) fn make_folder(rt: &HostRuntime, name: &str) -> io::Result<String> {
     Ok(folder)
 }
 
-/// Carries runs out, one after the other, on files in a folder, which is removed then, and tells the
-/// first that ends otherwise.
+/// Carries runs out, one after the other, on files in a folder, which is removed then, and tells
+/// the first that ends otherwise.
 pub(crate) fn first_wrong<
     S: Files<File = File> + Net + Threads + Wait + Clock + Sync + AllocGlobal,
 >(

@@ -119,7 +119,8 @@ impl<S: Files<File = File>> Folder for Failing<'_, S> {
 }
 
 /// Serves a file whose disk fails after so many calls: the exit status, the fault line and how many
-/// signals were printed, and whether it was at this address. Where memory runs out there is no answer.
+/// signals were printed, and whether it was at this address. Where memory runs out there is no
+/// answer.
 fn served<
     S: Files<File = File>
         + Net<Stream = TcpStream, Listener = TcpListener>
@@ -166,7 +167,8 @@ fn a_given_address(rt: HostRuntime) -> Result<(), Fail> {
     Ok(())
 }
 
-/// The device fails in the commit of the order: three of its calls open the store, and one more passes.
+/// The device fails in the commit of the order: three of its calls open the store, and one more
+/// passes.
 #[test]
 fn a_failing_device(rt: HostRuntime) -> Result<(), Fail> {
     let folder = make_folder(&rt, "device")?;

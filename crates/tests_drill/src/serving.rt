@@ -138,8 +138,8 @@ fn settled_in(printed: &[u8]) -> Option<u64> {
     settled.parse().ok()
 }
 
-/// Serves a new store with the nodes and links of a topology, and how many steps it is shown to have
-/// then; none where the conversation was another one.
+/// Serves a new store with the nodes and links of a topology, and how many steps it is shown to
+/// have then; none where the conversation was another one.
 fn steps_after<
     S: Files<File = File>
         + Net<Stream = TcpStream, Listener = TcpListener>

@@ -1,8 +1,10 @@
-use Rattle.std.proofs.Common.{◌≡◌, inl, inr, rules}
+use Rattle.std.proofs.Common.{◌≡◌, inl, inr, rules, subst}
+use Rattle.coord_store.specs.Refused.{RefusesOpen}
+use Rattle.coord_store.specs.declared.faults.StoreFault.{StoreFault}
 use Rattle.coord_commands.specs.Ending.{IsCutShort}
 use Rattle.coord_commands.specs.Folders.{bytes_of}
 use Rattle.coord_commands.specs.Inspection.{IsCheckedLine}
-use Rattle.coord_commands.specs.Printed.{legal_line}
+use Rattle.coord_commands.specs.Printed.{legal_line, violated_line}
 use Rattle.coord_commands.specs.declared.fault.Fault.{Fault}
 use Rattle.coord_commands.proofs.Endings.{err_last}
 use Rattle.coord_commands.proofs.Opening.{if_keeps}
@@ -26,5 +28,24 @@ returns-in_err-print-in-Ok-clause-cut g c =
         c.deref.result.now,
         inl (record { world = w; legal = c.images_give_world.ensures.legal; given = if_keeps _ _ _ c.in-Ok.ensures.world; counted = text }),
         c.in_err-print-in-Ok.ensures.err,
+      ),
+    ))
+
+pub returns-in_err-print-in-Violated-clause-cut : goal.returns-in_err-print-in-Violated-clause-cut
+returns-in_err-print-in-Violated-clause-cut g c =
+    let violation = c.in-Violated.violation in
+    let text : c.deref-in-Violated.result.now ≡ violated_line violation = search rules in
+    let P : Fault → Type 0 = IsCutShort (IsCheckedLine (bytes_of g.D.Disk.keeps_model g.D.Disk.present c.args.disk)) (g.W.Write.contents c.args.output.now) (g.W.Write.contents c.print-in-Violated.new.output) in
+    err_last P _ c.in_err-print-in-Violated.field-0.0 (search rules)
+    (inr (
+      c.in_err-print-in-Violated.ensures.fault,
+      (
+        c.deref-in-Violated.result.now,
+        inr (record {
+          violation = violation;
+          refused = if_keeps _ _ _ (λ keeps. subst (λ (fault : StoreFault). RefusesOpen (g.D.Disk.present c.args.disk).read fault) c.in-Violated.is (c.in-Err.ensures.fault keeps));
+          named = text;
+        }),
+        c.in_err-print-in-Violated.ensures.err,
       ),
     ))

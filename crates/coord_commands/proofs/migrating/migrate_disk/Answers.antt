@@ -1,34 +1,44 @@
-use Rattle.std.proofs.Common.{◌≡◌, ◌∙◌, List, ℕ, true, inr, ap, sym, subst, string_bytes}
+use Rattle.std.proofs.Common.{◌≡◌, ◌⊎◌, ◌∙◌, List, ℕ, true, inr, ap, subst, string_bytes}
 use Rattle.coord_disk.specs.Model.Present.{IsImage, Present}
-use Rattle.coord_store.specs.Kept.{Kept}
+use Rattle.coord_store.specs.Kept.{GivesEither, Kept, has_stopped}
 use Rattle.coord_store.specs.Migrating.{risen}
 use Rattle.coord_store.specs.Recovered.{Recovered}
 use Rattle.coord_world.specs.protocol.NumberedWorld.{World}
-use Rattle.coord_commands.proofs.Raising.{either_of, fault_of, if_present, line_of}
+use Rattle.coord_commands.proofs.Raising.{either_of, fault_of, going_on, if_both, if_present, line_of}
 use Rattle.coord_commands.proofs.migrating.migrate_disk.Goals as goal
 
 pub returns-in-Ok-clause-line : goal.returns-in-Ok-clause-line
 returns-in-Ok-clause-line g c =
     let store = c.in-Ok.store in
-    let raised = c.migrate_store.new.store in
+    let raised = c.migrate_store-line.new.store in
     let back = c.into_disk.ensures.disk in
-    line_of string_bytes c.migrate_store.result _ _ store.world raised.world raised.torn c.migrate_store.ensures.line c.migrate_store.ensures.world c.migrate_store.ensures.going
+    let reads : raised ≡ store → g.D.Disk.keeps_model c.args.disk ≡ true → (g.D.Disk.present c.into_disk.result).read ≡ (g.D.Disk.present c.args.disk).read =
+    λ same keeps. ap (λ (d : g.row.D.Denot). (g.D.Disk.present d).read) (back ∙ ap (λ (s : Kept g.row.D.Denot). s.disk) same) ∙ ap (λ (p : Present). p.read) (c.in-Ok.ensures.bytes keeps) in
+    line_of string_bytes c.migrate_store-line.result _ _ store.world raised.world raised.torn c.migrate_store-line.ensures.line c.migrate_store-line.ensures.world c.migrate_store-line.ensures.going
     (λ world going. record {
       given = if_present _ _ _ c.in-Ok.ensures.world;
       raised = if_present _ _ _ (λ keeps. subst (λ (w : World). Recovered (g.D.Disk.present c.into_disk.result).read w) world (c.into_disk.ensures.reopens (subst (λ d. g.D.Disk.keeps_model d ≡ true) back keeps) going));
-      again = λ two. if_present _ _ _ (λ keeps. if_present _ _ _ (λ _. ap (λ d. (g.D.Disk.present d).read) (back ∙ ap (λ s. s.disk) (c.migrate_store.ensures.again two)) ∙ ap (λ (p : Present). p.read) (c.in-Ok.ensures.bytes keeps)));
+      again = λ two. if_both (g.D.Disk.keeps_model c.args.disk) (g.D.Disk.keeps_model c.into_disk.result) (g.D.Disk.present c.args.disk) (g.D.Disk.present c.into_disk.result)
+          (λ (old new : Present). new.read ≡ old.read) (λ keeps _. reads (c.migrate_store-line.ensures.again two) keeps);
     })
 
 pub returns-in-Ok-clause-fault : goal.returns-in-Ok-clause-fault
 returns-in-Ok-clause-fault g c =
     let store = c.in-Ok.store in
-    let raised = c.migrate_store.new.store in
+    let raised = c.migrate_store-line.new.store in
     let back = c.into_disk.ensures.disk in
-    fault_of c.migrate_store.result _ _ store.world c.migrate_store.ensures.fault c.migrate_store.ensures.unchanged c.migrate_store.ensures.torn ? (if_present _ _ _ c.in-Ok.ensures.world)
-    (λ same. if_present _ _ _ (λ keeps. if_present _ _ _ (λ _. ap (λ d. (g.D.Disk.present d).read) (back ∙ ap (λ s. s.disk) same) ∙ ap (λ (p : Present). p.read) (c.in-Ok.ensures.bytes keeps))))
-    (λ torn. if_present _ _ _ (λ keeps. if_present _ _ _ (λ kept image is. inr (
+    let reads : raised ≡ store → g.D.Disk.keeps_model c.args.disk ≡ true → (g.D.Disk.present c.into_disk.result).read ≡ (g.D.Disk.present c.args.disk).read =
+    λ same keeps. ap (λ (d : g.row.D.Denot). (g.D.Disk.present d).read) (back ∙ ap (λ (s : Kept g.row.D.Denot). s.disk) same) ∙ ap (λ (p : Present). p.read) (c.in-Ok.ensures.bytes keeps) in
+    let not_stopped : has_stopped store ≡ true → ⊥ = λ is. going_on store c.in-Ok.ensures.going is in
+    fault_of c.migrate_store-line.result _ _ store.world c.migrate_store-line.ensures.fault c.migrate_store-line.ensures.unchanged c.migrate_store-line.ensures.torn
+    (λ is. not_stopped (c.migrate_store-line.ensures.stopped is)) (if_present _ _ _ c.in-Ok.ensures.world)
+    (λ same. if_both (g.D.Disk.keeps_model c.args.disk) (g.D.Disk.keeps_model c.into_disk.result) (g.D.Disk.present c.args.disk) (g.D.Disk.present c.into_disk.result)
+    (λ (old new : Present). new.read ≡ old.read) (λ keeps _. reads same keeps))
+    (λ torn. if_both (g.D.Disk.keeps_model c.args.disk) (g.D.Disk.keeps_model c.into_disk.result) (g.D.Disk.present c.args.disk) (g.D.Disk.present c.into_disk.result)
+    (λ (old new : Present). (image : List ℕ) → IsImage new image → IsImage old image ⊎ ((w : World) × Recovered old.read w × GivesEither w (risen w) image))
+    (λ keeps kept image is. inr (
       store.world,
       c.in-Ok.ensures.world keeps,
       either_of raised store.world (risen store.world) image torn.0 torn.1
           (c.images_give_world.ensures.images (subst (λ d. g.D.Disk.keeps_model d ≡ true) back kept) image (subst (λ d. IsImage (g.D.Disk.present d) image) back is)),
-    ))))
+    )))

@@ -15,7 +15,7 @@ returns-in-Err g c =
     (record {
       fault = c.in-Err.fault;
       number = subst (λ (f : Fault). c.report.result ≡ fault_status f) c.from.ensures c.report.ensures.status;
-      told = subst (λ (f : Fault). WritesFirstPart _ _ (fault_line f)) c.from.ensures c.report.ensures.told;
+      told = subst (λ (f : Fault). WritesFirstPart (g.E.Write.contents c.args.errors.now) (g.E.Write.contents c.report.new.errors) (fault_line f)) c.from.ensures c.report.ensures.told;
       seen = failed.0;
       read = failed.1;
       printed = failed.2;
