@@ -87,11 +87,12 @@ class Client:
         if met is None:
             return None
         reply, keeper = met
-        order, self.unanswered = self.unanswered, None
-        if "kind" not in reply:
+        order = self.unanswered
+        if "kind" in reply:
+            self.note(order, reply, keeper)
+        else:
             self.refused = f"{order} was answered {reply} by {keeper.host.name}, after {self.answered}: {self.reply}"
-            return reply
-        self.note(order, reply, keeper)
+        self.unanswered = None  # the last thing: without one, what was answered is noted
         return reply
 
     def note(self, order, reply, keeper):
@@ -103,9 +104,10 @@ class Client:
         """The last answered order again: it gives the same answer."""
         if self.answered is None:
             return
-        reply, _ = self.site.ask(self.answered, 60)
+        reply, keeper = self.site.ask(self.answered, 60)
         if reply != self.reply:
-            raise Lost(f"{self.answered} was answered {self.reply}, and sent again {reply}")
+            raise Lost(f"{self.answered} was answered {self.reply}, and sent again {reply} by {keeper.host.name} "
+                       f"(without an answer: {self.unanswered})")
 
 
 class Load:

@@ -95,12 +95,14 @@ class Trial:
         return answered - since
 
     def wait_quiet(self, seconds=60):
-        """Until no reset is on its way and each member has confirmed: the epochs."""
+        """Until no reset is on its way, each member has confirmed, and each order has its answer: the epochs. (A
+        settled order is in `show` before its answer has come, and then the one before it is out of turn.)"""
         keeper, until = self.present, time.monotonic() + seconds
         while time.monotonic() < until:
             view, keeper = self.site.ask({"op": "show"}, seconds)
             rows = view["nodes"]
             if all(row[2] == "ready" and row[4] == row[5] for row in rows) and \
+                    view["accepted"] == view["settled"] and not any(client.unanswered for client in self.clients) and \
                     self.site.ask({"op": "resend"}, seconds)[0] == {"count": 0, "kind": "resent"}:
                 return keeper, view, {row[0]: row[4] for row in rows}
             for service in self.services:
@@ -192,6 +194,19 @@ class Trial:
             if time.monotonic() > until:
                 raise Lost(f"{keeper.host.name} did not serve again")
             self.hand_over()
+
+    def tell_state(self):
+        """What stands where, at a loss."""
+        print(f"orders: {[(client.answered, client.reply, client.unanswered) for client in self.clients]}")
+        for keeper in self.keepers:
+            print(f"{keeper.host.name}: {keeper.starts()} starts; ends: {' | '.join(keeper.ends()[-5:])}")
+            try:
+                print(f"  show: {ask(self.site.host, keeper.address, {'op': 'show'})}")
+            except Away as fault:
+                print(f"  show: {fault}")
+        for host, held in zip(self.hosts, self.volume.bytes()):
+            status, printed, _ = look_into(self.program, held, self.folder)
+            print(f"brick of {host.name}: {len(held)} bytes; resetd check: {status} {printed}")
 
     def stop(self):
         for service in self.services:
