@@ -1,5 +1,5 @@
 -- How a server ends, and what it leaves of its engine.
-use Rattle.std.specs.Prelude.{◌≡◌, ◌⊎◌, ℕ, List, [], ◌∷◌, All, Bool, true, false, Option, Some, None}
+use Rattle.std.specs.Prelude.{◌≡◌, ◌⊎◌, ℕ, List, [], ◌∷◌, ◌++◌, All, Bool, true, false, Option, Some, None}
 use Rattle.coord_types.specs.declared.steps.Step.{Step}
 use Rattle.coord_store.specs.Kept.{Kept, has_stopped}
 use Rattle.coord_world.specs.protocol.NumberedWorld.{World}
@@ -26,6 +26,10 @@ pub record IsOneHistory {D : Type 0} (b : Basis D) (desk : List Note) (store : K
   pub same_base : base ≡ b.base
   pub named : IsNamed (desk ∷ workers) base.count trail
   pub closed : AtSomeMoment b (Closes {D = D} store base trail settled (desk ∷ workers))
+
+-- behind these shares those of workers were put, whose notes are all of packets
+abbrev pub AddsWorkers : List (List Note) → List (List Note) → Type 0
+AddsWorkers first all = (workers : List (List Note)) × (all ≡ first ++ workers) × All (All IsOfPacket) workers
 
 -- `met v talks w`: those who call were v, had these talks, and then are w
 module _ {D : Type 0} (b : Basis D) {V : Type 0} (met : V → List Talk → V → Type 0) where

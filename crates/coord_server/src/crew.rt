@@ -173,11 +173,7 @@ fn run_in<
     let printing = start_printing(scope, rt, signals, printer);
     let running = start_workers(scope, rt, alloc, engine, packets);
     let is_whole = printing.is_some() && running.len() == usize::from(WORKERS);
-    let mut ran = if is_whole {
-        serve_over(&*rt, alloc, &*engine, &*port, own, callers)
-    } else {
-        not_run::<D, L, C>(alloc, own, callers, ServerFault::OutOfMemory)
-    };
+    let mut ran = serve_if(is_whole, &*rt, alloc, &*engine, &*port, own, callers);
     engine.finish(rt);
     flushing.join(rt);
     port.hang_up();
@@ -278,8 +274,27 @@ fn start_flusher<
     scope.spawn(move || flusher(rt, engine, port)).ok()
 }
 
+/// Serves those who call where all threads run; else nobody is served.
+fn serve_if<'a, D: Disk, L: Origin, C: Callers, R: Wait>(
+    is_whole: bool,
+    rt: &'a R,
+    alloc: Global,
+    engine: &'a Engine<D, L>,
+    port: &'a LocalPort<&R>,
+    own: Share<L>,
+    callers: C,
+) -> Ran<L, C>
+    requires { own ≡ [] }
+    ensures { (seen : ℕ) × Serves (based_on D.keeps_model D.present L.base L.before) C.met callers result.callers (record { notes = result.own; seen = seen }) result.served }
+{
+    if is_whole {
+        serve_over(rt, alloc, engine, port, own, callers)
+    } else {
+        not_run::<D, L, C>(alloc, own, callers, ServerFault::OutOfMemory)
+    }
+}
+
 /// Serves those who call by a desk with this share.
-#[tactic(auto, using(crate::proofs::Ends::serves_with))]
 fn serve_over<'a, D: Disk, L: Origin, C: Callers, R: Wait>(
     rt: &'a R,
     alloc: Global,

@@ -1,11 +1,13 @@
 //! An engine with its threads, which serves those who call.
 
-ghost use Rattle.std.specs.Prelude.{◌≡◌, ◌⊎◌, ◌+◌, [], false, length, ℕ, IfErr, IfOk, None, ⊤};
+ghost use Rattle.std.specs.Prelude.{◌≡◌, [], ◌∷◌, false, length, IfOk, None};
 ghost use Rattle.coord_server.specs.declared.fault.ServerFault.TheVariants as ServerFault;
 ghost use Rattle.coord_engine.specs.State.{based_on};
 ghost use Rattle.coord_engine.specs.declared.closed.CloseFault.{CloseFault};
 ghost use Rattle.coord_store.specs.Kept.{has_stopped};
-ghost use Rattle.coord_server.specs.Ending.{IsOneHistory, IsServedToClose, Serves};
+ghost use Rattle.coord_engine.specs.Closing.{IsSince};
+ghost use Rattle.coord_engine.specs.Threads.{AtSomeMoment, Closes};
+ghost use Rattle.coord_server.specs.Ending.{AddsWorkers, IsOneHistory, IsServedToClose, Serves};
 ghost use Rattle.coord_server.specs.EngineDesk.{DeskState};
 
 use crate::crew::{Ran, Received, run};
@@ -81,7 +83,6 @@ pub fn serve_callers<
     }
 }
 
-#[tactic(auto, using(crate::proofs::Ends::left_with))]
 fn serve_ledger<
     D: Disk + Send,
     L: Origin + Send + Sync,
@@ -106,7 +107,7 @@ fn serve_ledger<
     let (to, packets) = channels(alloc)?;
     let (told, signals) = crossbeam_channel::unbounded(alloc)?;
     // Room for all shares: none of them may be lost for want of memory.
-    let shares = Vec::with_capacity(alloc, usize::from(WORKERS) + 1)?;
+    let room = Vec::with_capacity(alloc, usize::from(WORKERS) + 1)?;
     let port = LocalPort::new(rt, to, told);
     let engine: Engine<D, L> = Engine::new(alloc, blank, ledger);
     let Some(own) = engine.share(rt) else {
@@ -121,7 +122,9 @@ fn serve_ledger<
         served,
         is_broken,
     } = ran;
-    match close(engine, shares, own, workers) {
+    let first = with_own(room, own)?;
+    let shares = with_workers(first, workers)?;
+    match close(engine, shares) {
         Ok(closed) => Ok(Ended {
             closed,
             callers,
@@ -133,27 +136,39 @@ fn serve_ledger<
     }
 }
 
+/// The desk's share, in room that was taken for all.
+fn with_own<L: Origin>(room: Vec<Share<L>>, own: Share<L>) -> Result<Vec<Share<L>>, AllocError>
+    requires { room.items ≡ [] }
+    ensures { IfOk result (λ first. first.items ≡ own ∷ []) }
+{
+    let mut shares = room;
+    shares.push(own)?;
+    Ok(shares)
+}
+
+/// And behind it those of the workers.
+fn with_workers<L: Origin>(
+    first: Vec<Share<L>>,
+    workers: Vec<PacketShare<L>>,
+) -> Result<Vec<Share<L>>, AllocError>
+    ensures { IfOk result (λ all. AddsWorkers first.items all.items) }
+{
+    let mut shares = first;
+    for worker in workers {
+        shares.push(worker.into_share())?;
+    }
+    Ok(shares)
+}
+
 /// Takes an engine apart, with the shares of the desk and of the workers.
 fn close<D: Disk, L: Origin>(
     engine: Engine<D, L>,
-    room: Vec<Share<L>>,
-    own: Share<L>,
-    workers: Vec<PacketShare<L>>,
+    shares: Vec<Share<L>>,
 ) -> Result<Closed<D>, CloseFault>
-    requires parts { L.parts ≡ 65536 }
-    requires before { L.before ≡ [] }
-    requires room { room.items ≡ [] }
-    ensures { IfOk result (λ closed. IsOneHistory (based_on D.keeps_model D.present L.base L.before) own closed.store closed.base closed.trail.items closed.settled) }
+    requires { L.parts ≡ 65536 }
+    ensures since { IfOk result (λ closed. IsSince L.base L.before shares.items closed.base closed.trail.items) }
+    ensures closed { IfOk result (λ closed. AtSomeMoment (based_on D.keeps_model D.present L.base L.before) (Closes closed.store closed.base closed.trail.items closed.settled shares.items)) }
 {
-    let mut shares = room;
-    if shares.push(own).is_err() {
-        return Err(CloseFault::SharesMissing);
-    }
-    for worker in workers {
-        if shares.push(worker.into_share()).is_err() {
-            return Err(CloseFault::SharesMissing);
-        }
-    }
     match engine.close(shares) {
         Ok(closed) => Ok(closed),
         Err((fault, _engine, _shares)) => Err(fault),
