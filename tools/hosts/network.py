@@ -48,8 +48,11 @@ class Failed(Exception):
 
 def run(words, seconds=60, is_checked=True):
     """Runs a command to its end: its status, and what it printed."""
-    done = subprocess.run(words, stdin=subprocess.DEVNULL, stdout=subprocess.PIPE, stderr=subprocess.STDOUT,
-                          encoding="utf-8", errors="replace", timeout=seconds, check=False)
+    try:
+        done = subprocess.run(words, stdin=subprocess.DEVNULL, stdout=subprocess.PIPE, stderr=subprocess.STDOUT,
+                              encoding="utf-8", errors="replace", timeout=seconds, check=False)
+    except subprocess.TimeoutExpired as late:
+        raise Failed(f"{' '.join(words)}: not within {seconds} s") from late
     if is_checked and done.returncode != 0:
         raise Failed(f"{' '.join(words)}: status {done.returncode}: {done.stdout.strip()}")
     return done.returncode, done.stdout
