@@ -1,5 +1,6 @@
 //! Runs of `migrate`, on disks in memory and on files.
 
+ghost use Rattle.std.specs.Prelude.{◌≤◌};
 ghost use Rattle.coord_batch.specs.Batches.{IsNumbered};
 
 use crate::commands::{PAIR, Run as FileRun, first_wrong as first_wrong_on_files, make_folder};
