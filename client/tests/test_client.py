@@ -346,6 +346,16 @@ class Wakes(Case):
         self.assertIs(Follower(f"{self.folder}/none").wait(0.2), Wake.QUIET)
 
 
+class UntilEnded:
+    """No wake-up but the end, so that nothing writes any more when the folder is taken away."""
+
+    def __init__(self) -> None:
+        self.ended = threading.Event()
+
+    def wait(self, seconds: float) -> Wake:
+        return Wake.END if self.ended.wait(seconds) else Wake.QUIET
+
+
 class Gateways(Case):
     def setUp(self) -> None:
         super().setUp()
@@ -423,9 +433,14 @@ class Gateways(Case):
         self.assertEqual(self.fake.nodes[1][2], 1)
 
     def test_it_waits_for_its_members(self) -> None:
-        threading.Thread(target=self.gateway.follow, args=(Follower(f"{self.folder}/none"), 0.2), daemon=True).start()
+        wakes = UntilEnded()
+        thread = threading.Thread(target=self.gateway.follow, args=(wakes, 0.2), daemon=True)
+        thread.start()
         self.fake.reset(1)
         patiently(self._confirmed, 20)
+        wakes.ended.set()
+        thread.join(20)
+        self.assertFalse(thread.is_alive())
 
     def _confirmed(self) -> None:
         for node in (1, 2, 3):

@@ -122,10 +122,19 @@ def wait_standby(machine):
         raise Failed(f"{late}; on {machine.name}:\n{told}") from late
 
 
+def check_held_in(machine):
+    """Looks whether what the unit denies its process is denied: the kernel tells."""
+    _, told = machine.run("sh", "-c", "cat /proc/$(systemctl show --value -p MainPID resetd)/status")
+    status = dict(line.split(":\t", 1) for line in told.splitlines() if ":\t" in line)
+    if (int(status["CapBnd"], 16), status["NoNewPrivs"], status["Seccomp"]) != (0, "1", "2"):
+        raise Lost(f"the unit of {machine.name} does not hold its process in: {told}")
+
+
 def lose_one(machines):
     wait_for("a coordinator", 30, lambda: any(machine.listens() for machine in machines))
     first = next(machine for machine in machines if machine.listens())
     second = next(machine for machine in machines if machine is not first)
+    check_held_in(first)
     wait_standby(second)
     order = {"op": "reset", "client": 1, "number": 1, "node": 3}
     reply = ask(first, PORT, order)

@@ -93,8 +93,16 @@ class Volume:
         host.run("kill", "-9", self.brick_process(host))
 
     def freeze_brick(self, host):
-        """What comes to it is not looked at any more."""
-        host.run("kill", "-STOP", self.brick_process(host))
+        """What comes to it is not looked at any more. Its threads stop once the first of them has got the signal, on
+        a busy machine some time later, so that is waited for."""
+        number = self.brick_process(host)
+        host.run("kill", "-STOP", number)
+        wait_for(f"the brick of {host.name} to stop", 10, lambda: self.is_frozen(host, number), 0.01)
+
+    def is_frozen(self, host, number):
+        """Whether each thread of a process has stopped."""
+        _, printed = host.run("sh", "-c", f"cat /proc/{number}/task/*/stat", is_checked=False)
+        return {line.rsplit(") ", 1)[-1][:1] for line in printed.splitlines()} == {"T"}
 
     def set_healing(self, is_on):
         """Whether a brick that owes another one something is looked at."""

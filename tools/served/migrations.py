@@ -17,6 +17,11 @@ HALF = 32_768
 # Selector, magic, length of a half; version 1, a snapshot of eleven zeros (the empty world), a closed gate: the worked
 # dump of docs/FORMATS.md.
 EMPTY = b"\0ACRRESET" + HALF.to_bytes(8, "big") + b"\1" + (11).to_bytes(4, "big") + bytes(11) + b"\0"
+# The same with a batch of four orders of client 1: nodes 1 and 2, their link, and a reset at node 1, which is on its way.
+COMMANDS = (b"\0\1\1", b"\0\2\1", b"\2\1\2", b"\4\1")
+ORDERS = b"".join(b"\0\1" + number.to_bytes(8, "big") + command for number, command in enumerate(COMMANDS, 1))
+BATCH = (1).to_bytes(8, "big") + len(COMMANDS).to_bytes(2, "big") + ORDERS
+IN_A_RESET = EMPTY[:-1] + b"\1" + len(BATCH).to_bytes(4, "big") + BATCH + b"\0"
 KILLED = -9
 # The calls of a migration, which leave version 1 up to the second, and version 2 from the last on.
 WRITE, SYNCS = "pwrite64", ("fsync", "fdatasync")
