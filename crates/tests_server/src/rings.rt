@@ -79,7 +79,7 @@ fn signalled(line: &str) -> Option<u8> {
 }
 
 /// The nodes of all lines that are printed, if each tells a first signal.
-fn all_signalled(alloc: Global, printed: &[u8]) -> Option<Vec<u8>> {
+pub(crate) fn all_signalled(alloc: Global, printed: &[u8]) -> Option<Vec<u8>> {
     let mut nodes = Vec::new(alloc);
     for line in str::from_utf8(printed).ok()?.lines() {
         nodes.push(signalled(line)?).ok()?;
@@ -98,7 +98,7 @@ fn follows(before: &[u8], node: u8, last: u8) -> bool {
 }
 
 /// Whether this is a wave through a ring that was reset at this node.
-fn is_wave(nodes: &[u8], last: u8, first: u8) -> bool {
+pub(crate) fn is_wave(nodes: &[u8], last: u8, first: u8) -> bool {
     for i in 1..nodes.len() {
         if !follows(&nodes[..i], nodes[i], last) {
             return false;

@@ -1,5 +1,5 @@
 use Rattle.std.proofs.Common.{◌≡◌, length}
-use Rattle.coord_server.proofs.serving.channels.Given as goal
+use Rattle.coord_server.proofs.life.channels.Given as goal
 
 -- an end of each kind for each round
 abbrev pub invariant-loop : goal.invariant-loop

@@ -1,5 +1,5 @@
 use Rattle.std.proofs.Common.{[]}
-use Rattle.coord_server.proofs.serving.serve_callers.Given as goal
+use Rattle.coord_server.proofs.life.serve_life.Given as goal
 
 abbrev pub ghosts-serve_ledger-L-Ledger : goal.ghosts-serve_ledger-L-Ledger
 ghosts-serve_ledger-L-Ledger g a = record { name = a.blank.name; parts = a.blank.parts }

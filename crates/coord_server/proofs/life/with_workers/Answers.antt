@@ -1,5 +1,5 @@
 use Rattle.coord_server.proofs.Ends.{adds_no_worker, adds_worker}
-use Rattle.coord_server.proofs.serving.with_workers.Goals as goal
+use Rattle.coord_server.proofs.life.with_workers.Goals as goal
 
 pub loop-worker-init : goal.loop-worker-init
 loop-worker-init g c = (tt, tt, adds_no_worker _)

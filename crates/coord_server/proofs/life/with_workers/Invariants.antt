@@ -1,5 +1,5 @@
 use Rattle.coord_server.specs.Ending.{AddsWorkers}
-use Rattle.coord_server.proofs.serving.with_workers.Given as goal
+use Rattle.coord_server.proofs.life.with_workers.Given as goal
 
 -- so far
 abbrev pub invariant-loop-worker : goal.invariant-loop-worker
