@@ -17,7 +17,7 @@ use std::time::{Clock, Duration};
 use std::{io, thread};
 
 /// The last node of the ring.
-const LAST: u8 = 32;
+const LAST: u8 = 16;
 
 /// How many signals are printed before the kill.
 const PRINTED: usize = 3;
