@@ -92,14 +92,15 @@ fn asks<R: Clock + Net<Stream = TcpStream, Listener = TcpListener>>(
     lines: &str,
     is_killed: &AtomicBool,
 ) -> io::Result<bool> {
-    ask(rt, alloc, address, lines)?;
+    let asked = ask(rt, alloc, address, lines).is_ok();
     for _ in 0..LOOKS {
-        if is_killed.load(Ordering::SeqCst) {
+        if !asked || is_killed.load(Ordering::SeqCst) {
             break;
         }
         thread::sleep(rt, Duration::from_millis(1));
     }
-    Ok(is_closed(rt, alloc, address)? && is_killed.load(Ordering::SeqCst))
+    let closed = is_closed(rt, alloc, address)?;
+    Ok(asked && closed && is_killed.load(Ordering::SeqCst))
 }
 
 /// A new store over a disk that may be killed, and of which the kill leaves what was chosen.
