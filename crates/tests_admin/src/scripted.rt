@@ -28,6 +28,8 @@ enum Client {
     TakesSlowly,
     /// It closes the desk, and sends on without end.
     SendsOn,
+    /// It sends a line without a pause, of as many pieces as this.
+    Floods(u64),
     /// So often there is no room in the table of files, and then it closes the desk.
     Waits(u64),
     /// The listener fails.
@@ -35,7 +37,8 @@ enum Client {
 }
 
 /// Clients that come one after the other, how many bytes were written to them as they were to be, how
-/// many times a stream was to wait longer than it may, and how often it was read behind a close.
+/// many times a stream was to wait longer than it may, and how often it was read behind a close or in
+/// a line without a pause.
 #[derive(Drop)]
 struct Script<T: Clock> {
     clock: T,
@@ -122,6 +125,11 @@ impl<T: Clock> Read for Scripted<'_, T> {
         if self.client == Client::Silent {
             return Err(ErrorKind::WouldBlock.into());
         }
+        if let Client::Floods(pieces) = self.client {
+            thread::sleep(&self.script.clock, Duration::from_millis(1));
+            let reads = self.script.read_on.fetch_add(1, Ordering::SeqCst);
+            return Ok(if reads < pieces { buf.len() } else { 0 });
+        }
         if self.is_read && self.client == Client::SendsOn {
             self.script.read_on.fetch_add(1, Ordering::SeqCst);
             return Ok(buf.len());
@@ -158,7 +166,7 @@ impl<T: Clock> Write for Scripted<'_, T> {
 
 /// What became of a script: whether a client closed the desk, how many came, how many bytes of the
 /// answer were written, how often a stream was to wait too long, and how often it was read behind a
-/// close.
+/// close or in a line without a pause.
 #[derive(Clone, Copy, Debug, PartialEq, Eq)]
 struct Met {
     is_closed: bool,
@@ -270,6 +278,18 @@ fn read_on<T: Clock>(rt: &T, alloc: Global, discard: Duration) -> u64 {
 fn a_client_that_sends_on(rt: HostRuntime) -> Result<(), Fail> {
     assert!(rt; read_on(&rt, rt.alloc(), Duration::from_secs(60)) == DISCARD_READS);
     assert!(rt; read_on(&rt, rt.alloc(), Duration::from_secs(0)) == 0);
+    Ok(())
+}
+
+/// A line that comes without a pause is cut off once its time is over, and the next client is served.
+#[test]
+fn a_line_without_a_pause(rt: HostRuntime) -> Result<(), Fail> {
+    let mut clients = [Client::Closes; 6];
+    clients[0] = Client::Floods(1_000);
+    let mut short = patience();
+    short.line = Duration::from_millis(20);
+    let met = ended(&rt, rt.alloc(), clients, short);
+    assert!(rt; met.is_closed && met.come == 2 && met.read_on < 1_000);
     Ok(())
 }
 

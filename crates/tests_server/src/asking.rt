@@ -66,16 +66,14 @@ pub(crate) fn is_closed<R: Net<Stream = TcpStream, Listener = TcpListener>>(
 /// The lines that make a ring of the nodes up to this one, and reset one of them.
 pub(crate) fn ring_lines(alloc: Global, last: u8, first: u8) -> Result<String, Fail> {
     let mut lines = String::new(alloc);
-    let mut number = 0u64;
     for node in 1..=last {
-        number += 1;
         write!(
             lines,
-            "{{\"op\":\"add\",\"client\":16,\"number\":{number},\"node\":{node},\"group\":1}}\n"
+            "{{\"op\":\"add\",\"client\":16,\"number\":{node},\"node\":{node},\"group\":1}}\n"
         )?;
     }
     for node in 1..=last {
-        number += 1;
+        let number = u64::from(last) + u64::from(node);
         let next = node % last + 1;
         write!(
             lines,
