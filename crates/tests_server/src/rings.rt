@@ -47,7 +47,9 @@ fn asks<R: Clock + Net<Stream = TcpStream, Listener = TcpListener>>(
 
 /// Serves a store while a client has these lines answered, waits until so many nodes have signalled
 /// and closes the server. What is left of the store, and what was printed behind the address.
-fn runs<R: Threads + Wait + Clock + Net<Stream = TcpStream, Listener = TcpListener> + Sync>(
+pub(crate) fn runs<
+    R: Threads + Wait + Clock + Net<Stream = TcpStream, Listener = TcpListener> + Sync,
+>(
     rt: &R,
     alloc: Global,
     store: Store<MemDisk>,
@@ -79,7 +81,7 @@ fn signalled(line: &str) -> Option<u8> {
 }
 
 /// The nodes of all lines that are printed, if each tells a first signal.
-fn all_signalled(alloc: Global, printed: &[u8]) -> Option<Vec<u8>> {
+pub(crate) fn all_signalled(alloc: Global, printed: &[u8]) -> Option<Vec<u8>> {
     let mut nodes = Vec::new(alloc);
     for line in str::from_utf8(printed).ok()?.lines() {
         nodes.push(signalled(line)?).ok()?;
