@@ -4,6 +4,8 @@
 #[cfg(test)]
 mod asking;
 #[cfg(test)]
+mod kill;
+#[cfg(test)]
 mod lives;
 #[cfg(test)]
 mod loopback;

@@ -47,7 +47,9 @@ fn asks<R: Clock + Net<Stream = TcpStream, Listener = TcpListener>>(
 
 /// Serves a store while a client has these lines answered, waits until so many nodes have signalled
 /// and closes the server. What is left of the store, and what was printed behind the address.
-fn runs<R: Threads + Wait + Clock + Net<Stream = TcpStream, Listener = TcpListener> + Sync>(
+pub(crate) fn runs<
+    R: Threads + Wait + Clock + Net<Stream = TcpStream, Listener = TcpListener> + Sync,
+>(
     rt: &R,
     alloc: Global,
     store: Store<MemDisk>,
