@@ -175,7 +175,8 @@ fn replies_byte_by_byte(rt: HostRuntime) -> Result<(), Fail> {
     };
     let outcome = serve_halves(rt.alloc(), &mut lines, &mut writer, &mut desk);
     assert!(rt;
-        outcome.is_ok() && writer.kept.as_slice() == b"{\"count\":0,\"kind\":\"resent\"}\n"
+        outcome.is_ok()
+            && writer.kept.as_slice() == b"{\"count\":0,\"kind\":\"resent\"}\n".as_slice()
     );
     Ok(())
 }

@@ -100,7 +100,7 @@ fn follows(before: &[u8], node: u8, last: u8) -> bool {
 }
 
 /// Whether this is a wave through a ring that was reset at this node.
-fn is_wave(nodes: &[u8], last: u8, first: u8) -> bool {
+pub(crate) fn is_wave(nodes: &[u8], last: u8, first: u8) -> bool {
     for i in 1..nodes.len() {
         if !follows(&nodes[..i], nodes[i], last) {
             return false;
