@@ -33,7 +33,8 @@ pub(crate) fn served<W: io::Write + Send + Drop, R: Threads + Wait + Clock + Syn
     Some(closed.store)
 }
 
-/// Has these lines answered, waits until so many nodes have signalled, and closes the server.
+/// Has these lines answered, waits until so many nodes have signalled, and closes the server, also
+/// where they have not: nothing else would end it. Whether they have.
 fn asks<R: Clock + Net<Stream = TcpStream, Listener = TcpListener>>(
     rt: &R,
     alloc: Global,
@@ -41,8 +42,9 @@ fn asks<R: Clock + Net<Stream = TcpStream, Listener = TcpListener>>(
     lines: &str,
     nodes: usize,
 ) -> io::Result<bool> {
-    ask(rt, alloc, address, lines)?;
-    Ok(all_signal(rt, alloc, address, nodes)? && is_closed(rt, alloc, address)?)
+    let asked = ask(rt, alloc, address, lines).is_ok();
+    let signalled = asked && matches!(all_signal(rt, alloc, address, nodes), Ok(true));
+    Ok(is_closed(rt, alloc, address)? && signalled)
 }
 
 /// Serves a store while a client has these lines answered, waits until so many nodes have signalled
