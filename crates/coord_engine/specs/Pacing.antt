@@ -1,6 +1,11 @@
 -- When a flight starts. One that starts while packets of the last one are still on their way back as
--- steps goes out less full than it could, so those are counted, and waited for a little.
-use Rattle.std.specs.Prelude.{ℕ, Bool, ◌&&◌, ◌||◌, not, nat_eq, nat_le, is_some, length}
+-- steps, or while callers that the last one answered are about to come again, goes out less full than
+-- it could. So those are counted, and waited for a little.
+use Rattle.std.specs.Prelude.{ℕ, ◌+◌, ◌-◌, ◌^◌, Bool, true, false, ◌&&◌, ◌||◌, not, nat_eq, nat_le, is_some, length, min, take}
+use Rattle.std.specs.List.{count_by}
+use Rattle.coord_types.specs.declared.steps.Step.{Step}
+use Rattle.coord_types.specs.declared.steps.Step.TheVariants.{Order, Take, Clear}
+use Rattle.coord_ledger.specs.machine.Answers.{most_in_flight}
 use Rattle.coord_ledger.specs.machine.Log.{pending}
 use Rattle.coord_engine.specs.State.{GuardedState}
 
@@ -16,9 +21,13 @@ is_over g = is_some g.ledger.doubt || (g.finishing && nat_eq (pending_count g) 0
 abbrev pub is_idle : {D : Type 0} → GuardedState D → Bool
 is_idle g = not (is_over g) && (nat_eq (pending_count g) 0 || is_some g.ledger.out)
 
--- a flight starts at once: no packet is in hand, it is full, or nothing more is accepted
+-- nothing is waited for: no packet is in hand, and as many steps are pending as are awaited
+abbrev pub is_gathered : {D : Type 0} → GuardedState D → Bool
+is_gathered g = nat_eq g.in_hand 0 && nat_le g.awaited (pending_count g)
+
+-- a flight starts at once: nothing is waited for, it is full, or nothing more is accepted
 abbrev pub starts_at_once : {D : Type 0} → GuardedState D → Bool
-starts_at_once g = nat_eq g.in_hand 0 || (nat_le 256 (pending_count g) || g.finishing)
+starts_at_once g = is_gathered g || (nat_le 256 (pending_count g) || g.finishing)
 
 -- a flusher is to be woken: for the first step that is pending, from which on it waits a little, and once a flight starts at once
 abbrev pub wakes_flusher : {D : Type 0} → GuardedState D → Bool
@@ -27,3 +36,21 @@ wakes_flusher g = not (is_idle g) && (nat_eq (pending_count g) 1 || starts_at_on
 -- with another count of packets in hand
 abbrev pub with_in_hand : {D : Type 0} → GuardedState D → ℕ → GuardedState D
 with_in_hand g n = record g { in_hand = n }
+
+-- with another count of steps that the next flight waits for
+abbrev pub with_awaited : {D : Type 0} → GuardedState D → ℕ → GuardedState D
+with_awaited g n = record g { awaited = n }
+
+-- a caller waits for its reply; a packet's step has none
+abbrev pub is_order : Step → Bool
+is_order (Order client number command) = true
+is_order (Take packet) = false
+is_order (Clear receipt) = false
+
+-- how many orders leave with the next flight
+abbrev pub leaving_orders : {D : Type 0} → GuardedState D → ℕ
+leaving_orders g = count_by is_order (take most_in_flight (pending g.ledger.log))
+
+-- Who was answered is likely to come again, beside those whose steps are pending already. A caller that is alone is never waited for, since its own step is the one that is awaited.
+abbrev pub with_callers_awaited : {D : Type 0} → GuardedState D → GuardedState D
+with_callers_awaited g = with_awaited g (min (g.awaited + pending_count g) (2 ^ 64 - 1))

@@ -15,6 +15,7 @@ pub record GuardedState (D : Type 0) : Type 0 where
   pub given : ℕ  -- how many shares were given out
   pub finishing : Bool  -- no more steps are accepted
   pub in_hand : ℕ  -- how many packets callers may still turn into steps: a hint
+  pub awaited : ℕ  -- how many steps the next flight waits for, and while one is out how many orders left with it: a hint
 
 -- how many shares there are; one more part of the count stays behind the lock
 abbrev pub most_shares : ℕ
@@ -49,7 +50,7 @@ pub record CanHold {D : Type 0} (b : Basis D) (g : GuardedState D) : Type 0 wher
 
 -- the engine was just made over this ledger
 abbrev pub guarded_over : {D : Type 0} → LedgerState D → GuardedState D
-guarded_over l = record { ledger = l; start = length l.log.trail; noted = 0; given = 0; finishing = false; in_hand = 0 }
+guarded_over l = record { ledger = l; start = length l.log.trail; noted = 0; given = 0; finishing = false; in_hand = 0; awaited = 0 }
 
 -- with its ledger changed
 abbrev pub with_ledger : {D : Type 0} → GuardedState D → LedgerState D → GuardedState D

@@ -1,6 +1,6 @@
 //! The engine: the value under a lock, and a condition on which callers wait.
 
-ghost use Rattle.std.specs.Prelude.{◌≡◌, ◌<◌, [], false, true, None, IfErr, IfNone, IfOk, IfSome, OnErr};
+ghost use Rattle.std.specs.Prelude.{◌≡◌, ◌<◌, [], false, true, length, None, IfErr, IfNone, IfOk, IfSome, OnErr};
 ghost use Rattle.coord_ledger.specs.ledger.Calls.{keeps_store, releases_in};
 ghost use Rattle.coord_ledger.specs.ledger.State.{IsCollectable, reply_of};
 ghost use Rattle.coord_engine.specs.Calls.{RefusesTicket};
@@ -113,6 +113,16 @@ impl<D: Disk, L: Origin> Engine<D, L> {
         guarded.ledger().show(seen)
     }
 
+    /// How many steps it keeps: those that its ledger had accepted when the engine was made, and all
+    /// since.
+    pub fn kept<R: Wait>(&self, rt: &R) -> usize
+        ensures { AtSomeMoment (based_on D.keeps_model D.present L.base L.before) (λ g. result ≡ length g.ledger.log.trail) }
+    {
+        let guarded = self.guarded.lock(rt);
+        guarded.keeps();
+        guarded.ledger().trail().len()
+    }
+
     /// The packets that may have been lost, to be sent again as of step 0.
     pub fn resend<R: Wait>(&self, rt: &R) -> Result<Releases, AllocError>
         ensures { IfOk result (λ releases. AtSomeMoment (based_on D.keeps_model D.present L.base L.before) (SendsAgain {D = D} releases)) }
@@ -150,6 +160,7 @@ impl<D: Disk, L: Origin> Engine<D, L> {
         ensures refused { OnErr result (AtSomeMoment (based_on D.keeps_model D.present L.base L.before) (λ g. keeps_store g.ledger ≡ false)) }
     {
         let mut guarded = self.guarded.lock(rt);
+        guarded.count_leaving();
         guarded.keeps();
         match guarded.begin() {
             Ok(Some(flight)) => Ok(Some(flight)),
@@ -169,6 +180,7 @@ impl<D: Disk, L: Origin> Engine<D, L> {
             match guarded.end(out) {
                 Ok(releases) => {
                     guarded.keeps();
+                    guarded.await_callers();
                     return releases;
                 }
                 Err((_, back)) => out = back,

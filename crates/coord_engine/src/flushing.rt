@@ -11,11 +11,15 @@ use coord_ledger::Releases;
 use coord_store::CommitFault;
 use coord_types::{NodeId, Packet};
 use std::sync::Wait;
-use std::thread;
-use std::time::{Clock, Duration};
+use std::time::{Clock, Duration, Instant};
+use std::{io, thread};
 
 /// How many milliseconds a flight waits for packets that are in hand.
 const PATIENCE: u64 = 5;
+
+/// Which part of what the last flight took the next one waits for callers to come again: what is
+/// waited for in vain then costs a sixteenth of a flight, and who comes in time has no flight to wait.
+const CALLERS_PART: u32 = 16;
 
 /// How many milliseconds a flusher that found no memory waits before it tries again.
 const REST: u64 = 1;
@@ -66,6 +70,20 @@ struct EngineDeck<'a, D: Disk, L: Origin, P: Port, R: Wait> {
     rt: &'a R,
     engine: &'a Engine<D, L>,
     port: &'a P,
+    /// How long the next flight waits for callers that the last one answered.
+    patience: Duration,
+}
+
+impl<'a, D: Disk, L: Origin, P: Port, R: Wait> EngineDeck<'a, D, L, P, R> {
+    /// No flight has flown.
+    fn new(rt: &'a R, engine: &'a Engine<D, L>, port: &'a P) -> Self {
+        EngineDeck {
+            rt,
+            engine,
+            port,
+            patience: Duration::ZERO,
+        }
+    }
 }
 
 impl<'a, D: Disk, L: Origin, P: Port, R: Wait> Taker for EngineDeck<'a, D, L, P, R> {
@@ -88,15 +106,30 @@ impl<'a, D: Disk, L: Origin, P: Port, R: Wait + Clock> Deck for EngineDeck<'a, D
     ghost moves = { record { waits = λ _ _ _. Unit {0}; flushes = λ _ _ _. Unit {0}; rests = λ _ _. Unit {0} } };
 
     fn wait(&mut self) -> bool {
-        self.engine.waits_for_flight(self.rt)
+        self.engine.waits_for_flight(self.rt, self.patience)
     }
 
     fn flush(&mut self) -> Result<Option<Releases>, CommitFault> {
-        self.engine.flush_once(self.rt)
+        let start = Instant::now(self.rt);
+        let told = self.engine.flush_once(self.rt);
+        self.patience = patience_since(self.rt, start);
+        told
     }
 
     fn rest(&mut self) {
         thread::sleep(self.rt, Duration::from_millis(REST));
+    }
+}
+
+/// How long callers are waited for after a flight that left then. Not at all where no clock can be
+/// read.
+fn patience_since<R: Clock>(rt: &R, start: io::Result<Instant>) -> Duration {
+    let Ok(start) = start else {
+        return Duration::ZERO;
+    };
+    match start.elapsed(rt) {
+        Ok(passed) => passed / CALLERS_PART,
+        Err(_) => Duration::ZERO,
     }
 }
 
@@ -120,16 +153,26 @@ impl<D: Disk, L: Origin> Engine<D, L> {
         }
     }
 
-    /// Waits until a flight can start, and then a little for packets that are in hand. False once
-    /// none will start any more.
-    fn waits_for_flight<R: Wait + Clock>(&self, rt: &R) -> bool {
-        let patience = Duration::from_millis(PATIENCE);
+    /// Waits until a flight can start, then so long for callers that may come again, and then a
+    /// little for packets that are in hand. False once none will start any more.
+    fn waits_for_flight<R: Wait + Clock>(&self, rt: &R, for_callers: Duration) -> bool {
         let guarded = self
             .work
             .wait_while(rt, self.guarded.lock(rt), |guarded| guarded.is_idle());
         let (mut guarded, waited) = self
             .work
-            .wait_timeout_while(rt, guarded, patience, |guarded| !guarded.starts_at_once());
+            .wait_timeout_while(rt, guarded, for_callers, |guarded| {
+                !guarded.starts_at_once()
+            });
+        if waited.timed_out() {
+            guarded.forget_awaited();
+        }
+        let for_packets = Duration::from_millis(PATIENCE);
+        let (mut guarded, waited) = self
+            .work
+            .wait_timeout_while(rt, guarded, for_packets, |guarded| {
+                !guarded.starts_at_once()
+            });
         if waited.timed_out() {
             guarded.forget_in_hand();
         }
@@ -147,11 +190,13 @@ pub fn hand_over<D: Disk, L: Origin, P: Port, R: Wait>(
 ) -> u64
     ensures { result ≡ length releases }
 {
-    hand_each(&mut EngineDeck { rt, engine, port }, releases)
+    hand_each(&mut EngineDeck::new(rt, engine, port), releases)
 }
 
 /// Flushes what is accepted, and hands what was released to the port (`flush_all`). Before a flight
-/// it lets the packets that it released come back as steps, for some milliseconds at most.
+/// it lets the callers that the last one answered come again, for a sixteenth of the time that that
+/// one took at most, and the packets that it released come back as steps, for some milliseconds at
+/// most.
 ///
 /// It ends after a fault of the device, and after `Engine::finish` once nothing is pending. Where it
 /// finds no memory it tries again.
@@ -160,5 +205,5 @@ pub fn flusher<D: Disk, L: Origin, P: Port, R: Wait + Clock>(
     engine: &Engine<D, L>,
     port: &P,
 ) {
-    flush_all(rt, &mut EngineDeck { rt, engine, port });
+    flush_all(rt, &mut EngineDeck::new(rt, engine, port));
 }

@@ -40,6 +40,7 @@ pub struct Guarded<D: Disk, L: Origin> {
     start: usize,
     finishing: bool,
     in_hand: u64,
+    awaited: u64,
 }
 
 impl<D: Disk, L: Origin> Model for Guarded<D, L> {
@@ -48,7 +49,7 @@ impl<D: Disk, L: Origin> Model for Guarded<D, L> {
 
     ghost Value = { GuardedState D };
 
-    ghost view = { λ g. record { ledger = g.ledger; start = g.start; noted = g.book.total; given = g.given; finishing = g.finishing; in_hand = g.in_hand } };
+    ghost view = { λ g. record { ledger = g.ledger; start = g.start; noted = g.book.total; given = g.given; finishing = g.finishing; in_hand = g.in_hand; awaited = g.awaited } };
 
     ghost invariant = { λ g.
         (g.given ≤ most_shares) × (g.rest.parts + g.given ≡ most_shares + 1) × (g.rest.amount ≡ 0)
@@ -78,6 +79,7 @@ impl<D: Disk, L: Origin> Guarded<D, L> {
             start,
             finishing: false,
             in_hand: 0,
+            awaited: 0,
         }
     }
 

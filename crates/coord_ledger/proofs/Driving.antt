@@ -1,18 +1,20 @@
 -- A run of events, from its first to its last: what a driver keeps before each event.
-use Rattle.std.proofs.Common.{◌≡◌, ◌⊎◌, ℕ, ◌+◌, ◌-◌, ◌<◌, Bool, true, false, List, [], ◌∷◌, ◌++◌, length, take, get_or, zero, suc, None, Some, refl, sym, ap, ◌∙◌, subst, arith, inl, inr}
+use Rattle.std.proofs.Common.{◌≡◌, ◌⊎◌, ℕ, ◌+◌, ◌-◌, ◌<◌, Bool, true, false, List, [], ◌∷◌, ◌++◌, ◌≤◌, length, take, get_or, zero, suc, None, Some, refl, sym, ap, ◌∙◌, subst, arith, inl, inr}
 use Rattle.std.specs.List.{AllByRecursion}
 use Rattle.std.specs.Option.{option_map}
-use Rattle.std.specs.Prelude.{slice_get}
+use Rattle.std.specs.Prelude.{IfSome, Option, slice_get}
 use Rattle.std.proofs.lemmas.Option.{slice_get_read}
 use Rattle.coord_disk.specs.Model.Present.{Present}
 use Rattle.coord_store.proofs.Freshness.{take-push}
 use Rattle.coord_ledger.specs.declared.events.Answer.{Answer}
 use Rattle.coord_ledger.specs.declared.events.Event.{Event}
+use Rattle.coord_ledger.specs.ledger.Driven.{Driven, held, nothing_beside}
 use Rattle.coord_ledger.specs.ledger.Driver.{Drives, HeldSurvives, HeldTouches, IsPromised, disk_held, disk_with, model_of}
 use Rattle.coord_ledger.specs.ledger.Follows.{Follows, FollowsTo, Held, HoldsFlight, HoldsTickets, flight_out}
 use Rattle.coord_ledger.specs.ledger.State.{LedgerState, started}
 use Rattle.coord_ledger.specs.machine.After.{after}
 use Rattle.coord_ledger.specs.machine.Consistent.{DoubtFits, EventInRange, IsConsistent, IsConsistentLog}
+use Rattle.coord_ledger.specs.machine.Log.{Log}
 use Rattle.coord_ledger.specs.machine.Machine.{Machine}
 use Rattle.coord_ledger.specs.machine.Runs.{Answered, run}
 use Rattle.coord_ledger.specs.promises.Headline.{CrashPrefix, EachMoment, Promised, Touches, found_by_crash, is_crash}
@@ -26,9 +28,43 @@ all_at P [] i x there all = let no : ⊥ = cc in absurd no
 all_at P (y ∷ ys) zero x there all = let same : y ≡ x = cc in subst P same all.0
 all_at P (y ∷ ys) (suc i) x there all = all_at P ys i x there all.1
 
+doubt_fits : (log : Log) (o : Option ℕ) → IfSome o (λ b. (1 ≤ b) × (log.settled + b ≤ length log.trail)) → DoubtFits log None o
+doubt_fits log None doubted = tt
+doubt_fits log (Some b) doubted = doubted.1
+
 module _ {D : Type 0} (present : D → Present) (clock : D → ℕ) (left_since : D → ℕ → List ℕ → Type 0) (crashes : D → D → Type 0) where
+  -- a run begins where no flight is out
+  pub drives_first : (keeps_model : D → Bool) (first : D) (d : Driven D) → d.flight ≡ None → HoldsFlight d.ledger d.flight → IsConsistentLog d.ledger.log → IfSome d.ledger.doubt (λ b. (1 ≤ b) × (d.ledger.log.settled + b ≤ length d.ledger.log.trail)) → d.ledger.disk ≡ Some first →
+      ((s : Machine) → IsConsistent s → Follows (held d nothing_beside) s → HeldSurvives keeps_model present (held d nothing_beside) s) → Drives present clock left_since crashes (keeps_model first) first d.ledger [] [] (held d nothing_beside)
+  drives_first keeps_model first d none own log_is doubted home survives =
+      let log = d.ledger.log in
+      let is : IsConsistent (started d.ledger) =
+      record {
+        log = log_is;
+        flight = tt;
+        doubt = doubt_fits log d.ledger.doubt doubted;
+        seen = omega arith;
+        tickets = tt;
+        told = record { released_settled = tt; once = tt; again = tt; replied_settled = tt; truly = tt };
+      } in
+      let all : log.settled - 0 ≡ log.settled = omega arith in
+      let follows : Follows (held d nothing_beside) (started d.ledger) =
+      record {
+        by = 0;
+        within = omega arith;
+        log = λ i. record { base = log.base; trail = log.trail; settled = sym all i };
+        doubt = refl;
+        flight = ap (option_map flight_out) none;
+        own = own;
+        tickets = tt;
+        seen = refl;
+        released = refl;
+      } in
+      let there : disk_held (held d nothing_beside) ≡ Some first = ap (disk_with d.ledger.disk) none ∙ home in
+      record { answered = tt; consistent = is; follows = follows; disk = first; holds = there; moments = (refl, survives (started d.ledger) is follows first there) }
+
   -- one event more
-  drives_on : (keeps_model : D → Bool) (on : Bool) (first : D) (start : LedgerState D) (events : List Event) (given : List Answer) (h new : Held D) (e : Event) (a : Answer) →
+  pub drives_on : (keeps_model : D → Bool) (on : Bool) (first : D) (start : LedgerState D) (events : List Event) (given : List Answer) (h new : Held D) (e : Event) (a : Answer) →
       (drives : Drives present clock left_since crashes on first start events given h) → keeps_model drives.disk ≡ on → EventInRange e → FollowsTo (run (started start) events given) e a new →
       HeldTouches keeps_model present clock left_since crashes (found_by_crash (run (started start) events given) e a) (touches_disk e a) e h new → ((s : Machine) → IsConsistent s → Follows new s → (disk : D) → disk_held new ≡ Some disk → CrashPrefix s on (present disk)) →
       Drives present clock left_since crashes on first start (events ++ e ∷ []) (given ++ a ∷ []) new

@@ -26,6 +26,7 @@ pub mod Breaking
 pub mod RunningTickets
 pub mod RunningFlights
 pub mod Running
+pub mod Handing
 pub mod Meeting
 mod WorkedRuns
 pub mod Collecting

@@ -1,7 +1,9 @@
 -- What a driver makes of any event, and of a crash.
 use Rattle.std.proofs.Common.{◌≡◌, ℕ, Bool, true, false, List, [], Option, Some, None, Ok, Err, refl, sym, ap, ◌∙◌, subst, inl, inr}
 use Rattle.std.specs.Prelude.{IfErr, IfOk, OnErr, Result}
+use Rattle.std.specs.Option.{option_map}
 use Rattle.coord_disk.specs.Model.Present.{Present}
+use Rattle.coord_store.proofs.OneWorld.{recovered_is_one}
 use Rattle.coord_ledger.specs.declared.events.Answer.{Answer}
 use Rattle.coord_ledger.specs.declared.events.Answer.TheVariants.{Opened}
 use Rattle.coord_ledger.specs.declared.events.Event.{Event}
@@ -9,10 +11,11 @@ use Rattle.coord_ledger.specs.declared.events.Event.TheVariants.{Crash}
 use Rattle.coord_ledger.specs.declared.release.Release.{Release}
 use Rattle.coord_ledger.specs.declared.trace.RunFaultKind.{RunFaultKind}
 use Rattle.coord_ledger.specs.declared.trace.RunFaultKind.TheVariants.{OutOfMemory, Store}
+use Rattle.coord_ledger.specs.ledger.Driven.{Driven, IsLeftByCrash, at_home}
 use Rattle.coord_ledger.specs.ledger.Driver.{IsEventFault, IsPromised, IsReopenFault, IsReopened}
-use Rattle.coord_ledger.specs.ledger.Follows.{FollowsTo, Held, ImagesGive}
-use Rattle.coord_ledger.specs.ledger.State.{LedgerState}
-use Rattle.coord_ledger.specs.machine.Answers.{kept}
+use Rattle.coord_ledger.specs.ledger.Follows.{FollowsTo, Held, ImagesGive, flight_out}
+use Rattle.coord_ledger.specs.ledger.State.{LedgerState, ledger_over}
+use Rattle.coord_ledger.specs.machine.Answers.{kept, kept_by}
 use Rattle.coord_ledger.specs.machine.Consistent.{IsConsistent}
 use Rattle.coord_ledger.specs.machine.Log.{Log, settled_world, world_after}
 use Rattle.coord_ledger.specs.machine.Machine.{Machine}
@@ -44,13 +47,13 @@ memory_fault model e k is wants = subst (IsEventFault model e) (sym is) wants
 
 -- ---- a crash
 
-some_is : (b : Bool) → Some b ≡ Some true → b ≡ true
+pub some_is : (b : Bool) → Some b ≡ Some true → b ≡ true
 some_is true is = refl
 some_is false is = cc
 
-pub crash_promised : (model : Option Bool) (b : Bool) → model ≡ Some b → IsPromised model Crash → b ≡ true
-crash_promised model b is (inl on) = some_is b (sym is ∙ on)
-crash_promised model b is (inr other) = let none : ⊥ = cc in absurd none
+pub crash_on : (model : Option Bool) → IsPromised model Crash → model ≡ Some true
+crash_on model (inl on) = on
+crash_on model (inr other) = let none : ⊥ = cc in absurd none
 
 pub crash_fault : (model : Option Bool) (b : Bool) (present : Present) (log : Log) (counts : List ℕ) (k : RunFaultKind) → model ≡ Some b → ImagesGive b present log counts → IsReopenFault b present k → IsEventFault model Crash k
 crash_fault model b present log counts OutOfMemory is images cause = refl
@@ -63,3 +66,12 @@ follows_reopened {D} s keeps_model present clock left_since crashes before l rel
     let from = opened.from keeps in
     subst (λ (m : LedgerState D). FollowsTo s Crash (Opened (settled_world m.log).count) (record { ledger = m; flight = None; claims = []; seen = 0; released = released })) (sym opened.is)
     (follows_crash s released (keeps_model before) (present before) from.0 opened.world opened.disk is given images keeps from.1.0 from.1.1)
+
+-- and is over a world that the crash may leave
+pub left_by_crash : {D : Type 0} (d : Driven D) (keeps_model : D → Bool) (present : D → Present) (clock : D → ℕ) (left_since : D → ℕ → List ℕ → Type 0) (crashes : D → D → Type 0) (before : D) (l : LedgerState D) → keeps_model before ≡ true →
+    ImagesGive (keeps_model before) (present before) d.ledger.log (kept_by d.ledger.log.settled (option_map flight_out d.flight) d.ledger.doubt) → IsReopened keeps_model present clock left_since crashes before l → IsLeftByCrash d (at_home l)
+left_by_crash {D} d keeps_model present clock left_since crashes before l keeps images opened =
+    let from = opened.from keeps in
+    let one = images keeps from.0 from.1.0 in
+    let world = recovered_is_one from.0 opened.world (world_after d.ledger.log one.0) from.1.1 one.1.1 in
+    (one.0, (one.1.0, (opened.disk, ap at_home opened.is ∙ ap (λ w. at_home (ledger_over w opened.disk)) world)))

@@ -1,36 +1,26 @@
 -- What a driver makes of each event follows the event machine.
-use Rattle.std.proofs.Common.{◌≡◌, ℕ, ◌+◌, ◌<◌, ◌≤◌, Bool, true, false, [], ◌∷◌, ◌++◌, length, Some, Ok, Err, refl, sym, ap, ◌∙◌, subst, arith}
+use Rattle.std.proofs.Common.{◌≡◌, ℕ, ◌≤◌, Bool, true, false, length, Some, Ok, Err, refl, sym, ap, ◌∙◌, subst}
 use Rattle.std.specs.Prelude.{Result, MatchResult, OnErr, IfOk, is_err, is_some}
 use Rattle.std.proofs.lemmas.List.{length-map}
 use Rattle.coord_types.specs.declared.refusals.Refusal.{Refusal}
 use Rattle.coord_types.specs.declared.refusals.Refusal.TheVariants as why
 use Rattle.coord_types.specs.declared.refusals.Refusal.TheVariants.{OutOfMemory, Stopped}
-use Rattle.coord_types.specs.declared.steps.Kind.{Kind}
-use Rattle.coord_types.specs.declared.steps.Reply.{Reply}
-use Rattle.coord_types.specs.declared.steps.Step.{Step}
-use Rattle.coord_world.specs.declared.verdicts.Verdict.{Verdict}
-use Rattle.coord_world.specs.declared.verdicts.Verdict.TheVariants.{Fresh, Repeat}
-use Rattle.coord_world.specs.protocol.Next.{reply}
 use Rattle.coord_world.specs.protocol.NumberedWorld.{World}
 use Rattle.coord_world.specs.protocol.Outputs.{again}
-use Rattle.coord_world.specs.protocol.Ranges.{InRange, SessionInRange}
 use Rattle.coord_ledger.specs.declared.events.Answer.{Answer}
-use Rattle.coord_ledger.specs.declared.events.Answer.TheVariants.{Accepted, Repeated, Refused, Shown}
-use Rattle.coord_ledger.specs.declared.events.Event.TheVariants.{Finish, Submit, Show}
-use Rattle.coord_ledger.specs.ledger.Calls.{RefusesFlight, claimed, said, with_accepted}
+use Rattle.coord_ledger.specs.declared.events.Answer.TheVariants.{Refused, Shown}
+use Rattle.coord_ledger.specs.declared.events.Event.TheVariants.{Finish, Show}
+use Rattle.coord_ledger.specs.ledger.Calls.{RefusesFlight}
 use Rattle.coord_ledger.specs.ledger.Follows.{Follows, FollowsTo, Held, HoldsFlight}
-use Rattle.coord_ledger.specs.ledger.State.{Claim, FlightState, LedgerState}
+use Rattle.coord_ledger.specs.ledger.State.{FlightState}
 use Rattle.coord_ledger.specs.machine.After.{release_of, resent}
 use Rattle.coord_ledger.specs.machine.Consistent.{IsConsistent, IsConsistentLog}
-use Rattle.coord_ledger.specs.machine.Log.{Log, accepted_count, front_world, settled_count, settled_world}
+use Rattle.coord_ledger.specs.machine.Log.{Log, accepted_count, settled_count, settled_world}
 use Rattle.coord_ledger.specs.machine.Machine.{Machine}
 use Rattle.coord_ledger.specs.machine.Shown as view
 use Rattle.coord_ledger.proofs.FollowingFlights.{follows_not_finished}
-use Rattle.coord_ledger.proofs.FollowingSteps.{follows_accepted, follows_no_room, follows_refused, follows_repeated}
 use Rattle.coord_ledger.proofs.FollowingTickets.{follows_not_shown, follows_shown, follows_unshown, never_behind}
-use Rattle.coord_ledger.proofs.Judging.{verdict_repeats}
-use Rattle.coord_ledger.proofs.Logs.{count_after, count_front}
-use Rattle.coord_ledger.proofs.ConsistentSteps.{reply_is}
+use Rattle.coord_ledger.proofs.Logs.{count_after}
 
 -- what a show is answered
 abbrev pub shown_as : Result view.Shown Refusal → Answer
@@ -38,54 +28,6 @@ shown_as (Ok v) = Shown v
 shown_as (Err e) = Refused e
 
 module _ {D : Type 0} (h : Held D) (s : Machine) (is : IsConsistent s) (follows : Follows h s) where
-  -- ---- submit
-
-  -- a ticket was given: its step is newer than those before, or it is a repeat
-  pub follows_submitted : (x : Step) (claim : Claim) (new : LedgerState D) (a : Answer) (before : ℕ) → before ≡ (front_world h.ledger.log).count → InRange (front_world h.ledger.log) →
-      ((k : Kind) → said h.ledger x ≡ Ok (Fresh k) → (claim ≡ claimed x (reply (front_world h.ledger.log) x)) × (new ≡ with_accepted h.ledger x)) →
-      ((kept : Reply) → said h.ledger x ≡ Ok (Repeat kept) → (claim ≡ claimed x kept) × (new ≡ h.ledger)) →
-      ((why : Refusal) → said h.ledger x ≡ Err why → ⊥) →
-      (before < claim.step → a ≡ Accepted claim.step) → (claim.step ≤ before → a ≡ Repeated claim.step) →
-      FollowsTo s (Submit x) a (record h { ledger = new; claims = h.claims ++ Some claim ∷ [] })
-  follows_submitted x claim new a before counts ranged fresh repeated never newer older = by_verdict (said h.ledger x) refl
-    where
-      by_verdict : (v : Result Verdict Refusal) → said h.ledger x ≡ v → FollowsTo s (Submit x) a (record h { ledger = new; claims = h.claims ++ Some claim ∷ [] })
-      by_verdict (Ok (Fresh k)) judged =
-          let log = h.ledger.log in
-          let both = fresh k judged in
-          let one : claim ≡ record { step = accepted_count log + 1; what = x; kind = k } = both.0 ∙ ap (claimed x) (reply_is (is_some h.ledger.doubt) log x k judged) in
-          let step : claim.step ≡ accepted_count log + 1 = ap (λ (c : Claim). c.step) one in
-          let answer : a ≡ Accepted (accepted_count log + 1) = newer (omega (arith, counts, count_front log, step)) ∙ ap Accepted step in
-          subst (λ b. FollowsTo s (Submit x) b (record h { ledger = new; claims = h.claims ++ Some claim ∷ [] })) (sym answer)
-          (subst (λ l. FollowsTo s (Submit x) (Accepted (accepted_count log + 1)) (record h { ledger = l; claims = h.claims ++ Some claim ∷ [] })) (sym both.1)
-          (subst (λ c. FollowsTo s (Submit x) (Accepted (accepted_count log + 1)) (record h { ledger = with_accepted h.ledger x; claims = h.claims ++ Some c ∷ [] })) (sym one)
-          (follows_accepted h s is follows x k judged)))
-      by_verdict (Ok (Repeat r)) judged =
-          let log = h.ledger.log in
-          let both = repeated r judged in
-          let keeps = verdict_repeats (is_some h.ledger.doubt) log x r judged in
-          let session : SessionInRange (front_world log).count keeps.client keeps.last = ranged.sessions keeps.client keeps.last keeps.there in
-          let same : keeps.last.reply.step ≡ r.step = ap (λ (q : Reply). q.step) keeps.reply in
-          let step : claim.step ≡ r.step = ap (λ (c : Claim). c.step) both.0 in
-          let answer : a ≡ Repeated r.step = older (omega (arith, counts, session.replied_by, same, step)) ∙ ap Repeated step in
-          subst (λ b. FollowsTo s (Submit x) b (record h { ledger = new; claims = h.claims ++ Some claim ∷ [] })) (sym answer)
-          (subst (λ l. FollowsTo s (Submit x) (Repeated r.step) (record h { ledger = l; claims = h.claims ++ Some claim ∷ [] })) (sym both.1)
-          (subst (λ c. FollowsTo s (Submit x) (Repeated r.step) (record h { claims = h.claims ++ Some c ∷ [] })) (sym both.0)
-          (follows_repeated h s is follows x r judged)))
-      by_verdict (Err e) judged = absurd (never e judged)
-
-  -- no ticket was given
-  pub follows_unsubmitted : (x : Step) (e : Refusal) (new : LedgerState D) → new ≡ h.ledger →
-      ((k : Kind) → said h.ledger x ≡ Ok (Fresh k) → e ≡ OutOfMemory) → ((kept : Reply) → said h.ledger x ≡ Ok (Repeat kept) → ⊥) → ((why : Refusal) → said h.ledger x ≡ Err why → e ≡ why) →
-      FollowsTo s (Submit x) (Refused e) (record h { ledger = new })
-  follows_unsubmitted x e new same fresh repeated refused =
-      subst (λ l. FollowsTo s (Submit x) (Refused e) (record h { ledger = l })) (sym same) (by_verdict (said h.ledger x) refl)
-    where
-      by_verdict : (v : Result Verdict Refusal) → said h.ledger x ≡ v → FollowsTo s (Submit x) (Refused e) h
-      by_verdict (Ok (Fresh k)) judged = subst (λ w. FollowsTo s (Submit x) (Refused w) h) (sym (fresh k judged)) (follows_no_room h s is follows x k judged)
-      by_verdict (Ok (Repeat r)) judged = absurd (repeated r judged)
-      by_verdict (Err why) judged = subst (λ w. FollowsTo s (Submit x) (Refused w) h) (sym (refused why judged)) (follows_refused h s is follows x why judged)
-
   -- ---- show
 
   pub follows_show : (r : Result view.Shown Refusal) (seen : ℕ) (a : Answer) → (is_some h.ledger.doubt ≡ true → r ≡ Err Stopped) →

@@ -1,41 +1,18 @@
 -- What the calls of a ledger leave of its flight and its disk.
-use Rattle.std.proofs.Common.{◌≡◌, Bool, true, false, length, take, Option, Some, None, Ok, Err, refl, sym, ap, ◌∙◌, subst}
-use Rattle.std.specs.Prelude.{Result, IfOk, IsSomeAnd}
-use Rattle.coord_types.specs.declared.refusals.Refusal.{Refusal}
-use Rattle.coord_types.specs.declared.steps.Kind.{Kind}
-use Rattle.coord_types.specs.declared.steps.Reply.{Reply}
-use Rattle.coord_types.specs.declared.steps.Step.{Step}
-use Rattle.coord_world.specs.declared.verdicts.Verdict.{Verdict}
-use Rattle.coord_world.specs.declared.verdicts.Verdict.TheVariants.{Fresh, Repeat}
-use Rattle.coord_world.specs.protocol.Next.{reply}
-use Rattle.coord_ledger.specs.ledger.Calls.{claimed, keeps_store, next_flight, said, with_accepted, with_out}
-use Rattle.coord_ledger.specs.ledger.Follows.{HoldsFlight, IsOut}
-use Rattle.coord_ledger.specs.ledger.State.{Claim, FlightState, LedgerState}
+use Rattle.std.proofs.Common.{◌≡◌, ◌⊎◌, Bool, true, false, length, take, Option, Some, None, Ok, Err, refl, sym, ap, ◌∙◌, subst, inl, inr}
+use Rattle.std.specs.Prelude.{Result, IfOk, IsSomeAnd, MatchResult}
+use Rattle.coord_store.specs.declared.faults.CommitFault.{CommitFault}
+use Rattle.coord_store.specs.declared.faults.CommitFault.TheVariants as fault
+use Rattle.coord_ledger.specs.declared.events.Answer.TheVariants.{Failed}
+use Rattle.coord_ledger.specs.declared.mark.Mark.TheVariants.{New, Good, Torn}
+use Rattle.coord_ledger.specs.ledger.Calls.{keeps_store, next_flight, with_out}
+use Rattle.coord_ledger.specs.ledger.Driven.{CommitsTo, Driven, IsMarked}
+use Rattle.coord_ledger.specs.ledger.Follows.{IsOut}
+use Rattle.coord_ledger.specs.ledger.State.{FlightState, LedgerState}
 use Rattle.coord_ledger.specs.machine.Answers.{most_in_flight}
-use Rattle.coord_ledger.specs.machine.Consistent.{IsConsistentLog}
-use Rattle.coord_ledger.specs.machine.Log.{front_world, pending}
-use Rattle.coord_ledger.proofs.FollowingSteps.{own_later}
+use Rattle.coord_ledger.specs.machine.Log.{pending}
 use Rattle.coord_ledger.proofs.Calling.{next_is_out}
-
--- a step that was given a ticket leaves the flight and the disk
-pub record Submitted {D : Type 0} (l new : LedgerState D) (f : Option (FlightState D)) : Type 0 where
-  pub own : HoldsFlight new f
-  pub disk : new.disk ≡ l.disk
-
-pub submitted : {D : Type 0} (l new : LedgerState D) (f : Option (FlightState D)) (x : Step) (claim : Claim) → IsConsistentLog l.log → HoldsFlight l f →
-    ((k : Kind) → said l x ≡ Ok (Fresh k) → (claim ≡ claimed x (reply (front_world l.log) x)) × (new ≡ with_accepted l x)) →
-    ((kept : Reply) → said l x ≡ Ok (Repeat kept) → (claim ≡ claimed x kept) × (new ≡ l)) →
-    ((why : Refusal) → said l x ≡ Err why → ⊥) → Submitted l new f
-submitted {D} l new f x claim is own fresh repeated never = by_verdict (said l x) refl
-  where
-    by_verdict : (v : Result Verdict Refusal) → said l x ≡ v → Submitted l new f
-    by_verdict (Ok (Fresh k)) judged =
-        let now = (fresh k judged).1 in
-        record { own = subst (λ n. HoldsFlight n f) (sym now) (own_later l x f is own); disk = ap (λ (n : LedgerState D). n.disk) now }
-    by_verdict (Ok (Repeat r)) judged =
-        let now = (repeated r judged).1 in
-        record { own = subst (λ n. HoldsFlight n f) (sym now) own; disk = ap (λ (n : LedgerState D). n.disk) now }
-    by_verdict (Err e) judged = absurd (never e judged)
+use Rattle.coord_ledger.proofs.Moments.{told}
 
 -- a flight goes out exactly where the store leaves home
 abbrev pub Departs : {D : Type 0} → LedgerState D → LedgerState D → FlightState D → Type 0
@@ -46,6 +23,15 @@ departs_own l left f departs =
     let steps : f.steps ≡ take most_in_flight (pending l.log) = ap (λ (g : FlightState _). g.steps) departs.0 in
     let same : left ≡ with_out l (length (take most_in_flight (pending l.log))) = departs.2 ∙ ap (λ k. with_out l (length k)) steps in
     subst (λ m. IsOut m f) (sym same) (subst (IsOut (with_out l (length (take most_in_flight (pending l.log))))) (sym departs.0) (next_is_out l f.disk))
+
+-- a ledger whose flight is out
+abbrev pub driven : {D : Type 0} → LedgerState D → FlightState D → Driven D
+driven l f = record { ledger = l; flight = Some f }
+
+-- what is driven then
+pub begun_to : {D : Type 0} (l left : LedgerState D) (f : FlightState D) → Departs l left f →
+    driven left f ≡ driven (with_out l (length (next_flight l.log f.disk).steps)) (next_flight l.log f.disk)
+begun_to {D} l left f departs = λ i. record { ledger = (departs.2 ∙ ap (λ (g : FlightState D). with_out l (length g.steps)) departs.0) i; flight = Some (departs.0 i) }
 
 module _ {D E : Type 0} (l left : LedgerState D) (r : Result (Option (FlightState D)) E) (nothing : keeps_store l ≡ true → (r ≡ Ok None) × (left ≡ l)) (begun : keeps_store l ≡ false → IfOk r (λ o. IsSomeAnd o (Departs l left))) where
   pub begun_some : (f : FlightState D) → r ≡ Ok (Some f) → (keeps_store l ≡ false) × Departs l left f
@@ -68,3 +54,23 @@ module _ {D E : Type 0} (l left : LedgerState D) (r : Result (Option (FlightStat
       by_home : (b : Bool) → keeps_store l ≡ b → keeps_store l ≡ false
       by_home true stays = let none = (nothing stays).0 in let no : ⊥ = cc in absurd no
       by_home false goes = goes
+
+-- ---- a new flight is committed
+
+pub committed : {D T : Type 0} (l : LedgerState D) (f h g : FlightState D) (d : Driven D) (r : Result T CommitFault) → f ≡ h → d ≡ driven l g → h.mark ≡ New →
+    (f.mark ≡ New → MatchResult r (λ _. g.mark ≡ Good) (λ why. ((why ≡ fault.Device) × (g.mark ≡ Torn)) ⊎ ((why ≡ fault.OutOfMemory) × (g.mark ≡ New)))) →
+    g.first ≡ f.first → g.steps ≡ f.steps → g.world ≡ f.world → CommitsTo l h (told r) d
+committed {D} {T} l f h g d r same is new tried first steps world =
+    record {
+      flown = g;
+      is = is;
+      marked = by_result r (tried (ap (λ (x : FlightState D). x.mark) same ∙ new));
+      first = first ∙ ap (λ (x : FlightState D). x.first) same;
+      steps = steps ∙ ap (λ (x : FlightState D). x.steps) same;
+      world = world ∙ ap (λ (x : FlightState D). x.world) same;
+    }
+  where
+    by_result : (q : Result T CommitFault) → MatchResult q (λ _. g.mark ≡ Good) (λ why. ((why ≡ fault.Device) × (g.mark ≡ Torn)) ⊎ ((why ≡ fault.OutOfMemory) × (g.mark ≡ New))) → IsMarked (told q) g.mark
+    by_result (Ok done) good = good
+    by_result (Err why) (inl device) = subst (λ x. IsMarked (Failed x) g.mark) (sym device.0) device.1
+    by_result (Err why) (inr memory) = subst (λ x. IsMarked (Failed x) g.mark) (sym memory.0) memory.1

@@ -3,3 +3,4 @@ pub mod State
 pub mod Follows
 pub mod Calls
 pub mod Driver
+pub mod Driven

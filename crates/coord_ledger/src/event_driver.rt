@@ -6,15 +6,15 @@ ghost use Rattle.coord_ledger.specs.ledger.State.{started};
 ghost use Rattle.coord_ledger.specs.promises.Headline.{Broke, HasCause, Promised, Ran};
 
 mod crashes;
-mod driver;
 mod ending;
 mod events;
 mod flights;
 mod released;
+mod run;
 
-use crate::{Event, Ledger, RunFault, Seen, Trace};
+use crate::{Driver, Event, Ledger, RunFault, Seen, Trace};
 use coord_disk::CrashDisk;
-use driver::Driver;
+use run::Run;
 use std::alloc::Global;
 
 /// Runs events on a ledger in one thread, and gives an answer to each, all that was released, and
@@ -51,9 +51,8 @@ pub fn run_events<D: CrashDisk>(
     ensures cause { IfErr result (λ fault. (before : D) → ledger.disk ≡ Some before → HasCause (D.keeps_model before) events.now fault.at fault.kind) }
 {
     ledger.log_is_consistent();
-    let mut held = Driver {
-        ledger,
-        flight: None,
+    let mut held = Run {
+        driver: Driver::over(ledger),
         tickets: Vec::new(alloc),
         seen: Seen::new(),
         released: Vec::new(alloc),

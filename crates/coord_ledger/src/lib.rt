@@ -23,9 +23,11 @@
 //! answers are known.
 #![tactic(auto)]
 
+mod driver;
 mod event_driver;
 mod events;
 mod flight;
+mod handed;
 pub mod laws;
 mod ledger;
 mod mark;
@@ -38,9 +40,11 @@ mod ticket;
 mod trace;
 mod view;
 
+pub use driver::Driver;
 pub use event_driver::run_events;
 pub use events::{Answer, Event};
 pub use flight::Flight;
+pub use handed::Handed;
 pub use ledger::Ledger;
 pub use mark::Mark;
 pub use release::Release;

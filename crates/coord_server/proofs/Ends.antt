@@ -1,5 +1,5 @@
 -- A server of which no fault is told was closed by a line.
-use Rattle.std.proofs.Common.{◌≡◌, ℕ, ◌+◌, List, [], ◌∷◌, ◌++◌, All, length, Bool, true, false, Option, Some, None, refl, sym, ap, ◌∙◌, subst, append-nil, append_assoc, arith}
+use Rattle.std.proofs.Common.{◌≡◌, ℕ, zero, suc, ◌+◌, List, [], ◌∷◌, ◌++◌, All, length, Bool, true, false, Option, Some, None, refl, sym, ap, ◌∙◌, subst, append-nil, append_assoc, arith}
 use Rattle.std.specs.Prelude.{drop}
 use Rattle.std.proofs.lemmas.List.Elements.{All-push}
 use Rattle.coord_engine.specs.Closing.{IsSince}
@@ -8,13 +8,18 @@ use Rattle.coord_engine.specs.Threads.{AtSomeMoment, Closes}
 use Rattle.coord_engine.specs.Working.{IsOfPacket}
 use Rattle.coord_types.specs.declared.steps.Step.{Step}
 use Rattle.coord_ledger.specs.declared.ticket.Note.{Note}
-use Rattle.coord_store.specs.Kept.{Kept}
+use Rattle.coord_store.specs.Kept.{Kept, has_stopped}
+use Rattle.coord_disk.specs.Model.Present.{Present}
 use Rattle.coord_world.specs.protocol.NumberedWorld.{World}
 use Rattle.coord_admin.specs.Connections.{Talk}
-use Rattle.coord_engine.specs.State.{Basis}
+use Rattle.coord_engine.specs.State.{Basis, based_on}
 use Rattle.coord_server.specs.EngineDesk.{DeskState}
-use Rattle.coord_server.specs.Ending.{AddsWorkers, IsOneHistory, IsServedToClose, Serves, told}
+use Rattle.coord_server.specs.Ending.{AddsWorkers, IsOneHistory, IsServedToClose, Serves, ServesLife, told}
+use Rattle.coord_server.specs.Lives.{HasLived, HasLivedToClose, IsOver, Lives, Rests, met_any}
 use Rattle.coord_server.specs.declared.fault.ServerFault.{ServerFault}
+use Rattle.coord_server.specs.declared.fault.ServerFault.TheVariants as fault
+use Rattle.coord_server.specs.declared.left.Left.{Left}
+use Rattle.coord_server.specs.declared.left.Left.TheVariants.{Resting, Ended}
 
 pub going_if_none : (stopped : Bool) (served : Option ServerFault) (is_broken : Bool) → told stopped served is_broken ≡ None → stopped ≡ false
 going_if_none false served is_broken none = refl
@@ -47,13 +52,82 @@ module _ {D : Type 0} (b : Basis D) {V : Type 0} (met : V → List Talk → V �
   closed_if_none false (Some fault) is_broken v w desk none s = absurd cc
   closed_if_none true served is_broken v w desk none s = absurd cc
 
-  pub closed_history : (stopped : Bool) (served : Option ServerFault) (is_broken : Bool) (v w : V) (store : Kept D) (base : World) (trail : List Step) (settled : ℕ) → told stopped served is_broken ≡ None → (desk : DeskState) × Serves b met v w desk served × IsOneHistory b desk.notes store base trail settled → (desk : DeskState) × IsServedToClose b desk × IsOneHistory b desk.notes store base trail settled
-  closed_history stopped served is_broken v w store base trail settled none left = (left.0, closed_if_none stopped served is_broken v w left.0 none left.1, left.2)
-
   -- the desk's notes, in the share that it gave back
-  pub serves_with : (v w : V) (desk : DeskState) (served : Option ServerFault) (notes : List Note) → Serves b met v w desk served → notes ≡ desk.notes → (seen : ℕ) × Serves b met v w (record { notes = notes; seen = seen }) served
-  serves_with v w desk served notes s same = (desk.seen, subst (λ n. Serves b met v w (record { notes = n; seen = desk.seen }) served) (sym same) s)
+  pub serves_with : (v w u : V) (desk : DeskState) (left : Left) (notes : List Note) → ServesLife b met v w desk left → notes ≡ desk.notes → u ≡ w → (seen : ℕ) × ServesLife b met v u (record { notes = notes; seen = seen }) left
+  serves_with v w u desk left notes s same same_w = (desk.seen, subst (λ x. ServesLife b met v x (record { notes = notes; seen = desk.seen }) left) (sym same_w) (subst (λ n. ServesLife b met v w (record { notes = n; seen = desk.seen }) left) (sym same) s))
 
   -- how the desk went on, and what its share is to what is left
-  pub left_with : (v w : V) (served : Option ServerFault) (own : List Note) (store : Kept D) (base : World) (trail : List Step) (settled : ℕ) → (seen : ℕ) × Serves b met v w (record { notes = own; seen = seen }) served → IsOneHistory b own store base trail settled → (desk : DeskState) × Serves b met v w desk served × IsOneHistory b desk.notes store base trail settled
-  left_with v w served own store base trail settled s history = (record { notes = own; seen = s.0 }, s.1, history)
+  pub left_with : (v w : V) (left : Left) (own : List Note) (store : Kept D) (base : World) (trail : List Step) (settled : ℕ) → (seen : ℕ) × ServesLife b met v w (record { notes = own; seen = seen }) left → IsOneHistory b own store base trail settled → (desk : DeskState) × ServesLife b met v w desk left × IsOneHistory b desk.notes store base trail settled
+  left_with v w left own store base trail settled s history = (record { notes = own; seen = s.0 }, s.1, history)
+
+-- ---- lives
+
+module _ {D : Type 0} (keeps_model : D → Bool) (present : D → Present) {V : Type 0} (met : V → List Talk → V → Type 0) where
+  abbrev b : World → Basis D
+  b world = based_on keeps_model present world []
+
+  -- a last life has this end
+  served_at_last : (world : World) (v w : V) (desk : DeskState) (left : Left) (served : Option ServerFault) → ServesLife (b world) met v w desk left → IsOver left served → Serves (b world) met v w desk served
+  served_at_last world v w desk Resting served s over = subst (Serves (b world) met v w desk) (sym over) s
+  served_at_last world v w desk (Ended told) served s over = subst (Serves (b world) met v w desk) (sym over) s
+
+  rests : (world : World) (v w : V) (left : Left) (store : Kept D) (base : World) (trail : List Step) (settled : ℕ) → left ≡ Resting → (desk : DeskState) × ServesLife (b world) met v w desk left × IsOneHistory (b world) desk.notes store base trail settled
+      → has_stopped store ≡ false → settled ≡ base.count + length trail → Rests keeps_model present met world v w store.world
+  rests world v w left store base trail settled is life going all = record {
+    desk = life.0;
+    store = store;
+    base = base;
+    trail = trail;
+    settled = settled;
+    served = subst (ServesLife (b world) met v w life.0) is life.1;
+    history = life.2;
+    all_settled = all;
+    going = going;
+    goes_on = refl;
+  }
+
+  -- one more life has rested
+  pub lives_on : (began world : World) (v u w : V) (left : Left) (store : Kept D) (base : World) (trail : List Step) (settled : ℕ) → (n : ℕ) × Lives keeps_model present met n began v world u → left ≡ Resting
+      → (desk : DeskState) × ServesLife (b world) met u w desk left × IsOneHistory (b world) desk.notes store base trail settled
+      → has_stopped store ≡ false → settled ≡ base.count + length trail → (n : ℕ) × Lives keeps_model present met n began v store.world w
+  lives_on began world v u w left store base trail settled lives is life going all = (suc lives.0, (world, u, lives.1, rests world u w left store base trail settled is life going all))
+
+  -- the same by other names: what the next life begins with
+  pub lives_next : (began world : World) (v u w others : V) (left : Left) (store next : Kept D) (base : World) (trail : List Step) (settled : ℕ) → (n : ℕ) × Lives keeps_model present met n began v world u
+      → (desk : DeskState) × ServesLife (b world) met u w desk left × IsOneHistory (b world) desk.notes store base trail settled
+      → left ≡ Resting → next ≡ store → others ≡ w → has_stopped store ≡ false → settled ≡ base.count + length trail
+      → ((n : ℕ) × Lives keeps_model present met n began v next.world others) × (has_stopped next ≡ false)
+  lives_next began world v u w others left store next base trail settled lives life is same same_w going all =
+      let on = lives_on began world v u w left store base trail settled lives is life going all in (
+        subst (λ x. (n : ℕ) × Lives keeps_model present met n began v next.world x) (sym same_w) (subst (λ (k : Kept D). (n : ℕ) × Lives keeps_model present met n began v k.world w) (sym same) on),
+        subst (λ (k : Kept D). has_stopped k ≡ false) (sym same) going,
+      )
+
+  -- and the last one has ended
+  pub lives_end : (began world : World) (v u w : V) (left : Left) (served : Option ServerFault) (store : Kept D) (base : World) (trail : List Step) (settled : ℕ) → (n : ℕ) × Lives keeps_model present met n began v world u
+      → (desk : DeskState) × ServesLife (b world) met u w desk left × IsOneHistory (b world) desk.notes store base trail settled
+      → IsOver left served → HasLived keeps_model present met began v w served store base trail settled
+  lives_end began world v u w left served store base trail settled lives life over = (lives.0, world, u, lives.1, (life.0, served_at_last world u w life.0 left served life.1 over, life.2))
+
+  -- whoever called
+  rested_any : (world next : World) (v w : V) → Rests keeps_model present met world v w next → Rests keeps_model present met_any world tt tt next
+  rested_any world next v w r = record {
+    desk = r.desk;
+    store = r.store;
+    base = r.base;
+    trail = r.trail;
+    settled = r.settled;
+    served = (r.served.0, tt, r.served.2);
+    history = r.history;
+    all_settled = r.all_settled;
+    going = r.going;
+    goes_on = r.goes_on;
+  }
+
+  lives_any : (n : ℕ) (began next : World) (v w : V) → Lives keeps_model present met n began v next w → Lives keeps_model present met_any n began tt next tt
+  lives_any zero began next v w is = (is.0, refl)
+  lives_any (suc n) began next v w is = (is.0, tt, lives_any n began is.0 v is.1 is.2, rested_any is.0 next is.1 w is.3)
+
+  pub closed_lives : (stopped : Bool) (served : Option ServerFault) (is_broken : Bool) (began : World) (v w : V) (store : Kept D) (base : World) (trail : List Step) (settled : ℕ) → told stopped served is_broken ≡ None → HasLived keeps_model present met began v w served store base trail settled → HasLivedToClose keeps_model present began store base trail settled
+  closed_lives stopped served is_broken began v w store base trail settled none is =
+      (is.0, is.1, lives_any is.0 began is.1 v is.2 is.3, (is.4.0, closed_if_none (b is.1) met stopped served is_broken is.2 w is.4.0 none is.4.1, is.4.2))

@@ -14,6 +14,8 @@ use Rattle.coord_admin.specs.declared.request.Request.{Request}
 use Rattle.coord_server.specs.EngineDesk.{DeskState, DeskAnswers}
 use Rattle.coord_server.specs.declared.fault.ServerFault.{ServerFault}
 use Rattle.coord_server.specs.declared.fault.ServerFault.TheVariants as fault
+use Rattle.coord_server.specs.declared.left.Left.{Left}
+use Rattle.coord_server.specs.declared.left.Left.TheVariants as left
 
 -- a desk that has noted nothing and seen nothing
 abbrev pub new_desk : DeskState
@@ -41,13 +43,19 @@ module _ {D : Type 0} (b : Basis D) {V : Type 0} (met : V → List Talk → V �
   abbrev pub IsLeft : V → V → DeskState → Type 0
   IsLeft v w desk = ServedOpen (DeskAnswers b) met v new_desk w desk
 
-  -- how the desk went on until the serving ended so
+  -- how the desk went on until the serving ended so: a store that has stopped is met where a life rests
   abbrev pub Serves : V → V → DeskState → Option ServerFault → Type 0
   Serves v w desk None = IsClosed v w desk
   Serves v w desk (Some fault.Socket) = IsLeft v w desk
+  Serves v w desk (Some fault.Device) = IsLeft v w desk
   Serves v w desk (Some fault.OutOfMemory) = met v [] w × (desk ≡ new_desk)
   Serves v w desk (Some fault.Write) = met v [] w × (desk ≡ new_desk)
   Serves v w desk (Some other) = ⊥
+
+  -- how the desk went on in one life
+  abbrev pub ServesLife : V → V → DeskState → Left → Type 0
+  ServesLife v w desk left.Resting = IsLeft v w desk
+  ServesLife v w desk (left.Ended served) = Serves v w desk served
 
 -- a desk that began with nothing was served over some connections, the last of which closed it
 abbrev pub IsServedToClose : {D : Type 0} → Basis D → DeskState → Type 0

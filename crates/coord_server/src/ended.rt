@@ -8,7 +8,7 @@ use crate::ServerFault;
 use coord_disk::Disk;
 use coord_engine::Closed;
 
-/// What is left of a server's engine and of those who called, and how the server ended.
+/// What is left of a server's last engine and of those who called, and how the server ended.
 #[derive(Drop)]
 pub struct Ended<D: Disk, C> {
     pub closed: Closed<D>,

@@ -1,26 +1,35 @@
 //! The server: a store behind an engine with its threads, and the administration over it.
 //!
 //! [`serve_store`] runs an engine with a flusher and eight workers over a store, and serves the
-//! connections of a listener to an [`EngineDesk`], one after the other, until a line closes it.
+//! connections of a listener to an [`EngineDesk`], one after the other, until a line closes it. So that
+//! it needs no more memory the longer it serves, it does so in lives, each over an engine of its own
+//! that is taken apart once it keeps many steps ([`serve_lives`]).
 //! `specs/EngineDesk.antt` says what that desk may answer, by what the engine's calls say,
-//! `specs/Printed.antt` the lines that are printed, and `specs/Ending.antt` what is left at the end:
-//! one history, and a store that has not stopped. The main theorem is the contract of `serve_store`,
-//! with what an `EngineDesk` is proved to answer as a `Desk`. Nothing of this says that a thread
-//! runs, that a packet comes or that anyone is served.
+//! `specs/Printed.antt` the lines that are printed, `specs/Ending.antt` what is left at the end of a
+//! life: one history, and a store that has not stopped; and `specs/Lives.antt` how lives follow one
+//! another. The main theorem is the contract of `serve_store`, with what an `EngineDesk` is proved to
+//! answer as a `Desk`. Nothing of this says that a thread runs, that a packet comes or that anyone is
+//! served.
 #![tactic(auto)]
 
+mod age;
 mod crew;
 mod desk;
 mod ended;
 mod fault;
+mod left;
+mod life;
+mod lives;
 mod local;
 mod printer;
 mod printing;
+mod resting;
 mod serving;
 
 pub use desk::EngineDesk;
 pub use ended::Ended;
 pub use fault::ServerFault;
+pub use lives::serve_lives;
 pub use local::{LocalPort, Signal, WORKERS};
 pub use printer::Printer;
-pub use serving::{serve_callers, serve_store};
+pub use serving::{LIFE_STEPS, serve_callers, serve_store};

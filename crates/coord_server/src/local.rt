@@ -38,9 +38,18 @@ impl<R: Wait> LocalPort<R> {
         }
     }
 
-    /// Closes the channels. What they hold is still received.
+    /// Carries packets to these channels from now on.
+    pub fn connect(&self, channels: Vec<Sender<Packet>>) {
+        *self.channels.lock(&self.rt) = channels;
+    }
+
+    /// Closes the channels of packets. What they hold is still received.
     pub fn hang_up(&self) {
         self.channels.lock(&self.rt).clear();
+    }
+
+    /// Closes the channel of signals. What it holds is still received.
+    pub fn fall_silent(&self) {
         *self.signals.lock(&self.rt) = None;
     }
 }

@@ -143,6 +143,44 @@ fn one_write_a_reply(rt: HostRuntime) -> Result<(), Fail> {
     Ok(())
 }
 
+/// Takes a byte at a time.
+#[derive(Drop)]
+struct Slow {
+    kept: Vec<u8>,
+}
+
+impl Write for Slow {
+    fn write(&mut self, buf: &[u8]) -> io::Result<usize> {
+        match buf.first() {
+            Some(byte) => {
+                self.kept.push(*byte)?;
+                Ok(1)
+            }
+            None => Ok(0),
+        }
+    }
+
+    fn flush(&mut self) -> io::Result<()> {
+        Ok(())
+    }
+}
+
+/// A reply that is taken a byte at a time is written whole.
+#[test]
+fn replies_byte_by_byte(rt: HostRuntime) -> Result<(), Fail> {
+    let mut lines = b"{\"op\":\"resend\"}\n".as_slice();
+    let mut desk = CountDesk::new(rt.alloc(), 0);
+    let mut writer = Slow {
+        kept: Vec::new(rt.alloc()),
+    };
+    let outcome = serve_halves(rt.alloc(), &mut lines, &mut writer, &mut desk);
+    assert!(rt;
+        outcome.is_ok()
+            && writer.kept.as_slice() == b"{\"count\":0,\"kind\":\"resent\"}\n".as_slice()
+    );
+    Ok(())
+}
+
 /// What was accepted before a write failed stays accepted.
 #[test]
 fn failed_write(rt: HostRuntime) -> Result<(), Fail> {

@@ -1,9 +1,9 @@
 //! Clients by a script, and a listener that fails.
 
-use coord_admin::{ACCEPT_TRIES, Accepted, CountDesk, Patience, serve_connections};
+use coord_admin::{ACCEPT_TRIES, Accepted, CountDesk, DISCARD_READS, Patience, serve_connections};
 use std::alloc::Global;
 use std::io::{ErrorKind, Read, Write};
-use std::net::{IpAddr, Ipv4Addr, OpenListener, OpenStream, SocketAddr};
+use std::net::{IpAddr, Ipv4Addr, OpenListener, OpenStream, Shutdown, SocketAddr};
 use std::sync::atomic::{AtomicU64, Ordering};
 use std::test::Fail;
 use std::time::{Clock, Duration};
@@ -26,14 +26,19 @@ enum Client {
     Closes,
     /// It closes the desk, and takes a byte of the answer every thirty milliseconds.
     TakesSlowly,
+    /// It closes the desk, and sends on without end.
+    SendsOn,
+    /// It sends a line without a pause, of as many pieces as this.
+    Floods(u64),
     /// So often there is no room in the table of files, and then it closes the desk.
     Waits(u64),
     /// The listener fails.
     Breaks,
 }
 
-/// Clients that come one after the other, how many bytes were written to them as they were to be, and
-/// how many times a stream was to wait longer than it may.
+/// Clients that come one after the other, how many bytes were written to them as they were to be, how
+/// many times a stream was to wait longer than it may, and how often it was read behind a close or in
+/// a line without a pause.
 #[derive(Drop)]
 struct Script<T: Clock> {
     clock: T,
@@ -42,6 +47,7 @@ struct Script<T: Clock> {
     refused: AtomicU64,
     written: AtomicU64,
     too_long: AtomicU64,
+    read_on: AtomicU64,
 }
 
 /// A client's stream.
@@ -92,6 +98,10 @@ impl<T: Clock> Scripted<'_, T> {
 }
 
 impl<T: Clock> OpenStream for Scripted<'_, T> {
+    fn shutdown(&self, _how: Shutdown) -> io::Result<()> {
+        Ok(())
+    }
+
     fn set_nodelay(&self, nodelay: bool) -> io::Result<()> {
         if !nodelay || self.client == Client::Unready {
             return Err(ErrorKind::InvalidInput.into());
@@ -114,6 +124,15 @@ impl<T: Clock> Read for Scripted<'_, T> {
     fn read(&mut self, buf: &mut [u8]) -> io::Result<usize> {
         if self.client == Client::Silent {
             return Err(ErrorKind::WouldBlock.into());
+        }
+        if let Client::Floods(pieces) = self.client {
+            thread::sleep(&self.script.clock, Duration::from_millis(1));
+            let reads = self.script.read_on.fetch_add(1, Ordering::SeqCst);
+            return Ok(if reads < pieces { buf.len() } else { 0 });
+        }
+        if self.is_read && self.client == Client::SendsOn {
+            self.script.read_on.fetch_add(1, Ordering::SeqCst);
+            return Ok(buf.len());
         }
         if self.is_read || buf.len() < CLOSE.len() {
             return Ok(0);
@@ -146,13 +165,15 @@ impl<T: Clock> Write for Scripted<'_, T> {
 }
 
 /// What became of a script: whether a client closed the desk, how many came, how many bytes of the
-/// answer were written, and how often a stream was to wait too long.
+/// answer were written, how often a stream was to wait too long, and how often it was read behind a
+/// close or in a line without a pause.
 #[derive(Clone, Copy, Debug, PartialEq, Eq)]
 struct Met {
     is_closed: bool,
     come: u64,
     written: u64,
     too_long: u64,
+    read_on: u64,
 }
 
 fn ended<T: Clock>(rt: &T, alloc: Global, clients: [Client; 6], patience: Patience) -> Met {
@@ -163,6 +184,7 @@ fn ended<T: Clock>(rt: &T, alloc: Global, clients: [Client; 6], patience: Patien
         refused: AtomicU64::new(0),
         written: AtomicU64::new(0),
         too_long: AtomicU64::new(0),
+        read_on: AtomicU64::new(0),
     };
     let listener = &script;
     let mut callers = Accepted::new(rt, &listener, patience);
@@ -173,6 +195,7 @@ fn ended<T: Clock>(rt: &T, alloc: Global, clients: [Client; 6], patience: Patien
         come: script.come.load(Ordering::SeqCst),
         written: script.written.load(Ordering::SeqCst),
         too_long: script.too_long.load(Ordering::SeqCst),
+        read_on: script.read_on.load(Ordering::SeqCst),
     }
 }
 
@@ -190,6 +213,7 @@ fn closed_as(come: u64) -> Met {
         come,
         written: CLOSED.len() as u64,
         too_long: 0,
+        read_on: 0,
     }
 }
 
@@ -200,6 +224,7 @@ fn broken_as(come: u64) -> Met {
         come,
         written: 0,
         too_long: 0,
+        read_on: 0,
     }
 }
 
@@ -238,6 +263,33 @@ fn a_reply_that_is_taken_slowly(rt: HostRuntime) -> Result<(), Fail> {
     short.reply = Duration::from_millis(100);
     let short = ended(&rt, rt.alloc(), clients, short);
     assert!(rt; short.is_closed && short.come == 2);
+    Ok(())
+}
+
+/// How often a client that has closed the desk and sends on is read, where that is waited for so long.
+fn read_on<T: Clock>(rt: &T, alloc: Global, discard: Duration) -> u64 {
+    let mut patience = patience();
+    patience.discard = discard;
+    ended(rt, alloc, [Client::SendsOn; 6], patience).read_on
+}
+
+/// Behind a close so much is read at the most, and nothing once its time is over.
+#[test]
+fn a_client_that_sends_on(rt: HostRuntime) -> Result<(), Fail> {
+    assert!(rt; read_on(&rt, rt.alloc(), Duration::from_secs(60)) == DISCARD_READS);
+    assert!(rt; read_on(&rt, rt.alloc(), Duration::from_secs(0)) == 0);
+    Ok(())
+}
+
+/// A line that comes without a pause is cut off once its time is over, and the next client is served.
+#[test]
+fn a_line_without_a_pause(rt: HostRuntime) -> Result<(), Fail> {
+    let mut clients = [Client::Closes; 6];
+    clients[0] = Client::Floods(1_000);
+    let mut short = patience();
+    short.line = Duration::from_millis(20);
+    let met = ended(&rt, rt.alloc(), clients, short);
+    assert!(rt; met.is_closed && met.come == 2 && met.read_on < 1_000);
     Ok(())
 }
 

@@ -316,12 +316,6 @@ fn slow_writers(rt: HostRuntime) -> Result<(), Fail> {
     Ok(())
 }
 
-#[test]
-fn laws_do_nothing() {
-    coord_lines::pieces_have_the_lines_of_the_whole();
-    coord_drill::worked_lines();
-}
-
 /// A script that holds so many resets of one node, and what is printed to it up to there.
 fn held_resets(alloc: Global, count: u16) -> Result<(String, String), AllocError> {
     let mut script = String::from_str(alloc, "add 1 1\nhold\n")?;

@@ -4,6 +4,10 @@
 #[cfg(test)]
 mod asking;
 #[cfg(test)]
+mod kill;
+#[cfg(test)]
+mod lives;
+#[cfg(test)]
 mod loopback;
 #[cfg(test)]
 mod memory;

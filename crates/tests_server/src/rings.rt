@@ -33,7 +33,8 @@ pub(crate) fn served<W: io::Write + Send + Drop, R: Threads + Wait + Clock + Syn
     Some(closed.store)
 }
 
-/// Has these lines answered, waits until so many nodes have signalled, and closes the server.
+/// Has these lines answered, waits until so many nodes have signalled, and closes the server, also
+/// where they have not: nothing else would end it. Whether they have.
 fn asks<R: Clock + Net<Stream = TcpStream, Listener = TcpListener>>(
     rt: &R,
     alloc: Global,
@@ -41,13 +42,16 @@ fn asks<R: Clock + Net<Stream = TcpStream, Listener = TcpListener>>(
     lines: &str,
     nodes: usize,
 ) -> io::Result<bool> {
-    ask(rt, alloc, address, lines)?;
-    Ok(all_signal(rt, alloc, address, nodes)? && is_closed(rt, alloc, address)?)
+    let asked = ask(rt, alloc, address, lines).is_ok();
+    let signalled = asked && matches!(all_signal(rt, alloc, address, nodes), Ok(true));
+    Ok(is_closed(rt, alloc, address)? && signalled)
 }
 
 /// Serves a store while a client has these lines answered, waits until so many nodes have signalled
 /// and closes the server. What is left of the store, and what was printed behind the address.
-fn runs<R: Threads + Wait + Clock + Net<Stream = TcpStream, Listener = TcpListener> + Sync>(
+pub(crate) fn runs<
+    R: Threads + Wait + Clock + Net<Stream = TcpStream, Listener = TcpListener> + Sync,
+>(
     rt: &R,
     alloc: Global,
     store: Store<MemDisk>,
@@ -79,7 +83,7 @@ fn signalled(line: &str) -> Option<u8> {
 }
 
 /// The nodes of all lines that are printed, if each tells a first signal.
-fn all_signalled(alloc: Global, printed: &[u8]) -> Option<Vec<u8>> {
+pub(crate) fn all_signalled(alloc: Global, printed: &[u8]) -> Option<Vec<u8>> {
     let mut nodes = Vec::new(alloc);
     for line in str::from_utf8(printed).ok()?.lines() {
         nodes.push(signalled(line)?).ok()?;
@@ -98,7 +102,7 @@ fn follows(before: &[u8], node: u8, last: u8) -> bool {
 }
 
 /// Whether this is a wave through a ring that was reset at this node.
-fn is_wave(nodes: &[u8], last: u8, first: u8) -> bool {
+pub(crate) fn is_wave(nodes: &[u8], last: u8, first: u8) -> bool {
     for i in 1..nodes.len() {
         if !follows(&nodes[..i], nodes[i], last) {
             return false;

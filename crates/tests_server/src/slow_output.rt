@@ -1,7 +1,7 @@
 //! An output that takes nothing for a while.
 
 use crate::asking::{all_signal, ask, is_closed, ring_lines};
-use crate::rings::{created, served};
+use crate::rings::{all_signalled, created, is_wave, served};
 use std::alloc::{AllocError, Global};
 use std::io::Write;
 use std::net::{Net, SocketAddr, TcpListener, TcpStream};
@@ -10,6 +10,10 @@ use std::test::Fail;
 use std::thread::Threads;
 use std::time::Clock;
 use std::{io, thread};
+
+/// The last node of the ring. The second half of it signals only where steps are settled behind
+/// signals that are not printed.
+const LAST: u8 = 4;
 
 /// Keeps what is written, and behind the first line takes nothing until it is let go.
 #[derive(Drop)]
@@ -46,7 +50,7 @@ fn asks<R: Wait + Clock + Net<Stream = TcpStream, Listener = TcpListener>>(
     changed: &Condvar,
 ) -> io::Result<bool> {
     let asked = ask(rt, alloc, address, lines).is_ok();
-    let shown = asked && all_signal(rt, alloc, address, 2)?;
+    let shown = asked && matches!(all_signal(rt, alloc, address, usize::from(LAST)), Ok(true));
     let closed = is_closed(rt, alloc, address);
     *is_let_go.lock(rt) = true;
     changed.notify_all();
@@ -60,7 +64,7 @@ fn is_printed_later<
 >(rt: &R, alloc: Global) -> Result<bool, Fail> {
     let listener = TcpListener::bind(rt, "127.0.0.1:0")?;
     let address = listener.local_addr()?;
-    let lines = ring_lines(alloc, 2, 1)?;
+    let lines = ring_lines(alloc, LAST, 1)?;
     let store = created(alloc).ok_or(AllocError)?;
     let (is_let_go, changed) = (Mutex::new(false), Condvar::new());
     let mut output = Held {
@@ -74,8 +78,12 @@ fn is_printed_later<
         || served(rt, alloc, store, &listener, &mut output),
         || asks(rt, alloc, address, &lines, &is_let_go, &changed),
     );
-    let wanted = format!(in alloc; "listening {address}\nsignal 1 1\nsignal 2 1\n")?;
-    Ok(left.is_some() && asked? && output.kept.as_slice() == wanted.as_bytes())
+    let listening = format!(in alloc; "listening {address}\n")?;
+    let nodes = match output.kept.strip_prefix(listening.as_bytes()) {
+        Some(signals) => all_signalled(alloc, signals).ok_or(AllocError)?,
+        None => Vec::new(alloc),
+    };
+    Ok(left.is_some() && asked? && is_wave(&nodes, LAST, 1))
 }
 
 /// Settling, answering, `show` and the answer to a close don't wait for an output that is slow.

@@ -30,7 +30,7 @@ fn gather<L: Count>(book: Book<L>, rest: Part<L>, shares: Vec<Share<L>>)
 }
 
 /// The steps from this place on.
-fn steps_from(trail: &[Step], start: usize) -> &[Step]
+pub fn steps_from(trail: &[Step], start: usize) -> &[Step]
     requires { start ≤ length trail.now }
     ensures { result.now ≡ drop start trail.now }
 {
@@ -83,6 +83,7 @@ impl<D: Disk, L: Origin> Guarded<D, L> {
             start: _,
             finishing: _,
             in_hand: _,
+            awaited: _,
         } = self;
         gather(book, rest, shares);
         match ledger.into_parts() {

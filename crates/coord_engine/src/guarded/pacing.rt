@@ -1,15 +1,38 @@
 //! When a flight starts (`specs/Pacing.antt`).
 //!
 //! `in_hand` counts the released packets that a port or a worker has in hand, as far as is known: a
-//! port may lose a packet or carry it twice. So it is a hint of when to start a flight, and no more.
+//! port may lose a packet or carry it twice. `awaited` is how many steps are likely to be pending
+//! soon: a caller that was answered may come again or not. So both are hints of when to start a
+//! flight, and no more.
 
-ghost use Rattle.std.specs.Prelude.{◌≡◌, ◌+◌, ◌-◌, ◌^◌, min};
-ghost use Rattle.coord_engine.specs.Pacing.{is_idle, is_over, starts_at_once, wakes_flusher, with_in_hand};
+ghost use Rattle.std.specs.Prelude.{◌≡◌, ◌+◌, ◌-◌, ◌^◌, min, take};
+ghost use Rattle.std.specs.List.{count_by};
+ghost use Rattle.coord_engine.specs.Pacing.{is_gathered, is_idle, is_order, is_over, leaving_orders, starts_at_once, wakes_flusher, with_awaited, with_callers_awaited, with_in_hand};
+ghost use Rattle.coord_ledger.specs.machine.Answers.{most_in_flight};
+ghost use Rattle.coord_ledger.specs.machine.Log.{pending};
 
 use super::Guarded;
+use super::closing::steps_from;
 use crate::Origin;
 use coord_disk::Disk;
-use coord_types::MAX_BATCH_STEPS;
+use coord_types::{MAX_BATCH_STEPS, Step};
+
+/// How many of these steps are orders.
+fn count_orders(steps: &[Step]) -> usize
+    ensures { result ≡ count_by is_order steps.now }
+{
+    steps
+        .iter()
+        .filter(|step| matches!(step, Step::Order(..)))
+        .count()
+}
+
+/// The first of these steps, as many as a flight takes.
+fn next_steps(steps: &[Step]) -> &[Step]
+    ensures { result.now ≡ take most_in_flight steps.now }
+{
+    &steps[..MAX_BATCH_STEPS.min(steps.len())]
+}
 
 impl<D: Disk, L: Origin> Guarded<D, L> {
     /// One more packet is handed over.
@@ -33,6 +56,36 @@ impl<D: Disk, L: Origin> Guarded<D, L> {
         self.in_hand = 0;
     }
 
+    /// The steps that are accepted and not settled.
+    fn pending_steps(&self) -> &[Step]
+        ensures { result.now ≡ pending self.now.ledger.log }
+    {
+        let trail = self.ledger.trail();
+        steps_from(trail, trail.len() - self.ledger.pending())
+    }
+
+    /// The orders are counted that leave with the next flight.
+    pub fn count_leaving(&mut self)
+        ensures { self.new ≡ with_awaited self.old (leaving_orders self.old) }
+    {
+        self.awaited = count_orders(next_steps(self.pending_steps())) as u64;
+    }
+
+    /// The flight is back: the callers whose orders left with it may come again, beside those whose
+    /// steps are pending.
+    pub fn await_callers(&mut self)
+        ensures { self.new ≡ with_callers_awaited self.old }
+    {
+        self.awaited = self.awaited.saturating_add(self.pending() as u64);
+    }
+
+    /// Callers were waited for long enough.
+    pub fn forget_awaited(&mut self)
+        ensures { self.new ≡ with_awaited self.old 0 }
+    {
+        self.awaited = 0;
+    }
+
     /// Whether nothing will be flushed any more.
     pub fn is_over(&self) -> bool
         ensures { result ≡ is_over self.now }
@@ -47,11 +100,18 @@ impl<D: Disk, L: Origin> Guarded<D, L> {
         !self.is_over() && (self.pending() == 0 || self.ledger.is_out())
     }
 
+    /// Whether nothing is waited for.
+    fn is_gathered(&self) -> bool
+        ensures { result ≡ is_gathered self.now }
+    {
+        self.in_hand == 0 && self.pending() as u64 >= self.awaited
+    }
+
     /// Whether a flight starts at once.
     pub fn starts_at_once(&self) -> bool
         ensures { result ≡ starts_at_once self.now }
     {
-        self.in_hand == 0 || self.pending() >= MAX_BATCH_STEPS || self.finishing
+        self.is_gathered() || self.pending() >= MAX_BATCH_STEPS || self.finishing
     }
 
     /// Whether a flusher that waits is to be woken.

@@ -1,16 +1,20 @@
 -- What the calls of a ledger make of it.
-use Rattle.std.specs.Prelude.{◌≡◌, ℕ, ◌+◌, Bool, List, [], take, is_some, Option, Some, None, Result}
+use Rattle.std.specs.Prelude.{◌≡◌, ℕ, ◌+◌, Bool, List, [], take, is_some, Option, Some, None, Result, Ok, Err}
 use Rattle.coord_disk.specs.Model.Present.{Present, IsImage}
 use Rattle.coord_types.specs.declared.refusals.Refusal.{Refusal}
 use Rattle.coord_types.specs.declared.refusals.Refusal.TheVariants.{OutOfMemory, Stranger}
+use Rattle.coord_types.specs.declared.steps.Kind.{Kind}
 use Rattle.coord_types.specs.declared.steps.Reply.{Reply}
 use Rattle.coord_types.specs.declared.steps.Step.{Step}
 use Rattle.coord_store.specs.Kept.{GivesEither}
 use Rattle.coord_store.specs.Recovered.{Recovered}
 use Rattle.coord_world.specs.declared.verdicts.Verdict.{Verdict}
-use Rattle.coord_world.specs.protocol.Next.{fold}
+use Rattle.coord_world.specs.declared.verdicts.Verdict.TheVariants.{Fresh, Repeat}
+use Rattle.coord_world.specs.protocol.Next.{fold, reply}
 use Rattle.coord_world.specs.protocol.NumberedWorld.{World}
 use Rattle.coord_world.specs.protocol.Outputs.{outs}
+use Rattle.coord_ledger.specs.declared.handed.Handed.{Handed}
+use Rattle.coord_ledger.specs.declared.handed.Handed.TheVariants as handed
 use Rattle.coord_ledger.specs.declared.mark.Mark.{Mark}
 use Rattle.coord_ledger.specs.declared.mark.Mark.TheVariants.{New, Good, Torn}
 use Rattle.coord_ledger.specs.declared.release.Release.{Release}
@@ -18,7 +22,7 @@ use Rattle.coord_ledger.specs.ledger.Follows.{IsOut}
 use Rattle.coord_ledger.specs.ledger.State.{Claim, FlightState, LedgerState}
 use Rattle.coord_ledger.specs.machine.After.{releases_of}
 use Rattle.coord_ledger.specs.machine.Answers.{most_in_flight, stays_home}
-use Rattle.coord_ledger.specs.machine.Log.{Log, pending, settled_count, settled_world, with_settled, with_step, world_after}
+use Rattle.coord_ledger.specs.machine.Log.{Log, front_world, pending, settled_count, settled_world, with_settled, with_step, world_after}
 use Rattle.coord_ledger.specs.machine.Submits.{verdict}
 
 -- that this step has this reply
@@ -32,6 +36,23 @@ said l s = verdict (is_some l.doubt) l.log s
 -- with one more step accepted
 abbrev pub with_accepted : {D : Type 0} → LedgerState D → Step → LedgerState D
 with_accepted l s = record { log = with_step l.log s; out = l.out; doubt = l.doubt; disk = l.disk }
+
+-- the claim of the ticket that was given
+abbrev pub claim_of : Handed → Claim
+claim_of (handed.Accepted claim) = claim
+claim_of (handed.Repeated claim) = claim
+
+-- why no ticket was given: as it says to the step, or a fresh one finds no memory
+abbrev pub RefusesStep : Refusal → Result Verdict Refusal → Type 0
+RefusesStep refusal (Ok (Fresh kind)) = refusal ≡ OutOfMemory
+RefusesStep refusal (Ok (Repeat reply)) = ⊥
+RefusesStep refusal (Err why) = refusal ≡ why
+
+-- a step that is handed in: a fresh one is accepted, a repeat is no step
+abbrev pub HandedTo : {D : Type 0} → LedgerState D → Step → Result Handed Refusal → LedgerState D → Type 0
+HandedTo l s (Ok (handed.Accepted claim)) new = (kind : Kind) × ((said l s ≡ Ok (Fresh kind)) × ((claim ≡ claimed s (reply (front_world l.log) s)) × (new ≡ with_accepted l s)))
+HandedTo l s (Ok (handed.Repeated claim)) new = (kept : Reply) × ((said l s ≡ Ok (Repeat kept)) × ((claim ≡ claimed s kept) × (new ≡ l)))
+HandedTo l s (Err refusal) new = RefusesStep refusal (said l s) × (new ≡ l)
 
 -- no flight goes out of it
 abbrev pub keeps_store : {D : Type 0} → LedgerState D → Bool

@@ -9,24 +9,22 @@ ghost use Rattle.coord_ledger.specs.machine.Machine.{Machine};
 ghost use Rattle.coord_ledger.specs.promises.Headline.{IsCutShort, found_by_crash};
 ghost use Rattle.coord_ledger.specs.promises.Moments.{touches_disk};
 
-use super::crashes::disk_of;
-use super::driver::Driver;
 use super::flights::Broken;
 use super::released::forget_all;
+use super::run::Run;
 use crate::{Answer, Event, RunFaultKind};
 use coord_disk::CrashDisk;
 use std::alloc::Global;
 
-impl<D: CrashDisk> Driver<D> {
+impl<D: CrashDisk> Run<D> {
     /// Gives up all but what was released, for want of memory.
     pub fn lose(self) -> Broken<D>
         ensures kind { result.kind ≡ OutOfMemory }
         ensures released { result.released.items ≡ self.released }
         ensures disk { disk_held self ≡ Some result.disk }
     {
-        let Driver {
-            ledger,
-            flight,
+        let Run {
+            driver,
             tickets,
             seen: _,
             released,
@@ -35,7 +33,7 @@ impl<D: CrashDisk> Driver<D> {
         Broken {
             kind: RunFaultKind::OutOfMemory,
             released,
-            disk: disk_of(ledger, flight),
+            disk: driver.into_disk(),
         }
     }
 

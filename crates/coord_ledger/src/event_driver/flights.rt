@@ -9,12 +9,10 @@ ghost use Rattle.coord_ledger.specs.machine.Consistent.{IsConsistent};
 ghost use Rattle.coord_ledger.specs.machine.Machine.{Machine};
 ghost use Rattle.coord_ledger.specs.promises.Headline.{IsCutShort};
 
-use super::crashes::disk_of;
-use super::driver::Driver;
 use super::released::{forget_all, push_releases};
+use super::run::Run;
 use crate::{Answer, Release, RunFault, RunFaultKind, Trace};
 use coord_disk::CrashDisk;
-use coord_types::Refusal;
 
 /// Why an event was not answered, what was released until then, and the disk.
 pub struct Broken<D: CrashDisk> {
@@ -41,38 +39,21 @@ impl<D: CrashDisk> Broken<D> {
     }
 }
 
-impl<D: CrashDisk> Driver<D> {
+impl<D: CrashDisk> Run<D> {
     /// A flight goes out. While one is out, none does.
     pub fn begin(self) -> (Answer, Self)
         ensures answered { (s : Machine) → IsConsistent s → Follows self s → FollowsTo s Begin result.0 result.1 }
         ensures disk { disk_held result.1 ≡ disk_held self }
     {
-        let Driver {
-            mut ledger,
-            flight,
+        let Run {
+            driver,
             tickets,
             seen,
             released,
         } = self;
-        if let Some(flight) = flight {
-            let flight = Some(flight);
-            let held = Driver {
-                ledger,
-                flight,
-                tickets,
-                seen,
-                released,
-            };
-            return (Answer::Nothing, held);
-        }
-        let (answer, flight) = match ledger.begin_flush() {
-            Ok(Some(flight)) => (Answer::Begun(flight.steps.len() as u64), Some(flight)),
-            Ok(None) => (Answer::Nothing, None),
-            Err(_) => (Answer::Refused(Refusal::OutOfMemory), None),
-        };
-        let held = Driver {
-            ledger,
-            flight,
+        let (answer, driver) = driver.begin();
+        let held = Run {
+            driver,
             tickets,
             seen,
             released,
@@ -86,41 +67,30 @@ impl<D: CrashDisk> Driver<D> {
         ensures disk { MatchResult result (λ held. disk_held held.1 ≡ disk_held self) (λ broken. disk_held self ≡ Some broken.disk) }
         ensures kind { IfErr result (λ broken. broken.kind ≡ OutOfMemory) }
     {
-        let Driver {
-            mut ledger,
-            flight,
+        let Run {
+            driver,
             tickets,
             seen,
             mut released,
         } = self;
-        let Some(flight) = flight else {
-            let held = Driver {
-                ledger,
-                flight: None,
-                tickets,
-                seen,
-                released,
-            };
-            return Ok((Answer::NoFlight, held));
-        };
-        let (answer, flight) = match ledger.end_flush(flight) {
-            Ok(releases) => {
+        let (landed, driver) = driver.finish();
+        let answer = match landed {
+            Ok(None) => Answer::NoFlight,
+            Ok(Some(releases)) => {
                 if push_releases(&mut released, releases).is_err() {
                     forget_all(tickets);
                     return Err(Broken {
                         kind: RunFaultKind::OutOfMemory,
                         released,
-                        disk: disk_of(ledger, None),
+                        disk: driver.into_disk(),
                     });
                 }
-                ledger.log_is_consistent();
-                (Answer::Finished(ledger.settled().count()), None)
+                Answer::Finished(driver.ledger().settled_count())
             }
-            Err((refusal, flight)) => (Answer::Refused(refusal), Some(flight)),
+            Err(refusal) => Answer::Refused(refusal),
         };
-        let held = Driver {
-            ledger,
-            flight,
+        let held = Run {
+            driver,
             tickets,
             seen,
             released,

@@ -6,11 +6,11 @@ ghost use Rattle.coord_types.specs.declared.refusals.Refusal.{Refusal as Why};
 ghost use Rattle.coord_types.specs.declared.steps.Kind.{Kind as Sort};
 ghost use Rattle.coord_types.specs.declared.steps.Reply.{Reply as Answered};
 ghost use Rattle.coord_world.specs.protocol.Next.{reply};
-ghost use Rattle.coord_ledger.specs.ledger.Calls.{claimed, said, with_accepted};
+ghost use Rattle.coord_ledger.specs.ledger.Calls.{HandedTo, claimed, said, with_accepted};
 ghost use Rattle.coord_ledger.specs.machine.Log.{front_world};
 
 use super::Ledger;
-use crate::Ticket;
+use crate::{Handed, Ticket};
 use coord_disk::Disk;
 use coord_types::{Kind, MAX_PENDING, Refusal, Reply, Step};
 use coord_world::Verdict;
@@ -50,6 +50,23 @@ impl<D: Disk> Ledger<D> {
         Ok(outcome.reply)
     }
 
+    /// Hands a step in: [`Ledger::submit`], and says whether the step is new.
+    ///
+    /// A client's last order that comes again is no step, and is told apart here alone. It refuses
+    /// as `submit` does.
+    pub fn hand_in(&mut self, step: Step) -> Result<Handed, Refusal>
+        ensures { HandedTo self.old step result self.new }
+    {
+        match self.judge(&step) {
+            Ok(Verdict::Fresh(kind)) => match self.accept(step, kind) {
+                Ok(reply) => Ok(Handed::Accepted(Ticket::of(step, reply))),
+                Err(_) => Err(Refusal::OutOfMemory),
+            },
+            Ok(Verdict::Repeat(reply)) => Ok(Handed::Repeated(Ticket::of(step, reply))),
+            Err(refusal) => Err(refusal),
+        }
+    }
+
     /// Accepts a step, and gives a ticket for its reply. A client's last order that comes again is
     /// no step: its ticket is for the reply that was kept.
     ///
@@ -62,12 +79,8 @@ impl<D: Disk> Ledger<D> {
         ensures refused { (why : Why) → said self.old step ≡ Err why → result ≡ Err why }
         ensures unchanged { OnErr result (self.new ≡ self.old) }
     {
-        match self.judge(&step) {
-            Ok(Verdict::Fresh(kind)) => match self.accept(step, kind) {
-                Ok(reply) => Ok(Ticket::of(step, reply)),
-                Err(_) => Err(Refusal::OutOfMemory),
-            },
-            Ok(Verdict::Repeat(reply)) => Ok(Ticket::of(step, reply)),
+        match self.hand_in(step) {
+            Ok(handed) => Ok(handed.ticket()),
             Err(refusal) => Err(refusal),
         }
     }

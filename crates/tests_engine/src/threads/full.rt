@@ -11,16 +11,18 @@ use std::thread;
 use std::time::{Clock, Duration};
 
 /// How many steps may be pending.
-const MOST: u64 = 1_024;
+pub(super) const MOST: u64 = 1_024;
 
 /// The node that is added and removed, by the client with its number.
 const OTHER: u8 = 9;
 
-// Whether the engine accepts just as many steps as may be pending, and refuses the next one.
-fn is_filled<D: Disk, L: Origin, R: Wait>(
+/// Whether the engine accepts steps up to the one with this number, which it refuses since as many are
+/// pending as may be.
+pub(super) fn is_filled<D: Disk, L: Origin, R: Wait>(
     rt: &R,
     engine: &Engine<D, L>,
     share: &mut Share<L>,
+    refused: u64,
 ) -> bool {
     for number in 1..=MOST + 1 {
         let step = if number % 2 == 1 {
@@ -33,7 +35,7 @@ fn is_filled<D: Disk, L: Origin, R: Wait>(
         };
         match engine.submit(rt, step, share) {
             Ok(ticket) => ticket.forget(),
-            Err(refusal) => return refusal == Refusal::PendingFull && number == MOST + 1,
+            Err(refusal) => return refusal == Refusal::PendingFull && number == refused,
         }
     }
     false
@@ -64,7 +66,7 @@ pub(super) fn is_met_full<D: Disk, L: Origin, R: Wait + Clock>(
         Ok(Some(releases)) => releases,
         Ok(None) | Err(_) => return false,
     };
-    let is_full = is_filled(rt, engine, share);
+    let is_full = is_filled(rt, engine, share, MOST + 1);
     let count = hand_over(rt, engine, ring, releases);
     count > 0 && have_received(rt, ring) && is_full
 }

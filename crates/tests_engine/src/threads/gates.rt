@@ -2,6 +2,7 @@
 
 ghost use Rattle.std.specs.Prelude.{◌≡◌};
 
+use super::full::{MOST, is_filled};
 use crate::scripts::{adding, created, engine};
 use coord_disk::{Disk, GateDisk, MemDisk};
 use coord_engine::{Engine, Origin, Share};
@@ -37,7 +38,8 @@ fn is_accepted<D: Disk, L: Origin, R: Wait>(
     }
 }
 
-// Whether a step is accepted while a sync stands at the gate, which is opened then.
+// Whether as many steps as may be pending are accepted while a sync stands at the gate, and no more.
+// It is opened then.
 fn is_accepted_meanwhile<D: Disk, L: Origin, R: Wait>(
     rt: &R,
     engine: &Engine<D, L>,
@@ -48,9 +50,9 @@ fn is_accepted_meanwhile<D: Disk, L: Origin, R: Wait>(
     let mut share = share;
     for _ in 0..LOOKS {
         if entered.load(Ordering::SeqCst) {
-            let accepted = is_accepted(rt, engine, &mut share, 2);
+            let filled = is_filled(rt, engine, &mut share, MOST);
             answered.store(true, Ordering::SeqCst);
-            return accepted;
+            return filled;
         }
     }
     false
@@ -67,7 +69,7 @@ fn flushes<D: Disk, L: Origin, R: Wait>(rt: &R, engine: &Engine<D, L>) -> bool {
     }
 }
 
-// Whether one thread's step is settled, and another's accepted meanwhile.
+// Whether one thread's step is settled, and another's are accepted meanwhile.
 fn is_accepted_in_sync<D: Disk + Send, L: Origin + Send + Sync, R: Threads + Wait + Sync>(
     rt: &R,
     engine: &Engine<D, L>,

@@ -1,5 +1,6 @@
-use Rattle.std.proofs.Common.{◌≡◌, ◌+◌, ◌++◌, ◌∷◌, [], length, false, Ok, Err, refl, sym, ap, ◌∙◌, subst, arith, rules}
+use Rattle.std.proofs.Common.{◌≡◌, ◌+◌, [], length, false, Ok, Err, refl, sym, ap, ◌∙◌, subst, arith, rules}
 use Rattle.std.specs.Prelude.{OnOk, Result, is_err}
+use Rattle.coord_ledger.specs.ledger.Driven.{Driven}
 use Rattle.coord_ledger.specs.ledger.Driver.{IsEventFault, model_of}
 use Rattle.coord_ledger.specs.ledger.State.{started}
 use Rattle.coord_ledger.specs.promises.Headline.{IsCutShort, Ran}
@@ -15,14 +16,14 @@ on_ok_gives (Err e) fine x = let no : ⊥ = cc in absurd no
 
 pub loop-at-init : goal.loop-at-init
 loop-at-init g c = record {
-  underway = underway_first g.D.Disk.present g.D.Disk.clock g.D.Disk.left_since g.D.CrashDisk.crashes g.D.Disk.keeps_model c.args.ledger c.args.events.now _ _ c.requires.home c.requires.going c.log_is_consistent.ensures.log refl refl (search rules) (search rules) (search rules) (cc) c.survives.ensures;
+  underway = underway_first g.D.Disk.present g.D.Disk.clock g.D.Disk.left_since g.D.CrashDisk.crashes g.D.Disk.keeps_model c.args.ledger c.args.events.now _ _ c.requires.home c.requires.going c.log_is_consistent.ensures.log (ap (λ (d : Driven g.row.D.Denot). d.ledger) c.over.ensures) (ap (λ (d : Driven g.row.D.Denot). d.flight) c.over.ensures) (search rules) (search rules) (search rules) (cc) c.survives.ensures;
   room = let fine : is_err c.reserve.result ≡ false = search rules in let room = on_ok_gives c.reserve.result fine c.reserve.ensures.ok in omega (arith, room);
 }
 
 pub returns-then-is_err-clause-broke : goal.returns-then-is_err-clause-broke
 returns-then-is_err-clause-broke g c =
     broke_first g.D.Disk.present g.D.Disk.clock g.D.Disk.left_since g.D.CrashDisk.crashes g.D.Disk.keeps_model c.args.ledger c.args.events.now c.at.result.at c.at.result.trace.answers.items _ c.at.result.trace.released.items c.lose.result.disk c.at.ensures.at (cc) (c.at.ensures.released ∙ c.lose.ensures.released) c.lose.ensures.disk
-    (underway_first g.D.Disk.present g.D.Disk.clock g.D.Disk.left_since g.D.CrashDisk.crashes g.D.Disk.keeps_model c.args.ledger c.args.events.now [] _ c.requires.home c.requires.going c.log_is_consistent.ensures.log refl refl (search rules) (search rules) (search rules) refl c.survives.ensures)
+    (underway_first g.D.Disk.present g.D.Disk.clock g.D.Disk.left_since g.D.CrashDisk.crashes g.D.Disk.keeps_model c.args.ledger c.args.events.now [] _ c.requires.home c.requires.going c.log_is_consistent.ensures.log (ap (λ (d : Driven g.row.D.Denot). d.ledger) c.over.ensures) (ap (λ (d : Driven g.row.D.Denot). d.flight) c.over.ensures) (search rules) (search rules) (search rules) refl c.survives.ensures)
 
 pub returns-in-Err-clause-broke : goal.returns-in-Err-clause-broke
 returns-in-Err-clause-broke g c =

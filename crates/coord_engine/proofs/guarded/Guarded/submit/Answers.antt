@@ -8,7 +8,7 @@ use Rattle.coord_engine.proofs.guarded.Guarded.submit.Goals as goal
 
 pub returns-in-Err-clause-answer : goal.returns-in-Err-clause-answer
 returns-in-Err-clause-answer g c =
-    let inside : GuardedState g.row.D.Denot = record { ledger = c.self.inside.ledger; start = c.self.inside.start; noted = c.self.inside.book.total; given = c.self.inside.given; finishing = c.self.inside.finishing; in_hand = c.self.inside.in_hand } in
+    let inside : GuardedState g.row.D.Denot = record { ledger = c.self.inside.ledger; start = c.self.inside.start; noted = c.self.inside.book.total; given = c.self.inside.given; finishing = c.self.inside.finishing; in_hand = c.self.inside.in_hand; awaited = c.self.inside.awaited } in
     let going : c.self.inside.finishing ≡ false = search rules in
     let notes = c.mine.inside.notes.items in
     let later = c.submit.new.self in
@@ -19,7 +19,7 @@ returns-in-Err-clause-answer g c =
 
 pub returns-then-trail-before-clause-answer : goal.returns-then-trail-before-clause-answer
 returns-then-trail-before-clause-answer g c =
-    let inside : GuardedState g.row.D.Denot = record { ledger = c.self.inside.ledger; start = c.self.inside.start; noted = c.self.inside.book.total; given = c.self.inside.given; finishing = c.self.inside.finishing; in_hand = c.self.inside.in_hand } in
+    let inside : GuardedState g.row.D.Denot = record { ledger = c.self.inside.ledger; start = c.self.inside.start; noted = c.self.inside.book.total; given = c.self.inside.given; finishing = c.self.inside.finishing; in_hand = c.self.inside.in_hand; awaited = c.self.inside.awaited } in
     let going : c.self.inside.finishing ≡ false = search rules in
     let notes = c.mine.inside.notes.items in
     let later = c.submit.new.self in
@@ -31,7 +31,7 @@ returns-then-trail-before-clause-answer g c =
 
 pub invariant_of-self-then-trail-before : goal.invariant_of-self-then-trail-before
 invariant_of-self-then-trail-before g c =
-    let inside : GuardedState g.row.D.Denot = record { ledger = c.self.inside.ledger; start = c.self.inside.start; noted = c.self.inside.book.total; given = c.self.inside.given; finishing = c.self.inside.finishing; in_hand = c.self.inside.in_hand } in
+    let inside : GuardedState g.row.D.Denot = record { ledger = c.self.inside.ledger; start = c.self.inside.start; noted = c.self.inside.book.total; given = c.self.inside.given; finishing = c.self.inside.finishing; in_hand = c.self.inside.in_hand; awaited = c.self.inside.awaited } in
     let later = c.submit.new.self in
     let v = said inside.ledger c.args.step in
     let by : LedgerAnswers c.args.step v inside.ledger later (Ok c.in-Ok.ticket) = record { fresh = c.in-Ok.ensures.fresh; repeated = c.in-Ok.ensures.repeated; refused = c.in-Ok.ensures.refused; unchanged = c.in-Ok.ensures.unchanged } in
@@ -43,7 +43,7 @@ invariant_of-self-then-trail-before g c =
 
 pub invariant_of-self-2 : goal.invariant_of-self-2
 invariant_of-self-2 g c =
-    let inside : GuardedState g.row.D.Denot = record { ledger = c.self.inside.ledger; start = c.self.inside.start; noted = c.self.inside.book.total; given = c.self.inside.given; finishing = c.self.inside.finishing; in_hand = c.self.inside.in_hand } in
+    let inside : GuardedState g.row.D.Denot = record { ledger = c.self.inside.ledger; start = c.self.inside.start; noted = c.self.inside.book.total; given = c.self.inside.given; finishing = c.self.inside.finishing; in_hand = c.self.inside.in_hand; awaited = c.self.inside.awaited } in
     let notes = c.mine.inside.notes.items in
     let later = c.submit.new.self in
     let v = said inside.ledger c.args.step in
@@ -58,7 +58,7 @@ invariant_of-self-2 g c =
 
 pub returns-clause-answer : goal.returns-clause-answer
 returns-clause-answer g c =
-    let inside : GuardedState g.row.D.Denot = record { ledger = c.self.inside.ledger; start = c.self.inside.start; noted = c.self.inside.book.total; given = c.self.inside.given; finishing = c.self.inside.finishing; in_hand = c.self.inside.in_hand } in
+    let inside : GuardedState g.row.D.Denot = record { ledger = c.self.inside.ledger; start = c.self.inside.start; noted = c.self.inside.book.total; given = c.self.inside.given; finishing = c.self.inside.finishing; in_hand = c.self.inside.in_hand; awaited = c.self.inside.awaited } in
     let going : c.self.inside.finishing ≡ false = search rules in
     let notes = c.mine.inside.notes.items in
     let later = c.submit.new.self in

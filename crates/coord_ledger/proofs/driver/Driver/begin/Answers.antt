@@ -1,0 +1,70 @@
+use Rattle.std.proofs.Common.{◌≡◌, length, Option, Some, None, Ok, refl, sym, ap, ◌∙◌, subst, rules}
+use Rattle.coord_types.specs.declared.refusals.Refusal.TheVariants.{OutOfMemory}
+use Rattle.coord_ledger.specs.declared.events.Answer.{Answer}
+use Rattle.coord_ledger.specs.declared.events.Answer.TheVariants.{Begun, Nothing, Refused}
+use Rattle.coord_ledger.specs.declared.events.Event.TheVariants.{Begin}
+use Rattle.coord_ledger.specs.ledger.Driven.{Driven, SendsOut, at_home, held}
+use Rattle.coord_ledger.specs.ledger.Follows.{Follows, FollowsTo, HoldsFlight}
+use Rattle.coord_ledger.specs.ledger.State.{FlightState, LedgerState}
+use Rattle.coord_ledger.proofs.Calling.{follows_next}
+use Rattle.coord_ledger.proofs.FollowingFlights.{follows_not_begun, follows_nothing}
+use Rattle.coord_ledger.proofs.RunningFlights.{begun_err, begun_none, begun_some, begun_to, departs_own}
+use Rattle.coord_ledger.proofs.driver.Driver.begin.Goals as goal
+use Rattle.coord_ledger.proofs.driver.Driver.begin.Goals.{in-Ok-Some, in-Ok-None, in-Err}
+
+pub invariant_of-result-2 : goal.invariant_of-result-2
+invariant_of-result-2 g c =
+    let home : c.self.inside.ledger.out ≡ None = subst (HoldsFlight c.self.inside.ledger) c.in_default.is c.self.invariant in
+    elim c.match-begin_flush.branch [
+      | in-Ok-Some w ↦
+          let departs = begun_some c.self.inside.ledger c.begin_flush.new.self c.begin_flush.result c.begin_flush.ensures.nothing c.begin_flush.ensures.begun w.in-Ok-Some.flight (w.in-Ok-Some.is ∙ ap Ok w.in-Ok-Some.field-0-is) in
+          subst (λ (p : Answer × Option (FlightState g.row.D.Denot)). HoldsFlight c.begin_flush.new.self p.1) (sym w.answer-is) (departs_own c.self.inside.ledger c.begin_flush.new.self w.in-Ok-Some.flight departs.1)
+      | in-Ok-None w ↦
+          let stays = begun_none c.self.inside.ledger c.begin_flush.new.self c.begin_flush.result c.begin_flush.ensures.nothing c.begin_flush.ensures.begun (w.in-Ok-None.is ∙ ap Ok w.in-Ok-None.field-0-is) in
+          subst (λ (p : Answer × Option (FlightState g.row.D.Denot)). HoldsFlight c.begin_flush.new.self p.1) (sym w.answer-is) (ap (λ (l : LedgerState g.row.D.Denot). l.out) stays.1 ∙ home)
+      | in-Err w ↦
+          subst (λ (p : Answer × Option (FlightState g.row.D.Denot)). HoldsFlight c.begin_flush.new.self p.1) (sym w.answer-is) (ap (λ (l : LedgerState g.row.D.Denot). l.out) w.in-Err.ensures.err ∙ home)
+    ]
+
+pub returns-clause-answered : goal.returns-clause-answered
+returns-clause-answered g c b s is follows =
+    let inside : Follows _ s = subst (λ (d : Driven g.row.D.Denot). Follows (held d b) s) (sym c.self.view_is) follows in
+    let empty : Follows (held (at_home c.self.inside.ledger) b) s = subst (λ o. Follows {D = g.row.D.Denot} (held (record { ledger = c.self.inside.ledger; flight = o }) b) s) c.in_default.is inside in
+    let To : Answer × Option (FlightState g.row.D.Denot) → Type 0 = λ p. FollowsTo s Begin p.0 (held (record { ledger = c.begin_flush.new.self; flight = p.1 }) b) in
+    elim c.match-begin_flush.branch [
+      | in-Ok-Some w ↦
+          let departs = begun_some c.self.inside.ledger c.begin_flush.new.self c.begin_flush.result c.begin_flush.ensures.nothing c.begin_flush.ensures.begun w.in-Ok-Some.flight (w.in-Ok-Some.is ∙ ap Ok w.in-Ok-Some.field-0-is) in
+          let many : w.len.result ≡ length w.flight.inside.steps.items = search rules in
+          let size : w.len.result ≡ length w.in-Ok-Some.flight.steps = many ∙ ap (λ (f : FlightState g.row.D.Denot). length f.steps) w.flight.view_is in
+          subst To (sym w.answer-is)
+          (subst (λ n. To (Begun n, Some w.in-Ok-Some.flight)) (sym size)
+          (follows_next _ s w.in-Ok-Some.flight c.begin_flush.new.self is empty departs.0 departs.1.0 departs.1.2))
+      | in-Ok-None w ↦
+          let stays = begun_none c.self.inside.ledger c.begin_flush.new.self c.begin_flush.result c.begin_flush.ensures.nothing c.begin_flush.ensures.begun (w.in-Ok-None.is ∙ ap Ok w.in-Ok-None.field-0-is) in
+          subst To (sym w.answer-is)
+          (subst (λ l. FollowsTo s Begin Nothing (held (at_home l) b)) (sym stays.1)
+          (follows_nothing _ s is empty stays.0))
+      | in-Err w ↦
+          let goes = begun_err c.self.inside.ledger c.begin_flush.new.self c.begin_flush.result c.begin_flush.ensures.nothing c.begin_flush.ensures.begun _ w.in-Err.is in
+          subst To (sym w.answer-is)
+          (subst (λ l. FollowsTo s Begin (Refused OutOfMemory) (held (at_home l) b)) (sym w.in-Err.ensures.err)
+          (follows_not_begun _ s is empty goes))
+    ]
+
+pub returns-clause-sent : goal.returns-clause-sent
+returns-clause-sent g c none =
+    let To : Answer × Option (FlightState g.row.D.Denot) → Type 0 = λ p. SendsOut c.self.inside.ledger p.0 (record { ledger = c.begin_flush.new.self; flight = p.1 }) in
+    subst (λ (d : Driven g.row.D.Denot). SendsOut d.ledger c.match-begin_flush.answer.0 (record { ledger = c.begin_flush.new.self; flight = c.match-begin_flush.answer.1 })) c.self.view_is
+    (elim c.match-begin_flush.branch [
+      | in-Ok-Some w ↦
+          let departs = begun_some c.self.inside.ledger c.begin_flush.new.self c.begin_flush.result c.begin_flush.ensures.nothing c.begin_flush.ensures.begun w.in-Ok-Some.flight (w.in-Ok-Some.is ∙ ap Ok w.in-Ok-Some.field-0-is) in
+          let many : w.len.result ≡ length w.flight.inside.steps.items = search rules in
+          let size : w.len.result ≡ length w.in-Ok-Some.flight.steps = many ∙ ap (λ (f : FlightState g.row.D.Denot). length f.steps) w.flight.view_is in
+          subst To (sym w.answer-is)
+          (subst (λ n. To (Begun n, Some w.in-Ok-Some.flight)) (sym size)
+          (departs.0, (w.in-Ok-Some.flight.disk, (departs.1.1, begun_to c.self.inside.ledger c.begin_flush.new.self w.in-Ok-Some.flight departs.1))))
+      | in-Ok-None w ↦
+          let stays = begun_none c.self.inside.ledger c.begin_flush.new.self c.begin_flush.result c.begin_flush.ensures.nothing c.begin_flush.ensures.begun (w.in-Ok-None.is ∙ ap Ok w.in-Ok-None.field-0-is) in
+          subst To (sym w.answer-is) (stays.0, ap at_home stays.1)
+      | in-Err w ↦ subst To (sym w.answer-is) (refl, ap at_home w.in-Err.ensures.err)
+    ])

@@ -1,0 +1,49 @@
+use Rattle.std.proofs.Common.{◌≡◌, Some, false, refl, sym, ap, ◌∙◌, subst}
+use Rattle.coord_ledger.specs.declared.events.Answer.{Answer}
+use Rattle.coord_ledger.specs.declared.events.Event.TheVariants.{Commit}
+use Rattle.coord_ledger.specs.ledger.Driver.{HeldTouches, disk_with}
+use Rattle.coord_ledger.specs.ledger.Driven.{CommitsTo, Driven, disk_driven, held}
+use Rattle.coord_ledger.specs.promises.Headline.{found_by_crash}
+use Rattle.coord_ledger.specs.promises.Moments.{touches_disk}
+use Rattle.coord_ledger.proofs.Moments.{commit_touches, held_untouched, told}
+use Rattle.coord_ledger.proofs.RunningFlights.{committed}
+use Rattle.coord_ledger.proofs.driver.Driver.commit.Goals as goal
+use Rattle.coord_ledger.proofs.driver.Driver.commit.Goals.{in-None, in-Some+in-Ok, in-Some+in-Err}
+
+pub returns-clause-disk : goal.returns-clause-disk
+returns-clause-disk g c b s is follows = elim c.match-self.branch [
+  | in-None w ↦
+      subst (λ a. HeldTouches {D = g.row.D.Denot} g.D.Disk.keeps_model g.D.Disk.present g.D.Disk.clock g.D.Disk.left_since g.D.CrashDisk.crashes (found_by_crash s Commit a) (touches_disk Commit a) Commit (held c.args.self.now b) (held (record { ledger = c.match-self.self-inside.ledger; flight = c.match-self.self-inside.flight }) b)) (sym w.result-is)
+      (held_untouched g.D.Disk.present g.D.Disk.clock g.D.Disk.left_since g.D.CrashDisk.crashes g.D.Disk.keeps_model g.met.D.Disk.only_now s false Commit (held c.args.self.now b) (held (record { ledger = c.match-self.self-inside.ledger; flight = c.match-self.self-inside.flight }) b) refl
+      ((λ i. disk_with (w.self-inside-is i).ledger.disk (w.self-inside-is i).flight) ∙ ap disk_driven c.self.view_is) (c.survives.ensures b s is follows))
+  | in-Some+in-Ok w ↦
+      subst (λ a. HeldTouches {D = g.row.D.Denot} g.D.Disk.keeps_model g.D.Disk.present g.D.Disk.clock g.D.Disk.left_since g.D.CrashDisk.crashes (found_by_crash s Commit a) (touches_disk Commit a) Commit (held c.args.self.now b) (held (record { ledger = c.match-self.self-inside.ledger; flight = c.match-self.self-inside.flight }) b)) (ap told w.in-Ok.is ∙ sym w.result-is)
+      (commit_touches g.D.Disk.present g.D.Disk.clock g.D.Disk.left_since g.D.CrashDisk.crashes g.D.Disk.keeps_model g.met.D.Disk.only_now (held c.args.self.now b) s w.in-Some.flight w.commit.new.self is follows
+      (sym (ap (λ (d : Driven g.row.D.Denot). d.flight) c.self.view_is) ∙ w.in-Some.is) (c.survives.ensures b s is follows) (held (record { ledger = c.match-self.self-inside.ledger; flight = c.match-self.self-inside.flight }) b)
+      (λ i. disk_with (w.self-inside-is i).ledger.disk (w.self-inside-is i).flight) w.commit.result
+      w.commit.ensures.any_moment w.commit.ensures.any_moment_refused w.commit.ensures.tried w.commit.ensures.again w.commit.ensures.stopped)
+  | in-Some+in-Err w ↦
+      subst (λ a. HeldTouches {D = g.row.D.Denot} g.D.Disk.keeps_model g.D.Disk.present g.D.Disk.clock g.D.Disk.left_since g.D.CrashDisk.crashes (found_by_crash s Commit a) (touches_disk Commit a) Commit (held c.args.self.now b) (held (record { ledger = c.match-self.self-inside.ledger; flight = c.match-self.self-inside.flight }) b)) (ap told w.in-Err.is ∙ sym w.result-is)
+      (commit_touches g.D.Disk.present g.D.Disk.clock g.D.Disk.left_since g.D.CrashDisk.crashes g.D.Disk.keeps_model g.met.D.Disk.only_now (held c.args.self.now b) s w.in-Some.flight w.commit.new.self is follows
+      (sym (ap (λ (d : Driven g.row.D.Denot). d.flight) c.self.view_is) ∙ w.in-Some.is) (c.survives.ensures b s is follows) (held (record { ledger = c.match-self.self-inside.ledger; flight = c.match-self.self-inside.flight }) b)
+      (λ i. disk_with (w.self-inside-is i).ledger.disk (w.self-inside-is i).flight) w.commit.result
+      w.commit.ensures.any_moment w.commit.ensures.any_moment_refused w.commit.ensures.tried w.commit.ensures.again w.commit.ensures.stopped)
+]
+
+pub returns-clause-tried : goal.returns-clause-tried
+returns-clause-tried g c f there new =
+    let To : Answer → Type 0 = λ a. CommitsTo c.self.inside.ledger f a (record { ledger = c.match-self.self-inside.ledger; flight = c.match-self.self-inside.flight }) in
+    subst (λ (x : Driven g.row.D.Denot). x.flight ≡ Some f → CommitsTo x.ledger f c.match-self.result (record { ledger = c.match-self.self-inside.ledger; flight = c.match-self.self-inside.flight })) c.self.view_is
+    (λ its. elim c.match-self.branch [
+      | in-None w ↦ let no : ⊥ = cc (its, w.in-None.is) in absurd no
+      | in-Some+in-Ok w ↦
+          let same : w.in-Some.flight ≡ f = cc (its, w.in-Some.is) in
+          subst To (ap told w.in-Ok.is ∙ sym w.result-is)
+          (committed c.self.inside.ledger w.in-Some.flight f w.commit.new.self (record { ledger = c.match-self.self-inside.ledger; flight = c.match-self.self-inside.flight }) w.commit.result same (λ i. record { ledger = (w.self-inside-is i).ledger; flight = (w.self-inside-is i).flight }) new
+          w.commit.ensures.tried w.commit.ensures.same_first w.commit.ensures.same_steps w.commit.ensures.same_world)
+      | in-Some+in-Err w ↦
+          let same : w.in-Some.flight ≡ f = cc (its, w.in-Some.is) in
+          subst To (ap told w.in-Err.is ∙ sym w.result-is)
+          (committed c.self.inside.ledger w.in-Some.flight f w.commit.new.self (record { ledger = c.match-self.self-inside.ledger; flight = c.match-self.self-inside.flight }) w.commit.result same (λ i. record { ledger = (w.self-inside-is i).ledger; flight = (w.self-inside-is i).flight }) new
+          w.commit.ensures.tried w.commit.ensures.same_first w.commit.ensures.same_steps w.commit.ensures.same_world)
+    ]) there

@@ -1,0 +1,43 @@
+use Rattle.std.proofs.Common.{◌≡◌, true, sym, ap, ◌∙◌, subst}
+use Rattle.std.specs.Option.{option_map}
+use Rattle.coord_world.specs.protocol.NumberedWorld.{World}
+use Rattle.coord_ledger.specs.declared.events.Answer.TheVariants.{Opened}
+use Rattle.coord_ledger.specs.declared.events.Event.TheVariants.{Crash}
+use Rattle.coord_ledger.specs.ledger.Driven.{Driven, IsLeftByCrash, after_crash, at_home, disk_driven, held, model_driven}
+use Rattle.coord_ledger.specs.ledger.Follows.{FollowsTo, flight_out}
+use Rattle.coord_ledger.specs.machine.Answers.{kept_by}
+use Rattle.coord_ledger.proofs.FollowingCrashes.{images_follow}
+use Rattle.coord_ledger.proofs.Meeting.{crash_fault, follows_reopened, left_by_crash, some_is}
+use Rattle.coord_ledger.proofs.Moments.{crash_lost, crash_touches}
+use Rattle.coord_ledger.proofs.driver.Driver.crash.Goals as goal
+
+pub returns-in-Ok-clause-answered : goal.returns-in-Ok-clause-answered
+returns-in-Ok-clause-answered g c b s is follows on =
+    let d = c.into_disk.result in
+    let keeps : g.D.Disk.keeps_model d ≡ true = some_is (g.D.Disk.keeps_model d) (sym (ap (option_map g.D.Disk.keeps_model) c.into_disk.ensures.disk) ∙ on) in
+    let images = images_follow (held c.args.self b) s (g.D.Disk.keeps_model d) (g.D.Disk.present d) follows c.into_disk.ensures.images in
+    let count = c.count-count.ensures ∙ ap (λ (w : World). w.count) c.settled.ensures in
+    subst (λ (x : Driven g.row.D.Denot). FollowsTo s Crash (Opened c.count-count.result) (held x (after_crash b))) (sym c.over.ensures)
+    (subst (λ n. FollowsTo {D = g.row.D.Denot} s Crash (Opened n) (held (at_home c.in-Ok.ledger) (after_crash b))) (sym count)
+    (follows_reopened s g.D.Disk.keeps_model g.D.Disk.present g.D.Disk.clock g.D.Disk.left_since g.D.CrashDisk.crashes d c.in-Ok.ledger b.released is follows.released images keeps c.in-Ok.ensures.opened))
+
+pub returns-in-Ok-clause-left : goal.returns-in-Ok-clause-left
+returns-in-Ok-clause-left g c on =
+    let d = c.into_disk.result in
+    let keeps : g.D.Disk.keeps_model d ≡ true = some_is (g.D.Disk.keeps_model d) (sym (ap (option_map g.D.Disk.keeps_model) c.into_disk.ensures.disk) ∙ on) in
+    subst (IsLeftByCrash c.args.self) (sym c.over.ensures)
+    (left_by_crash c.args.self g.D.Disk.keeps_model g.D.Disk.present g.D.Disk.clock g.D.Disk.left_since g.D.CrashDisk.crashes d c.in-Ok.ledger keeps c.into_disk.ensures.images c.in-Ok.ensures.opened)
+
+pub returns-in-Err-clause-cause : goal.returns-in-Err-clause-cause
+returns-in-Err-clause-cause g c =
+    let d = c.into_disk.result in
+    crash_fault (model_driven g.D.Disk.keeps_model c.args.self) (g.D.Disk.keeps_model d) (g.D.Disk.present d) c.args.self.ledger.log (kept_by c.args.self.ledger.log.settled (option_map flight_out c.args.self.flight) c.args.self.ledger.doubt) c.in-Err.refused.0 (ap (option_map g.D.Disk.keeps_model) c.into_disk.ensures.disk) c.into_disk.ensures.images c.in-Err.ensures.cause
+
+pub returns-in-Ok-clause-disk : goal.returns-in-Ok-clause-disk
+returns-in-Ok-clause-disk g c b s is follows =
+    crash_touches g.D.Disk.present g.D.Disk.clock g.D.Disk.left_since g.D.CrashDisk.crashes g.D.Disk.keeps_model (held c.args.self b) s c.into_disk.result c.into_disk.ensures.disk (c.survives.ensures b s is follows) c.in-Ok.ledger
+    (held c.over.result (after_crash b)) c.in-Ok.ensures.opened (ap disk_driven c.over.ensures)
+
+pub returns-in-Err-clause-disk : goal.returns-in-Err-clause-disk
+returns-in-Err-clause-disk g c b s is follows =
+    crash_lost g.D.Disk.present g.D.Disk.clock g.D.Disk.left_since g.D.CrashDisk.crashes g.D.Disk.keeps_model (held c.args.self b) s c.into_disk.result c.into_disk.ensures.disk (c.survives.ensures b s is follows) c.in-Err.refused.1 c.in-Err.ensures.lost

@@ -1,0 +1,41 @@
+use Rattle.std.proofs.Common.{true, sym, ap, ◌∙◌, subst}
+use Rattle.coord_ledger.specs.declared.events.Answer.TheVariants.{Opened}
+use Rattle.coord_ledger.specs.declared.events.Event.TheVariants.{Crash}
+use Rattle.coord_ledger.specs.ledger.Driven.{Beside, after_crash, held}
+use Rattle.coord_ledger.specs.ledger.Driver.{HeldTouches, IsEventFault, IsLost, model_of}
+use Rattle.coord_ledger.specs.ledger.Follows.{Follows, FollowsTo, Held}
+use Rattle.coord_ledger.proofs.CutShort.{cut_before}
+use Rattle.coord_ledger.proofs.Meeting.{crash_on}
+use Rattle.coord_ledger.proofs.event_driver.run.Run.crash.Goals as goal
+
+pub returns-in-Ok-clause-answered : goal.returns-in-Ok-clause-answered
+returns-in-Ok-clause-answered g c s is follows promised =
+    let b : Beside = record { claims = c.self.inside.tickets.items; seen = c.self.inside.seen; released = c.self.inside.released.items } in
+    let inside : Follows _ s = subst (λ (h : Held g.row.D.Denot). Follows h s) (sym c.self.view_is) follows in
+    let on = ap (model_of g.D.Disk.keeps_model) c.self.view_is ∙ crash_on (model_of g.D.Disk.keeps_model c.args.self) promised in
+    let to = c.in-Ok.ensures.answered b s is inside on in
+    subst (λ n. FollowsTo {D = g.row.D.Denot} s Crash (Opened c.in-Ok.count) (record { ledger = c.in-Ok.driver.ledger; flight = c.in-Ok.driver.flight; claims = c.new.result.items; seen = n; released = c.self.inside.released.items })) (sym c.new-in-Ok.ensures)
+    (subst (λ cs. FollowsTo {D = g.row.D.Denot} s Crash (Opened c.in-Ok.count) (record { ledger = c.in-Ok.driver.ledger; flight = c.in-Ok.driver.flight; claims = cs; seen = 0; released = c.self.inside.released.items })) (sym c.new.ensures.items) to)
+
+pub returns-in-Ok-clause-disk : goal.returns-in-Ok-clause-disk
+returns-in-Ok-clause-disk g c s is follows =
+    let b : Beside = record { claims = c.self.inside.tickets.items; seen = c.self.inside.seen; released = c.self.inside.released.items } in
+    subst (λ (h : Held g.row.D.Denot). HeldTouches g.D.Disk.keeps_model g.D.Disk.present g.D.Disk.clock g.D.Disk.left_since g.D.CrashDisk.crashes s true Crash h (held c.in-Ok.driver (after_crash b))) c.self.view_is
+    (c.in-Ok.ensures.disk b s is (subst (λ (h : Held g.row.D.Denot). Follows h s) (sym c.self.view_is) follows))
+
+pub returns-in-Ok-clause-model : goal.returns-in-Ok-clause-model
+returns-in-Ok-clause-model g c = c.in-Ok.ensures.model ∙ ap (model_of g.D.Disk.keeps_model) c.self.view_is
+
+pub returns-in-Err-clause-answered : goal.returns-in-Err-clause-answered
+returns-in-Err-clause-answered g c s is follows promised =
+    cut_before _ s Crash (subst (λ (h : Held g.row.D.Denot). Follows h s) (sym c.self.view_is) follows)
+
+pub returns-in-Err-clause-cause : goal.returns-in-Err-clause-cause
+returns-in-Err-clause-cause g c =
+    subst (λ (h : Held g.row.D.Denot). IsEventFault (model_of g.D.Disk.keeps_model h) Crash c.in-Err.kind) c.self.view_is c.in-Err.ensures.cause
+
+pub returns-in-Err-clause-disk : goal.returns-in-Err-clause-disk
+returns-in-Err-clause-disk g c s is follows =
+    let b : Beside = record { claims = c.self.inside.tickets.items; seen = c.self.inside.seen; released = c.self.inside.released.items } in
+    subst (λ (h : Held g.row.D.Denot). IsLost g.D.Disk.keeps_model g.D.Disk.present g.D.Disk.clock g.D.Disk.left_since g.D.CrashDisk.crashes s Crash h c.in-Err.disk) c.self.view_is
+    (c.in-Err.ensures.disk b s is (subst (λ (h : Held g.row.D.Denot). Follows h s) (sym c.self.view_is) follows))

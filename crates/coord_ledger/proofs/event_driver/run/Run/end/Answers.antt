@@ -1,0 +1,11 @@
+use Rattle.std.proofs.Common.{refl, sym, subst}
+use Rattle.coord_ledger.specs.ledger.Driver.{Drives}
+use Rattle.coord_ledger.specs.ledger.Follows.{Held}
+use Rattle.coord_ledger.proofs.Ending.{ran_home}
+use Rattle.coord_ledger.proofs.event_driver.run.Run.end.Goals as goal
+
+pub returns-in-Ok-clause-ran : goal.returns-in-Ok-clause-ran
+returns-in-Ok-clause-ran g c start first events given disk drives at_home =
+    let inside : Drives g.D.Disk.present g.D.Disk.clock g.D.Disk.left_since g.D.CrashDisk.crashes (g.D.Disk.keeps_model disk) first start events given _ =
+    subst (λ (h : Held g.row.D.Denot). Drives g.D.Disk.present g.D.Disk.clock g.D.Disk.left_since g.D.CrashDisk.crashes (g.D.Disk.keeps_model disk) first start events given h) (sym c.self.view_is) drives in
+    ran_home g.D.Disk.present g.D.Disk.clock g.D.Disk.left_since g.D.CrashDisk.crashes start first events given _ c.in-Ok.ledger c.self.inside.released.items g.D.Disk.keeps_model disk inside c.in-Ok.ensures.home refl c.images_give_settled.ensures at_home

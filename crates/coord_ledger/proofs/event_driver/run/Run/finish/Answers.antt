@@ -1,0 +1,48 @@
+use Rattle.std.proofs.Common.{◌≡◌, List, ◌++◌, Ok, true, false, sym, ap, ◌∙◌, subst, rules}
+use Rattle.std.specs.Prelude.{is_err}
+use Rattle.std.proofs.lemmas.List.{append_assoc}
+use Rattle.coord_ledger.specs.declared.events.Answer.{Answer}
+use Rattle.coord_ledger.specs.declared.events.Answer.TheVariants.{Finished, NoFlight, Refused}
+use Rattle.coord_ledger.specs.declared.events.Event.TheVariants.{Finish}
+use Rattle.coord_ledger.specs.declared.release.Release.{Release}
+use Rattle.coord_ledger.specs.ledger.Driven.{Beside, FinishesTo}
+use Rattle.coord_ledger.specs.ledger.Follows.{Follows, FollowsTo, Held}
+use Rattle.coord_ledger.specs.ledger.State.{LedgerState}
+use Rattle.coord_ledger.specs.machine.Log.{settled_count}
+use Rattle.coord_ledger.proofs.CutShort.{cut_within}
+use Rattle.coord_ledger.proofs.Running.{err_gives, ok_gives}
+use Rattle.coord_ledger.proofs.event_driver.run.Run.finish.Goals as goal
+use Rattle.coord_ledger.proofs.event_driver.run.Run.finish.Goals.{in-Ok-None, in-Ok-Some+else-is_err, in-Err}
+
+pub returns-then-is_err-clause-answered : goal.returns-then-is_err-clause-answered
+returns-then-is_err-clause-answered g c s is follows =
+    let b : Beside = record { claims = c.self.inside.tickets.items; seen = c.self.inside.seen; released = c.self.inside.released.items } in
+    let inside : Follows _ s = subst (λ (h : Held g.row.D.Denot). Follows h s) (sym c.self.view_is) follows in
+    let failed : is_err c.push_releases.result ≡ true = search rules in
+    let some = err_gives c.push_releases.result failed c.push_releases.ensures.some in
+    let items = c.self.inside.released.items in
+    let to = subst (λ r. FinishesTo s b r c.finish-landed.result.1) (c.in-Ok-Some.is ∙ ap Ok c.in-Ok-Some.field-0-is) (c.finish-landed.ensures.answered b s is inside) in
+    let ends = ap (λ l. items ++ l) some.1.1.0 ∙ sym (append_assoc items some.0 some.1.0) ∙ ap (λ l. l ++ some.1.0) (sym some.1.1.1) in
+    cut_within _ _ s Finish _ c.push_releases.new.released.items some.0 some.1.0 inside to some.1.1.1 ends
+
+pub returns-clause-answered : goal.returns-clause-answered
+returns-clause-answered g c s is follows =
+    let b : Beside = record { claims = c.self.inside.tickets.items; seen = c.self.inside.seen; released = c.self.inside.released.items } in
+    let inside : Follows _ s = subst (λ (h : Held g.row.D.Denot). Follows h s) (sym c.self.view_is) follows in
+    let items = c.self.inside.released.items in
+    let To : Answer → List Release → Type 0 = λ a rs. FollowsTo {D = g.row.D.Denot} s Finish a (record { ledger = c.finish-landed.result.1.ledger; flight = c.finish-landed.result.1.flight; claims = c.self.inside.tickets.items; seen = c.self.inside.seen; released = rs }) in
+    elim c.match-landed.branch [
+      | in-Ok-None w ↦
+          subst (λ a. To a c.match-landed.released.items) (sym w.answer-is)
+          (subst (λ rs. To NoFlight rs) (sym (ap (λ v. v.items) w.released-is)) (subst (λ r. FinishesTo s b r c.finish-landed.result.1) (w.in-Ok-None.is ∙ ap Ok w.in-Ok-None.field-0-is) (c.finish-landed.ensures.answered b s is inside)))
+      | in-Ok-Some+else-is_err w ↦
+          let fine : is_err w.push_releases.result ≡ false = search rules in
+          let pushed = ok_gives w.push_releases.result fine w.push_releases.ensures.all in
+          let count = w.settled_count.ensures.value ∙ ap (λ (l : LedgerState g.row.D.Denot). settled_count l.log) w.ledger.ensures in
+          subst (λ a. To a c.match-landed.released.items) (sym w.answer-is)
+          (subst (λ rs. To (Finished w.settled_count.result) rs) (sym (ap (λ v. v.items) w.released-is ∙ pushed))
+          (subst (λ n. To (Finished n) (items ++ w.in-Ok-Some.releases)) (sym count) (subst (λ r. FinishesTo s b r c.finish-landed.result.1) (w.in-Ok-Some.is ∙ ap Ok w.in-Ok-Some.field-0-is) (c.finish-landed.ensures.answered b s is inside))))
+      | in-Err w ↦
+          subst (λ a. To a c.match-landed.released.items) (sym w.answer-is)
+          (subst (λ rs. To (Refused w.in-Err.refusal) rs) (sym (ap (λ v. v.items) w.released-is)) (subst (λ r. FinishesTo s b r c.finish-landed.result.1) w.in-Err.is (c.finish-landed.ensures.answered b s is inside)))
+    ]

@@ -1,0 +1,83 @@
+use Rattle.std.proofs.Common.{refl, sym, ap, ◌∙◌, subst}
+use Rattle.std.specs.Prelude.{MatchResult}
+use Rattle.coord_ledger.specs.declared.events.Event.TheVariants.{Begin, Collect, Commit, Finish, Resend, Show, Submit}
+use Rattle.coord_ledger.specs.ledger.Driver.{HeldTouches, IsLost, disk_held, model_of}
+use Rattle.coord_ledger.specs.ledger.Follows.{Held}
+use Rattle.coord_ledger.specs.promises.Headline.{IsCutShort, found_by_crash, wants_memory}
+use Rattle.coord_ledger.specs.promises.Moments.{touches_disk}
+use Rattle.coord_ledger.proofs.CutShort.{cut_before}
+use Rattle.coord_ledger.proofs.Meeting.{if_err_map, memory_fault, met, met_cut, on_err_map}
+use Rattle.coord_ledger.proofs.Moments.{lost_as_held, match_map, met_aside, met_commit}
+use Rattle.coord_ledger.proofs.event_driver.run.Run.meet.Goals as goal
+use Rattle.coord_ledger.proofs.event_driver.run.Run.meet.Goals.{in-Submit, in-Commit, in-Collect, in-Resend, in-Show}
+
+pub returns-in-Finish-clause-cause : goal.returns-in-Finish-clause-cause
+returns-in-Finish-clause-cause g c = if_err_map c.finish.result (λ broken is. memory_fault (model_of g.D.Disk.keeps_model c.args.self) c.args.event broken.kind is (ap wants_memory c.in-Finish.is)) c.finish.ensures.kind
+
+pub returns-in-Err-clause-cause : goal.returns-in-Err-clause-cause
+returns-in-Err-clause-cause g c = elim c.match-event.branch [
+  | in-Submit w ↦ memory_fault (model_of g.D.Disk.keeps_model c.args.self) c.args.event c.lose.result.kind c.lose.ensures.kind (ap wants_memory w.in-Submit.is)
+  | in-Commit w ↦ let no : ⊥ = cc (w.answer-is, c.in-Err.is) in absurd no
+  | in-Collect w ↦ let no : ⊥ = cc (w.answer-is, c.in-Err.is) in absurd no
+  | in-Resend w ↦ memory_fault (model_of g.D.Disk.keeps_model c.args.self) c.args.event c.lose.result.kind c.lose.ensures.kind (ap wants_memory w.in-Resend.is)
+  | in-Show w ↦ let no : ⊥ = cc (w.answer-is, c.in-Err.is) in absurd no
+]
+
+pub returns-in-Ok-clause-answered : goal.returns-in-Ok-clause-answered
+returns-in-Ok-clause-answered g c s is follows promised = elim c.match-event.branch [
+  | in-Submit w ↦ met s c.args.event _ w.submit-answer.result c.match-event.answer c.match-event.held w.submit-answer.new.self c.in-Ok.answer (w.submit-answer.ensures.answered s is follows) w.answer-is c.in-Ok.is w.in-Submit.is w.held-is
+  | in-Commit w ↦ met s c.args.event Commit _ c.match-event.answer c.match-event.held w.commit.new.self c.in-Ok.answer (w.commit.ensures.answered s is follows) w.answer-is c.in-Ok.is w.in-Commit.is w.held-is
+  | in-Collect w ↦ met s c.args.event _ _ c.match-event.answer c.match-event.held w.collect.new.self c.in-Ok.answer (w.collect.ensures.answered s is follows) w.answer-is c.in-Ok.is w.in-Collect.is w.held-is
+  | in-Resend w ↦ met s c.args.event Resend w.resend-answer.result c.match-event.answer c.match-event.held w.resend-answer.new.self c.in-Ok.answer (w.resend-answer.ensures.answered s is follows) w.answer-is c.in-Ok.is w.in-Resend.is w.held-is
+  | in-Show w ↦ met s c.args.event Show _ c.match-event.answer c.match-event.held w.show.new.self c.in-Ok.answer (w.show.ensures.answered s is follows) w.answer-is c.in-Ok.is w.in-Show.is w.held-is
+]
+
+pub returns-in-Err-clause-answered : goal.returns-in-Err-clause-answered
+returns-in-Err-clause-answered g c s is follows promised = elim c.match-event.branch [
+  | in-Submit w ↦
+      met_cut s c.args.event (Submit w.in-Submit.step) w.submit-answer.result c.match-event.answer c.match-event.held w.submit-answer.new.self c.in-Err.field-0 c.lose.result.released.items
+      (on_err_map w.submit-answer.result (λ same. subst (λ (h : Held g.row.D.Denot). IsCutShort s (Submit w.in-Submit.step) h.released) (sym same) (cut_before c.args.self s (Submit w.in-Submit.step) follows)) w.submit-answer.ensures.err)
+      w.answer-is c.in-Err.is w.in-Submit.is w.held-is c.lose.ensures.released
+  | in-Commit w ↦ met_cut s c.args.event Commit _ c.match-event.answer c.match-event.held w.commit.new.self c.in-Err.field-0 c.lose.result.released.items tt w.answer-is c.in-Err.is w.in-Commit.is w.held-is c.lose.ensures.released
+  | in-Collect w ↦ met_cut s c.args.event _ _ c.match-event.answer c.match-event.held w.collect.new.self c.in-Err.field-0 c.lose.result.released.items tt w.answer-is c.in-Err.is w.in-Collect.is w.held-is c.lose.ensures.released
+  | in-Resend w ↦
+      met_cut s c.args.event Resend w.resend-answer.result c.match-event.answer c.match-event.held w.resend-answer.new.self c.in-Err.field-0 c.lose.result.released.items
+      (w.resend-answer.ensures.cut s is follows) w.answer-is c.in-Err.is w.in-Resend.is w.held-is c.lose.ensures.released
+  | in-Show w ↦ met_cut s c.args.event Show _ c.match-event.answer c.match-event.held w.show.new.self c.in-Err.field-0 c.lose.result.released.items tt w.answer-is c.in-Err.is w.in-Show.is w.held-is c.lose.ensures.released
+]
+
+-- ---- the disk
+
+pub returns-in-Ok-clause-disk : goal.returns-in-Ok-clause-disk
+returns-in-Ok-clause-disk g c s is follows = elim c.match-event.branch [
+  | in-Submit w ↦ met_aside g.D.Disk.present g.D.Disk.clock g.D.Disk.left_since g.D.CrashDisk.crashes g.D.Disk.keeps_model g.met.D.Disk.only_now s c.args.event (Submit w.in-Submit.step) c.in-Ok.answer c.args.self c.match-event.held w.in-Submit.is refl refl (ap disk_held w.held-is ∙ w.submit-answer.ensures.disk) (c.survives.ensures s is follows)
+  | in-Commit w ↦
+      met_commit g.D.Disk.present g.D.Disk.clock g.D.Disk.left_since g.D.CrashDisk.crashes g.D.Disk.keeps_model s c.args.event w.commit.result c.match-event.answer c.in-Ok.answer c.args.self c.match-event.held w.commit.new.self w.in-Commit.is w.answer-is c.in-Ok.is w.held-is (w.commit.ensures.disk s is follows)
+  | in-Collect w ↦ met_aside g.D.Disk.present g.D.Disk.clock g.D.Disk.left_since g.D.CrashDisk.crashes g.D.Disk.keeps_model g.met.D.Disk.only_now s c.args.event (Collect w.in-Collect.index) c.in-Ok.answer c.args.self c.match-event.held w.in-Collect.is refl refl (ap disk_held w.held-is ∙ w.collect.ensures.disk) (c.survives.ensures s is follows)
+  | in-Resend w ↦ met_aside g.D.Disk.present g.D.Disk.clock g.D.Disk.left_since g.D.CrashDisk.crashes g.D.Disk.keeps_model g.met.D.Disk.only_now s c.args.event Resend c.in-Ok.answer c.args.self c.match-event.held w.in-Resend.is refl refl (ap disk_held w.held-is ∙ w.resend-answer.ensures.disk) (c.survives.ensures s is follows)
+  | in-Show w ↦ met_aside g.D.Disk.present g.D.Disk.clock g.D.Disk.left_since g.D.CrashDisk.crashes g.D.Disk.keeps_model g.met.D.Disk.only_now s c.args.event Show c.in-Ok.answer c.args.self c.match-event.held w.in-Show.is refl refl (ap disk_held w.held-is ∙ w.show.ensures.disk) (c.survives.ensures s is follows)
+]
+
+pub returns-in-Err-clause-disk : goal.returns-in-Err-clause-disk
+returns-in-Err-clause-disk g c s is follows = elim c.match-event.branch [
+  | in-Submit w ↦ lost_as_held g.D.Disk.present g.D.Disk.clock g.D.Disk.left_since g.D.CrashDisk.crashes g.D.Disk.keeps_model s c.args.event c.args.self c.lose.result.disk (sym (ap disk_held w.held-is ∙ w.submit-answer.ensures.disk) ∙ c.lose.ensures.disk)
+  | in-Commit w ↦ let no : ⊥ = cc (w.answer-is, c.in-Err.is) in absurd no
+  | in-Collect w ↦ lost_as_held g.D.Disk.present g.D.Disk.clock g.D.Disk.left_since g.D.CrashDisk.crashes g.D.Disk.keeps_model s c.args.event c.args.self c.lose.result.disk (sym (ap disk_held w.held-is ∙ w.collect.ensures.disk) ∙ c.lose.ensures.disk)
+  | in-Resend w ↦ lost_as_held g.D.Disk.present g.D.Disk.clock g.D.Disk.left_since g.D.CrashDisk.crashes g.D.Disk.keeps_model s c.args.event c.args.self c.lose.result.disk (sym (ap disk_held w.held-is ∙ w.resend-answer.ensures.disk) ∙ c.lose.ensures.disk)
+  | in-Show w ↦ lost_as_held g.D.Disk.present g.D.Disk.clock g.D.Disk.left_since g.D.CrashDisk.crashes g.D.Disk.keeps_model s c.args.event c.args.self c.lose.result.disk (sym (ap disk_held w.held-is ∙ w.show.ensures.disk) ∙ c.lose.ensures.disk)
+]
+
+pub returns-in-Begin-clause-disk : goal.returns-in-Begin-clause-disk
+returns-in-Begin-clause-disk g c s is follows =
+    met_aside g.D.Disk.present g.D.Disk.clock g.D.Disk.left_since g.D.CrashDisk.crashes g.D.Disk.keeps_model g.met.D.Disk.only_now s c.args.event Begin c.begin.result.0 c.args.self c.begin.result.1 c.in-Begin.is refl refl c.begin.ensures.disk (c.survives.ensures s is follows)
+
+pub returns-in-Finish-clause-disk : goal.returns-in-Finish-clause-disk
+returns-in-Finish-clause-disk g c s is follows =
+    match_map c.finish.result
+    (λ held same. met_aside g.D.Disk.present g.D.Disk.clock g.D.Disk.left_since g.D.CrashDisk.crashes g.D.Disk.keeps_model g.met.D.Disk.only_now s c.args.event Finish held.0 c.args.self held.1 c.in-Finish.is refl refl same (c.survives.ensures s is follows))
+    (λ broken there. lost_as_held g.D.Disk.present g.D.Disk.clock g.D.Disk.left_since g.D.CrashDisk.crashes g.D.Disk.keeps_model s c.args.event c.args.self broken.disk there) c.finish.ensures.disk
+
+pub returns-in-Crash-clause-disk : goal.returns-in-Crash-clause-disk
+returns-in-Crash-clause-disk g c s is follows =
+    subst (λ x. MatchResult c.crash.result (λ held. HeldTouches {D = g.row.D.Denot} g.D.Disk.keeps_model g.D.Disk.present g.D.Disk.clock g.D.Disk.left_since g.D.CrashDisk.crashes (found_by_crash s x held.0) (touches_disk x held.0) x c.args.self held.1) (λ broken. IsLost {D = g.row.D.Denot} g.D.Disk.keeps_model g.D.Disk.present g.D.Disk.clock g.D.Disk.left_since g.D.CrashDisk.crashes s x c.args.self broken.disk)) (sym c.in-Crash.is)
+    (c.crash.ensures.disk s is follows)

@@ -1,0 +1,31 @@
+use Rattle.std.proofs.Common.{◌++◌, length, sym, ap, ◌∙◌, subst}
+use Rattle.std.proofs.lemmas.List.{append_assoc}
+use Rattle.coord_ledger.specs.declared.events.Answer.TheVariants.{Resent}
+use Rattle.coord_ledger.specs.declared.events.Event.TheVariants.{Resend}
+use Rattle.coord_ledger.specs.ledger.Follows.{Follows, FollowsTo, Held}
+use Rattle.coord_ledger.specs.ledger.State.{LedgerState}
+use Rattle.coord_ledger.specs.machine.After.{resent}
+use Rattle.coord_ledger.specs.machine.Log.{settled_world}
+use Rattle.coord_ledger.proofs.CutShort.{cut_within}
+use Rattle.coord_ledger.proofs.FollowingTickets.{follows_resent}
+use Rattle.coord_ledger.proofs.Running.{on_err, resent_count}
+use Rattle.coord_ledger.proofs.event_driver.run.Run.resend.Goals as goal
+
+pub returns-in_ok-count-in-Ok-clause-answered : goal.returns-in_ok-count-in-Ok-clause-answered
+returns-in_ok-count-in-Ok-clause-answered g c s is follows =
+    let given = c.in-Ok.ensures ∙ ap (λ (l : LedgerState g.row.D.Denot). resent (settled_world l.log)) c.ledger.ensures in
+    let inside : Follows _ s = subst (λ (h : Held g.row.D.Denot). Follows h s) (sym c.self.view_is) follows in
+    let all = c.in_ok-count-in-Ok.ensures.all ∙ ap (λ l. c.self.inside.released.items ++ l) given in
+    let count = c.in_ok-count-in-Ok.ensures.count ∙ ap length given ∙ resent_count (settled_world c.self.inside.driver.ledger.log) in
+    subst (λ n. FollowsTo s Resend (Resent n) (record { ledger = c.self.inside.driver.ledger; flight = c.self.inside.driver.flight; claims = c.self.inside.tickets.items; seen = c.self.inside.seen; released = c.push_releases.new.released.items })) (sym count)
+    (follows_resent _ s is inside c.push_releases.new.released.items all)
+
+pub returns-in_err-count-in-Ok-clause-cut : goal.returns-in_err-count-in-Ok-clause-cut
+returns-in_err-count-in-Ok-clause-cut g c s is follows =
+    let given = c.in-Ok.ensures ∙ ap (λ (l : LedgerState g.row.D.Denot). resent (settled_world l.log)) c.ledger.ensures in
+    let inside : Follows _ s = subst (λ (h : Held g.row.D.Denot). Follows h s) (sym c.self.view_is) follows in
+    let some = c.in_err-count-in-Ok.ensures.some in
+    let items = c.self.inside.released.items in
+    let to = follows_resent _ s is inside (items ++ c.in-Ok.releases) (ap (λ l. items ++ l) given) in
+    let ends = ap (λ l. items ++ l) some.1.1.0 ∙ sym (append_assoc items some.0 some.1.0) ∙ ap (λ l. l ++ some.1.0) (sym some.1.1.1) in
+    on_err c.from_residual.result (cut_within _ _ s Resend _ c.push_releases.new.released.items some.0 some.1.0 inside to some.1.1.1 ends)

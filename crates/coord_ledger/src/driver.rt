@@ -1,0 +1,128 @@
+//! The driver of a ledger.
+
+ghost use Rattle.std.specs.Prelude.{◌≡◌, [], IfErr, IfOk, None, Some};
+ghost use Rattle.std.specs.Option.{option_map};
+ghost use Rattle.coord_ledger.specs.ledger.Driven.{Beside, at_home, disk_driven, held, nothing_beside};
+ghost use Rattle.coord_ledger.specs.ledger.Driver.{Drives, HeldSurvives, brought_home};
+ghost use Rattle.coord_ledger.specs.ledger.Follows.{Follows, ImagesGive, flight_out};
+ghost use Rattle.coord_ledger.specs.machine.Answers.{kept_by};
+ghost use Rattle.coord_ledger.specs.machine.Consistent.{IsConsistent};
+ghost use Rattle.coord_ledger.specs.machine.Machine.{Machine};
+
+mod crashing;
+mod flying;
+mod submitting;
+
+use crate::{Flight, Ledger};
+use coord_disk::CrashDisk;
+use std::marker::Model;
+
+/// A ledger, and the flight that is out of it: all that a run of events moves. Tickets, what was
+/// shown and what was released are its holder's, so nothing in it grows but the ledger. It has to be
+/// spent, by `into_disk`.
+///
+/// Each call is an event of the event machine, whatever the holder has beside it (`answered`): what
+/// it is answered is one of the machine's answers, and what is held then follows the machine. It
+/// says what it does to the disk at each of its moments (`disk`), and what becomes of the ledger.
+/// Replies, resends and views are the ledger's own calls, which change nothing: [`Driver::ledger`].
+///
+/// Contracts see `Driven` (`specs/ledger/Driven.antt`); its type keeps that the flight is the
+/// ledger's own.
+pub struct Driver<D: CrashDisk> {
+    ledger: Ledger<D>,
+    flight: Option<Flight<D>>,
+}
+
+impl<D: CrashDisk> Model for Driver<D> {
+    ghost use Rattle.coord_ledger.specs.ledger.Driven.{Driven};
+    ghost use Rattle.coord_ledger.specs.ledger.Follows.{HoldsFlight};
+
+    ghost Value = { Driven D };
+
+    ghost view = { λ d. record { ledger = d.ledger; flight = d.flight } };
+
+    ghost invariant = { λ d. HoldsFlight d.ledger d.flight };
+}
+
+impl<D: CrashDisk> Driver<D> {
+    /// The driver of a ledger with its store at home.
+    pub fn over(ledger: Ledger<D>) -> Self
+        requires { ledger.out ≡ None }
+        ensures { result ≡ at_home ledger }
+    {
+        Driver {
+            ledger,
+            flight: None,
+        }
+    }
+
+    /// The ledger.
+    pub fn ledger(&self) -> &Ledger<D>
+        ensures { result.now ≡ self.now.ledger }
+    {
+        &self.ledger
+    }
+
+    /// Does nothing: its contract is what the types of its parts keep of the disk. Whatever a crash
+    /// may leave between two events is the world after a prefix of the accepted steps that holds all
+    /// that was released, and a legal one.
+    pub fn survives(&self)
+        ensures { (b : Beside) (s : Machine) → IsConsistent s → Follows (held self.now b) s → HeldSurvives D.keeps_model D.present (held self.now b) s }
+    {
+        match &self.flight {
+            Some(flight) => flight.images_give_world(),
+            None => self.ledger.images_give_settled(),
+        }
+    }
+
+    /// Does nothing: its contract is that a run of events may begin here: it is what is kept of a run
+    /// before its first event (`Drives`).
+    pub fn begins(&self)
+        requires { self.now.flight ≡ None }
+        ensures { (first : D) → self.now.ledger.disk ≡ Some first → Drives D.present D.clock D.left_since D.crashes (D.keeps_model first) first self.now.ledger [] [] (held self.now nothing_beside) }
+    {
+        self.ledger.log_is_consistent();
+        self.survives();
+    }
+
+    /// Gives the disk up, the ledger's or that of the flight that is out.
+    pub fn into_disk(self) -> D
+        ensures disk { disk_driven self ≡ Some result }
+        ensures images { ImagesGive (D.keeps_model result) (D.present result) self.ledger.log (kept_by self.ledger.log.settled (option_map flight_out self.flight) self.ledger.doubt) }
+    {
+        let Driver { ledger, flight } = self;
+        match flight {
+            Some(flight) => {
+                flight.images_give_world();
+                flight.into_disk()
+            }
+            None => {
+                ledger.log_is_consistent();
+                ledger.images_give_settled();
+                match ledger.close() {
+                    Ok(store) => store.into_disk(),
+                    Err(_) => unreachable!(),
+                }
+            }
+        }
+    }
+
+    /// Takes back the flight that is out. What it releases is lost. Where it finds no memory, it
+    /// gives the disk.
+    pub(crate) fn bring_home(self) -> Result<Ledger<D>, D>
+        ensures home { IfOk result (λ home. home ≡ brought_home self.ledger self.flight) }
+        ensures disk { IfErr result (λ disk. disk_driven self ≡ Some disk) }
+    {
+        let Driver { mut ledger, flight } = self;
+        let Some(flight) = flight else {
+            return Ok(ledger);
+        };
+        match ledger.end_flush(flight) {
+            Ok(releases) => {
+                releases.lose_rest();
+                Ok(ledger)
+            }
+            Err((_, flight)) => Err(flight.into_disk()),
+        }
+    }
+}

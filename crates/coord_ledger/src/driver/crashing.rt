@@ -1,0 +1,59 @@
+//! The disk crashes, and is opened again.
+
+ghost use Rattle.std.specs.Prelude.{◌≡◌, true, IfErr, IfOk, MatchResult, Some};
+ghost use Rattle.coord_disk.specs.Model.Present.{IsImage};
+ghost use Rattle.coord_ledger.specs.declared.events.Answer.TheVariants.{Opened};
+ghost use Rattle.coord_ledger.specs.declared.events.Event.TheVariants.{Crash};
+ghost use Rattle.coord_ledger.specs.ledger.Driven.{Beside, IsLeftByCrash, after_crash, held, model_driven};
+ghost use Rattle.coord_ledger.specs.ledger.Driver.{HeldTouches, IsEventFault, IsLost, IsPromised, IsReopenFault, IsReopened};
+ghost use Rattle.coord_ledger.specs.ledger.Follows.{Follows, FollowsTo};
+ghost use Rattle.coord_ledger.specs.machine.Consistent.{IsConsistent};
+ghost use Rattle.coord_ledger.specs.machine.Log.{settled_count};
+ghost use Rattle.coord_ledger.specs.machine.Machine.{Machine};
+ghost use Rattle.coord_ledger.specs.promises.Moments.{Reopens};
+
+use super::Driver;
+use crate::{Ledger, RunFaultKind};
+use coord_disk::CrashDisk;
+use coord_store::Store;
+use std::alloc::Global;
+
+/// Crashes a disk, and makes a ledger of what it then holds. A refusal gives the disk back.
+fn reopen<D: CrashDisk>(alloc: Global, disk: D) -> Result<Ledger<D>, (RunFaultKind, D)>
+    ensures opened { IfOk result (IsReopened D.keeps_model D.present D.clock D.left_since D.crashes disk) }
+    ensures cause { IfErr result (λ refused. IsReopenFault (D.keeps_model disk) (D.present disk) refused.0) }
+    ensures lost { IfErr result (λ refused. D.keeps_model disk ≡ true → Reopens D.present D.clock D.left_since D.crashes (IsImage (D.present disk)) disk refused.1) }
+{
+    let opened = match Store::open(alloc, disk.crash()) {
+        Ok(store) => store,
+        Err((fault, disk)) => return Err((RunFaultKind::Store(fault), disk)),
+    };
+    match Ledger::adopt(alloc, opened) {
+        Ok(ledger) => Ok(ledger),
+        Err((_, store)) => Err((RunFaultKind::OutOfMemory, store.into_disk())),
+    }
+}
+
+impl<D: CrashDisk> Driver<D> {
+    /// The disk crashes and is opened again, and the flight is gone. The count of the world that was
+    /// opened, and its driver; or why none was, and the disk.
+    pub fn crash(self, alloc: Global) -> Result<(u64, Self), (RunFaultKind, D)>
+        ensures answered { (b : Beside) (s : Machine) → IsConsistent s → Follows (held self b) s → model_driven D.keeps_model self ≡ Some true
+            → IfOk result (λ opened. FollowsTo s Crash (Opened opened.0) (held opened.1 (after_crash b))) }
+        ensures left { model_driven D.keeps_model self ≡ Some true → IfOk result (λ opened. IsLeftByCrash self opened.1) }
+        ensures count { IfOk result (λ opened. opened.0 ≡ settled_count opened.1.ledger.log) }
+        ensures disk { (b : Beside) (s : Machine) → IsConsistent s → Follows (held self b) s
+            → MatchResult result (λ opened. HeldTouches D.keeps_model D.present D.clock D.left_since D.crashes s true Crash (held self b) (held opened.1 (after_crash b))) (λ refused. IsLost D.keeps_model D.present D.clock D.left_since D.crashes s Crash (held self b) refused.1) }
+        ensures model { IfOk result (λ opened. model_driven D.keeps_model opened.1 ≡ model_driven D.keeps_model self) }
+        ensures cause { IfErr result (λ refused. IsEventFault (model_driven D.keeps_model self) Crash refused.0) }
+    {
+        self.survives();
+        match reopen(alloc, self.into_disk()) {
+            Ok(ledger) => {
+                let count = ledger.settled().count();
+                Ok((count, Driver::over(ledger)))
+            }
+            Err(refused) => Err(refused),
+        }
+    }
+}

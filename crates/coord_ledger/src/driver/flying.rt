@@ -1,0 +1,78 @@
+//! Flights go out, are committed, and come back.
+
+ghost use Rattle.std.specs.Prelude.{◌≡◌, Some, None};
+ghost use Rattle.coord_ledger.specs.declared.events.Event.TheVariants.{Begin, Commit};
+ghost use Rattle.coord_ledger.specs.declared.mark.Mark.TheVariants.{New};
+ghost use Rattle.coord_ledger.specs.ledger.Driven.{Beside, CommitsTo, FinishesTo, LandsTo, SendsOut, disk_driven, held, model_driven};
+ghost use Rattle.coord_ledger.specs.ledger.Driver.{HeldTouches};
+ghost use Rattle.coord_ledger.specs.ledger.Follows.{Follows, FollowsTo};
+ghost use Rattle.coord_ledger.specs.ledger.State.{FlightState};
+ghost use Rattle.coord_ledger.specs.machine.Consistent.{IsConsistent};
+ghost use Rattle.coord_ledger.specs.machine.Machine.{Machine};
+ghost use Rattle.coord_ledger.specs.promises.Headline.{found_by_crash};
+ghost use Rattle.coord_ledger.specs.promises.Moments.{touches_disk};
+
+use super::Driver;
+use crate::{Answer, Releases};
+use coord_disk::CrashDisk;
+use coord_types::Refusal;
+
+impl<D: CrashDisk> Driver<D> {
+    /// A flight goes out. While one is out, none does. Answers `Begun`, `Nothing`, or `Refused` for
+    /// want of memory.
+    pub fn begin(self) -> (Answer, Self)
+        ensures answered { (b : Beside) (s : Machine) → IsConsistent s → Follows (held self b) s → FollowsTo s Begin result.0 (held result.1 b) }
+        ensures sent { self.flight ≡ None → SendsOut self.ledger result.0 result.1 }
+        ensures disk { disk_driven result.1 ≡ disk_driven self }
+    {
+        let Driver { mut ledger, flight } = self;
+        if let Some(flight) = flight {
+            let flight = Some(flight);
+            return (Answer::Nothing, Driver { ledger, flight });
+        }
+        let (answer, flight) = match ledger.begin_flush() {
+            Ok(Some(flight)) => (Answer::Begun(flight.steps.len() as u64), Some(flight)),
+            Ok(None) => (Answer::Nothing, None),
+            Err(_) => (Answer::Refused(Refusal::OutOfMemory), None),
+        };
+        (answer, Driver { ledger, flight })
+    }
+
+    /// The flight that is out is committed. Answers `Committed`, `Failed`, or `NoFlight`.
+    pub fn commit(&mut self) -> Answer
+        ensures answered { (b : Beside) (s : Machine) → IsConsistent s → Follows (held self.old b) s → FollowsTo s Commit result (held self.new b) }
+        ensures tried { (f : FlightState D) → self.old.flight ≡ Some f → f.mark ≡ New → CommitsTo self.old.ledger f result self.new }
+        ensures disk { (b : Beside) (s : Machine) → IsConsistent s → Follows (held self.old b) s
+            → HeldTouches D.keeps_model D.present D.clock D.left_since D.crashes (found_by_crash s Commit result) (touches_disk Commit result) Commit (held self.old b) (held self.new b) }
+        ensures model { model_driven D.keeps_model self.new ≡ model_driven D.keeps_model self.old }
+    {
+        self.survives();
+        match &mut self.flight {
+            None => Answer::NoFlight,
+            Some(flight) => match flight.commit() {
+                Ok(()) => Answer::Committed,
+                Err(fault) => Answer::Failed(fault),
+            },
+        }
+    }
+
+    /// The flight that is out comes back: what it releases, or None where no flight is out. For want
+    /// of memory it stays out.
+    pub fn finish(self) -> (Result<Option<Releases>, Refusal>, Self)
+        ensures answered { (b : Beside) (s : Machine) → IsConsistent s → Follows (held self b) s → FinishesTo s b result.0 result.1 }
+        ensures landed { (f : FlightState D) → self.flight ≡ Some f → LandsTo self.ledger f result.0 result.1 }
+        ensures disk { disk_driven result.1 ≡ disk_driven self }
+    {
+        let Driver { mut ledger, flight } = self;
+        let Some(flight) = flight else {
+            return (Ok(None), Driver::over(ledger));
+        };
+        match ledger.end_flush(flight) {
+            Ok(releases) => (Ok(Some(releases)), Driver::over(ledger)),
+            Err((refusal, flight)) => {
+                let flight = Some(flight);
+                (Err(refusal), Driver { ledger, flight })
+            }
+        }
+    }
+}

@@ -1,0 +1,125 @@
+//! What a run of events holds between two events.
+
+ghost use Rattle.std.specs.Prelude.{◌≡◌, IfOk, OnErr, None, Some};
+ghost use Rattle.coord_ledger.specs.declared.events.Event.TheVariants.{Submit, Collect, Resend, Show, Commit};
+ghost use Rattle.coord_ledger.specs.ledger.Driver.{HeldSurvives, HeldTouches, disk_held, model_of};
+ghost use Rattle.coord_ledger.specs.ledger.Follows.{Follows, FollowsTo};
+ghost use Rattle.coord_ledger.specs.machine.Consistent.{IsConsistent};
+ghost use Rattle.coord_ledger.specs.machine.Machine.{Machine};
+ghost use Rattle.coord_ledger.specs.promises.Headline.{IsCutShort, found_by_crash};
+ghost use Rattle.coord_ledger.specs.promises.Moments.{touches_disk};
+
+use super::released::push_releases;
+use crate::{Answer, Driver, Handed, Release, Seen, Ticket};
+use coord_disk::CrashDisk;
+use coord_types::{Refusal, Step};
+use std::alloc::AllocError;
+use std::marker::Model;
+
+/// The driver of a ledger, the tickets as they were given, what was shown last, and what was
+/// released. Contracts see `Held` (`specs/ledger/Follows.antt`).
+pub struct Run<D: CrashDisk> {
+    pub driver: Driver<D>,
+    pub tickets: Vec<Option<Ticket>>,
+    pub seen: Seen,
+    pub released: Vec<Release>,
+}
+
+impl<D: CrashDisk> Model for Run<D> {
+    ghost use Rattle.coord_ledger.specs.ledger.Follows.{Held};
+
+    ghost Value = { Held D };
+
+    ghost view = { λ r. record { ledger = r.driver.ledger; flight = r.driver.flight; claims = r.tickets.items; seen = r.seen; released = r.released.items } };
+}
+
+impl<D: CrashDisk> Run<D> {
+    /// Does nothing: its contract is what the types of its parts keep of the disk. Whatever a crash
+    /// may leave between two events is the world after a prefix of the accepted steps that holds all
+    /// that was released, and a legal one.
+    pub fn survives(&self)
+        ensures { (s : Machine) → IsConsistent s → Follows self.now s → HeldSurvives D.keeps_model D.present self.now s }
+    {
+        self.driver.survives();
+    }
+
+    /// A step is handed in.
+    pub fn submit(&mut self, step: Step) -> Result<Answer, AllocError>
+        ensures answered { (s : Machine) → IsConsistent s → Follows self.old s → IfOk result (λ answer. FollowsTo s (Submit step) answer self.new) }
+        ensures err { OnErr result (self.new ≡ self.old) }
+        ensures disk { disk_held self.new ≡ disk_held self.old }
+    {
+        self.tickets.reserve(1)?;
+        match self.driver.submit(step) {
+            Ok(Handed::Accepted(ticket)) => {
+                let number = ticket.step();
+                self.tickets.push_reserved(Some(ticket));
+                Ok(Answer::Accepted(number))
+            }
+            Ok(Handed::Repeated(ticket)) => {
+                let number = ticket.step();
+                self.tickets.push_reserved(Some(ticket));
+                Ok(Answer::Repeated(number))
+            }
+            Err(refusal) => Ok(Answer::Refused(refusal)),
+        }
+    }
+
+    /// A ticket is collected.
+    pub fn collect(&mut self, index: usize) -> Answer
+        ensures answered { (s : Machine) → IsConsistent s → Follows self.old s → FollowsTo s (Collect index) result self.new }
+        ensures disk { disk_held self.new ≡ disk_held self.old }
+    {
+        if index >= self.tickets.len() {
+            return Answer::NoTicket;
+        }
+        let Some(ticket) = self.tickets[index].take() else {
+            return Answer::NoTicket;
+        };
+        match self.driver.ledger().collect(ticket) {
+            Ok(reply) => Answer::Collected(reply),
+            Err(ticket) => {
+                if let Some(other) = self.tickets[index].replace(ticket) {
+                    other.forget();
+                }
+                Answer::Waiting
+            }
+        }
+    }
+
+    /// The flight that is out is committed.
+    pub fn commit(&mut self) -> Answer
+        ensures answered { (s : Machine) → IsConsistent s → Follows self.old s → FollowsTo s Commit result self.new }
+        ensures disk { (s : Machine) → IsConsistent s → Follows self.old s
+            → HeldTouches D.keeps_model D.present D.clock D.left_since D.crashes (found_by_crash s Commit result) (touches_disk Commit result) Commit self.old self.new }
+        ensures model { model_of D.keeps_model self.new ≡ model_of D.keeps_model self.old }
+    {
+        self.driver.commit()
+    }
+
+    /// What may have been lost is released again.
+    pub fn resend(&mut self) -> Result<Answer, AllocError>
+        ensures answered { (s : Machine) → IsConsistent s → Follows self.old s → IfOk result (λ answer. FollowsTo s Resend answer self.new) }
+        ensures cut { (s : Machine) → IsConsistent s → Follows self.old s → OnErr result (IsCutShort s Resend self.new.released) }
+        ensures disk { disk_held self.new ≡ disk_held self.old }
+    {
+        match self.driver.ledger().resend() {
+            Ok(releases) => {
+                let count = push_releases(&mut self.released, releases)?;
+                Ok(Answer::Resent(count))
+            }
+            Err(_) => Ok(Answer::Refused(Refusal::OutOfMemory)),
+        }
+    }
+
+    /// The settled world is shown.
+    pub fn show(&mut self) -> Answer
+        ensures answered { (s : Machine) → IsConsistent s → Follows self.old s → FollowsTo s Show result self.new }
+        ensures disk { disk_held self.new ≡ disk_held self.old }
+    {
+        match self.driver.ledger().show(&mut self.seen) {
+            Ok(view) => Answer::Shown(view),
+            Err(refusal) => Answer::Refused(refusal),
+        }
+    }
+}

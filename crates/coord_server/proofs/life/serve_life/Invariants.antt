@@ -1,0 +1,8 @@
+use Rattle.std.proofs.Common.{[]}
+use Rattle.coord_server.proofs.life.serve_life.Given as goal
+
+abbrev pub ghosts-serve_ledger-L-Ledger : goal.ghosts-serve_ledger-L-Ledger
+ghosts-serve_ledger-L-Ledger g a = record { name = a.blank.name; parts = a.blank.parts }
+
+abbrev pub ghosts-serve_ledger-L-Origin : goal.ghosts-serve_ledger-L-Origin
+ghosts-serve_ledger-L-Origin g a = record { base = a.ledger.log.base; before = [] }

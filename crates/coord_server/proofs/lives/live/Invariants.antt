@@ -1,0 +1,11 @@
+use Rattle.std.proofs.Common.{◌≡◌, ℕ, false}
+use Rattle.coord_store.specs.Kept.{has_stopped}
+use Rattle.coord_server.specs.Lives.{Lives}
+use Rattle.coord_server.proofs.lives.live.Given as goal
+
+-- so many lives have rested, and the last one left this store
+abbrev pub invariant-loop : goal.invariant-loop
+invariant-loop g l =
+    (goal.iterator-loop g).can_next l.iterator' × (goal.iterator-loop g).is_finite l.iterator'
+    × ((n : ℕ) × Lives g.D.Disk.keeps_model g.D.Disk.present g.C.Callers.met n l.fn.store.world l.fn.callers l.store.world l.callers)
+    × (has_stopped l.store ≡ false)
