@@ -24,6 +24,7 @@ from latency import LONE_NODE, growth_of, quantiles  # noqa: E402
 from served.clients import Lost  # noqa: E402
 from served.server import Server  # noqa: E402
 
+NAMES = ("pairs", "echo", "lone", "two", "refusal", "order")
 ROUNDS, IN_A_ROUND, REPLY = 50, 100, b'{"kind":"finished","step":1000000}\n'
 UNREADABLE = b'{"op":"none","client":1,"number":1000000,"node":1}\n'
 
@@ -43,20 +44,21 @@ class Pairs:
         self.place += self.growth
 
 
-def answer_lines(answers, work):
-    """A process that answers each line over one connection, behind some work. Its address."""
+def stand_in(make_work):
+    """A process that answers each line over one connection, behind some work that it prepares itself. A connection to
+    it."""
     listener = socket.create_server(("127.0.0.1", 0))
     if os.fork() == 0:
-        connection = listener.accept()[0]
+        work, connection = make_work(), listener.accept()[0]
         connection.setsockopt(socket.IPPROTO_TCP, socket.TCP_NODELAY, 1)
         stream = connection.fileno()
         while os.read(stream, 4096):
             work()
-            os.write(stream, answers)
+            os.write(stream, REPLY)
         os._exit(0)
     host, port = listener.getsockname()
     listener.close()
-    return f"{host}:{port}"
+    return Connection(f"{host}:{port}")
 
 
 def by_another(work):
@@ -79,26 +81,64 @@ def by_another(work):
     return ask
 
 
-def stand_ins(folder, growth):
-    """A client's connection to each stand-in."""
-    lone, two = (Pairs(f"{folder}/{name}", growth) for name in ("lone", "two"))
-    makers = {"echo": lambda: None, "lone": lone.make, "two": two.make}
-    addresses = {name: answer_lines(REPLY, work) for name, work in makers.items() if name != "two"}
-    addresses["two"] = answer_lines_by_another(makers["two"])
-    return {name: Connection(address) for name, address in addresses.items()}
+def calls(server, folder):
+    """What is timed, by its name. The server is lent a client, which stays."""
+    connection, resets = Connection(server.address), Resets("finished")
+    growth = growth_of(server, connection, resets)
+    own, lone, two = (Pairs(f"{folder}/{name}", growth) for name in ("pairs", "lone", "two"))
+    stand_ins = [stand_in(lambda: lambda: None), stand_in(lambda: lone.make), stand_in(lambda: by_another(two.make))]
+    asks = [lambda it=it: it.ask(UNREADABLE) for it in (*stand_ins, connection)]
+    return growth, dict(zip(NAMES, [own.make, *asks, lambda: resets.ask(connection)]))
 
 
-def answer_lines_by_another(work):
-    listener = socket.create_server(("127.0.0.1", 0))
-    if os.fork() == 0:
-        ask = by_another(work)
-        connection = listener.accept()[0]
-        connection.setsockopt(socket.IPPROTO_TCP, socket.TCP_NODELAY, 1)
-        stream = connection.fileno()
-        while os.read(stream, 4096):
-            ask()
-            os.write(stream, REPLY)
-        os._exit(0)
-    host, port = listener.getsockname()
-    listener.close()
-    return f"{host}:{port}"
+def a_round(call):
+    spent = []
+    for _ in range(IN_A_ROUND):
+        begun = time.perf_counter()
+        call()
+        spent.append(time.perf_counter() - begun)
+    return spent
+
+
+def tell(growth, spent):
+    """The halves of all, what lies between one and the next, and the whole in pairs."""
+    half = {name: quantiles(times) for name, times in spent.items()}
+    for name, (most, rare) in half.items():
+        print(f"{name:12}{most * 1e3:9.3f} ms{rare * 1e3:9.3f} ms   p50 and p99 of {ROUNDS * IN_A_ROUND}", flush=True)
+    p50 = {name: times[0] * 1e3 for name, times in half.items()}
+    parts = [
+        (f"two writes ({growth} bytes and 1), each with a sync", p50["pairs"]),
+        ("the socket, to a waiting process and back", p50["lone"] - p50["pairs"]),
+        ("two switches to another thread and back", p50["two"] - p50["lone"]),
+        ("the line read and its reply written as JSON", p50["refusal"] - p50["echo"]),
+        ("the rest: the engine, the ledger, the store", p50["order"] - p50["two"] - p50["refusal"] + p50["echo"]),
+    ]
+    print()
+    for what, part in parts:
+        print(f"{what:52}{part:9.3f} ms{part / p50['pairs']:8.2f}", flush=True)
+    print(f"{'an order, to its reply':52}{p50['order']:9.3f} ms{p50['order'] / p50['pairs']:8.2f}", flush=True)
+
+
+def measure(server, folder):
+    server.found(LONE_NODE)
+    server.must_start()
+    growth, timed = calls(server, folder)
+    spent = {name: [] for name in timed}
+    for _ in range(ROUNDS):
+        for name, call in timed.items():
+            spent[name] += a_round(call)
+    tell(growth, spent)
+
+
+def main():
+    program, folder = sys.argv[1:]
+    server = Server(program, f"{folder}/store")
+    try:
+        measure(server, folder)
+    except Lost as lost:
+        sys.exit(f"LOST: {lost}")
+    finally:
+        server.end()
+
+
+main()
