@@ -25,7 +25,7 @@ from served.clients import Lost  # noqa: E402
 from served.server import Server  # noqa: E402
 
 NAMES = ("pairs", "echo", "lone", "two", "refusal", "order")
-ROUNDS, IN_A_ROUND, REPLY = 50, 100, b'{"kind":"finished","step":1000000}\n'
+ROUNDS, IN_A_ROUND, REPLY = 250, 20, b'{"kind":"finished","step":1000000}\n'
 UNREADABLE = b'{"op":"none","client":1,"number":1000000,"node":1}\n'
 
 
