@@ -1,5 +1,5 @@
 # What a person would ask for. The toolchain's command `rt` has to be on the PATH.
-.PHONY: help demo drill example services soak takeover build test refusals bench sweep install uninstall deb
+.PHONY: help demo drill example services soak lives takeover build test refusals bench sweep install uninstall deb
 
 PREFIX ?= /usr/local
 # So many checks run at a time, each on one processor and with up to 4 GB of memory.
@@ -15,6 +15,7 @@ help:
 	@echo 'make refusals  tries the other wrong bodies, which the prover has to refuse (CRATE=NAME for one crate)'
 	@echo 'make bench     measures the drill on a ring of 64 nodes with chords, its parts, the store, the ledger, the engine and the server'
 	@echo 'make soak      kills a coordinator 200 times and 50 migrations, and looks for what was lost (ROUNDS=N for N kills)'
+	@echo 'make lives     a trial build whose lives are short, which change in the midst of resets: kills it there 100 times (ROUNDS=N)'
 	@echo 'make takeover  a coordinator on a replicated volume of three hosts, each in namespaces; hosts and bricks are lost'
 	@echo 'make sweep     refuses each allocation of every test and of the programs in turn, for 12 seconds each (EACH=N for N, 0 for all)'
 	@echo 'make install   copies the program, resetctl, the client library, examples, documents and manual pages below PREFIX (/usr/local); make uninstall takes them away'
@@ -36,6 +37,9 @@ services: bin/resetd
 
 soak: bin/resetd
 	@tools/soak --rounds $(or $(ROUNDS),200)
+
+lives:
+	@tools/soak --lives 32 --rounds $(or $(ROUNDS),100)
 
 takeover: bin/resetd
 	@tools/takeover

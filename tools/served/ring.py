@@ -27,6 +27,7 @@ class Ring:
         self.clients = [Client(number) for number in range(1, CLIENTS + 1)]
         self.quiet = dict.fromkeys(range(1, NODES + 1), 0)
         self.started = []
+        self.counts = (0, 0)  # how many steps were shown as accepted and settled since the last start
 
     def found(self):
         done = self.server.found(topology(HALF, 1))
@@ -49,6 +50,7 @@ class Ring:
     def repeat_orders(self, count):
         """After a start on a store of `count` steps: what was answered is answered the same again, and what was not
         answered is sent again."""
+        self.note_counts(count, count, is_start=True)
         for client in self.clients:
             client.repeat(self.server, count)
             if client.answered:
@@ -61,6 +63,7 @@ class Ring:
             view = self.server.ask({"op": "show"})
             if "nodes" not in view:
                 raise Away(view)
+            self.note_counts(view["accepted"], view["settled"])
             epochs = {row[0]: row[4] for row in view["nodes"]}
             self.history.note_epochs(epochs)
             if all(row[2] == "ready" for row in view["nodes"]) and self.server.ask({"op": "resend"}) == \
@@ -69,6 +72,12 @@ class Ring:
                 return self.await_signals(until)
             time.sleep(0.005)
         raise Lost(f"a reset has not come to its end within {PATIENCE} seconds")
+
+    def note_counts(self, accepted, settled, is_start=False):
+        """While a server runs, over all its lives, neither count falls."""
+        if not is_start and (accepted < self.counts[0] or settled < self.counts[1]):
+            raise Lost(f"{self.counts} steps were accepted and settled, and then {accepted} and {settled}")
+        self.counts = accepted, settled
 
     def await_signals(self, until):
         """Waits until each signal that was settled is printed: that comes behind the answers."""

@@ -1,0 +1,111 @@
+"""How much memory a server has over many steps: one client whose connection stays, and one that connects for each order.
+
+The words are the program, a folder, and how many steps each of the two makes. A line is printed for each twentieth of
+them: what is resident, what was resident at most since the start, and how many connections there were.
+"""
+
+import os
+import sys
+import time
+
+sys.path.insert(0, os.path.join(os.path.dirname(os.path.abspath(__file__)), "..", "..", "tools"))
+from connection import Connection  # noqa: E402
+from latency import LONE_NODE  # noqa: E402
+from served.clients import Lost  # noqa: E402
+from served.server import Server  # noqa: E402
+
+AT_ONCE, LINES = 64, 20
+EVERY = 0.05  # seconds between two looks at the memory
+
+
+class Memory:
+    """What the system says of a process, and the greatest that was seen."""
+
+    def __init__(self, process):
+        self.process, self.greatest, self.looked = process, 0, 0.0
+
+    def look(self):
+        """Looks where it has not just looked. What is resident, and the peak that the system noted, both in MB."""
+        with open(f"/proc/{self.process}/status", encoding="ascii") as file:
+            rows = dict(line.split(":", 1) for line in file)
+        now, peak = (int(rows[name].split()[0]) / 1000 for name in ("VmRSS", "VmHWM"))
+        self.greatest, self.looked = max(self.greatest, now), time.monotonic()
+        return now, peak
+
+    def look_again(self):
+        if time.monotonic() - self.looked > EVERY:
+            self.look()
+
+
+class Caller:
+    """Client 1, which resets node 1 again and again. An order that has no reply is sent again."""
+
+    def __init__(self, server):
+        self.server, self.connection, self.number, self.connections = server, None, 0, 0
+
+    def order(self, count, stays):
+        """So many orders, all sent before the first reply is read."""
+        lines = [b'{"op":"reset","client":1,"number":%d,"node":1}\n' % (self.number + place + 1) for place in range(count)]
+        done = 0
+        while done < count:
+            if self.connection is None:
+                self.connection, self.connections = Connection(self.server.address), self.connections + 1
+            for reply in self.replies(lines[done:]):
+                if not reply.startswith(b'{"kind":"finished"'):
+                    raise Lost(f"a reset was answered {reply}")
+                done += 1
+            if done < count or not stays:
+                self.connection.close()
+                self.connection = None
+        self.number += count
+
+    def replies(self, lines):
+        """The replies that come before the connection is over."""
+        try:
+            self.connection.socket.sendall(b"".join(lines))
+            for _ in lines:
+                reply = self.connection.replies.readline()
+                if not reply.endswith(b"\n"):
+                    return
+                yield reply
+        except ConnectionError:
+            return
+
+
+def measure(server, steps, stays, at_once):
+    print(f"one client {'whose connection stays' if stays else 'that connects for each order'}, "
+          f"{at_once} orders sent at once", flush=True)
+    print(f"{'steps':>12}{'seconds':>9}{'resident':>12}{'at most':>12}{'connections':>13}", flush=True)
+    server.found(LONE_NODE)
+    server.must_start()
+    memory, caller, begun = Memory(server.process.pid), Caller(server), time.monotonic()
+    for line in range(1, LINES + 1):
+        while caller.number < steps * line // LINES:
+            caller.order(at_once, stays)
+            memory.look_again()
+        now, peak = memory.look()
+        print(f"{caller.number:12,}{time.monotonic() - begun:9.0f}{now:9.1f} MB{peak:9.1f} MB{caller.connections:13,}",
+              flush=True)
+    if caller.connection:
+        caller.connection.close()
+    server.must_close()
+    legal = server.command("check")[1][0]
+    print(f"closed, and `resetd check` says {legal}", flush=True)
+    if int(legal.split()[1]) != caller.number + 1:
+        raise Lost(f"{caller.number} orders were answered")
+
+
+def main():
+    program, folder, staying, connecting = sys.argv[1], sys.argv[2], int(sys.argv[3]), int(sys.argv[4])
+    for name, steps, stays, at_once in ("stays", staying, True, AT_ONCE), ("connects", connecting, False, 1):
+        server = Server(program, f"{folder}/{name}")
+        try:
+            if steps:
+                measure(server, steps, stays, at_once)
+        except Lost as lost:
+            sys.exit(f"LOST: {lost}")
+        finally:
+            server.end()
+
+
+main()

@@ -1,0 +1,209 @@
+"""A coordinator whose lives are short: they change in the midst of resets and of connections, and it is killed there.
+
+A kill is meant for a change of life: it comes once the server is seen with fewer threads than a life has, so while the
+threads of one end or those of the next one start, or between the two, where the engine is taken apart.
+"""
+
+import json
+import os
+import socket
+import threading
+
+from . import kills
+from .clients import Lost
+from .server import Away, Server
+
+WORKERS = 8
+# What a server runs in the midst of a life: itself, what prints, the flusher and the workers. The last two end with it.
+IN_A_LIFE, OVER_ALL = 3 + WORKERS, 2
+MOST_LOOKS = 10_000_000
+UNKILLED, STAYED, AT_ONCE = 20, 80, 8  # resets, and orders of a client that stays, of which some are sent at once
+
+
+class Watched(Server):
+    """A server whose lives are counted by the number of its flusher's thread, as it is seen after each answer. That
+    is the least number that there can have been: some lives end unseen."""
+
+    lives, flusher = 0, None
+
+    def ask(self, request):
+        reply = super().ask(request)
+        self.note_life()
+        return reply
+
+    def threads(self):
+        """The numbers of its threads, in the order in which they were started."""
+        try:
+            return sorted(map(int, os.listdir(f"/proc/{self.process.pid}/task")))
+        except FileNotFoundError:
+            return []
+
+    def note_life(self):
+        threads = self.threads()
+        if len(threads) == IN_A_LIFE and threads[OVER_ALL] != self.flusher:
+            self.flusher = threads[OVER_ALL]
+            self.lives += 1
+
+
+class Killer(threading.Thread):
+    """Kills the server within a change of life: once it is seen with no more than so many threads, fewer than a life
+    has. `met` is with how many it was seen then."""
+
+    def __init__(self, server, most):
+        super().__init__()
+        self.server, self.most, self.met, self.is_told = server, most, None, False
+        self.start()
+
+    def run(self):
+        for _ in range(MOST_LOOKS):
+            count = len(self.server.threads())
+            if count < OVER_ALL or self.is_told:
+                return
+            if count <= self.most:
+                self.server.process.kill()
+                self.met = count
+                return
+
+    def end(self):
+        """It looks no more. With how many threads it has met the server, if it has."""
+        self.is_told = True
+        self.join()
+        return self.met
+
+
+class Staying:
+    """A connection that its client never closes: the server does, once its life is too old, behind a reply. What has no
+    reply then is sent again over the next one."""
+
+    def __init__(self, server):
+        self.server, self.socket, self.replies, self.connections = server, None, None, 0
+
+    def ask(self, request):
+        return self.ask_all([request])[0]
+
+    def ask_all(self, requests):
+        """The replies to requests, all of which are sent before the first reply is read."""
+        lines, replies = [json.dumps(request).encode() + b"\n" for request in requests], []
+        for _ in range(10 + len(lines)):
+            try:
+                self.send(b"".join(lines[len(replies):]))
+                while len(replies) < len(lines) and (line := self.replies.readline()).endswith(b"\n"):
+                    replies.append(json.loads(line))
+            except OSError:
+                pass
+            self.server.note_life()
+            if len(replies) == len(lines):
+                return replies
+            self.close()
+            if self.server.process.poll() is not None:
+                break
+        raise Away("no line is answered any more")
+
+    def send(self, text):
+        if self.socket is None:
+            host, port = self.server.address.rsplit(":", 1)
+            self.socket = socket.create_connection((host, int(port)), timeout=30)
+            self.replies = self.socket.makefile("rb")
+            self.connections += 1
+        self.socket.sendall(text)
+
+    def close(self):
+        if self.socket:
+            self.replies.close()
+            self.socket.close()
+        self.socket = None
+
+
+def run(ring, rounds):
+    kills.first_reset(ring)
+    live_unkilled(ring)
+    met = {}
+    for done in range(1, rounds + 1):
+        count = one_round(ring)
+        met[count] = met.get(count, 0) + 1
+        if done % 20 == 0 or done == rounds:
+            tell(ring, done, met)
+    kills.finish(ring)
+    if met.get(None, 0) == rounds:
+        raise Lost("no kill has met a change of life")
+
+
+def live_unkilled(ring):
+    """Resets over many lives. Nothing is lost between them: each signal is printed, and each client's last order is
+    answered as before."""
+    server = ring.server
+    kills.start_again(ring)
+    for _ in range(UNKILLED):
+        ring.ask_resets(ring.choice.randint(1, 3))
+        ring.follow()
+        ring.repeat_orders(ring.counts[1])
+    connections = stay(ring, STAYED, 1)
+    ring.follow()
+    at_once = stay(ring, STAYED, AT_ONCE)
+    ring.follow()
+    ring.repeat_orders(ring.counts[1])
+    print(f"without a kill: at least {server.lives} lives in {UNKILLED} rounds of resets and {2 * STAYED} orders of clients "
+          f"that stay, over {connections} connections one after the other and {at_once} where {AT_ONCE} are sent at "
+          f"once; each signal was printed, each once", flush=True)
+    if server.lives < UNKILLED or min(connections, at_once) < 2:
+        raise Lost("hardly a life has ended: this is not a program with short lives")
+    kills.finish(ring)
+
+
+def stay(ring, orders, at_once):
+    """Resets by one client whose connection stays. Over how many connections they went."""
+    staying, client = Staying(ring.server), ring.choice.choice(ring.clients)
+    try:
+        for _ in range(orders // at_once):
+            if at_once == 1:
+                client.order(staying, "reset", node=ring.choice.randint(1, 64))
+                ring.note(client)
+            else:
+                order_at_once(ring, staying, client, at_once)
+    finally:
+        staying.close()
+    return staying.connections
+
+
+def order_at_once(ring, staying, client, count):
+    first = client.answered["number"] + 1 if client.answered else 1
+    sent = [{"op": "reset", "client": client.client, "number": first + place, "node": ring.choice.randint(1, 64)}
+            for place in range(count)]
+    for request, reply in zip(sent, staying.ask_all(sent)):
+        if "kind" not in reply or (client.reply and reply["step"] <= client.reply["step"]):
+            raise Lost(f"{request} was answered {reply} behind {client.reply}")
+        client.answered, client.reply = request, reply
+        ring.note(client)
+
+
+def one_round(ring):
+    """A start, what has to hold after it, resets by clients that stay or do not, and a kill within a change of life.
+    With how many threads the server was met, if it was."""
+    server = ring.server
+    count, _ = ring.history.look_into(server)
+    server.must_start()
+    ring.repeat_orders(count)
+    ring.follow()
+    killer = Killer(server, ring.choice.randint(OVER_ALL, IN_A_LIFE - 1))
+    try:
+        if ring.choice.randint(0, 3) == 0:
+            stay(ring, ring.choice.randint(1, 20), 1)
+        else:
+            ring.ask_resets(ring.choice.randint(1, 3))
+        ring.follow()
+    except Away:
+        pass
+    met = killer.end()
+    if met is None:
+        server.process.kill()
+    kills.after_kill(ring, True)
+    return met
+
+
+def tell(ring, done, met):
+    history, between = ring.history, met.get(OVER_ALL, 0)
+    within = sum(met.values()) - between - met.get(None, 0)
+    print(f"{done} kills ({between} between two lives, {within} while the threads of one ended or started, "
+          f"{met.get(None, 0)} elsewhere), at least {ring.server.lives} lives: {history.count} steps, "
+          f"{len(history.printed)} signals printed, each once; {history.taken} settled and taken by a kill, so told by "
+          f"epochs alone", flush=True)
