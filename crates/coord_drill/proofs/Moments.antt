@@ -22,7 +22,7 @@ use Rattle.coord_ledger.proofs.Moments.{met_aside}
 use Rattle.coord_drill.specs.Holding.{IsMade}
 use Rattle.coord_drill.specs.Moments.{GoesOn, GoesOnTo, IsRun, Moves, MovesFrom}
 use Rattle.coord_drill.specs.declared.asked.Asked.{Asked}
-use Rattle.coord_drill.specs.declared.asked.Asked.TheVariants.{Submit, Refuse, Nothing, Resend, Check, Show, Hold, Flush, Crash, Version2}
+use Rattle.coord_drill.specs.declared.asked.Asked.TheVariants.{Version2}
 
 abbrev keeps : MemDisk → Bool
 keeps disk = true
@@ -83,16 +83,8 @@ pub moves_to : (a : Asked) (o p : Option (Driven MemDisk)) (v : Driven MemDisk) 
 moves_to a o p v other is begun on = subst (λ x. MovesFrom a x p) (sym is) (by_new p (subst (λ x. GoesOn x p) is on))
   where
     by_asked : (b : Asked) (w : Driven MemDisk) → b ≢ Version2 → IsRun v.ledger w → Moves b v w
-    by_asked (Submit x) w other run = run
-    by_asked (Refuse refusal) w other run = run
-    by_asked Nothing w other run = run
-    by_asked Resend w other run = run
-    by_asked Check w other run = run
-    by_asked Show w other run = run
-    by_asked Hold w other run = run
-    by_asked Flush w other run = run
-    by_asked Crash w other run = run
     by_asked Version2 w other run = absurd (other refl)
+    by_asked b w other run = run
 
     by_new : (q : Option (Driven MemDisk)) → GoesOn (Some v) q → MovesFrom a (Some v) q
     by_new None on = absurd on

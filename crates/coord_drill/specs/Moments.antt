@@ -16,7 +16,7 @@ use Rattle.coord_ledger.specs.ledger.Driver.{Drives}
 use Rattle.coord_ledger.specs.ledger.State.{LedgerState}
 use Rattle.coord_drill.specs.Holding.{IsMade}
 use Rattle.coord_drill.specs.declared.asked.Asked.{Asked}
-use Rattle.coord_drill.specs.declared.asked.Asked.TheVariants.{Submit, Refuse, Nothing, Resend, Check, Show, Hold, Flush, Crash, Version2}
+use Rattle.coord_drill.specs.declared.asked.Asked.TheVariants.{Version2}
 
 -- a run of events from a ledger at home, that has come to what is driven
 pub record IsRun (l : LedgerState MemDisk) (d : Driven MemDisk) : Type 0 where
@@ -37,16 +37,8 @@ GoesOn (Some d) (Some new) = GoesOnTo d new
 
 -- a line is a run of events; the line `version 2` makes a new disk
 abbrev pub Moves : Asked → Driven MemDisk → Driven MemDisk → Type 0
-Moves (Submit x) d new = IsRun d.ledger new
-Moves (Refuse refusal) d new = IsRun d.ledger new
-Moves Nothing d new = IsRun d.ledger new
-Moves Resend d new = IsRun d.ledger new
-Moves Check d new = IsRun d.ledger new
-Moves Show d new = IsRun d.ledger new
-Moves Hold d new = IsRun d.ledger new
-Moves Flush d new = IsRun d.ledger new
-Moves Crash d new = IsRun d.ledger new
 Moves Version2 d new = IsMade 2 new.ledger
+Moves other d new = IsRun d.ledger new
 
 abbrev pub MovesFrom : Asked → Option (Driven MemDisk) → Option (Driven MemDisk) → Type 0
 MovesFrom a None new = ⊥

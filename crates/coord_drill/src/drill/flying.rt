@@ -118,17 +118,15 @@ fn land(driver: Driver<MemDisk>) -> Result<(Flown, Driver<MemDisk>), Fault>
     let mut driver = driver;
     let answer = driver.commit();
     driver.survives();
+    let (releases, driver) = take_back(driver)?;
     match answer {
-        Answer::Committed => {
-            let (releases, driver) = take_back(driver)?;
-            Ok((Flown::Settled(releases), driver))
-        }
+        Answer::Committed => Ok((Flown::Settled(releases), driver)),
         Answer::Failed(fault) => {
-            let (releases, driver) = take_back(driver)?;
             releases.lose_rest();
             Ok((Flown::Failed(fault), driver))
         }
         _ => {
+            releases.lose_rest();
             let _disk = driver.into_disk();
             Err(Fault::OutOfMemory)
         }

@@ -1,4 +1,4 @@
-use Rattle.std.proofs.Common.{◌≡◌, ◌++◌, Some, None, false, true, refl, sym, ap, ◌∙◌, subst, rules, string_bytes}
+use Rattle.std.proofs.Common.{◌≡◌, ◌++◌, Some, None, false, true, sym, ap, ◌∙◌, subst, rules, string_bytes}
 use Rattle.std.specs.Option.{option_map, option_map_or}
 use Rattle.coord_disk.specs.declared.memory.MemDisk.{MemDisk}
 use Rattle.coord_world.specs.protocol.NumberedWorld.{no_world}
