@@ -1,5 +1,5 @@
 -- What flights, steps and crashes print, and what becomes of the drill.
-use Rattle.std.proofs.Common.{◌≡◌, ℕ, ◌+◌, true, false, cond, List, [], ◌++◌, Ok, Err, Some, None, refl, sym, ap, ◌∙◌, subst, arith, inl}
+use Rattle.std.proofs.Common.{◌≡◌, ℕ, ◌+◌, Bool, true, false, cond, List, [], ◌++◌, Ok, Err, Option, Some, None, refl, sym, ap, ◌∙◌, subst, arith, inl}
 use Rattle.std.specs.Option.{option_map_or}
 use Rattle.coord_disk.specs.declared.memory.MemDisk.{MemDisk}
 use Rattle.coord_types.specs.declared.refusals.Refusal.{Refusal}
@@ -11,6 +11,7 @@ use Rattle.coord_world.specs.protocol.NumberedWorld.{World, no_world}
 use Rattle.coord_ledger.specs.declared.events.Answer.{Answer}
 use Rattle.coord_ledger.specs.declared.events.Answer.TheVariants.{Committed}
 use Rattle.coord_ledger.specs.declared.mark.Mark.TheVariants.{New}
+use Rattle.coord_ledger.specs.ledger.Driven.{Driven}
 use Rattle.coord_ledger.specs.ledger.State.{Claim, LedgerState, ledger_over}
 use Rattle.coord_ledger.specs.machine.Answers.{IsOneOf, kept_by, to_commit}
 use Rattle.coord_ledger.specs.machine.Log.{front_world, log_over, settled_count, settled_world, world_after}
@@ -24,19 +25,27 @@ use Rattle.coord_drill.proofs.Quiet.{does_quietly, quiet_luck, settled_kept}
 
 -- ---- drills over a ledger
 
-state_is : (d : Drill) (l : LedgerState MemDisk) → d.ledger ≡ Some l → state_of d ≡ drill_of l d.holds d.has_begun
-state_is d l is = ap (λ o. record { log = option_map_or (λ (k : LedgerState MemDisk). k.log) o (log_over (no_world 1)); doubt = option_map_or (λ (k : LedgerState MemDisk). k.doubt) o None; holds = d.holds; has_begun = d.has_begun }) is
+state_is : (d : Drill) (v : Driven MemDisk) → d.driver ≡ Some v → state_of d ≡ drill_of v.ledger d.holds d.has_begun
+state_is d v is = ap (λ o. record { log = option_map_or (λ (k : Driven MemDisk). k.ledger.log) o (log_over (no_world 1)); doubt = option_map_or (λ (k : Driven MemDisk). k.ledger.doubt) o None; holds = d.holds; has_begun = d.has_begun }) is
 
-pub held_is : (d : Drill) (l : LedgerState MemDisk) → d.ledger ≡ Some l → IsReady d → IsHeld l d.tickets.items
-held_is d l is ready = subst (λ o. IsReadyWith o d.tickets.items) is ready
+-- that of a drill that holds this
+pub state_with : (o : Option (Driven MemDisk)) (v : Driven MemDisk) (holds begun : Bool) → o ≡ Some v →
+    record { log = option_map_or (λ (k : Driven MemDisk). k.ledger.log) o (log_over (no_world 1)); doubt = option_map_or (λ (k : Driven MemDisk). k.ledger.doubt) o None; holds = holds; has_begun = begun } ≡ drill_of v.ledger holds begun
+state_with o v holds begun is = ap (λ p. record { log = option_map_or (λ (k : Driven MemDisk). k.ledger.log) p (log_over (no_world 1)); doubt = option_map_or (λ (k : Driven MemDisk). k.ledger.doubt) p None; holds = holds; has_begun = begun }) is
+
+pub held_is : (d : Drill) (v : Driven MemDisk) → d.driver ≡ Some v → IsReady d → IsHeld v.ledger d.tickets.items
+held_is d v is ready = (subst (λ o. IsReadyWith o d.tickets.items) is ready).1
+
+pub home_is : (d : Drill) (v : Driven MemDisk) → d.driver ≡ Some v → IsReady d → v.flight ≡ None
+home_is d v is ready = (subst (λ o. IsReadyWith o d.tickets.items) is ready).0
 
 -- nothing is pending in a ledger that was just made
 pub new_held : (l : LedgerState MemDisk) (w : World) (disk : MemDisk) (claims : List Claim) → l ≡ ledger_over w disk → claims ≡ [] → IsHeld l claims
 new_held l w disk claims is none = subst (λ cs. IsHeld l cs) (sym none) (subst (λ m. IsHeld m []) (sym is) (record { home = refl; here = (disk, refl); within = omega arith; tickets = refl }))
 
 -- what is told of a ledger is told of its drill
-pub tells_of : (P : DrillState → List ℕ → Type 0) (d : Drill) (l : LedgerState MemDisk) (old new told : List ℕ) → d.ledger ≡ Some l → new ≡ old ++ told → P (drill_of l d.holds d.has_begun) told → Tells old new (P (state_of d))
-tells_of P d l old new told is text done = (told, (text, subst (λ s. P s told) (sym (state_is d l is)) done))
+pub tells_of : (P : DrillState → List ℕ → Type 0) (d : Drill) (v : Driven MemDisk) (old new told : List ℕ) → d.driver ≡ Some v → new ≡ old ++ told → P (drill_of v.ledger d.holds d.has_begun) told → Tells old new (P (state_of d))
+tells_of P d v old new told is text done = (told, (text, subst (λ s. P s told) (sym (state_is d v is)) done))
 
 -- ---- flights
 

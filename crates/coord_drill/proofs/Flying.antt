@@ -1,14 +1,12 @@
 -- What a flight makes of a ledger, what is printed of it, and the tickets that stay.
-use Rattle.std.proofs.Common.{◌≡◌, ◌⊎◌, ℕ, ◌≤◌, Bool, true, false, List, [], length, take, drop, Option, Some, None, Result, Ok, IfOk, refl, sym, ap, ◌∙◌, subst, arith, inl, inr}
+use Rattle.std.proofs.Common.{◌≡◌, ℕ, ◌≤◌, Bool, true, false, List, [], length, take, drop, Option, Some, None, Ok, refl, sym, ap, ◌∙◌, subst, arith, inl, inr}
 use Rattle.std.proofs.Math.Nat.{min-le_right}
 use Rattle.std.proofs.lemmas.List.{drop-drop, length-drop, length-take, take-append-drop, take_min}
 use Rattle.std.specs.List.{AllByRecursion}
-use Rattle.std.specs.Option.{IsSomeAnd}
 use Rattle.std.specs.Prelude.{is_some}
 use Rattle.coord_disk.specs.declared.memory.MemDisk.{MemDisk}
 use Rattle.coord_store.specs.declared.faults.CommitFault.{CommitFault}
 use Rattle.coord_store.specs.declared.faults.CommitFault.TheVariants as commit
-use Rattle.coord_world.proofs.Facade.{by_test}
 use Rattle.coord_world.specs.protocol.Next.{fold}
 use Rattle.coord_world.specs.protocol.NumberedWorld.{World}
 use Rattle.coord_world.specs.protocol.Outputs.{outs}
@@ -19,95 +17,117 @@ use Rattle.coord_ledger.specs.declared.mark.Mark.{Mark}
 use Rattle.coord_ledger.specs.declared.mark.Mark.TheVariants.{New, Good, Torn}
 use Rattle.coord_ledger.specs.declared.release.Release.{Release}
 use Rattle.coord_ledger.specs.ledger.Calls.{keeps_store, next_flight, releases_in, taken_back, with_out}
-use Rattle.coord_ledger.specs.ledger.Follows.{IsOut}
+use Rattle.coord_ledger.specs.ledger.Driven.{CommitsTo, Driven, IsMarked, LandsTo, at_home}
 use Rattle.coord_ledger.specs.ledger.State.{Claim, FlightState, IsGranted, LedgerState}
 use Rattle.coord_ledger.specs.machine.After.{releases_of}
 use Rattle.coord_ledger.specs.machine.Answers.{IsOneOf, most_in_flight, next_size, stays_home, to_commit}
 use Rattle.coord_ledger.specs.machine.Log.{Log, pending, settled_world, with_settled}
 use Rattle.coord_drill.specs.Answered.{Flies, commit_lines}
 use Rattle.coord_drill.specs.Drill.{DrillState, after_commit, has_no_flight}
-use Rattle.coord_drill.specs.Holding.{FlownTo, IsBack, IsHeld, claims_of, collected_lines, drill_of, waiting}
+use Rattle.coord_drill.specs.Holding.{AreGranted, FlownTo, IsBack, IsHeld, LandsAs, claims_of, collected_lines, drill_of, flown_lines, left_by, waiting}
 use Rattle.coord_drill.specs.Printed.{commit_line, settled_lines}
+use Rattle.coord_drill.specs.declared.drill.flying.Flown.{Flown}
 use Rattle.coord_drill.specs.declared.drill.flying.Flown.TheVariants as flown
 use Rattle.coord_drill.proofs.Doing.{flies, stays}
 use Rattle.coord_drill.proofs.Settling.{collected_are, fold_version, granted_from, waiting_are}
 
 -- ---- out and back
 
--- what is known of a flight that went out
-pub flight_begun : {E : Type 0} (l out : LedgerState MemDisk) (r : Result (Option (FlightState MemDisk)) E) (f : FlightState MemDisk) → r ≡ Ok (Some f)
-    → (keeps_store l ≡ true → (r ≡ Ok None) × (out ≡ l))
-    → (keeps_store l ≡ false → IfOk r (λ begun. IsSomeAnd begun (λ (g : FlightState MemDisk). (g ≡ next_flight l.log g.disk) × (l.disk ≡ Some g.disk) × (out ≡ with_out l (length g.steps)))))
-    → (keeps_store l ≡ false) × (f ≡ next_flight l.log f.disk) × (out ≡ with_out l (length f.steps))
-flight_begun {E} l out r f is nothing begun =
-    by_test (keeps_store l) (λ b. (keeps_store l ≡ false) × (f ≡ next_flight l.log f.disk) × (out ≡ with_out l (length f.steps)))
-    (λ keeps. let clash : Ok (Some f) ≡ Ok None = sym is ∙ (nothing keeps).0 in absurd cc)
-    (λ away.
-    let known = subst (λ (q : Result (Option (FlightState MemDisk)) E). IfOk q (λ given. IsSomeAnd given (λ (g : FlightState MemDisk). (g ≡ next_flight l.log g.disk) × (l.disk ≡ Some g.disk) × (out ≡ with_out l (length g.steps))))) is (begun away) in
-    (away, known.0, known.2))
+-- by the mark that a commit leaves
+lands : (l : LedgerState MemDisk) (f : FlightState MemDisk) (d new : Driven MemDisk) (releases : List Release) (answer : Answer) → CommitsTo l f answer d → ((g : FlightState MemDisk) → d.flight ≡ Some g → LandsTo d.ledger g (Ok (Some releases)) new) →
+    (disk : MemDisk) × (mark : Mark) × (IsMarked answer mark × ((releases ≡ releases_in f mark) × (new ≡ at_home (taken_back l (length f.steps) mark disk))))
+lands l f d new releases answer to landed =
+    let g = to.flown in
+    let back = landed g (ap (λ (v : Driven MemDisk). v.flight) to.is) in (
+      g.disk,
+      g.mark,
+      (
+        to.marked,
+        (
+          back.0 ∙ released_as g.mark,
+          back.1 ∙ (λ i. at_home (taken_back (to.is i).ledger (length (to.steps i)) g.mark g.disk)),
+        ),
+      ),
+    )
+  where
+    released_as : (mark : Mark) → releases_in to.flown mark ≡ releases_in f mark
+    released_as New = refl
+    released_as Good = λ i. releases_of (outs (to.world i) (to.steps i))
+    released_as Torn = refl
 
--- the flight that went out, committed or not, is the ledger's own
-pub own_flight : (l out : LedgerState MemDisk) (f g : FlightState MemDisk) → f ≡ next_flight l.log f.disk → out ≡ with_out l (length f.steps) → g.first ≡ f.first → g.steps ≡ f.steps → g.world ≡ f.world → IsOut out g
-own_flight l out f g next gone first steps world =
-    let p = pending l.log in
-    let are : g.steps ≡ take most_in_flight p = steps ∙ ap (λ (h : FlightState MemDisk). h.steps) next in
-    let size : length g.steps ≡ next_size l.log = ap length are ∙ length-take most_in_flight p in
-    let own : IsOut (with_out l (length f.steps)) g = record {
-      size = ap (λ ss. Some (length ss)) (sym steps);
-      first = first ∙ ap (λ (h : FlightState MemDisk). h.first) next;
-      steps = are ∙ sym (ap (λ n. take n p) size ∙ take_min most_in_flight p);
-      world = world ∙ ap (λ (h : FlightState MemDisk). h.world) next;
-    } in
-    subst (λ m. IsOut m g) (sym gone) own
+pub lands_settled : (l : LedgerState MemDisk) (f : FlightState MemDisk) (d new : Driven MemDisk) (releases : List Release) → CommitsTo l f Committed d → ((g : FlightState MemDisk) → d.flight ≡ Some g → LandsTo d.ledger g (Ok (Some releases)) new) → LandsAs l f (flown.Settled releases) new
+lands_settled l f d new releases to landed =
+    let all = lands l f d new releases Committed to landed in
+    (all.0, (all.2.1.0 ∙ ap (releases_in f) all.2.0, all.2.1.1 ∙ ap (λ m. at_home (taken_back l (length f.steps) m all.0)) all.2.0))
 
-module _ (l out new : LedgerState MemDisk) (f g : FlightState MemDisk) (away : keeps_store l ≡ false) (next : f ≡ next_flight l.log f.disk) (gone : out ≡ with_out l (length f.steps))
-    (steps : g.steps ≡ f.steps) (world : g.world ≡ f.world) (back : new ≡ taken_back out (length g.steps) g.mark g.disk) where
-  came : g.steps ≡ take most_in_flight (pending l.log)
-  came = steps ∙ ap (λ (h : FlightState MemDisk). h.steps) next
+pub lands_failed : (l : LedgerState MemDisk) (f : FlightState MemDisk) (d new : Driven MemDisk) (releases : List Release) (fault : CommitFault) → CommitsTo l f (Failed fault) d → ((g : FlightState MemDisk) → d.flight ≡ Some g → LandsTo d.ledger g (Ok (Some releases)) new) → LandsAs l f (flown.Failed fault) new
+lands_failed l f d new releases commit.Device to landed =
+    let all = lands l f d new releases (Failed commit.Device) to landed in
+    (all.0, all.2.1.1 ∙ ap (λ m. at_home (taken_back l (length f.steps) m all.0)) all.2.0)
+lands_failed l f d new releases commit.OutOfMemory to landed =
+    let all = lands l f d new releases (Failed commit.OutOfMemory) to landed in
+    (all.0, all.2.1.1 ∙ ap (λ m. at_home (taken_back l (length f.steps) m all.0)) all.2.0)
+lands_failed l f d new releases commit.Full to landed = absurd to.marked
+lands_failed l f d new releases commit.Stopped to landed = absurd to.marked
+lands_failed l f d new releases commit.Again to landed = absurd to.marked
 
-  came_to : length g.steps ≡ next_size l.log
-  came_to = ap length came ∙ length-take most_in_flight (pending l.log)
+-- a flight of the next steps is out and back
+came_to : (l : LedgerState MemDisk) → length (take most_in_flight (pending l.log)) ≡ next_size l.log
+came_to l = length-take most_in_flight (pending l.log)
 
-  by_mark : (mark : Mark) → g.mark ≡ mark → new ≡ taken_back (with_out l (length f.steps)) (next_size l.log) mark g.disk
-  by_mark mark is =
-      back ∙ ap (λ m. taken_back out (length g.steps) m g.disk) is ∙ ap (λ o. taken_back o (length g.steps) mark g.disk) gone
-      ∙ ap (λ n. taken_back (with_out l (length f.steps)) n mark g.disk) came_to
+back_as : (l new : LedgerState MemDisk) (disk was : MemDisk) (mark : Mark) → new ≡ taken_back (with_out l (length (next_flight l.log was).steps)) (length (next_flight l.log was).steps) mark disk → new ≡ taken_back (with_out l (next_size l.log)) (next_size l.log) mark disk
+back_as l new disk was mark is = is ∙ ap (λ n. taken_back (with_out l n) n mark disk) (came_to l)
 
-  pub settled_to : (rs : List Release) → g.mark ≡ Good → rs ≡ releases_in g g.mark → FlownTo l (flown.Settled rs) new
-  settled_to rs good given =
-      let is = by_mark Good good in (
-        record {
-          away = away;
-          home = ap (λ (m : LedgerState MemDisk). m.out) is;
-          here = (g.disk, ap (λ (m : LedgerState MemDisk). m.disk) is);
-          log_is = ap (λ (m : LedgerState MemDisk). m.log) is;
-          doubt_is = ap (λ (m : LedgerState MemDisk). m.doubt) is;
-        },
-        given ∙ ap (λ m. releases_in g m) good ∙ ap (λ w. releases_of (outs w g.steps)) (world ∙ ap (λ (h : FlightState MemDisk). h.world) next)
-            ∙ ap (λ ss. releases_of (outs (settled_world l.log) ss)) (came ∙ sym (take_min most_in_flight (pending l.log))),
-      )
-
-  pub failed_to : (fault : CommitFault) → ((fault ≡ commit.Device) × (g.mark ≡ Torn)) ⊎ ((fault ≡ commit.OutOfMemory) × (g.mark ≡ New)) → FlownTo l (flown.Failed fault) new
-  failed_to fault (inl torn) =
-      let is = by_mark Torn torn.1 in
-      subst (λ e. FlownTo l (flown.Failed e) new) (sym torn.0)
-      (record {
+pub flown_to : (l : LedgerState MemDisk) (was : MemDisk) (r : Flown) (new : Driven MemDisk) → keeps_store l ≡ false → LandsAs (with_out l (length (next_flight l.log was).steps)) (next_flight l.log was) r new → FlownTo l r new.ledger
+flown_to l was flown.Nothing new away to = absurd to
+flown_to l was (flown.Settled rs) new away to =
+    let is = back_as l new.ledger to.0 was Good (ap (λ (d : Driven MemDisk). d.ledger) to.1.1) in (
+      record {
         away = away;
         home = ap (λ (m : LedgerState MemDisk). m.out) is;
-        here = (g.disk, ap (λ (m : LedgerState MemDisk). m.disk) is);
+        here = (to.0, ap (λ (m : LedgerState MemDisk). m.disk) is);
         log_is = ap (λ (m : LedgerState MemDisk). m.log) is;
         doubt_is = ap (λ (m : LedgerState MemDisk). m.doubt) is;
-      })
-  failed_to fault (inr same) =
-      let is = by_mark New same.1 in
-      subst (λ e. FlownTo l (flown.Failed e) new) (sym same.0)
-      (record {
-        away = away;
-        home = ap (λ (m : LedgerState MemDisk). m.out) is;
-        here = (g.disk, ap (λ (m : LedgerState MemDisk). m.disk) is);
-        log_is = ap (λ (m : LedgerState MemDisk). m.log) is;
-        doubt_is = ap (λ (m : LedgerState MemDisk). m.doubt) is;
-      })
+      },
+      to.1.0 ∙ ap (λ ss. releases_of (outs (settled_world l.log) ss)) (sym (take_min most_in_flight (pending l.log))),
+    )
+flown_to l was (flown.Failed commit.Device) new away to =
+    let is = back_as l new.ledger to.0 was Torn (ap (λ (d : Driven MemDisk). d.ledger) to.1) in
+    record {
+      away = away;
+      home = ap (λ (m : LedgerState MemDisk). m.out) is;
+      here = (to.0, ap (λ (m : LedgerState MemDisk). m.disk) is);
+      log_is = ap (λ (m : LedgerState MemDisk). m.log) is;
+      doubt_is = ap (λ (m : LedgerState MemDisk). m.doubt) is;
+    }
+flown_to l was (flown.Failed commit.OutOfMemory) new away to =
+    let is = back_as l new.ledger to.0 was New (ap (λ (d : Driven MemDisk). d.ledger) to.1) in
+    record {
+      away = away;
+      home = ap (λ (m : LedgerState MemDisk). m.out) is;
+      here = (to.0, ap (λ (m : LedgerState MemDisk). m.disk) is);
+      log_is = ap (λ (m : LedgerState MemDisk). m.log) is;
+      doubt_is = ap (λ (m : LedgerState MemDisk). m.doubt) is;
+    }
+flown_to l was (flown.Failed commit.Full) new away to = absurd to
+flown_to l was (flown.Failed commit.Stopped) new away to = absurd to
+flown_to l was (flown.Failed commit.Again) new away to = absurd to
+
+-- by the flight that went out
+pub landed_as : (l : LedgerState MemDisk) (was : MemDisk) (out : Driven MemDisk) → out ≡ record { ledger = with_out l (length (next_flight l.log was).steps); flight = Some (next_flight l.log was) } → (r : Flown) (new : Driven MemDisk) →
+    ((f : FlightState MemDisk) → out.flight ≡ Some f → f.mark ≡ New → LandsAs out.ledger f r new) → LandsAs (with_out l (length (next_flight l.log was).steps)) (next_flight l.log was) r new
+landed_as l was out is r new landed =
+    subst (λ (m : LedgerState MemDisk). LandsAs m (next_flight l.log was) r new) (ap (λ (d : Driven MemDisk). d.ledger) is) (landed (next_flight l.log was) (ap (λ (d : Driven MemDisk). d.flight) is) refl)
+
+-- and no flight is out
+pub landed_home : (l : LedgerState MemDisk) (f : FlightState MemDisk) (r : Flown) (new : Driven MemDisk) → LandsAs l f r new → new.flight ≡ None
+landed_home l f flown.Nothing new to = absurd to
+landed_home l f (flown.Settled rs) new to = ap (λ (d : Driven MemDisk). d.flight) to.1.1
+landed_home l f (flown.Failed commit.Device) new to = ap (λ (d : Driven MemDisk). d.flight) to.1
+landed_home l f (flown.Failed commit.OutOfMemory) new to = ap (λ (d : Driven MemDisk). d.flight) to.1
+landed_home l f (flown.Failed commit.Full) new to = absurd to
+landed_home l f (flown.Failed commit.Stopped) new to = absurd to
+landed_home l f (flown.Failed commit.Again) new to = absurd to
 
 -- ---- what is printed
 
@@ -193,3 +213,21 @@ module _ (l new : LedgerState MemDisk) (claims : List Claim) (held : IsHeld l cl
           ∙ ap (λ v. claims_of v (drop (next_size l.log) (pending l.log))) (sym settles)
           ∙ ap (claims_of (settled_world new.log)) (drop-drop (next_size l.log) l.log.settled l.log.trail ∙ ap pending (sym to.0.log_is));
     }
+
+-- ---- whatever became of it
+
+module _ (l new : LedgerState MemDisk) (claims : List Claim) (held : IsHeld l claims) where
+  pub flown_granted : (r : Flown) → FlownTo l r new → AreGranted new.log r claims
+  flown_granted flown.Nothing to = tt
+  flown_granted (flown.Settled rs) to = settled_granted l new claims held rs to
+  flown_granted (flown.Failed fault) to = tt
+
+  pub flown_held : (r : Flown) (rest : List Claim) → FlownTo l r new → rest ≡ left_by (settled_world new.log) r claims → IsHeld new rest
+  flown_held flown.Nothing rest to is = subst (λ cs. IsHeld new cs) (sym is) (subst (λ m. IsHeld m claims) (sym to.1) held)
+  flown_held (flown.Settled rs) rest to is = settled_held l new claims held rs to rest is
+  flown_held (flown.Failed fault) rest to is = subst (λ cs. IsHeld new cs) (sym is) (failed_held l new claims held fault to)
+
+  pub flown_told : (holds begun : Bool) (r : Flown) → FlownTo l r new → Flies (drill_of l holds begun) (flown_lines (settled_world new.log) r claims) (drill_of new holds begun)
+  flown_told holds begun flown.Nothing to = nothing_told l new claims held holds begun to
+  flown_told holds begun (flown.Settled rs) to = settled_told l new claims held rs to holds begun
+  flown_told holds begun (flown.Failed fault) to = failed_told l new claims held holds begun fault to

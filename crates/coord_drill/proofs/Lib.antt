@@ -15,3 +15,4 @@ mod SpelledFields
 mod SpelledRequests
 mod Taken
 mod WordsOf
+pub mod Moments

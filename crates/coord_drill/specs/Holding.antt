@@ -1,30 +1,29 @@
 -- What the code holds: a ledger with its store at home, and a ticket for each pending step; and what it prints of these.
-use Rattle.std.specs.Prelude.{◌≡◌, ℕ, ◌==◌, ◌≤◌, nat_le, false, true, List, [], ◌∷◌, ◌++◌, length, Option, Some, None, Ok, Err, if◌then◌else◌, Bool}
+use Rattle.std.specs.Prelude.{◌≡◌, ℕ, ◌==◌, ◌≤◌, nat_le, false, true, List, [], ◌∷◌, ◌++◌, length, Option, Some, None, if◌then◌else◌, Bool}
+use Rattle.std.specs.List.{AllByRecursion}
 use Rattle.std.specs.Option.{option_map_or}
 use Rattle.coord_disk.specs.Disks.Memory.{present_of}
 use Rattle.coord_disk.specs.Model.Present.{Present}
 use Rattle.coord_disk.specs.declared.memory.MemDisk.{MemDisk}
 use Rattle.coord_store.specs.Kept.{made}
 use Rattle.coord_store.specs.declared.faults.CommitFault.TheVariants.{Device, OutOfMemory}
-use Rattle.coord_types.specs.declared.steps.Kind.{Kind}
-use Rattle.coord_types.specs.declared.steps.Reply.{Reply as Answered}
 use Rattle.coord_types.specs.declared.steps.Step.{Step}
-use Rattle.coord_world.specs.declared.verdicts.Verdict.TheVariants.{Fresh, Repeat}
 use Rattle.coord_world.specs.protocol.Next.{next, reply}
 use Rattle.coord_world.specs.protocol.NumberedWorld.{World, no_world}
+use Rattle.coord_world.specs.protocol.Outputs.{outs}
+use Rattle.coord_ledger.specs.declared.mark.Mark.TheVariants.{New, Good, Torn}
 use Rattle.coord_ledger.specs.declared.release.Release.{Release}
-use Rattle.coord_ledger.specs.ledger.Calls.{claimed, keeps_store, said, with_accepted}
-use Rattle.coord_ledger.specs.ledger.State.{Claim, LedgerState, ledger_over, reply_of}
-use Rattle.coord_ledger.specs.machine.After.{settling_releases}
+use Rattle.coord_ledger.specs.ledger.Calls.{claimed, keeps_store, taken_back}
+use Rattle.coord_ledger.specs.ledger.Driven.{Driven, at_home}
+use Rattle.coord_ledger.specs.ledger.State.{Claim, FlightState, IsGranted, LedgerState, ledger_over, reply_of}
+use Rattle.coord_ledger.specs.machine.After.{releases_of, settling_releases}
 use Rattle.coord_ledger.specs.machine.Answers.{IsOneOf, kept_by, next_size}
 use Rattle.coord_ledger.specs.machine.Log.{Log, front_world, log_over, pending, settled_world, with_settled, world_after}
 use Rattle.coord_drill.specs.Drill.{DrillState}
-use Rattle.coord_drill.specs.Printed.{output_line, reply_line}
+use Rattle.coord_drill.specs.Printed.{commit_line, output_line, reply_line}
 use Rattle.coord_drill.specs.declared.drill.Drill.{Drill}
 use Rattle.coord_drill.specs.declared.drill.flying.Flown.{Flown}
 use Rattle.coord_drill.specs.declared.drill.flying.Flown.TheVariants as flown
-use Rattle.coord_drill.specs.declared.drill.submitting.Outcome.{Outcome}
-use Rattle.coord_drill.specs.declared.drill.submitting.Outcome.TheVariants as outcome
 
 -- the claims of tickets for steps from a world on
 abbrev pub claims_of : World → List Step → List Claim
@@ -37,24 +36,24 @@ pub record IsHeld (l : LedgerState MemDisk) (claims : List Claim) : Type 0 where
   pub within : l.log.settled ≤ length l.log.trail
   pub tickets : claims ≡ claims_of (settled_world l.log) (pending l.log)
 
--- a drill holds these; it goes without only once it has ended with a fault
-abbrev pub IsReadyWith : Option (LedgerState MemDisk) → List Claim → Type 0
+-- a drill holds these, and no flight is out; it goes without only once it has ended with a fault
+abbrev pub IsReadyWith : Option (Driven MemDisk) → List Claim → Type 0
 IsReadyWith None claims = ⊥
-IsReadyWith (Some l) claims = IsHeld l claims
+IsReadyWith (Some v) claims = (v.flight ≡ None) × IsHeld v.ledger claims
 
 abbrev pub IsReady : Drill → Type 0
-IsReady d = IsReadyWith d.ledger d.tickets.items
+IsReady d = IsReadyWith d.driver d.tickets.items
 
 -- its store is at home, and its disk is so
 abbrev pub HasDisk : Drill → Present → Type 0
-HasDisk d present = (l : LedgerState MemDisk) × (disk : MemDisk) × (d.ledger ≡ Some l) × (l.disk ≡ Some disk) × (present_of disk ≡ present)
+HasDisk d present = (v : Driven MemDisk) × (disk : MemDisk) × (d.driver ≡ Some v) × (v.ledger.disk ≡ Some disk) × (present_of disk ≡ present)
 
 -- the state of a drill over this ledger
 abbrev pub drill_of : LedgerState MemDisk → Bool → Bool → DrillState
 drill_of l holds begun = record { log = l.log; doubt = l.doubt; holds = holds; has_begun = begun }
 
 abbrev pub state_of : Drill → DrillState
-state_of d = record { log = option_map_or (λ l. l.log) d.ledger (log_over (no_world 1)); doubt = option_map_or (λ l. l.doubt) d.ledger None; holds = d.holds; has_begun = d.has_begun }
+state_of d = record { log = option_map_or (λ v. v.ledger.log) d.driver (log_over (no_world 1)); doubt = option_map_or (λ v. v.ledger.doubt) d.driver None; holds = d.holds; has_begun = d.has_begun }
 
 abbrev pub front_of : Drill → World
 front_of d = front_world (state_of d).log
@@ -83,11 +82,13 @@ FlownTo l (flown.Failed Device) new = IsBack l l.log (Some (next_size l.log)) ne
 FlownTo l (flown.Failed OutOfMemory) new = IsBack l l.log l.doubt new
 FlownTo l (flown.Failed fault) new = ⊥
 
--- a step that is handed in
-abbrev pub HandedTo : LedgerState MemDisk → Step → Outcome → LedgerState MemDisk → Type 0
-HandedTo l x (outcome.Accepted ticket) new = (kind : Kind) × (said l x ≡ Ok (Fresh kind)) × (ticket ≡ claimed x (reply (front_world l.log) x)) × (new ≡ with_accepted l x)
-HandedTo l x (outcome.Repeated ticket) new = (kept : Answered) × (said l x ≡ Ok (Repeat kept)) × (ticket ≡ claimed x kept) × (new ≡ l)
-HandedTo l x (outcome.Refused refusal) new = (said l x ≡ Err refusal) × (new ≡ l)
+-- a new flight is committed and comes back
+abbrev pub LandsAs : LedgerState MemDisk → FlightState MemDisk → Flown → Driven MemDisk → Type 0
+LandsAs l f flown.Nothing d = ⊥
+LandsAs l f (flown.Settled releases) d = (disk : MemDisk) × ((releases ≡ releases_of (outs f.world f.steps)) × (d ≡ at_home (taken_back l (length f.steps) Good disk)))
+LandsAs l f (flown.Failed Device) d = (disk : MemDisk) × (d ≡ at_home (taken_back l (length f.steps) Torn disk))
+LandsAs l f (flown.Failed OutOfMemory) d = (disk : MemDisk) × (d ≡ at_home (taken_back l (length f.steps) New disk))
+LandsAs l f (flown.Failed fault) d = ⊥
 
 -- a ledger that was made of the disk of another one after a crash: over a world that the crash may leave
 abbrev pub ReopenedTo : LedgerState MemDisk → LedgerState MemDisk → Type 0
@@ -123,3 +124,22 @@ collected_lines version count (c ∷ cs) rs = if nat_le c.step count then reply_
 abbrev pub waiting : ℕ → List Claim → List Claim
 waiting count [] = []
 waiting count (c ∷ cs) = if nat_le c.step count then waiting count cs else c ∷ cs
+
+-- ---- what is printed of a flight, with this settled world behind it
+
+abbrev pub flown_lines : World → Flown → List Claim → List ℕ
+flown_lines w flown.Nothing claims = []
+flown_lines w (flown.Settled releases) claims = collected_lines w.version w.count claims releases
+flown_lines w (flown.Failed fault) claims = commit_line fault
+
+-- the claims that are left
+abbrev pub left_by : World → Flown → List Claim → List Claim
+left_by w flown.Nothing claims = claims
+left_by w (flown.Settled releases) claims = waiting w.count claims
+left_by w (flown.Failed fault) claims = claims
+
+-- all are granted, where any is collected
+abbrev pub AreGranted : Log → Flown → List Claim → Type 0
+AreGranted log flown.Nothing claims = Unit {0}
+AreGranted log (flown.Settled releases) claims = AllByRecursion (IsGranted log) claims
+AreGranted log (flown.Failed fault) claims = Unit {0}

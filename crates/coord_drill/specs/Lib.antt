@@ -9,3 +9,4 @@ pub mod Drilled
 pub mod Laws
 pub mod WorkedLines
 pub mod Holding
+pub mod Moments

@@ -1,6 +1,9 @@
-//! A drill: a ledger over a disk in memory, and a ticket for each step that is not settled.
+//! A drill: the driver of a ledger over a disk in memory, and a ticket for each step that is not
+//! settled.
 
-ghost use Rattle.std.specs.Prelude.{◌≡◌, ◌++◌, ◌+◌, ◌≤◌, [], false, IfOk, OnOk, string_bytes, IfErr};
+ghost use Rattle.std.specs.Prelude.{◌≡◌, ◌++◌, ◌+◌, ◌≤◌, [], false, Some, IfOk, OnOk, string_bytes, IfErr};
+ghost use Rattle.coord_disk.specs.declared.memory.MemDisk.{MemDisk as Disk};
+ghost use Rattle.coord_ledger.specs.ledger.Driven.{Driven};
 ghost use Rattle.coord_store.specs.Kept.{has_stopped, made};
 ghost use Rattle.coord_world.specs.protocol.NumberedWorld.{no_world};
 ghost use Rattle.coord_drill.specs.Answered.{Does};
@@ -8,6 +11,7 @@ ghost use Rattle.coord_drill.specs.Asked.{asked};
 ghost use Rattle.coord_drill.specs.Drill.{drill_over};
 ghost use Rattle.coord_drill.specs.Drilled.{IsOfWork, asked_by};
 ghost use Rattle.coord_drill.specs.Holding.{HasDisk, IsMade, IsReady, Tells, front_of, state_of};
+ghost use Rattle.coord_drill.specs.Moments.{MovesFrom};
 ghost use Rattle.coord_drill.specs.declared.asked.Asked.TheVariants as ask;
 
 mod crashing;
@@ -19,8 +23,8 @@ use crate::asked::{Asked, wanted_by};
 use crate::fault::Fault;
 use crate::reading::parse;
 use crate::request::Request;
-use coord_disk::MemDisk;
-use coord_ledger::{Ledger, Ticket};
+use coord_disk::{Choice, MemDisk};
+use coord_ledger::{Driver, Ledger, Ticket};
 use coord_store::Store;
 use std::alloc::Global;
 use std::collections::VecDeque;
@@ -28,11 +32,11 @@ use std::collections::VecDeque;
 /// The bytes of a half of the drill's disk.
 const HALF_SIZE: u64 = 65_536;
 
-/// A ledger, with the tickets of its pending steps in order. It has to be spent, by `end`. Once a
-/// call has failed it serves for nothing else: its ledger may be gone.
+/// The driver of a ledger, with the tickets of its pending steps in order. It has to be spent, by
+/// `end`. Once a call has failed it serves for nothing else: its driver may be gone.
 pub struct Drill {
     alloc: Global,
-    ledger: Option<Ledger<MemDisk>>,
+    driver: Option<Driver<MemDisk>>,
     tickets: VecDeque<Ticket>,
     /// Accepted steps are not settled at once.
     holds: bool,
@@ -50,7 +54,7 @@ impl Drill {
     {
         Ok(Drill {
             alloc,
-            ledger: Some(new_ledger(alloc, 1)?),
+            driver: Some(Driver::over(new_ledger(alloc, 1)?)),
             tickets: VecDeque::new(alloc),
             holds: false,
             has_begun: false,
@@ -62,10 +66,10 @@ impl Drill {
         requires ready { IsReady self.now }
         ensures { result ≡ asked_by (state_of self.now) line.now }
     {
-        let Some(ledger) = &self.ledger else {
+        let Some(driver) = &self.driver else {
             unreachable!()
         };
-        match parse(ledger.front().version(), line)? {
+        match parse(driver.ledger().front().version(), line)? {
             Request::Version2 if self.has_begun => None,
             request => Some(request),
         }
@@ -76,10 +80,15 @@ impl Drill {
         requires ready { IsReady self.old }
         ensures ready { OnOk result (IsReady self.new) }
         ensures told { OnOk result (Tells (string_bytes text.old) (string_bytes text.new) (λ told. Does (state_of self.old) (asked (front_of self.old) request.now) told (state_of self.new))) }
+        // At each moment of it the headline holds of the drill's disk.
+        ensures moments { OnOk result (MovesFrom (asked (front_of self.old) request.now) self.old.driver self.new.driver) }
         ensures fault { IfErr result IsOfWork }
     {
-        let wanted = match &self.ledger {
-            Some(ledger) => wanted_by(ledger.front(), request),
+        let wanted = match &self.driver {
+            Some(driver) => {
+                driver.begins();
+                wanted_by(driver.ledger().front(), request)
+            }
             None => unreachable!(),
         };
         match wanted {
@@ -104,6 +113,7 @@ impl Drill {
         requires ready { IsReady self.old }
         ensures ready { IsReady self.new }
         ensures told { Does (state_of self.old) ask.Hold [] (state_of self.new) }
+        ensures driver { self.new.driver ≡ self.old.driver }
     {
         self.holds = true;
     }
@@ -113,9 +123,11 @@ impl Drill {
         ensures ready { OnOk result (IsReady self.new) }
         ensures disk { OnOk result (HasDisk self.new (made 65_536 2)) }
         ensures told { OnOk result (Does (state_of self.old) ask.Version2 [] (state_of self.new)) }
+        ensures made { OnOk result ((v : Driven Disk) × ((self.new.driver ≡ Some v) × IsMade 2 v.ledger)) }
         ensures fault { IfErr result IsOfWork }
     {
-        self.ledger = Some(new_ledger(self.alloc, 2)?);
+        let driver = Driver::over(new_ledger(self.alloc, 2)?);
+        put(&mut self.driver, driver);
         forget_all(&mut self.tickets);
         Ok(())
     }
@@ -124,11 +136,14 @@ impl Drill {
     pub fn end(self) {
         let Drill {
             alloc: _,
-            ledger: _,
+            driver,
             mut tickets,
             holds: _,
             has_begun: _,
         } = self;
+        if let Some(driver) = driver {
+            let _disk = driver.into_disk();
+        }
         forget_all(&mut tickets);
         tickets.destroy_empty();
     }
@@ -140,7 +155,9 @@ fn new_ledger(alloc: Global, version: u8) -> Result<Ledger<MemDisk>, Fault>
     ensures made { IfOk result (IsMade version) }
     ensures fault { IfErr result IsOfWork }
 {
-    let disk = MemDisk::new(alloc);
+    let mut disk = MemDisk::new(alloc);
+    // A crash keeps what a read gives.
+    disk.choose(Choice::Kept);
     let store = match Store::create(alloc, disk, HALF_SIZE, version) {
         Ok(store) => store,
         Err((fault, _disk)) => return Err(fault.into()),
@@ -148,6 +165,15 @@ fn new_ledger(alloc: Global, version: u8) -> Result<Ledger<MemDisk>, Fault>
     match Ledger::adopt(alloc, store) {
         Ok(ledger) => Ok(ledger),
         Err((fault, _store)) => Err(fault.into()),
+    }
+}
+
+/// Puts a driver in the place of another, whose disk is given up.
+fn put(place: &mut Option<Driver<MemDisk>>, driver: Driver<MemDisk>)
+    ensures { place.new ≡ Some driver }
+{
+    if let Some(other) = place.replace(driver) {
+        let _disk = other.into_disk();
     }
 }
 

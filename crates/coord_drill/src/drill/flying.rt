@@ -1,22 +1,24 @@
 //! Flights: pending steps are settled, and what they gave out is printed.
 
-ghost use Rattle.std.specs.Prelude.{◌≡◌, ◌≤◌, ◌∷◌, ◌++◌, ℕ, List, [], OnOk, IfOk, IfSome, IfNone, length, string_bytes, IfErr};
+ghost use Rattle.std.specs.Prelude.{◌≡◌, ◌≤◌, ◌∷◌, ◌++◌, ℕ, List, [], None, Ok, Some, OnOk, IfOk, IfSome, IfNone, length, string_bytes, IfErr};
 ghost use Rattle.std.specs.List.{AllByRecursion};
+ghost use Rattle.coord_disk.specs.declared.memory.MemDisk.{MemDisk as Disk};
+ghost use Rattle.coord_ledger.specs.declared.mark.Mark.TheVariants.{New};
 ghost use Rattle.coord_ledger.specs.declared.release.Release.{Release as Row};
-ghost use Rattle.coord_ledger.specs.ledger.Calls.{releases_in, taken_back};
-ghost use Rattle.coord_ledger.specs.ledger.Follows.{IsOut};
-ghost use Rattle.coord_ledger.specs.ledger.State.{IsGranted, reply_of};
+ghost use Rattle.coord_ledger.specs.ledger.Driven.{LandsTo};
+ghost use Rattle.coord_ledger.specs.ledger.State.{FlightState, IsGranted, reply_of};
 ghost use Rattle.coord_ledger.specs.machine.Log.{settled_world};
 ghost use Rattle.coord_drill.specs.Answered.{Does, Flies};
 ghost use Rattle.coord_drill.specs.Drilled.{IsOfWork};
-ghost use Rattle.coord_drill.specs.Holding.{FlownTo, IsReady, Tells, behind, collected_lines, left, released_lines, state_of, waiting};
+ghost use Rattle.coord_drill.specs.Holding.{AreGranted, FlownTo, IsReady, LandsAs, Tells, behind, collected_lines, flown_lines, left, left_by, released_lines, state_of, waiting};
+ghost use Rattle.coord_drill.specs.Moments.{GoesOn, GoesOnTo};
 ghost use Rattle.coord_drill.specs.declared.asked.Asked.TheVariants.{Flush};
 
-use super::Drill;
+use super::{Drill, put};
 use crate::fault::Fault;
 use crate::print::{print_commit_fault, print_count, print_output, print_reply};
 use coord_disk::MemDisk;
-use coord_ledger::{Flight, Ledger, Release, Releases, Ticket};
+use coord_ledger::{Answer, Driver, Ledger, Release, Releases, Ticket};
 use coord_store::CommitFault;
 use coord_types::{Reply, Version};
 use std::alloc::AllocError;
@@ -38,13 +40,14 @@ impl Drill {
         requires ready { IsReady self.old }
         ensures ready { OnOk result (IsReady self.new) }
         ensures told { OnOk result (Tells (string_bytes text.old) (string_bytes text.new) (λ told. Does (state_of self.old) Flush told (state_of self.new))) }
+        ensures moments { OnOk result (GoesOn self.old.driver self.new.driver) }
         ensures fault { IfErr result IsOfWork }
     {
         self.fly(text)?;
-        let Some(ledger) = &self.ledger else {
+        let Some(driver) = &self.driver else {
             unreachable!()
         };
-        print_count(text, ledger.settled().count())?;
+        print_count(text, driver.ledger().settled().count())?;
         Ok(())
     }
 
@@ -54,50 +57,97 @@ impl Drill {
         requires ready { IsReady self.old }
         ensures ready { OnOk result (IsReady self.new) }
         ensures told { OnOk result (Tells (string_bytes text.old) (string_bytes text.new) (λ told. Flies (state_of self.old) told (state_of self.new))) }
+        ensures moments { OnOk result (GoesOn self.old.driver self.new.driver) }
         ensures fault { IfErr result IsOfWork }
     {
-        let Some(ledger) = &mut self.ledger else {
+        let Some(driver) = self.driver.take() else {
             unreachable!()
         };
-        match send_out(ledger)? {
-            Flown::Nothing => Ok(()),
-            Flown::Settled(releases) => {
-                Ok(print_settled(ledger, &mut self.tickets, releases, text)?)
-            }
-            Flown::Failed(fault) => Ok(print_commit_fault(text, fault)?),
-        }
+        let (flown, driver) = send_out(driver)?;
+        let printed = print_flown(driver.ledger(), &mut self.tickets, flown, text);
+        put(&mut self.driver, driver);
+        Ok(printed?)
+    }
+}
+
+/// Prints what became of a flight: what its steps gave out, or why it was not committed.
+fn print_flown(
+    ledger: &Ledger<MemDisk>,
+    tickets: &mut VecDeque<Ticket>,
+    flown: Flown,
+    text: &mut String,
+) -> Result<(), AllocError>
+    requires granted { AreGranted ledger.now.log flown tickets.old.items }
+    ensures printed { OnOk result (string_bytes text.new ≡ string_bytes text.old ++ flown_lines (settled_world ledger.now.log) flown tickets.old.items) }
+    ensures left { OnOk result (tickets.new.items ≡ left_by (settled_world ledger.now.log) flown tickets.old.items) }
+{
+    match flown {
+        Flown::Nothing => Ok(()),
+        Flown::Settled(releases) => print_settled(ledger, tickets, releases, text),
+        Flown::Failed(fault) => print_commit_fault(text, fault),
     }
 }
 
 /// Sends the next steps out, commits them, and takes the flight back.
-fn send_out(ledger: &mut Ledger<MemDisk>) -> Result<Flown, Fault>
-    ensures flown { IfOk result (λ flown. FlownTo ledger.old flown ledger.new) }
+fn send_out(driver: Driver<MemDisk>) -> Result<(Flown, Driver<MemDisk>), Fault>
+    requires home { driver.flight ≡ None }
+    ensures flown { IfOk result (λ r. FlownTo driver.ledger r.0 r.1.ledger) }
+    ensures home { IfOk result (λ r. r.1.flight ≡ None) }
+    ensures moments { IfOk result (λ r. GoesOnTo driver r.1) }
     ensures fault { IfErr result IsOfWork }
 {
-    let Some(mut flight) = ledger.begin_flush()? else {
-        return Ok(Flown::Nothing);
-    };
-    match flight.commit() {
-        Ok(()) => Ok(Flown::Settled(take_back(ledger, flight)?)),
-        Err(fault) => {
-            take_back(ledger, flight)?.lose_rest();
-            Ok(Flown::Failed(fault))
+    driver.survives();
+    let (begun, driver) = driver.begin();
+    driver.survives();
+    match begun {
+        Answer::Begun(_) => land(driver),
+        Answer::Nothing => Ok((Flown::Nothing, driver)),
+        _ => {
+            let _disk = driver.into_disk();
+            Err(Fault::OutOfMemory)
         }
     }
 }
 
-/// Takes a ledger's own flight back. Where there is no memory for what it releases, the flight is
-/// lost.
-fn take_back(ledger: &mut Ledger<MemDisk>, flight: Flight<MemDisk>) -> Result<Releases, Fault>
-    requires own { IsOut ledger.old flight }
-    ensures taken { OnOk result (ledger.new ≡ taken_back ledger.old (length flight.steps) flight.mark flight.disk) }
-    ensures released { IfOk result (λ releases. releases ≡ releases_in flight flight.mark) }
+/// Commits the flight that is out, and takes it back.
+fn land(driver: Driver<MemDisk>) -> Result<(Flown, Driver<MemDisk>), Fault>
+    ensures landed { IfOk result (λ r. (f : FlightState Disk) → driver.flight ≡ Some f → f.mark ≡ New → LandsAs driver.ledger f r.0 r.1) }
+    ensures moments { IfOk result (λ r. GoesOnTo driver r.1) }
     ensures fault { IfErr result IsOfWork }
 {
-    match ledger.end_flush(flight) {
-        Ok(releases) => Ok(releases),
-        Err((_, flight)) => {
-            let _ = flight.into_disk();
+    let mut driver = driver;
+    let answer = driver.commit();
+    driver.survives();
+    let (releases, driver) = take_back(driver)?;
+    match answer {
+        Answer::Committed => Ok((Flown::Settled(releases), driver)),
+        Answer::Failed(fault) => {
+            releases.lose_rest();
+            Ok((Flown::Failed(fault), driver))
+        }
+        _ => {
+            releases.lose_rest();
+            let _disk = driver.into_disk();
+            Err(Fault::OutOfMemory)
+        }
+    }
+}
+
+/// Takes the flight that is out back. Where there is no memory for what it releases, all is lost.
+fn take_back(driver: Driver<MemDisk>) -> Result<(Releases, Driver<MemDisk>), Fault>
+    ensures landed { IfOk result (λ r. (f : FlightState Disk) → driver.flight ≡ Some f → LandsTo driver.ledger f (Ok (Some r.0)) r.1) }
+    ensures moments { IfOk result (λ r. GoesOnTo driver r.1) }
+    ensures fault { IfErr result IsOfWork }
+{
+    driver.survives();
+    let (landed, driver) = driver.finish();
+    match landed {
+        Ok(Some(releases)) => {
+            driver.survives();
+            Ok((releases, driver))
+        }
+        _ => {
+            let _disk = driver.into_disk();
             Err(Fault::OutOfMemory)
         }
     }

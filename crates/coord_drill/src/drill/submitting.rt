@@ -1,28 +1,21 @@
 //! Steps are handed in.
 
-ghost use Rattle.std.specs.Prelude.{◌≡◌, ◌++◌, IfOk, OnOk, string_bytes, IfErr};
+ghost use Rattle.std.specs.Prelude.{◌≡◌, ◌++◌, OnOk, string_bytes, IfErr};
 ghost use Rattle.coord_ledger.specs.ledger.State.{IsGranted, reply_of};
 ghost use Rattle.coord_ledger.specs.machine.Log.{settled_count};
 ghost use Rattle.coord_drill.specs.Answered.{Does, kept_line};
 ghost use Rattle.coord_drill.specs.Drilled.{IsOfWork};
-ghost use Rattle.coord_drill.specs.Holding.{HandedTo, IsReady, Tells, state_of};
+ghost use Rattle.coord_drill.specs.Holding.{IsReady, Tells, state_of};
+ghost use Rattle.coord_drill.specs.Moments.{GoesOn};
 ghost use Rattle.coord_drill.specs.declared.asked.Asked.TheVariants.{Submit};
 
 use super::Drill;
 use crate::fault::Fault;
 use crate::print::{print_pending, print_refusal, print_reply};
 use coord_disk::MemDisk;
-use coord_ledger::{Ledger, Ticket};
+use coord_ledger::{Handed, Ledger, Ticket};
 use coord_types::{Refusal, Step};
 use std::alloc::AllocError;
-
-/// What became of a step that was handed in.
-enum Outcome {
-    Accepted(Ticket),
-    /// It is a client's last order, which came again.
-    Repeated(Ticket),
-    Refused(Refusal),
-}
 
 impl Drill {
     /// Hands a step in. An accepted one is settled at once, unless steps are held.
@@ -30,14 +23,19 @@ impl Drill {
         requires ready { IsReady self.old }
         ensures ready { OnOk result (IsReady self.new) }
         ensures told { OnOk result (Tells (string_bytes text.old) (string_bytes text.new) (λ told. Does (state_of self.old) (Submit step) told (state_of self.new))) }
+        ensures moments { OnOk result (GoesOn self.old.driver self.new.driver) }
         ensures fault { IfErr result IsOfWork }
     {
-        let Some(ledger) = &mut self.ledger else {
+        let Some(driver) = &mut self.driver else {
             unreachable!()
         };
         self.tickets.reserve(1)?;
-        match handed_in(ledger, step)? {
-            Outcome::Accepted(ticket) => {
+        driver.survives();
+        let handed = driver.submit(step);
+        driver.survives();
+        step.within_ranges();
+        match handed {
+            Ok(Handed::Accepted(ticket)) => {
                 let number = ticket.step();
                 self.tickets.push_back_reserved(ticket);
                 self.has_begun = true;
@@ -46,28 +44,10 @@ impl Drill {
                 }
                 self.fly(text)
             }
-            Outcome::Repeated(ticket) => Ok(print_kept(ledger, ticket, text)?),
-            Outcome::Refused(refusal) => Ok(print_refusal(text, refusal)?),
+            Ok(Handed::Repeated(ticket)) => Ok(print_kept(driver.ledger(), ticket, text)?),
+            Err(Refusal::OutOfMemory) => Err(Fault::OutOfMemory),
+            Err(refusal) => Ok(print_refusal(text, refusal)?),
         }
-    }
-}
-
-/// Hands a step to a ledger. A repeat is no new step.
-fn handed_in(ledger: &mut Ledger<MemDisk>, step: Step) -> Result<Outcome, Fault>
-    ensures handed { IfOk result (λ outcome. HandedTo ledger.old step outcome ledger.new) }
-    ensures fault { IfErr result IsOfWork }
-{
-    let accepted = ledger.front().count();
-    match ledger.submit(step) {
-        Ok(ticket) => {
-            if ledger.front().count() > accepted {
-                Ok(Outcome::Accepted(ticket))
-            } else {
-                Ok(Outcome::Repeated(ticket))
-            }
-        }
-        Err(Refusal::OutOfMemory) => Err(Fault::OutOfMemory),
-        Err(refusal) => Ok(Outcome::Refused(refusal)),
     }
 }
 

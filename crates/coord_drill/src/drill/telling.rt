@@ -43,9 +43,10 @@ impl Drill {
         ensures told { OnOk result (Tells (string_bytes text.old) (string_bytes text.new) (λ told. Does (state_of self.now) ask.Resend told (state_of self.now))) }
         ensures fault { IfErr result IsOfWork }
     {
-        let Some(ledger) = &self.ledger else {
+        let Some(driver) = &self.driver else {
             unreachable!()
         };
+        let ledger = driver.ledger();
         let mut releases = ledger.resend()?;
         let mut ahead = releases.next();
         // All of it is as of step 0.
@@ -63,9 +64,10 @@ impl Drill {
         ensures told { OnOk result (Tells (string_bytes text.old) (string_bytes text.new) (λ told. Does (state_of self.now) ask.Check told (state_of self.now))) }
         ensures fault { IfErr result IsOfWork }
     {
-        let Some(ledger) = &self.ledger else {
+        let Some(driver) = &self.driver else {
             unreachable!()
         };
+        let ledger = driver.ledger();
         print_fault(text, check(ledger.front()))?;
         Ok(())
     }
@@ -77,9 +79,10 @@ impl Drill {
         ensures told { OnOk result (Tells (string_bytes text.old) (string_bytes text.new) (λ told. Does (state_of self.now) ask.Show told (state_of self.now))) }
         ensures fault { IfErr result IsOfWork }
     {
-        let Some(ledger) = &self.ledger else {
+        let Some(driver) = &self.driver else {
             unreachable!()
         };
+        let ledger = driver.ledger();
         print_shown(ledger, text)
     }
 }

@@ -1,62 +1,55 @@
-use Rattle.std.proofs.Common.{[], sym, subst, append-nil, string_bytes}
-use Rattle.coord_ledger.specs.machine.Log.{settled_world}
+use Rattle.std.proofs.Common.{◌≡◌, ◌++◌, Some, None, ap, ◌∙◌, sym, subst, rules, string_bytes}
+use Rattle.std.specs.Option.{option_map_or}
+use Rattle.coord_disk.specs.declared.memory.MemDisk.{MemDisk}
+use Rattle.coord_world.specs.protocol.NumberedWorld.{no_world}
+use Rattle.coord_ledger.specs.ledger.Driven.{Driven}
+use Rattle.coord_ledger.specs.ledger.State.{LedgerState}
+use Rattle.coord_ledger.specs.machine.Log.{log_over, settled_world}
 use Rattle.coord_drill.specs.Answered.{Flies}
-use Rattle.coord_drill.specs.Holding.{FlownTo, collected_lines, drill_of}
-use Rattle.coord_drill.specs.Printed.{commit_line}
-use Rattle.coord_drill.specs.declared.drill.flying.Flown.TheVariants.{Failed, Nothing, Settled}
-use Rattle.coord_drill.proofs.Doing.{held_is, tells_of}
-use Rattle.coord_drill.proofs.Flying.{failed_held, failed_told, nothing_told, settled_granted, settled_held, settled_told}
+use Rattle.coord_drill.specs.Holding.{AreGranted, IsReadyWith, drill_of, flown_lines, left_by}
+use Rattle.coord_drill.proofs.Doing.{held_is, home_is, state_with, tells_of}
+use Rattle.coord_drill.proofs.Flying.{flown_granted, flown_held, flown_told}
+use Rattle.coord_drill.proofs.Moments.{goes_on}
 use Rattle.coord_drill.proofs.drill.Drill.fly.Goals as goal
 
-pub print_settled-requires : goal.print_settled-requires
-print_settled-requires c =
-    let d = c.args.self.now in
-    let l = c.in-Some.ledger in
-    let new = c.send_out.new.ledger in
-    let to : FlownTo l (Settled c.in-Settled.releases) new = subst (λ o. FlownTo l o new) c.in-Settled.is c.in_ok-send_out.ensures.flown in
-    record { granted = settled_granted l new d.tickets.items (held_is d l c.in-Some.is c.requires.ready) c.in-Settled.releases to }
+pub send_out-requires : goal.send_out-requires
+send_out-requires c = record { home = home_is c.args.self.now c.in-Some.driver (search rules) c.requires.ready }
 
-pub returns-in-Nothing-clause-told : goal.returns-in-Nothing-clause-told
-returns-in-Nothing-clause-told c =
+pub print_flown-printed-requires : goal.print_flown-printed-requires
+print_flown-printed-requires c =
     let d = c.args.self.now in
-    let l = c.in-Some.ledger in
-    let new = c.send_out.new.ledger in
-    let to : FlownTo l Nothing new = subst (λ o. FlownTo l o new) c.in-Nothing.is c.in_ok-send_out.ensures.flown in
-    tells_of (λ s told. Flies s told (drill_of new d.holds d.has_begun)) d l (string_bytes c.args.text.now) (string_bytes c.args.text.now) [] c.in-Some.is (sym (append-nil (string_bytes c.args.text.now)))
-    (nothing_told l new d.tickets.items (held_is d l c.in-Some.is c.requires.ready) d.holds d.has_begun to)
+    let v = c.in-Some.driver in
+    let r0 = c.in_ok-flown.flown in
+    let r1 = c.in_ok-flown.driver in
+    let is : d.driver ≡ Some v = search rules in
+    record { granted = subst (λ (l : LedgerState MemDisk). AreGranted l.log r0 d.tickets.items) (sym c.ledger.ensures) (flown_granted v.ledger r1.ledger d.tickets.items (held_is d v is c.requires.ready) r0 c.in_ok-flown.ensures.flown) }
 
-pub returns-in_ok-print_settled-in-Settled-clause-ready : goal.returns-in_ok-print_settled-in-Settled-clause-ready
-returns-in_ok-print_settled-in-Settled-clause-ready c =
+pub returns-clause-ready : goal.returns-clause-ready
+returns-clause-ready c =
     let d = c.args.self.now in
-    let l = c.in-Some.ledger in
-    let new = c.send_out.new.ledger in
-    let to : FlownTo l (Settled c.in-Settled.releases) new = subst (λ o. FlownTo l o new) c.in-Settled.is c.in_ok-send_out.ensures.flown in
-    settled_held l new d.tickets.items (held_is d l c.in-Some.is c.requires.ready) c.in-Settled.releases to c.print_settled.new.tickets.items c.in_ok-print_settled-in-Settled.ensures.waiting
+    let v = c.in-Some.driver in
+    let r0 = c.in_ok-flown.flown in
+    let r1 = c.in_ok-flown.driver in
+    let is : d.driver ≡ Some v = search rules in
+    let rest = c.in_ok-printed.ensures.left ∙ ap (λ (l : LedgerState MemDisk). left_by (settled_world l.log) r0 d.tickets.items) c.ledger.ensures in
+    subst (λ o. IsReadyWith o c.print_flown-printed.new.tickets.items) (sym c.put.ensures)
+    (c.in_ok-flown.ensures.home, flown_held v.ledger r1.ledger d.tickets.items (held_is d v is c.requires.ready) r0 c.print_flown-printed.new.tickets.items c.in_ok-flown.ensures.flown rest)
 
-pub returns-in_ok-print_settled-in-Settled-clause-told : goal.returns-in_ok-print_settled-in-Settled-clause-told
-returns-in_ok-print_settled-in-Settled-clause-told c =
+pub returns-clause-told : goal.returns-clause-told
+returns-clause-told c =
     let d = c.args.self.now in
-    let l = c.in-Some.ledger in
-    let new = c.send_out.new.ledger in
-    let to : FlownTo l (Settled c.in-Settled.releases) new = subst (λ o. FlownTo l o new) c.in-Settled.is c.in_ok-send_out.ensures.flown in
-    tells_of (λ s told. Flies s told (drill_of new d.holds d.has_begun)) d l (string_bytes c.args.text.now) (string_bytes c.print_settled.new.text) (collected_lines (settled_world new.log).version (settled_world new.log).count d.tickets.items c.in-Settled.releases)
-    c.in-Some.is c.in_ok-print_settled-in-Settled.ensures.printed
-    (settled_told l new d.tickets.items (held_is d l c.in-Some.is c.requires.ready) c.in-Settled.releases to d.holds d.has_begun)
+    let v = c.in-Some.driver in
+    let r0 = c.in_ok-flown.flown in
+    let r1 = c.in_ok-flown.driver in
+    let is : d.driver ≡ Some v = search rules in
+    let text = c.in_ok-printed.ensures.printed ∙ ap (λ (l : LedgerState MemDisk). string_bytes c.args.text.now ++ flown_lines (settled_world l.log) r0 d.tickets.items) c.ledger.ensures in
+    let told = flown_told v.ledger r1.ledger d.tickets.items (held_is d v is c.requires.ready) d.holds d.has_begun r0 c.in_ok-flown.ensures.flown in
+    tells_of (λ s told. Flies s told (record { log = option_map_or (λ (k : Driven MemDisk). k.ledger.log) c.put.new.place (log_over (no_world 1)); doubt = option_map_or (λ (k : Driven MemDisk). k.ledger.doubt) c.put.new.place None; holds = d.holds; has_begun = d.has_begun })) d v (string_bytes c.args.text.now) (string_bytes c.print_flown-printed.new.text) (flown_lines (settled_world r1.ledger.log) r0 d.tickets.items) is text
+    (subst (λ t. Flies (drill_of v.ledger d.holds d.has_begun) (flown_lines (settled_world r1.ledger.log) r0 d.tickets.items) t) (sym (state_with c.put.new.place r1 d.holds d.has_begun c.put.ensures)) told)
 
-pub returns-in_ok-print_commit_fault-in-Failed-clause-ready : goal.returns-in_ok-print_commit_fault-in-Failed-clause-ready
-returns-in_ok-print_commit_fault-in-Failed-clause-ready c =
+pub returns-clause-moments : goal.returns-clause-moments
+returns-clause-moments c =
     let d = c.args.self.now in
-    let l = c.in-Some.ledger in
-    let new = c.send_out.new.ledger in
-    let to : FlownTo l (Failed c.in-Failed.fault) new = subst (λ o. FlownTo l o new) c.in-Failed.is c.in_ok-send_out.ensures.flown in
-    failed_held l new d.tickets.items (held_is d l c.in-Some.is c.requires.ready) c.in-Failed.fault to
-
-pub returns-in_ok-print_commit_fault-in-Failed-clause-told : goal.returns-in_ok-print_commit_fault-in-Failed-clause-told
-returns-in_ok-print_commit_fault-in-Failed-clause-told c =
-    let d = c.args.self.now in
-    let l = c.in-Some.ledger in
-    let new = c.send_out.new.ledger in
-    let to : FlownTo l (Failed c.in-Failed.fault) new = subst (λ o. FlownTo l o new) c.in-Failed.is c.in_ok-send_out.ensures.flown in
-    tells_of (λ s told. Flies s told (drill_of new d.holds d.has_begun)) d l (string_bytes c.args.text.now) (string_bytes c.print_commit_fault.new.text) (commit_line c.in-Failed.fault)
-    c.in-Some.is c.in_ok-print_commit_fault-in-Failed.ensures
-    (failed_told l new d.tickets.items (held_is d l c.in-Some.is c.requires.ready) d.holds d.has_begun c.in-Failed.fault to)
+    let v = c.in-Some.driver in
+    let is : d.driver ≡ Some v = search rules in
+    goes_on d.driver c.put.new.place v c.in_ok-flown.driver is c.put.ensures c.in_ok-flown.ensures.moments

@@ -1,30 +1,53 @@
-use Rattle.std.proofs.Common.{◌≡◌, Ok, ap, ◌∙◌}
+use Rattle.std.proofs.Common.{length, refl, ap, subst}
 use Rattle.coord_disk.specs.declared.memory.MemDisk.{MemDisk}
-use Rattle.coord_ledger.specs.declared.mark.Mark.TheVariants.{New}
-use Rattle.coord_ledger.specs.ledger.State.{FlightState}
-use Rattle.coord_drill.proofs.Flying.{failed_to, flight_begun, own_flight, settled_to}
+use Rattle.coord_ledger.specs.declared.events.Event.TheVariants.{Begin}
+use Rattle.coord_ledger.specs.ledger.Calls.{next_flight, with_out}
+use Rattle.coord_ledger.specs.ledger.Driven.{Driven, SendsOut}
+use Rattle.coord_drill.specs.Moments.{GoesOnTo}
+use Rattle.coord_drill.proofs.Flying.{flown_to, landed_as, landed_home}
+use Rattle.coord_drill.proofs.Moments.{if_ok_more, run_aside}
 use Rattle.coord_drill.proofs.drill.flying.send_out.Goals as goal
+use Rattle.coord_drill.proofs.drill.flying.send_out.Goals.{in-Begun, in-Nothing, in_default+in-Filled-1, in_default+in-Lost-1}
 
-pub take_back-requires : goal.take_back-requires
-take_back-requires c =
-    let begun = flight_begun c.args.ledger.now c.begin_flush.new.self c.begin_flush.result c.in-Some.flight (c.in_ok-flight.was ∙ ap Ok c.in-Some.is) c.begin_flush.ensures.nothing c.begin_flush.ensures.begun in
-    record { own = own_flight c.args.ledger.now c.begin_flush.new.self c.in-Some.flight c.commit.new.self begun.1 begun.2 c.commit.ensures.same_first c.commit.ensures.same_steps c.commit.ensures.same_world }
+pub returns-clause-flown : goal.returns-clause-flown
+returns-clause-flown c =
+    let l = c.args.driver.ledger in
+    let out = c.begin-begun.result.1 in
+    elim c.match-begun.branch [
+      | in-Begun w ↦
+          let sent = subst (λ a. SendsOut l a out) w.in-Begun.is (c.begin-begun.ensures.sent c.requires.home) in
+          rw w.result-is (if_ok_more w.land.result (λ r landed. flown_to l sent.1.0 r.0 r.1 sent.0 (landed_as l sent.1.0 out sent.1.1.1 r.0 r.1 landed)) w.land.ensures.landed)
+      | in-Nothing w ↦
+          let sent = subst (λ a. SendsOut l a out) w.in-Nothing.is (c.begin-begun.ensures.sent c.requires.home) in
+          rw w.result-is (sent.0, ap (λ (d : Driven MemDisk). d.ledger) sent.1)
+      | in_default+in-Filled-1 w ↦ rw w.result-is tt
+      | in_default+in-Lost-1 w ↦ rw w.result-is tt
+    ]
 
-pub take_back-requires-in-Err : goal.take_back-requires-in-Err
-take_back-requires-in-Err c =
-    let begun = flight_begun c.args.ledger.now c.begin_flush.new.self c.begin_flush.result c.in-Some.flight (c.in_ok-flight.was ∙ ap Ok c.in-Some.is) c.begin_flush.ensures.nothing c.begin_flush.ensures.begun in
-    record { own = own_flight c.args.ledger.now c.begin_flush.new.self c.in-Some.flight c.commit.new.self begun.1 begun.2 c.commit.ensures.same_first c.commit.ensures.same_steps c.commit.ensures.same_world }
+pub returns-clause-home : goal.returns-clause-home
+returns-clause-home c =
+    let l = c.args.driver.ledger in
+    let out = c.begin-begun.result.1 in
+    elim c.match-begun.branch [
+      | in-Begun w ↦
+          let sent = subst (λ a. SendsOut l a out) w.in-Begun.is (c.begin-begun.ensures.sent c.requires.home) in
+          rw w.result-is (if_ok_more w.land.result (λ r landed. landed_home (with_out l (length (next_flight l.log sent.1.0).steps)) (next_flight l.log sent.1.0) r.0 r.1 (landed_as l sent.1.0 out sent.1.1.1 r.0 r.1 landed)) w.land.ensures.landed)
+      | in-Nothing w ↦
+          let sent = subst (λ a. SendsOut l a out) w.in-Nothing.is (c.begin-begun.ensures.sent c.requires.home) in
+          rw w.result-is (ap (λ (d : Driven MemDisk). d.flight) sent.1)
+      | in_default+in-Filled-1 w ↦ rw w.result-is tt
+      | in_default+in-Lost-1 w ↦ rw w.result-is tt
+    ]
 
-pub returns-in_ok-take_back-in-Ok-clause-flown : goal.returns-in_ok-take_back-in-Ok-clause-flown
-returns-in_ok-take_back-in-Ok-clause-flown c =
-    let begun = flight_begun c.args.ledger.now c.begin_flush.new.self c.begin_flush.result c.in-Some.flight (c.in_ok-flight.was ∙ ap Ok c.in-Some.is) c.begin_flush.ensures.nothing c.begin_flush.ensures.begun in
-    let new : c.in-Some.flight.mark ≡ New = ap (λ (f : FlightState MemDisk). f.mark) begun.1 in
-    settled_to c.args.ledger.now c.begin_flush.new.self c.take_back.new.ledger c.in-Some.flight c.commit.new.self begun.0 begun.1 begun.2 c.commit.ensures.same_steps c.commit.ensures.same_world
-    c.in_ok-take_back-in-Ok.ensures.taken c.in_ok-take_back-in-Ok.field-0 (c.in-Ok.ensures.tried new) c.in_ok-take_back-in-Ok.ensures.released
-
-pub returns-in_ok-take_back-in-Err-clause-flown : goal.returns-in_ok-take_back-in-Err-clause-flown
-returns-in_ok-take_back-in-Err-clause-flown c =
-    let begun = flight_begun c.args.ledger.now c.begin_flush.new.self c.begin_flush.result c.in-Some.flight (c.in_ok-flight.was ∙ ap Ok c.in-Some.is) c.begin_flush.ensures.nothing c.begin_flush.ensures.begun in
-    let new : c.in-Some.flight.mark ≡ New = ap (λ (f : FlightState MemDisk). f.mark) begun.1 in
-    failed_to c.args.ledger.now c.begin_flush.new.self c.take_back-in-Err.new.ledger c.in-Some.flight c.commit.new.self begun.0 begun.1 begun.2 c.commit.ensures.same_steps c.commit.ensures.same_world
-    c.in_ok-take_back-in-Err.ensures.taken c.in-Err.fault (c.in-Err.ensures.tried new)
+pub returns-clause-moments : goal.returns-clause-moments
+returns-clause-moments c =
+    let v = c.args.driver in
+    let out = c.begin-begun.result.1 in
+    let goes : GoesOnTo v out =
+    λ l run. run_aside l v out Begin c.begin-begun.result.0 (λ b. b) tt refl (λ s. refl) c.begin-begun.ensures.disk c.begin-begun.ensures.answered c.survives.ensures c.survives-2.ensures run in
+    elim c.match-begun.branch [
+      | in-Begun w ↦ rw w.result-is (if_ok_more w.land.result (λ r. λ (on : GoesOnTo out r.1). λ l run. on l (goes l run)) w.land.ensures.moments)
+      | in-Nothing w ↦ rw w.result-is goes
+      | in_default+in-Filled-1 w ↦ rw w.result-is tt
+      | in_default+in-Lost-1 w ↦ rw w.result-is tt
+    ]
