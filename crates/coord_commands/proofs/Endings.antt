@@ -5,8 +5,9 @@ use Rattle.std.specs.Io.KnownBytes.{Appends, Keeps}
 use Rattle.coord_drill.specs.Drilled.{WritesFirstPart}
 use Rattle.coord_commands.specs.Ending.{Ends, IsCutShort, IsOfWriting, PrintsOne, Streams}
 use Rattle.coord_commands.specs.Faults.{fault_line, status_of}
-use Rattle.coord_commands.specs.Serving.{GivesWorld, IsOfServing, Serves}
+use Rattle.coord_commands.specs.Serving.{GivesWorld, IsAddress, IsOfServing, IsOfServingAt, Serves}
 use Rattle.coord_commands.specs.declared.fault.Fault.{Fault}
+use Rattle.coord_commands.specs.declared.fault.Fault.TheVariants.{Usage, Read, Write, Socket, TooManyReads, OutOfMemory, Topology, Store, Refused, NotClosed}
 
 -- what ended is reported
 pub reported : {A : Type 0} (Q : Fault → Type 0) (P : List ℕ → Type 0) (ended : Result A Fault) (status : ℕ) (old new : Streams) → status ≡ status_of ended
@@ -30,12 +31,25 @@ pub of_writing : {A : Type 0} (Q : Fault → Type 0) (result : Result A Fault) �
 of_writing Q (Ok x) among of = tt
 of_writing Q (Err fault) among of = among fault of
 
+-- the faults at an address are among those of `serve`
+at_address : (word : List ℕ) (bytes : Option (List ℕ)) (fault : Fault) → IsAddress word → IsOfServing bytes fault → IsOfServingAt word bytes fault
+at_address word bytes Usage proper of = absurd of
+at_address word bytes Read proper of = (proper, of)
+at_address word bytes Write proper of = (proper, of)
+at_address word bytes Socket proper of = (proper, of)
+at_address word bytes TooManyReads proper of = (proper, of)
+at_address word bytes OutOfMemory proper of = (proper, of)
+at_address word bytes (Topology reason) proper of = (proper, of)
+at_address word bytes (Store fault) proper of = (proper, of)
+at_address word bytes (Refused refusal) proper of = (proper, of)
+at_address word bytes (NotClosed fault) proper of = (proper, of)
+
 -- what was served, or was not
-pub served : {A : Type 0} (bytes after : Option (List ℕ)) (ended : Result A Fault) (status : ℕ) (old new : Option (List ℕ)) → status ≡ status_of ended
+pub served : {A : Type 0} (word : List ℕ) (bytes after : Option (List ℕ)) (ended : Result A Fault) (status : ℕ) (old new : Option (List ℕ)) → IsAddress word → status ≡ status_of ended
     → MatchResult ended (λ _. Keeps old new) (λ fault. WritesFirstPart old new (fault_line fault))
-    → OnOk ended (GivesWorld bytes) → OnOk ended (GivesWorld after) → IfErr ended (IsOfServing bytes) → Serves bytes after status old new
-served bytes after (Ok x) status old new is told opened closed of = inl (record { number = is; opened = opened; closed = closed; silent = told })
-served bytes after (Err fault) status old new is told opened closed of = inr (record { fault = fault; possible = of; number = is; told = told })
+    → OnOk ended (GivesWorld bytes) → OnOk ended (GivesWorld after) → IfErr ended (IsOfServing bytes) → Serves word bytes after status old new
+served word bytes after (Ok x) status old new proper is told opened closed of = inl (record { number = is; address = proper; opened = opened; closed = closed; silent = told })
+served word bytes after (Err fault) status old new proper is told opened closed of = inr (record { fault = fault; possible = at_address word bytes fault proper of; number = is; told = told })
 
 -- what is known of every value is known of the one, if it is known
 pub if_known : (known : Option (List ℕ)) (P : List ℕ → Type 0) → ((bytes : List ℕ) → P bytes) → IfSome known P

@@ -1,5 +1,6 @@
 mod CommandsTaken
 mod Endings
+mod Judged
 mod OneClient
 mod Opening
 mod Raising

@@ -1,13 +1,15 @@
 -- What `init` makes.
-use Rattle.std.specs.Prelude.{◌≡◌, ℕ, ◌<◌, List, [], length, take, Option, IfSome, Ok}
+use Rattle.std.specs.Prelude.{◌≡◌, ℕ, ◌<◌, List, [], length, take, Option, IfSome, Ok, Err}
 use Rattle.coord_config.specs.Topology.{Content}
+use Rattle.coord_config.specs.declared.fault.ConfigFault.{ConfigFault}
+use Rattle.coord_config.specs.declared.fault.ConfigFault.TheVariants as of_topology
 use Rattle.coord_store.specs.Recovered.{Recovered}
 use Rattle.coord_store.specs.Refused.{IsCreateFault}
 use Rattle.coord_store.specs.declared.faults.StoreFault.{StoreFault}
 use Rattle.coord_store.specs.declared.faults.StoreFault.TheVariants.{NotEmpty, HalfSize}
 use Rattle.coord_world.specs.protocol.Next.{fold}
 use Rattle.coord_world.specs.protocol.NumberedWorld.{World, no_world}
-use Rattle.coord_commands.specs.Founding.{orders}
+use Rattle.coord_commands.specs.Founding.{RefusesToBegin, orders}
 use Rattle.coord_commands.specs.Printed.{created_line}
 use Rattle.coord_commands.specs.Topology.{said_by}
 use Rattle.coord_commands.specs.declared.fault.Fault.{Fault}
@@ -22,10 +24,14 @@ pub record IsMade (topology : Content) (before after : Option (List ℕ)) : Type
   pub empty : IfSome before (λ bytes. length bytes ≡ 0)
   pub made : IfSome after (λ bytes. Recovered bytes (begun topology))
 
--- The line of such a store, where this is the topology file; no more than 65,537 bytes of it are read.
+-- the topology file, where it is known, says this topology; no more than 65,537 bytes of it are read
+abbrev pub Says : Option (List ℕ) → Content → Type 0
+Says file topology = IfSome file (λ bytes. said_by (take 65537 bytes) ≡ Ok topology)
+
+-- the line of such a store, where this is the topology file
 pub record IsCreatedLine (file before after : Option (List ℕ)) (line : List ℕ) : Type 0 where
   pub topology : Content
-  pub said : IfSome file (λ bytes. said_by (take 65537 bytes) ≡ Ok topology)
+  pub said : Says file topology
   pub is_made : IsMade topology before after
   pub counted : line ≡ created_line (begun topology).count
 
@@ -39,15 +45,27 @@ RefusesDisk before after NotEmpty = IfSome before (λ bytes. 0 < length bytes) �
 RefusesDisk before after HalfSize = Stays before after
 RefusesDisk before after fault = IsCreateFault fault
 
--- the faults of `init`, its words aside
-abbrev pub IsOfMaking : Option (List ℕ) → Option (List ℕ) → Fault → Type 0
-IsOfMaking before after Read = Unit {0}
-IsOfMaking before after Write = Unit {0}
-IsOfMaking before after OutOfMemory = Unit {0}
-IsOfMaking before after (Topology fault) = Unit {0}
-IsOfMaking before after (Store fault) = RefusesDisk before after fault
-IsOfMaking before after (Refused refusal) = Unit {0}
-IsOfMaking before after fault = ⊥
+-- the topology file, where it is known, says no topology, and this is why; or there is no memory to read it
+abbrev pub RefusesFile : Option (List ℕ) → ConfigFault → Type 0
+RefusesFile file of_topology.OutOfMemory = Unit {0}
+RefusesFile file reason = IfSome file (λ bytes. said_by (take 65537 bytes) ≡ Err reason)
+
+-- why the store of a topology is not made on a disk
+abbrev pub RefusesStore : Option (List ℕ) → Option (List ℕ) → Content → Fault → Type 0
+RefusesStore before after topology OutOfMemory = Unit {0}
+RefusesStore before after topology (Store fault) = RefusesDisk before after fault
+RefusesStore before after topology (Refused refusal) = RefusesToBegin (orders topology) refusal
+RefusesStore before after topology fault = ⊥
+
+-- The faults of `init`, its words aside. The topology file is judged first: it says a topology where its store is not made.
+abbrev pub IsOfMaking : Option (List ℕ) → Option (List ℕ) → Option (List ℕ) → Fault → Type 0
+IsOfMaking file before after Read = Unit {0}
+IsOfMaking file before after Write = Unit {0}
+IsOfMaking file before after OutOfMemory = Unit {0}
+IsOfMaking file before after (Topology reason) = RefusesFile file reason
+IsOfMaking file before after (Store fault) = (topology : Content) × Says file topology × RefusesStore before after topology (Store fault)
+IsOfMaking file before after (Refused refusal) = (topology : Content) × Says file topology × RefusesStore before after topology (Refused refusal)
+IsOfMaking file before after fault = ⊥
 
 -- the faults of the topology file, which is read and judged before the disk is opened
 abbrev pub IsOfFile : Fault → Type 0

@@ -54,13 +54,13 @@ Does Drill words status old new = Drills old.input new.input status old.streams 
 Does Init words status old new =
     let file = word 2 words in
     let topology = word 3 words in
-    Ends (IsOfMaking (reads (old.holds file)) (reads (new.holds file))) (IsCreatedLine (old.says topology) (reads (old.holds file)) (reads (new.holds file))) status old.streams new.streams
+    Ends (IsOfMaking (old.says topology) (reads (old.holds file)) (reads (new.holds file))) (IsCreatedLine (old.says topology) (reads (old.holds file)) (reads (new.holds file))) status old.streams new.streams
 Does Check words status old new = Checks (reads (old.holds (word 2 words))) status old.streams new.streams
 Does Show words status old new = Shows (reads (old.holds (word 2 words))) status old.streams new.streams
 Does Migrate words status old new =
     let file = word 2 words in
     Ends (IsOfMigrating (old.holds file) (new.holds file)) (IsMigratedLine (old.holds file) (new.holds file)) status old.streams new.streams
-Does Serve words status old new = Serves (reads (old.holds (word 2 words))) (reads (new.holds (word 2 words))) status old.streams.errors new.streams.errors
+Does Serve words status old new = Serves (word 3 words) (reads (old.holds (word 2 words))) (reads (new.holds (word 2 words))) status old.streams.errors new.streams.errors
 
 -- the words are refused, or there is no memory to read them
 abbrev pub IsOfWords : List Text → Fault → Type 0

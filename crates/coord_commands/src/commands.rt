@@ -73,7 +73,7 @@ pub fn init<S: Files<File = File> + AllocGlobal, W: Write, E: Write>(
     output: &mut W,
     errors: &mut E,
 ) -> u8
-    ensures { Ends (IsOfMaking None None) (IsCreatedLine None None None) result (record { output = W.contents output.old; errors = E.contents errors.old }) (record { output = W.contents output.new; errors = E.contents errors.new }) }
+    ensures { Ends (IsOfMaking None None None) (IsCreatedLine None None None) result (record { output = W.contents output.old; errors = E.contents errors.old }) (record { output = W.contents output.new; errors = E.contents errors.new }) }
 {
     let mut folder = FileFolder::new(rt);
     init_in(rt.alloc(), &mut folder, file, topology, output, errors)

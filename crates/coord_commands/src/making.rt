@@ -3,7 +3,7 @@
 ghost use Rattle.std.specs.Prelude.{◌≡◌, ◌⊎◌, true, length, None, IfErr, IfOk, IfSome, MatchResult, OnOk};
 ghost use Rattle.coord_commands.specs.Ending.{Ends, IsCutShort, PrintsOne};
 ghost use Rattle.coord_commands.specs.Folders.{bytes_of, reads};
-ghost use Rattle.coord_commands.specs.Making.{IsCreatedLine, IsMade, IsOfFile, IsOfMaking, begun};
+ghost use Rattle.coord_commands.specs.Making.{IsCreatedLine, IsMade, IsOfFile, IsOfMaking, RefusesStore, begun};
 ghost use Rattle.coord_config.specs.Topology.{content};
 
 use crate::creation::create_store;
@@ -28,7 +28,7 @@ pub fn init_in<F: Folder, W: Write, E: Write>(
     output: &mut W,
     errors: &mut E,
 ) -> u8
-    ensures { Ends (IsOfMaking (reads (F.holds folder.old file.now)) (reads (F.holds folder.new file.now)))
+    ensures { Ends (IsOfMaking (F.says folder.old topology.now) (reads (F.holds folder.old file.now)) (reads (F.holds folder.new file.now)))
         (IsCreatedLine (F.says folder.old topology.now) (reads (F.holds folder.old file.now)) (reads (F.holds folder.new file.now)))
         result (record { output = W.contents output.old; errors = E.contents errors.old }) (record { output = W.contents output.new; errors = E.contents errors.new }) }
 {
@@ -43,7 +43,7 @@ fn init_at<F: Folder, W: Write>(
     output: &mut W,
 ) -> Result<(), Fault>
     ensures printed { OnOk result (PrintsOne (IsCreatedLine (F.says folder.old topology.now) (reads (F.holds folder.old file.now)) (reads (F.holds folder.new file.now))) (W.contents output.old) (W.contents output.new)) }
-    ensures fault { IfErr result (IsOfMaking (reads (F.holds folder.old file.now)) (reads (F.holds folder.new file.now))) }
+    ensures fault { IfErr result (IsOfMaking (F.says folder.old topology.now) (reads (F.holds folder.old file.now)) (reads (F.holds folder.new file.now))) }
     ensures cut { IfErr result (IsCutShort (IsCreatedLine (F.says folder.old topology.now) (reads (F.holds folder.old file.now)) (reads (F.holds folder.new file.now))) (W.contents output.old) (W.contents output.new)) }
     ensures early { IfErr result (λ fault. IsOfFile fault → folder.new ≡ folder.old) }
 {
@@ -65,7 +65,7 @@ fn make<F: Folder>(
 ) -> Result<u64, Fault>
     ensures made { OnOk result (IsMade (content topology.now) (reads (F.holds folder.old file.now)) (reads (F.holds folder.new file.now))) }
     ensures count { IfOk result (λ count. count ≡ (begun (content topology.now)).count) }
-    ensures fault { IfErr result (IsOfMaking (reads (F.holds folder.old file.now)) (reads (F.holds folder.new file.now))) }
+    ensures fault { IfErr result (RefusesStore (reads (F.holds folder.old file.now)) (reads (F.holds folder.new file.now)) (content topology.now)) }
     ensures late { IfErr result (λ fault. ¬ IsOfFile fault) }
 {
     let disk = folder.open(file)?;
@@ -78,7 +78,7 @@ fn make<F: Folder>(
 fn make_on<D: Disk>(alloc: Global, disk: D, topology: &Topology) -> (Result<u64, Fault>, D)
     ensures made { OnOk result.0 (IsMade (content topology.now) (bytes_of D.keeps_model D.present disk) (bytes_of D.keeps_model D.present result.1)) }
     ensures count { IfOk result.0 (λ count. count ≡ (begun (content topology.now)).count) }
-    ensures fault { IfErr result.0 (IsOfMaking (bytes_of D.keeps_model D.present disk) (bytes_of D.keeps_model D.present result.1)) }
+    ensures fault { IfErr result.0 (RefusesStore (bytes_of D.keeps_model D.present disk) (bytes_of D.keeps_model D.present result.1) (content topology.now)) }
     ensures late { IfErr result.0 (λ fault. ¬ IsOfFile fault) }
 {
     match create_store(alloc, disk, topology) {

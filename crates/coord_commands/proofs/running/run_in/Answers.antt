@@ -17,7 +17,7 @@ returns-in-Ok-Init-clause-done g c =
     let says = g.F.Folder.says c.args.folder.now in
     let old : Streams = record { output = g.W.Write.contents c.args.output.now; errors = g.E.Write.contents c.args.errors.now } in
     let new : Streams = record { output = g.W.Write.contents c.init_in.new.output; errors = g.E.Write.contents c.init_in.new.errors } in
-    let P : List ℕ → List ℕ → Type 0 = λ f t. Ends (IsOfMaking (reads (before f)) (reads (after f))) (IsCreatedLine (says t) (reads (before f)) (reads (after f))) c.init_in.result old new in
+    let P : List ℕ → List ℕ → Type 0 = λ f t. Ends (IsOfMaking (says t) (reads (before f)) (reads (after f))) (IsCreatedLine (says t) (reads (before f)) (reads (after f))) c.init_in.result old new in
     let named = subst (λ (t : List ℕ). P c.word_at.result.now t) c.word_at-in-Ok-Init.ensures c.init_in.ensures in
     inr (
       Init,
