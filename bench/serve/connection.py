@@ -7,15 +7,35 @@ from served.clients import Lost
 
 class Connection:
     def __init__(self, address):
-        host, port = address.rsplit(":", 1)
+        self.address = address
+        self.connect()
+
+    def connect(self):
+        host, port = self.address.rsplit(":", 1)
         self.socket = socket.create_connection((host, int(port)), timeout=30)
         self.socket.setsockopt(socket.IPPROTO_TCP, socket.TCP_NODELAY, 1)
         self.replies = self.socket.makefile("rb")
 
     def ask(self, *lines):
-        """Sends lines at once, and then reads their replies."""
-        self.socket.sendall(b"".join(lines))
-        return [self.replies.readline() for _ in lines]
+        """Sends lines at once, and then reads their replies. A server ends a connection behind a reply once one of its
+        lives is too old: what has no reply then is sent again over the next one."""
+        replies = self.speak(lines)
+        while len(replies) < len(lines):
+            self.close()
+            self.connect()
+            replies += self.speak(lines[len(replies):])
+        return replies
+
+    def speak(self, lines):
+        """The replies that come before the connection is over."""
+        replies = []
+        try:
+            self.socket.sendall(b"".join(lines))
+            while len(replies) < len(lines) and (reply := self.replies.readline()).endswith(b"\n"):
+                replies.append(reply)
+        except ConnectionError:
+            pass
+        return replies
 
     def close(self):
         self.replies.close()

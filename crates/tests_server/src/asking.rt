@@ -9,7 +9,7 @@ use std::time::{Clock, Duration};
 use std::{io, thread};
 
 /// How often it is looked for what is to come, a millisecond apart.
-const LOOKS: u64 = 10_000;
+const LOOKS: u64 = 3_000;
 
 /// For how many seconds a reply is waited for.
 const PATIENCE_SECONDS: u64 = 10;

@@ -27,22 +27,34 @@ const TRIES: u64 = 16;
 /// What the last of the lines is answered, the first time and again.
 const STARTED: &str = "\"kind\":\"started\"";
 
-/// Sends the lines until the last of them has its reply, and then until all nodes have signalled, and
-/// closes the server. Whether all that came to pass, and a connection was cut off meanwhile.
-fn asks<R: Clock + Net<Stream = TcpStream, Listener = TcpListener>>(
+/// Sends the lines until the last of them has its reply. Whether it came, and a connection was cut
+/// off before.
+fn starts<R: Net<Stream = TcpStream, Listener = TcpListener>>(
     rt: &R,
     alloc: Global,
     address: SocketAddr,
     lines: &str,
 ) -> io::Result<bool> {
     for tried in 0..TRIES {
-        let told = ask(rt, alloc, address, lines)?;
-        if told.as_str().contains(STARTED) {
-            let signalled = all_signal(rt, alloc, address, usize::from(LAST))?;
-            return Ok(tried > 0 && signalled && is_closed(rt, alloc, address)?);
+        if ask(rt, alloc, address, lines)?.as_str().contains(STARTED) {
+            return Ok(tried > 0);
         }
     }
     Ok(false)
+}
+
+/// Has these lines answered over some connections, waits until all nodes have signalled, and closes
+/// the server, also where they have not: nothing else would end it. Whether they have.
+fn asks<R: Clock + Net<Stream = TcpStream, Listener = TcpListener>>(
+    rt: &R,
+    alloc: Global,
+    address: SocketAddr,
+    lines: &str,
+) -> io::Result<bool> {
+    let started = matches!(starts(rt, alloc, address, lines), Ok(true));
+    let signalled = started
+        && matches!(all_signal(rt, alloc, address, usize::from(LAST)), Ok(true));
+    Ok(is_closed(rt, alloc, address)? && signalled)
 }
 
 /// Whether the last life began behind others, and all that was accepted in them is settled.
