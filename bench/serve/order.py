@@ -11,7 +11,7 @@ socket as the server does, and answers each line that one client sends:
   quiet      the server, and an order that it settles, a confirmation
   order      the server, and a reset of a node without links, whose signal it prints meanwhile
 
-All are taken by turns, round by round, so that they meet the same noise. The rows that are printed sum to the order.
+All are taken by turns, one call of each, so that they meet the same noise. The rows that are printed sum to the order.
 """
 
 import os
@@ -26,7 +26,7 @@ from served.clients import Lost  # noqa: E402
 from served.server import Server  # noqa: E402
 
 NAMES = ("pairs", "echo", "lone", "two", "refusal", "quiet", "order")
-ROUNDS, IN_A_ROUND, REPLY = 250, 20, b'{"kind":"finished","step":1000000}\n'
+ROUNDS, IN_A_ROUND, REPLY = 5000, 1, b'{"kind":"finished","step":1000000}\n'
 UNREADABLE = b'{"op":"none","client":1,"number":1000000,"node":1}\n'
 
 
