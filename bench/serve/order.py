@@ -3,14 +3,15 @@
 The words are the program and a folder of a real file system. Each stand-in is a process of its own, which waits at a
 socket as the server does, and answers each line that one client sends:
 
-  pairs      no server: two pairs of a pwrite and an fdatasync, as an order needs them, in a loop
+  pairs      no server: two pairs of a pwrite and a sync, as an order needs them, in a loop
   echo       answers at once: the socket alone
   lone       answers behind two such pairs: the pairs and the socket
   two        the same, where another process makes the pairs, as the server's flusher does: two switches more
   refusal    the server, and a request that it refuses as it reads it: the socket and JSON
-  order      the server, and a reset of a node without links: all of it
+  quiet      the server, and an order that it settles, a confirmation
+  order      the server, and a reset of a node without links, whose signal it prints meanwhile
 
-All are taken by turns, round by round, so that they meet the same noise. The rows that are printed sum to the order.
+All are taken by turns, one call of each, so that they meet the same noise. The rows that are printed sum to the order.
 """
 
 import os
@@ -24,13 +25,14 @@ from latency import LONE_NODE, growth_of, quantiles  # noqa: E402
 from served.clients import Lost  # noqa: E402
 from served.server import Server  # noqa: E402
 
-NAMES = ("pairs", "echo", "lone", "two", "refusal", "order")
-ROUNDS, IN_A_ROUND, REPLY = 250, 20, b'{"kind":"finished","step":1000000}\n'
+NAMES = ("pairs", "echo", "lone", "two", "refusal", "quiet", "order")
+ROUNDS, IN_A_ROUND, REPLY = 5000, 1, b'{"kind":"finished","step":1000000}\n'
 UNREADABLE = b'{"op":"none","client":1,"number":1000000,"node":1}\n'
 
 
 class Pairs:
-    """The writes and syncs of orders, one behind the other: what is appended, and a byte that says so."""
+    """The writes and syncs of orders, one behind the other: what is appended, with a sync of the length too, and a byte
+    that says so."""
 
     def __init__(self, path, growth):
         self.file, self.growth, self.place = os.open(path, os.O_CREAT | os.O_RDWR, 0o600), growth, 0
@@ -38,7 +40,7 @@ class Pairs:
 
     def make(self, *_):
         os.pwrite(self.file, self.bytes, self.place + 1)
-        os.fdatasync(self.file)
+        os.fsync(self.file)
         os.pwrite(self.file, b"\1", self.place)
         os.fdatasync(self.file)
         self.place += self.growth
@@ -81,19 +83,36 @@ def by_another(work):
     return ask
 
 
+class Confirmations:
+    """Orders of client 2, each of which confirms the epoch that the last reset began."""
+
+    def __init__(self, connection, resets):
+        self.connection, self.resets, self.number = connection, resets, 0
+
+    def ask(self):
+        self.number += 1
+        reply, = self.connection.ask(b'{"op":"confirm","client":2,"number":%d,"node":1,"epoch":%d}\n'
+                                     % (self.number, self.resets.number))
+        if not reply.startswith(b'{"kind":"done"'):
+            raise Lost(f"a confirmation was answered {reply}")
+
+
 def calls(server, folder):
-    """What is timed, by its name. The server is lent a client, which stays."""
+    """What is timed, by its name, each behind what is done before. The server is lent a client, which stays."""
     connection, resets = Connection(server.address), Resets("finished")
     growth = growth_of(server, connection, resets)
     own, lone, two = (Pairs(f"{folder}/{name}", growth) for name in ("pairs", "lone", "two"))
     stand_ins = [stand_in(lambda: lambda: None), stand_in(lambda: lone.make), stand_in(lambda: by_another(two.make))]
     asks = [lambda it=it: it.ask(UNREADABLE) for it in (*stand_ins, connection)]
-    return growth, dict(zip(NAMES, [own.make, *asks, lambda: resets.ask(connection)]))
+    reset, confirm = lambda: resets.ask(connection), Confirmations(connection, resets).ask
+    timed = dict(zip(NAMES, [own.make, *asks, confirm, reset]))
+    return growth, {name: (reset if name == "quiet" else lambda: None, call) for name, call in timed.items()}
 
 
-def a_round(call):
+def a_round(prepare, call):
     spent = []
     for _ in range(IN_A_ROUND):
+        prepare()
         begun = time.perf_counter()
         call()
         spent.append(time.perf_counter() - begun)
@@ -111,12 +130,13 @@ def tell(growth, spent):
         ("the socket, to a waiting process and back", p50["lone"] - p50["pairs"]),
         ("two switches to another thread and back", p50["two"] - p50["lone"]),
         ("the line read and its reply written as JSON", p50["refusal"] - p50["echo"]),
-        ("the rest: the engine, the ledger, the store", p50["order"] - p50["two"] - p50["refusal"] + p50["echo"]),
+        ("the rest: the engine and its locks, the ledger, the store", p50["quiet"] - p50["two"] - p50["refusal"] + p50["echo"]),
+        ("a signal, which a third thread prints meanwhile", p50["order"] - p50["quiet"]),
     ]
     print()
     for what, part in parts:
-        print(f"{what:52}{part:9.3f} ms{part / p50['pairs']:8.2f}", flush=True)
-    print(f"{'an order, to its reply':52}{p50['order']:9.3f} ms{p50['order'] / p50['pairs']:8.2f}", flush=True)
+        print(f"{what:60}{part:9.3f} ms{part / p50['pairs']:8.2f}", flush=True)
+    print(f"{'an order, to its reply':60}{p50['order']:9.3f} ms{p50['order'] / p50['pairs']:8.2f}", flush=True)
 
 
 def measure(server, folder):
@@ -126,7 +146,7 @@ def measure(server, folder):
     spent = {name: [] for name in timed}
     for _ in range(ROUNDS):
         for name, call in timed.items():
-            spent[name] += a_round(call)
+            spent[name] += a_round(*call)
     tell(growth, spent)
 
 
