@@ -1,6 +1,7 @@
 -- All faults of a world, in the order in which they are told.
 use Rattle.std.specs.Prelude.{◌≡◌, ℕ, ◌+◌, ◌-◌, Bool, true, false, List, [], ◌∷◌, ◌++◌, Option, Some, None, if◌then◌else◌}
 use Rattle.std.specs.List.{flat_map, range_with_len}
+use Rattle.coord_types.specs.declared.limits.TheConstants.{MAX_NODES}
 use Rattle.coord_types.specs.Table.{get, has}
 use Rattle.coord_link.specs.LaneMachine.{Lane, has_front_taken_at_most}
 use Rattle.coord_world.specs.protocol.Legal.{is_legal_node}
@@ -39,9 +40,9 @@ abbrev pub first : {X : Type 0} → List X → Option X
 first [] = None
 first (x ∷ xs) = Some x
 
--- the numbers of nodes, from one on in ascending order; the greatest is 64
+-- the numbers of nodes, from one on to the greatest, in ascending order
 unfoldable pub nodes_from : ℕ → List ℕ
-nodes_from u = range_with_len u (65 - u)
+nodes_from u = range_with_len u (MAX_NODES + 1 - u)
 
 -- told where the test fails
 abbrev pub told : Bool → Violation → List Violation

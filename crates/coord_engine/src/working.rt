@@ -29,13 +29,9 @@ impl<'a, D: Disk, L: Origin, R: Wait> Bench for EngineBench<'a, D, L, R> {
     }
 
     fn submit(&mut self, step: Step) -> Result<(), Refusal> {
-        match self.engine.submit(self.rt, step, &mut self.share) {
-            Ok(ticket) => {
-                ticket.forget();
-                Ok(())
-            }
-            Err(refusal) => Err(refusal),
-        }
+        let ticket = self.engine.submit(self.rt, step, &mut self.share)?;
+        ticket.forget();
+        Ok(())
     }
 
     fn lose(&mut self, _packet: Packet) {}

@@ -25,7 +25,7 @@ impl Model for LineBuffer {
 
     ghost view = { λ a. if a.is_long then None else Some (take a.len a.bytes) };
 
-    ghost invariant = { λ a. a.len ≤ 512 };
+    ghost invariant = { λ a. a.len ≤ MAX_LINE_BYTES };
 }
 
 impl LineBuffer {

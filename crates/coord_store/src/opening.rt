@@ -43,10 +43,7 @@ fn read_contents(alloc: Global, contents: &Contents) -> Result<World, StoreFault
     ensures refused { IfErr result (λ fault. (fault ≡ OutOfMemory) ⊎ RefusesContent (content_of contents.now) fault) }
 {
     let start = read_snapshot(alloc, contents)?;
-    match replay(alloc, start, &contents.batches) {
-        Ok(world) => Ok(world),
-        Err(fault) => Err(fault),
-    }
+    replay(alloc, start, &contents.batches)
 }
 
 impl<D: Disk> Store<D> {

@@ -57,13 +57,12 @@ impl<D: Disk> Ledger<D> {
     pub fn hand_in(&mut self, step: Step) -> Result<Handed, Refusal>
         ensures { HandedTo self.old step result self.new }
     {
-        match self.judge(&step) {
-            Ok(Verdict::Fresh(kind)) => match self.accept(step, kind) {
+        match self.judge(&step)? {
+            Verdict::Fresh(kind) => match self.accept(step, kind) {
                 Ok(reply) => Ok(Handed::Accepted(Ticket::of(step, reply))),
                 Err(_) => Err(Refusal::OutOfMemory),
             },
-            Ok(Verdict::Repeat(reply)) => Ok(Handed::Repeated(Ticket::of(step, reply))),
-            Err(refusal) => Err(refusal),
+            Verdict::Repeat(reply) => Ok(Handed::Repeated(Ticket::of(step, reply))),
         }
     }
 
@@ -79,9 +78,6 @@ impl<D: Disk> Ledger<D> {
         ensures refused { (why : Why) → said self.old step ≡ Err why → result ≡ Err why }
         ensures unchanged { OnErr result (self.new ≡ self.old) }
     {
-        match self.hand_in(step) {
-            Ok(handed) => Ok(handed.ticket()),
-            Err(refusal) => Err(refusal),
-        }
+        Ok(self.hand_in(step)?.ticket())
     }
 }
