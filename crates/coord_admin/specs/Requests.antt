@@ -62,18 +62,18 @@ abbrev pub node_at : Name → Data → Option ℕ
 node_at name d = id_at name MAX_NODES d
 
 -- a value of two, where both are there
-abbrev pub both : {A B C : Type 0} → (A → B → C) → Option A → Option B → Option C
-both f (Some a) (Some b) = Some (f a b)
-both f a b = None
+abbrev pub with_both : {A B C : Type 0} → (A → B → C) → Option A → Option B → Option C
+with_both f (Some a) (Some b) = Some (f a b)
+with_both f a b = None
 
 -- the command of an order
 abbrev pub command_of : Op → Data → Option Command
-command_of Add d = both (λ u g. command.Add u g) (node_at (codes "node") d) (id_at (codes "group") MAX_GROUPS d)
+command_of Add d = with_both (λ u g. command.Add u g) (node_at (codes "node") d) (id_at (codes "group") MAX_GROUPS d)
 command_of Remove d = option_and_then (λ u. Some (command.Remove u)) (node_at (codes "node") d)
-command_of Join d = both (λ a b. command.Join a b) (node_at (codes "a") d) (node_at (codes "b") d)
-command_of Drop d = both (λ a b. command.Drop a b) (node_at (codes "a") d) (node_at (codes "b") d)
+command_of Join d = with_both (λ a b. command.Join a b) (node_at (codes "a") d) (node_at (codes "b") d)
+command_of Drop d = with_both (λ a b. command.Drop a b) (node_at (codes "a") d) (node_at (codes "b") d)
 command_of Reset d = option_and_then (λ u. Some (command.Reset u)) (node_at (codes "node") d)
-command_of Confirm d = both (λ u e. command.Confirm u e) (node_at (codes "node") d) (number_at (codes "epoch") d)
+command_of Confirm d = with_both (λ u e. command.Confirm u e) (node_at (codes "node") d) (number_at (codes "epoch") d)
 command_of Show d = None
 command_of Resend d = None
 command_of Close d = None

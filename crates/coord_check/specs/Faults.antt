@@ -45,15 +45,15 @@ unfoldable pub nodes_from : ℕ → List ℕ
 nodes_from u = range_with_len u (MAX_NODES + 1 - u)
 
 -- told where the test fails
-abbrev pub told : Bool → Violation → List Violation
-told b v = if b then [] else v ∷ []
+abbrev pub fault_unless : Bool → Violation → List Violation
+fault_unless b v = if b then [] else v ∷ []
 
 -- a node is named twice
 abbrev pub node_faults : World → ℕ → List Violation
-node_faults w u = if has w.nodes u then told (is_legal_node w.count (state w u)) (record { a = u; b = u; letter = letter.N }) else []
+node_faults w u = if has w.nodes u then fault_unless (is_legal_node w.count (state w u)) (record { a = u; b = u; letter = letter.N }) else []
 
 abbrev pub end_faults : World → ℕ → ℕ → Letter → List Violation
-end_faults w u v x = told (link_holds w u v x) (record { a = u; b = v; letter = x })
+end_faults w u v x = fault_unless (link_holds w u v x) (record { a = u; b = v; letter = x })
 
 -- one letter, as each end of a link sees it
 abbrev pub letter_faults : World → ℕ → ℕ → Letter → List Violation

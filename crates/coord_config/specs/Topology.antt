@@ -20,9 +20,9 @@ abbrev pub content : Topology → Content
 content t = record { half = t.half; nodes = t.nodes.items; links = t.links.items }
 
 -- a value of two, where both are there
-abbrev pub both : {A B C : Type 0} → (A → B → C) → Option A → Option B → Option C
-both f (Some a) (Some b) = Some (f a b)
-both f a b = None
+abbrev pub with_both : {A B C : Type 0} → (A → B → C) → Option A → Option B → Option C
+with_both f (Some a) (Some b) = Some (f a b)
+with_both f a b = None
 
 -- the whole number that the value is, if it lies between these
 abbrev pub number_within : ℕ → ℕ → Data → Option ℕ
@@ -35,18 +35,18 @@ number_at key least most ms = option_and_then (number_within least most) (get_me
 
 -- a node is a table with an id and a group
 abbrev pub node_of : Data → Option NodeEntry
-node_of (table ms) = both (λ id group. record { id = id; group = group }) (number_at (codes "id") 1 MAX_NODES ms) (number_at (codes "group") 1 MAX_GROUPS ms)
+node_of (table ms) = with_both (λ id group. record { id = id; group = group }) (number_at (codes "id") 1 MAX_NODES ms) (number_at (codes "group") 1 MAX_GROUPS ms)
 node_of other = None
 
 -- a link is a table with two ends, each the id of a node
 abbrev pub link_of : Data → Option LinkEntry
-link_of (table ms) = both (λ a b. record { a = a; b = b }) (number_at (codes "a") 1 MAX_NODES ms) (number_at (codes "b") 1 MAX_NODES ms)
+link_of (table ms) = with_both (λ a b. record { a = a; b = b }) (number_at (codes "a") 1 MAX_NODES ms) (number_at (codes "b") 1 MAX_NODES ms)
 link_of other = None
 
 -- what each item is, if each is something
 abbrev pub each : {X : Type 0} → (Data → Option X) → Items → Option (List X)
 each read no_items = Some []
-each read (item d ds) = both (λ x xs. x ∷ xs) (read d) (each read ds)
+each read (item d ds) = with_both (λ x xs. x ∷ xs) (read d) (each read ds)
 
 -- an absent array has no entries
 abbrev pub entries_of : {X : Type 0} → (Data → Option X) → Option Data → Option (List X)

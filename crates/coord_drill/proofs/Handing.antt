@@ -16,7 +16,7 @@ use Rattle.coord_world.specs.declared.verdicts.Verdict.TheVariants.{Fresh, Repea
 use Rattle.coord_world.specs.protocol.Next.{fold, next, reply}
 use Rattle.coord_world.specs.protocol.NumberedWorld.{World}
 use Rattle.coord_ledger.proofs.Granted.{granted_repeat}
-use Rattle.coord_ledger.specs.ledger.Calls.{claimed, said, with_accepted}
+use Rattle.coord_ledger.specs.ledger.Calls.{claimed, ledger_verdict, with_accepted}
 use Rattle.coord_ledger.specs.ledger.State.{Claim, IsGranted, LedgerState, reply_of}
 use Rattle.coord_ledger.specs.machine.Log.{front_world, pending, settled_count, settled_world, with_step}
 use Rattle.coord_drill.specs.Answered.{Does, Flies, kept_line}
@@ -30,14 +30,14 @@ use Rattle.coord_drill.proofs.Doing.{does_hold_step, does_refuse, does_repeat, d
 -- ---- what a ledger answers
 
 module _ (l new : LedgerState MemDisk) (x : Step) (r : Result Claim Refusal)
-    (fresh : (kind : Kind) → said l x ≡ Ok (Fresh kind) → MatchResult r (λ t. (t ≡ claimed x (reply (front_world l.log) x)) × (new ≡ with_accepted l x)) (λ e. e ≡ OutOfMemory))
-    (repeated : (kept : Reply) → said l x ≡ Ok (Repeat kept) → IsOkAnd r (λ t. (t ≡ claimed x kept) × (new ≡ l)))
-    (refused : (why : Refusal) → said l x ≡ Err why → r ≡ Err why) where
+    (fresh : (kind : Kind) → ledger_verdict l x ≡ Ok (Fresh kind) → MatchResult r (λ t. (t ≡ claimed x (reply (front_world l.log) x)) × (new ≡ with_accepted l x)) (λ e. e ≡ OutOfMemory))
+    (repeated : (kept : Reply) → ledger_verdict l x ≡ Ok (Repeat kept) → IsOkAnd r (λ t. (t ≡ claimed x kept) × (new ≡ l)))
+    (refused : (why : Refusal) → ledger_verdict l x ≡ Err why → r ≡ Err why) where
   -- a fresh step is one more
   pub accepted_to : (t : Claim) → r ≡ Ok t → (front_world l.log).count < (front_world new.log).count → HandedTo l x (Accepted t) new
-  accepted_to t is grown = by_verdict (said l x) refl
+  accepted_to t is grown = by_verdict (ledger_verdict l x) refl
     where
-      by_verdict : (v : Result Verdict Refusal) → said l x ≡ v → HandedTo l x (Accepted t) new
+      by_verdict : (v : Result Verdict Refusal) → ledger_verdict l x ≡ v → HandedTo l x (Accepted t) new
       by_verdict (Ok (Fresh kind)) judged =
           let both = MatchResult-at_ok (λ t. (t ≡ claimed x (reply (front_world l.log) x)) × (new ≡ with_accepted l x)) (λ e. e ≡ OutOfMemory) t is (fresh kind judged) in
           (kind, judged, both.0, both.1)
@@ -49,9 +49,9 @@ module _ (l new : LedgerState MemDisk) (x : Step) (r : Result Claim Refusal)
 
   -- a repeat is none
   pub repeated_to : (t : Claim) → r ≡ Ok t → (front_world new.log).count ≤ (front_world l.log).count → HandedTo l x (Repeated t) new
-  repeated_to t is not_grown = by_verdict (said l x) refl
+  repeated_to t is not_grown = by_verdict (ledger_verdict l x) refl
     where
-      by_verdict : (v : Result Verdict Refusal) → said l x ≡ v → HandedTo l x (Repeated t) new
+      by_verdict : (v : Result Verdict Refusal) → ledger_verdict l x ≡ v → HandedTo l x (Repeated t) new
       by_verdict (Ok (Fresh kind)) judged =
           let both = MatchResult-at_ok (λ t. (t ≡ claimed x (reply (front_world l.log) x)) × (new ≡ with_accepted l x)) (λ e. e ≡ OutOfMemory) t is (fresh kind judged) in
           let more : (front_world new.log).count ≡ (front_world (with_step l.log x)).count = ap (λ (m : LedgerState MemDisk). (front_world m.log).count) both.1 in

@@ -13,7 +13,7 @@ use Rattle.coord_world.specs.declared.verdicts.Verdict.TheVariants.{Fresh, Repea
 use Rattle.coord_world.specs.protocol.Next.{next, reply}
 use Rattle.coord_world.specs.protocol.NumberedWorld.{World, no_world}
 use Rattle.coord_ledger.specs.declared.release.Release.{Release}
-use Rattle.coord_ledger.specs.ledger.Calls.{claimed, keeps_store, said, with_accepted}
+use Rattle.coord_ledger.specs.ledger.Calls.{claimed, keeps_store, ledger_verdict, with_accepted}
 use Rattle.coord_ledger.specs.ledger.State.{Claim, LedgerState, ledger_over, reply_of}
 use Rattle.coord_ledger.specs.machine.After.{settling_releases}
 use Rattle.coord_ledger.specs.machine.Answers.{IsOneOf, kept_by, next_size}
@@ -85,9 +85,9 @@ FlownTo l (flown.Failed fault) new = ⊥
 
 -- a step that is handed in
 abbrev pub HandedTo : LedgerState MemDisk → Step → Outcome → LedgerState MemDisk → Type 0
-HandedTo l x (outcome.Accepted ticket) new = (kind : Kind) × (said l x ≡ Ok (Fresh kind)) × (ticket ≡ claimed x (reply (front_world l.log) x)) × (new ≡ with_accepted l x)
-HandedTo l x (outcome.Repeated ticket) new = (kept : Answered) × (said l x ≡ Ok (Repeat kept)) × (ticket ≡ claimed x kept) × (new ≡ l)
-HandedTo l x (outcome.Refused refusal) new = (said l x ≡ Err refusal) × (new ≡ l)
+HandedTo l x (outcome.Accepted ticket) new = (kind : Kind) × (ledger_verdict l x ≡ Ok (Fresh kind)) × (ticket ≡ claimed x (reply (front_world l.log) x)) × (new ≡ with_accepted l x)
+HandedTo l x (outcome.Repeated ticket) new = (kept : Answered) × (ledger_verdict l x ≡ Ok (Repeat kept)) × (ticket ≡ claimed x kept) × (new ≡ l)
+HandedTo l x (outcome.Refused refusal) new = (ledger_verdict l x ≡ Err refusal) × (new ≡ l)
 
 -- a ledger that was made of the disk of another one after a crash: over a world that the crash may leave
 abbrev pub ReopenedTo : LedgerState MemDisk → LedgerState MemDisk → Type 0

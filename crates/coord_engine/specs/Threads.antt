@@ -14,7 +14,7 @@ use Rattle.coord_ledger.specs.ledger.State.{Claim, FlightState, LedgerState}
 use Rattle.coord_ledger.specs.machine.After.{releases_of, resent}
 use Rattle.coord_ledger.specs.machine.Log.{accepted_count, pending, settled_count, settled_world}
 use Rattle.coord_ledger.specs.machine.Shown.{Shown, shown}
-use Rattle.coord_engine.specs.Calls.{AnswersStep, told}
+use Rattle.coord_engine.specs.Calls.{AnswersStep, engine_verdict}
 use Rattle.coord_engine.specs.Closing.{MayClose}
 use Rattle.coord_engine.specs.State.{Basis, CanHold, GuardedState}
 
@@ -26,7 +26,7 @@ pub record AtSomeMoment {D : Type 0} (b : Basis D) (P : GuardedState D → Type 
 
 -- a step was submitted
 abbrev pub Submits : {D : Type 0} → Step → Result Claim Refusal → List Note → List Note → GuardedState D → Type 0
-Submits {D} s answer notes later g = (l : LedgerState D) × AnswersStep s (told g s) (record { ledger = g.ledger; notes = notes }) answer (record { ledger = l; notes = later })
+Submits {D} s answer notes later g = (l : LedgerState D) × AnswersStep s (engine_verdict g s) (record { ledger = g.ledger; notes = notes }) answer (record { ledger = l; notes = later })
 
 -- the settled world was shown to a caller that had seen so much of it
 abbrev pub Shows : {D : Type 0} → Shown → ℕ → ℕ → GuardedState D → Type 0

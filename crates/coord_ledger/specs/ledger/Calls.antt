@@ -31,8 +31,8 @@ abbrev pub claimed : Step → Reply → Claim
 claimed what reply = record { step = reply.step; what = what; kind = reply.kind }
 
 -- what it says to a step, memory aside
-abbrev pub said : {D : Type 0} → LedgerState D → Step → Result Verdict Refusal
-said l s = verdict (is_some l.doubt) l.log s
+abbrev pub ledger_verdict : {D : Type 0} → LedgerState D → Step → Result Verdict Refusal
+ledger_verdict l s = verdict (is_some l.doubt) l.log s
 
 -- with one more step accepted
 abbrev pub with_accepted : {D : Type 0} → LedgerState D → Step → LedgerState D
@@ -51,9 +51,9 @@ RefusesStep refusal (Err why) = refusal ≡ why
 
 -- a step that is handed in: a fresh one is accepted, a repeat is no step
 abbrev pub HandedTo : {D : Type 0} → LedgerState D → Step → Result Handed Refusal → LedgerState D → Type 0
-HandedTo l s (Ok (handed.Accepted claim)) new = (kind : Kind) × ((said l s ≡ Ok (Fresh kind)) × ((claim ≡ claimed s (reply (front_world l.log) s)) × (new ≡ with_accepted l s)))
-HandedTo l s (Ok (handed.Repeated claim)) new = (kept : Reply) × ((said l s ≡ Ok (Repeat kept)) × ((claim ≡ claimed s kept) × (new ≡ l)))
-HandedTo l s (Err refusal) new = RefusesStep refusal (said l s) × (new ≡ l)
+HandedTo l s (Ok (handed.Accepted claim)) new = (kind : Kind) × ((ledger_verdict l s ≡ Ok (Fresh kind)) × ((claim ≡ claimed s (reply (front_world l.log) s)) × (new ≡ with_accepted l s)))
+HandedTo l s (Ok (handed.Repeated claim)) new = (kept : Reply) × ((ledger_verdict l s ≡ Ok (Repeat kept)) × ((claim ≡ claimed s kept) × (new ≡ l)))
+HandedTo l s (Err refusal) new = RefusesStep refusal (ledger_verdict l s) × (new ≡ l)
 
 -- no flight goes out of it
 abbrev pub keeps_store : {D : Type 0} → LedgerState D → Bool
