@@ -7,6 +7,7 @@ use Rattle.coord_store.specs.declared.faults.StoreFault.{StoreFault}
 use Rattle.coord_store.specs.declared.faults.StoreFault.TheVariants.{NotEmpty, HalfSize}
 use Rattle.coord_world.specs.protocol.Next.{fold}
 use Rattle.coord_world.specs.protocol.NumberedWorld.{World, no_world}
+use Rattle.coord_commands.specs.declared.topology.TheConstants.{MOST_BYTES}
 use Rattle.coord_commands.specs.Founding.{orders}
 use Rattle.coord_commands.specs.Printed.{created_line}
 use Rattle.coord_commands.specs.Topology.{said_by}
@@ -22,10 +23,10 @@ pub record IsMade (topology : Content) (before after : Option (List ℕ)) : Type
   pub empty : IfSome before (λ bytes. length bytes ≡ 0)
   pub made : IfSome after (λ bytes. Recovered bytes (begun topology))
 
--- The line of such a store, where this is the topology file; no more than 65,537 bytes of it are read.
+-- The line of such a store, where this is the topology file; no more of it is read than one byte behind the longest.
 pub record IsCreatedLine (file before after : Option (List ℕ)) (line : List ℕ) : Type 0 where
   pub topology : Content
-  pub said : IfSome file (λ bytes. said_by (take 65537 bytes) ≡ Ok topology)
+  pub said : IfSome file (λ bytes. said_by (take MOST_BYTES bytes) ≡ Ok topology)
   pub is_made : IsMade topology before after
   pub counted : line ≡ created_line (begun topology).count
 

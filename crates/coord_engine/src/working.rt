@@ -29,9 +29,13 @@ impl<'a, D: Disk, L: Origin, R: Wait> Bench for EngineBench<'a, D, L, R> {
     }
 
     fn submit(&mut self, step: Step) -> Result<(), Refusal> {
-        let ticket = self.engine.submit(self.rt, step, &mut self.share)?;
-        ticket.forget();
-        Ok(())
+        match self.engine.submit(self.rt, step, &mut self.share) {
+            Ok(ticket) => {
+                ticket.forget();
+                Ok(())
+            }
+            Err(refusal) => Err(refusal),
+        }
     }
 
     fn lose(&mut self, _packet: Packet) {}

@@ -44,7 +44,10 @@ fn read_text(alloc: Global, bytes: &[u8]) -> Result<(Place, Contents), JournalFa
         return Err(JournalFault::BadRecord);
     }
     let behind = &header.rest[start..];
-    let (contents, used) = read_half(alloc, &behind[..size.min(behind.len())])?;
+    let (contents, used) = match read_half(alloc, &behind[..size.min(behind.len())]) {
+        Ok(read) => read,
+        Err(fault) => return Err(fault),
+    };
     let place = Place {
         half_size: header.half_size,
         half,

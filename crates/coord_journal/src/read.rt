@@ -62,7 +62,10 @@ pub fn read_half(alloc: Global, half: &[u8]) -> Result<(Contents, usize), Journa
     let Some((snapshot, rest)) = split_body(half, MAX_SNAPSHOT) else {
         return Err(JournalFault::BadRecord);
     };
-    let (batches, size) = read_batches(alloc, rest)?;
+    let (batches, size) = match read_batches(alloc, rest) {
+        Ok(read) => read,
+        Err(fault) => return Err(fault),
+    };
     let contents = Contents {
         version: half[0],
         snapshot: snapshot.to_vec(alloc)?,

@@ -20,6 +20,7 @@ pub struct LineBuffer {
 
 impl Model for LineBuffer {
     ghost use Rattle.std.specs.Prelude.{◌≤◌, ℕ, List, Option, Some, None, take, if◌then◌else◌};
+    ghost use Rattle.coord_types.specs.declared.limits.TheConstants.{MAX_LINE_BYTES};
 
     ghost Value = { Option (List ℕ) };
 

@@ -43,7 +43,10 @@ fn read_contents(alloc: Global, contents: &Contents) -> Result<World, StoreFault
     ensures refused { IfErr result (λ fault. (fault ≡ OutOfMemory) ⊎ RefusesContent (content_of contents.now) fault) }
 {
     let start = read_snapshot(alloc, contents)?;
-    replay(alloc, start, &contents.batches)
+    match replay(alloc, start, &contents.batches) {
+        Ok(world) => Ok(world),
+        Err(fault) => Err(fault),
+    }
 }
 
 impl<D: Disk> Store<D> {

@@ -62,7 +62,10 @@ pub fn replay(alloc: Global, start: World, batches: &[Vec<u8>]) -> Result<World,
     let mut settled = start.copy()?;
     let mut world = start;
     for (number, body) in batches.iter().enumerate() {
-        replay_batch(alloc, &mut world, &mut settled, number, body)?;
+        match replay_batch(alloc, &mut world, &mut settled, number, body) {
+            Ok(()) => {}
+            Err(fault) => return Err(fault),
+        }
     }
     Ok(world)
 }

@@ -27,7 +27,10 @@ impl<D: Disk, L: Origin> Guarded<D, L> {
             return Err(Refusal::Stopped);
         }
         let before = self.ledger.trail().len();
-        let ticket = self.ledger.submit(step)?;
+        let ticket = match self.ledger.submit(step) {
+            Ok(ticket) => ticket,
+            Err(refusal) => return Err(refusal),
+        };
         if self.ledger.trail().len() == before {
             return Ok(ticket);
         }
