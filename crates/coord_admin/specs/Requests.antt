@@ -6,6 +6,7 @@ use Rattle.serde_json.specs.Events.{members_len}
 use Rattle.serde_json.specs.Find.{get, as_number, as_object, as_str, as_u64}
 use Rattle.serde_json.specs.Read.{read}
 use Rattle.coord_lines.specs.Lines.{Line}
+use Rattle.coord_types.specs.declared.limits.TheConstants.{MAX_CLIENTS, MAX_GROUPS, MAX_NODES}
 use Rattle.coord_types.specs.declared.steps.Command.{Command}
 use Rattle.coord_types.specs.declared.steps.Command.TheVariants as command
 use Rattle.coord_admin.specs.declared.op.Op.{Op}
@@ -58,21 +59,21 @@ abbrev pub id_at : Name → ℕ → Data → Option ℕ
 id_at name most d = option_and_then (from_1_to most) (number_at name d)
 
 abbrev pub node_at : Name → Data → Option ℕ
-node_at name d = id_at name 64 d
+node_at name d = id_at name MAX_NODES d
 
 -- a value of two, where both are there
-abbrev pub both : {A B C : Type 0} → (A → B → C) → Option A → Option B → Option C
-both f (Some a) (Some b) = Some (f a b)
-both f a b = None
+abbrev pub with_both : {A B C : Type 0} → (A → B → C) → Option A → Option B → Option C
+with_both f (Some a) (Some b) = Some (f a b)
+with_both f a b = None
 
 -- the command of an order
 abbrev pub command_of : Op → Data → Option Command
-command_of Add d = both (λ u g. command.Add u g) (node_at (codes "node") d) (id_at (codes "group") 16 d)
+command_of Add d = with_both (λ u g. command.Add u g) (node_at (codes "node") d) (id_at (codes "group") MAX_GROUPS d)
 command_of Remove d = option_and_then (λ u. Some (command.Remove u)) (node_at (codes "node") d)
-command_of Join d = both (λ a b. command.Join a b) (node_at (codes "a") d) (node_at (codes "b") d)
-command_of Drop d = both (λ a b. command.Drop a b) (node_at (codes "a") d) (node_at (codes "b") d)
+command_of Join d = with_both (λ a b. command.Join a b) (node_at (codes "a") d) (node_at (codes "b") d)
+command_of Drop d = with_both (λ a b. command.Drop a b) (node_at (codes "a") d) (node_at (codes "b") d)
 command_of Reset d = option_and_then (λ u. Some (command.Reset u)) (node_at (codes "node") d)
-command_of Confirm d = both (λ u e. command.Confirm u e) (node_at (codes "node") d) (number_at (codes "epoch") d)
+command_of Confirm d = with_both (λ u e. command.Confirm u e) (node_at (codes "node") d) (number_at (codes "epoch") d)
 command_of Show d = None
 command_of Resend d = None
 command_of Close d = None
@@ -87,7 +88,7 @@ abbrev pub request_by : Op → Data → Option Request
 request_by Show d = Some request.Show
 request_by Resend d = Some request.Resend
 request_by Close d = Some request.Close
-request_by op d = order_of (id_at (codes "client") 16 d) (number_at (codes "number") d) (command_of op d)
+request_by op d = order_of (id_at (codes "client") MAX_CLIENTS d) (number_at (codes "number") d) (command_of op d)
 
 abbrev pub len_if : Option Members → ℕ
 len_if None = 0

@@ -3,6 +3,7 @@ use Rattle.std.specs.Prelude.{◌≡◌, ℕ, ◌-◌, ◌^◌, ◌≤◌, ◌<�
 use Rattle.coord_types.specs.Messages.{brought}
 use Rattle.coord_batch.specs.Fields.{distance}
 use Rattle.std.specs.List.{AllByRecursion}
+use Rattle.coord_types.specs.declared.limits.TheConstants.{MAX_BATCH_STEPS, MAX_CLIENTS, MAX_STEPS}
 use Rattle.coord_types.specs.declared.steps.Step.{Step}
 use Rattle.coord_types.specs.declared.steps.Step.TheVariants.{Order, Take, Clear}
 use Rattle.coord_batch.specs.declared.batch.Batch.{Batch}
@@ -10,7 +11,7 @@ use Rattle.coord_types.specs.StepRanges.{IsNode, CommandInRange}
 
 -- what the types of a step keep, and orders are numbered from 1; in version 1 no packet brings a distance
 abbrev pub StepFits : ℕ → Step → Type 0
-StepFits version (Order c n x) = ((1 ≤ c) × (c ≤ 16)) × ((1 ≤ n) × (n < 2 ^ 64)) × CommandInRange x
+StepFits version (Order c n x) = ((1 ≤ c) × (c ≤ MAX_CLIENTS)) × ((1 ≤ n) × (n < 2 ^ 64)) × CommandInRange x
 StepFits version (Take p) = IsNode p.from × IsNode p.to × (p.inc < 2 ^ 64) × (p.number < 2 ^ 64) × (distance version (2 ^ 64 - 1)).Fits (brought p.msg)
 StepFits version (Clear r) = IsNode r.from × IsNode r.to × (r.inc < 2 ^ 64) × (r.number < 2 ^ 64)
 
@@ -24,9 +25,9 @@ content b = (b.first, b.steps.items)
 -- steps from a number on
 pub record IsBatch (version first : ℕ) (steps : List Step) : Type 0 where
   pub least : 1 ≤ first
-  pub greatest : first ≤ 2 ^ 40
+  pub greatest : first ≤ MAX_STEPS
   pub some : 1 ≤ length steps
-  pub most : length steps ≤ 256
+  pub most : length steps ≤ MAX_BATCH_STEPS
   pub each : AllByRecursion (StepFits version) steps
 
 -- an order's number is counted from 1

@@ -1,21 +1,22 @@
 -- The fields that batches and worlds are made of.
 use Rattle.std.specs.Prelude.{ℕ, zero, suc, ◌==◌, ◌&&◌, nat_le, Bool, true, false}
 use Rattle.coord_types.specs.Messages.{brought}
+use Rattle.coord_types.specs.declared.limits.TheConstants.{MAX_CLIENTS, MAX_GROUPS, MAX_NODES}
 use Rattle.coord_types.specs.declared.messages.Msg.{Msg}
 use Rattle.coord_types.specs.declared.messages.Msg.TheVariants as msg
 use Rattle.coord_batch.specs.Format.{Format, byte, u64, nothing, such_that, made, cases}
 
--- 1 to 64
+-- a node, by its number
 unfoldable pub node : Format ℕ
-node = such_that (λ n. nat_le 1 n && nat_le n 64) byte
+node = such_that (λ n. nat_le 1 n && nat_le n MAX_NODES) byte
 
--- 1 to 16
+-- a group, by its number
 unfoldable pub group : Format ℕ
-group = such_that (λ n. nat_le 1 n && nat_le n 16) byte
+group = such_that (λ n. nat_le 1 n && nat_le n MAX_GROUPS) byte
 
--- 1 to 16
+-- a client, by its number
 unfoldable pub client : Format ℕ
-client = such_that (λ n. nat_le 1 n && nat_le n 16) byte
+client = such_that (λ n. nat_le 1 n && nat_le n MAX_CLIENTS) byte
 
 -- a number from 1
 unfoldable pub from_one : Format ℕ

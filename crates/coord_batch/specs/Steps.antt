@@ -1,5 +1,6 @@
 -- The grammar of steps and of batches, by version.
 use Rattle.std.specs.Prelude.{ℕ, zero, suc, ◌-◌, ◌^◌, ◌&&◌, nat_le, List}
+use Rattle.coord_types.specs.declared.limits.TheConstants.{MAX_BATCH_STEPS, MAX_STEPS}
 use Rattle.coord_types.specs.declared.messages.Msg.TheVariants as msg
 use Rattle.coord_types.specs.declared.packets.DataPacket.{DataPacket}
 use Rattle.coord_types.specs.declared.packets.ReceiptPacket.{ReceiptPacket}
@@ -95,13 +96,13 @@ step_case version (suc (suc n)) = made Clear cleared_of receipt_packet
 unfoldable pub step : ℕ → Format Step
 step version = cases 3 step_tag (step_case version)
 
--- how many steps there are, 1 to 256, and the steps
+-- how many steps there are, and the steps
 unfoldable pub how_many_steps : Format ℕ
-how_many_steps = such_that (λ n. nat_le 1 n && nat_le n 256) u16
+how_many_steps = such_that (λ n. nat_le 1 n && nat_le n MAX_BATCH_STEPS) u16
 
 unfoldable pub steps : ℕ → Format (List Step)
 steps version = counted how_many_steps (λ _. step version)
 
 -- the number of the first step, and the steps
 unfoldable pub batch : ℕ → Format (ℕ × List Step)
-batch version = from_one_to (2 ^ 40) & steps version
+batch version = from_one_to MAX_STEPS & steps version

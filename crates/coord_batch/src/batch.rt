@@ -82,7 +82,7 @@ pub fn write_batch(
     first: u64,
     steps: &[Step],
 ) -> Result<Vec<u8>, AllocError>
-    requires first { (1 ≤ first) × (first ≤ 2 ^ 40) }
+    requires first { (1 ≤ first) × (first ≤ MAX_STEPS) }
     requires count { (1 ≤ length steps.now) × (length steps.now ≤ MAX_BATCH_STEPS) }
     requires writable { AllByRecursion (IsWritable version) steps.now }
     ensures spelled { IfOk result (λ v. v.items ≡ (batch version).text (pair first steps.now)) }

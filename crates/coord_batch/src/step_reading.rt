@@ -7,7 +7,7 @@ ghost use Rattle.coord_batch.specs.Steps.{command, data_packet, receipt_packet, 
 
 use crate::fault::ReadError;
 use crate::input::Input;
-use coord_types::{Command, DataPacket, ReceiptPacket, Step, Version};
+use coord_types::{Command, DataPacket, MAX_BATCH_STEPS, ReceiptPacket, Step, Version};
 use std::alloc::Global;
 
 impl<'a> Input<'a> {
@@ -83,14 +83,14 @@ impl<'a> Input<'a> {
         Ok(list)
     }
 
-    /// Their number, from 1 to 256, and the steps.
+    /// Their number, from 1 to `MAX_BATCH_STEPS`, and the steps.
     #[tactic(auto, unfolding(crate::specs::Steps::steps, crate::specs::Steps::how_many_steps))]
     pub(crate) fn steps(&mut self, alloc: Global, version: Version) -> Result<Vec<Step>, ReadError>
         ensures { Reads (λ v. v.items) result ((steps version).read self.old) self.new }
     {
         let left = self.left();
         let count = self.u16()?;
-        if !(1..=256).contains(&count) {
+        if !(1..=MAX_BATCH_STEPS as u16).contains(&count) {
             return Err(ReadError::bad_byte(left));
         }
         self.step_list(alloc, version, count)

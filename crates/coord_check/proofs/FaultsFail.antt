@@ -8,7 +8,7 @@ use Rattle.coord_world.specs.protocol.Ranges.{InRange}
 use Rattle.coord_check.specs.declared.violation.Letter.{Letter}
 use Rattle.coord_check.specs.declared.violation.Letter.TheVariants as letter
 use Rattle.coord_check.specs.declared.violation.Violation.{Violation}
-use Rattle.coord_check.specs.Faults.{Fails, FailsAt, first, told, link_holds, node_faults, end_faults, letter_faults, link_letters, link_faults, faults_from, nodes_from, faults}
+use Rattle.coord_check.specs.Faults.{Fails, FailsAt, first, fault_unless, link_holds, node_faults, end_faults, letter_faults, link_letters, link_faults, faults_from, nodes_from, faults}
 
 module _ {X : Type 0} (P : X → Type 0) where
   all_append : (xs ys : List X) → AllByRecursion P xs → AllByRecursion P ys → AllByRecursion P (xs ++ ys)
@@ -28,7 +28,7 @@ module _ {X : Type 0} (P : X → Type 0) where
   of_first (x ∷ xs) all = all.0
 
 -- what is told fails
-all_told : (P : Violation → Type 0) (t : Bool) (v : Violation) → (t ≡ false → P v) → AllByRecursion P (told t v)
+all_told : (P : Violation → Type 0) (t : Bool) (v : Violation) → (t ≡ false → P v) → AllByRecursion P (fault_unless t v)
 all_told P true v fails = tt
 all_told P false v fails = (fails refl, tt)
 

@@ -10,7 +10,7 @@ use Rattle.coord_world.specs.protocol.Rows.{lane_or_none}
 use Rattle.coord_check.specs.declared.violation.Letter.{Letter}
 use Rattle.coord_check.specs.declared.violation.Letter.TheVariants as letter
 use Rattle.coord_check.specs.declared.violation.Violation.{Violation}
-use Rattle.coord_check.specs.Faults.{first, nodes_from, holds_of, link_holds, told, end_faults, letter_faults, link_letters, link_faults}
+use Rattle.coord_check.specs.Faults.{first, nodes_from, holds_of, link_holds, fault_unless, end_faults, letter_faults, link_letters, link_faults}
 use Rattle.coord_check.specs.Sides.{side, end_at, seen}
 use Rattle.coord_check.specs.declared.side.Side.{Side}
 use Rattle.std.specs.Prelude.{if◌then◌else◌}
@@ -71,11 +71,11 @@ way_is (Some l) = refl
 link_is : (w : World) (u v : ℕ) → link (view w) u v ≡ seen (side w u v) (side w v u)
 link_is w u v i = record { here = end_at (side w u v); there = end_at (side w v u); out = way_is (get w.lanes (u, v)) i; back = way_is (get w.lanes (v, u)) i }
 
-told_true : (b : Bool) (v : Violation) → b ≡ true → told b v ≡ []
+told_true : (b : Bool) (v : Violation) → b ≡ true → fault_unless b v ≡ []
 told_true true v is = refl
 told_true false v is = cc
 
-told_false : (b : Bool) (v : Violation) → b ≡ false → told b v ≡ v ∷ []
+told_false : (b : Bool) (v : Violation) → b ≡ false → fault_unless b v ≡ v ∷ []
 told_false true v is = cc
 told_false false v is = refl
 

@@ -12,7 +12,7 @@ use Rattle.coord_world.specs.protocol.Ranges.{InRange}
 use Rattle.coord_check.specs.declared.violation.Letter.{Letter}
 use Rattle.coord_check.specs.declared.violation.Letter.TheVariants as letter
 use Rattle.coord_check.specs.declared.violation.Violation.{Violation}
-use Rattle.coord_check.specs.Faults.{first, told, link_holds, node_faults, end_faults, letter_faults, link_letters, link_faults, faults_from, nodes_from, faults}
+use Rattle.coord_check.specs.Faults.{first, fault_unless, link_holds, node_faults, end_faults, letter_faults, link_letters, link_faults, faults_from, nodes_from, faults}
 use Rattle.coord_check.proofs.NoFaults.{untold, not_told, both_empty, empty_both, none_told, tell_none, no_letter, letters_none}
 use Rattle.coord_check.proofs.FirstFault.{no_first, there}
 
@@ -26,7 +26,7 @@ has_one (Some x) is = (x, refl)
 module _ (w : World) (range : InRange w) where
   -- what is told of a node, there or not
   abbrev node_told : ℕ → Option NodeState → List Violation
-  node_told u o = if is_some o then told (is_legal_node w.count (state_or_none o)) (record { a = u; b = u; letter = letter.N }) else []
+  node_told u o = if is_some o then fault_unless (is_legal_node w.count (state_or_none o)) (record { a = u; b = u; letter = letter.N }) else []
 
   pub is_node : (u v : ℕ) → is_linked w u v ≡ true → (1 ≤ u) × (u ≤ 64)
   is_node u v is =

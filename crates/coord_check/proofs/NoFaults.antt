@@ -4,13 +4,13 @@ use Rattle.std.specs.List.{AllByRecursion, flat_map, range_with_len}
 use Rattle.coord_check.specs.declared.violation.Letter.{Letter}
 use Rattle.coord_check.specs.declared.violation.Letter.TheVariants as letter
 use Rattle.coord_check.specs.declared.violation.Violation.{Violation}
-use Rattle.coord_check.specs.Faults.{nodes_from, told, link_letters}
+use Rattle.coord_check.specs.Faults.{nodes_from, fault_unless, link_letters}
 
-pub untold : (b : Bool) (v : Violation) → told b v ≡ [] → b ≡ true
+pub untold : (b : Bool) (v : Violation) → fault_unless b v ≡ [] → b ≡ true
 untold true v is = refl
 untold false v is = cc
 
-pub not_told : (b : Bool) (v : Violation) → b ≡ true → told b v ≡ []
+pub not_told : (b : Bool) (v : Violation) → b ≡ true → fault_unless b v ≡ []
 not_told true v is = refl
 not_told false v is = cc
 

@@ -1,6 +1,7 @@
 -- All faults of a world, in the order in which they are told.
 use Rattle.std.specs.Prelude.{◌≡◌, ℕ, ◌+◌, ◌-◌, Bool, true, false, List, [], ◌∷◌, ◌++◌, Option, Some, None, if◌then◌else◌}
 use Rattle.std.specs.List.{flat_map, range_with_len}
+use Rattle.coord_types.specs.declared.limits.TheConstants.{MAX_NODES}
 use Rattle.coord_types.specs.Table.{get, has}
 use Rattle.coord_link.specs.LaneMachine.{Lane, has_front_taken_at_most}
 use Rattle.coord_world.specs.protocol.Legal.{is_legal_node}
@@ -39,20 +40,20 @@ abbrev pub first : {X : Type 0} → List X → Option X
 first [] = None
 first (x ∷ xs) = Some x
 
--- the numbers of nodes, from one on in ascending order; the greatest is 64
+-- the numbers of nodes, from one on to the greatest, in ascending order
 unfoldable pub nodes_from : ℕ → List ℕ
-nodes_from u = range_with_len u (65 - u)
+nodes_from u = range_with_len u (MAX_NODES + 1 - u)
 
 -- told where the test fails
-abbrev pub told : Bool → Violation → List Violation
-told b v = if b then [] else v ∷ []
+abbrev pub fault_unless : Bool → Violation → List Violation
+fault_unless b v = if b then [] else v ∷ []
 
 -- a node is named twice
 abbrev pub node_faults : World → ℕ → List Violation
-node_faults w u = if has w.nodes u then told (is_legal_node w.count (state w u)) (record { a = u; b = u; letter = letter.N }) else []
+node_faults w u = if has w.nodes u then fault_unless (is_legal_node w.count (state w u)) (record { a = u; b = u; letter = letter.N }) else []
 
 abbrev pub end_faults : World → ℕ → ℕ → Letter → List Violation
-end_faults w u v x = told (link_holds w u v x) (record { a = u; b = v; letter = x })
+end_faults w u v x = fault_unless (link_holds w u v x) (record { a = u; b = v; letter = x })
 
 -- one letter, as each end of a link sees it
 abbrev pub letter_faults : World → ℕ → ℕ → Letter → List Violation

@@ -11,11 +11,11 @@ use crate::letters::holds;
 use crate::node_check::is_legal_node;
 use crate::side::Side;
 use crate::violation::{Letter, Violation};
-use coord_types::{NodeId, NodeSet};
+use coord_types::{MAX_NODES, NodeId, NodeSet};
 use coord_world::World;
 
 /// One more than the greatest number of a node.
-const END: u8 = 65;
+const END: u8 = MAX_NODES + 1;
 
 /// The letters of links, in the order in which they are tried.
 const LINK_LETTERS: [Letter; 8] = [

@@ -1,8 +1,9 @@
 -- The grammar of worlds, by version.
-use Rattle.std.specs.Prelude.{ℕ, zero, suc, ◌^◌, ◌==◌, ◌&&◌, ◌||◌, not, nat_le, nat_lt, Bool, false, List, [], ◌∷◌, Option, Some, None}
+use Rattle.std.specs.Prelude.{ℕ, zero, suc, ◌==◌, ◌&&◌, ◌||◌, not, nat_le, nat_lt, Bool, false, List, [], ◌∷◌, Option, Some, None}
 use Rattle.coord_types.specs.NodeSet.{NodeSet}
 use Rattle.coord_types.specs.NodeMask.{nodes_of, mask_of}
 use Rattle.coord_types.specs.NodeState.{mode_from, mode_number}
+use Rattle.coord_types.specs.declared.limits.TheConstants.{MAX_CLIENTS, MAX_DEGREE, MAX_LINKS, MAX_NODES, MAX_STEPS}
 use Rattle.coord_types.specs.declared.messages.Mode.{Mode}
 use Rattle.coord_types.specs.declared.messages.Mode.TheVariants.{Ready, Abort, Converge}
 use Rattle.coord_types.specs.declared.messages.Msg.{Msg}
@@ -35,7 +36,7 @@ parent_number (Some p) = p
 
 -- 0 for none, else the node
 unfoldable pub parent : Format (Option ℕ)
-parent = made parent_from parent_number (such_that (λ n. nat_le n 64) byte)
+parent = made parent_from parent_number (such_that (λ n. nat_le n MAX_NODES) byte)
 
 -- node k is bit k - 1
 unfoldable pub mask : Format NodeSet
@@ -78,7 +79,7 @@ node_row version count front =
     (followed (such_that (nat_lt (last_by (λ r. r.id) 0 front)) node & (group & (mode & (parent & (mask & (at_most count & at_most count)))))) (λ p. distance version (most_distance p.1.1.0 count)))
 
 unfoldable pub nodes : ℕ → ℕ → Format (List NodeRow)
-nodes version count = counted (how_many 64) (node_row version count)
+nodes version count = counted (how_many MAX_NODES) (node_row version count)
 
 -- ---- links
 
@@ -89,7 +90,7 @@ same_group (Some g) (Some h) = g == h
 
 -- both are nodes, of one group, with room for a link
 abbrev pub can_link : List NodeRow → List LinkRow → ℕ × ℕ → Bool
-can_link nodes front e = same_group (group_of nodes e.0) (group_of nodes e.1) && (nat_lt (degree e.0 front) 16 && nat_lt (degree e.1 front) 16)
+can_link nodes front e = same_group (group_of nodes e.0) (group_of nodes e.1) && (nat_lt (degree e.0 front) MAX_DEGREE && nat_lt (degree e.1 front) MAX_DEGREE)
 
 abbrev pub last_ends : List LinkRow → ℕ × ℕ
 last_ends front = last_by (λ r. (r.a, r.b)) (0, 0) front
@@ -131,7 +132,7 @@ link_row version count nodes front =
     (ends nodes front & (from_one_to count & (lane version count & lane version count)))
 
 unfoldable pub links : ℕ → ℕ → List NodeRow → Format (List LinkRow)
-links version count nodes = counted (how_many 128) (link_row version count nodes)
+links version count nodes = counted (how_many MAX_LINKS) (link_row version count nodes)
 
 -- ---- clients
 
@@ -142,11 +143,11 @@ client_row count front =
     (such_that (nat_lt (last_by (λ r. r.client) 0 front)) client & (from_one_to count & followed command (λ x. from_one_to count & kind x)))
 
 unfoldable pub clients : ℕ → Format (List ClientRow)
-clients count = counted (how_many 16) (client_row count)
+clients count = counted (how_many MAX_CLIENTS) (client_row count)
 
 -- ---- worlds
 
 unfoldable pub world : ℕ → Format Rows
 world version =
     made (λ p. record { version = version; count = p.0; nodes = p.1.0; links = p.1.1.0; clients = p.1.1.1 }) (λ r. (r.count, (r.nodes, (r.links, r.clients))))
-    (followed (at_most (2 ^ 40)) (λ count. followed (nodes version count) (λ nodes. links version count nodes & clients count)))
+    (followed (at_most MAX_STEPS) (λ count. followed (nodes version count) (λ nodes. links version count nodes & clients count)))

@@ -1,15 +1,16 @@
 //! The rows that were read, and what they say of the next one.
 
 ghost use Rattle.std.specs.Prelude.{◌≡◌, ◌≤◌, ◌<◌, ◌+◌, ◌-◌, ◌++◌, [], ◌∷◌, ℕ, None, Some, IsSome, length, slice_index_or, slice_set, OnOk};
+ghost use Rattle.coord_types.specs.declared.limits.TheConstants.{MAX_NODES};
 ghost use Rattle.coord_world.specs.protocol.Rows.{degree, group_of};
 ghost use Rattle.coord_codec.specs.Worlds.{can_link, first_rises, last_by, last_ends, second_rises};
 
-use coord_types::{Group, MAX_DEGREE, NodeId};
+use coord_types::{Group, MAX_DEGREE, MAX_NODES, NodeId};
 use coord_world::{LinkRow, NodeRow};
 use std::alloc::{AllocError, Global};
 
 /// One place for each node.
-const PLACES: usize = 64;
+const NODES: usize = MAX_NODES as usize;
 
 /// The place of a node, from 0.
 fn place_of(id: NodeId) -> usize
@@ -25,9 +26,9 @@ pub struct NodesRead {
     /// The number of the last one, or 0.
     last: u8,
     /// The group of each node that is there, at its place.
-    groups: [Option<Group>; PLACES],
+    groups: [Option<Group>; NODES],
     ghost last_row: { last ≡ last_by (λ r. r.id) 0 rows.items },
-    ghost grouped: { (u : ℕ) → 1 ≤ u → u ≤ 64 → slice_index_or groups (u - 1) None ≡ group_of rows.items u },
+    ghost grouped: { (u : ℕ) → 1 ≤ u → u ≤ MAX_NODES → slice_index_or groups (u - 1) None ≡ group_of rows.items u },
 }
 
 impl NodesRead {
@@ -38,7 +39,7 @@ impl NodesRead {
         NodesRead {
             rows: Vec::new(alloc),
             last: 0,
-            groups: [None; PLACES],
+            groups: [None; NODES],
         }
     }
 
@@ -69,8 +70,8 @@ impl NodesRead {
 }
 
 /// Notes the group of the node at a place, where none was noted before.
-fn note_group(groups: &mut [Option<Group>; PLACES], place: usize, group: Group)
-    requires { place < PLACES }
+fn note_group(groups: &mut [Option<Group>; NODES], place: usize, group: Group)
+    requires { place < NODES }
     ensures first { slice_index_or groups.old place None ≡ None → groups.new ≡ slice_set groups.old place (Some group) }
     ensures later { IsSome (slice_index_or groups.old place None) → groups.new ≡ groups.old }
 {
@@ -86,10 +87,10 @@ pub struct LinksRead {
     /// The ends of the last one, or 0 and 0.
     last: (u8, u8),
     /// How many of the links each node is an end of, at its place.
-    degrees: [u8; PLACES],
+    degrees: [u8; NODES],
     ghost last_first: { last.0 ≡ (last_ends rows.items).0 },
     ghost last_second: { last.1 ≡ (last_ends rows.items).1 },
-    ghost counted: { (u : ℕ) → 1 ≤ u → u ≤ 64 → slice_index_or degrees (u - 1) 0 ≡ degree u rows.items },
+    ghost counted: { (u : ℕ) → 1 ≤ u → u ≤ MAX_NODES → slice_index_or degrees (u - 1) 0 ≡ degree u rows.items },
 }
 
 impl LinksRead {
@@ -100,7 +101,7 @@ impl LinksRead {
         LinksRead {
             rows: Vec::new(alloc),
             last: (0, 0),
-            degrees: [0; PLACES],
+            degrees: [0; NODES],
         }
     }
 
@@ -143,8 +144,8 @@ impl LinksRead {
 }
 
 /// One link more at the node of a place.
-fn raise_degree(degrees: &mut [u8; PLACES], place: usize)
-    requires place { place < PLACES }
+fn raise_degree(degrees: &mut [u8; NODES], place: usize)
+    requires place { place < NODES }
     requires room { slice_index_or degrees.old place 0 < 255 }
     ensures { degrees.new ≡ slice_set degrees.old place (slice_index_or degrees.old place 0 + 1) }
 {

@@ -45,12 +45,10 @@ fn assembled(alloc: Global, version: u8, bytes: &[u8]) -> Result<World, CodecFau
     ensures version { is_version version ≡ false → result ≡ Err bad_version }
     ensures ranges { IfOk result (λ w. InRange w) }
 {
-    match decode(alloc, version, bytes) {
-        Err(fault) => Err(fault),
-        Ok(parts) => match World::assemble(alloc, parts) {
-            Err(_) => Err(ReadError::Memory.placed(0)),
-            Ok(read) => Ok(read),
-        },
+    let parts = decode(alloc, version, bytes)?;
+    match World::assemble(alloc, parts) {
+        Err(_) => Err(ReadError::Memory.placed(0)),
+        Ok(read) => Ok(read),
     }
 }
 

@@ -11,7 +11,10 @@ ghost use Rattle.coord_world.specs.declared.rows.parts.ClientRow.{ClientRow};
 use crate::rows_read::{LinksRead, NodesRead, can_link};
 use coord_batch::{Input, ReadError};
 use coord_link::Lane;
-use coord_types::{Command, Kind, MAX_STEPS, Mode, NodeId, NodeSet, Reply, Session, Version};
+use coord_types::{
+    Command, Kind, MAX_CLIENTS, MAX_LINKS, MAX_NODES, MAX_STEPS, Mode, NodeId, NodeSet, Reply,
+    Session, Version,
+};
 use coord_world::{ClientRow, LinkRow, NodeRow, Parts};
 use std::alloc::Global;
 
@@ -285,11 +288,11 @@ pub fn read_parts(input: &mut Input, alloc: Global, version: Version) -> Result<
     ensures { Reads (λ p. listed p) result ((world version).read input.old) input.new }
 {
     let count = input.at_most(MAX_STEPS)?;
-    let rows = input.how_many(64)?;
+    let rows = input.how_many(MAX_NODES)?;
     let nodes = read_node_list(input, alloc, version, count, rows)?;
-    let rows = input.how_many(128)?;
+    let rows = input.how_many(MAX_LINKS as u8)?;
     let links = read_link_list(input, alloc, version, count, &nodes, rows)?;
-    let rows = input.how_many(16)?;
+    let rows = input.how_many(MAX_CLIENTS)?;
     let clients = read_client_list(input, alloc, count, rows)?;
     Ok(Parts {
         version,

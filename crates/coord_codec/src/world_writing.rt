@@ -5,6 +5,7 @@ ghost use Rattle.std.specs.Option.{option_copied};
 ghost use Rattle.std.specs.List.{flat_map};
 ghost use Rattle.std.specs.Int.{w64, to_be_bytes};
 ghost use Rattle.std.specs.FinMap.Entries.{where_key};
+ghost use Rattle.coord_types.specs.declared.limits.TheConstants.{MAX_LINKS};
 ghost use Rattle.coord_batch.specs.Fields.{distance, message};
 ghost use Rattle.coord_codec.specs.Worlds.{clients, content_of_lane, kind_number, lane, link_row, links, most_distance, nodes, parent_number, queue};
 ghost use Rattle.coord_codec.specs.ByNumber.{HasKeysTo, entry_at, node_text, row_of_lane, session_text};
@@ -245,7 +246,7 @@ fn lane_or_new(lane: Option<&Lane>) -> Lane
 
 /// How many of these lanes go from the lesser end of their link to the greater one.
 fn count_up(lanes: &[((NodeId, NodeId), Lane)]) -> u8
-    requires { length (where_key pair_cmp goes_up lanes.now) ≤ 128 }
+    requires { length (where_key pair_cmp goes_up lanes.now) ≤ MAX_LINKS }
     ensures { result ≡ length (where_key pair_cmp goes_up lanes.now) }
 {
     let mut count = 0;

@@ -6,6 +6,7 @@ use Rattle.coord_config.specs.declared.fault.ConfigFault.{ConfigFault}
 use Rattle.coord_config.specs.declared.fault.ConfigFault.TheVariants as of_topology
 use Rattle.coord_config.specs.declared.topology.Topology.{Topology as Given}
 use Rattle.coord_commands.specs.Making.{IsOfMaking, RefusesFile, RefusesStore, Says}
+use Rattle.coord_commands.specs.declared.topology.TheConstants.{MOST_BYTES}
 use Rattle.coord_commands.specs.Topology.{IsOfText, said_by}
 use Rattle.coord_commands.specs.declared.fault.Fault.{Fault}
 use Rattle.coord_commands.specs.declared.fault.Fault.TheVariants.{Usage, Read, Write, Socket, TooManyReads, OutOfMemory, Topology, Store, Refused, NotClosed}
@@ -15,7 +16,7 @@ told : {A : Type 0} (file : Option (List ℕ)) (P : List ℕ → Type 0) → IfS
 told None P why so = tt
 told (Some bytes) P why so = why so
 
-of_reason : (file : Option (List ℕ)) (reason : ConfigFault) → (reason ≢ of_topology.OutOfMemory → IfSome file (λ bytes. said_by (take 65537 bytes) ≡ Err reason)) → RefusesFile file reason
+of_reason : (file : Option (List ℕ)) (reason : ConfigFault) → (reason ≢ of_topology.OutOfMemory → IfSome file (λ bytes. said_by (take MOST_BYTES bytes) ≡ Err reason)) → RefusesFile file reason
 of_reason file of_topology.OutOfMemory why = tt
 of_reason file of_topology.NotToml why = why (λ same. cc)
 of_reason file of_topology.BadKey why = why (λ same. cc)
@@ -23,14 +24,14 @@ of_reason file of_topology.BadValue why = why (λ same. cc)
 
 -- the faults of a topology file
 of_text : (file before after : Option (List ℕ)) (fault : Fault) → IsOfText fault
-    → ((reason : ConfigFault) → reason ≢ of_topology.OutOfMemory → IfSome file (λ bytes. fault ≡ Topology reason → said_by (take 65537 bytes) ≡ Err reason)) → IsOfMaking file before after fault
+    → ((reason : ConfigFault) → reason ≢ of_topology.OutOfMemory → IfSome file (λ bytes. fault ≡ Topology reason → said_by (take MOST_BYTES bytes) ≡ Err reason)) → IsOfMaking file before after fault
 of_text file before after Usage is why = absurd is
 of_text file before after Read is why = tt
 of_text file before after Write is why = absurd is
 of_text file before after Socket is why = absurd is
 of_text file before after TooManyReads is why = absurd is
 of_text file before after OutOfMemory is why = tt
-of_text file before after (Topology reason) is why = of_reason file reason (λ wanted. told file (λ bytes. said_by (take 65537 bytes) ≡ Err reason) (why reason wanted) refl)
+of_text file before after (Topology reason) is why = of_reason file reason (λ wanted. told file (λ bytes. said_by (take MOST_BYTES bytes) ≡ Err reason) (why reason wanted) refl)
 of_text file before after (Store fault) is why = absurd is
 of_text file before after (Refused refusal) is why = absurd is
 of_text file before after (NotClosed fault) is why = absurd is
@@ -50,15 +51,15 @@ of_store file before after topology (NotClosed fault) said is = absurd is
 
 -- a file that cannot be read, or is refused, where this is what was left to read of it
 pub refused_file : {A : Type 0} (file left before after : Option (List ℕ)) (read : Result A Fault) (fault : Fault) → left ≡ file → read ≡ Err fault → IfErr read IsOfText
-    → ((reason : ConfigFault) → reason ≢ of_topology.OutOfMemory → IfSome left (λ bytes. IfErr read (λ f. f ≡ Topology reason → said_by (take 65537 bytes) ≡ Err reason))) → IsOfMaking file before after fault
+    → ((reason : ConfigFault) → reason ≢ of_topology.OutOfMemory → IfSome left (λ bytes. IfErr read (λ f. f ≡ Topology reason → said_by (take MOST_BYTES bytes) ≡ Err reason))) → IsOfMaking file before after fault
 refused_file file left before after read fault all is named refused =
     of_text file before after fault (subst (λ r. IfErr r IsOfText) is named)
-    (λ reason wanted. subst (λ l. IfSome l (λ bytes. fault ≡ Topology reason → said_by (take 65537 bytes) ≡ Err reason)) all
-    (subst (λ r. IfSome left (λ bytes. IfErr r (λ f. f ≡ Topology reason → said_by (take 65537 bytes) ≡ Err reason))) is (refused reason wanted)))
+    (λ reason wanted. subst (λ l. IfSome l (λ bytes. fault ≡ Topology reason → said_by (take MOST_BYTES bytes) ≡ Err reason)) all
+    (subst (λ r. IfSome left (λ bytes. IfErr r (λ f. f ≡ Topology reason → said_by (take MOST_BYTES bytes) ≡ Err reason))) is (refused reason wanted)))
 
 -- a store that is not made of the topology that was read
 pub refused_store : (file left before after : Option (List ℕ)) (read : Result Given Fault) (topology : Given) (fault : Fault) → left ≡ file → read ≡ Ok topology
-    → IfSome left (λ bytes. IfOk read (λ t. said_by (take 65537 bytes) ≡ Ok (content t))) → RefusesStore before after (content topology) fault → IsOfMaking file before after fault
+    → IfSome left (λ bytes. IfOk read (λ t. said_by (take MOST_BYTES bytes) ≡ Ok (content t))) → RefusesStore before after (content topology) fault → IsOfMaking file before after fault
 refused_store file left before after read topology fault all is said refused =
     of_store file before after (content topology) fault
-    (subst (λ l. Says l (content topology)) all (subst (λ r. IfSome left (λ bytes. IfOk r (λ t. said_by (take 65537 bytes) ≡ Ok (content t)))) is said)) refused
+    (subst (λ l. Says l (content topology)) all (subst (λ r. IfSome left (λ bytes. IfOk r (λ t. said_by (take MOST_BYTES bytes) ≡ Ok (content t)))) is said)) refused

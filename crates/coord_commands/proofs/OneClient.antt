@@ -20,7 +20,7 @@ use Rattle.coord_types.specs.declared.steps.Step.TheVariants.{Order}
 use Rattle.coord_world.specs.declared.verdicts.Verdict.{Verdict}
 use Rattle.coord_world.specs.declared.verdicts.Verdict.TheVariants.{Fresh, Repeat}
 use Rattle.coord_world.specs.protocol.Acceptance.{accepts, against, is_exhausted, judged, last_number, or_repeat}
-use Rattle.coord_world.specs.protocol.Next.{all_applied, next, prepared, reply}
+use Rattle.coord_world.specs.protocol.Next.{with_transitions, next, prepared, reply}
 use Rattle.coord_world.specs.protocol.NumberedWorld.{World, no_world, state}
 use Rattle.coord_commands.specs.Founding.{founder, numbered}
 
@@ -51,7 +51,7 @@ last_after w c n x =
     let s : Step = Order c n x in
     let session : Session = record { number = n; command = x; reply = reply w s } in
     let same : eq_by_cmp nat_cmp c c ≡ true = grind (arith, nat_tests) in
-    let before = (all_applied (prepared w s) (transitions (state w) s)).sessions in
+    let before = (with_transitions (prepared w s) (transitions (state w) s)).sessions in
     ap last_number (get-insert before c session c ∙ ap (λ b. cond b (Some session) (get before c)) same)
 
 -- at first there is none

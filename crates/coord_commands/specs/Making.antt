@@ -9,6 +9,7 @@ use Rattle.coord_store.specs.declared.faults.StoreFault.{StoreFault}
 use Rattle.coord_store.specs.declared.faults.StoreFault.TheVariants.{NotEmpty, HalfSize}
 use Rattle.coord_world.specs.protocol.Next.{fold}
 use Rattle.coord_world.specs.protocol.NumberedWorld.{World, no_world}
+use Rattle.coord_commands.specs.declared.topology.TheConstants.{MOST_BYTES}
 use Rattle.coord_commands.specs.Founding.{RefusesToBegin, orders}
 use Rattle.coord_commands.specs.Printed.{created_line}
 use Rattle.coord_commands.specs.Topology.{said_by}
@@ -24,9 +25,9 @@ pub record IsMade (topology : Content) (before after : Option (List ℕ)) : Type
   pub empty : IfSome before (λ bytes. length bytes ≡ 0)
   pub made : IfSome after (λ bytes. Recovered bytes (begun topology))
 
--- the topology file, where it is known, says this topology; no more than 65,537 bytes of it are read
+-- the topology file, where it is known, says this topology; no more of it is read than one byte behind the longest
 abbrev pub Says : Option (List ℕ) → Content → Type 0
-Says file topology = IfSome file (λ bytes. said_by (take 65537 bytes) ≡ Ok topology)
+Says file topology = IfSome file (λ bytes. said_by (take MOST_BYTES bytes) ≡ Ok topology)
 
 -- the line of such a store, where this is the topology file
 pub record IsCreatedLine (file before after : Option (List ℕ)) (line : List ℕ) : Type 0 where
@@ -48,7 +49,7 @@ RefusesDisk before after fault = IsCreateFault fault
 -- the topology file, where it is known, says no topology, and this is why; or there is no memory to read it
 abbrev pub RefusesFile : Option (List ℕ) → ConfigFault → Type 0
 RefusesFile file of_topology.OutOfMemory = Unit {0}
-RefusesFile file reason = IfSome file (λ bytes. said_by (take 65537 bytes) ≡ Err reason)
+RefusesFile file reason = IfSome file (λ bytes. said_by (take MOST_BYTES bytes) ≡ Err reason)
 
 -- why the store of a topology is not made on a disk
 abbrev pub RefusesStore : Option (List ℕ) → Option (List ℕ) → Content → Fault → Type 0

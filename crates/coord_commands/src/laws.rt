@@ -1,8 +1,17 @@
-//! A law of the program's words. Its function does nothing: its contract is the law.
+//! Laws. Their functions do nothing: each contract is the law.
 
+ghost use Rattle.std.specs.Prelude.{◌≡◌};
+ghost use Rattle.coord_journal.specs.declared.layout.TheConstants.{MAX_HALF as GREATEST, MIN_HALF as LEAST};
+ghost use Rattle.coord_config.specs.declared.values.TheConstants.{MAX_HALF, MIN_HALF};
 ghost use Rattle.coord_commands.specs.Laws.{CommandsAreTaken};
 
 /// The words of each command are taken.
 pub fn commands_are_taken()
     ensures { CommandsAreTaken }
+{}
+
+/// What a topology file may ask for is what a journal takes: the least half and the greatest one.
+pub fn halves_are_the_same()
+    ensures least { MIN_HALF ≡ LEAST }
+    ensures greatest { MAX_HALF ≡ GREATEST }
 {}

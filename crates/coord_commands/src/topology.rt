@@ -8,13 +8,13 @@ ghost use Rattle.coord_config.specs.declared.fault.ConfigFault.{ConfigFault as R
 ghost use Rattle.coord_config.specs.declared.fault.ConfigFault.TheVariants.{OutOfMemory};
 
 use crate::fault::Fault;
-use coord_config::{ConfigFault, Topology, read_topology};
+use coord_config::{ConfigFault, MAX_TEXT_BYTES, Topology, read_topology};
 use std::alloc::Global;
 use std::io::Read;
 use std::str;
 
 /// One byte more than the longest topology file has: what stands behind it is not read.
-const MOST_BYTES: u64 = 65_537;
+const MOST_BYTES: u64 = MAX_TEXT_BYTES as u64 + 1;
 
 /// Reads a topology file.
 pub fn topology_from<R: Read + Drop>(alloc: Global, reader: R) -> Result<Topology, Fault>

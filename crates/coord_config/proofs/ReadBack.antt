@@ -39,7 +39,7 @@ keys-links [] = refl
 keys-links (l ∷ ls) = keys-links ls
 
 values_of-written : (t : Content) → IsInLimits t → values_of (written t) ≡ Some t
-values_of-written t h = rw (number_within-number 32768 16777216 t.half h.half.0 h.half.1, each-nodes t.nodes h.nodes, each-links t.links h.links)
+values_of-written t h = rw (number_within-number MIN_HALF MAX_HALF t.half h.half.0 h.half.1, each-nodes t.nodes h.nodes, each-links t.links h.links)
 
 topology_of-written : (t : Content) → IsInLimits t → topology_of (written t) ≡ Ok t
 topology_of-written t h = rw (keys-nodes t.nodes, keys-links t.links, values_of-written t h)

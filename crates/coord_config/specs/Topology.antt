@@ -1,11 +1,13 @@
 -- The topology of a TOML table.
 use Rattle.std.specs.Prelude.{ℕ, pos, ◌&&◌, nat_le, if◌then◌else◌, List, [], ◌∷◌, codes, Option, Some, None, option_and_then, Result, Ok, Err}
 use Rattle.toml.specs.Data.{Data, integer, array, table, Items, no_items, item, Members, get_member}
+use Rattle.coord_types.specs.declared.limits.TheConstants.{MAX_GROUPS, MAX_NODES}
 use Rattle.coord_config.specs.declared.fault.ConfigFault.{ConfigFault}
 use Rattle.coord_config.specs.declared.fault.ConfigFault.TheVariants.{BadKey, BadValue}
 use Rattle.coord_config.specs.declared.topology.Topology.{Topology}
 use Rattle.coord_config.specs.declared.topology.NodeEntry.{NodeEntry}
 use Rattle.coord_config.specs.declared.topology.LinkEntry.{LinkEntry}
+use Rattle.coord_config.specs.declared.values.TheConstants.{DEFAULT_HALF, MAX_HALF, MIN_HALF}
 use Rattle.coord_config.specs.Keys.{Key, has_right_keys}
 
 -- the size of a half, and the nodes and links in the order of the file
@@ -18,9 +20,9 @@ abbrev pub content : Topology → Content
 content t = record { half = t.half; nodes = t.nodes.items; links = t.links.items }
 
 -- a value of two, where both are there
-abbrev pub both : {A B C : Type 0} → (A → B → C) → Option A → Option B → Option C
-both f (Some a) (Some b) = Some (f a b)
-both f a b = None
+abbrev pub with_both : {A B C : Type 0} → (A → B → C) → Option A → Option B → Option C
+with_both f (Some a) (Some b) = Some (f a b)
+with_both f a b = None
 
 -- the whole number that the value is, if it lies between these
 abbrev pub number_within : ℕ → ℕ → Data → Option ℕ
@@ -31,20 +33,20 @@ number_within least most other = None
 abbrev pub number_at : Key → ℕ → ℕ → Members → Option ℕ
 number_at key least most ms = option_and_then (number_within least most) (get_member key ms)
 
--- a node is a table with an id from 1 to 64 and a group from 1 to 16
+-- a node is a table with an id and a group
 abbrev pub node_of : Data → Option NodeEntry
-node_of (table ms) = both (λ id group. record { id = id; group = group }) (number_at (codes "id") 1 64 ms) (number_at (codes "group") 1 16 ms)
+node_of (table ms) = with_both (λ id group. record { id = id; group = group }) (number_at (codes "id") 1 MAX_NODES ms) (number_at (codes "group") 1 MAX_GROUPS ms)
 node_of other = None
 
 -- a link is a table with two ends, each the id of a node
 abbrev pub link_of : Data → Option LinkEntry
-link_of (table ms) = both (λ a b. record { a = a; b = b }) (number_at (codes "a") 1 64 ms) (number_at (codes "b") 1 64 ms)
+link_of (table ms) = with_both (λ a b. record { a = a; b = b }) (number_at (codes "a") 1 MAX_NODES ms) (number_at (codes "b") 1 MAX_NODES ms)
 link_of other = None
 
 -- what each item is, if each is something
 abbrev pub each : {X : Type 0} → (Data → Option X) → Items → Option (List X)
 each read no_items = Some []
-each read (item d ds) = both (λ x xs. x ∷ xs) (read d) (each read ds)
+each read (item d ds) = with_both (λ x xs. x ∷ xs) (read d) (each read ds)
 
 -- an absent array has no entries
 abbrev pub entries_of : {X : Type 0} → (Data → Option X) → Option Data → Option (List X)
@@ -52,10 +54,10 @@ entries_of read None = Some []
 entries_of read (Some (array ds)) = each read ds
 entries_of read (Some other) = None
 
--- an absent size is 65,536
+-- an absent size is the usual one
 abbrev pub half_of : Option Data → Option ℕ
-half_of None = Some 65536
-half_of (Some d) = number_within 32768 16777216 d
+half_of None = Some DEFAULT_HALF
+half_of (Some d) = number_within MIN_HALF MAX_HALF d
 
 abbrev pub content_of : Option ℕ → Option (List NodeEntry) → Option (List LinkEntry) → Option Content
 content_of (Some half) (Some nodes) (Some links) = Some (record { half = half; nodes = nodes; links = links })

@@ -3,6 +3,9 @@ use Rattle.std.specs.Prelude.{◌≡◌, ℕ, ◌≤◌, pos, Bool, List, [], �
 use Rattle.std.specs.List.{AllByRecursion}
 use Rattle.toml.specs.Data.{Data, integer, array, table, Items, no_items, item, Members, no_members, member}
 use Rattle.toml.specs.Text.{IsDocumentText}
+use Rattle.coord_types.specs.declared.limits.TheConstants.{MAX_GROUPS, MAX_NODES}
+use Rattle.coord_config.specs.declared.reading.TheConstants.{MAX_TEXT_BYTES}
+use Rattle.coord_config.specs.declared.values.TheConstants.{MAX_HALF, MIN_HALF}
 use Rattle.coord_config.specs.declared.topology.NodeEntry.{NodeEntry}
 use Rattle.coord_config.specs.declared.topology.LinkEntry.{LinkEntry}
 use Rattle.coord_config.specs.Reading.{reading}
@@ -29,16 +32,16 @@ written t =
     (member (codes "node") (array (array_of node_table t.nodes)) no_members))
 
 abbrev pub IsNodeEntry : NodeEntry → Type 0
-IsNodeEntry n = ((1 ≤ n.id) × (n.id ≤ 64)) × ((1 ≤ n.group) × (n.group ≤ 16))
+IsNodeEntry n = ((1 ≤ n.id) × (n.id ≤ MAX_NODES)) × ((1 ≤ n.group) × (n.group ≤ MAX_GROUPS))
 
 abbrev pub IsLinkEntry : LinkEntry → Type 0
-IsLinkEntry l = ((1 ≤ l.a) × (l.a ≤ 64)) × ((1 ≤ l.b) × (l.b ≤ 64))
+IsLinkEntry l = ((1 ≤ l.a) × (l.a ≤ MAX_NODES)) × ((1 ≤ l.b) × (l.b ≤ MAX_NODES))
 
 pub record IsInLimits (t : Content) : Type 0 where
-  pub half : (32768 ≤ t.half) × (t.half ≤ 16777216)
+  pub half : (MIN_HALF ≤ t.half) × (t.half ≤ MAX_HALF)
   pub nodes : AllByRecursion IsNodeEntry t.nodes
   pub links : AllByRecursion IsLinkEntry t.links
 
 -- a text of TOML that writes a topology within its limits says that topology, in either style of the writer
 abbrev pub WrittenIsRead : Type 0
-WrittenIsRead = (t : Content) (pretty : Bool) (text : List ℕ) → IsInLimits t → IsDocumentText pretty (written t) text → length text ≤ 65536 → reading text ≡ Ok t
+WrittenIsRead = (t : Content) (pretty : Bool) (text : List ℕ) → IsInLimits t → IsDocumentText pretty (written t) text → length text ≤ MAX_TEXT_BYTES → reading text ≡ Ok t

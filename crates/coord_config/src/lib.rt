@@ -19,5 +19,6 @@ mod topology;
 mod values;
 
 pub use fault::ConfigFault;
-pub use reading::read_topology;
+pub use reading::{MAX_TEXT_BYTES, read_topology};
 pub use topology::{LinkEntry, NodeEntry, Topology};
+pub use values::{DEFAULT_HALF, MAX_HALF, MIN_HALF};

@@ -12,22 +12,22 @@ use crate::topology::Topology;
 use crate::values::values_of;
 use std::alloc::Global;
 
-/// The longest text that is read, in bytes.
-const LONGEST_TEXT: usize = 65_536;
+/// The most bytes of a topology file.
+pub const MAX_TEXT_BYTES: usize = 65_536;
 
 /// Reads a topology file from its text.
 ///
 /// The answer is the topology that the text says. Else it is `NotToml` where the text has more than
-/// 65,536 bytes or the crate `toml` does not read it as a table, `BadKey` where a key is missing or
+/// `MAX_TEXT_BYTES` or the crate `toml` does not read it as a table, `BadKey` where a key is missing or
 /// has no meaning, and `BadValue` where all keys are right and some value is not; or it is
 /// `OutOfMemory`, but for a text that is too long, or that has nothing but white space and comments.
 pub fn read_topology(alloc: Global, text: &str) -> Result<Topology, ConfigFault>
     ensures ok { IfOk result (λ topology. reading text.now ≡ Ok (content topology)) }
     ensures refused { IfErr result (λ fault. fault ≢ OutOfMemory → reading text.now ≡ Err fault) }
-    ensures within_limit { result ≡ Err OutOfMemory → length text.now ≤ 65536 }
+    ensures within_limit { result ≡ Err OutOfMemory → length text.now ≤ MAX_TEXT_BYTES }
     ensures not_blank { result ≡ Err OutOfMemory → ¬ IsBlank text.now }
 {
-    if text.len() > LONGEST_TEXT {
+    if text.len() > MAX_TEXT_BYTES {
         return Err(ConfigFault::NotToml);
     }
     let table = match toml::table_from_str(alloc, text) {

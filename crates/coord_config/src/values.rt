@@ -9,17 +9,19 @@ ghost use Rattle.coord_config.specs.Topology.{content, each, entries_of, half_of
 use crate::fault::ConfigFault;
 use crate::keys::value_at;
 use crate::topology::{LinkEntry, NodeEntry, Topology};
-use coord_types::{Group, NodeId};
+use coord_types::{Group, MAX_GROUPS, MAX_NODES, NodeId};
 use std::alloc::Global;
 use toml::value::Array;
 use toml::{Table, Value};
 
 /// The size of a half where the file gives none.
-const DEFAULT_HALF: u64 = 65_536;
+pub const DEFAULT_HALF: u64 = 65_536;
 
-const LEAST_HALF: u64 = 32_768;
+/// The least size of a half, in bytes, as coord_journal has it.
+pub const MIN_HALF: u64 = 32_768;
 
-const GREATEST_HALF: u64 = 16_777_216;
+/// The greatest size of a half, in bytes, as coord_journal has it.
+pub const MAX_HALF: u64 = 16_777_216;
 
 /// The size of a half that the table gives, if it is in range, or the usual one.
 fn half_of(table: &Table) -> Option<u64>
@@ -29,7 +31,7 @@ fn half_of(table: &Table) -> Option<u64>
         return Some(DEFAULT_HALF);
     };
     let half = u64::try_from(value.as_integer()?).ok()?;
-    if LEAST_HALF <= half && half <= GREATEST_HALF {
+    if MIN_HALF <= half && half <= MAX_HALF {
         Some(half)
     } else {
         None
@@ -38,14 +40,14 @@ fn half_of(table: &Table) -> Option<u64>
 
 /// The id at a key of a node or a link.
 fn node_id_at(table: &Table, key: &str) -> Option<NodeId>
-    ensures { result ≡ number_at key.now 1 64 (table_view table.now) }
+    ensures { result ≡ number_at key.now 1 MAX_NODES (table_view table.now) }
 {
     let number = value_at(table, key)?.as_integer()?;
     NodeId::new(u8::try_from(number).ok()?)
 }
 
 fn group_at(table: &Table, key: &str) -> Option<Group>
-    ensures { result ≡ number_at key.now 1 16 (table_view table.now) }
+    ensures { result ≡ number_at key.now 1 MAX_GROUPS (table_view table.now) }
 {
     let number = value_at(table, key)?.as_integer()?;
     Group::new(u8::try_from(number).ok()?)

@@ -16,7 +16,7 @@ use Rattle.coord_ledger.specs.ledger.State.{Claim, LedgerState, ledger_over}
 use Rattle.coord_ledger.specs.machine.Answers.{IsOneOf, kept_by, to_commit}
 use Rattle.coord_ledger.specs.machine.Log.{front_world, log_over, settled_count, settled_world, world_after}
 use Rattle.coord_drill.specs.Answered.{Does, Flies, asked_lines, commit_lines, flight_lines, kept_line, step_lines, verdict_lines}
-use Rattle.coord_drill.specs.Drill.{DrillState, Luck, after_asked, after_commit, after_flight, after_step, after_verdict, has_no_flight, said, with_accepted}
+use Rattle.coord_drill.specs.Drill.{DrillState, Luck, after_asked, after_commit, after_flight, after_step, after_verdict, has_no_flight, drill_verdict, with_accepted}
 use Rattle.coord_drill.specs.Holding.{IsHeld, IsReady, IsReadyWith, Tells, drill_of, state_of}
 use Rattle.coord_drill.specs.Printed.{count_line, opened_line, pending_line, refusal_line}
 use Rattle.coord_drill.specs.declared.asked.Asked.TheVariants.{Crash, Flush, Submit}
@@ -80,15 +80,15 @@ does_flush s told t flown = record {
 
 -- ---- steps
 
-pub does_repeat : (s : DrillState) (x : Step) (r : Reply) → said s x ≡ Ok (Repeat r) → Does s (Submit x) (kept_line (settled_count s.log) r) s
+pub does_repeat : (s : DrillState) (x : Step) (r : Reply) → drill_verdict s x ≡ Ok (Repeat r) → Does s (Submit x) (kept_line (settled_count s.log) r) s
 unfolding asked_lines after_asked step_lines after_step
 does_repeat s x r is = does_quietly s (Submit x) _ s (ap (verdict_lines (quiet_luck s) s x) (sym is)) (ap (after_verdict (quiet_luck s) s x) (sym is))
 
-pub does_refuse : (s : DrillState) (x : Step) (e : Refusal) → said s x ≡ Err e → Does s (Submit x) (refusal_line e) s
+pub does_refuse : (s : DrillState) (x : Step) (e : Refusal) → drill_verdict s x ≡ Err e → Does s (Submit x) (refusal_line e) s
 unfolding asked_lines after_asked step_lines after_step
 does_refuse s x e is = does_quietly s (Submit x) _ s (ap (verdict_lines (quiet_luck s) s x) (sym is)) (ap (after_verdict (quiet_luck s) s x) (sym is))
 
-pub does_hold_step : (s : DrillState) (x : Step) (k : Kind) → said s x ≡ Ok (Fresh k) → s.holds ≡ true → Does s (Submit x) (pending_line ((front_world s.log).count + 1)) (with_accepted s x)
+pub does_hold_step : (s : DrillState) (x : Step) (k : Kind) → drill_verdict s x ≡ Ok (Fresh k) → s.holds ≡ true → Does s (Submit x) (pending_line ((front_world s.log).count + 1)) (with_accepted s x)
 unfolding asked_lines after_asked step_lines after_step
 does_hold_step s x k is held =
     let luck = quiet_luck s in
@@ -96,7 +96,7 @@ does_hold_step s x k is held =
     (ap (λ b. cond b (pending_line ((front_world s.log).count + 1)) (flight_lines luck.commit (with_accepted s x))) (sym held) ∙ ap (verdict_lines luck s x) (sym is))
     (ap (λ b. cond b (with_accepted s x) (after_flight luck.commit (with_accepted s x))) (sym held) ∙ ap (after_verdict luck s x) (sym is))
 
-pub does_settle_step : (s : DrillState) (x : Step) (k : Kind) (told : List ℕ) (t : DrillState) → said s x ≡ Ok (Fresh k) → s.holds ≡ false → Flies (with_accepted s x) told t → Does s (Submit x) told t
+pub does_settle_step : (s : DrillState) (x : Step) (k : Kind) (told : List ℕ) (t : DrillState) → drill_verdict s x ≡ Ok (Fresh k) → s.holds ≡ false → Flies (with_accepted s x) told t → Does s (Submit x) told t
 unfolding asked_lines after_asked step_lines after_step
 does_settle_step s x k told t is free flown =
     let luck : Luck = record { commit = flown.answer; kept = s.log.settled } in

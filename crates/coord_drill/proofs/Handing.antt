@@ -15,7 +15,7 @@ use Rattle.coord_world.specs.protocol.Next.{fold, next, reply}
 use Rattle.coord_world.specs.protocol.NumberedWorld.{World}
 use Rattle.coord_ledger.proofs.Granted.{granted_repeat}
 use Rattle.coord_ledger.specs.declared.handed.Handed.TheVariants.{Accepted, Repeated}
-use Rattle.coord_ledger.specs.ledger.Calls.{HandedTo, RefusesStep, claimed, said, with_accepted}
+use Rattle.coord_ledger.specs.ledger.Calls.{HandedTo, RefusesStep, claimed, ledger_verdict, with_accepted}
 use Rattle.coord_ledger.specs.ledger.State.{Claim, IsGranted, LedgerState, reply_of}
 use Rattle.coord_ledger.specs.machine.Log.{front_world, pending, settled_count, settled_world, with_step}
 use Rattle.coord_drill.specs.Answered.{Does, Flies, kept_line}
@@ -67,7 +67,7 @@ repeated_granted l new x t to =
 module _ (l new : LedgerState MemDisk) (holds begun : Bool) (x : Step) where
   pub refused_told : (e : Refusal) → HandedTo l x (Err e) new → e ≢ OutOfMemory → Does (drill_of l holds begun) (Submit x) (refusal_line e) (drill_of new holds begun)
   refused_told e to other =
-      subst (λ m. Does (drill_of l holds begun) (Submit x) (refusal_line e) (drill_of m holds begun)) (sym to.1) (does_refuse (drill_of l holds begun) x e (refused_said e (said l x) to.0 other))
+      subst (λ m. Does (drill_of l holds begun) (Submit x) (refusal_line e) (drill_of m holds begun)) (sym to.1) (does_refuse (drill_of l holds begun) x e (refused_said e (ledger_verdict l x) to.0 other))
 
   pub repeated_told : (t : Claim) → HandedTo l x (Ok (Repeated t)) new → Does (drill_of l holds begun) (Submit x) (kept_line (settled_count new.log) (reply_of t)) (drill_of new holds begun)
   repeated_told t to =

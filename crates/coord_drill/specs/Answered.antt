@@ -15,7 +15,7 @@ use Rattle.coord_ledger.specs.machine.Answers.{IsOneOf, next_size, to_commit}
 use Rattle.coord_ledger.specs.machine.Log.{Log, accepted_count, front_world, pending, settled_count, settled_world, world_after}
 use Rattle.coord_ledger.specs.machine.Shown.{shown}
 use Rattle.coord_drill.specs.Asked.{asked}
-use Rattle.coord_drill.specs.Drill.{DrillState, IsAllowed, Luck, after_asked, after_flight, has_no_flight, said, with_accepted}
+use Rattle.coord_drill.specs.Drill.{DrillState, IsAllowed, Luck, after_asked, after_flight, has_no_flight, drill_verdict, with_accepted}
 use Rattle.coord_drill.specs.Printed.{bad_line, commit_line, count_line, fault_line, idle_line, opened_line, output_lines, pending_line, refusal_line, reply_line, settled_lines, view_lines}
 use Rattle.coord_drill.specs.declared.asked.Asked.{Asked}
 use Rattle.coord_drill.specs.declared.asked.Asked.TheVariants.{Submit, Refuse, Nothing, Resend, Check, Show, Hold, Flush, Crash, Version2}
@@ -44,7 +44,7 @@ verdict_lines luck s x (Ok (Repeat reply)) = kept_line (settled_count s.log) rep
 verdict_lines luck s x (Err refusal) = refusal_line refusal
 
 unfoldable pub step_lines : Luck → DrillState → Step → List ℕ
-step_lines luck s x = verdict_lines luck s x (said s x)
+step_lines luck s x = verdict_lines luck s x (drill_verdict s x)
 
 -- ---- all that may be asked
 

@@ -71,11 +71,11 @@ after_verdict luck s x (Ok (Repeat reply)) = s
 after_verdict luck s x (Err refusal) = s
 
 -- what the ledger says to a step
-abbrev pub said : DrillState → Step → Result Verdict Refusal
-said s x = verdict (is_some s.doubt) s.log x
+abbrev pub drill_verdict : DrillState → Step → Result Verdict Refusal
+drill_verdict s x = verdict (is_some s.doubt) s.log x
 
 unfoldable pub after_step : Luck → DrillState → Step → DrillState
-after_step luck s x = after_verdict luck s x (said s x)
+after_step luck s x = after_verdict luck s x (drill_verdict s x)
 
 -- after a crash a drill goes on from the world that was opened; one of version 2 begins before any step
 unfoldable pub after_asked : Luck → DrillState → Asked → DrillState

@@ -3,6 +3,7 @@ use Rattle.std.specs.Prelude.{ℕ, ◌^◌, ◌==◌, ◌&&◌, nat_le, nat_lt, 
 use Rattle.std.specs.List.{slice_split, join_with_byte}
 use Rattle.std.specs.Str.{all_ascii_digits}
 use Rattle.std.specs.Str.Parse.{digits_value}
+use Rattle.coord_types.specs.declared.limits.TheConstants.{MAX_CLIENTS, MAX_GROUPS, MAX_NODES}
 use Rattle.coord_types.specs.declared.messages.Msg.{Msg}
 use Rattle.coord_types.specs.declared.messages.Msg.TheVariants.{Abort, Ack, Ready}
 use Rattle.coord_types.specs.declared.steps.Command.{Command}
@@ -40,13 +41,13 @@ abbrev pub number_to : ℕ → Format ℕ
 number_to most = field (λ n. up_to most n >>= λ m. Some (decimal m)) (λ word. number_of word >>= up_to most)
 
 unfoldable pub node : Format ℕ
-node = number_to 64
+node = number_to MAX_NODES
 
 unfoldable pub group : Format ℕ
-group = number_to 16
+group = number_to MAX_GROUPS
 
 unfoldable pub client : Format ℕ
-client = number_to 16
+client = number_to MAX_CLIENTS
 
 -- the distance behind an Abort: a number in version 2, and no word in version 1, where it is 0
 unfoldable pub distance : ℕ → Format ℕ

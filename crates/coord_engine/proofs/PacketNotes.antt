@@ -10,7 +10,7 @@ use Rattle.coord_world.specs.declared.verdicts.Verdict.{Verdict}
 use Rattle.coord_world.specs.declared.verdicts.Verdict.TheVariants.{Fresh, Repeat}
 use Rattle.coord_ledger.specs.declared.ticket.Note.{Note}
 use Rattle.coord_ledger.specs.ledger.State.{Claim}
-use Rattle.coord_engine.specs.Calls.{AnswersStep, LedgerAndNotes, note_of, told}
+use Rattle.coord_engine.specs.Calls.{AnswersStep, LedgerAndNotes, note_of, engine_verdict}
 use Rattle.coord_engine.specs.Port.{step_of}
 use Rattle.coord_engine.specs.State.{Basis}
 use Rattle.coord_engine.specs.Threads.{AtSomeMoment, Submits}
@@ -49,4 +49,4 @@ answered D p s is (Err why) before (Err refusal) after a = adds_none before.note
 
 -- what is added where it was submitted
 pub adds_packet : {D : Type 0} (b : Basis D) (p : Packet) (s : Step) → s ≡ step_of p → (answer : Result Claim Refusal) (notes later : List Note) → AtSomeMoment b (Submits {D = D} s answer notes later) → AddsPackets notes later
-adds_packet {D} b p s is answer notes later moment = answered D p s is (told moment.state s) (record { ledger = moment.state.ledger; notes = notes }) answer (record { ledger = moment.so.0; notes = later }) moment.so.1
+adds_packet {D} b p s is answer notes later moment = answered D p s is (engine_verdict moment.state s) (record { ledger = moment.state.ledger; notes = notes }) answer (record { ledger = moment.so.0; notes = later }) moment.so.1

@@ -11,10 +11,10 @@ use Rattle.coord_world.specs.declared.verdicts.Verdict.{Verdict}
 use Rattle.coord_world.specs.declared.verdicts.Verdict.TheVariants.{Fresh, Repeat}
 use Rattle.coord_world.specs.protocol.Next.{reply}
 use Rattle.coord_ledger.specs.declared.ticket.Note.{Note}
-use Rattle.coord_ledger.specs.ledger.Calls.{claimed, said, with_accepted}
+use Rattle.coord_ledger.specs.ledger.Calls.{claimed, ledger_verdict, with_accepted}
 use Rattle.coord_ledger.specs.ledger.State.{Claim, LedgerState}
 use Rattle.coord_ledger.specs.machine.Log.{front_world}
-use Rattle.coord_engine.specs.Calls.{AnswersStep, LedgerAndNotes, note_of, told}
+use Rattle.coord_engine.specs.Calls.{AnswersStep, LedgerAndNotes, note_of, engine_verdict}
 use Rattle.coord_engine.specs.State.{GuardedState}
 
 -- why, where there is no ticket
@@ -82,7 +82,7 @@ module _ {D : Type 0} where
 
   -- the same of the value under the lock, which is not finishing, and of the caller's notes
   pub answered : (s : Step) (inside g : GuardedState D) (later : LedgerState D) (answer : Result Claim Refusal) (notes before after : List Note) → inside ≡ g → inside.finishing ≡ false → notes ≡ before
-      → AnswersStep s (said inside.ledger s) (held inside.ledger notes) answer (held later after) → AnswersStep s (told g s) (held g.ledger before) answer (held later after)
+      → AnswersStep s (ledger_verdict inside.ledger s) (held inside.ledger notes) answer (held later after) → AnswersStep s (engine_verdict g s) (held g.ledger before) answer (held later after)
   answered s inside g later answer notes before after is going same by =
-      let b : AnswersStep s (told inside s) (held inside.ledger notes) answer (held later after) = subst (λ b. AnswersStep s (if b then Err Stopped else said inside.ledger s) (held inside.ledger notes) answer (held later after)) (sym going) by in
-      subst (λ n. AnswersStep s (told g s) (held g.ledger n) answer (held later after)) same (subst (λ x. AnswersStep s (told x s) (held x.ledger notes) answer (held later after)) is b)
+      let b : AnswersStep s (engine_verdict inside s) (held inside.ledger notes) answer (held later after) = subst (λ b. AnswersStep s (if b then Err Stopped else ledger_verdict inside.ledger s) (held inside.ledger notes) answer (held later after)) (sym going) by in
+      subst (λ n. AnswersStep s (engine_verdict g s) (held g.ledger n) answer (held later after)) same (subst (λ x. AnswersStep s (engine_verdict x s) (held x.ledger notes) answer (held later after)) is b)

@@ -7,7 +7,7 @@ use Rattle.coord_world.specs.declared.verdicts.Verdict.{Verdict}
 use Rattle.coord_world.specs.declared.verdicts.Verdict.TheVariants.{Fresh, Repeat}
 use Rattle.coord_world.specs.protocol.Next.{reply}
 use Rattle.coord_ledger.specs.declared.ticket.Note.{Note}
-use Rattle.coord_ledger.specs.ledger.Calls.{claimed, said, with_accepted}
+use Rattle.coord_ledger.specs.ledger.Calls.{claimed, ledger_verdict, with_accepted}
 use Rattle.coord_ledger.specs.ledger.State.{Claim, IsCollectable, LedgerState, reply_of}
 use Rattle.coord_ledger.specs.machine.Log.{front_world, settled_count}
 use Rattle.coord_engine.specs.State.{GuardedState}
@@ -19,8 +19,8 @@ abbrev pub note_of : Claim → Note
 note_of claim = record { step = claim.step; what = claim.what }
 
 -- what is said to a step, memory aside: none is accepted once the engine is finishing
-abbrev pub told : {D : Type 0} → GuardedState D → Step → Result Verdict Refusal
-told g s = if g.finishing then Err Stopped else said g.ledger s
+abbrev pub engine_verdict : {D : Type 0} → GuardedState D → Step → Result Verdict Refusal
+engine_verdict g s = if g.finishing then Err Stopped else ledger_verdict g.ledger s
 
 -- what submitting a step changes
 pub record LedgerAndNotes (D : Type 0) : Type 0 where

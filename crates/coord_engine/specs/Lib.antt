@@ -6,12 +6,12 @@ pub mod Flushing
 pub mod Flying
 pub mod Handing
 pub mod Named
-pub mod NamedRows
+pub mod WorkedNames
 pub mod Pacing
 pub mod Port
 pub mod State
 pub mod Threads
 pub mod Waiting
-pub mod WaitingRows
+pub mod WorkedPackets
 pub mod Working
 pub mod code

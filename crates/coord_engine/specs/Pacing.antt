@@ -3,9 +3,9 @@
 -- it could. So those are counted, and waited for a little.
 use Rattle.std.specs.Prelude.{ℕ, ◌+◌, ◌-◌, ◌^◌, Bool, true, false, ◌&&◌, ◌||◌, not, nat_eq, nat_le, is_some, length, min, take}
 use Rattle.std.specs.List.{count_by}
+use Rattle.coord_types.specs.declared.limits.TheConstants.{MAX_BATCH_STEPS}
 use Rattle.coord_types.specs.declared.steps.Step.{Step}
 use Rattle.coord_types.specs.declared.steps.Step.TheVariants.{Order, Take, Clear}
-use Rattle.coord_ledger.specs.machine.Answers.{most_in_flight}
 use Rattle.coord_ledger.specs.machine.Log.{pending}
 use Rattle.coord_engine.specs.State.{GuardedState}
 
@@ -27,7 +27,7 @@ is_gathered g = nat_eq g.in_hand 0 && nat_le g.awaited (pending_count g)
 
 -- a flight starts at once: nothing is waited for, it is full, or nothing more is accepted
 abbrev pub starts_at_once : {D : Type 0} → GuardedState D → Bool
-starts_at_once g = is_gathered g || (nat_le 256 (pending_count g) || g.finishing)
+starts_at_once g = is_gathered g || (nat_le MAX_BATCH_STEPS (pending_count g) || g.finishing)
 
 -- a flusher is to be woken: for the first step that is pending, from which on it waits a little, and once a flight starts at once
 abbrev pub wakes_flusher : {D : Type 0} → GuardedState D → Bool
@@ -49,7 +49,7 @@ is_order (Clear receipt) = false
 
 -- how many orders leave with the next flight
 abbrev pub leaving_orders : {D : Type 0} → GuardedState D → ℕ
-leaving_orders g = count_by is_order (take most_in_flight (pending g.ledger.log))
+leaving_orders g = count_by is_order (take MAX_BATCH_STEPS (pending g.ledger.log))
 
 -- Who was answered is likely to come again, beside those whose steps are pending already. A caller that is alone is never waited for, since its own step is the one that is awaited.
 abbrev pub with_callers_awaited : {D : Type 0} → GuardedState D → GuardedState D

@@ -1,5 +1,6 @@
 -- What an engine's calls answer while other threads call too. Nothing is known of what a lock holds when it is taken but what its type keeps, so a call answers as the value under the lock does in some state that it can have.
 use Rattle.std.specs.Prelude.{◌≡◌, ℕ, ◌≤◌, ◌<◌, false, true, List, is_some, take, Result, Some}
+use Rattle.coord_types.specs.declared.limits.TheConstants.{MAX_BATCH_STEPS}
 use Rattle.coord_types.specs.declared.refusals.Refusal.{Refusal}
 use Rattle.coord_types.specs.declared.refusals.Refusal.TheVariants.{Behind, OutOfMemory, Stopped}
 use Rattle.coord_types.specs.declared.steps.Step.{Step}
@@ -11,10 +12,9 @@ use Rattle.coord_ledger.specs.declared.ticket.Note.{Note}
 use Rattle.coord_ledger.specs.ledger.Calls.{keeps_store, next_flight}
 use Rattle.coord_ledger.specs.ledger.State.{Claim, FlightState, LedgerState}
 use Rattle.coord_ledger.specs.machine.After.{releases_of, resent}
-use Rattle.coord_ledger.specs.machine.Answers.{most_in_flight}
 use Rattle.coord_ledger.specs.machine.Log.{accepted_count, pending, settled_count, settled_world}
 use Rattle.coord_ledger.specs.machine.Shown.{Shown, shown}
-use Rattle.coord_engine.specs.Calls.{AnswersStep, told}
+use Rattle.coord_engine.specs.Calls.{AnswersStep, engine_verdict}
 use Rattle.coord_engine.specs.Closing.{MayClose}
 use Rattle.coord_engine.specs.State.{Basis, CanHold, GuardedState}
 
@@ -26,7 +26,7 @@ pub record AtSomeMoment {D : Type 0} (b : Basis D) (P : GuardedState D → Type 
 
 -- a step was submitted
 abbrev pub Submits : {D : Type 0} → Step → Result Claim Refusal → List Note → List Note → GuardedState D → Type 0
-Submits {D} s answer notes later g = (l : LedgerState D) × AnswersStep s (told g s) (record { ledger = g.ledger; notes = notes }) answer (record { ledger = l; notes = later })
+Submits {D} s answer notes later g = (l : LedgerState D) × AnswersStep s (engine_verdict g s) (record { ledger = g.ledger; notes = notes }) answer (record { ledger = l; notes = later })
 
 -- the settled world was shown to a caller that had seen so much of it
 abbrev pub Shows : {D : Type 0} → Shown → ℕ → ℕ → GuardedState D → Type 0
@@ -45,7 +45,7 @@ Leaves flight g = (keeps_store g.ledger ≡ false) × (flight ≡ next_flight g.
 
 -- the next flight went out, was committed, and gave this out
 abbrev pub Flushes : {D : Type 0} → List Release → GuardedState D → Type 0
-Flushes released g = (keeps_store g.ledger ≡ false) × (released ≡ releases_of (outs (settled_world g.ledger.log) (take most_in_flight (pending g.ledger.log))))
+Flushes released g = (keeps_store g.ledger ≡ false) × (released ≡ releases_of (outs (settled_world g.ledger.log) (take MAX_BATCH_STEPS (pending g.ledger.log))))
 
 -- what may have been lost was sent again
 abbrev pub SendsAgain : {D : Type 0} → List Release → GuardedState D → Type 0

@@ -5,7 +5,7 @@ ghost use Rattle.coord_engine.specs.Closing.{fault_name, fault_number};
 ghost use Rattle.coord_engine.specs.Named.{IsAmong};
 
 use coord_disk::Disk;
-use coord_ledger::Note;
+use coord_ledger::{Note, is_same_step};
 use coord_store::Store;
 use coord_types::Step;
 use coord_world::World;
@@ -56,13 +56,6 @@ pub struct Closed<D: Disk> {
     pub settled: u64,
 }
 
-/// Whether these are the same step.
-fn is_same(a: &Step, b: &Step) -> bool
-    ensures { IsTrue result ↔ (a.now ≡ b.now) }
-{
-    a == b
-}
-
 /// Whether the steps behind the first `base` have the note's step at its number.
 fn is_among(base: u64, steps: &[Step], note: &Note) -> bool
     ensures { IsTrue result ↔ IsAmong base steps.now note.now }
@@ -74,7 +67,7 @@ fn is_among(base: u64, steps: &[Step], note: &Note) -> bool
     if place >= steps.len() as u64 {
         return false;
     }
-    is_same(&steps[place as usize], &note.what)
+    is_same_step(&steps[place as usize], &note.what)
 }
 
 impl<D: Disk> Closed<D> {

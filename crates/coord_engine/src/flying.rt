@@ -30,10 +30,8 @@ pub trait Hangar {
 pub fn fly<H: Hangar>(hangar: &mut H) -> Result<Option<Releases>, CommitFault>
     ensures { Tells H.moves hangar.old result hangar.new }
 {
-    match hangar.begin() {
-        Ok(true) => {}
-        Ok(false) => return Ok(None),
-        Err(fault) => return Err(fault),
+    if !hangar.begin()? {
+        return Ok(None);
     }
     let committed = hangar.commit();
     let released = hangar.end();

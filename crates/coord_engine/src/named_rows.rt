@@ -1,6 +1,6 @@
 //! Notes against steps, worked out: functions that do nothing, whose contracts say what is named.
 
-ghost use Rattle.coord_engine.specs.NamedRows.{NamedByTwo, NamesInPlace, NotInOrder, NotOneShort};
+ghost use Rattle.coord_engine.specs.WorkedNames.{NamedByTwo, NamesInPlace, NotInOrder, NotOneShort};
 
 /// Two shares noted a step each.
 pub fn named_by_two()

@@ -1,6 +1,6 @@
 //! Packets that wait, worked out: functions that do nothing, whose contracts say what waits.
 
-ghost use Rattle.coord_engine.specs.WaitingRows.{BothKinds, LaterInPlace};
+ghost use Rattle.coord_engine.specs.WorkedPackets.{BothKinds, LaterInPlace};
 
 /// The later data of a lane takes the place of the earlier.
 pub fn later_in_place()

@@ -1,6 +1,7 @@
 -- What the calls of a ledger and of a flight make of them follows the event machine.
 use Rattle.std.proofs.Common.{◌≡◌, ℕ, zero, suc, ◌+◌, Bool, true, false, List, [], ◌∷◌, ◌++◌, length, take, Option, Some, None, refl, sym, ap, ◌∙◌, subst, append-nil, inl, inr}
 use Rattle.std.proofs.lemmas.List.{length-take}
+use Rattle.coord_types.specs.declared.limits.TheConstants.{MAX_BATCH_STEPS}
 use Rattle.coord_disk.specs.Model.Present.{Present, IsImage}
 use Rattle.coord_store.proofs.OneWorld.{recovered_is_one}
 use Rattle.coord_store.specs.Recovered.{Recovered}
@@ -16,7 +17,7 @@ use Rattle.coord_ledger.specs.ledger.Calls.{FlightGives, GivesFlown, GivesSettle
 use Rattle.coord_ledger.specs.ledger.Follows.{Follows, FollowsTo, GivesOneOf, Held, ImagesGive, IsOut, flight_out}
 use Rattle.coord_ledger.specs.ledger.State.{FlightState, LedgerState, ledger_over}
 use Rattle.coord_ledger.specs.machine.After.{releases_of, settling_releases}
-use Rattle.coord_ledger.specs.machine.Answers.{IsOneOf, kept, kept_by, most_in_flight}
+use Rattle.coord_ledger.specs.machine.Answers.{IsOneOf, kept, kept_by}
 use Rattle.coord_ledger.specs.machine.Consistent.{IsConsistent}
 use Rattle.coord_ledger.specs.machine.Log.{pending, settled_count, world_after}
 use Rattle.coord_ledger.specs.machine.Machine.{Machine}
@@ -27,8 +28,8 @@ use Rattle.coord_ledger.proofs.Logs.{world-add}
 -- ---- flights go out and come back
 
 -- the flight that goes out next is the ledger's own
-pub next_is_out : {D : Type 0} (l : LedgerState D) (disk : D) → IsOut (with_out l (length (take most_in_flight (pending l.log)))) (next_flight l.log disk)
-next_is_out l disk = record { size = refl; first = refl; steps = taken_twice most_in_flight (pending l.log); world = refl }
+pub next_is_out : {D : Type 0} (l : LedgerState D) (disk : D) → IsOut (with_out l (length (take MAX_BATCH_STEPS (pending l.log)))) (next_flight l.log disk)
+next_is_out l disk = record { size = refl; first = refl; steps = taken_twice MAX_BATCH_STEPS (pending l.log); world = refl }
   where
     taken_twice : {A : Type 0} (n : ℕ) (xs : List A) → take n xs ≡ take (length (take n xs)) xs
     taken_twice zero xs = refl
@@ -39,10 +40,10 @@ pub follows_next : {D : Type 0} (h : Held D) (s : Machine) (f : FlightState D) (
     FollowsTo s Begin (Begun (length f.steps)) (record h { ledger = left; flight = Some f })
 follows_next h s f left is follows goes flies leaves =
     let log = h.ledger.log in
-    let steps : f.steps ≡ take most_in_flight (pending log) = ap (λ (g : FlightState _). g.steps) flies in
-    let same : left ≡ with_out h.ledger (length (take most_in_flight (pending log))) = leaves ∙ ap (λ l. with_out h.ledger (length l)) steps in
-    let own : IsOut left f = subst (λ l. IsOut l f) (sym same) (subst (IsOut (with_out h.ledger (length (take most_in_flight (pending log))))) (sym flies) (next_is_out h.ledger f.disk)) in
-    follows_begun h s is follows f left goes (ap (λ (l : LedgerState _). l.log) leaves) (ap (λ (l : LedgerState _). l.doubt) leaves) own (ap (λ (g : FlightState _). g.mark) flies) (ap length steps ∙ length-take most_in_flight (pending log))
+    let steps : f.steps ≡ take MAX_BATCH_STEPS (pending log) = ap (λ (g : FlightState _). g.steps) flies in
+    let same : left ≡ with_out h.ledger (length (take MAX_BATCH_STEPS (pending log))) = leaves ∙ ap (λ l. with_out h.ledger (length l)) steps in
+    let own : IsOut left f = subst (λ l. IsOut l f) (sym same) (subst (IsOut (with_out h.ledger (length (take MAX_BATCH_STEPS (pending log))))) (sym flies) (next_is_out h.ledger f.disk)) in
+    follows_begun h s is follows f left goes (ap (λ (l : LedgerState _). l.log) leaves) (ap (λ (l : LedgerState _). l.doubt) leaves) own (ap (λ (g : FlightState _). g.mark) flies) (ap length steps ∙ length-take MAX_BATCH_STEPS (pending log))
 
 -- what a flight of its own releases
 own_releases : {D : Type 0} (l : LedgerState D) (f : FlightState D) → IsOut l f → releases_of (outs f.world f.steps) ≡ settling_releases l.log (length f.steps)

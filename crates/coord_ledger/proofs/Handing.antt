@@ -12,7 +12,7 @@ use Rattle.coord_ledger.specs.declared.events.Answer.TheVariants as answer
 use Rattle.coord_ledger.specs.declared.events.Event.TheVariants.{Submit}
 use Rattle.coord_ledger.specs.declared.handed.Handed.{Handed}
 use Rattle.coord_ledger.specs.declared.handed.Handed.TheVariants.{Accepted, Repeated}
-use Rattle.coord_ledger.specs.ledger.Calls.{HandedTo, RefusesStep, claim_of, claimed, said, with_accepted}
+use Rattle.coord_ledger.specs.ledger.Calls.{HandedTo, RefusesStep, claim_of, claimed, ledger_verdict, with_accepted}
 use Rattle.coord_ledger.specs.ledger.Driven.{Beside, answer_to, held, with_claim}
 use Rattle.coord_ledger.specs.ledger.Follows.{Follows, FollowsTo, Held, HoldsFlight}
 use Rattle.coord_ledger.specs.ledger.State.{Claim, FlightState, LedgerState}
@@ -25,22 +25,22 @@ use Rattle.coord_ledger.proofs.FollowingSteps.{follows_accepted, follows_no_room
 -- ---- what a ticket tells of what was said, and the other way round
 
 module _ {D : Type 0} (l new : LedgerState D) (x : Step) where
-  pub handed_fresh : (given : Handed) (k : Kind) → HandedTo l x (Ok given) new → said l x ≡ Ok (Fresh k) → (claim_of given ≡ claimed x (reply (front_world l.log) x)) × (new ≡ with_accepted l x)
+  pub handed_fresh : (given : Handed) (k : Kind) → HandedTo l x (Ok given) new → ledger_verdict l x ≡ Ok (Fresh k) → (claim_of given ≡ claimed x (reply (front_world l.log) x)) × (new ≡ with_accepted l x)
   handed_fresh (Accepted t) k to judged = to.1.1
   handed_fresh (Repeated t) k to judged = let other = sym judged ∙ to.1.0 in let no : ⊥ = cc in absurd no
 
-  pub handed_repeat : (given : Handed) (kept : Reply) → HandedTo l x (Ok given) new → said l x ≡ Ok (Repeat kept) → (claim_of given ≡ claimed x kept) × (new ≡ l)
+  pub handed_repeat : (given : Handed) (kept : Reply) → HandedTo l x (Ok given) new → ledger_verdict l x ≡ Ok (Repeat kept) → (claim_of given ≡ claimed x kept) × (new ≡ l)
   handed_repeat (Accepted t) kept to judged = let other = sym judged ∙ to.1.0 in let no : ⊥ = cc in absurd no
   handed_repeat (Repeated t) kept to judged =
       let both = sym to.1.0 ∙ judged in
       let same : to.0 ≡ kept = cc in
       (to.1.1.0 ∙ ap (claimed x) same, to.1.1.1)
 
-  pub handed_never : (given : Handed) (why : Refusal) → HandedTo l x (Ok given) new → said l x ≡ Err why → ⊥
+  pub handed_never : (given : Handed) (why : Refusal) → HandedTo l x (Ok given) new → ledger_verdict l x ≡ Err why → ⊥
   handed_never (Accepted t) why to judged = let other = sym judged ∙ to.1.0 in let no : ⊥ = cc in no
   handed_never (Repeated t) why to judged = let other = sym judged ∙ to.1.0 in let no : ⊥ = cc in no
 
-  pub refused_as : (e : Refusal) (v : Result Verdict Refusal) → HandedTo l x (Err e) new → said l x ≡ v → RefusesStep e v
+  pub refused_as : (e : Refusal) (v : Result Verdict Refusal) → HandedTo l x (Err e) new → ledger_verdict l x ≡ v → RefusesStep e v
   refused_as e v to judged = subst (RefusesStep e) judged to.0
 
 -- ---- the flight and the disk stay
@@ -74,12 +74,12 @@ follows_handed {D} l new f b s x (Ok (Repeated t)) is follows to =
     (subst (λ (c : Claim). FollowsTo {D = D} s (Submit x) (answer.Repeated c.step) (held (record { ledger = l; flight = f }) (record { claims = b.claims ++ Some c ∷ []; seen = b.seen; released = b.released }))) (sym to.1.1.0)
     (follows_repeated (held (record { ledger = l; flight = f }) b) s is follows x to.0 to.1.0))
 follows_handed {D} l new f b s x (Err e) is follows to =
-    subst (λ m. FollowsTo {D = D} s (Submit x) (answer.Refused e) (held (record { ledger = m; flight = f }) b)) (sym to.1) (by_verdict (said l x) refl to.0)
+    subst (λ m. FollowsTo {D = D} s (Submit x) (answer.Refused e) (held (record { ledger = m; flight = f }) b)) (sym to.1) (by_verdict (ledger_verdict l x) refl to.0)
   where
     h : Held D
     h = held (record { ledger = l; flight = f }) b
 
-    by_verdict : (v : Result Verdict Refusal) → said l x ≡ v → RefusesStep e v → FollowsTo s (Submit x) (answer.Refused e) h
+    by_verdict : (v : Result Verdict Refusal) → ledger_verdict l x ≡ v → RefusesStep e v → FollowsTo s (Submit x) (answer.Refused e) h
     by_verdict (Ok (Fresh k)) judged why = subst (λ w. FollowsTo s (Submit x) (answer.Refused w) h) (sym why) (follows_no_room h s is follows x k judged)
     by_verdict (Ok (Repeat r)) judged why = absurd why
     by_verdict (Err w) judged why = subst (λ w. FollowsTo s (Submit x) (answer.Refused w) h) (sym why) (follows_refused h s is follows x w judged)

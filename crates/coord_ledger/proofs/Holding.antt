@@ -8,6 +8,7 @@ use Rattle.coord_node.specs.Steps.{kind}
 use Rattle.coord_store.proofs.Freshness.{fold-push}
 use Rattle.coord_store.specs.Kept.{Kept}
 use Rattle.coord_store.specs.Recovered.{AllFresh}
+use Rattle.coord_types.specs.declared.limits.TheConstants.{MAX_BATCH_STEPS}
 use Rattle.coord_types.specs.declared.steps.Kind.{Kind}
 use Rattle.coord_types.specs.declared.steps.Step.{Step}
 use Rattle.coord_types.specs.declared.steps.Step.TheVariants.{Order, Take, Clear}
@@ -20,7 +21,6 @@ use Rattle.coord_world.specs.protocol.NumberedWorld.{World, state}
 use Rattle.coord_world.specs.protocol.Ranges.{StepInRange}
 use Rattle.coord_ledger.specs.code.Holding.{IsAway, IsFlight, IsHome, IsLedger, doubted, kinds_of, out_of}
 use Rattle.coord_ledger.specs.declared.mark.Mark.TheVariants.{New, Good, Torn}
-use Rattle.coord_ledger.specs.machine.Answers.{most_in_flight}
 use Rattle.coord_ledger.specs.machine.Consistent.{IsConsistentLog}
 use Rattle.coord_ledger.specs.machine.Log.{Log, accepted_count, front_world, pending, settled_count, settled_world, with_settled, with_step, world_after}
 use Rattle.coord_ledger.specs.machine.Submits.{verdict}
@@ -44,8 +44,8 @@ away_with : (log : Log) (s : Step) (out : ℕ) → IsAway log out None → IsAwa
 away_with log s out away = record { some = away.some; most = away.most; within = omega (arith, away.within, length-append log.trail (s ∷ [])); going = refl }
 
 -- the next steps are not too many
-length_next : (xs : List Step) → length (take most_in_flight xs) ≤ most_in_flight
-length_next xs = omega (arith, length-take most_in_flight xs)
+length_next : (xs : List Step) → length (take MAX_BATCH_STEPS xs) ≤ MAX_BATCH_STEPS
+length_next xs = omega (arith, length-take MAX_BATCH_STEPS xs)
 
 module _ {D : Type 0} where
   -- ---- one step more
@@ -80,12 +80,12 @@ module _ {D : Type 0} where
 
   -- the next steps go out
   pub flies : (log : Log) (kinds : List Kind) (front settled : World) (out : ℕ) (doubt : Option ℕ) (kept : Kept D) (steps : List Step) (world : World) → IsLedger log kinds front settled out doubt (Some kept) → doubt ≡ None
-      → steps ≡ take most_in_flight (pending log) → world ≡ settled → 1 ≤ length steps → IsFlight steps world New kept
+      → steps ≡ take MAX_BATCH_STEPS (pending log) → world ≡ settled → 1 ≤ length steps → IsFlight steps world New kept
   flies log kinds front settled out doubt kept steps world is going same at some =
       let w = settled_world log in
       let here : world ≡ w = at ∙ is.settled_is in
-      let fresh : AllFresh w w (take most_in_flight (pending log)) = fresh_first most_in_flight (pending log) w w is.consistent.fresh in
-      let flown : AllFresh world world steps = subst (λ l. AllFresh world world l) (sym same) (subst (λ v. AllFresh v v (take most_in_flight (pending log))) (sym here) fresh) in
+      let fresh : AllFresh w w (take MAX_BATCH_STEPS (pending log)) = fresh_first MAX_BATCH_STEPS (pending log) w w is.consistent.fresh in
+      let flown : AllFresh world world steps = subst (λ l. AllFresh world world l) (sym same) (subst (λ v. AllFresh v v (take MAX_BATCH_STEPS (pending log))) (sym here) fresh) in
       record {
         some = some;
         most = omega (arith, ap length same, length_next (pending log));

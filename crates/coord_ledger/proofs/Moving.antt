@@ -3,6 +3,7 @@ use Rattle.std.proofs.Common.{◌≡◌, ℕ, ◌+◌, ◌-◌, ◌≤◌, Bool,
 use Rattle.std.specs.Prelude.{is_some, nat_le, Result, ◌||◌, ◌==◌, min}
 use Rattle.std.specs.List.{AllByRecursion}
 use Rattle.std.proofs.lemmas.List.{drop-append-le, take-append-le, take-take}
+use Rattle.coord_types.specs.declared.limits.TheConstants.{MAX_BATCH_STEPS, MAX_PENDING}
 use Rattle.coord_types.specs.declared.refusals.Refusal.{Refusal}
 use Rattle.coord_types.specs.declared.refusals.Refusal.TheVariants.{OutOfMemory, Stopped}
 use Rattle.coord_types.specs.declared.steps.Reply.{Reply}
@@ -21,12 +22,12 @@ use Rattle.coord_ledger.specs.declared.mark.Mark.{Mark}
 use Rattle.coord_ledger.specs.declared.mark.Mark.TheVariants.{New, Good, Torn}
 use Rattle.coord_ledger.specs.laws.Moving.{CrashReopens, MovedAnswersAlike, MovedGoesOn, with_base_moved}
 use Rattle.coord_ledger.specs.machine.After.{after, after_finish, after_submit, crashed, finished, releases_of, resent}
-use Rattle.coord_ledger.specs.machine.Answers.{answers, kept_by, kept_with, most_in_flight, ticket, to_collect, to_commit, to_finish, to_submit, stays_home, next_size, verdict_on, with_flight}
+use Rattle.coord_ledger.specs.machine.Answers.{answers, kept_by, kept_with, ticket, to_collect, to_commit, to_finish, to_submit, stays_home, next_size, verdict_on, with_flight}
 use Rattle.coord_ledger.specs.machine.Consistent.{IsConsistent, IsConsistentLog}
 use Rattle.coord_ledger.specs.machine.Log.{Log, accepted_count, moved, pending, settled_count, settled_world, with_settled, with_step, world_after}
 use Rattle.coord_ledger.specs.machine.Machine.{FlightOut, Machine, has_stopped}
 use Rattle.coord_ledger.specs.machine.Shown.{shown}
-use Rattle.coord_ledger.specs.machine.Submits.{most_pending, unless_full, verdict}
+use Rattle.coord_ledger.specs.machine.Submits.{unless_full, verdict}
 use Rattle.coord_ledger.specs.promises.Headline.{is_crash}
 use Rattle.coord_ledger.proofs.Lists.{each_one}
 use Rattle.coord_ledger.proofs.Logs.{moved_accepted, moved_count, moved_front, moved_pending, moved_settled, none_behind}
@@ -54,7 +55,7 @@ kept_counts c d f o c' d' e = by_flight f o
 -- the verdict on a step
 pub moved_verdict : (stopped : Bool) (log : Log) (n : ℕ) (le : n ≤ log.settled) (is : IsConsistentLog log) (x : Step) → verdict stopped (moved log n) x ≡ verdict stopped log x
 moved_verdict stopped log n le is x =
-    λ i. cond stopped (Err Stopped) (unless_full (nat_le most_pending (length (moved_pending log n le i))) (accepts (moved_front log n le is i) (moved_settled log n le i) x))
+    λ i. cond stopped (Err Stopped) (unless_full (nat_le MAX_PENDING (length (moved_pending log n le i))) (accepts (moved_front log n le is i) (moved_settled log n le i) x))
 
 -- a step more
 pub moved_step : (log : Log) (n : ℕ) (x : Step) → n ≤ length log.trail → with_step (moved log n) x ≡ moved (with_step log x) n
@@ -87,7 +88,7 @@ module _ (s : Machine) (n : ℕ) (is : IsConsistent s) (le : n ≤ s.log.settled
 
   alike : (e : Event) → answers (with_base_moved s n) e ≡ answers s e
   alike (Submit x) = λ i. to_submit (accepted i + 1) (judged x i)
-  alike Begin = λ i. cond (has_stopped s || is_some s.flight || (length (waiting i) == 0)) (Nothing ∷ []) (Begun (min most_in_flight (length (waiting i))) ∷ Refused OutOfMemory ∷ [])
+  alike Begin = λ i. cond (has_stopped s || is_some s.flight || (length (waiting i) == 0)) (Nothing ∷ []) (Begun (min MAX_BATCH_STEPS (length (waiting i))) ∷ Refused OutOfMemory ∷ [])
   alike Commit = refl
   alike Finish = λ i. with_flight s.flight (λ f. to_finish (count i) f.size f.mark)
   alike (Collect j) = λ i. to_collect (count i) (ticket s.tickets j)

@@ -1,6 +1,7 @@
 -- What the calls of a ledger leave of its flight and its disk.
 use Rattle.std.proofs.Common.{◌≡◌, ◌⊎◌, Bool, true, false, length, take, Option, Some, None, Ok, Err, refl, sym, ap, ◌∙◌, subst, inl, inr}
 use Rattle.std.specs.Prelude.{Result, IfOk, IsSomeAnd, MatchResult}
+use Rattle.coord_types.specs.declared.limits.TheConstants.{MAX_BATCH_STEPS}
 use Rattle.coord_store.specs.declared.faults.CommitFault.{CommitFault}
 use Rattle.coord_store.specs.declared.faults.CommitFault.TheVariants as fault
 use Rattle.coord_ledger.specs.declared.events.Answer.TheVariants.{Failed}
@@ -9,7 +10,6 @@ use Rattle.coord_ledger.specs.ledger.Calls.{keeps_store, next_flight, with_out}
 use Rattle.coord_ledger.specs.ledger.Driven.{CommitsTo, Driven, IsMarked}
 use Rattle.coord_ledger.specs.ledger.Follows.{IsOut}
 use Rattle.coord_ledger.specs.ledger.State.{FlightState, LedgerState}
-use Rattle.coord_ledger.specs.machine.Answers.{most_in_flight}
 use Rattle.coord_ledger.specs.machine.Log.{pending}
 use Rattle.coord_ledger.proofs.Calling.{next_is_out}
 use Rattle.coord_ledger.proofs.Moments.{told}
@@ -20,9 +20,9 @@ Departs l left f = (f ≡ next_flight l.log f.disk) × (l.disk ≡ Some f.disk) 
 
 pub departs_own : {D : Type 0} (l left : LedgerState D) (f : FlightState D) → Departs l left f → IsOut left f
 departs_own l left f departs =
-    let steps : f.steps ≡ take most_in_flight (pending l.log) = ap (λ (g : FlightState _). g.steps) departs.0 in
-    let same : left ≡ with_out l (length (take most_in_flight (pending l.log))) = departs.2 ∙ ap (λ k. with_out l (length k)) steps in
-    subst (λ m. IsOut m f) (sym same) (subst (IsOut (with_out l (length (take most_in_flight (pending l.log))))) (sym departs.0) (next_is_out l f.disk))
+    let steps : f.steps ≡ take MAX_BATCH_STEPS (pending l.log) = ap (λ (g : FlightState _). g.steps) departs.0 in
+    let same : left ≡ with_out l (length (take MAX_BATCH_STEPS (pending l.log))) = departs.2 ∙ ap (λ k. with_out l (length k)) steps in
+    subst (λ m. IsOut m f) (sym same) (subst (IsOut (with_out l (length (take MAX_BATCH_STEPS (pending l.log))))) (sym departs.0) (next_is_out l f.disk))
 
 -- a ledger whose flight is out
 abbrev pub driven : {D : Type 0} → LedgerState D → FlightState D → Driven D

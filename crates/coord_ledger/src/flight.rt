@@ -1,6 +1,7 @@
 //! Flights: steps on their way to the disk.
 
 ghost use Rattle.std.specs.Prelude.{◌≡◌, ◌⊎◌, ◌+◌, ◌≤◌, true, List, ℕ, length, Err, OnOk, IsErrOf, MatchResult};
+ghost use Rattle.coord_types.specs.declared.limits.TheConstants.{MAX_BATCH_STEPS};
 ghost use Rattle.coord_disk.specs.Model.Moments.{LeavesOnly};
 ghost use Rattle.coord_journal.specs.Text.{HasPlaceIn, IsTextIn};
 ghost use Rattle.coord_store.specs.Faults.{failures_in};
@@ -108,7 +109,7 @@ impl<D: Disk> Flight<D> {
     /// Does nothing: its contract is what the type keeps of every flight.
     pub fn images_give_world(&self)
         ensures some { 1 ≤ length self.now.steps }
-        ensures most { length self.now.steps ≤ 256 }
+        ensures most { length self.now.steps ≤ MAX_BATCH_STEPS }
         ensures images { D.keeps_model self.now.disk ≡ true → FlightGives D.present self.now }
     {
         self.store.images_give_world();

@@ -2,6 +2,7 @@
 //! the store, at home or out with a flight.
 
 ghost use Rattle.std.specs.Prelude.{◌≡◌, ◌^◌, ◌≤◌, false, true, is_some, None, Some, IfErr, IfOk, IfSome};
+ghost use Rattle.coord_types.specs.declared.limits.TheConstants.{MAX_STEPS};
 ghost use Rattle.coord_store.specs.Kept.{has_stopped};
 ghost use Rattle.coord_types.specs.Table.{get};
 ghost use Rattle.coord_world.specs.protocol.Acceptance.{last_number};
@@ -111,7 +112,7 @@ impl<D: Disk> Ledger<D> {
     /// How many steps are settled, those before the base counted.
     pub fn settled_count(&self) -> u64
         ensures value { result ≡ settled_count self.now.log }
-        ensures bounded { result ≤ 2 ^ 40 }
+        ensures bounded { result ≤ MAX_STEPS }
     {
         self.settled.ranges();
         self.settled.count()
@@ -120,7 +121,7 @@ impl<D: Disk> Ledger<D> {
     /// How many steps are accepted, those before the base counted.
     pub fn accepted_count(&self) -> u64
         ensures value { result ≡ accepted_count self.now.log }
-        ensures bounded { result ≤ 2 ^ 40 }
+        ensures bounded { result ≤ MAX_STEPS }
     {
         self.front.ranges();
         self.front.count()

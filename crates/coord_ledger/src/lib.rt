@@ -50,6 +50,7 @@ pub use mark::Mark;
 pub use release::Release;
 pub use releases::Releases;
 pub use seen::Seen;
+pub use settling::is_same_step;
 pub use ticket::{Note, Ticket};
 pub use trace::{RunFault, RunFaultKind, Trace};
 pub use view::{LinkView, NodeView, View};

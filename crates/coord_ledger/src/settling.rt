@@ -13,7 +13,7 @@ use coord_world::World;
 use std::alloc::{AllocError, Global};
 
 /// Whether these are the same step.
-pub fn is_same(a: &Step, b: &Step) -> bool
+pub fn is_same_step(a: &Step, b: &Step) -> bool
     ensures { IsTrue result ↔ (a.now ≡ b.now) }
 {
     a == b

@@ -1,24 +1,21 @@
 -- The lines of a text.
 use Rattle.std.specs.Prelude.{ℕ, ◌≤◌, IfSome, nat_le, ◌==◌, Bool, List, [], ◌∷◌, ◌++◌, length, map, Option, Some, None, option_map, if◌then◌else◌}
 use Rattle.std.specs.List.{slice_split, position, before_first, after_first}
+use Rattle.coord_types.specs.declared.limits.TheConstants.{MAX_LINE_BYTES}
 
 abbrev pub is_line_feed : ℕ → Bool
 is_line_feed byte = byte == 10
 
--- the most bytes of a line, its line feed not counted
-abbrev pub limit : ℕ
-limit = 512
-
--- a line by its bytes; None where it is over the limit
+-- a line by its bytes, its line feed not counted; None where it is over the limit
 abbrev pub Line : Type 0
 Line = Option (List ℕ)
 
 unfoldable pub line_of : List ℕ → Line
-line_of bytes = if nat_le (length bytes) limit then Some bytes else None
+line_of bytes = if nat_le (length bytes) MAX_LINE_BYTES then Some bytes else None
 
 -- a line that is over the limit is told by None alone
 abbrev pub IsWithin : Line → Type 0
-IsWithin line = IfSome line (λ bytes. length bytes ≤ limit)
+IsWithin line = IfSome line (λ bytes. length bytes ≤ MAX_LINE_BYTES)
 
 -- what stands before, between and behind the line feeds of a text: one line more than it has line
 -- feeds, of which the last, which may be empty, is the one that no line feed ends

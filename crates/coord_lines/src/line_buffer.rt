@@ -20,12 +20,13 @@ pub struct LineBuffer {
 
 impl Model for LineBuffer {
     ghost use Rattle.std.specs.Prelude.{◌≤◌, ℕ, List, Option, Some, None, take, if◌then◌else◌};
+    ghost use Rattle.coord_types.specs.declared.limits.TheConstants.{MAX_LINE_BYTES};
 
     ghost Value = { Option (List ℕ) };
 
     ghost view = { λ a. if a.is_long then None else Some (take a.len a.bytes) };
 
-    ghost invariant = { λ a. a.len ≤ 512 };
+    ghost invariant = { λ a. a.len ≤ MAX_LINE_BYTES };
 }
 
 impl LineBuffer {

@@ -14,14 +14,14 @@ use Rattle.coord_world.specs.protocol.NumberedWorld.{World}
 use Rattle.coord_admin.specs.Connections.{Talk}
 use Rattle.coord_engine.specs.State.{Basis, based_on}
 use Rattle.coord_server.specs.EngineDesk.{DeskState}
-use Rattle.coord_server.specs.Ending.{AddsWorkers, IsOneHistory, IsServedToClose, Serves, ServesLife, told}
+use Rattle.coord_server.specs.Ending.{AddsWorkers, IsOneHistory, IsServedToClose, Serves, ServesLife, fault_at_end}
 use Rattle.coord_server.specs.Lives.{HasLived, HasLivedToClose, IsOver, Lives, Rests, met_any}
 use Rattle.coord_server.specs.declared.fault.ServerFault.{ServerFault}
 use Rattle.coord_server.specs.declared.fault.ServerFault.TheVariants as fault
 use Rattle.coord_server.specs.declared.left.Left.{Left}
 use Rattle.coord_server.specs.declared.left.Left.TheVariants.{Resting, Ended}
 
-pub going_if_none : (stopped : Bool) (served : Option ServerFault) (is_broken : Bool) → told stopped served is_broken ≡ None → stopped ≡ false
+pub going_if_none : (stopped : Bool) (served : Option ServerFault) (is_broken : Bool) → fault_at_end stopped served is_broken ≡ None → stopped ≡ false
 going_if_none false served is_broken none = refl
 going_if_none true served is_broken none = absurd cc
 
@@ -46,7 +46,7 @@ one_history {D} b own first shares store base trail settled none is_first added 
     record { workers = added.0; of_packets = added.2; same_base = since.same_base; named = subst (λ l. IsNamed l base.count trail) are here; closed = subst (λ l. AtSomeMoment b (Closes {D = D} store base trail settled l)) are closed }
 
 module _ {D : Type 0} (b : Basis D) {V : Type 0} (met : V → List Talk → V → Type 0) where
-  closed_if_none : (stopped : Bool) (served : Option ServerFault) (is_broken : Bool) (v w : V) (desk : DeskState) → told stopped served is_broken ≡ None → Serves b met v w desk served → IsServedToClose b desk
+  closed_if_none : (stopped : Bool) (served : Option ServerFault) (is_broken : Bool) (v w : V) (desk : DeskState) → fault_at_end stopped served is_broken ≡ None → Serves b met v w desk served → IsServedToClose b desk
   closed_if_none false None false v w desk none s = (s.0, s.1, s.2, tt, s.4, s.5, s.6)
   closed_if_none false None true v w desk none s = absurd cc
   closed_if_none false (Some fault) is_broken v w desk none s = absurd cc
@@ -69,7 +69,7 @@ module _ {D : Type 0} (keeps_model : D → Bool) (present : D → Present) {V : 
   -- a last life has this end
   served_at_last : (world : World) (v w : V) (desk : DeskState) (left : Left) (served : Option ServerFault) → ServesLife (b world) met v w desk left → IsOver left served → Serves (b world) met v w desk served
   served_at_last world v w desk Resting served s over = subst (Serves (b world) met v w desk) (sym over) s
-  served_at_last world v w desk (Ended told) served s over = subst (Serves (b world) met v w desk) (sym over) s
+  served_at_last world v w desk (Ended fault_at_end) served s over = subst (Serves (b world) met v w desk) (sym over) s
 
   rests : (world : World) (v w : V) (left : Left) (store : Kept D) (base : World) (trail : List Step) (settled : ℕ) → left ≡ Resting → (desk : DeskState) × ServesLife (b world) met v w desk left × IsOneHistory (b world) desk.notes store base trail settled
       → has_stopped store ≡ false → settled ≡ base.count + length trail → Rests keeps_model present met world v w store.world
@@ -128,6 +128,6 @@ module _ {D : Type 0} (keeps_model : D → Bool) (present : D → Present) {V : 
   lives_any zero began next v w is = (is.0, refl)
   lives_any (suc n) began next v w is = (is.0, tt, lives_any n began is.0 v is.1 is.2, rested_any is.0 next is.1 w is.3)
 
-  pub closed_lives : (stopped : Bool) (served : Option ServerFault) (is_broken : Bool) (began : World) (v w : V) (store : Kept D) (base : World) (trail : List Step) (settled : ℕ) → told stopped served is_broken ≡ None → HasLived keeps_model present met began v w served store base trail settled → HasLivedToClose keeps_model present began store base trail settled
+  pub closed_lives : (stopped : Bool) (served : Option ServerFault) (is_broken : Bool) (began : World) (v w : V) (store : Kept D) (base : World) (trail : List Step) (settled : ℕ) → fault_at_end stopped served is_broken ≡ None → HasLived keeps_model present met began v w served store base trail settled → HasLivedToClose keeps_model present began store base trail settled
   closed_lives stopped served is_broken began v w store base trail settled none is =
       (is.0, is.1, lives_any is.0 began is.1 v is.2 is.3, (is.4.0, closed_if_none (b is.1) met stopped served is_broken is.2 w is.4.0 none is.4.1, is.4.2))

@@ -69,8 +69,8 @@ IsOfStart fault.Write = Unit {0}
 IsOfStart other = ⊥
 
 -- what a server that has ended tells: a store that has stopped first, then what ended the serving, then an output that failed
-abbrev pub told : Bool → Option ServerFault → Bool → Option ServerFault
-told true served is_broken = Some fault.Device
-told false (Some met) is_broken = Some met
-told false None true = Some fault.Write
-told false None false = None
+abbrev pub fault_at_end : Bool → Option ServerFault → Bool → Option ServerFault
+fault_at_end true served is_broken = Some fault.Device
+fault_at_end false (Some met) is_broken = Some met
+fault_at_end false None true = Some fault.Write
+fault_at_end false None false = None

@@ -65,14 +65,11 @@ impl<'a, C: Callers, A: Age> Callers for LifeCallers<'a, C, A> {
             self.rests = true;
             return Err(ErrorKind::TimedOut.into());
         }
-        match self.callers.next() {
-            Ok(line) => Ok(LifeLine {
-                line,
-                age: self.age,
-                is_cut: false,
-            }),
-            Err(error) => Err(error),
-        }
+        Ok(LifeLine {
+            line: self.callers.next()?,
+            age: self.age,
+            is_cut: false,
+        })
     }
 
     /// A client whose connection was cut is let read the last answer first.

@@ -153,8 +153,6 @@ pub fn write<D: Disk>(
     if journal.fits(body.len()) {
         return append(journal, body);
     }
-    match checkpoint(alloc, journal, world) {
-        Ok(()) => append(journal, body),
-        Err(fault) => Err(fault),
-    }
+    checkpoint(alloc, journal, world)?;
+    append(journal, body)
 }

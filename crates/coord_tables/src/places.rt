@@ -5,11 +5,11 @@ ghost use Rattle.coord_types.specs.StepRanges.{IsNode};
 ghost use Rattle.coord_tables.specs.Places.{pair_place, noted_place, IsIndexOf};
 
 use coord_link::Lane;
-use coord_types::NodeId;
+use coord_types::{MAX_NODES, NodeId};
 use std::alloc::AllocError;
 
 /// How many ordered pairs of nodes there are.
-pub const PAIRS: usize = 64 * 64;
+pub const PAIRS: usize = MAX_NODES as usize * MAX_NODES as usize;
 
 /// Where a pair stands among all pairs.
 fn pair_place(from: NodeId, to: NodeId) -> usize
@@ -18,7 +18,7 @@ fn pair_place(from: NodeId, to: NodeId) -> usize
     ensures from { IsNode from }
     ensures to { IsNode to }
 {
-    (from.number() as usize - 1) * 64 + (to.number() as usize - 1)
+    (from.number() as usize - 1) * MAX_NODES as usize + (to.number() as usize - 1)
 }
 
 /// Where the lane between two nodes stands.

@@ -1,6 +1,7 @@
--- A set of nodes as a number of 64 bits: node k is bit k - 1.
+-- A set of nodes as a number with a bit for each node: node k is bit k - 1.
 use Rattle.std.specs.Prelude.{◌≡◌, ◌≤◌, ℕ, zero, suc, ◌+◌, ◌^◌, ◌==◌, Bool, true, if◌then◌else◌}
 use Rattle.std.specs.Int.{bit_at}
+use Rattle.coord_types.specs.declared.limits.TheConstants.{MAX_NODES}
 use Rattle.coord_types.specs.NodeSet as set
 
 -- the nodes from 1 to n whose tests hold, the test of node k being at k - 1
@@ -13,7 +14,7 @@ is_set bits i = bit_at bits i == 1
 
 -- the set of a mask
 abbrev pub nodes_of : ℕ → set.NodeSet
-nodes_of bits = nodes_where (is_set bits) 64
+nodes_of bits = nodes_where (is_set bits) MAX_NODES
 
 -- the number whose bits below n are where the tests hold
 unfoldable pub bits_where : (ℕ → Bool) → ℕ → ℕ
@@ -22,8 +23,8 @@ bits_where test (suc n) = if test n then bits_where test n + 2 ^ n else bits_whe
 
 -- the mask of a set
 abbrev pub mask_of : set.NodeSet → ℕ
-mask_of s = bits_where (λ i. set.contains s (suc i)) 64
+mask_of s = bits_where (λ i. set.contains s (suc i)) MAX_NODES
 
 -- each member has a bit
 abbrev pub IsMaskable : set.NodeSet → Type 0
-IsMaskable s = (k : ℕ) → set.contains s k ≡ true → (1 ≤ k) × (k ≤ 64)
+IsMaskable s = (k : ℕ) → set.contains s k ≡ true → (1 ≤ k) × (k ≤ MAX_NODES)

@@ -1,17 +1,18 @@
 -- The ranges of a step's numbers, which the types of the numbers keep.
 use Rattle.std.specs.Prelude.{ℕ, ◌^◌, ◌≤◌, ◌<◌}
+use Rattle.coord_types.specs.declared.limits.TheConstants.{MAX_CLIENTS, MAX_GROUPS, MAX_NODES}
 use Rattle.coord_types.specs.declared.steps.Command.{Command}
 use Rattle.coord_types.specs.declared.steps.Command.TheVariants.{Add, Remove, Join, Drop, Reset, Confirm}
 use Rattle.coord_types.specs.declared.steps.Step.{Step}
 use Rattle.coord_types.specs.declared.steps.Step.TheVariants.{Order, Take, Clear}
 
--- nodes are numbered from 1 to 64
+-- nodes are numbered from 1
 abbrev pub IsNode : ℕ → Type 0
-IsNode u = (1 ≤ u) × (u ≤ 64)
+IsNode u = (1 ≤ u) × (u ≤ MAX_NODES)
 
 -- the nodes, the group and the epoch that a command names
 abbrev pub CommandInRange : Command → Type 0
-CommandInRange (Add u g) = IsNode u × (1 ≤ g) × (g ≤ 16)
+CommandInRange (Add u g) = IsNode u × (1 ≤ g) × (g ≤ MAX_GROUPS)
 CommandInRange (Remove u) = IsNode u
 CommandInRange (Join a b) = IsNode a × IsNode b
 CommandInRange (Drop a b) = IsNode a × IsNode b
@@ -20,6 +21,6 @@ CommandInRange (Confirm u e) = IsNode u × (e < 2 ^ 64)
 
 -- an order's client and command; of a packet nothing is asked
 abbrev pub StepInRange : Step → Type 0
-StepInRange (Order c n x) = (1 ≤ c) × (c ≤ 16) × CommandInRange x
+StepInRange (Order c n x) = (1 ≤ c) × (c ≤ MAX_CLIENTS) × CommandInRange x
 StepInRange (Take p) = Unit {0}
 StepInRange (Clear p) = Unit {0}

@@ -2,7 +2,7 @@
 use Rattle.std.proofs.Common.{refl}
 use Rattle.coord_types.specs.Table as table
 use Rattle.coord_types.specs.NodeSet as set
-use Rattle.coord_world.specs.laws.Runs.{StoredRun, TwoInitiators, TwoInitiatorsWithDistances, Distances, DropInAbort, DropInConverge}
+use Rattle.coord_world.specs.laws.WorkedSteps.{StoredRun, TwoInitiators, TwoInitiatorsWithDistances, Distances, DropInAbort, DropInConverge}
 
 -- two nodes and one reset
 pub stored_computes : StoredRun

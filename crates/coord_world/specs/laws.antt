@@ -4,7 +4,7 @@ pub mod Waves
 pub mod Trails
 pub mod Release
 pub mod KeptReplies
-pub mod Runs
+pub mod WorkedSteps
 pub mod ReleasedRun
 pub mod Cycles
 pub mod Raised

@@ -2,7 +2,7 @@
 //! say which steps are taken and what each gives out.
 
 ghost use Rattle.coord_world.specs.laws.ReleasedRun.{ReleasedRun};
-ghost use Rattle.coord_world.specs.laws.Runs.{Distances, DropInAbort, DropInConverge, StoredRun, StoredWave, TwoInitiators, TwoInitiatorsWithDistances};
+ghost use Rattle.coord_world.specs.laws.WorkedSteps.{Distances, DropInAbort, DropInConverge, StoredRun, StoredWave, TwoInitiators, TwoInitiatorsWithDistances};
 
 /// Two nodes and one reset.
 pub fn stored_run()

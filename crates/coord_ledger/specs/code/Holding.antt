@@ -2,6 +2,7 @@
 use Rattle.std.specs.Prelude.{◌≡◌, ℕ, ◌+◌, ◌≤◌, List, map, length, Option, Some, None, IfSome, IfNone}
 use Rattle.std.specs.List.{AllByRecursion}
 use Rattle.coord_batch.specs.Batches.{IsNumbered}
+use Rattle.coord_types.specs.declared.limits.TheConstants.{MAX_BATCH_STEPS}
 use Rattle.coord_types.specs.declared.steps.Kind.{Kind}
 use Rattle.coord_types.specs.declared.steps.Step.{Step}
 use Rattle.coord_store.specs.Kept.{Kept}
@@ -11,7 +12,6 @@ use Rattle.coord_world.specs.protocol.NumberedWorld.{World}
 use Rattle.coord_world.specs.protocol.Outputs.{outs}
 use Rattle.coord_ledger.specs.declared.mark.Mark.{Mark}
 use Rattle.coord_ledger.specs.declared.mark.Mark.TheVariants.{New, Good, Torn}
-use Rattle.coord_ledger.specs.machine.Answers.{most_in_flight}
 use Rattle.coord_ledger.specs.machine.Consistent.{IsConsistentLog}
 use Rattle.coord_ledger.specs.machine.Log.{Log, front_world, settled_world, world_after}
 
@@ -43,7 +43,7 @@ pub record IsHome {D : Type 0} (log : Log) (doubt : Option ℕ) (kept : Kept D) 
 -- while it is away, so many of the next steps are out, and the ledger goes on
 pub record IsAway (log : Log) (out : ℕ) (doubt : Option ℕ) : Type 0 where
   pub some : 1 ≤ out
-  pub most : out ≤ most_in_flight
+  pub most : out ≤ MAX_BATCH_STEPS
   pub within : log.settled + out ≤ length log.trail
   pub going : doubt ≡ None
 
@@ -72,7 +72,7 @@ carried_torn Torn w steps = Some (fold w steps)
 
 pub record IsFlight {D : Type 0} (steps : List Step) (world : World) (mark : Mark) (kept : Kept D) : Type 0 where
   pub some : 1 ≤ length steps
-  pub most : length steps ≤ most_in_flight
+  pub most : length steps ≤ MAX_BATCH_STEPS
   pub numbered : AllByRecursion IsNumbered steps
   pub fresh : AllFresh world world steps
   pub world_is : kept.world ≡ carried_world mark world steps

@@ -1,6 +1,7 @@
 -- What the calls of a ledger make of it.
 use Rattle.std.specs.Prelude.{◌≡◌, ℕ, ◌+◌, Bool, List, [], take, is_some, Option, Some, None, Result, Ok, Err}
 use Rattle.coord_disk.specs.Model.Present.{Present, IsImage}
+use Rattle.coord_types.specs.declared.limits.TheConstants.{MAX_BATCH_STEPS}
 use Rattle.coord_types.specs.declared.refusals.Refusal.{Refusal}
 use Rattle.coord_types.specs.declared.refusals.Refusal.TheVariants.{OutOfMemory, Stranger}
 use Rattle.coord_types.specs.declared.steps.Kind.{Kind}
@@ -21,7 +22,7 @@ use Rattle.coord_ledger.specs.declared.release.Release.{Release}
 use Rattle.coord_ledger.specs.ledger.Follows.{IsOut}
 use Rattle.coord_ledger.specs.ledger.State.{Claim, FlightState, LedgerState}
 use Rattle.coord_ledger.specs.machine.After.{releases_of}
-use Rattle.coord_ledger.specs.machine.Answers.{most_in_flight, stays_home}
+use Rattle.coord_ledger.specs.machine.Answers.{stays_home}
 use Rattle.coord_ledger.specs.machine.Log.{Log, front_world, pending, settled_count, settled_world, with_settled, with_step, world_after}
 use Rattle.coord_ledger.specs.machine.Submits.{verdict}
 
@@ -30,8 +31,8 @@ abbrev pub claimed : Step → Reply → Claim
 claimed what reply = record { step = reply.step; what = what; kind = reply.kind }
 
 -- what it says to a step, memory aside
-abbrev pub said : {D : Type 0} → LedgerState D → Step → Result Verdict Refusal
-said l s = verdict (is_some l.doubt) l.log s
+abbrev pub ledger_verdict : {D : Type 0} → LedgerState D → Step → Result Verdict Refusal
+ledger_verdict l s = verdict (is_some l.doubt) l.log s
 
 -- with one more step accepted
 abbrev pub with_accepted : {D : Type 0} → LedgerState D → Step → LedgerState D
@@ -50,9 +51,9 @@ RefusesStep refusal (Err why) = refusal ≡ why
 
 -- a step that is handed in: a fresh one is accepted, a repeat is no step
 abbrev pub HandedTo : {D : Type 0} → LedgerState D → Step → Result Handed Refusal → LedgerState D → Type 0
-HandedTo l s (Ok (handed.Accepted claim)) new = (kind : Kind) × ((said l s ≡ Ok (Fresh kind)) × ((claim ≡ claimed s (reply (front_world l.log) s)) × (new ≡ with_accepted l s)))
-HandedTo l s (Ok (handed.Repeated claim)) new = (kept : Reply) × ((said l s ≡ Ok (Repeat kept)) × ((claim ≡ claimed s kept) × (new ≡ l)))
-HandedTo l s (Err refusal) new = RefusesStep refusal (said l s) × (new ≡ l)
+HandedTo l s (Ok (handed.Accepted claim)) new = (kind : Kind) × ((ledger_verdict l s ≡ Ok (Fresh kind)) × ((claim ≡ claimed s (reply (front_world l.log) s)) × (new ≡ with_accepted l s)))
+HandedTo l s (Ok (handed.Repeated claim)) new = (kept : Reply) × ((ledger_verdict l s ≡ Ok (Repeat kept)) × ((claim ≡ claimed s kept) × (new ≡ l)))
+HandedTo l s (Err refusal) new = RefusesStep refusal (ledger_verdict l s) × (new ≡ l)
 
 -- no flight goes out of it
 abbrev pub keeps_store : {D : Type 0} → LedgerState D → Bool
@@ -60,7 +61,7 @@ keeps_store l = stays_home (is_some l.doubt) (is_some l.out) l.log
 
 -- the flight that goes out next, with this disk
 abbrev pub next_flight : {D : Type 0} → Log → D → FlightState D
-next_flight log disk = record { first = settled_count log + 1; steps = take most_in_flight (pending log); world = settled_world log; mark = New; disk = disk }
+next_flight log disk = record { first = settled_count log + 1; steps = take MAX_BATCH_STEPS (pending log); world = settled_world log; mark = New; disk = disk }
 
 -- its store is out with so many steps
 abbrev pub with_out : {D : Type 0} → LedgerState D → ℕ → LedgerState D

@@ -1,5 +1,6 @@
 -- What each event may be answered. Where there are several answers, memory, the device or the crash chooses, and the answer tells what was chosen.
 use Rattle.std.specs.Prelude.{◌≡◌, ◌⊎◌, ℕ, zero, suc, ◌+◌, ◌==◌, ◌||◌, nat_le, min, Bool, List, [], ◌∷◌, map, length, is_some, Option, Some, None, Result, Ok, Err, if◌then◌else◌}
+use Rattle.coord_types.specs.declared.limits.TheConstants.{MAX_BATCH_STEPS}
 use Rattle.coord_types.specs.declared.refusals.Refusal.{Refusal}
 use Rattle.coord_types.specs.declared.refusals.Refusal.TheVariants.{Stopped, OutOfMemory}
 use Rattle.coord_types.specs.declared.steps.Reply.{Reply}
@@ -32,13 +33,9 @@ to_submit number (Ok (Fresh kind)) = Accepted number ∷ Refused OutOfMemory ∷
 to_submit number (Ok (Repeat reply)) = Repeated reply.step ∷ []
 to_submit number (Err refusal) = Refused refusal ∷ []
 
--- a flight takes so many steps at most
-abbrev pub most_in_flight : ℕ
-most_in_flight = 256
-
 -- so many steps go out
 abbrev pub next_size : Log → ℕ
-next_size log = min most_in_flight (length (pending log))
+next_size log = min MAX_BATCH_STEPS (length (pending log))
 
 -- no flight goes out: it has stopped, one is out, or nothing is pending
 abbrev pub stays_home : Bool → Bool → Log → Bool

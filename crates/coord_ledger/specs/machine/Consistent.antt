@@ -1,6 +1,7 @@
 -- What holds of the event machine whenever its events have been answered as they may be.
 use Rattle.std.specs.Prelude.{ℕ, ◌+◌, ◌≤◌, List, length, Option, Some, None}
 use Rattle.std.specs.List.{AllByRecursion}
+use Rattle.coord_types.specs.declared.limits.TheConstants.{MAX_BATCH_STEPS, MAX_PENDING}
 use Rattle.coord_types.specs.declared.steps.Reply.{Reply}
 use Rattle.coord_types.specs.declared.steps.Step.{Step}
 use Rattle.coord_store.specs.Recovered.{AllFresh}
@@ -12,10 +13,8 @@ use Rattle.coord_ledger.specs.declared.events.Event.{Event}
 use Rattle.coord_ledger.specs.declared.events.Event.TheVariants.{Submit}
 use Rattle.coord_ledger.specs.declared.release.Release.{Release}
 use Rattle.coord_ledger.specs.machine.After.{releases_of}
-use Rattle.coord_ledger.specs.machine.Answers.{most_in_flight}
 use Rattle.coord_ledger.specs.machine.Log.{Log, pending, settled_count, settled_steps, settled_world}
 use Rattle.coord_ledger.specs.machine.Machine.{FlightOut, Machine}
-use Rattle.coord_ledger.specs.machine.Submits.{most_pending}
 use Rattle.coord_ledger.specs.promises.Headline.{IsReplyOf, IsTrulyAgain}
 use Rattle.coord_ledger.specs.promises.Parts.{IsPartOf, released_first}
 
@@ -23,13 +22,13 @@ use Rattle.coord_ledger.specs.promises.Parts.{IsPartOf, released_first}
 pub record IsConsistentLog (log : Log) : Type 0 where
   pub trail : IsTrail log.base log.trail
   pub within : log.settled ≤ length log.trail
-  pub few : length (pending log) ≤ most_pending
+  pub few : length (pending log) ≤ MAX_PENDING
   pub fresh : AllFresh (settled_world log) (settled_world log) (pending log)
 
 -- a flight has some of the pending steps, and not too many
 abbrev pub FlightFits : Log → Option FlightOut → Type 0
 FlightFits log None = Unit {0}
-FlightFits log (Some f) = (1 ≤ f.size) × (f.size ≤ most_in_flight) × (log.settled + f.size ≤ length log.trail)
+FlightFits log (Some f) = (1 ≤ f.size) × (f.size ≤ MAX_BATCH_STEPS) × (log.settled + f.size ≤ length log.trail)
 
 -- the steps in doubt are pending, and no flight is out then
 abbrev pub DoubtFits : Log → Option FlightOut → Option ℕ → Type 0

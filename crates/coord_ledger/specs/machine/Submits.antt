@@ -1,5 +1,6 @@
 -- What a ledger says to a step: first whether it has stopped, then whether the step is a repeat, then whether too many steps are pending, and then as the front and the settled world accept it.
 use Rattle.std.specs.Prelude.{ℕ, nat_le, Bool, length, Result, Ok, Err, if◌then◌else◌}
+use Rattle.coord_types.specs.declared.limits.TheConstants.{MAX_PENDING}
 use Rattle.coord_types.specs.declared.refusals.Refusal.{Refusal}
 use Rattle.coord_types.specs.declared.refusals.Refusal.TheVariants.{Stopped, PendingFull}
 use Rattle.coord_types.specs.declared.steps.Step.{Step}
@@ -8,13 +9,9 @@ use Rattle.coord_world.specs.declared.verdicts.Verdict.TheVariants.{Fresh, Repea
 use Rattle.coord_world.specs.protocol.Acceptance.{accepts}
 use Rattle.coord_ledger.specs.machine.Log.{Log, front_world, pending, settled_world}
 
--- so many steps may be accepted and not settled
-abbrev pub most_pending : ℕ
-most_pending = 1024
-
 -- no more steps may be pending
 abbrev pub is_full : Log → Bool
-is_full log = nat_le most_pending (length (pending log))
+is_full log = nat_le MAX_PENDING (length (pending log))
 
 -- a full log refuses all but a repeat, which isn't a step
 abbrev pub unless_full : Bool → Result Verdict Refusal → Result Verdict Refusal

@@ -48,12 +48,8 @@ impl<D: CrashDisk> Driver<D> {
         ensures cause { IfErr result (λ refused. IsEventFault (model_driven D.keeps_model self) Crash refused.0) }
     {
         self.survives();
-        match reopen(alloc, self.into_disk()) {
-            Ok(ledger) => {
-                let count = ledger.settled().count();
-                Ok((count, Driver::over(ledger)))
-            }
-            Err(refused) => Err(refused),
-        }
+        let ledger = reopen(alloc, self.into_disk())?;
+        let count = ledger.settled().count();
+        Ok((count, Driver::over(ledger)))
     }
 }

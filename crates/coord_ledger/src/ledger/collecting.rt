@@ -5,7 +5,7 @@ ghost use Rattle.coord_ledger.specs.ledger.State.{IsCollectable, IsKeptBy, reply
 
 use super::Ledger;
 use crate::Ticket;
-use crate::settling::is_same;
+use crate::settling::is_same_step;
 use coord_disk::Disk;
 use coord_types::{Kind, Reply, Step};
 use coord_world::World;
@@ -31,7 +31,7 @@ fn stands_at(trail: &[Step], kinds: &[Kind], place: usize, ticket: &Ticket) -> b
     requires in_kinds { place < length kinds.now }
     ensures { IsTrue result ↔ ((slice_get trail.now place ≡ Some ticket.now.what) × (slice_get kinds.now place ≡ Some ticket.now.kind)) }
 {
-    if !is_same(&trail[place], &ticket.what) {
+    if !is_same_step(&trail[place], &ticket.what) {
         return false;
     }
     kinds[place] == ticket.kind

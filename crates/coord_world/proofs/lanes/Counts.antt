@@ -7,7 +7,7 @@ use Rattle.coord_types.specs.declared.steps.Command.TheVariants.{Drop, Join}
 use Rattle.coord_link.specs.LaneMachine.{Lane, Counts, took, cleared, sent, new_lane}
 use Rattle.coord_node.specs.IdealRules.{added, is_link}
 use Rattle.coord_node.specs.Rules.{Transition}
-use Rattle.coord_world.specs.protocol.Next.{applied, on_lane, ordered, is_lane}
+use Rattle.coord_world.specs.protocol.Next.{with_transition, on_lane, with_command, is_lane}
 use Rattle.coord_world.specs.protocol.NumberedWorld.{World}
 use Rattle.coord_tables.proofs.Cases.{by_test}
 use Rattle.coord_world.proofs.lists.GetAfter.{lane_done, lane_on, lane_left, lane_made, each_changed, each_left, each_made}
@@ -34,17 +34,17 @@ was_taken l counts more = elim (counts_cases l counts) [
 
 module _ (w : World) (counts : AllCount w) where
   -- after a transition
-  pub counts_done : (u : ℕ) (d : Transition) → AllCount (applied w u d)
+  pub counts_done : (u : ℕ) (d : Transition) → AllCount (with_transition w u d)
   counts_done u d x y m e = each_changed (get w.lanes (x, y)) (λ l. cond (eqb x u) (sent (added d y) l) l) Counts
       (λ l is. by_test (eqb x u) (λ b. Counts (cond b (sent (added d y) l) l)) (λ _. counts-sent l (added d y) (counts x y l is)) (λ _. counts x y l is))
       m (sym (lane_done w u d x y) ∙ e)
 
   -- after a link is cut
-  pub counts_left : (a b : ℕ) → AllCount (ordered w (Drop a b))
+  pub counts_left : (a b : ℕ) → AllCount (with_command w (Drop a b))
   counts_left a b x y m e = counts x y m (each_left (get w.lanes (x, y)) (is_link a b x y) m (sym (lane_left w a b x y) ∙ e))
 
   -- after a link is made
-  pub counts_made : (a b : ℕ) → AllCount (ordered w (Join a b))
+  pub counts_made : (a b : ℕ) → AllCount (with_command w (Join a b))
   counts_made a b x y m e = each_made (get w.lanes (x, y)) (is_link a b x y) (new_lane (w.count + 1)) Counts (λ _. counts_from (new_lane (w.count + 1)) (inl refl)) (λ _ l is. counts x y l is)
       m (sym (lane_made w a b x y) ∙ e)
 

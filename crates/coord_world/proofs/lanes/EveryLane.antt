@@ -9,7 +9,7 @@ use Rattle.coord_link.specs.LaneMachine.{Lane, cleared, new_lane, sent, took}
 use Rattle.coord_node.specs.IdealRules.{added, is_link}
 use Rattle.coord_node.specs.Rules.{Transition}
 use Rattle.coord_node.specs.Steps.{transitions}
-use Rattle.coord_world.specs.protocol.Next.{all_applied, applied, is_lane, next, on_lane, prepared}
+use Rattle.coord_world.specs.protocol.Next.{with_transitions, with_transition, is_lane, next, on_lane, prepared}
 use Rattle.coord_world.specs.protocol.NumberedWorld.{World, state}
 use Rattle.coord_tables.proofs.Cases.{by_test}
 use Rattle.coord_world.proofs.lists.GetAfter.{lane_done, lane_on, lane_left, lane_made, each_changed, each_left, each_made}
@@ -45,9 +45,9 @@ all_any (d ∷ ds) = (λ y. tt, all_any ds)
 
 module _ (M : List Msg → Type 0) (P Q : ℕ → ℕ → Lane → Type 0) (carries : LaneCarries M P Q) where
   -- messages join lanes
-  all_done : (w : World) (ds : List (ℕ × Transition)) → AllSend M ds → AllLanes Q w → AllLanes Q (all_applied w ds)
+  all_done : (w : World) (ds : List (ℕ × Transition)) → AllSend M ds → AllLanes Q w → AllLanes Q (with_transitions w ds)
   all_done w [] sends all = all
-  all_done w (d ∷ ds) sends all = all_done (applied w d.0 d.1) ds sends.1 (λ x y m e.
+  all_done w (d ∷ ds) sends all = all_done (with_transition w d.0 d.1) ds sends.1 (λ x y m e.
       each_changed (get w.lanes (x, y)) (λ l. cond (eqb x d.0) (sent (added d.1 y) l) l) (Q x y)
       (λ l is. by_test (eqb x d.0) (λ b. Q x y (cond b (sent (added d.1 y) l) l)) (λ _. carries.send x y l (added d.1 y) (sends.0 y) (all x y l is)) (λ _. all x y l is))
       m (sym (lane_done w d.0 d.1 x y) ∙ e))

@@ -7,7 +7,7 @@ use Rattle.coord_types.specs.Table.{get, has, len, remove}
 use Rattle.coord_types.specs.declared.steps.Command.TheVariants.{Drop}
 use Rattle.coord_types.proofs.Tables.{get-remove}
 use Rattle.coord_node.specs.IdealRules.{is_link}
-use Rattle.coord_world.specs.protocol.Next.{ordered}
+use Rattle.coord_world.specs.protocol.Next.{with_command}
 use Rattle.coord_world.specs.protocol.NumberedWorld.{World, is_linked, pair_cmp}
 use Rattle.coord_world.proofs.lists.GetAfter.{lane_left}
 use Rattle.coord_world.proofs.lists.TableLen.{len-remove, some_entry}
@@ -18,7 +18,7 @@ pub record Paired (w : World) : Type 0 where
   pub apart : (u : ℕ) → is_linked w u u ≡ false
 
 -- which links are left when one is cut
-linked_left : (w : World) (a b x y : ℕ) → is_linked (ordered w (Drop a b)) x y ≡ cond (is_link a b x y) false (is_linked w x y)
+linked_left : (w : World) (a b x y : ℕ) → is_linked (with_command w (Drop a b)) x y ≡ cond (is_link a b x y) false (is_linked w x y)
 linked_left w a b x y = ap is_some (lane_left w a b x y) ∙ outside (is_link a b x y)
   where
     outside : (t : Bool) → is_some (cond t None (get w.lanes (x, y))) ≡ cond t false (is_linked w x y)
@@ -26,20 +26,20 @@ linked_left w a b x y = ap is_some (lane_left w a b x y) ∙ outside (is_link a 
     outside false = refl
 
 -- the lanes are still paired
-paired_left : (w : World) (a b : ℕ) → Paired w → Paired (ordered w (Drop a b))
+paired_left : (w : World) (a b : ℕ) → Paired w → Paired (with_command w (Drop a b))
 paired_left w a b paired = record {
   mirrored = λ u v. linked_left w a b u v ∙ grind (arith, nat_tests, paired.mirrored u v) ∙ sym (linked_left w a b v u);
   apart = λ u. linked_left w a b u u ∙ grind (arith, nat_tests, paired.apart u);
 }
 
 -- a link that is cut had two lanes
-two_fewer : (w : World) (a b : ℕ) → Paired w → is_linked w a b ≡ true → len (ordered w (Drop a b)).lanes + 2 ≡ len w.lanes
+two_fewer : (w : World) (a b : ℕ) → Paired w → is_linked w a b ≡ true → len (with_command w (Drop a b)).lanes + 2 ≡ len w.lanes
 two_fewer w a b paired there =
     let far : is_linked w b a ≡ true = sym (paired.mirrored a b) ∙ there in
     let apart : a ≢ b = λ same. grind (arith, nat_tests, paired.apart a, there, ap (λ z. is_linked w a z) same) in
     let still : has (remove w.lanes (a, b)) (b, a) ≡ true = ap is_some (get-remove w.lanes (a, b) (b, a)) ∙ stays (eq_by_cmp pair_cmp (b, a) (a, b)) (other apart) ∙ far in
     let one : 1 + len (remove w.lanes (a, b)) ≡ len w.lanes = ap (λ t. cond t 1 0 + len (remove w.lanes (a, b))) (sym there) ∙ len-remove w.lanes (a, b) in
-    let two : 1 + len (ordered w (Drop a b)).lanes ≡ len (remove w.lanes (a, b)) = ap (λ t. cond t 1 0 + len (ordered w (Drop a b)).lanes) (sym still) ∙ len-remove (remove w.lanes (a, b)) (b, a) in
+    let two : 1 + len (with_command w (Drop a b)).lanes ≡ len (remove w.lanes (a, b)) = ap (λ t. cond t 1 0 + len (with_command w (Drop a b)).lanes) (sym still) ∙ len-remove (remove w.lanes (a, b)) (b, a) in
     omega (arith, one, two)
   where
     other : a ≢ b → eq_by_cmp pair_cmp (b, a) (a, b) ≡ false
@@ -56,7 +56,7 @@ even_within (suc bound) w paired few = elim (some_entry w.lanes) [
   | inl none ↦ (0, omega (arith, none))
   | inr some ↦
       let two = two_fewer w some.0.0 some.0.1 paired some.1 in
-      let rest = even_within bound (ordered w (Drop some.0.0 some.0.1)) (paired_left w some.0.0 some.0.1 paired) (omega (arith, two)) in
+      let rest = even_within bound (with_command w (Drop some.0.0 some.0.1)) (paired_left w some.0.0 some.0.1 paired) (omega (arith, two)) in
       (rest.0 + 1, omega (arith, two, rest.1))
 ]
 

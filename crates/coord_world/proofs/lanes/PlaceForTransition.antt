@@ -15,7 +15,7 @@ use Rattle.coord_node.specs.Rules.{Transition, transition, lost, request}
 use Rattle.coord_node.specs.Steps.{transitions}
 use Rattle.coord_world.specs.protocol.Acceptance.{IsFresh}
 use Rattle.coord_world.specs.protocol.Legal.{Legal}
-use Rattle.coord_world.specs.protocol.Next.{all_applied, applied, next, on_lane, ordered, prepared}
+use Rattle.coord_world.specs.protocol.Next.{with_transitions, with_transition, next, on_lane, with_command, prepared}
 use Rattle.coord_world.specs.protocol.NumberedWorld.{World, state}
 use Rattle.coord_world.specs.protocol.Ranges.{InRange}
 use Rattle.coord_tables.proofs.Cases.{by_test}
@@ -34,7 +34,7 @@ one_added : (d : Transition) (v : ℕ) → contains d.to v ≡ true → length (
 one_added d v to = grind (arith, to)
 
 -- a transition puts one message on each lane that it sends to
-one_more : (p : World) (u : ℕ) (d : Transition) (v : ℕ) (l : Lane) → get p.lanes (u, v) ≡ Some l → contains d.to v ≡ true → HasQueue (get (applied p u d).lanes (u, v)) (length l.queue + 1)
+one_more : (p : World) (u : ℕ) (d : Transition) (v : ℕ) (l : Lane) → get p.lanes (u, v) ≡ Some l → contains d.to v ≡ true → HasQueue (get (with_transition p u d).lanes (u, v)) (length l.queue + 1)
 one_more p u d v l there to = record {
   lane = sent (added d v) l;
   there = lane_done p u d u v ∙ ap (option_map (λ k. cond (eqb u u) (sent (added d v) k) k)) there ∙ ap Some self;
@@ -45,21 +45,21 @@ one_more p u d v l there to = record {
     self = grind (arith, nat_tests)
 
 -- transitions leave no lane shorter
-still : (p : World) (ds : List (ℕ × Transition)) (u v n : ℕ) → HasQueue (get p.lanes (u, v)) n → HasQueue (get (all_applied p ds).lanes (u, v)) n
+still : (p : World) (ds : List (ℕ × Transition)) (u v n : ℕ) → HasQueue (get p.lanes (u, v)) n → HasQueue (get (with_transitions p ds).lanes (u, v)) n
 still p [] u v n has = has
-still p (e ∷ ds) u v n has = still (applied p e.0 e.1) ds u v n (record {
+still p (e ∷ ds) u v n has = still (with_transition p e.0 e.1) ds u v n (record {
   lane = cond (eqb u e.0) (sent (added e.1 v) has.lane) has.lane;
   there = lane_done p e.0 e.1 u v ∙ ap (option_map (λ k. cond (eqb u e.0) (sent (added e.1 v) k) k)) has.there;
   long = by_test (eqb u e.0) (λ b. n ≤ length (cond b (sent (added e.1 v) has.lane) has.lane).queue) (λ _. omega (arith, has.long, length-append has.lane.queue (added e.1 v))) (λ _. has.long);
 })
 
 -- transitions are done in two goes
-all_do-append : (w : World) (ds es : List (ℕ × Transition)) → all_applied w (ds ++ es) ≡ all_applied (all_applied w ds) es
+all_do-append : (w : World) (ds es : List (ℕ × Transition)) → with_transitions w (ds ++ es) ≡ with_transitions (with_transitions w ds) es
 all_do-append w [] es = refl
-all_do-append w (d ∷ ds) es = all_do-append (applied w d.0 d.1) ds es
+all_do-append w (d ∷ ds) es = all_do-append (with_transition w d.0 d.1) ds es
 
 -- a step's transitions are what it does to the lanes that are prepared
-lanes_done : (w : World) (s : Step) → (next w s).lanes ≡ (all_applied (prepared w s) (transitions (state w) s)).lanes
+lanes_done : (w : World) (s : Step) → (next w s).lanes ≡ (with_transitions (prepared w s) (transitions (state w) s)).lanes
 lanes_done w (Order c n x) = refl
 lanes_done w (Take p) = refl
 lanes_done w (Clear p) = refl
@@ -67,12 +67,12 @@ lanes_done w (Clear p) = refl
 module _ (w settled : World) (range : InRange w) (legal : Legal w) where
   -- whatever transitions were done before it, and are done after it
   pub room : (s : Step) (before after : List (ℕ × Transition)) (u : ℕ) (d : Transition) → IsFresh w settled s → transitions (state w) s ≡ before ++ (u, d) ∷ after → (v : ℕ) (l : Lane) →
-      get (all_applied (prepared w s) before).lanes (u, v) ≡ Some l → contains d.to v ≡ true → length l.queue < 4
+      get (with_transitions (prepared w s) before).lanes (u, v) ≡ Some l → contains d.to v ≡ true → length l.queue < 4
   room s before after u d fresh are v l there to =
-      let p = all_applied (prepared w s) before in
-      let more = still (applied p u d) after u v (length l.queue + 1) (one_more p u d v l there to) in
-      let end : (next w s).lanes ≡ (all_applied (applied p u d) after).lanes =
-      lanes_done w s ∙ ap (λ ds. (all_applied (prepared w s) ds).lanes) are ∙ ap (λ (z : World). z.lanes) (all_do-append (prepared w s) before ((u, d) ∷ after)) in
+      let p = with_transitions (prepared w s) before in
+      let more = still (with_transition p u d) after u v (length l.queue + 1) (one_more p u d v l there to) in
+      let end : (next w s).lanes ≡ (with_transitions (with_transition p u d) after).lanes =
+      lanes_done w s ∙ ap (λ ds. (with_transitions (prepared w s) ds).lanes) are ∙ ap (λ (z : World). z.lanes) (all_do-append (prepared w s) before ((u, d) ∷ after)) in
       let short = (lane_short (next w s) u v more.lane (sound_after w settled s range legal fresh) (ap (λ t. get t (u, v)) end ∙ more.there)).queued in
       omega (arith, more.long, short)
 
@@ -88,9 +88,9 @@ module _ (w settled : World) (range : InRange w) (legal : Legal w) where
 
   -- the two transitions of a Drop
   pub room_drop_first : (c n a b : ℕ) → IsFresh w settled (Order c n (Drop a b)) → (v : ℕ) (l : Lane) →
-      get (ordered w (Drop a b)).lanes (a, v) ≡ Some l → contains (lost (state w a) b).to v ≡ true → length l.queue < 4
+      get (with_command w (Drop a b)).lanes (a, v) ≡ Some l → contains (lost (state w a) b).to v ≡ true → length l.queue < 4
   room_drop_first c n a b fresh = room (Order c n (Drop a b)) [] ((b, lost (state w b) a) ∷ []) a (lost (state w a) b) fresh refl
 
   pub room_drop_second : (c n a b : ℕ) → IsFresh w settled (Order c n (Drop a b)) → (v : ℕ) (l : Lane) →
-      get (applied (ordered w (Drop a b)) a (lost (state w a) b)).lanes (b, v) ≡ Some l → contains (lost (state w b) a).to v ≡ true → length l.queue < 4
+      get (with_transition (with_command w (Drop a b)) a (lost (state w a) b)).lanes (b, v) ≡ Some l → contains (lost (state w b) a).to v ≡ true → length l.queue < 4
   room_drop_second c n a b fresh = room (Order c n (Drop a b)) ((a, lost (state w a) b) ∷ []) [] b (lost (state w b) a) fresh refl

@@ -11,11 +11,11 @@ use Rattle.coord_node.specs.Rules.{Transition}
 use Rattle.coord_types.specs.declared.steps.Command.TheVariants.{Join, Drop}
 use Rattle.coord_tables.proofs.Found.{same_pair}
 use Rattle.coord_world.specs.protocol.NumberedWorld.{World, pair_cmp}
-use Rattle.coord_world.specs.protocol.Next.{on_lane, applied, ordered, is_lane}
+use Rattle.coord_world.specs.protocol.Next.{on_lane, with_transition, with_command, is_lane}
 
 module _ (w : World) where
   -- a lane after a transition at u
-  pub lane_done : (u : ℕ) (d : Transition) (x y : ℕ) → get (applied w u d).lanes (x, y) ≡ option_map (λ l. cond (eqb x u) (sent (added d y) l) l) (get w.lanes (x, y))
+  pub lane_done : (u : ℕ) (d : Transition) (x y : ℕ) → get (with_transition w u d).lanes (x, y) ≡ option_map (λ l. cond (eqb x u) (sent (added d y) l) l) (get w.lanes (x, y))
   lane_done u d x y = get-change pair_cmp (λ k l. cond (eqb k.0 u) (sent (added d k.1) l) l) same_pair w.lanes (x, y)
 
   -- a lane after a change of the one from u to v
@@ -23,11 +23,11 @@ module _ (w : World) where
   lane_on u v f x y = get-change pair_cmp (λ k l. cond (is_lane k u v) (f l) l) same_pair w.lanes (x, y)
 
   -- a lane after a link is cut, and after one is made
-  pub lane_left : (a b x y : ℕ) → get (ordered w (Drop a b)).lanes (x, y) ≡ cond (is_link a b x y) None (get w.lanes (x, y))
+  pub lane_left : (a b x y : ℕ) → get (with_command w (Drop a b)).lanes (x, y) ≡ cond (is_link a b x y) None (get w.lanes (x, y))
   lane_left a b x y = get-remove (table.remove w.lanes (a, b)) (b, a) (x, y) ∙ ap (cond (eq_by_cmp pair_cmp (x, y) (b, a)) None) (get-remove w.lanes (a, b) (x, y)) ∙ grind (arith, nat_tests)
 
   -- and after one is made
-  pub lane_made : (a b x y : ℕ) → get (ordered w (Join a b)).lanes (x, y) ≡ cond (is_link a b x y) (Some (new_lane (w.count + 1))) (get w.lanes (x, y))
+  pub lane_made : (a b x y : ℕ) → get (with_command w (Join a b)).lanes (x, y) ≡ cond (is_link a b x y) (Some (new_lane (w.count + 1))) (get w.lanes (x, y))
   lane_made a b x y = get-insert (table.insert w.lanes (a, b) (new_lane (w.count + 1))) (b, a) (new_lane (w.count + 1)) (x, y)
       ∙ ap (cond (eq_by_cmp pair_cmp (x, y) (b, a)) (Some (new_lane (w.count + 1)))) (get-insert w.lanes (a, b) (new_lane (w.count + 1)) (x, y)) ∙ grind (arith, nat_tests)
 

@@ -7,7 +7,7 @@ use Rattle.coord_types.specs.declared.steps.Step.{Step}
 use Rattle.coord_types.specs.declared.steps.Step.TheVariants.{Order}
 use Rattle.coord_link.specs.LaneMachine.{Lane, new_lane}
 use Rattle.coord_node.specs.IdealRules.{is_link}
-use Rattle.coord_world.specs.protocol.Next.{next, ordered}
+use Rattle.coord_world.specs.protocol.Next.{next, with_command}
 use Rattle.coord_node.specs.Steps.{transitions}
 use Rattle.coord_world.specs.protocol.NumberedWorld.{World, state}
 use Rattle.coord_world.specs.protocol.Ranges.{InRange, LaneInRange}
@@ -58,7 +58,7 @@ of_stems w s range makes u v l k out back =
     sym from.1.1 ∙ range.one_incarnation u v from.0 to.0 from.1.0 to.1.0 ∙ to.1.1
 
 -- a link that is made has one incarnation
-inc_made : (w : World) (a b : ℕ) → InRange w → OneInc (ordered w (Join a b))
+inc_made : (w : World) (a b : ℕ) → InRange w → OneInc (with_command w (Join a b))
 inc_made w a b range u v l k out back =
     let turned : is_link a b v u ≡ is_link a b u v = grind (arith, nat_tests) in
     either (is_link a b u v) (sym (lane_made w a b u v) ∙ out) (ap (λ t. cond t (Some (new_lane (w.count + 1))) (get w.lanes (v, u))) (sym turned) ∙ sym (lane_made w a b v u) ∙ back)

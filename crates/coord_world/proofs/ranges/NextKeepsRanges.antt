@@ -14,7 +14,7 @@ use Rattle.coord_node.specs.Rules.{Transition, is_parent}
 use Rattle.coord_node.specs.Steps.{transitions, transitions_ordered}
 use Rattle.coord_world.specs.protocol.Acceptance.{IsFresh}
 use Rattle.coord_world.specs.laws.Laws.{NextKeepsRanges}
-use Rattle.coord_world.specs.protocol.Next.{all_applied, applied, next, on_lane, ordered}
+use Rattle.coord_world.specs.protocol.Next.{with_transitions, with_transition, next, on_lane, with_command}
 use Rattle.coord_world.specs.protocol.NumberedWorld.{World, is_linked, state, state_or_none, view}
 use Rattle.coord_world.specs.protocol.Ranges.{CarryWithin, InRange, IsDistant, IsNode, NodeInRange, farthest}
 use Rattle.coord_world.proofs.acceptance.IsFresh.{fresh_count}
@@ -53,9 +53,9 @@ parent_is : (o : Option ℕ) (p : ℕ) → o ≡ Some p → is_parent o p ≡ tr
 parent_is o p is = grind (arith, nat_tests, is)
 
 -- transitions make and drop no lane
-len-all_do : (w : World) (ds : List (ℕ × Transition)) → len (all_applied w ds).lanes ≡ len w.lanes
+len-all_do : (w : World) (ds : List (ℕ × Transition)) → len (with_transitions w ds).lanes ≡ len w.lanes
 len-all_do w [] = refl
-len-all_do w (d ∷ ds) = len-all_do (applied w d.0 d.1) ds ∙ len-change _ w.lanes
+len-all_do w (d ∷ ds) = len-all_do (with_transition w d.0 d.1) ds ∙ len-change _ w.lanes
 
 -- a step makes two lanes at most, where there are an even number, below 256
 pub links_next : (w settled : World) (s : Step) → InRange w → IsFresh w settled s → len (next w s).lanes ≤ 256
@@ -69,8 +69,8 @@ links_next w settled (Order c n (Join a b)) range fresh =
     let two : len (insert (insert w.lanes (a, b) l) (b, a) l) ≤ len (insert w.lanes (a, b) l) + 1 = grind (arith, len-insert (insert w.lanes (a, b) l) (b, a) l) in
     omega (arith, even.1, room, one, two)
 links_next w settled (Order c n (Drop a b)) range fresh =
-    let fewer : len (ordered w (Drop a b)).lanes ≤ 256 = omega (arith, range.links, len-remove w.lanes (a, b), len-remove (remove w.lanes (a, b)) (b, a)) in
-    subst (λ k. k ≤ 256) (sym (len-all_do (ordered w (Drop a b)) (transitions_ordered (state w) (Drop a b)))) fewer
+    let fewer : len (with_command w (Drop a b)).lanes ≤ 256 = omega (arith, range.links, len-remove w.lanes (a, b), len-remove (remove w.lanes (a, b)) (b, a)) in
+    subst (λ k. k ≤ 256) (sym (len-all_do (with_command w (Drop a b)) (transitions_ordered (state w) (Drop a b)))) fewer
 links_next w settled (Order c n (Reset u)) range fresh = subst (λ k. k ≤ 256) (sym (len-all_do w (transitions_ordered (state w) (Reset u)))) range.links
 links_next w settled (Order c n (Confirm u e)) range fresh = range.links
 links_next w settled (Take p) range fresh = subst (λ k. k ≤ 256) (sym (len-all_do (on_lane w p.from p.to took) (transitions (state w) (Take p)) ∙ len-change _ w.lanes)) range.links

@@ -13,7 +13,7 @@ use Rattle.coord_link.specs.LaneMachine.{Lane, cleared, new_lane, sent, took}
 use Rattle.coord_node.specs.IdealRules.{added, is_link}
 use Rattle.coord_node.specs.Rules.{Transition}
 use Rattle.coord_node.specs.Steps.{transitions, transitions_ordered}
-use Rattle.coord_world.specs.protocol.Next.{all_applied, applied, is_lane, next, on_lane, ordered}
+use Rattle.coord_world.specs.protocol.Next.{with_transitions, with_transition, is_lane, next, on_lane, with_command}
 use Rattle.coord_world.specs.protocol.NumberedWorld.{World, state}
 use Rattle.coord_world.proofs.lists.GetAfter.{lane_done, lane_on, lane_left, lane_made}
 
@@ -48,10 +48,10 @@ one_more true ms ns (Some l) = ap Some (sent_twice ms ns l)
 one_more false ms ns (Some l) = refl
 
 -- transitions do nothing else to a lane
-pub deeds_send : (ds : List (ℕ × Transition)) (w : World) (x y : ℕ) → Sends (get w.lanes (x, y)) (get (all_applied w ds).lanes (x, y))
+pub deeds_send : (ds : List (ℕ × Transition)) (w : World) (x y : ℕ) → Sends (get w.lanes (x, y)) (get (with_transitions w ds).lanes (x, y))
 deeds_send [] w x y = sends_none (get w.lanes (x, y))
 deeds_send (d ∷ ds) w x y =
-    let later = deeds_send ds (applied w d.0 d.1) x y in (
+    let later = deeds_send ds (with_transition w d.0 d.1) x y in (
       cond (eqb x d.0) (added d.1 y) [] ++ later.0,
       later.1 ∙ ap (option_map (sent later.0)) (lane_done w d.0 d.1 x y) ∙ one_more (eqb x d.0) (added d.1 y) later.0 (get w.lanes (x, y)),
     )
@@ -79,9 +79,9 @@ same_ends x y u v h = (grind (arith, nat_tests), grind (arith, nat_tests))
 pub lane_step : (w : World) (s : Step) (x y : ℕ) → LaneStep w s x y (get (next w s).lanes (x, y))
 lane_step w (Order c n (Add u g)) x y = stays w (Order c n (Add u g)) x y (get w.lanes (x, y)) (get w.lanes (x, y)) refl (sends_none (get w.lanes (x, y)))
 lane_step w (Order c n (Remove u)) x y = stays w (Order c n (Remove u)) x y (get w.lanes (x, y)) (get w.lanes (x, y)) refl (sends_none (get w.lanes (x, y)))
-lane_step w (Order c n (Join a b)) x y = makes w (Order c n (Join a b)) x y (is_link a b x y) (get (ordered w (Join a b)).lanes (x, y)) (lane_made w a b x y)
+lane_step w (Order c n (Join a b)) x y = makes w (Order c n (Join a b)) x y (is_link a b x y) (get (with_command w (Join a b)).lanes (x, y)) (lane_made w a b x y)
 lane_step w (Order c n (Drop a b)) x y =
-    let sends = deeds_send (transitions_ordered (state w) (Drop a b)) (ordered w (Drop a b)) x y in
+    let sends = deeds_send (transitions_ordered (state w) (Drop a b)) (with_command w (Drop a b)) x y in
     unlinks w (Order c n (Drop a b)) x y (is_link a b x y) _ (sends.0, sends.1 ∙ ap (option_map (sent sends.0)) (lane_left w a b x y))
 lane_step w (Order c n (Reset u)) x y = stays w (Order c n (Reset u)) x y (get w.lanes (x, y)) _ refl (deeds_send (transitions_ordered (state w) (Reset u)) w x y)
 lane_step w (Order c n (Confirm u e)) x y = stays w (Order c n (Confirm u e)) x y (get w.lanes (x, y)) (get w.lanes (x, y)) refl (sends_none (get w.lanes (x, y)))

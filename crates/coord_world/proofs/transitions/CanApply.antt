@@ -8,7 +8,7 @@ use Rattle.coord_types.specs.declared.steps.Step.TheVariants.{Order, Take}
 use Rattle.coord_link.specs.LaneMachine.{Lane, took}
 use Rattle.coord_node.specs.Rules.{request, lost, transition}
 use Rattle.coord_world.specs.protocol.NumberedWorld.{World, state}
-use Rattle.coord_world.specs.protocol.Next.{on_lane, ordered, applied}
+use Rattle.coord_world.specs.protocol.Next.{on_lane, with_command, with_transition}
 use Rattle.coord_world.specs.code.Fronts.{AreNumbered}
 use Rattle.coord_world.specs.code.NodeSteps.{CanApply}
 use Rattle.coord_world.specs.code.Ready.{IsReadyFor}
@@ -70,14 +70,14 @@ module _ (w : World) (c n : ℕ) where
     room = room_reset w w ready.ranges ready.legal c n u ready.fresh;
   }
 
-  pub can_drop_first : (a b : ℕ) → IsReadyFor w (Order c n (Drop a b)) → CanApply w a (lost (state w a) b) (ordered w (Drop a b)).lanes
+  pub can_drop_first : (a b : ℕ) → IsReadyFor w (Order c n (Drop a b)) → CanApply w a (lost (state w a) b) (with_command w (Drop a b)).lanes
   can_drop_first a b ready = record {
     there = (drop_there a b ready).0;
     epoch = epoch_room w ready.ranges a;
     room = room_drop_first w w ready.ranges ready.legal c n a b ready.fresh;
   }
 
-  pub can_drop_second : (a b : ℕ) → IsReadyFor w (Order c n (Drop a b)) → CanApply w b (lost (state w b) a) (applied (ordered w (Drop a b)) a (lost (state w a) b)).lanes
+  pub can_drop_second : (a b : ℕ) → IsReadyFor w (Order c n (Drop a b)) → CanApply w b (lost (state w b) a) (with_transition (with_command w (Drop a b)) a (lost (state w a) b)).lanes
   can_drop_second a b ready = record {
     there = (drop_there a b ready).1;
     epoch = epoch_room w ready.ranges b;

@@ -16,7 +16,7 @@ use Rattle.coord_node.specs.Rules.{Transition, sends_of}
 use Rattle.coord_node.specs.IdealRules.{added}
 use Rattle.coord_world.specs.declared.step.node_step.NodeStep.{NodeStep}
 use Rattle.coord_world.specs.protocol.NumberedWorld.{World, pair_cmp, pair_cmp_total}
-use Rattle.coord_world.specs.protocol.Next.{applied, is_lane}
+use Rattle.coord_world.specs.protocol.Next.{with_transition, is_lane}
 use Rattle.coord_world.specs.code.Sends.{CanSend, sent_lane, sent_lanes}
 use Rattle.coord_world.specs.code.NodeSteps.{IsNodeStepOf, node_stepped}
 use Rattle.coord_tables.proofs.Cases.{by_test}
@@ -78,7 +78,7 @@ lanes_are : (u : ℕ) (d : Transition) (lanes : Table pair_cmp_total Lane) → s
 lanes_are u d lanes = same_table antisymmetric _ _ (λ k. get-sent_lanes u (sends_of d) lanes k ∙ (λ i. option_map (λ l. cond (eqb k.0 u) (sent (sent_is d k.1 i) l) l) (get lanes k))
     ∙ sym (get-change pair_cmp (λ k l. cond (eqb k.0 u) (sent (added d k.1) l) l) same_pair lanes k))
 
-pub act_done : (w : World) (node_step : NodeStep) (u : ℕ) (d : Transition) → IsNodeStepOf node_step u d → node_stepped w node_step.id node_step.node node_step.deed.sends.items ≡ applied w u d
+pub act_done : (w : World) (node_step : NodeStep) (u : ℕ) (d : Transition) → IsNodeStepOf node_step u d → node_stepped w node_step.id node_step.node node_step.deed.sends.items ≡ with_transition w u d
 act_done w node_step u d is = (λ i. node_stepped w (is.id i) (is.state i) (is.sends i)) ∙ (λ i. record w { nodes = insert w.nodes u d.state; lanes = lanes_are u d w.lanes i })
 
 module _ (u : ℕ) (m : Msg) where

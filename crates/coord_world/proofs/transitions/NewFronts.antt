@@ -16,7 +16,7 @@ use Rattle.coord_link.specs.LaneMachine.{Lane, cleared, new_lane, sent, took}
 use Rattle.coord_node.specs.IdealRules.{added, is_link}
 use Rattle.coord_node.specs.Rules.{Transition, lost, request, sends_of, transition, without, without_parent}
 use Rattle.coord_world.specs.protocol.NumberedWorld.{World, pair_cmp_total, state}
-use Rattle.coord_world.specs.protocol.Next.{applied, is_lane, next, on_lane, ordered}
+use Rattle.coord_world.specs.protocol.Next.{with_transition, is_lane, next, on_lane, with_command}
 use Rattle.coord_world.specs.protocol.Outputs.{all_sent, had_front, sent_by}
 use Rattle.coord_world.specs.code.Fronts.{by_lesser, front_behind, fronts_sent, new_fronts, packets_of}
 use Rattle.coord_world.specs.code.Ready.{IsReadyFor}
@@ -33,17 +33,17 @@ use Rattle.coord_world.proofs.transitions.FrontsOfSends.{Still, fronts_of_sends,
 quiet_step : (w : World) (after : Table pair_cmp_total Lane) → ((k : ℕ × ℕ) → Still k (get w.lanes k) (get after k)) → [] ≡ all_sent w.lanes (entries after)
 quiet_step w after still = sym (in_order w.lanes after [] tt (λ k l is away. still k l is))
 
-reset_fronts : (w : World) (u : ℕ) (d : Transition) → fronts_sent w.lanes u (sends_of d) ≡ all_sent w.lanes (entries (applied w u d).lanes)
+reset_fronts : (w : World) (u : ℕ) (d : Transition) → fronts_sent w.lanes u (sends_of d) ≡ all_sent w.lanes (entries (with_transition w u d).lanes)
 reset_fronts w u d =
-    let after = (applied w u d).lanes in
+    let after = (with_transition w u d).lanes in
     sym (in_order w.lanes after (lanes_to u (set.items d.to)) (rising_to u (set.items d.to) (items-sorted d.to))
     (λ k l is away. still_same k (get w.lanes k) l (sym (lane_done w u d k.0 k.1 ∙ nothing_here u d k.0 k.1 (get w.lanes k) away) ∙ is))
     ∙ fronts_of_sends w.lanes after u d (λ v to. lane_done w u d u v ∙ sends_here u d v (get w.lanes (u, v)) to))
 
-take_fronts : (w : World) (a u : ℕ) (d : Transition) → a ≢ u → fronts_sent w.lanes u (sends_of d) ≡ all_sent w.lanes (entries (applied (on_lane w a u took) u d).lanes)
+take_fronts : (w : World) (a u : ℕ) (d : Transition) → a ≢ u → fronts_sent w.lanes u (sends_of d) ≡ all_sent w.lanes (entries (with_transition (on_lane w a u took) u d).lanes)
 take_fronts w a u d apart =
     let mid = on_lane w a u took in
-    let after = (applied mid u d).lanes in
+    let after = (with_transition mid u d).lanes in
     sym (in_order w.lanes after (lanes_to u (set.items d.to)) (rising_to u (set.items d.to) (items-sorted d.to))
     (λ k l is away. still_took k (is_lane k a u) (get w.lanes k) l
     (sym (lane_done mid u d k.0 k.1 ∙ nothing_here u d k.0 k.1 (get mid.lanes k) away ∙ lane_on w a u took k.0 k.1) ∙ is))
@@ -112,13 +112,13 @@ module _ (w : World) (a b : ℕ) (apart : a ≢ b) where
   db = lost (state w b) a
 
   abbrev cut : World
-  cut = ordered w (Drop a b)
+  cut = with_command w (Drop a b)
 
   abbrev between : World
-  between = applied cut a da
+  between = with_transition cut a da
 
   abbrev dropped : World
-  dropped = applied between b db
+  dropped = with_transition between b db
 
   first_sends : (y : ℕ) → set.contains da.to y ≡ true → get dropped.lanes (a, y) ≡ option_map (sent (da.message ∷ [])) (get w.lanes (a, y))
   first_sends y to =
@@ -153,7 +153,7 @@ module _ (w : World) (a b : ℕ) (apart : a ≢ b) where
 pub fronts_are : (w : World) (s : Step) → IsReadyFor w s → new_fronts w s ≡ all_sent w.lanes (entries (next w s).lanes)
 fronts_are w (Order c n (Add u g)) ready = quiet_step w w.lanes (λ k. still_same k (get w.lanes k))
 fronts_are w (Order c n (Remove u)) ready = quiet_step w w.lanes (λ k. still_same k (get w.lanes k))
-fronts_are w (Order c n (Join a b)) ready = quiet_step w (ordered w (Join a b)).lanes (λ k l is. made (is_link a b k.0 k.1) k (get w.lanes k) l (sym (lane_made w a b k.0 k.1) ∙ is))
+fronts_are w (Order c n (Join a b)) ready = quiet_step w (with_command w (Join a b)).lanes (λ k l is. made (is_link a b k.0 k.1) k (get w.lanes k) l (sym (lane_made w a b k.0 k.1) ∙ is))
   where
     made : (t : Bool) (k : ℕ × ℕ) (o : Option Lane) (l : Lane) → cond t (Some (new_lane (w.count + 1))) o ≡ Some l → sent_by o k l l.queue ≡ []
     made true k o l is = let same : new_lane (w.count + 1) ≡ l = cc in subst (λ z. sent_by o k z z.queue ≡ []) same refl

@@ -11,7 +11,7 @@ use Rattle.coord_types.proofs.Tables.{option_map}
 use Rattle.coord_link.specs.LaneMachine.{Lane, sent, took, cleared, transit, new_lane}
 use Rattle.coord_node.specs.IdealRules.{ideal_applied, added, without_link, headed, is_link, linked_up, set_state}
 use Rattle.coord_node.specs.Rules.{Transition, with_neighbour}
-use Rattle.coord_world.specs.protocol.Next.{applied, on_lane, with_state, ordered, is_lane}
+use Rattle.coord_world.specs.protocol.Next.{with_transition, on_lane, with_state, with_command, is_lane}
 use Rattle.coord_world.specs.protocol.NumberedWorld.{World, view, state, state_or_none, transit_or_none}
 use Rattle.coord_tables.proofs.Cases.{by_test}
 use Rattle.coord_world.proofs.lanes.Counts.{AllCount, it_is, was_taken}
@@ -40,7 +40,7 @@ module _ (w : World) where
       rows x = ap state_or_none (get-unset w.nodes u x) ∙ grind (arith, nat_tests)
 
   -- a link is cut
-  pub view_left : (a b : ℕ) → view (ordered w (Drop a b)) ≡ without_link (view w) a b
+  pub view_left : (a b : ℕ) → view (with_command w (Drop a b)) ≡ without_link (view w) a b
   view_left a b i = record {
     version = w.version;
     state = state w;
@@ -55,7 +55,7 @@ module _ (w : World) where
       ways x y = grind (arith, nat_tests)
 
   -- a link is made
-  pub view_made : (a b : ℕ) → view (ordered w (Join a b)) ≡ linked_up (view w) a b
+  pub view_made : (a b : ℕ) → view (with_command w (Join a b)) ≡ linked_up (view w) a b
   view_made a b i = record {
     version = w.version;
     state = λ x. rows x i;
@@ -63,7 +63,7 @@ module _ (w : World) where
     way = λ x y. (ap transit_or_none (lane_made w a b x y) ∙ ways x y) i;
   }
     where
-      rows : (x : ℕ) → state (ordered w (Join a b)) x ≡ (linked_up (view w) a b).state x
+      rows : (x : ℕ) → state (with_command w (Join a b)) x ≡ (linked_up (view w) a b).state x
       rows x = ap state_or_none (get-set (table.insert w.nodes a (with_neighbour (state w a) b)) b (with_neighbour (state w b) a) x
           ∙ ap (cond (eqb x b) (Some (with_neighbour (state w b) a))) (get-set w.nodes a (with_neighbour (state w a) b) x)) ∙ grind (arith, nat_tests)
 
@@ -76,7 +76,7 @@ module _ (w : World) where
 -- where the numbers fit the queues
 module _ (w : World) (counts : AllCount w) where
   -- a transition over the numbers is the transition over the view
-  pub view_done : (u : ℕ) (d : Transition) → view (applied w u d) ≡ ideal_applied (view w) u d
+  pub view_done : (u : ℕ) (d : Transition) → view (with_transition w u d) ≡ ideal_applied (view w) u d
   view_done u d i = record {
     version = w.version;
     state = λ x. rows x i;
@@ -84,7 +84,7 @@ module _ (w : World) (counts : AllCount w) where
     way = λ x y. (ap transit_or_none (lane_done w u d x y) ∙ ways x y (get w.lanes (x, y)) refl) i;
   }
     where
-      rows : (x : ℕ) → state (applied w u d) x ≡ cond (eqb x u) d.state (state w x)
+      rows : (x : ℕ) → state (with_transition w u d) x ≡ cond (eqb x u) d.state (state w x)
       rows x = ap state_or_none (get-set w.nodes u d.state x) ∙ grind (arith, nat_tests)
 
       ways : (x y : ℕ) (o : Option Lane) → get w.lanes (x, y) ≡ o →

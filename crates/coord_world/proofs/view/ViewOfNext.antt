@@ -8,7 +8,7 @@ use Rattle.coord_link.specs.LaneMachine.{took}
 use Rattle.coord_node.specs.IdealRules.{ideal_applied, ideal_next}
 use Rattle.coord_node.specs.Rules.{transition, request, lost}
 use Rattle.coord_world.specs.protocol.Acceptance.{IsFresh}
-use Rattle.coord_world.specs.protocol.Next.{next, applied, on_lane, ordered}
+use Rattle.coord_world.specs.protocol.Next.{next, with_transition, on_lane, with_command}
 use Rattle.coord_world.specs.protocol.NumberedWorld.{World, view, state}
 use Rattle.coord_world.proofs.lanes.Counts.{AllCount, counts_done, counts_left, counts_made, counts_took, counts_cleared}
 use Rattle.coord_world.proofs.acceptance.IsFresh.{fresh_take, fresh_clear}
@@ -22,8 +22,8 @@ view_next w settled (Order c n (Join a b)) counts fresh = view_made w a b
 view_next w settled (Order c n (Drop a b)) counts fresh =
     let da = lost (state w a) b in
     let db = lost (state w b) a in
-    view_done (applied (ordered w (Drop a b)) a da) (counts_done (ordered w (Drop a b)) (counts_left w counts a b) a da) b db
-    ∙ ap (λ v. ideal_applied v b db) (view_done (ordered w (Drop a b)) (counts_left w counts a b) a da)
+    view_done (with_transition (with_command w (Drop a b)) a da) (counts_done (with_command w (Drop a b)) (counts_left w counts a b) a da) b db
+    ∙ ap (λ v. ideal_applied v b db) (view_done (with_command w (Drop a b)) (counts_left w counts a b) a da)
     ∙ ap (λ v. ideal_applied (ideal_applied v a da) b db) (view_left w a b)
 view_next w settled (Order c n (Reset u)) counts fresh = view_done w counts u (request (state w u))
 view_next w settled (Order c n (Confirm u e)) counts fresh = view_set w u (record (state w u) { confirmed = e })
@@ -42,7 +42,7 @@ counts_next w settled (Order c n (Add u g)) counts fresh = counts
 counts_next w settled (Order c n (Remove u)) counts fresh = counts
 counts_next w settled (Order c n (Join a b)) counts fresh = counts_made w counts a b
 counts_next w settled (Order c n (Drop a b)) counts fresh =
-    counts_done (applied (ordered w (Drop a b)) a (lost (state w a) b)) (counts_done (ordered w (Drop a b)) (counts_left w counts a b) a (lost (state w a) b)) b (lost (state w b) a)
+    counts_done (with_transition (with_command w (Drop a b)) a (lost (state w a) b)) (counts_done (with_command w (Drop a b)) (counts_left w counts a b) a (lost (state w a) b)) b (lost (state w b) a)
 counts_next w settled (Order c n (Reset u)) counts fresh = counts_done w counts u (request (state w u))
 counts_next w settled (Order c n (Confirm u e)) counts fresh = counts
 counts_next w settled (Take p) counts fresh =

@@ -10,7 +10,7 @@ use Rattle.coord_types.specs.NodeState.{NodeState}
 use Rattle.coord_types.specs.declared.messages.Mode.TheVariants.{Ready}
 use Rattle.coord_world.specs.protocol.Next.{fold}
 use Rattle.coord_world.specs.protocol.NumberedWorld.{World, no_world, state_or_none}
-use Rattle.coord_world.specs.laws.Runs.{StoredWave, two_linked, one_reset}
+use Rattle.coord_world.specs.laws.WorkedSteps.{StoredWave, two_linked, one_reset}
 use Rattle.coord_world.specs.laws.Trails.{IsTrail}
 use Rattle.coord_world.specs.laws.Waves.{AllReady, changes_topology, started}
 use Rattle.coord_tables.proofs.Cases.{by_test}

@@ -1,5 +1,5 @@
 -- The world that rows make.
-use Rattle.std.specs.Prelude.{◌≡◌, ℕ, ◌-◌, ◌<◌, ◌==◌, true, List, [], ◌∷◌, map, slice_get, slice_index_or, Option, Some, None, if◌then◌else◌}
+use Rattle.std.specs.Prelude.{◌≡◌, ℕ, ◌+◌, ◌-◌, ◌<◌, ◌==◌, true, List, [], ◌∷◌, map, slice_get, slice_index_or, Option, Some, None, if◌then◌else◌}
 use Rattle.std.specs.List.{AllByRecursion, flat_map, range_with_len}
 use Rattle.std.specs.FinMap.Entries.{find, is_sorted}
 use Rattle.coord_types.specs.NodeSet as set
@@ -7,6 +7,7 @@ use Rattle.coord_types.specs.NodeSet.{NodeSet}
 use Rattle.coord_types.specs.NodeState.{NodeState}
 use Rattle.coord_types.specs.StepRanges.{IsNode}
 use Rattle.coord_types.specs.Table.{Table, empty, from_sorted, insert}
+use Rattle.coord_types.specs.declared.limits.TheConstants.{MAX_NODES}
 use Rattle.coord_types.specs.declared.steps.Session.{Session}
 use Rattle.coord_link.specs.LaneMachine.{Lane}
 use Rattle.coord_world.specs.protocol.NumberedWorld.{World, pair_cmp, pair_cmp_total}
@@ -83,9 +84,9 @@ entries_from f u vs = flat_map (λ v. entry_of (u, v) (f u v)) vs
 abbrev pub lane_among : List ((ℕ × ℕ) × Lane) → ℕ → ℕ → Option Lane
 lane_among es u v = find pair_cmp (u, v) es
 
--- the numbers of nodes, from one on
+-- the numbers of nodes, from one on to the greatest
 unfoldable pub nodes_from : ℕ → List ℕ
-nodes_from u = range_with_len u (65 - u)
+nodes_from u = range_with_len u (MAX_NODES + 1 - u)
 
 -- from these nodes, each to its neighbours
 abbrev pub entries_in_order : {X : Type 0} → (ℕ → ℕ → Option X) → (ℕ → NodeSet) → List ℕ → List ((ℕ × ℕ) × X)

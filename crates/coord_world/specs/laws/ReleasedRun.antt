@@ -13,7 +13,7 @@ use Rattle.coord_world.specs.protocol.Next.{fold}
 use Rattle.coord_world.specs.protocol.NumberedWorld.{World, no_world}
 use Rattle.coord_world.specs.protocol.Outputs.{again}
 use Rattle.coord_world.specs.laws.Release.{outputs_of}
-use Rattle.coord_world.specs.laws.Runs.{clear, data_out, one_reset, receipt_out, take, two_linked}
+use Rattle.coord_world.specs.laws.WorkedSteps.{clear, data_out, one_reset, receipt_out, take, two_linked}
 use Rattle.coord_world.specs.laws.Trails.{IsTrail}
 
 -- two linked nodes, the base of the reset

@@ -24,28 +24,28 @@ abbrev pub with_state : World → ℕ → NodeState → World
 with_state w u r = record w { nodes = insert w.nodes u r }
 
 -- node u does a transition: its state changes, and its messages join its lanes
-abbrev pub applied : World → ℕ → Transition → World
-applied w u d = record w { nodes = insert w.nodes u d.state; lanes = change (λ k l. if k.0 == u then sent (added d k.1) l else l) w.lanes }
+abbrev pub with_transition : World → ℕ → Transition → World
+with_transition w u d = record w { nodes = insert w.nodes u d.state; lanes = change (λ k l. if k.0 == u then sent (added d k.1) l else l) w.lanes }
 
 -- transitions, one after the other
-abbrev pub all_applied : World → List (ℕ × Transition) → World
-all_applied w [] = w
-all_applied w (d ∷ ds) = all_applied (applied w d.0 d.1) ds
+abbrev pub with_transitions : World → List (ℕ × Transition) → World
+with_transitions w [] = w
+with_transitions w (d ∷ ds) = with_transitions (with_transition w d.0 d.1) ds
 
 -- what a command changes before any node acts on it; the incarnation of a link is the number of the step that makes it
-abbrev pub ordered : World → Command → World
-ordered w (Add u g) = with_state w u (new_node w.version g)
-ordered w (Remove u) = record w { nodes = remove w.nodes u }
-ordered w (Join a b) = record w {
+abbrev pub with_command : World → Command → World
+with_command w (Add u g) = with_state w u (new_node w.version g)
+with_command w (Remove u) = record w { nodes = remove w.nodes u }
+with_command w (Join a b) = record w {
   nodes = insert (insert w.nodes a (with_neighbour (state w a) b)) b (with_neighbour (state w b) a);
   lanes = insert (insert w.lanes (a, b) (new_lane (w.count + 1))) (b, a) (new_lane (w.count + 1));
 }
-ordered w (Drop a b) = record w { lanes = remove (remove w.lanes (a, b)) (b, a) }
-ordered w (Reset u) = w
-ordered w (Confirm u e) = with_state w u (record (state w u) { confirmed = e })
+with_command w (Drop a b) = record w { lanes = remove (remove w.lanes (a, b)) (b, a) }
+with_command w (Reset u) = w
+with_command w (Confirm u e) = with_state w u (record (state w u) { confirmed = e })
 
 abbrev pub prepared : World → Step → World
-prepared w (Order c n x) = ordered w x
+prepared w (Order c n x) = with_command w x
 prepared w (Take p) = on_lane w p.from p.to took
 prepared w (Clear p) = on_lane w p.from p.to cleared
 
@@ -54,14 +54,14 @@ abbrev pub reply : World → Step → Reply
 reply w s = record { step = w.count + 1; kind = kind (state w) s }
 
 -- an order becomes its client's last one; packets leave the sessions
-abbrev pub noted : World → Reply → Step → World
-noted w r (Order c n x) = record w { sessions = insert w.sessions c (record { number = n; command = x; reply = r }) }
-noted w r (Take p) = w
-noted w r (Clear p) = w
+abbrev pub with_reply : World → Reply → Step → World
+with_reply w r (Order c n x) = record w { sessions = insert w.sessions c (record { number = n; command = x; reply = r }) }
+with_reply w r (Take p) = w
+with_reply w r (Clear p) = w
 
 -- the world after a step
 abbrev pub next : World → Step → World
-next w s = record (noted (all_applied (prepared w s) (transitions (state w) s)) (reply w s) s) { count = w.count + 1 }
+next w s = record (with_reply (with_transitions (prepared w s) (transitions (state w) s)) (reply w s) s) { count = w.count + 1 }
 
 -- the world after steps, one after the other
 abbrev pub fold : World → List Step → World

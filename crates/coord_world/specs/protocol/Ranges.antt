@@ -1,11 +1,12 @@
 -- The ranges of a world, which its type keeps: what is true of every world by its form, legal or not.
-use Rattle.std.specs.Prelude.{◌≡◌, ℕ, ◌^◌, ◌==◌, ◌≤◌, Bool, true, false, List, Some, length, if◌then◌else◌}
+use Rattle.std.specs.Prelude.{◌≡◌, ℕ, ◌*◌, ◌==◌, ◌≤◌, Bool, true, false, List, Some, length, if◌then◌else◌}
 use Rattle.std.specs.List.{AllByRecursion}
 use Rattle.coord_types.specs.NodeSet as set
 use Rattle.coord_types.specs.NodeMask.{IsMaskable}
 use Rattle.coord_types.specs.Table.{get, has, len}
 use Rattle.coord_types.specs.NodeState.{NodeState}
 pub use Rattle.coord_types.specs.StepRanges.{IsNode, CommandInRange, StepInRange}
+use Rattle.coord_types.specs.declared.limits.TheConstants.{MAX_CLIENTS, MAX_DEGREE, MAX_GROUPS, MAX_LINKS, MAX_NODES, MAX_STEPS}
 use Rattle.coord_types.specs.declared.messages.Mode.TheVariants.{Ready}
 use Rattle.coord_types.specs.declared.messages.Msg.{Msg}
 pub use Rattle.coord_types.specs.Messages.{brought}
@@ -19,12 +20,12 @@ use Rattle.coord_world.specs.protocol.NumberedWorld.{World, state, is_linked}
 
 pub record NodeInRange (count u : ℕ) (r : NodeState) : Type 0 where
   pub least : 1 ≤ u
-  pub greatest : u ≤ 64
+  pub greatest : u ≤ MAX_NODES
   pub group_least : 1 ≤ r.group
-  pub group_greatest : r.group ≤ 16
+  pub group_greatest : r.group ≤ MAX_GROUPS
   pub epoch : r.epoch ≤ count
   pub confirmed : r.confirmed ≤ count
-  pub degree : set.len r.neighbours ≤ 16
+  pub degree : set.len r.neighbours ≤ MAX_DEGREE
 
 -- an incarnation is the number of a step
 pub record LaneInRange (count : ℕ) (l : Lane) : Type 0 where
@@ -58,7 +59,7 @@ answers x k = false
 
 pub record SessionInRange (count c : ℕ) (s : Session) : Type 0 where
   pub least : 1 ≤ c
-  pub greatest : c ≤ 16
+  pub greatest : c ≤ MAX_CLIENTS
   pub ordered : CommandInRange s.command
   pub first : 1 ≤ s.number
   pub last : s.number ≤ count
@@ -70,7 +71,7 @@ pub record SessionInRange (count c : ℕ) (s : Session) : Type 0 where
 pub record InRange (w : World) : Type 0 where
   pub first : 1 ≤ w.version
   pub last : w.version ≤ 2
-  pub count : w.count ≤ 2 ^ 40
+  pub count : w.count ≤ MAX_STEPS
   pub nodes : (u : ℕ) (r : NodeState) → get w.nodes u ≡ Some r → NodeInRange w.count u r
   pub distances : (u : ℕ) (r : NodeState) → get w.nodes u ≡ Some r → IsDistant w.version w.count r
   pub lanes : (u v : ℕ) (l : Lane) → get w.lanes (u, v) ≡ Some l → LaneInRange w.count l
@@ -79,7 +80,7 @@ pub record InRange (w : World) : Type 0 where
   pub awaited : (u : ℕ) → IsMaskable (state w u).pend
   pub parents : (u p : ℕ) → (state w u).parent ≡ Some p → IsNode p
   pub sessions : (c : ℕ) (s : Session) → get w.sessions c ≡ Some s → SessionInRange w.count c s
-  pub links : len w.lanes ≤ 256
+  pub links : len w.lanes ≤ 2 * MAX_LINKS
   pub linked : (u v : ℕ) → is_linked w u v ≡ set.contains (state w u).neighbours v
   pub mirrored : (u v : ℕ) → is_linked w u v ≡ is_linked w v u
   pub apart : (u : ℕ) → is_linked w u u ≡ false

@@ -1,11 +1,12 @@
 -- A world as lists of rows, and which lists are those of a world.
-use Rattle.std.specs.Prelude.{◌≡◌, ℕ, ◌+◌, ◌^◌, ◌≤◌, ◌<◌, ◌==◌, ◌||◌, nat_lt, Bool, true, List, [], ◌∷◌, map, length, Option, Some, None, if◌then◌else◌}
+use Rattle.std.specs.Prelude.{◌≡◌, ℕ, ◌+◌, ◌≤◌, ◌<◌, ◌==◌, ◌||◌, nat_lt, Bool, true, List, [], ◌∷◌, map, length, Option, Some, None, if◌then◌else◌}
 use Rattle.std.specs.Ordering.{nat_cmp}
 use Rattle.std.specs.List.{AllByRecursion}
 use Rattle.std.specs.FinMap.Entries.{is_sorted, where_key, find}
 use Rattle.coord_types.specs.NodeMask.{IsMaskable}
 use Rattle.coord_types.specs.NodeState.{NodeState}
 use Rattle.coord_types.specs.Table.{get, entries}
+use Rattle.coord_types.specs.declared.limits.TheConstants.{MAX_DEGREE, MAX_GROUPS, MAX_LINKS, MAX_NODES, MAX_STEPS}
 use Rattle.coord_types.specs.declared.steps.Session.{Session}
 use Rattle.coord_link.specs.LaneMachine.{Lane, new_lane}
 use Rattle.coord_world.specs.protocol.NumberedWorld.{World, pair_cmp}
@@ -66,9 +67,9 @@ by_client = map (λ r. (r.client, r))
 
 pub record NodeRowFits (count : ℕ) (r : NodeRow) : Type 0 where
   pub least : 1 ≤ r.id
-  pub greatest : r.id ≤ 64
+  pub greatest : r.id ≤ MAX_NODES
   pub group_least : 1 ≤ r.group
-  pub group_greatest : r.group ≤ 16
+  pub group_greatest : r.group ≤ MAX_GROUPS
   pub parent : (p : ℕ) → r.parent ≡ Some p → IsNode p
   pub pend : IsMaskable r.pend
   pub epoch : r.epoch ≤ count
@@ -119,14 +120,14 @@ pub record LanesCarryWithin (n : ℕ) (r : LinkRow) : Type 0 where
 pub record RowsFit (rows : Rows) : Type 0 where
   pub first : 1 ≤ rows.version
   pub last : rows.version ≤ 2
-  pub count : rows.count ≤ 2 ^ 40
+  pub count : rows.count ≤ MAX_STEPS
   pub nodes_rise : is_sorted nat_cmp (by_id rows.nodes) ≡ true
   pub nodes : AllByRecursion (NodeRowFits rows.count) rows.nodes
   pub distances : AllByRecursion (RowIsDistant rows.version rows.count) rows.nodes
   pub links_rise : is_sorted pair_cmp (by_ends rows.links) ≡ true
   pub links : AllByRecursion (LinkRowFits rows.count rows.nodes) rows.links
   pub carried : AllByRecursion (LanesCarryWithin (farthest rows.version rows.count)) rows.links
-  pub degrees : (u : ℕ) → degree u rows.links ≤ 16
-  pub most_links : length rows.links ≤ 128
+  pub degrees : (u : ℕ) → degree u rows.links ≤ MAX_DEGREE
+  pub most_links : length rows.links ≤ MAX_LINKS
   pub clients_rise : is_sorted nat_cmp (by_client rows.clients) ≡ true
   pub clients : AllByRecursion (λ r. SessionInRange rows.count r.client r.session) rows.clients

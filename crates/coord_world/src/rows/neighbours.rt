@@ -6,15 +6,15 @@ ghost use Rattle.coord_types.specs.StepRanges.{IsNode};
 ghost use Rattle.coord_world.specs.code.Assembly.{AreNear, near_in};
 
 use crate::rows::parts::LinkRow;
-use coord_types::{NodeId, NodeSet};
+use coord_types::{MAX_NODES, NodeId, NodeSet};
 
 /// One place for each node.
-const PLACES: usize = 64;
+const NODES: usize = MAX_NODES as usize;
 
 /// Each node's neighbours: those of node k stand at place k - 1.
 #[derive(Drop)]
 pub struct Neighbours {
-    pub sets: [NodeSet; PLACES],
+    pub sets: [NodeSet; NODES],
 }
 
 impl Neighbours {
@@ -22,7 +22,7 @@ impl Neighbours {
     pub fn by(links: &[LinkRow]) -> Self
         ensures { AreNear links.now result.sets }
     {
-        let mut sets = [NodeSet::new(); PLACES];
+        let mut sets = [NodeSet::new(); NODES];
         for link in links {
             note(&mut sets, link.a, link.b);
             note(&mut sets, link.b, link.a);
@@ -39,7 +39,7 @@ impl Neighbours {
 }
 
 /// Notes a neighbour of a node.
-fn note(sets: &mut [NodeSet; PLACES], id: NodeId, neighbour: NodeId)
+fn note(sets: &mut [NodeSet; NODES], id: NodeId, neighbour: NodeId)
     ensures set { sets.new ≡ slice_set sets.old (id - 1) (set.insert (near_in sets.old id) neighbour) }
     ensures node { IsNode id }
 {

@@ -3,7 +3,7 @@
 ghost use Rattle.std.specs.Prelude.{◌≡◌, ◌++◌, IfOk, OnOk, OnErr};
 ghost use Rattle.coord_node.specs.Steps.{transitions, transitions_ordered};
 ghost use Rattle.coord_world.specs.protocol.NumberedWorld.{state};
-ghost use Rattle.coord_world.specs.protocol.Next.{all_applied, next, noted, ordered, prepared, reply};
+ghost use Rattle.coord_world.specs.protocol.Next.{with_transitions, next, with_reply, with_command, prepared, reply};
 ghost use Rattle.coord_world.specs.protocol.Outputs.{again, outputs, receipts, signals};
 ghost use Rattle.coord_world.specs.protocol.Ranges.{InRange};
 ghost use Rattle.coord_world.specs.code.Fronts.{fronts_ordered, new_fronts};
@@ -38,7 +38,7 @@ impl Tables {
         reply: Reply,
     ) -> Result<Vec<Output>, AllocError>
         requires { IsReadyFor self.old step.now }
-        ensures world { OnOk result (self.new ≡ noted (all_applied (prepared self.old step.now) (transitions (state self.old) step.now)) reply step.now) }
+        ensures world { OnOk result (self.new ≡ with_reply (with_transitions (prepared self.old step.now) (transitions (state self.old) step.now)) reply step.now) }
         ensures outputs { IfOk result (λ outputs. outputs.items ≡ receipts step.now ++ signals (transitions (state self.old) step.now) ++ new_fronts self.old step.now) }
         ensures err { OnErr result (self.new ≡ self.old) }
     {
@@ -86,7 +86,7 @@ impl Tables {
         reply: Reply,
     ) -> Result<Vec<Output>, AllocError>
         requires { IsReadyFor self.old (Step.Order client number command.now) }
-        ensures world { OnOk result (self.new ≡ noted (all_applied (ordered self.old command.now) (transitions_ordered (state self.old) command.now)) reply (Step.Order client number command.now)) }
+        ensures world { OnOk result (self.new ≡ with_reply (with_transitions (with_command self.old command.now) (transitions_ordered (state self.old) command.now)) reply (Step.Order client number command.now)) }
         ensures outputs { IfOk result (λ outputs. outputs.items ≡ signals (transitions_ordered (state self.old) command.now) ++ fronts_ordered self.old command.now) }
         ensures err { OnErr result (self.new ≡ self.old) }
     {

@@ -8,7 +8,7 @@ ghost use Rattle.coord_link.specs.LaneMachine.{took, cleared};
 ghost use Rattle.coord_node.specs.Rules.{lost, request, sends_of, transition};
 ghost use Rattle.coord_node.specs.Steps.{transitions_ordered};
 ghost use Rattle.coord_world.specs.protocol.NumberedWorld.{state};
-ghost use Rattle.coord_world.specs.protocol.Next.{all_applied, applied, on_lane, ordered};
+ghost use Rattle.coord_world.specs.protocol.Next.{with_transitions, with_transition, on_lane, with_command};
 ghost use Rattle.coord_world.specs.protocol.Outputs.{receipt, signals};
 ghost use Rattle.coord_world.specs.protocol.Ranges.{brought};
 ghost use Rattle.coord_world.specs.code.Fronts.{AreNumbered, by_lesser, front_behind, fronts_ordered, fronts_sent};
@@ -34,7 +34,7 @@ impl Tables {
         command: &Command,
     ) -> Result<Vec<Output>, AllocError>
         requires { IsReadyFor self.old (Order client number command.now) }
-        ensures world { OnOk result (self.new ≡ all_applied (ordered self.old command.now) (transitions_ordered (state self.old) command.now)) }
+        ensures world { OnOk result (self.new ≡ with_transitions (with_command self.old command.now) (transitions_ordered (state self.old) command.now)) }
         ensures outputs { IfOk result (λ outputs. outputs.items ≡ signals (transitions_ordered (state self.old) command.now) ++ fronts_ordered self.old command.now) }
         ensures err { OnErr result (self.new ≡ self.old) }
     {
@@ -55,7 +55,7 @@ impl Tables {
         requires acts { CanApply self.old packet.now.to (transition packet.now.msg (state self.old packet.now.to) packet.now.from) (on_lane self.old packet.now.from packet.now.to took).lanes }
         requires numbered { AreNumbered self.old.lanes }
         requires near { brought packet.now.msg < 2 ^ 64 - 1 }
-        ensures world { OnOk result (self.new ≡ applied (on_lane self.old packet.now.from packet.now.to took) packet.now.to (transition packet.now.msg (state self.old packet.now.to) packet.now.from)) }
+        ensures world { OnOk result (self.new ≡ with_transition (on_lane self.old packet.now.from packet.now.to took) packet.now.to (transition packet.now.msg (state self.old packet.now.to) packet.now.from)) }
         ensures outputs { IfOk result (λ outputs. outputs.items ≡ Output.Receipted (receipt packet.now) ∷ (signals (record { 0 = packet.now.to; 1 = transition packet.now.msg (state self.old packet.now.to) packet.now.from } ∷ []) ++ fronts_sent self.old.lanes packet.now.to (sends_of (transition packet.now.msg (state self.old packet.now.to) packet.now.from)))) }
         ensures err { OnErr result (self.new ≡ self.old) }
     {
@@ -72,7 +72,7 @@ impl Tables {
     fn reset(&mut self, alloc: Global, id: NodeId) -> Result<Vec<Output>, AllocError>
         requires acts { CanApply self.old id (request (state self.old id)) self.old.lanes }
         requires numbered { AreNumbered self.old.lanes }
-        ensures world { OnOk result (self.new ≡ applied self.old id (request (state self.old id))) }
+        ensures world { OnOk result (self.new ≡ with_transition self.old id (request (state self.old id))) }
         ensures outputs { IfOk result (λ outputs. outputs.items ≡ signals (record { 0 = id; 1 = request (state self.old id) } ∷ []) ++ fronts_sent self.old.lanes id (sends_of (request (state self.old id)))) }
         ensures err { OnErr result (self.new ≡ self.old) }
     {
@@ -87,10 +87,10 @@ impl Tables {
     /// The link of two nodes vanishes, first at `a` and then at `b`.
     fn drop_link(&mut self, alloc: Global, a: NodeId, b: NodeId) -> Result<Vec<Output>, AllocError>
         requires linked { IsSome (table.get self.old.lanes record { 0 = a; 1 = b }) }
-        requires first { CanApply self.old a (lost (state self.old a) b) (ordered self.old (Command.Drop a b)).lanes }
-        requires second { CanApply self.old b (lost (state self.old b) a) (applied (ordered self.old (Command.Drop a b)) a (lost (state self.old a) b)).lanes }
+        requires first { CanApply self.old a (lost (state self.old a) b) (with_command self.old (Command.Drop a b)).lanes }
+        requires second { CanApply self.old b (lost (state self.old b) a) (with_transition (with_command self.old (Command.Drop a b)) a (lost (state self.old a) b)).lanes }
         requires numbered { AreNumbered self.old.lanes }
-        ensures world { OnOk result (self.new ≡ applied (applied (ordered self.old (Command.Drop a b)) a (lost (state self.old a) b)) b (lost (state self.old b) a)) }
+        ensures world { OnOk result (self.new ≡ with_transition (with_transition (with_command self.old (Command.Drop a b)) a (lost (state self.old a) b)) b (lost (state self.old b) a)) }
         ensures outputs { IfOk result (λ outputs. outputs.items ≡ signals (record { 0 = a; 1 = lost (state self.old a) b } ∷ record { 0 = b; 1 = lost (state self.old b) a } ∷ []) ++ fronts_ordered self.old (Command.Drop a b)) }
         ensures err { OnErr result (self.new ≡ self.old) }
     {
@@ -109,7 +109,7 @@ impl Tables {
     /// The lanes of a link vanish, with all that is on them.
     fn drop_lanes(&mut self, a: NodeId, b: NodeId)
         requires { IsSome (table.get self.old.lanes record { 0 = a; 1 = b }) }
-        ensures { self.new ≡ ordered self.old (Command.Drop a b) }
+        ensures { self.new ≡ with_command self.old (Command.Drop a b) }
     {
         self.lanes.unlink(a, b);
     }
@@ -120,7 +120,7 @@ impl Tables {
         requires other { IsSome (table.get self.old.nodes b) }
         requires count { self.old.count < 2 ^ 64 - 1 }
         requires room { table.len self.old.lanes < 2 ^ 16 - 2 }
-        ensures ok { OnOk result (self.new ≡ ordered self.old (Command.Join a b)) }
+        ensures ok { OnOk result (self.new ≡ with_command self.old (Command.Join a b)) }
         ensures err { OnErr result (self.new ≡ self.old) }
     {
         let mut one = *self.node(a).unwrap();
@@ -136,7 +136,7 @@ impl Tables {
     /// An epoch of a node is confirmed.
     fn confirm(&mut self, id: NodeId, epoch: u64)
         requires { IsSome (table.get self.old.nodes id) }
-        ensures { self.new ≡ ordered self.old (Command.Confirm id epoch) }
+        ensures { self.new ≡ with_command self.old (Command.Confirm id epoch) }
     {
         let mut node = *self.node(id).unwrap();
         node.confirm(epoch);

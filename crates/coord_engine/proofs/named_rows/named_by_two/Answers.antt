@@ -3,7 +3,7 @@ use Rattle.std.specs.Prelude.{All}
 use Rattle.std.proofs.lemmas.List.Sorted.{IsPermutation-append_comm}
 use Rattle.coord_ledger.specs.declared.ticket.Note.{Note}
 use Rattle.coord_engine.specs.Named.{IsAscending}
-use Rattle.coord_engine.specs.NamedRows.{fourth_note, third_note}
+use Rattle.coord_engine.specs.WorkedNames.{fourth_note, third_note}
 use Rattle.coord_engine.proofs.named_rows.named_by_two.Goals as goal
 
 alone : (n : Note) → IsAscending (n ∷ [])

@@ -1,5 +1,5 @@
 use Rattle.std.proofs.Common.{[], arith}
-use Rattle.coord_engine.specs.NamedRows.{third_note}
+use Rattle.coord_engine.specs.WorkedNames.{third_note}
 use Rattle.coord_engine.proofs.named_rows.not_in_order.Goals as goal
 
 pub returns : goal.returns

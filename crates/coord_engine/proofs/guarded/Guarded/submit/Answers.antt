@@ -1,5 +1,5 @@
 use Rattle.std.proofs.Common.{◌≡◌, ◌≤◌, ◌++◌, ◌∷◌, [], false, length, Ok, Err, rules, arith, sym, ap, subst, ◌∙◌}
-use Rattle.coord_ledger.specs.ledger.Calls.{said}
+use Rattle.coord_ledger.specs.ledger.Calls.{ledger_verdict}
 use Rattle.coord_engine.specs.Calls.{AnswersStep, note_of}
 use Rattle.coord_engine.specs.State.{GuardedState}
 use Rattle.coord_engine.proofs.Growing.{Begun, begun_stepped}
@@ -12,7 +12,7 @@ returns-in-Err-clause-answer g c =
     let going : c.self.inside.finishing ≡ false = search rules in
     let notes = c.mine.inside.notes.items in
     let later = c.submit.new.self in
-    let v = said inside.ledger c.args.step in
+    let v = ledger_verdict inside.ledger c.args.step in
     let by : LedgerAnswers c.args.step v inside.ledger later (Err c.in-Err.refusal) = record { fresh = c.in-Err.ensures.fresh; repeated = c.in-Err.ensures.repeated; refused = c.in-Err.ensures.refused; unchanged = c.in-Err.ensures.unchanged } in
     let same = subst (λ n. AnswersStep c.args.step v (held inside.ledger notes) (Err c.in-Err.refusal) (held later n)) (sym c.reserve.ensures.items) (refused_step c.args.step v inside.ledger later c.in-Err.refusal notes by) in
     answered c.args.step inside c.args.self.now later (Err c.in-Err.refusal) notes c.args.mine.now c.reserve.new.self.items c.self.view_is going c.mine.view_is same
@@ -23,7 +23,7 @@ returns-then-trail-before-clause-answer g c =
     let going : c.self.inside.finishing ≡ false = search rules in
     let notes = c.mine.inside.notes.items in
     let later = c.submit.new.self in
-    let v = said inside.ledger c.args.step in
+    let v = ledger_verdict inside.ledger c.args.step in
     let by : LedgerAnswers c.args.step v inside.ledger later (Ok c.in-Ok.ticket) = record { fresh = c.in-Ok.ensures.fresh; repeated = c.in-Ok.ensures.repeated; refused = c.in-Ok.ensures.refused; unchanged = c.in-Ok.ensures.unchanged } in
     let short : length later.log.trail ≡ length inside.ledger.log.trail = omega (arith, c.if-trail-before.true, ap length c.trail.ensures, ap length c.trail-before.ensures) in
     let same = subst (λ n. AnswersStep c.args.step v (held inside.ledger notes) (Ok c.in-Ok.ticket) (held later n)) (sym c.reserve.ensures.items) (repeated_step c.args.step v inside.ledger later c.in-Ok.ticket notes by short) in
@@ -33,7 +33,7 @@ pub invariant_of-self-then-trail-before : goal.invariant_of-self-then-trail-befo
 invariant_of-self-then-trail-before g c =
     let inside : GuardedState g.row.D.Denot = record { ledger = c.self.inside.ledger; start = c.self.inside.start; noted = c.self.inside.book.total; given = c.self.inside.given; finishing = c.self.inside.finishing; in_hand = c.self.inside.in_hand; awaited = c.self.inside.awaited } in
     let later = c.submit.new.self in
-    let v = said inside.ledger c.args.step in
+    let v = ledger_verdict inside.ledger c.args.step in
     let by : LedgerAnswers c.args.step v inside.ledger later (Ok c.in-Ok.ticket) = record { fresh = c.in-Ok.ensures.fresh; repeated = c.in-Ok.ensures.repeated; refused = c.in-Ok.ensures.refused; unchanged = c.in-Ok.ensures.unchanged } in
     let short : length later.log.trail ≡ length inside.ledger.log.trail = omega (arith, c.if-trail-before.true, ap length c.trail.ensures, ap length c.trail-before.ensures) in
     let inv = c.self.invariant in
@@ -46,7 +46,7 @@ invariant_of-self-2 g c =
     let inside : GuardedState g.row.D.Denot = record { ledger = c.self.inside.ledger; start = c.self.inside.start; noted = c.self.inside.book.total; given = c.self.inside.given; finishing = c.self.inside.finishing; in_hand = c.self.inside.in_hand; awaited = c.self.inside.awaited } in
     let notes = c.mine.inside.notes.items in
     let later = c.submit.new.self in
-    let v = said inside.ledger c.args.step in
+    let v = ledger_verdict inside.ledger c.args.step in
     let by : LedgerAnswers c.args.step v inside.ledger later (Ok c.in-Ok.ticket) = record { fresh = c.in-Ok.ensures.fresh; repeated = c.in-Ok.ensures.repeated; refused = c.in-Ok.ensures.refused; unchanged = c.in-Ok.ensures.unchanged } in
     let grown : length later.log.trail ≡ length inside.ledger.log.trail → ⊥ = λ e. omega (arith, e, c.if-trail-before.false, ap length c.trail.ensures, ap length c.trail-before.ensures) in
     let more = (accepted_step c.args.step v inside.ledger later c.in-Ok.ticket notes by grown).1 in
@@ -62,7 +62,7 @@ returns-clause-answer g c =
     let going : c.self.inside.finishing ≡ false = search rules in
     let notes = c.mine.inside.notes.items in
     let later = c.submit.new.self in
-    let v = said inside.ledger c.args.step in
+    let v = ledger_verdict inside.ledger c.args.step in
     let by : LedgerAnswers c.args.step v inside.ledger later (Ok c.in-Ok.ticket) = record { fresh = c.in-Ok.ensures.fresh; repeated = c.in-Ok.ensures.repeated; refused = c.in-Ok.ensures.refused; unchanged = c.in-Ok.ensures.unchanged } in
     let grown : length later.log.trail ≡ length inside.ledger.log.trail → ⊥ = λ e. omega (arith, e, c.if-trail-before.false, ap length c.trail.ensures, ap length c.trail-before.ensures) in
     let note : c.note.result ≡ note_of c.in-Ok.ticket = λ i. record { step = c.note.ensures.step i; what = c.note.ensures.what i } in

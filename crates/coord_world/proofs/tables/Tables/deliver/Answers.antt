@@ -4,7 +4,7 @@ use Rattle.coord_types.specs.Table.{get}
 use Rattle.coord_link.specs.LaneMachine.{Lane}
 use Rattle.coord_node.specs.Rules.{transition}
 use Rattle.coord_world.specs.protocol.NumberedWorld.{World, state}
-use Rattle.coord_world.specs.protocol.Next.{applied}
+use Rattle.coord_world.specs.protocol.Next.{with_transition}
 use Rattle.coord_world.proofs.transitions.IsNodeStepOf.{act_done, act_room}
 use Rattle.coord_world.proofs.tables.Tables.deliver.Goals as goal
 
@@ -20,4 +20,4 @@ pub returns-clause-world : goal.returns-clause-world
 returns-clause-world c =
     let p = c.args.packet.now in
     let d = transition p.msg (state c.args.self.now p.to) p.from in
-    c.carry_out.ensures ∙ act_done c.take_front.new.self c.in_ok-node_step.node_step p.to d c.in_ok-node_step.ensures ∙ ap (λ w. applied w p.to d) c.take_front.ensures
+    c.carry_out.ensures ∙ act_done c.take_front.new.self c.in_ok-node_step.node_step p.to d c.in_ok-node_step.ensures ∙ ap (λ w. with_transition w p.to d) c.take_front.ensures
