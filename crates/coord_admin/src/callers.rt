@@ -32,11 +32,14 @@ pub trait Callers {
     /// Ends a connection; one that has closed the server is first left open until its client can
     /// have read the answer.
     fn end(&mut self, line: Self::Line, has_closed: bool)
-        ensures { (first : Self.Line) (came went : List ℕ) → begins first → Self.Line.exchanged first came went line → met self.old (record { came = came; went = went } ∷ []) self.new };
+        ensures { (first : Self.Line) (came went : List ℕ) → begins first →
+            Self.Line.exchanged first came went line →
+            met self.old (record { came = came; went = went } ∷ []) self.new };
 
     ghost at_rest: { (a : Self) → met a [] a };
 
-    ghost in_turn: { (a b c : Self) (some more : List Talk) → met a some b → met b more c → met a (some ++ more) c };
+    ghost in_turn: { (a b c : Self) (some more : List Talk) → met a some b → met b more c →
+        met a (some ++ more) c };
 }
 
 /// The connections that a listener accepts, each with a bound on how long its client is waited for.

@@ -20,8 +20,10 @@ pub fn serve_connections<C: Callers, D: Desk>(
     callers: &mut C,
     desk: &mut D,
 ) -> io::Result<()>
-    ensures closed { OnOk result (ServedToClose D.answers C.met callers.old desk.old callers.new desk.new) }
-    ensures failed { OnErr result (ServedOpen D.answers C.met callers.old desk.old callers.new desk.new) }
+    ensures closed { OnOk result (ServedToClose D.answers C.met callers.old desk.old callers.new
+        desk.new) }
+    ensures failed { OnErr result
+        (ServedOpen D.answers C.met callers.old desk.old callers.new desk.new) }
 {
     for _ in 0..u64::MAX {
         let mut line = callers.next()?;

@@ -34,7 +34,8 @@ impl CountDesk {
 }
 
 impl Desk for CountDesk {
-    ghost answers = { λ n request answer m. (answer ≡ answer_of n request) × (m ≡ count_after n request) };
+    ghost answers = { λ n request answer m. (answer ≡ answer_of n request) ×
+        (m ≡ count_after n request) };
 
     fn order(
         &mut self,

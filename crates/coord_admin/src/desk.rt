@@ -18,7 +18,8 @@ pub trait Desk {
 
     /// Carries out a client's order, once for each number.
     fn order(&mut self, client: Client, number: u64, command: Command) -> Result<Reply, Refusal>
-        ensures { answers self.old (request.Order client number command) (order_answer result) self.new };
+        ensures { answers self.old (request.Order client number command)
+            (order_answer result) self.new };
 
     /// Shows the settled world.
     fn show(&mut self) -> Result<View, Refusal>

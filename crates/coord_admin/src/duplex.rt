@@ -33,10 +33,12 @@ pub trait Duplex {
     /// Writes the reply to a line whole.
     fn reply(&mut self, text: &[u8]) -> Result<(), NotWritten>
         ensures whole { OnOk result (exchanged self.old [] text.now self.new) }
-        ensures part { OnErr result ((part : List ℕ) × exchanged self.old [] part self.new × IsFirstPart part text.now) }
+        ensures part { OnErr result ((part : List ℕ) × exchanged self.old [] part self.new ×
+            IsFirstPart part text.now) }
         ensures end { has_ended self.old → has_ended self.new };
 
     ghost at_rest: { (a : Self) → exchanged a [] [] a };
 
-    ghost in_turn: { (a b c : Self) (came more went later : List ℕ) → exchanged a came went b → exchanged b more later c → exchanged a (came ++ more) (went ++ later) c };
+    ghost in_turn: { (a b c : Self) (came more went later : List ℕ) → exchanged a came went b →
+        exchanged b more later c → exchanged a (came ++ more) (went ++ later) c };
 }

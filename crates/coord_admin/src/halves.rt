@@ -19,7 +19,9 @@ pub struct Halves<R, W> {
 }
 
 impl<R: Read, W: Write> Duplex for Halves<R, W> {
-    ghost exchanged = { λ a came went b. Consumes (R.remaining a.reader) (R.remaining b.reader) came × Appends (W.contents a.writer) (W.contents b.writer) went };
+    ghost exchanged = { λ a came went b.
+        Consumes (R.remaining a.reader) (R.remaining b.reader) came ×
+        Appends (W.contents a.writer) (W.contents b.writer) went };
 
     ghost has_ended = { λ a. IsAtEnd (R.remaining a.reader) };
 
@@ -36,13 +38,18 @@ impl<R: Read, W: Write> Duplex for Halves<R, W> {
 
     ghost at_rest = { λ a. (Consumes-nil _, Appends-nil _) };
 
-    ghost in_turn = { λ a b c came more went later first second. (Consumes-trans _ _ _ came more first.0 second.0, Appends-trans _ _ _ went later first.1 second.1) };
+    ghost in_turn = { λ a b c came more went later first second. (
+      Consumes-trans _ _ _ came more first.0 second.0,
+      Appends-trans _ _ _ went later first.1
+          second.1,
+    ) };
 }
 
 /// Writes a text whole, by one call of `write` where the writer takes it whole, and flushes.
 fn write_text<W: Write>(writer: &mut W, text: &[u8]) -> Result<(), NotWritten>
     ensures ok { OnOk result (Appends (W.contents writer.old) (W.contents writer.new) text.now) }
-    ensures err { OnErr result (WritesFirstPart (W.contents writer.old) (W.contents writer.new) text.now) }
+    ensures err { OnErr result (WritesFirstPart (W.contents writer.old)
+        (W.contents writer.new) text.now) }
 {
     let mut rest = text;
     for _ in 0..MOST_WRITES {

@@ -61,7 +61,8 @@ fn shown_value(alloc: Global, world: &View) -> Result<Value, AllocError>
 
 fn line_of(alloc: Global, value: &Value) -> Result<String, AllocError>
     requires { has_float (view value.now) ≡ false }
-    ensures { IfOk result (λ line. string_bytes line ≡ compact_text (view value.now) ++ codes "\n") }
+    ensures { IfOk result (λ line. string_bytes line ≡
+        compact_text (view value.now) ++ codes "\n") }
 {
     let mut line = value.to_string(alloc)?;
     line.push('\n')?;

@@ -108,7 +108,8 @@ fn take<C: Duplex, D: Desk>(
     ensures open { result ≡ Ok false → (done : List Line) × (replies : List Answer)
         × AllGet D.answers desk.old done replies desk.new
         × C.exchanged connection.old [] (reply_lines replies) connection.new
-        × ((more : List ℕ) → lines_on line.old (piece.now ++ more) ≡ done ++ lines_on line.new more) }
+        × ((more : List ℕ) → lines_on line.old (piece.now ++ more) ≡
+        done ++ lines_on line.new more) }
     ensures closed { result ≡ Ok true → (text : List ℕ)
         × C.exchanged connection.old [] text connection.new
         × Closes D.answers desk.old (lines_on line.old piece.now) text desk.new }
@@ -138,7 +139,8 @@ fn end_line<C: Duplex, D: Desk>(
     ensures ok { IfOk result (λ closed. (told : Answer) × (closed ≡ is_closed told)
         × Gets D.answers desk.old (option_copied line.entry) told desk.new
         × C.exchanged connection.old [] (reply_line told) connection.new) }
-    ensures err { OnErr result ((told : Answer) × Gets D.answers desk.old (option_copied line.entry) told desk.new
+    ensures err { OnErr result ((told : Answer) ×
+        Gets D.answers desk.old (option_copied line.entry) told desk.new
         × WritesPart C.exchanged connection.old connection.new (reply_line told)) }
 {
     let answer = answer_line(alloc, line, desk);
@@ -148,8 +150,10 @@ fn end_line<C: Duplex, D: Desk>(
 
 /// Ends the input. A last line that no line feed ended is unfinished, if it has a byte.
 fn finish<C: Duplex>(line: &LineBuffer, connection: &mut C) -> Result<(), NotWritten>
-    ensures printed { OnOk result (C.exchanged connection.old [] (reply_lines (last_answers line.now)) connection.new) }
-    ensures failed { OnErr result (WritesPart C.exchanged connection.old connection.new (reply_line (Faulted Unfinished))) }
+    ensures printed { OnOk result
+        (C.exchanged connection.old [] (reply_lines (last_answers line.now)) connection.new) }
+    ensures failed { OnErr result (WritesPart C.exchanged connection.old connection.new
+        (reply_line (Faulted Unfinished))) }
     ensures within { IsWithin line.now }
     ensures end { C.has_ended connection.old → C.has_ended connection.new }
 {

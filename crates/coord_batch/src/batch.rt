@@ -61,9 +61,11 @@ fn decode(alloc: Global, version: u8, bytes: &[u8]) -> Result<Batch, CodecFault>
 pub fn read_batch(alloc: Global, version: u8, bytes: &[u8]) -> Result<Batch, CodecFault>
     // What is read is spelled so.
     ensures found { IfOk result (λ b.
-        (is_version version ≡ true) × IsBatch version b.first b.steps.items × (bytes.now ≡ (batch version).text (content b))) }
+        (is_version version ≡ true) × IsBatch version b.first b.steps.items ×
+        (bytes.now ≡ (batch version).text (content b))) }
     // What is spelled so is read, unless memory runs out.
-    ensures only { (first : ℕ) (taken : List Taken) → is_version version ≡ true → IsBatch version first taken → bytes.now ≡ (batch version).text (pair first taken)
+    ensures only { (first : ℕ) (taken : List Taken) → is_version version ≡ true →
+        IsBatch version first taken → bytes.now ≡ (batch version).text (pair first taken)
         → Answers content result (Ok (pair first taken)) }
     // Another version is told also where memory is short.
     ensures version { (result ≡ Err bad_version) ↔ (is_version version ≡ false) }

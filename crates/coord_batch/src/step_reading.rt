@@ -73,7 +73,8 @@ impl<'a> Input<'a> {
         version: Version,
         count: u16,
     ) -> Result<Vec<Step>, ReadError>
-        ensures { Reads (λ v. v.items) result (items_at (λ _. step version) count [] self.old) self.new }
+        ensures { Reads (λ v. v.items) result
+            (items_at (λ _. step version) count [] self.old) self.new }
     {
         let mut list = Vec::with_capacity(alloc, usize::from(count))?;
         for _ in 0..count {

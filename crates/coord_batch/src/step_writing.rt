@@ -59,7 +59,8 @@ fn put_address(
     number: u64,
 ) -> Result<(), AllocError>
     ensures spelled { OnOk result
-        (out.new.items ≡ out.old.items ++ from ∷ to ∷ to_be_bytes w64 inc ++ to_be_bytes w64 number) }
+        (out.new.items ≡ out.old.items ++ from ∷ to ∷ to_be_bytes w64 inc ++
+        to_be_bytes w64 number) }
     ensures fits { OnOk result (IsNode from × IsNode to) }
 {
     out.push(from.number())?;
@@ -73,8 +74,10 @@ fn put_address(
 /// version 1 an Abort brings no distance.
 #[tactic(auto, unfolding(crate::specs::Fields::message, crate::specs::Fields::message_case, crate::specs::Fields::distance, crate::specs::Fields::unless, crate::specs::Fields::at_most))]
 pub fn put_message(out: &mut Vec<u8>, version: Version, msg: Msg) -> Result<(), AllocError>
-    ensures spelled { (most : ℕ) → OnOk result (out.new.items ≡ out.old.items ++ (message version most).text msg) }
-    ensures fits { (version ≡ 1 → brought msg ≡ 0) → OnOk result ((distance version (2 ^ 64 - 1)).Fits (brought msg)) }
+    ensures spelled { (most : ℕ) →
+        OnOk result (out.new.items ≡ out.old.items ++ (message version most).text msg) }
+    ensures fits { (version ≡ 1 → brought msg ≡ 0) →
+        OnOk result ((distance version (2 ^ 64 - 1)).Fits (brought msg)) }
 {
     match msg {
         Msg::Abort(distance) => {
@@ -96,7 +99,8 @@ fn put_data_packet(
     packet: DataPacket,
 ) -> Result<(), AllocError>
     requires { IsWritable version (Step.Take packet) }
-    ensures spelled { OnOk result (out.new.items ≡ out.old.items ++ (data_packet version).text packet) }
+    ensures spelled { OnOk result (out.new.items ≡
+        out.old.items ++ (data_packet version).text packet) }
     ensures fits { OnOk result (StepFits version (Step.Take packet)) }
 {
     put_address(out, packet.from, packet.to, packet.inc, packet.number)?;

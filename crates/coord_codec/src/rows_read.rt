@@ -28,7 +28,8 @@ pub struct NodesRead {
     /// The group of each node that is there, at its place.
     groups: [Option<Group>; NODES],
     ghost last_row: { last ≡ last_by (λ r. r.id) 0 rows.items },
-    ghost grouped: { (u : ℕ) → 1 ≤ u → u ≤ MAX_NODES → slice_index_or groups (u - 1) None ≡ group_of rows.items u },
+    ghost grouped: { (u : ℕ) → 1 ≤ u → u ≤ MAX_NODES → slice_index_or groups (u - 1) None ≡
+        group_of rows.items u },
 }
 
 impl NodesRead {
@@ -72,7 +73,8 @@ impl NodesRead {
 /// Notes the group of the node at a place, where none was noted before.
 fn note_group(groups: &mut [Option<Group>; NODES], place: usize, group: Group)
     requires { place < NODES }
-    ensures first { slice_index_or groups.old place None ≡ None → groups.new ≡ slice_set groups.old place (Some group) }
+    ensures first { slice_index_or groups.old place None ≡ None →
+        groups.new ≡ slice_set groups.old place (Some group) }
     ensures later { IsSome (slice_index_or groups.old place None) → groups.new ≡ groups.old }
 {
     if groups[place].is_none() {
@@ -90,7 +92,8 @@ pub struct LinksRead {
     degrees: [u8; NODES],
     ghost last_first: { last.0 ≡ (last_ends rows.items).0 },
     ghost last_second: { last.1 ≡ (last_ends rows.items).1 },
-    ghost counted: { (u : ℕ) → 1 ≤ u → u ≤ MAX_NODES → slice_index_or degrees (u - 1) 0 ≡ degree u rows.items },
+    ghost counted: { (u : ℕ) → 1 ≤ u → u ≤ MAX_NODES →
+        slice_index_or degrees (u - 1) 0 ≡ degree u rows.items },
 }
 
 impl LinksRead {

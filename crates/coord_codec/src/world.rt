@@ -56,9 +56,11 @@ fn assembled(alloc: Global, version: u8, bytes: &[u8]) -> Result<World, CodecFau
 /// "Worlds"). It need not be legal.
 pub fn read_world(alloc: Global, version: u8, bytes: &[u8]) -> Result<World, CodecFault>
     // What is read is spelled so.
-    ensures found { IfOk result (λ w. (w.version ≡ version) × InRange w × (bytes.now ≡ (world version).text (rows_of w))) }
+    ensures found { IfOk result (λ w. (w.version ≡ version) × InRange w ×
+        (bytes.now ≡ (world version).text (rows_of w))) }
     // What spells a world is read as that world, unless memory runs out.
-    ensures only { (w : Numbered) → w.version ≡ version → InRange w → bytes.now ≡ (world version).text (rows_of w)
+    ensures only { (w : Numbered) → w.version ≡ version → InRange w →
+        bytes.now ≡ (world version).text (rows_of w)
         → Answers (λ v. v) result (Ok w) }
     // Another version is told also where memory is short.
     ensures version { (result ≡ Err bad_version) ↔ (is_version version ≡ false) }
@@ -70,7 +72,8 @@ pub fn read_world(alloc: Global, version: u8, bytes: &[u8]) -> Result<World, Cod
 
 /// The one spelling of a world, in its version.
 pub fn write_world(alloc: Global, written: &World) -> Result<Vec<u8>, AllocError>
-    ensures spelled { IfOk result (λ v. v.items ≡ (world written.now.version).text (rows_of written.now)) }
+    ensures spelled { IfOk result (λ v. v.items ≡
+        (world written.now.version).text (rows_of written.now)) }
     ensures len { Legal written.now → IfOk result (λ v. length v.items ≤ MAX_SNAPSHOT_BYTES) }
 {
     written.ranges();
@@ -81,7 +84,8 @@ pub fn write_world(alloc: Global, written: &World) -> Result<Vec<u8>, AllocError
 
 fn put_world(out: &mut Vec<u8>, written: &World) -> Result<(), AllocError>
     requires { InRange written.now }
-    ensures { OnOk result (out.new.items ≡ out.old.items ++ (world written.now.version).text (rows_of written.now)) }
+    ensures { OnOk result (out.new.items ≡ out.old.items ++ (world written.now.version).text
+        (rows_of written.now)) }
 {
     out.extend_from_slice(&written.count().to_be_bytes())?;
     put_nodes(out, written)?;

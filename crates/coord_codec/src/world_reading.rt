@@ -61,7 +61,8 @@ fn read_node_row(
     count: u64,
     front: &NodesRead,
 ) -> Result<NodeRow, ReadError>
-    ensures { Reads (λ x. x) result ((node_row version count front.now.rows.items).read input.old) input.new }
+    ensures { Reads (λ x. x) result
+        ((node_row version count front.now.rows.items).read input.old) input.new }
 {
     let left = input.left();
     let id = input.node()?;
@@ -98,7 +99,8 @@ fn read_ends(
     nodes: &NodesRead,
     front: &LinksRead,
 ) -> Result<(NodeId, NodeId), ReadError>
-    ensures { Reads (λ x. x) result ((ends nodes.now.rows.items front.now.rows.items).read input.old) input.new }
+    ensures { Reads (λ x. x) result
+        ((ends nodes.now.rows.items front.now.rows.items).read input.old) input.new }
 {
     let left = input.left();
     let a = input.node()?;
@@ -126,8 +128,10 @@ fn read_messages(
 ) -> Result<(), ReadError>
     requires empty { lane.old.queue ≡ [] }
     requires most { count ≤ 4 }
-    ensures read { Reads (λ _. lane.new.queue) result (items_at (λ _. message version most) count [] input.old) input.new }
-    ensures same { OnOk result ((lane.new.inc ≡ lane.old.inc) × (lane.new.base ≡ lane.old.base) × (lane.new.got ≡ lane.old.got)) }
+    ensures read { Reads (λ _. lane.new.queue) result
+        (items_at (λ _. message version most) count [] input.old) input.new }
+    ensures same { OnOk result ((lane.new.inc ≡ lane.old.inc) × (lane.new.base ≡ lane.old.base) ×
+        (lane.new.got ≡ lane.old.got)) }
 {
     for _ in 0..count {
         let msg = input.message(version, most)?;
@@ -145,8 +149,10 @@ fn read_queue(
     lane: &mut Lane,
 ) -> Result<(), ReadError>
     requires { lane.old.queue ≡ [] }
-    ensures read { Reads (λ _. lane.new.queue) result ((queue version most).read input.old) input.new }
-    ensures same { OnOk result ((lane.new.inc ≡ lane.old.inc) × (lane.new.base ≡ lane.old.base) × (lane.new.got ≡ lane.old.got)) }
+    ensures read { Reads (λ _. lane.new.queue) result
+        ((queue version most).read input.old) input.new }
+    ensures same { OnOk result ((lane.new.inc ≡ lane.old.inc) × (lane.new.base ≡ lane.old.base) ×
+        (lane.new.got ≡ lane.old.got)) }
 {
     let count = input.how_many(4)?;
     read_messages(input, version, most, lane, count)
@@ -173,7 +179,9 @@ fn read_link_row(
     nodes: &NodesRead,
     front: &LinksRead,
 ) -> Result<LinkRow, ReadError>
-    ensures { Reads (λ x. x) result ((link_row version count nodes.now.rows.items front.now.rows.items).read input.old) input.new }
+    ensures { Reads (λ x. x) result
+        ((link_row version count nodes.now.rows.items front.now.rows.items).read input.old)
+        input.new }
 {
     let (a, b) = read_ends(input, nodes, front)?;
     let inc = input.from_one_to(count)?;
@@ -234,7 +242,8 @@ fn read_node_list(
     count: u64,
     rows: u8,
 ) -> Result<NodesRead, ReadError>
-    ensures { Reads (λ v. v.rows.items) result (items_at (node_row version count) rows [] input.old) input.new }
+    ensures { Reads (λ v. v.rows.items) result
+        (items_at (node_row version count) rows [] input.old) input.new }
 {
     let mut list = NodesRead::new(alloc);
     for _ in 0..rows {
@@ -253,7 +262,8 @@ fn read_link_list(
     nodes: &NodesRead,
     rows: u8,
 ) -> Result<LinksRead, ReadError>
-    ensures { Reads (λ v. v.rows.items) result (items_at (link_row version count nodes.now.rows.items) rows [] input.old) input.new }
+    ensures { Reads (λ v. v.rows.items) result
+        (items_at (link_row version count nodes.now.rows.items) rows [] input.old) input.new }
 {
     let mut list = LinksRead::new(alloc);
     for _ in 0..rows {
@@ -270,7 +280,8 @@ fn read_client_list(
     count: u64,
     rows: u8,
 ) -> Result<Vec<ClientRow>, ReadError>
-    ensures { Reads (λ v. v.items) result (items_at (client_row count) rows [] input.old) input.new }
+    ensures { Reads (λ v. v.items) result
+        (items_at (client_row count) rows [] input.old) input.new }
 {
     let mut list = Vec::new(alloc);
     let mut last = 0;

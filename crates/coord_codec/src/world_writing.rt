@@ -29,7 +29,10 @@ trait Row: Copy {
     ghost text: { ℕ → ℕ × Self → List ℕ };
 
     fn put(&self, out: &mut Vec<u8>, version: Version, number: u8) -> Result<(), AllocError>
-        ensures { OnOk result (out.new.items ≡ out.old.items ++ text version record { 0 = number; 1 = self.now }) };
+        ensures { OnOk result (out.new.items ≡ out.old.items ++ text version record {
+          0 = number;
+          1 = self.now;
+        }) };
 }
 
 impl Row for Node {
@@ -84,7 +87,8 @@ fn parent_byte(parent: Option<NodeId>) -> u8
 /// What a node's row begins with, a byte each.
 fn put_node_bytes(out: &mut Vec<u8>, number: u8, node: &Node) -> Result<(), AllocError>
     ensures { OnOk result (out.new.items ≡ out.old.items
-        ++ number ∷ node.now.group ∷ mode_number node.now.mode ∷ parent_number node.now.parent ∷ []) }
+        ++ number ∷ node.now.group ∷ mode_number node.now.mode ∷ parent_number node.now.parent ∷
+        []) }
 {
     out.push(number)?;
     out.push(node.group().number())?;
@@ -96,7 +100,9 @@ fn put_node_bytes(out: &mut Vec<u8>, number: u8, node: &Node) -> Result<(), Allo
 /// A node's distance, which stands in version 2 alone.
 #[tactic(auto, unfolding(coord_batch::specs::Fields::distance, coord_batch::specs::Fields::unless, coord_batch::specs::Fields::at_most))]
 fn put_distance(out: &mut Vec<u8>, version: Version, node: &Node) -> Result<(), AllocError>
-    ensures { OnOk result (out.new.items ≡ out.old.items ++ (distance version (most_distance node.now.mode 0)).text node.now.distance) }
+    ensures { OnOk result (out.new.items ≡
+        out.old.items ++ (distance version (most_distance node.now.mode 0)).text
+        node.now.distance) }
 {
     if version.number() != 1 {
         out.extend_from_slice(&node.distance().to_be_bytes())?;
@@ -111,7 +117,10 @@ fn put_node_row(
     number: u8,
     node: &Node,
 ) -> Result<(), AllocError>
-    ensures { OnOk result (out.new.items ≡ out.old.items ++ node_text version record { 0 = number; 1 = node.now }) }
+    ensures { OnOk result (out.new.items ≡ out.old.items ++ node_text version record {
+      0 = number;
+      1 = node.now;
+    }) }
 {
     put_node_bytes(out, number, node)?;
     out.extend_from_slice(&node.pend().bits().to_be_bytes())?;
@@ -120,7 +129,8 @@ fn put_node_row(
 }
 
 fn put_messages(out: &mut Vec<u8>, version: Version, queue: &[Msg]) -> Result<(), AllocError>
-    ensures { OnOk result (out.new.items ≡ out.old.items ++ flat_map (message version 0).text queue.now) }
+    ensures { OnOk result (out.new.items ≡
+        out.old.items ++ flat_map (message version 0).text queue.now) }
 {
     for msg in queue {
         put_message(out, version, *msg)?;
@@ -139,7 +149,8 @@ fn put_queue(out: &mut Vec<u8>, version: Version, messages: &[Msg]) -> Result<()
 
 /// Two numbers, one after the other.
 fn put_numbers(out: &mut Vec<u8>, first: u64, second: u64) -> Result<(), AllocError>
-    ensures { OnOk result (out.new.items ≡ out.old.items ++ to_be_bytes w64 first ++ to_be_bytes w64 second) }
+    ensures { OnOk result (out.new.items ≡
+        out.old.items ++ to_be_bytes w64 first ++ to_be_bytes w64 second) }
 {
     out.extend_from_slice(&first.to_be_bytes())?;
     out.extend_from_slice(&second.to_be_bytes())?;
@@ -147,7 +158,8 @@ fn put_numbers(out: &mut Vec<u8>, first: u64, second: u64) -> Result<(), AllocEr
 }
 
 fn put_lane(out: &mut Vec<u8>, version: Version, put: &Lane) -> Result<(), AllocError>
-    ensures { OnOk result (out.new.items ≡ out.old.items ++ (lane version 0).text (content_of_lane put.now)) }
+    ensures { OnOk result (out.new.items ≡ out.old.items ++ (lane version 0).text
+        (content_of_lane put.now)) }
 {
     put_numbers(out, put.base(), put.got())?;
     put_queue(out, version, put.queue())?;
@@ -156,7 +168,8 @@ fn put_lane(out: &mut Vec<u8>, version: Version, put: &Lane) -> Result<(), Alloc
 
 #[tactic(auto, using(std::proofs::Common::append_assoc), unfolding(crate::specs::Worlds::link_row, crate::specs::Worlds::ends, coord_batch::specs::Fields::from_one_to, coord_batch::specs::Fields::node))]
 fn put_link_row(out: &mut Vec<u8>, version: Version, row: &LinkRow) -> Result<(), AllocError>
-    ensures { OnOk result (out.new.items ≡ out.old.items ++ (link_row version 0 [] []).text row.now) }
+    ensures { OnOk result (out.new.items ≡
+        out.old.items ++ (link_row version 0 [] []).text row.now) }
 {
     out.push(row.a.number())?;
     out.push(row.b.number())?;
@@ -172,7 +185,8 @@ fn put_client_row(
     client: u8,
     session: &Session,
 ) -> Result<(), AllocError>
-    ensures { OnOk result (out.new.items ≡ out.old.items ++ session_text version record { 0 = client; 1 = session.now }) }
+    ensures { OnOk result (out.new.items ≡
+        out.old.items ++ session_text version record { 0 = client; 1 = session.now }) }
 {
     out.push(client)?;
     out.extend_from_slice(&session.number.to_be_bytes())?;
@@ -190,7 +204,8 @@ fn put_row<const MOST: u8, R: Row>(
     number: u8,
 ) -> Result<(), AllocError>
     requires { (1 ≤ number) × (number ≤ MOST) }
-    ensures { OnOk result (out.new.items ≡ out.old.items ++ flat_map (R.text version) (entry_at rows.now number)) }
+    ensures { OnOk result (out.new.items ≡ out.old.items ++ flat_map (R.text version)
+        (entry_at rows.now number)) }
 {
     let Some(id) = Identifier::new(number) else {
         return Ok(());
@@ -224,7 +239,9 @@ fn put_link(
     world: &World,
     entry: &((NodeId, NodeId), Lane),
 ) -> Result<(), AllocError>
-    ensures { OnOk result (out.new.items ≡ out.old.items ++ flat_map (link_row world.now.version 0 [] []).text (row_of_lane world.now entry.now)) }
+    ensures { OnOk result (out.new.items ≡
+        out.old.items ++ flat_map (link_row world.now.version 0 [] []).text
+        (row_of_lane world.now entry.now)) }
 {
     let ((a, b), forth) = *entry;
     if a >= b {
@@ -261,7 +278,8 @@ fn count_up(lanes: &[((NodeId, NodeId), Lane)]) -> u8
 #[tactic(auto, unfolding(crate::specs::Worlds::nodes, coord_batch::specs::Fields::how_many))]
 pub fn put_nodes(out: &mut Vec<u8>, world: &World) -> Result<(), AllocError>
     requires { InRange world.now }
-    ensures { OnOk result (out.new.items ≡ out.old.items ++ (nodes world.now.version 0).text (rows_of world.now).nodes) }
+    ensures { OnOk result (out.new.items ≡ out.old.items ++ (nodes world.now.version 0).text
+        (rows_of world.now).nodes) }
 {
     put_rows(out, world.version(), world.nodes())
 }
@@ -269,7 +287,8 @@ pub fn put_nodes(out: &mut Vec<u8>, world: &World) -> Result<(), AllocError>
 #[tactic(auto, unfolding(crate::specs::Worlds::links, coord_batch::specs::Fields::how_many))]
 pub fn put_links(out: &mut Vec<u8>, world: &World) -> Result<(), AllocError>
     requires { InRange world.now }
-    ensures { OnOk result (out.new.items ≡ out.old.items ++ (links world.now.version 0 []).text (rows_of world.now).links) }
+    ensures { OnOk result (out.new.items ≡ out.old.items ++ (links world.now.version 0 []).text
+        (rows_of world.now).links) }
 {
     let lanes = world.lanes();
     out.push(count_up(lanes))?;
@@ -282,7 +301,8 @@ pub fn put_links(out: &mut Vec<u8>, world: &World) -> Result<(), AllocError>
 #[tactic(auto, unfolding(crate::specs::Worlds::clients, coord_batch::specs::Fields::how_many))]
 pub fn put_clients(out: &mut Vec<u8>, world: &World) -> Result<(), AllocError>
     requires { InRange world.now }
-    ensures { OnOk result (out.new.items ≡ out.old.items ++ (clients 0).text (rows_of world.now).clients) }
+    ensures { OnOk result (out.new.items ≡
+        out.old.items ++ (clients 0).text (rows_of world.now).clients) }
 {
     put_rows(out, world.version(), world.sessions())
 }

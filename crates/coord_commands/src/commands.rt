@@ -31,8 +31,24 @@ pub fn run<
     E: Write,
 >(rt: &S, words: &[String], input: &mut R, output: &mut W, errors: &mut E) -> u8
     ensures { Runs (map string_bytes words.now) result
-        (record { input = R.remaining input.old; streams = record { output = W.contents output.old; errors = E.contents errors.old }; holds = λ _. None; says = λ _. None })
-        (record { input = R.remaining input.new; streams = record { output = W.contents output.new; errors = E.contents errors.new }; holds = λ _. None; says = λ _. None }) }
+        (record {
+          input = R.remaining input.old;
+          streams = record {
+            output = W.contents output.old;
+            errors = E.contents errors.old;
+          };
+          holds = λ _. None;
+          says = λ _. None;
+        })
+        (record {
+          input = R.remaining input.new;
+          streams = record {
+            output = W.contents output.new;
+            errors = E.contents errors.new;
+          };
+          holds = λ _. None;
+          says = λ _. None;
+        }) }
 {
     let mut folder = FileFolder::new(rt);
     carry_out(rt, &mut folder, words, input, output, errors)
@@ -47,8 +63,24 @@ fn carry_out<
     E: Write,
 >(rt: &S, folder: &mut F, words: &[String], input: &mut R, output: &mut W, errors: &mut E) -> u8
     ensures { Runs (map string_bytes words.now) result
-        (record { input = R.remaining input.old; streams = record { output = W.contents output.old; errors = E.contents errors.old }; holds = F.holds folder.old; says = F.says folder.old })
-        (record { input = R.remaining input.new; streams = record { output = W.contents output.new; errors = E.contents errors.new }; holds = F.holds folder.new; says = F.says folder.new }) }
+        (record {
+          input = R.remaining input.old;
+          streams = record {
+            output = W.contents output.old;
+            errors = E.contents errors.old;
+          };
+          holds = F.holds folder.old;
+          says = F.says folder.old;
+        })
+        (record {
+          input = R.remaining input.new;
+          streams = record {
+            output = W.contents output.new;
+            errors = E.contents errors.new;
+          };
+          holds = F.holds folder.new;
+          says = F.says folder.new;
+        }) }
 {
     match run_in(rt.alloc(), folder, words, input, output, errors) {
         Some(status) => status,
@@ -73,7 +105,9 @@ pub fn init<S: Files<File = File> + AllocGlobal, W: Write, E: Write>(
     output: &mut W,
     errors: &mut E,
 ) -> u8
-    ensures { Ends (IsOfMaking None None None) (IsCreatedLine None None None) result (record { output = W.contents output.old; errors = E.contents errors.old }) (record { output = W.contents output.new; errors = E.contents errors.new }) }
+    ensures { Ends (IsOfMaking None None None) (IsCreatedLine None None None) result
+        (record { output = W.contents output.old; errors = E.contents errors.old })
+        (record { output = W.contents output.new; errors = E.contents errors.new }) }
 {
     let mut folder = FileFolder::new(rt);
     init_in(rt.alloc(), &mut folder, file, topology, output, errors)
@@ -88,7 +122,9 @@ pub fn migrate<S: Files<File = File> + AllocGlobal, W: Write, E: Write>(
     output: &mut W,
     errors: &mut E,
 ) -> u8
-    ensures { Ends (IsOfMigrating None None) (IsMigratedLine None None) result (record { output = W.contents output.old; errors = E.contents errors.old }) (record { output = W.contents output.new; errors = E.contents errors.new }) }
+    ensures { Ends (IsOfMigrating None None) (IsMigratedLine None None) result
+        (record { output = W.contents output.old; errors = E.contents errors.old })
+        (record { output = W.contents output.new; errors = E.contents errors.new }) }
 {
     let mut folder = FileFolder::new(rt);
     migrate_in(rt.alloc(), &mut folder, file, output, errors)
@@ -102,7 +138,13 @@ pub fn check<S: Files<File = File> + AllocGlobal, W: Write, E: Write>(
     output: &mut W,
     errors: &mut E,
 ) -> u8
-    ensures { Checks None result (record { output = W.contents output.old; errors = E.contents errors.old }) (record { output = W.contents output.new; errors = E.contents errors.new }) }
+    ensures { Checks None result (record {
+      output = W.contents output.old;
+      errors = E.contents errors.old;
+    }) (record {
+      output = W.contents output.new;
+      errors = E.contents errors.new;
+    }) }
 {
     check_in(rt.alloc(), &FileFolder::new(rt), file, output, errors)
 }
@@ -114,7 +156,13 @@ pub fn show<S: Files<File = File> + AllocGlobal, W: Write, E: Write>(
     output: &mut W,
     errors: &mut E,
 ) -> u8
-    ensures { Shows None result (record { output = W.contents output.old; errors = E.contents errors.old }) (record { output = W.contents output.new; errors = E.contents errors.new }) }
+    ensures { Shows None result (record {
+      output = W.contents output.old;
+      errors = E.contents errors.old;
+    }) (record {
+      output = W.contents output.new;
+      errors = E.contents errors.new;
+    }) }
 {
     show_in(rt.alloc(), &FileFolder::new(rt), file, output, errors)
 }

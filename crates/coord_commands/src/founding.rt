@@ -27,7 +27,9 @@ pub fn founding_steps(alloc: Global, topology: &Topology) -> Result<Vec<Step>, F
     ensures steps { IfOk result (λ steps. steps.items ≡ orders (content topology.now)) }
     ensures fresh { IfOk result (λ steps. AllFresh (no_world 2) (no_world 2) steps.items) }
     ensures few { IfOk result (λ steps. length steps.items ≤ MAX_BATCH_STEPS) }
-    ensures refused { IfErr result (λ fault. (fault ≡ OutOfMemory) ⊎ ((reason : Reason) × (fault ≡ Refused reason) × RefusesToBegin (orders (content topology.now)) reason)) }
+    ensures refused { IfErr result (λ fault. (fault ≡ OutOfMemory) ⊎
+        ((reason : Reason) × (fault ≡ Refused reason) ×
+        RefusesToBegin (orders (content topology.now)) reason)) }
 {
     let commands = commands(alloc, topology)?;
     submit_all(alloc, &commands)
@@ -67,7 +69,9 @@ fn submit_all(alloc: Global, commands: &[Command]) -> Result<Vec<Step>, Fault>
     ensures steps { IfOk result (λ steps. steps.items ≡ numbered 1 commands.now) }
     ensures fresh { IfOk result (λ steps. AllFresh (no_world 2) (no_world 2) steps.items) }
     ensures few { IfOk result (λ steps. length steps.items ≤ MAX_BATCH_STEPS) }
-    ensures refused { IfErr result (λ fault. (fault ≡ OutOfMemory) ⊎ ((reason : Reason) × (fault ≡ Refused reason) × RefusesToBegin (numbered 1 commands.now) reason)) }
+    ensures refused { IfErr result (λ fault. (fault ≡ OutOfMemory) ⊎
+        ((reason : Reason) × (fault ≡ Refused reason) ×
+        RefusesToBegin (numbered 1 commands.now) reason)) }
 {
     let mut founding = Founding::new(alloc);
     for command in commands {
@@ -103,9 +107,12 @@ impl Founding {
     fn submit(&mut self, command: &Command) -> Result<(), Fault>
         requires { IsUnderWay self.old }
         ensures under_way { OnOk result (IsUnderWay self.new) }
-        ensures taken { OnOk result (self.new.steps.items ≡ self.old.steps.items ++ Order founder (length self.old.steps.items + 1) command.now ∷ []) }
+        ensures taken { OnOk result (self.new.steps.items ≡ self.old.steps.items ++ Order founder
+            (length self.old.steps.items + 1) command.now ∷ []) }
         ensures refused { IfErr result (λ fault. (fault ≡ OutOfMemory)
-            ⊎ ((reason : Reason) × (fault ≡ Refused reason) × (accepts self.old.world (no_world 2) (Order founder (length self.old.steps.items + 1) command.now) ≡ Err reason))) }
+            ⊎ ((reason : Reason) × (fault ≡ Refused reason) ×
+            (accepts self.old.world (no_world 2)
+            (Order founder (length self.old.steps.items + 1) command.now) ≡ Err reason))) }
     {
         let number = self.steps.len() as u64 + 1;
         let step = Step::Order(founder(), number, *command);

@@ -29,7 +29,9 @@ pub fn check_in<F: Folder, W: Write, E: Write>(
     output: &mut W,
     errors: &mut E,
 ) -> u8
-    ensures { Checks (reads (F.holds folder.now file.now)) result (record { output = W.contents output.old; errors = E.contents errors.old }) (record { output = W.contents output.new; errors = E.contents errors.new }) }
+    ensures { Checks (reads (F.holds folder.now file.now)) result
+        (record { output = W.contents output.old; errors = E.contents errors.old })
+        (record { output = W.contents output.new; errors = E.contents errors.new }) }
 {
     match check_at(alloc, folder, file, output) {
         Ok(true) => 0,
@@ -44,10 +46,15 @@ fn check_at<F: Folder, W: Write>(
     file: &str,
     output: &mut W,
 ) -> Result<bool, Fault>
-    ensures legal { IfOk result (λ legal. legal ≡ true → PrintsOne (IsLegalLine (reads (F.holds folder.now file.now))) (W.contents output.old) (W.contents output.new)) }
-    ensures violated { IfOk result (λ legal. legal ≡ false → PrintsOne (IsViolatedLine (reads (F.holds folder.now file.now))) (W.contents output.old) (W.contents output.new)) }
+    ensures legal { IfOk result (λ legal. legal ≡ true →
+        PrintsOne (IsLegalLine (reads (F.holds folder.now file.now))) (W.contents output.old)
+        (W.contents output.new)) }
+    ensures violated { IfOk result (λ legal. legal ≡ false →
+        PrintsOne (IsViolatedLine (reads (F.holds folder.now file.now))) (W.contents output.old)
+        (W.contents output.new)) }
     ensures fault { IfErr result (IsOfOpening (reads (F.holds folder.now file.now))) }
-    ensures cut { IfErr result (IsCutShort (IsCheckedLine (reads (F.holds folder.now file.now))) (W.contents output.old) (W.contents output.new)) }
+    ensures cut { IfErr result (IsCutShort (IsCheckedLine (reads (F.holds folder.now file.now)))
+        (W.contents output.old) (W.contents output.new)) }
 {
     let disk = folder.open_to_read(file)?;
     check_store(alloc, disk, output)
@@ -62,7 +69,9 @@ pub fn show_in<F: Folder, W: Write, E: Write>(
     output: &mut W,
     errors: &mut E,
 ) -> u8
-    ensures { Shows (reads (F.holds folder.now file.now)) result (record { output = W.contents output.old; errors = E.contents errors.old }) (record { output = W.contents output.new; errors = E.contents errors.new }) }
+    ensures { Shows (reads (F.holds folder.now file.now)) result
+        (record { output = W.contents output.old; errors = E.contents errors.old })
+        (record { output = W.contents output.new; errors = E.contents errors.new }) }
 {
     report(show_at(alloc, folder, file, output), errors)
 }
@@ -73,9 +82,11 @@ fn show_at<F: Folder, W: Write>(
     file: &str,
     output: &mut W,
 ) -> Result<(), Fault>
-    ensures shown { OnOk result (PrintsOne (IsShown (reads (F.holds folder.now file.now))) (W.contents output.old) (W.contents output.new)) }
+    ensures shown { OnOk result (PrintsOne (IsShown (reads (F.holds folder.now file.now)))
+        (W.contents output.old) (W.contents output.new)) }
     ensures fault { IfErr result (IsOfOpening (reads (F.holds folder.now file.now))) }
-    ensures cut { IfErr result (IsCutShort (IsShown (reads (F.holds folder.now file.now))) (W.contents output.old) (W.contents output.new)) }
+    ensures cut { IfErr result (IsCutShort (IsShown (reads (F.holds folder.now file.now)))
+        (W.contents output.old) (W.contents output.new)) }
 {
     let disk = folder.open_to_read(file)?;
     show_store(alloc, disk, output)
@@ -84,10 +95,15 @@ fn show_at<F: Folder, W: Write>(
 /// Opens the store on a disk, and prints that it is legal, and how many steps it has, or else the
 /// first predicate that its snapshot violates. Whether it is legal is the answer.
 pub fn check_store<D: Disk, W: Write>(alloc: Global, disk: D, output: &mut W) -> Result<bool, Fault>
-    ensures legal { IfOk result (λ legal. legal ≡ true → PrintsOne (IsLegalLine (bytes_of D.keeps_model D.present disk)) (W.contents output.old) (W.contents output.new)) }
-    ensures violated { IfOk result (λ legal. legal ≡ false → PrintsOne (IsViolatedLine (bytes_of D.keeps_model D.present disk)) (W.contents output.old) (W.contents output.new)) }
+    ensures legal { IfOk result (λ legal. legal ≡ true →
+        PrintsOne (IsLegalLine (bytes_of D.keeps_model D.present disk)) (W.contents output.old)
+        (W.contents output.new)) }
+    ensures violated { IfOk result (λ legal. legal ≡ false →
+        PrintsOne (IsViolatedLine (bytes_of D.keeps_model D.present disk)) (W.contents output.old)
+        (W.contents output.new)) }
     ensures fault { IfErr result (IsOfOpening (bytes_of D.keeps_model D.present disk)) }
-    ensures cut { IfErr result (IsCutShort (IsCheckedLine (bytes_of D.keeps_model D.present disk)) (W.contents output.old) (W.contents output.new)) }
+    ensures cut { IfErr result (IsCutShort (IsCheckedLine (bytes_of D.keeps_model D.present disk))
+        (W.contents output.old) (W.contents output.new)) }
 {
     match Store::open(alloc, disk) {
         Ok(store) => {
@@ -110,9 +126,11 @@ pub fn check_store<D: Disk, W: Write>(alloc: Global, disk: D, output: &mut W) ->
 
 /// Opens the store on a disk, and prints its nodes and links.
 pub fn show_store<D: Disk, W: Write>(alloc: Global, disk: D, output: &mut W) -> Result<(), Fault>
-    ensures shown { OnOk result (PrintsOne (IsShown (bytes_of D.keeps_model D.present disk)) (W.contents output.old) (W.contents output.new)) }
+    ensures shown { OnOk result (PrintsOne (IsShown (bytes_of D.keeps_model D.present disk))
+        (W.contents output.old) (W.contents output.new)) }
     ensures fault { IfErr result (IsOfOpening (bytes_of D.keeps_model D.present disk)) }
-    ensures cut { IfErr result (IsCutShort (IsShown (bytes_of D.keeps_model D.present disk)) (W.contents output.old) (W.contents output.new)) }
+    ensures cut { IfErr result (IsCutShort (IsShown (bytes_of D.keeps_model D.present disk))
+        (W.contents output.old) (W.contents output.new)) }
 {
     match Store::open(alloc, disk) {
         Ok(store) => {

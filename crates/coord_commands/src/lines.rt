@@ -19,7 +19,8 @@ const MOST_WRITES: u64 = 1_048_576;
 /// Writes a text whole. Where it fails, a first part of it was written, and no more.
 pub fn print<W: Write>(output: &mut W, text: &str) -> Result<(), Fault>
     ensures ok { OnOk result (Appends (W.contents output.old) (W.contents output.new) text.now) }
-    ensures err { OnErr result (WritesFirstPart (W.contents output.old) (W.contents output.new) text.now) }
+    ensures err { OnErr result (WritesFirstPart (W.contents output.old)
+        (W.contents output.new) text.now) }
     ensures fault { IfErr result IsOfWriting }
 {
     if let Err(error) = write_whole(output, text.as_bytes()) {
@@ -33,8 +34,10 @@ pub fn print<W: Write>(output: &mut W, text: &str) -> Result<(), Fault>
 
 /// Prints the line of a fault, which takes no memory.
 pub fn print_fault<W: Write>(output: &mut W, fault: &Fault) -> io::Result<()>
-    ensures ok { OnOk result (Appends (W.contents output.old) (W.contents output.new) (fault_line fault.now)) }
-    ensures err { OnErr result (WritesFirstPart (W.contents output.old) (W.contents output.new) (fault_line fault.now)) }
+    ensures ok { OnOk result (Appends (W.contents output.old) (W.contents output.new)
+        (fault_line fault.now)) }
+    ensures err { OnErr result (WritesFirstPart (W.contents output.old) (W.contents output.new)
+        (fault_line fault.now)) }
 {
     let mut line = Room::new();
     writeln!(line, "resetd: {fault}")?;
@@ -44,7 +47,8 @@ pub fn print_fault<W: Write>(output: &mut W, fault: &Fault) -> io::Result<()>
 /// Writes bytes whole. Where it fails, a first part of them was written, and no more.
 fn write_whole<W: Write>(output: &mut W, bytes: &[u8]) -> io::Result<()>
     ensures ok { OnOk result (Appends (W.contents output.old) (W.contents output.new) bytes.now) }
-    ensures err { OnErr result (WritesFirstPart (W.contents output.old) (W.contents output.new) bytes.now) }
+    ensures err { OnErr result (WritesFirstPart (W.contents output.old)
+        (W.contents output.new) bytes.now) }
 {
     let mut rest = bytes;
     for _ in 0..MOST_WRITES {

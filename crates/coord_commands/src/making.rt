@@ -28,9 +28,12 @@ pub fn init_in<F: Folder, W: Write, E: Write>(
     output: &mut W,
     errors: &mut E,
 ) -> u8
-    ensures { Ends (IsOfMaking (F.says folder.old topology.now) (reads (F.holds folder.old file.now)) (reads (F.holds folder.new file.now)))
-        (IsCreatedLine (F.says folder.old topology.now) (reads (F.holds folder.old file.now)) (reads (F.holds folder.new file.now)))
-        result (record { output = W.contents output.old; errors = E.contents errors.old }) (record { output = W.contents output.new; errors = E.contents errors.new }) }
+    ensures { Ends (IsOfMaking (F.says folder.old topology.now)
+        (reads (F.holds folder.old file.now)) (reads (F.holds folder.new file.now)))
+        (IsCreatedLine (F.says folder.old topology.now) (reads (F.holds folder.old file.now))
+        (reads (F.holds folder.new file.now)))
+        result (record { output = W.contents output.old; errors = E.contents errors.old })
+        (record { output = W.contents output.new; errors = E.contents errors.new }) }
 {
     report(init_at(alloc, folder, file, topology, output), errors)
 }
@@ -42,9 +45,15 @@ fn init_at<F: Folder, W: Write>(
     topology: &str,
     output: &mut W,
 ) -> Result<(), Fault>
-    ensures printed { OnOk result (PrintsOne (IsCreatedLine (F.says folder.old topology.now) (reads (F.holds folder.old file.now)) (reads (F.holds folder.new file.now))) (W.contents output.old) (W.contents output.new)) }
-    ensures fault { IfErr result (IsOfMaking (F.says folder.old topology.now) (reads (F.holds folder.old file.now)) (reads (F.holds folder.new file.now))) }
-    ensures cut { IfErr result (IsCutShort (IsCreatedLine (F.says folder.old topology.now) (reads (F.holds folder.old file.now)) (reads (F.holds folder.new file.now))) (W.contents output.old) (W.contents output.new)) }
+    ensures printed { OnOk result
+        (PrintsOne (IsCreatedLine (F.says folder.old topology.now)
+        (reads (F.holds folder.old file.now)) (reads (F.holds folder.new file.now)))
+        (W.contents output.old) (W.contents output.new)) }
+    ensures fault { IfErr result (IsOfMaking (F.says folder.old topology.now)
+        (reads (F.holds folder.old file.now)) (reads (F.holds folder.new file.now))) }
+    ensures cut { IfErr result (IsCutShort (IsCreatedLine (F.says folder.old topology.now)
+        (reads (F.holds folder.old file.now)) (reads (F.holds folder.new file.now)))
+        (W.contents output.old) (W.contents output.new)) }
     ensures early { IfErr result (λ fault. IsOfFile fault → folder.new ≡ folder.old) }
 {
     let Ok(reader) = folder.read(topology) else {
@@ -63,9 +72,11 @@ fn make<F: Folder>(
     file: &str,
     topology: &Topology,
 ) -> Result<u64, Fault>
-    ensures made { OnOk result (IsMade (content topology.now) (reads (F.holds folder.old file.now)) (reads (F.holds folder.new file.now))) }
+    ensures made { OnOk result (IsMade (content topology.now) (reads (F.holds folder.old file.now))
+        (reads (F.holds folder.new file.now))) }
     ensures count { IfOk result (λ count. count ≡ (begun (content topology.now)).count) }
-    ensures fault { IfErr result (RefusesStore (reads (F.holds folder.old file.now)) (reads (F.holds folder.new file.now)) (content topology.now)) }
+    ensures fault { IfErr result (RefusesStore (reads (F.holds folder.old file.now))
+        (reads (F.holds folder.new file.now)) (content topology.now)) }
     ensures late { IfErr result (λ fault. ¬ IsOfFile fault) }
 {
     let disk = folder.open(file)?;
@@ -76,9 +87,11 @@ fn make<F: Folder>(
 
 /// Makes the store of a topology on a disk, and answers how many steps it has.
 fn make_on<D: Disk>(alloc: Global, disk: D, topology: &Topology) -> (Result<u64, Fault>, D)
-    ensures made { OnOk result.0 (IsMade (content topology.now) (bytes_of D.keeps_model D.present disk) (bytes_of D.keeps_model D.present result.1)) }
+    ensures made { OnOk result.0 (IsMade (content topology.now)
+        (bytes_of D.keeps_model D.present disk) (bytes_of D.keeps_model D.present result.1)) }
     ensures count { IfOk result.0 (λ count. count ≡ (begun (content topology.now)).count) }
-    ensures fault { IfErr result.0 (RefusesStore (bytes_of D.keeps_model D.present disk) (bytes_of D.keeps_model D.present result.1) (content topology.now)) }
+    ensures fault { IfErr result.0 (RefusesStore (bytes_of D.keeps_model D.present disk)
+        (bytes_of D.keeps_model D.present result.1) (content topology.now)) }
     ensures late { IfErr result.0 (λ fault. ¬ IsOfFile fault) }
 {
     match create_store(alloc, disk, topology) {

@@ -50,7 +50,9 @@ impl Folder for MemFolder {
 
     type Text = Cursor<Vec<u8>>;
 
-    ghost holds = { λ folder name. if bytes_eq (string_bytes folder.name) name then option_map present_of folder.disk else None };
+    ghost holds = { λ folder name.
+        if bytes_eq (string_bytes folder.name) name then option_map present_of folder.disk else
+        None };
 
     ghost says = { λ folder. text_under folder.texts.items };
 

@@ -29,8 +29,10 @@ pub fn migrate_in<F: Folder, W: Write, E: Write>(
     output: &mut W,
     errors: &mut E,
 ) -> u8
-    ensures { Ends (IsOfMigrating (F.holds folder.old file.now) (F.holds folder.new file.now)) (IsMigratedLine (F.holds folder.old file.now) (F.holds folder.new file.now))
-        result (record { output = W.contents output.old; errors = E.contents errors.old }) (record { output = W.contents output.new; errors = E.contents errors.new }) }
+    ensures { Ends (IsOfMigrating (F.holds folder.old file.now) (F.holds folder.new file.now))
+        (IsMigratedLine (F.holds folder.old file.now) (F.holds folder.new file.now))
+        result (record { output = W.contents output.old; errors = E.contents errors.old })
+        (record { output = W.contents output.new; errors = E.contents errors.new }) }
 {
     report(migrate_at(alloc, folder, file, output), errors)
 }
@@ -41,9 +43,13 @@ fn migrate_at<F: Folder, W: Write>(
     file: &str,
     output: &mut W,
 ) -> Result<(), Fault>
-    ensures printed { OnOk result (PrintsOne (IsMigratedLine (F.holds folder.old file.now) (F.holds folder.new file.now)) (W.contents output.old) (W.contents output.new)) }
-    ensures fault { IfErr result (IsOfMigrating (F.holds folder.old file.now) (F.holds folder.new file.now)) }
-    ensures cut { IfErr result (IsCutShort (IsMigratedLine (F.holds folder.old file.now) (F.holds folder.new file.now)) (W.contents output.old) (W.contents output.new)) }
+    ensures printed { OnOk result
+        (PrintsOne (IsMigratedLine (F.holds folder.old file.now) (F.holds folder.new file.now))
+        (W.contents output.old) (W.contents output.new)) }
+    ensures fault { IfErr result (IsOfMigrating (F.holds folder.old file.now)
+        (F.holds folder.new file.now)) }
+    ensures cut { IfErr result (IsCutShort (IsMigratedLine (F.holds folder.old file.now)
+        (F.holds folder.new file.now)) (W.contents output.old) (W.contents output.new)) }
 {
     let line = migrate_named(alloc, folder, file)?;
     print(output, &line)
@@ -52,8 +58,10 @@ fn migrate_at<F: Folder, W: Write>(
 /// Raises the store on the disk of a name, and answers the line that is to be printed. The disk is
 /// put back.
 fn migrate_named<F: Folder>(alloc: Global, folder: &mut F, file: &str) -> Result<String, Fault>
-    ensures line { IfOk result (λ line. IsMigratedLine (F.holds folder.old file.now) (F.holds folder.new file.now) (string_bytes line)) }
-    ensures fault { IfErr result (IsOfRaising (F.holds folder.old file.now) (F.holds folder.new file.now)) }
+    ensures line { IfOk result (λ line. IsMigratedLine (F.holds folder.old file.now)
+        (F.holds folder.new file.now) (string_bytes line)) }
+    ensures fault { IfErr result (IsOfRaising (F.holds folder.old file.now)
+        (F.holds folder.new file.now)) }
 {
     let disk = folder.open(file)?;
     let (line, disk) = migrate_disk(alloc, disk);
@@ -63,8 +71,10 @@ fn migrate_named<F: Folder>(alloc: Global, folder: &mut F, file: &str) -> Result
 
 /// Raises the store on a disk, and answers the line that is to be printed.
 fn migrate_disk<D: Disk>(alloc: Global, disk: D) -> (Result<String, Fault>, D)
-    ensures line { IfOk result.0 (λ line. IsMigratedLine (known_of D.keeps_model D.present disk) (known_of D.keeps_model D.present result.1) (string_bytes line)) }
-    ensures fault { IfErr result.0 (IsOfRaising (known_of D.keeps_model D.present disk) (known_of D.keeps_model D.present result.1)) }
+    ensures line { IfOk result.0 (λ line. IsMigratedLine (known_of D.keeps_model D.present disk)
+        (known_of D.keeps_model D.present result.1) (string_bytes line)) }
+    ensures fault { IfErr result.0 (IsOfRaising (known_of D.keeps_model D.present disk)
+        (known_of D.keeps_model D.present result.1)) }
 {
     match Store::open(alloc, disk) {
         Ok(mut store) => {
@@ -85,10 +95,12 @@ pub fn migrate_store<D: Disk>(alloc: Global, store: &mut Store<D>) -> Result<Str
     ensures going { OnOk result (store.new.torn ≡ None) }
     ensures again { store.old.world.version ≡ 2 → store.new ≡ store.old }
     ensures unchanged { IfErr result (λ fault. fault ≢ Failed Device → store.new ≡ store.old) }
-    ensures torn { IsErrOf result (Failed Device) → (store.new.world ≡ store.old.world) × (store.new.torn ≡ Some (risen store.old.world)) }
+    ensures torn { IsErrOf result (Failed Device) → (store.new.world ≡ store.old.world) ×
+        (store.new.torn ≡ Some (risen store.old.world)) }
     ensures stopped { IsErrOf result (Failed Stopped) → has_stopped store.old ≡ true }
     ensures fault { IfErr result (RefusesRaising store.old.world) }
-    ensures calls { D.keeps_model store.old.disk ≡ true → D.clock store.new.disk ≤ D.clock store.old.disk + 4 }
+    ensures calls { D.keeps_model store.old.disk ≡ true →
+        D.clock store.new.disk ≤ D.clock store.old.disk + 4 }
     ensures model { D.keeps_model store.new.disk ≡ D.keeps_model store.old.disk }
 {
     let count = store.world().count();

@@ -27,11 +27,28 @@ pub fn run_in<F: Folder, R: Read, W: Write, E: Write>(
     errors: &mut E,
 ) -> Option<u8>
     ensures done { IfSome result (λ status. Runs (map string_bytes words.now) status
-        (record { input = R.remaining input.old; streams = record { output = W.contents output.old; errors = E.contents errors.old }; holds = F.holds folder.old; says = F.says folder.old })
-        (record { input = R.remaining input.new; streams = record { output = W.contents output.new; errors = E.contents errors.new }; holds = F.holds folder.new; says = F.says folder.new })) }
+        (record {
+          input = R.remaining input.old;
+          streams = record {
+            output = W.contents output.old;
+            errors = E.contents errors.old;
+          };
+          holds = F.holds folder.old;
+          says = F.says folder.old;
+        })
+        (record {
+          input = R.remaining input.new;
+          streams = record {
+            output = W.contents output.new;
+            errors = E.contents errors.new;
+          };
+          holds = F.holds folder.new;
+          says = F.says folder.new;
+        })) }
     ensures left { IfNone result (task_of (map string_bytes words.now) ≡ Some Serve) }
     ensures unopened { IfNone result (folder.new ≡ folder.old) }
-    ensures unprinted { IfNone result ((input.new ≡ input.old) × (output.new ≡ output.old) × (errors.new ≡ errors.old)) }
+    ensures unprinted { IfNone result ((input.new ≡ input.old) × (output.new ≡ output.old) ×
+        (errors.new ≡ errors.old)) }
 {
     match read_words(alloc, words) {
         Ok(Task::Drill) => Some(drill(alloc, input, output, errors)),
@@ -58,7 +75,9 @@ pub fn drill<R: Read, W: Write, E: Write>(
     output: &mut W,
     errors: &mut E,
 ) -> u8
-    ensures { Drills (R.remaining input.old) (R.remaining input.new) result (record { output = W.contents output.old; errors = E.contents errors.old }) (record { output = W.contents output.new; errors = E.contents errors.new }) }
+    ensures { Drills (R.remaining input.old) (R.remaining input.new) result
+        (record { output = W.contents output.old; errors = E.contents errors.old })
+        (record { output = W.contents output.new; errors = E.contents errors.new }) }
 {
     match coord_drill(alloc, input, output) {
         Ok(()) => 0,

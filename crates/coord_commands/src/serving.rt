@@ -33,7 +33,8 @@ pub fn serve<
     W: Write + Send,
     E: Write,
 >(rt: &S, file: &str, address: &str, output: &mut W, errors: &mut E) -> u8
-    ensures served { Serves address.now None None result (E.contents errors.old) (E.contents errors.new) }
+    ensures served { Serves address.now None None result (E.contents errors.old)
+        (E.contents errors.new) }
     ensures usage { ((a : SocketAddrV4) → ¬ IsSocketV4Text address.now a) → result ≡ 2 }
 {
     let mut folder = FileFolder::new(rt);
@@ -49,8 +50,11 @@ pub fn serve_in<
     W: Write + Send,
     E: Write,
 >(rt: &S, folder: &mut F, file: &str, address: &str, output: &mut W, errors: &mut E) -> u8
-    ensures served { Serves address.now (reads (F.holds folder.old file.now)) (reads (F.holds folder.new file.now)) result (E.contents errors.old) (E.contents errors.new) }
-    ensures usage { ((a : SocketAddrV4) → ¬ IsSocketV4Text address.now a) → (result ≡ 2) × (folder.new ≡ folder.old) × Keeps (W.contents output.old) (W.contents output.new) }
+    ensures served { Serves address.now (reads (F.holds folder.old file.now))
+        (reads (F.holds folder.new file.now)) result (E.contents errors.old)
+        (E.contents errors.new) }
+    ensures usage { ((a : SocketAddrV4) → ¬ IsSocketV4Text address.now a) → (result ≡ 2) ×
+        (folder.new ≡ folder.old) × Keeps (W.contents output.old) (W.contents output.new) }
 {
     let Some(place) = address_of(address) else {
         return report(Err(Fault::Usage), errors);

@@ -14,7 +14,8 @@ use std::io::Write;
 pub fn report<E: Write>(ended: Result<(), Fault>, errors: &mut E) -> u8
     ensures status { result ≡ status_of ended }
     ensures told { MatchResult ended (λ _. Keeps (E.contents errors.old) (E.contents errors.new))
-        (λ fault. WritesFirstPart (E.contents errors.old) (E.contents errors.new) (fault_line fault)) }
+        (λ fault. WritesFirstPart (E.contents errors.old) (E.contents errors.new)
+        (fault_line fault)) }
 {
     match &ended {
         Ok(()) => 0,

@@ -18,9 +18,12 @@ const MOST_BYTES: u64 = MAX_TEXT_BYTES as u64 + 1;
 
 /// Reads a topology file.
 pub fn topology_from<R: Read + Drop>(alloc: Global, reader: R) -> Result<Topology, Fault>
-    ensures ok { IfSome (R.remaining reader) (λ bytes. IfOk result (λ topology. said_by (take MOST_BYTES bytes) ≡ Ok (content topology))) }
-    ensures refused { (reason : Reason) → reason ≢ OutOfMemory → IfSome (R.remaining reader) (λ bytes.
-        IfErr result (λ fault. fault ≡ Refused reason → said_by (take MOST_BYTES bytes) ≡ Err reason)) }
+    ensures ok { IfSome (R.remaining reader) (λ bytes.
+        IfOk result (λ topology. said_by (take MOST_BYTES bytes) ≡ Ok (content topology))) }
+    ensures refused { (reason : Reason) → reason ≢ OutOfMemory →
+        IfSome (R.remaining reader) (λ bytes.
+        IfErr result (λ fault. fault ≡ Refused reason →
+        said_by (take MOST_BYTES bytes) ≡ Err reason)) }
     ensures named { IfErr result IsOfText }
 {
     let bytes = front_of(alloc, reader)?;
@@ -29,7 +32,8 @@ pub fn topology_from<R: Read + Drop>(alloc: Global, reader: R) -> Result<Topolog
 
 /// The bytes of a reader, as far as a topology file may have them.
 fn front_of<R: Read + Drop>(alloc: Global, reader: R) -> Result<Vec<u8>, Fault>
-    ensures bytes { IfOk result (λ front. IfSome (R.remaining reader) (λ bytes. front.items ≡ take MOST_BYTES bytes)) }
+    ensures bytes { IfOk result (λ front. IfSome (R.remaining reader) (λ bytes. front.items ≡
+        take MOST_BYTES bytes)) }
     ensures fault { IfErr result (λ fault. (fault ≡ FailedRead) ⊎ (fault ≡ NoMemory)) }
 {
     let mut bytes = Vec::new(alloc);
@@ -42,7 +46,8 @@ fn front_of<R: Read + Drop>(alloc: Global, reader: R) -> Result<Vec<u8>, Fault>
 /// The topology that bytes say.
 fn topology_of(alloc: Global, bytes: &[u8]) -> Result<Topology, Fault>
     ensures ok { IfOk result (λ topology. said_by bytes.now ≡ Ok (content topology)) }
-    ensures refused { (reason : Reason) → reason ≢ OutOfMemory → IfErr result (λ fault. fault ≡ Refused reason → said_by bytes.now ≡ Err reason) }
+    ensures refused { (reason : Reason) → reason ≢ OutOfMemory →
+        IfErr result (λ fault. fault ≡ Refused reason → said_by bytes.now ≡ Err reason) }
     ensures named { IfErr result IsOfText }
 {
     match str::from_utf8(bytes) {

@@ -33,7 +33,8 @@ pub enum Task {
 pub fn read_words(alloc: Global, words: &[String]) -> Result<Task, Fault>
     ensures ok { IfOk result (λ task. task_of (map string_bytes words.now) ≡ Some task) }
     ensures err { IfErr result (λ fault. (fault ≡ OutOfMemory)
-        ⊎ ((fault ≡ Usage) × (takes resetd (map string_bytes words.now) ≡ true → task_of (map string_bytes words.now) ≡ None))) }
+        ⊎ ((fault ≡ Usage) × (takes resetd (map string_bytes words.now) ≡ true →
+        task_of (map string_bytes words.now) ≡ None))) }
 {
     let program = program(alloc)?;
     match program.try_get_matches_from(words) {
@@ -66,7 +67,8 @@ fn add_of_word<'a>(
     name: &'a str,
     word: &'a str,
 ) -> Result<Command<'a>, AllocError>
-    ensures { IfOk result (λ more. app_of more ≡ with_subcommand (app_of program.entry) (with_rule (new_app name.now) (word_named word.now)).top) }
+    ensures { IfOk result (λ more. app_of more ≡ with_subcommand (app_of program.entry)
+        (with_rule (new_app name.now) (word_named word.now)).top) }
 {
     let command = Command::new(alloc, name).arg(word_named(alloc, word))?;
     program.subcommand(command)
@@ -80,7 +82,9 @@ fn add_of_two_words<'a>(
     first: &'a str,
     second: &'a str,
 ) -> Result<Command<'a>, AllocError>
-    ensures { IfOk result (λ more. app_of more ≡ with_subcommand (app_of program.entry) (with_rule (with_rule (new_app name.now) (word_named first.now)) (word_named second.now)).top) }
+    ensures { IfOk result (λ more. app_of more ≡ with_subcommand (app_of program.entry)
+        (with_rule (with_rule (new_app name.now) (word_named first.now))
+        (word_named second.now)).top) }
 {
     let command = Command::new(alloc, name)
         .arg(word_named(alloc, first))?

@@ -10,7 +10,8 @@ use toml::{Table, Value};
 
 /// The value at a key.
 pub fn value_at<'a>(table: &'a Table, key: &str) -> Option<&'a Value>
-    ensures { option_map (λ value. view value.now) result ≡ get_member key.now (table_view table.now) }
+    ensures { option_map (λ value. view value.now) result ≡
+        get_member key.now (table_view table.now) }
 {
     table.get(key)
 }
@@ -73,7 +74,8 @@ fn items_have_just(names: &[&str], array: &Array) -> bool
 
 /// Whether each table in the array at this key, if there is one, has just these keys.
 fn entries_have_just(names: &[&str], table: &Table, key: &str) -> bool
-    ensures { result ≡ entries_have_just (map (λ name. name.now) names.now) (get_member key.now (table_view table.now)) }
+    ensures { result ≡ entries_have_just (map (λ name. name.now) names.now)
+        (get_member key.now (table_view table.now)) }
 {
     match value_at(table, key) {
         Some(value) => match value.as_array() {

@@ -107,7 +107,8 @@ fn entries_at<E: Entry>(alloc: Global, table: &Table, key: &str) -> Result<Vec<E
     ensures ok { IfOk result (λ entries.
         entries_of E.reads (get_member key.now (table_view table.now)) ≡ Some entries.items) }
     ensures bad { IfErr result (λ fault. fault ≢ OutOfMemory →
-        (fault ≡ BadValue) × (entries_of E.reads (get_member key.now (table_view table.now)) ≡ None)) }
+        (fault ≡ BadValue) × (entries_of E.reads (get_member key.now (table_view table.now)) ≡
+        None)) }
     ensures memory { result ≡ Err OutOfMemory → IsSome (get_member key.now (table_view table.now)) }
 {
     let Some(value) = value_at(table, key) else {

@@ -18,7 +18,8 @@ fn covers(at: u64, len: u64, place: u64) -> bool
 
 // Whether the place was written since the last sync.
 fn is_written(entries: &[Entry], place: u64) -> bool
-    ensures { (first : List ℕ) → result ≡ is_within (replayed (whole first) entries.now).written place }
+    ensures { (first : List ℕ) → result ≡
+        is_within (replayed (whole first) entries.now).written place }
 {
     let mut n = entries.len();
     while n > 0 {
@@ -62,7 +63,8 @@ fn fill(read: &mut [u8], history: &History, filler: &[u8])
 /// Leaves in place of what is read what a crash leaves.
 pub fn crash_bytes(read: &mut Vec<u8>, history: History, choice: &Choice)
     requires { LedTo history read.old.items }
-    ensures { IsLeft choice.now (present_after (past_with read.old.items (Some history))) read.new.items }
+    ensures { IsLeft choice.now (present_after (past_with read.old.items (Some history)))
+        read.new.items }
 {
     match choice {
         Choice::Kept => {}

@@ -27,18 +27,25 @@ pub trait Disk: Drop {
 
     /// How many bytes a read gives.
     fn len(&mut self) -> Result<u64, DiskFault>
-        ensures value { keeps_model self.old ≡ true → IfOk result (λ n. n ≡ length (present self.old).read) }
+        ensures value { keeps_model self.old ≡ true →
+            IfOk result (λ n. n ≡ length (present self.old).read) }
         ensures present { keeps_model self.old ≡ true → present self.new ≡ present self.old }
-        ensures time { keeps_model self.old ≡ true → Elapses (clock self.old) (clock self.new) (left_since self.old) (left_since self.new) (IsImage (present self.new)) }
+        ensures time { keeps_model self.old ≡ true →
+            Elapses (clock self.old) (clock self.new) (left_since self.old) (left_since self.new)
+            (IsImage (present self.new)) }
         ensures model { keeps_model self.new ≡ keeps_model self.old }
         ensures cause { HasCause (failures self.old) (failures self.new) result };
 
     /// Reads the bytes from a place on, as many as the buffer has.
     fn read(&mut self, at: u64, buf: &mut [u8]) -> Result<(), DiskFault>
-        requires { keeps_model self.old ≡ true → at + length buf.old ≤ length (present self.old).read }
-        ensures value { keeps_model self.old ≡ true → OnOk result (buf.new ≡ take (length buf.old) (drop at (present self.old).read)) }
+        requires { keeps_model self.old ≡ true →
+            at + length buf.old ≤ length (present self.old).read }
+        ensures value { keeps_model self.old ≡ true →
+            OnOk result (buf.new ≡ take (length buf.old) (drop at (present self.old).read)) }
         ensures present { keeps_model self.old ≡ true → present self.new ≡ present self.old }
-        ensures time { keeps_model self.old ≡ true → Elapses (clock self.old) (clock self.new) (left_since self.old) (left_since self.new) (IsImage (present self.new)) }
+        ensures time { keeps_model self.old ≡ true →
+            Elapses (clock self.old) (clock self.new) (left_since self.old) (left_since self.new)
+            (IsImage (present self.new)) }
         ensures model { keeps_model self.new ≡ keeps_model self.old }
         ensures cause { HasCause (failures self.old) (failures self.new) result };
 
@@ -47,28 +54,39 @@ pub trait Disk: Drop {
     /// Until a sync a crash may leave any bytes in the range, also where the write failed.
     fn write_at(&mut self, at: u64, bytes: &[u8]) -> Result<(), DiskFault>
         requires { at + length bytes.now < 2 ^ 64 }
-        ensures written { keeps_model self.old ≡ true → OnOk result (present self.new ≡ written_at at bytes.now (present self.old)) }
-        ensures crash { keeps_model self.old ≡ true → Writes at bytes.now (present self.old) (present self.new) }
-        ensures time { keeps_model self.old ≡ true → Elapses (clock self.old) (clock self.new) (left_since self.old) (left_since self.new) (IsImage (present self.new)) }
+        ensures written { keeps_model self.old ≡ true →
+            OnOk result (present self.new ≡ written_at at bytes.now (present self.old)) }
+        ensures crash { keeps_model self.old ≡ true →
+            Writes at bytes.now (present self.old) (present self.new) }
+        ensures time { keeps_model self.old ≡ true →
+            Elapses (clock self.old) (clock self.new) (left_since self.old) (left_since self.new)
+            (IsImage (present self.new)) }
         ensures model { keeps_model self.new ≡ keeps_model self.old }
         ensures cause { HasCause (failures self.old) (failures self.new) result };
 
     /// After it, a crash leaves what a read gives. Where it fails, a crash leaves no more than before.
     fn sync(&mut self) -> Result<(), DiskFault>
-        ensures durable { keeps_model self.old ≡ true → OnOk result (present self.new ≡ whole (present self.old).read) }
-        ensures crash { keeps_model self.old ≡ true → FitsNoMore (present self.old) (present self.new) }
-        ensures time { keeps_model self.old ≡ true → Elapses (clock self.old) (clock self.new) (left_since self.old) (left_since self.new) (IsImage (present self.new)) }
+        ensures durable { keeps_model self.old ≡ true →
+            OnOk result (present self.new ≡ whole (present self.old).read) }
+        ensures crash { keeps_model self.old ≡ true →
+            FitsNoMore (present self.old) (present self.new) }
+        ensures time { keeps_model self.old ≡ true →
+            Elapses (clock self.old) (clock self.new) (left_since self.old) (left_since self.new)
+            (IsImage (present self.new)) }
         ensures model { keeps_model self.new ≡ keeps_model self.old }
         ensures cause { HasCause (failures self.old) (failures self.new) result };
 
     /// This moment is one of those since an earlier one.
-    ghost counts_now: { (disk : Self) (t : ℕ) (image : List ℕ) → keeps_model disk ≡ true → t ≤ clock disk → IsImage (present disk) image → left_since disk t image };
+    ghost counts_now: { (disk : Self) (t : ℕ) (image : List ℕ) → keeps_model disk ≡ true →
+        t ≤ clock disk → IsImage (present disk) image → left_since disk t image };
 
     /// Since this moment there is no other.
-    ghost only_now: { (disk : Self) (image : List ℕ) → keeps_model disk ≡ true → left_since disk (clock disk) image → IsImage (present disk) image };
+    ghost only_now: { (disk : Self) (image : List ℕ) → keeps_model disk ≡ true →
+        left_since disk (clock disk) image → IsImage (present disk) image };
 
     /// A disk as it reads is one of its images.
-    ghost reads_image: { (disk : Self) → keeps_model disk ≡ true → IsImage (present disk) (present disk).read };
+    ghost reads_image: { (disk : Self) → keeps_model disk ≡ true →
+        IsImage (present disk) (present disk).read };
 }
 
 /// A disk that can be crashed.
@@ -79,8 +97,10 @@ pub trait CrashDisk: Disk {
     /// It becomes one of its images, all of it synced.
     fn crash(self) -> Self
         ensures crashes { crashes self result }
-        ensures image { Self.keeps_model self ≡ true → IsImage (Self.present self) (Self.present result).read }
-        ensures synced { Self.keeps_model self ≡ true → Self.present result ≡ whole (Self.present result).read }
+        ensures image { Self.keeps_model self ≡ true →
+            IsImage (Self.present self) (Self.present result).read }
+        ensures synced { Self.keeps_model self ≡ true →
+            Self.present result ≡ whole (Self.present result).read }
         ensures model { Self.keeps_model result ≡ Self.keeps_model self }
         ensures failures { Self.failures result ≡ Self.failures self };
 }

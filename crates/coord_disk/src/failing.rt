@@ -74,7 +74,8 @@ impl<D: Disk, R: Rule> FailingDisk<D, R> {
         ensures inner { self.new.inner ≡ self.old.inner }
         ensures rule { R.says self.old.rule call result self.new.rule }
         ensures calls { self.new.calls ≡ min (self.old.calls + 1) (2 ^ 64 - 1) }
-        ensures failed { length self.new.failed.items ≡ (if result then length self.old.failed.items + 1 else length self.old.failed.items) }
+        ensures failed { length self.new.failed.items ≡
+            (if result then length self.old.failed.items + 1 else length self.old.failed.items) }
     {
         self.calls = self.calls.saturating_add(1);
         let fails = self.rule.fails(call);
@@ -106,12 +107,17 @@ impl<D: Disk, R: Rule> Disk for FailingDisk<D, R> {
     ghost reads_image = { λ f. D.reads_image f.inner };
 
     fn len(&mut self) -> Result<u64, DiskFault>
-        ensures value { D.keeps_model (inner_of self.old) ≡ true → IfOk result (λ n. n ≡ length (D.present (inner_of self.old)).read) }
-        ensures present { D.keeps_model (inner_of self.old) ≡ true → D.present (inner_of self.new) ≡ D.present (inner_of self.old) }
+        ensures value { D.keeps_model (inner_of self.old) ≡ true →
+            IfOk result (λ n. n ≡ length (D.present (inner_of self.old)).read) }
+        ensures present { D.keeps_model (inner_of self.old) ≡ true →
+            D.present (inner_of self.new) ≡ D.present (inner_of self.old) }
         ensures time { D.keeps_model (inner_of self.old) ≡ true →
-            Elapses (D.clock (inner_of self.old)) (D.clock (inner_of self.new)) (D.left_since (inner_of self.old)) (D.left_since (inner_of self.new)) (IsImage (D.present (inner_of self.new))) }
+            Elapses (D.clock (inner_of self.old)) (D.clock (inner_of self.new))
+            (D.left_since (inner_of self.old)) (D.left_since (inner_of self.new))
+            (IsImage (D.present (inner_of self.new))) }
         ensures model { D.keeps_model (inner_of self.new) ≡ D.keeps_model (inner_of self.old) }
-        ensures cause { HasCause (D.failures (inner_of self.old) + failed_of self.old) (D.failures (inner_of self.new) + failed_of self.new) result }
+        ensures cause { HasCause (D.failures (inner_of self.old) + failed_of self.old)
+            (D.failures (inner_of self.new) + failed_of self.new) result }
         ensures counted { IsCounted D.failures R.says Len self.old self.new result }
     {
         if self.counts(Call::Len) {
@@ -121,13 +127,20 @@ impl<D: Disk, R: Rule> Disk for FailingDisk<D, R> {
     }
 
     fn read(&mut self, at: u64, buf: &mut [u8]) -> Result<(), DiskFault>
-        requires { D.keeps_model (inner_of self.old) ≡ true → at + length buf.old ≤ length (D.present (inner_of self.old)).read }
-        ensures value { D.keeps_model (inner_of self.old) ≡ true → OnOk result (buf.new ≡ take (length buf.old) (drop at (D.present (inner_of self.old)).read)) }
-        ensures present { D.keeps_model (inner_of self.old) ≡ true → D.present (inner_of self.new) ≡ D.present (inner_of self.old) }
+        requires { D.keeps_model (inner_of self.old) ≡ true →
+            at + length buf.old ≤ length (D.present (inner_of self.old)).read }
+        ensures value { D.keeps_model (inner_of self.old) ≡ true →
+            OnOk result (buf.new ≡ take (length buf.old)
+            (drop at (D.present (inner_of self.old)).read)) }
+        ensures present { D.keeps_model (inner_of self.old) ≡ true →
+            D.present (inner_of self.new) ≡ D.present (inner_of self.old) }
         ensures time { D.keeps_model (inner_of self.old) ≡ true →
-            Elapses (D.clock (inner_of self.old)) (D.clock (inner_of self.new)) (D.left_since (inner_of self.old)) (D.left_since (inner_of self.new)) (IsImage (D.present (inner_of self.new))) }
+            Elapses (D.clock (inner_of self.old)) (D.clock (inner_of self.new))
+            (D.left_since (inner_of self.old)) (D.left_since (inner_of self.new))
+            (IsImage (D.present (inner_of self.new))) }
         ensures model { D.keeps_model (inner_of self.new) ≡ D.keeps_model (inner_of self.old) }
-        ensures cause { HasCause (D.failures (inner_of self.old) + failed_of self.old) (D.failures (inner_of self.new) + failed_of self.new) result }
+        ensures cause { HasCause (D.failures (inner_of self.old) + failed_of self.old)
+            (D.failures (inner_of self.new) + failed_of self.new) result }
         ensures counted { IsCounted D.failures R.says Read self.old self.new result }
     {
         if self.counts(Call::Read) {
@@ -138,12 +151,18 @@ impl<D: Disk, R: Rule> Disk for FailingDisk<D, R> {
 
     fn write_at(&mut self, at: u64, bytes: &[u8]) -> Result<(), DiskFault>
         requires { at + length bytes.now < 2 ^ 64 }
-        ensures written { D.keeps_model (inner_of self.old) ≡ true → OnOk result (D.present (inner_of self.new) ≡ written_at at bytes.now (D.present (inner_of self.old))) }
-        ensures crash { D.keeps_model (inner_of self.old) ≡ true → Writes at bytes.now (D.present (inner_of self.old)) (D.present (inner_of self.new)) }
+        ensures written { D.keeps_model (inner_of self.old) ≡ true →
+            OnOk result (D.present (inner_of self.new) ≡
+            written_at at bytes.now (D.present (inner_of self.old))) }
+        ensures crash { D.keeps_model (inner_of self.old) ≡ true →
+            Writes at bytes.now (D.present (inner_of self.old)) (D.present (inner_of self.new)) }
         ensures time { D.keeps_model (inner_of self.old) ≡ true →
-            Elapses (D.clock (inner_of self.old)) (D.clock (inner_of self.new)) (D.left_since (inner_of self.old)) (D.left_since (inner_of self.new)) (IsImage (D.present (inner_of self.new))) }
+            Elapses (D.clock (inner_of self.old)) (D.clock (inner_of self.new))
+            (D.left_since (inner_of self.old)) (D.left_since (inner_of self.new))
+            (IsImage (D.present (inner_of self.new))) }
         ensures model { D.keeps_model (inner_of self.new) ≡ D.keeps_model (inner_of self.old) }
-        ensures cause { HasCause (D.failures (inner_of self.old) + failed_of self.old) (D.failures (inner_of self.new) + failed_of self.new) result }
+        ensures cause { HasCause (D.failures (inner_of self.old) + failed_of self.old)
+            (D.failures (inner_of self.new) + failed_of self.new) result }
         ensures counted { IsCounted D.failures R.says Write self.old self.new result }
     {
         if self.counts(Call::Write) {
@@ -153,12 +172,18 @@ impl<D: Disk, R: Rule> Disk for FailingDisk<D, R> {
     }
 
     fn sync(&mut self) -> Result<(), DiskFault>
-        ensures durable { D.keeps_model (inner_of self.old) ≡ true → OnOk result (D.present (inner_of self.new) ≡ whole (D.present (inner_of self.old)).read) }
-        ensures crash { D.keeps_model (inner_of self.old) ≡ true → FitsNoMore (D.present (inner_of self.old)) (D.present (inner_of self.new)) }
+        ensures durable { D.keeps_model (inner_of self.old) ≡ true →
+            OnOk result (D.present (inner_of self.new) ≡
+            whole (D.present (inner_of self.old)).read) }
+        ensures crash { D.keeps_model (inner_of self.old) ≡ true →
+            FitsNoMore (D.present (inner_of self.old)) (D.present (inner_of self.new)) }
         ensures time { D.keeps_model (inner_of self.old) ≡ true →
-            Elapses (D.clock (inner_of self.old)) (D.clock (inner_of self.new)) (D.left_since (inner_of self.old)) (D.left_since (inner_of self.new)) (IsImage (D.present (inner_of self.new))) }
+            Elapses (D.clock (inner_of self.old)) (D.clock (inner_of self.new))
+            (D.left_since (inner_of self.old)) (D.left_since (inner_of self.new))
+            (IsImage (D.present (inner_of self.new))) }
         ensures model { D.keeps_model (inner_of self.new) ≡ D.keeps_model (inner_of self.old) }
-        ensures cause { HasCause (D.failures (inner_of self.old) + failed_of self.old) (D.failures (inner_of self.new) + failed_of self.new) result }
+        ensures cause { HasCause (D.failures (inner_of self.old) + failed_of self.old)
+            (D.failures (inner_of self.new) + failed_of self.new) result }
         ensures counted { IsCounted D.failures R.says Sync self.old self.new result }
     {
         if self.counts(Call::Sync) {
@@ -176,10 +201,13 @@ impl<D: CrashDisk, R: Rule> CrashDisk for FailingDisk<D, R> {
     /// The disk inside crashes. The rule and the counts go on.
     fn crash(self) -> Self
         ensures crashes { CrashesInside D.crashes self result }
-        ensures image { D.keeps_model (inner_of self) ≡ true → IsImage (D.present (inner_of self)) (D.present (inner_of result)).read }
-        ensures synced { D.keeps_model (inner_of self) ≡ true → D.present (inner_of result) ≡ whole (D.present (inner_of result)).read }
+        ensures image { D.keeps_model (inner_of self) ≡ true →
+            IsImage (D.present (inner_of self)) (D.present (inner_of result)).read }
+        ensures synced { D.keeps_model (inner_of self) ≡ true →
+            D.present (inner_of result) ≡ whole (D.present (inner_of result)).read }
         ensures model { D.keeps_model (inner_of result) ≡ D.keeps_model (inner_of self) }
-        ensures failures { D.failures (inner_of result) + failed_of result ≡ D.failures (inner_of self) + failed_of self }
+        ensures failures { D.failures (inner_of result) + failed_of result ≡
+            D.failures (inner_of self) + failed_of self }
     {
         FailingDisk {
             inner: self.inner.crash(),

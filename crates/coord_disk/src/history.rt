@@ -48,9 +48,11 @@ pub fn write(
     requires range { at + length bytes.now < 2 ^ 64 }
     requires led { LedTo history.old read.old.items }
     ensures led { LedTo history.new read.new.items }
-    ensures ok { OnOk result (Adds (past_with read.old.items (Some history.old)) (past_with read.new.items (Some history.new))
+    ensures ok { OnOk result (Adds (past_with read.old.items (Some history.old))
+        (past_with read.new.items (Some history.new))
         (written_at at bytes.now (present_after (past_with read.old.items (Some history.old))))) }
-    ensures err { OnErr result (past_with read.new.items (Some history.new) ≡ past_with read.old.items (Some history.old)) }
+    ensures err { OnErr result (past_with read.new.items (Some history.new) ≡
+        past_with read.old.items (Some history.old)) }
 {
     let next = overwrite(alloc, read, at as usize, bytes)?;
     let bytes = bytes.to_vec(alloc)?;
@@ -63,8 +65,10 @@ pub fn write(
 pub fn settle(alloc: Global, read: &Vec<u8>, history: &mut History) -> Result<(), AllocError>
     requires led { LedTo history.old read.now.items }
     ensures led { LedTo history.new read.now.items }
-    ensures ok { OnOk result (Adds (past_with read.now.items (Some history.old)) (past_with read.now.items (Some history.new)) (whole read.now.items)) }
-    ensures err { OnErr result (past_with read.now.items (Some history.new) ≡ past_with read.now.items (Some history.old)) }
+    ensures ok { OnOk result (Adds (past_with read.now.items (Some history.old))
+        (past_with read.now.items (Some history.new)) (whole read.now.items)) }
+    ensures err { OnErr result (past_with read.now.items (Some history.new) ≡
+        past_with read.now.items (Some history.old)) }
 {
     let synced = read.to_vec(alloc)?;
     history.entries.push(Entry::Synced)?;

@@ -77,7 +77,8 @@ impl MemDisk {
 
     /// Whether the length is the one that is synced.
     pub(crate) fn is_level(&self) -> bool
-        ensures { IsTrue result ↔ (length (present_of self.now).synced ≡ length (present_of self.now).read) }
+        ensures { IsTrue result ↔ (length (present_of self.now).synced ≡
+            length (present_of self.now).read) }
     {
         match &self.history {
             Some(history) => history.synced.len() == self.read.len(),
@@ -103,7 +104,8 @@ impl MemDisk {
 
     fn record_write(&mut self, at: u64, bytes: &[u8]) -> Result<(), AllocError>
         requires { at + length bytes.now < 2 ^ 64 }
-        ensures ok { OnOk result (Adds (past_of self.old) (past_of self.new) (written_at at bytes.now (present_of self.old))) }
+        ensures ok { OnOk result (Adds (past_of self.old) (past_of self.new)
+            (written_at at bytes.now (present_of self.old))) }
         ensures err { OnErr result (past_of self.new ≡ past_of self.old) }
         ensures failures { failures_of self.new ≡ failures_of self.old }
     {
@@ -115,7 +117,8 @@ impl MemDisk {
     }
 
     fn record_sync(&mut self) -> Result<(), AllocError>
-        ensures ok { OnOk result (Adds (past_of self.old) (past_of self.new) (whole (present_of self.old).read)) }
+        ensures ok { OnOk result (Adds (past_of self.old) (past_of self.new)
+            (whole (present_of self.old).read)) }
         ensures err { OnErr result (past_of self.new ≡ past_of self.old) }
         ensures failures { failures_of self.new ≡ failures_of self.old }
     {
@@ -137,7 +140,8 @@ impl MemDisk {
 
     fn crash_in_place(&mut self)
         ensures present { present_of self.new ≡ whole (present_of self.new).read }
-        ensures left { IsLeft (choice_of self.old) (present_of self.old) (present_of self.new).read }
+        ensures left { IsLeft (choice_of self.old) (present_of self.old)
+            (present_of self.new).read }
         ensures image { IsImage (present_of self.old) (present_of self.new).read }
         ensures choice { choice_of self.new ≡ choice_of self.old }
         ensures failures { failures_of self.new ≡ failures_of self.old }
@@ -193,11 +197,15 @@ impl Disk for MemDisk {
     /// Without memory it fails, and nothing changes.
     fn write_at(&mut self, at: u64, bytes: &[u8]) -> Result<(), DiskFault>
         requires { at + length bytes.now < 2 ^ 64 }
-        ensures ok { OnOk result (Adds (past_of self.old) (past_of self.new) (written_at at bytes.now (present_of self.old))) }
+        ensures ok { OnOk result (Adds (past_of self.old) (past_of self.new)
+            (written_at at bytes.now (present_of self.old))) }
         ensures err { OnErr result (past_of self.new ≡ past_of self.old) }
-        ensures written { OnOk result (present_of self.new ≡ written_at at bytes.now (present_of self.old)) }
+        ensures written { OnOk result (present_of self.new ≡
+            written_at at bytes.now (present_of self.old)) }
         ensures crash { Writes at bytes.now (present_of self.old) (present_of self.new) }
-        ensures time { Elapses (clock_of self.old) (clock_of self.new) (LeftSince (past_of self.old)) (LeftSince (past_of self.new)) (IsImage (present_of self.new)) }
+        ensures time { Elapses (clock_of self.old) (clock_of self.new)
+            (LeftSince (past_of self.old)) (LeftSince (past_of self.new))
+            (IsImage (present_of self.new)) }
         ensures cause { HasCause (failures_of self.old) (failures_of self.new) result }
     {
         match self.record_write(at, bytes) {
@@ -208,11 +216,14 @@ impl Disk for MemDisk {
 
     /// Without memory it fails, and nothing changes.
     fn sync(&mut self) -> Result<(), DiskFault>
-        ensures ok { OnOk result (Adds (past_of self.old) (past_of self.new) (whole (present_of self.old).read)) }
+        ensures ok { OnOk result (Adds (past_of self.old) (past_of self.new)
+            (whole (present_of self.old).read)) }
         ensures err { OnErr result (past_of self.new ≡ past_of self.old) }
         ensures durable { OnOk result (present_of self.new ≡ whole (present_of self.old).read) }
         ensures crash { FitsNoMore (present_of self.old) (present_of self.new) }
-        ensures time { Elapses (clock_of self.old) (clock_of self.new) (LeftSince (past_of self.old)) (LeftSince (past_of self.new)) (IsImage (present_of self.new)) }
+        ensures time { Elapses (clock_of self.old) (clock_of self.new)
+            (LeftSince (past_of self.old)) (LeftSince (past_of self.new))
+            (IsImage (present_of self.new)) }
         ensures cause { HasCause (failures_of self.old) (failures_of self.new) result }
     {
         match self.record_sync() {

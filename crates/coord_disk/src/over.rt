@@ -25,8 +25,10 @@ pub struct RawDisk<F: RawFile> {
     lost: bool,
     failed: Log<u8, u8>,
     ghost entered: { F.keeps_model file ≡ true → F.is_entered file ≡ true },
-    ghost within: { F.keeps_model file ≡ true → lost ≡ false → size ≤ length (F.present file).read },
-    ghost level: { F.keeps_model file ≡ true → lost ≡ false → grown ≡ false → length (F.present file).synced ≡ length (F.present file).read },
+    ghost within: { F.keeps_model file ≡ true → lost ≡ false →
+        size ≤ length (F.present file).read },
+    ghost level: { F.keeps_model file ≡ true → lost ≡ false → grown ≡ false →
+        length (F.present file).synced ≡ length (F.present file).read },
 }
 
 impl<F: RawFile> RawDisk<F> {
@@ -35,7 +37,8 @@ impl<F: RawFile> RawDisk<F> {
     /// Over a file that another process may have made and not synced: the entry in its folder is
     /// synced here, and its length by the first sync.
     pub fn over(mut file: F) -> Result<Self, DiskFault>
-        ensures calls { IfOk result (λ disk. (entered : F) × F.made file SyncFolder true entered × F.made entered Len true (file_of disk)) }
+        ensures calls { IfOk result (λ disk. (entered : F) × F.made file SyncFolder true entered ×
+            F.made entered Len true (file_of disk)) }
         ensures failures { IfOk result (λ disk. failures_of disk ≡ 0) }
         ensures grown { IfOk result (λ disk. has_grown disk ≡ true) }
         ensures whole { IfOk result (λ disk. has_lost disk ≡ false) }
@@ -64,11 +67,18 @@ impl<F: RawFile> RawDisk<F> {
         ensures bound { OnOk result (at + length bytes.now < 2 ^ 63) }
         ensures failures { failures_of self.new ≡ failures_of self.old }
         ensures lost { has_lost self.new ≡ has_lost self.old }
-        ensures written { F.keeps_model (file_of self.old) ≡ true → OnOk result (F.present (file_of self.new) ≡ written_at at bytes.now (F.present (file_of self.old))) }
-        ensures crash { F.keeps_model (file_of self.old) ≡ true → Writes at bytes.now (F.present (file_of self.old)) (F.present (file_of self.new)) }
-        ensures time { F.keeps_model (file_of self.old) ≡ true → Elapses (F.clock (file_of self.old)) (F.clock (file_of self.new)) (F.left_since (file_of self.old)) (F.left_since (file_of self.new)) (IsImage (F.present (file_of self.new))) }
+        ensures written { F.keeps_model (file_of self.old) ≡ true →
+            OnOk result (F.present (file_of self.new) ≡
+            written_at at bytes.now (F.present (file_of self.old))) }
+        ensures crash { F.keeps_model (file_of self.old) ≡ true →
+            Writes at bytes.now (F.present (file_of self.old)) (F.present (file_of self.new)) }
+        ensures time { F.keeps_model (file_of self.old) ≡ true →
+            Elapses (F.clock (file_of self.old)) (F.clock (file_of self.new))
+            (F.left_since (file_of self.old)) (F.left_since (file_of self.new))
+            (IsImage (F.present (file_of self.new))) }
         ensures model { F.keeps_model (file_of self.new) ≡ F.keeps_model (file_of self.old) }
-        ensures call { at + length bytes.now < 2 ^ 63 → F.made (file_of self.old) (Write at bytes.now) (is_ok result) (file_of self.new) }
+        ensures call { at + length bytes.now < 2 ^ 63 →
+            F.made (file_of self.old) (Write at bytes.now) (is_ok result) (file_of self.new) }
     {
         let end = end_of(at, bytes.len())?;
         let grows = !bytes.is_empty() && self.size < end;
@@ -86,11 +96,18 @@ impl<F: RawFile> RawDisk<F> {
         ensures ok { OnOk result ((has_lost self.old ≡ false) × (has_lost self.new ≡ false)) }
         ensures err { OnErr result (has_lost self.new ≡ true) }
         ensures failures { failures_of self.new ≡ failures_of self.old }
-        ensures durable { F.keeps_model (file_of self.old) ≡ true → OnOk result (F.present (file_of self.new) ≡ whole (F.present (file_of self.old)).read) }
-        ensures crash { F.keeps_model (file_of self.old) ≡ true → FitsNoMore (F.present (file_of self.old)) (F.present (file_of self.new)) }
-        ensures time { F.keeps_model (file_of self.old) ≡ true → Elapses (F.clock (file_of self.old)) (F.clock (file_of self.new)) (F.left_since (file_of self.old)) (F.left_since (file_of self.new)) (IsImage (F.present (file_of self.new))) }
+        ensures durable { F.keeps_model (file_of self.old) ≡ true →
+            OnOk result (F.present (file_of self.new) ≡ whole (F.present (file_of self.old)).read) }
+        ensures crash { F.keeps_model (file_of self.old) ≡ true →
+            FitsNoMore (F.present (file_of self.old)) (F.present (file_of self.new)) }
+        ensures time { F.keeps_model (file_of self.old) ≡ true →
+            Elapses (F.clock (file_of self.old)) (F.clock (file_of self.new))
+            (F.left_since (file_of self.old)) (F.left_since (file_of self.new))
+            (IsImage (F.present (file_of self.new))) }
         ensures model { F.keeps_model (file_of self.new) ≡ F.keeps_model (file_of self.old) }
-        ensures call { has_lost self.old ≡ false → F.made (file_of self.old) (if has_grown self.old then SyncAll else SyncData) (is_ok result) (file_of self.new) }
+        ensures call { has_lost self.old ≡ false →
+            F.made (file_of self.old) (if has_grown self.old then SyncAll else SyncData)
+            (is_ok result) (file_of self.new) }
         ensures none { has_lost self.old ≡ true → file_of self.new ≡ file_of self.old }
     {
         if self.lost {
@@ -111,9 +128,11 @@ impl<F: RawFile> RawDisk<F> {
 
 /// Syncs the file's entry in its folder, and gives its length.
 fn opened<F: RawFile>(file: &mut F) -> io::Result<u64>
-    ensures calls { OnOk result ((entered : F) × F.made file.old SyncFolder true entered × F.made entered Len true file.new) }
+    ensures calls { OnOk result ((entered : F) × F.made file.old SyncFolder true entered ×
+        F.made entered Len true file.new) }
     ensures entered { F.keeps_model file.new ≡ true → OnOk result (F.is_entered file.new ≡ true) }
-    ensures value { F.keeps_model file.new ≡ true → IfOk result (λ size. size ≡ length (F.present file.new).read) }
+    ensures value { F.keeps_model file.new ≡ true →
+        IfOk result (λ size. size ≡ length (F.present file.new).read) }
 {
     file.sync_folder()?;
     file.len()
@@ -146,14 +165,20 @@ fn end_of(at: u64, len: usize) -> io::Result<u64>
 }
 
 fn read_all<F: RawFile>(file: &mut F, at: u64, buf: &mut [u8]) -> io::Result<()>
-    requires { F.keeps_model file.old ≡ true → at + length buf.old ≤ length (F.present file.old).read }
+    requires { F.keeps_model file.old ≡ true →
+        at + length buf.old ≤ length (F.present file.old).read }
     ensures bound { OnOk result (at + length buf.old < 2 ^ 63) }
-    ensures value { F.keeps_model file.old ≡ true → OnOk result (buf.new ≡ take (length buf.old) (drop at (F.present file.old).read)) }
+    ensures value { F.keeps_model file.old ≡ true →
+        OnOk result (buf.new ≡ take (length buf.old) (drop at (F.present file.old).read)) }
     ensures present { F.keeps_model file.old ≡ true → F.present file.new ≡ F.present file.old }
-    ensures time { F.keeps_model file.old ≡ true → Elapses (F.clock file.old) (F.clock file.new) (F.left_since file.old) (F.left_since file.new) (IsImage (F.present file.new)) }
-    ensures entered { F.keeps_model file.old ≡ true → F.is_entered file.new ≡ F.is_entered file.old }
+    ensures time { F.keeps_model file.old ≡ true →
+        Elapses (F.clock file.old) (F.clock file.new) (F.left_since file.old)
+        (F.left_since file.new) (IsImage (F.present file.new)) }
+    ensures entered { F.keeps_model file.old ≡ true →
+        F.is_entered file.new ≡ F.is_entered file.old }
     ensures model { F.keeps_model file.new ≡ F.keeps_model file.old }
-    ensures call { at + length buf.old < 2 ^ 63 → F.made file.old (Read at (length buf.old)) (is_ok result) file.new }
+    ensures call { at + length buf.old < 2 ^ 63 →
+        F.made file.old (Read at (length buf.old)) (is_ok result) file.new }
 {
     end_of(at, buf.len())?;
     file.read(at, buf)
@@ -179,9 +204,14 @@ impl<F: RawFile> Disk for RawDisk<F> {
     ghost reads_image = { λ d. F.reads_image d.file };
 
     fn len(&mut self) -> Result<u64, DiskFault>
-        ensures value { F.keeps_model (file_of self.old) ≡ true → IfOk result (λ n. n ≡ length (F.present (file_of self.old)).read) }
-        ensures present { F.keeps_model (file_of self.old) ≡ true → F.present (file_of self.new) ≡ F.present (file_of self.old) }
-        ensures time { F.keeps_model (file_of self.old) ≡ true → Elapses (F.clock (file_of self.old)) (F.clock (file_of self.new)) (F.left_since (file_of self.old)) (F.left_since (file_of self.new)) (IsImage (F.present (file_of self.new))) }
+        ensures value { F.keeps_model (file_of self.old) ≡ true →
+            IfOk result (λ n. n ≡ length (F.present (file_of self.old)).read) }
+        ensures present { F.keeps_model (file_of self.old) ≡ true →
+            F.present (file_of self.new) ≡ F.present (file_of self.old) }
+        ensures time { F.keeps_model (file_of self.old) ≡ true →
+            Elapses (F.clock (file_of self.old)) (F.clock (file_of self.new))
+            (F.left_since (file_of self.old)) (F.left_since (file_of self.new))
+            (IsImage (F.present (file_of self.new))) }
         ensures model { F.keeps_model (file_of self.new) ≡ F.keeps_model (file_of self.old) }
         ensures cause { HasCause (failures_of self.old) (failures_of self.new) result }
         ensures lost { has_lost self.new ≡ has_lost self.old }
@@ -193,15 +223,23 @@ impl<F: RawFile> Disk for RawDisk<F> {
 
     /// Fails past the end of the file, and past place 2^63 - 1.
     fn read(&mut self, at: u64, buf: &mut [u8]) -> Result<(), DiskFault>
-        requires { F.keeps_model (file_of self.old) ≡ true → at + length buf.old ≤ length (F.present (file_of self.old)).read }
+        requires { F.keeps_model (file_of self.old) ≡ true →
+            at + length buf.old ≤ length (F.present (file_of self.old)).read }
         ensures bound { OnOk result (at + length buf.old < 2 ^ 63) }
-        ensures value { F.keeps_model (file_of self.old) ≡ true → OnOk result (buf.new ≡ take (length buf.old) (drop at (F.present (file_of self.old)).read)) }
-        ensures present { F.keeps_model (file_of self.old) ≡ true → F.present (file_of self.new) ≡ F.present (file_of self.old) }
-        ensures time { F.keeps_model (file_of self.old) ≡ true → Elapses (F.clock (file_of self.old)) (F.clock (file_of self.new)) (F.left_since (file_of self.old)) (F.left_since (file_of self.new)) (IsImage (F.present (file_of self.new))) }
+        ensures value { F.keeps_model (file_of self.old) ≡ true →
+            OnOk result (buf.new ≡ take (length buf.old)
+            (drop at (F.present (file_of self.old)).read)) }
+        ensures present { F.keeps_model (file_of self.old) ≡ true →
+            F.present (file_of self.new) ≡ F.present (file_of self.old) }
+        ensures time { F.keeps_model (file_of self.old) ≡ true →
+            Elapses (F.clock (file_of self.old)) (F.clock (file_of self.new))
+            (F.left_since (file_of self.old)) (F.left_since (file_of self.new))
+            (IsImage (F.present (file_of self.new))) }
         ensures model { F.keeps_model (file_of self.new) ≡ F.keeps_model (file_of self.old) }
         ensures cause { HasCause (failures_of self.old) (failures_of self.new) result }
         ensures lost { has_lost self.new ≡ has_lost self.old }
-        ensures call { at + length buf.old < 2 ^ 63 → F.made (file_of self.old) (Read at (length buf.old)) (is_ok result) (file_of self.new) }
+        ensures call { at + length buf.old < 2 ^ 63 →
+            F.made (file_of self.old) (Read at (length buf.old)) (is_ok result) (file_of self.new) }
     {
         let answer = read_all(&mut self.file, at, buf);
         told(&mut self.failed, answer)
@@ -211,13 +249,20 @@ impl<F: RawFile> Disk for RawDisk<F> {
     fn write_at(&mut self, at: u64, bytes: &[u8]) -> Result<(), DiskFault>
         requires { at + length bytes.now < 2 ^ 64 }
         ensures bound { OnOk result (at + length bytes.now < 2 ^ 63) }
-        ensures written { F.keeps_model (file_of self.old) ≡ true → OnOk result (F.present (file_of self.new) ≡ written_at at bytes.now (F.present (file_of self.old))) }
-        ensures crash { F.keeps_model (file_of self.old) ≡ true → Writes at bytes.now (F.present (file_of self.old)) (F.present (file_of self.new)) }
-        ensures time { F.keeps_model (file_of self.old) ≡ true → Elapses (F.clock (file_of self.old)) (F.clock (file_of self.new)) (F.left_since (file_of self.old)) (F.left_since (file_of self.new)) (IsImage (F.present (file_of self.new))) }
+        ensures written { F.keeps_model (file_of self.old) ≡ true →
+            OnOk result (F.present (file_of self.new) ≡
+            written_at at bytes.now (F.present (file_of self.old))) }
+        ensures crash { F.keeps_model (file_of self.old) ≡ true →
+            Writes at bytes.now (F.present (file_of self.old)) (F.present (file_of self.new)) }
+        ensures time { F.keeps_model (file_of self.old) ≡ true →
+            Elapses (F.clock (file_of self.old)) (F.clock (file_of self.new))
+            (F.left_since (file_of self.old)) (F.left_since (file_of self.new))
+            (IsImage (F.present (file_of self.new))) }
         ensures model { F.keeps_model (file_of self.new) ≡ F.keeps_model (file_of self.old) }
         ensures cause { HasCause (failures_of self.old) (failures_of self.new) result }
         ensures lost { has_lost self.new ≡ has_lost self.old }
-        ensures call { at + length bytes.now < 2 ^ 63 → F.made (file_of self.old) (Write at bytes.now) (is_ok result) (file_of self.new) }
+        ensures call { at + length bytes.now < 2 ^ 63 →
+            F.made (file_of self.old) (Write at bytes.now) (is_ok result) (file_of self.new) }
     {
         let answer = self.write_through(at, bytes);
         told(&mut self.failed, answer)
@@ -228,12 +273,19 @@ impl<F: RawFile> Disk for RawDisk<F> {
     fn sync(&mut self) -> Result<(), DiskFault>
         ensures ok { OnOk result ((has_lost self.old ≡ false) × (has_lost self.new ≡ false)) }
         ensures err { OnErr result (has_lost self.new ≡ true) }
-        ensures durable { F.keeps_model (file_of self.old) ≡ true → OnOk result (F.present (file_of self.new) ≡ whole (F.present (file_of self.old)).read) }
-        ensures crash { F.keeps_model (file_of self.old) ≡ true → FitsNoMore (F.present (file_of self.old)) (F.present (file_of self.new)) }
-        ensures time { F.keeps_model (file_of self.old) ≡ true → Elapses (F.clock (file_of self.old)) (F.clock (file_of self.new)) (F.left_since (file_of self.old)) (F.left_since (file_of self.new)) (IsImage (F.present (file_of self.new))) }
+        ensures durable { F.keeps_model (file_of self.old) ≡ true →
+            OnOk result (F.present (file_of self.new) ≡ whole (F.present (file_of self.old)).read) }
+        ensures crash { F.keeps_model (file_of self.old) ≡ true →
+            FitsNoMore (F.present (file_of self.old)) (F.present (file_of self.new)) }
+        ensures time { F.keeps_model (file_of self.old) ≡ true →
+            Elapses (F.clock (file_of self.old)) (F.clock (file_of self.new))
+            (F.left_since (file_of self.old)) (F.left_since (file_of self.new))
+            (IsImage (F.present (file_of self.new))) }
         ensures model { F.keeps_model (file_of self.new) ≡ F.keeps_model (file_of self.old) }
         ensures cause { HasCause (failures_of self.old) (failures_of self.new) result }
-        ensures call { has_lost self.old ≡ false → F.made (file_of self.old) (if has_grown self.old then SyncAll else SyncData) (is_ok result) (file_of self.new) }
+        ensures call { has_lost self.old ≡ false →
+            F.made (file_of self.old) (if has_grown self.old then SyncAll else SyncData)
+            (is_ok result) (file_of self.new) }
         ensures none { has_lost self.old ≡ true → file_of self.new ≡ file_of self.old }
     {
         let answer = self.settle();

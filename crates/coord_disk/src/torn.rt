@@ -93,12 +93,17 @@ impl<D: Disk> Disk for TornDisk<D> {
     ghost reads_image = { λ t. D.reads_image t.inner };
 
     fn len(&mut self) -> Result<u64, DiskFault>
-        ensures value { D.keeps_model (inner_of self.old) ≡ true → IfOk result (λ n. n ≡ length (D.present (inner_of self.old)).read) }
-        ensures present { D.keeps_model (inner_of self.old) ≡ true → D.present (inner_of self.new) ≡ D.present (inner_of self.old) }
+        ensures value { D.keeps_model (inner_of self.old) ≡ true →
+            IfOk result (λ n. n ≡ length (D.present (inner_of self.old)).read) }
+        ensures present { D.keeps_model (inner_of self.old) ≡ true →
+            D.present (inner_of self.new) ≡ D.present (inner_of self.old) }
         ensures time { D.keeps_model (inner_of self.old) ≡ true →
-            Elapses (D.clock (inner_of self.old)) (D.clock (inner_of self.new)) (D.left_since (inner_of self.old)) (D.left_since (inner_of self.new)) (IsImage (D.present (inner_of self.new))) }
+            Elapses (D.clock (inner_of self.old)) (D.clock (inner_of self.new))
+            (D.left_since (inner_of self.old)) (D.left_since (inner_of self.new))
+            (IsImage (D.present (inner_of self.new))) }
         ensures model { D.keeps_model (inner_of self.new) ≡ D.keeps_model (inner_of self.old) }
-        ensures cause { HasCause (D.failures (inner_of self.old) + failed_of self.old) (D.failures (inner_of self.new) + failed_of self.new) result }
+        ensures cause { HasCause (D.failures (inner_of self.old) + failed_of self.old)
+            (D.failures (inner_of self.new) + failed_of self.new) result }
         ensures counted { IsCounted D.failures self.old self.new result }
     {
         if self.counts(Call::Len) {
@@ -108,13 +113,20 @@ impl<D: Disk> Disk for TornDisk<D> {
     }
 
     fn read(&mut self, at: u64, buf: &mut [u8]) -> Result<(), DiskFault>
-        requires { D.keeps_model (inner_of self.old) ≡ true → at + length buf.old ≤ length (D.present (inner_of self.old)).read }
-        ensures value { D.keeps_model (inner_of self.old) ≡ true → OnOk result (buf.new ≡ take (length buf.old) (drop at (D.present (inner_of self.old)).read)) }
-        ensures present { D.keeps_model (inner_of self.old) ≡ true → D.present (inner_of self.new) ≡ D.present (inner_of self.old) }
+        requires { D.keeps_model (inner_of self.old) ≡ true →
+            at + length buf.old ≤ length (D.present (inner_of self.old)).read }
+        ensures value { D.keeps_model (inner_of self.old) ≡ true →
+            OnOk result (buf.new ≡ take (length buf.old)
+            (drop at (D.present (inner_of self.old)).read)) }
+        ensures present { D.keeps_model (inner_of self.old) ≡ true →
+            D.present (inner_of self.new) ≡ D.present (inner_of self.old) }
         ensures time { D.keeps_model (inner_of self.old) ≡ true →
-            Elapses (D.clock (inner_of self.old)) (D.clock (inner_of self.new)) (D.left_since (inner_of self.old)) (D.left_since (inner_of self.new)) (IsImage (D.present (inner_of self.new))) }
+            Elapses (D.clock (inner_of self.old)) (D.clock (inner_of self.new))
+            (D.left_since (inner_of self.old)) (D.left_since (inner_of self.new))
+            (IsImage (D.present (inner_of self.new))) }
         ensures model { D.keeps_model (inner_of self.new) ≡ D.keeps_model (inner_of self.old) }
-        ensures cause { HasCause (D.failures (inner_of self.old) + failed_of self.old) (D.failures (inner_of self.new) + failed_of self.new) result }
+        ensures cause { HasCause (D.failures (inner_of self.old) + failed_of self.old)
+            (D.failures (inner_of self.new) + failed_of self.new) result }
         ensures counted { IsCounted D.failures self.old self.new result }
     {
         if self.counts(Call::Read) {
@@ -126,17 +138,26 @@ impl<D: Disk> Disk for TornDisk<D> {
     /// Where it is the call to fail, the first bytes are written before.
     fn write_at(&mut self, at: u64, bytes: &[u8]) -> Result<(), DiskFault>
         requires { at + length bytes.now < 2 ^ 64 }
-        ensures written { D.keeps_model (inner_of self.old) ≡ true → OnOk result (D.present (inner_of self.new) ≡ written_at at bytes.now (D.present (inner_of self.old))) }
-        ensures crash { D.keeps_model (inner_of self.old) ≡ true → Writes at bytes.now (D.present (inner_of self.old)) (D.present (inner_of self.new)) }
+        ensures written { D.keeps_model (inner_of self.old) ≡ true →
+            OnOk result (D.present (inner_of self.new) ≡
+            written_at at bytes.now (D.present (inner_of self.old))) }
+        ensures crash { D.keeps_model (inner_of self.old) ≡ true →
+            Writes at bytes.now (D.present (inner_of self.old)) (D.present (inner_of self.new)) }
         ensures time { D.keeps_model (inner_of self.old) ≡ true →
-            Elapses (D.clock (inner_of self.old)) (D.clock (inner_of self.new)) (D.left_since (inner_of self.old)) (D.left_since (inner_of self.new)) (IsImage (D.present (inner_of self.new))) }
+            Elapses (D.clock (inner_of self.old)) (D.clock (inner_of self.new))
+            (D.left_since (inner_of self.old)) (D.left_since (inner_of self.new))
+            (IsImage (D.present (inner_of self.new))) }
         ensures model { D.keeps_model (inner_of self.new) ≡ D.keeps_model (inner_of self.old) }
-        ensures cause { HasCause (D.failures (inner_of self.old) + failed_of self.old) (D.failures (inner_of self.new) + failed_of self.new) result }
+        ensures cause { HasCause (D.failures (inner_of self.old) + failed_of self.old)
+            (D.failures (inner_of self.new) + failed_of self.new) result }
         ensures goes { Goes self.old self.new }
         ensures fails { is_next self.old ≡ true → IsErr result }
-        ensures torn { D.keeps_model (inner_of self.old) ≡ true → is_next self.old ≡ true → D.failures (inner_of self.new) ≡ D.failures (inner_of self.old)
-            → D.present (inner_of self.new) ≡ written_at at (take (kept_of self.old) bytes.now) (D.present (inner_of self.old)) }
-        ensures passed { is_next self.old ≡ false → HasCause (D.failures (inner_of self.old)) (D.failures (inner_of self.new)) result }
+        ensures torn { D.keeps_model (inner_of self.old) ≡ true → is_next self.old ≡ true →
+            D.failures (inner_of self.new) ≡ D.failures (inner_of self.old)
+            → D.present (inner_of self.new) ≡ written_at at (take (kept_of self.old) bytes.now)
+            (D.present (inner_of self.old)) }
+        ensures passed { is_next self.old ≡ false →
+            HasCause (D.failures (inner_of self.old)) (D.failures (inner_of self.new)) result }
     {
         if self.counts(Call::Write) {
             self.inner
@@ -147,12 +168,18 @@ impl<D: Disk> Disk for TornDisk<D> {
     }
 
     fn sync(&mut self) -> Result<(), DiskFault>
-        ensures durable { D.keeps_model (inner_of self.old) ≡ true → OnOk result (D.present (inner_of self.new) ≡ whole (D.present (inner_of self.old)).read) }
-        ensures crash { D.keeps_model (inner_of self.old) ≡ true → FitsNoMore (D.present (inner_of self.old)) (D.present (inner_of self.new)) }
+        ensures durable { D.keeps_model (inner_of self.old) ≡ true →
+            OnOk result (D.present (inner_of self.new) ≡
+            whole (D.present (inner_of self.old)).read) }
+        ensures crash { D.keeps_model (inner_of self.old) ≡ true →
+            FitsNoMore (D.present (inner_of self.old)) (D.present (inner_of self.new)) }
         ensures time { D.keeps_model (inner_of self.old) ≡ true →
-            Elapses (D.clock (inner_of self.old)) (D.clock (inner_of self.new)) (D.left_since (inner_of self.old)) (D.left_since (inner_of self.new)) (IsImage (D.present (inner_of self.new))) }
+            Elapses (D.clock (inner_of self.old)) (D.clock (inner_of self.new))
+            (D.left_since (inner_of self.old)) (D.left_since (inner_of self.new))
+            (IsImage (D.present (inner_of self.new))) }
         ensures model { D.keeps_model (inner_of self.new) ≡ D.keeps_model (inner_of self.old) }
-        ensures cause { HasCause (D.failures (inner_of self.old) + failed_of self.old) (D.failures (inner_of self.new) + failed_of self.new) result }
+        ensures cause { HasCause (D.failures (inner_of self.old) + failed_of self.old)
+            (D.failures (inner_of self.new) + failed_of self.new) result }
         ensures counted { IsCounted D.failures self.old self.new result }
     {
         if self.counts(Call::Sync) {

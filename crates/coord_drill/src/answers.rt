@@ -26,9 +26,12 @@ fn came(answer: io::Result<usize>) -> Result<usize, Fault>
 fn taken(answer: io::Result<usize>) -> Result<usize, Fault>
     ensures some { IfOk answer (λ count. count ≢ 0 → result ≡ Ok count) }
     ensures none { IfOk answer (λ count. count ≡ 0 → result ≡ Err Fault.Write) }
-    ensures again { IfErr answer (λ error. error_kind error ≡ ErrorKind.Interrupted → result ≡ Ok 0) }
-    ensures memory { IfErr answer (λ error. error_kind error ≡ ErrorKind.OutOfMemory → result ≡ Err Fault.OutOfMemory) }
-    ensures other { IfErr answer (λ error. error_kind error ≢ ErrorKind.Interrupted → error_kind error ≢ ErrorKind.OutOfMemory → result ≡ Err Fault.Write) }
+    ensures again { IfErr answer (λ error. error_kind error ≡ ErrorKind.Interrupted →
+        result ≡ Ok 0) }
+    ensures memory { IfErr answer (λ error. error_kind error ≡ ErrorKind.OutOfMemory →
+        result ≡ Err Fault.OutOfMemory) }
+    ensures other { IfErr answer (λ error. error_kind error ≢ ErrorKind.Interrupted →
+        error_kind error ≢ ErrorKind.OutOfMemory → result ≡ Err Fault.Write) }
     ensures bytes { TellsOfWrite answer result }
     ensures fault { IfErr result IsOfWork }
 {

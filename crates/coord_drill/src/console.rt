@@ -33,11 +33,13 @@ pub fn coord_drill<R: Read, W: Write>(
     writer: &mut W,
 ) -> Result<(), Fault>
     ensures printed { OnOk result (IfSome (R.remaining reader.old)
-        (λ input. (text : List ℕ) × IsDrilled input text × Appends (W.contents writer.old) (W.contents writer.new) text)) }
+        (λ input. (text : List ℕ) × IsDrilled input text ×
+        Appends (W.contents writer.old) (W.contents writer.new) text)) }
     ensures end { OnOk result (IsAtEnd (R.remaining reader.new)) }
     ensures failed { IfErr result (λ fault. (seen : List ℕ)
         × Consumes (R.remaining reader.old) (R.remaining reader.new) seen
-        × ((text : List ℕ) × IsDrilled seen text × WritesFirstPart (W.contents writer.old) (W.contents writer.new) text)
+        × ((text : List ℕ) × IsDrilled seen text ×
+        WritesFirstPart (W.contents writer.old) (W.contents writer.new) text)
         × (fault ≡ TooManyReads → MOST_READS ≤ length seen)) }
 {
     let mut console = Console::new(alloc)?;
@@ -88,7 +90,9 @@ impl Console {
         ensures end { OnOk result (IsAtEnd (R.remaining reader.new)) }
         ensures failed { IfErr result (λ fault. (seen : List ℕ)
             × Consumes (R.remaining reader.old) (R.remaining reader.new) seen
-            × ((text : List ℕ) × Prints (state_of self.old.drill) 1 (lines_on self.old.line seen) text × WritesFirstPart (W.contents writer.old) (W.contents writer.new) text)
+            × ((text : List ℕ) × Prints (state_of self.old.drill) 1
+            (lines_on self.old.line seen) text ×
+            WritesFirstPart (W.contents writer.old) (W.contents writer.new) text)
             × (fault ≡ TooManyReads → MOST_READS ≤ length seen)) }
     {
         let mut bytes = [0; READ_LEN];
@@ -112,11 +116,16 @@ impl Console {
         requires number { self.old.number + length piece.now < 2 ^ 64 - 1 }
         ensures ready { OnOk result (IsReady self.new.drill) }
         ensures number { OnOk result (self.new.number ≤ self.old.number + length piece.now) }
-        ensures printed { OnOk result ((text : List ℕ) × Appends (W.contents writer.old) (W.contents writer.new) text
-            × ((more rest : List ℕ) → Prints (state_of self.new.drill) (self.new.number + 1) (lines_on self.new.line more) rest
-            → Prints (state_of self.old.drill) (self.old.number + 1) (lines_on self.old.line (piece.now ++ more)) (text ++ rest))) }
+        ensures printed { OnOk result ((text : List ℕ) ×
+            Appends (W.contents writer.old) (W.contents writer.new) text
+            × ((more rest : List ℕ) →
+            Prints (state_of self.new.drill) (self.new.number + 1)
+            (lines_on self.new.line more) rest
+            → Prints (state_of self.old.drill) (self.old.number + 1)
+            (lines_on self.old.line (piece.now ++ more)) (text ++ rest))) }
         ensures failed { OnErr result ((text : List ℕ)
-            × Prints (state_of self.old.drill) (self.old.number + 1) (lines_on self.old.line piece.now) text
+            × Prints (state_of self.old.drill) (self.old.number + 1)
+            (lines_on self.old.line piece.now) text
             × WritesFirstPart (W.contents writer.old) (W.contents writer.new) text) }
         ensures fault { IfErr result IsOfWork }
     {
@@ -131,10 +140,12 @@ impl Console {
         requires ready { IsReady self.old.drill }
         requires number { self.old.number < 2 ^ 64 - 1 }
         ensures printed { OnOk result ((text : List ℕ)
-            × Prints (state_of self.old.drill) (self.old.number + 1) (lines_on self.old.line []) text
+            × Prints (state_of self.old.drill) (self.old.number + 1)
+            (lines_on self.old.line []) text
             × Appends (W.contents writer.old) (W.contents writer.new) text) }
         ensures failed { OnErr result ((text : List ℕ)
-            × Prints (state_of self.old.drill) (self.old.number + 1) (lines_on self.old.line []) text
+            × Prints (state_of self.old.drill) (self.old.number + 1)
+            (lines_on self.old.line []) text
             × WritesFirstPart (W.contents writer.old) (W.contents writer.new) text) }
         ensures fault { IfErr result IsOfWork }
     {

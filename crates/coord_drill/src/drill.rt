@@ -79,9 +79,12 @@ impl Drill {
     pub fn answer(&mut self, request: &Request, text: &mut String) -> Result<(), Fault>
         requires ready { IsReady self.old }
         ensures ready { OnOk result (IsReady self.new) }
-        ensures told { OnOk result (Tells (string_bytes text.old) (string_bytes text.new) (λ told. Does (state_of self.old) (asked (front_of self.old) request.now) told (state_of self.new))) }
+        ensures told { OnOk result (Tells (string_bytes text.old) (string_bytes text.new) (λ told.
+            Does (state_of self.old) (asked (front_of self.old) request.now) told
+            (state_of self.new))) }
         // At each moment of it the headline holds of the drill's disk.
-        ensures moments { OnOk result (MovesFrom (asked (front_of self.old) request.now) self.old.driver self.new.driver) }
+        ensures moments { OnOk result
+            (MovesFrom (asked (front_of self.old) request.now) self.old.driver self.new.driver) }
         ensures fault { IfErr result IsOfWork }
     {
         let wanted = match &self.driver {
@@ -123,7 +126,8 @@ impl Drill {
         ensures ready { OnOk result (IsReady self.new) }
         ensures disk { OnOk result (HasDisk self.new (made 65_536 2)) }
         ensures told { OnOk result (Does (state_of self.old) ask.Version2 [] (state_of self.new)) }
-        ensures made { OnOk result ((v : Driven Disk) × ((self.new.driver ≡ Some v) × IsMade 2 v.ledger)) }
+        ensures made { OnOk result ((v : Driven Disk) ×
+            ((self.new.driver ≡ Some v) × IsMade 2 v.ledger)) }
         ensures fault { IfErr result IsOfWork }
     {
         let driver = Driver::over(new_ledger(self.alloc, 2)?);

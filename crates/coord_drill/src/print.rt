@@ -125,7 +125,8 @@ fn print_link(text: &mut String, view: &LinkView) -> Result<(), AllocError>
 
 /// Adds the line of a packet or a signal that goes out in a world of this version.
 pub fn print_output(text: &mut String, version: Version, output: &Output) -> Result<(), AllocError>
-    ensures { OnOk result (string_bytes text.new ≡ string_bytes text.old ++ output_line version output.now) }
+    ensures { OnOk result (string_bytes text.new ≡
+        string_bytes text.old ++ output_line version output.now) }
 {
     match *output {
         Output::Receipted(packet) => print_receipt(text, packet),
@@ -138,7 +139,8 @@ pub fn print_output(text: &mut String, version: Version, output: &Output) -> Res
 }
 
 fn print_receipt(text: &mut String, packet: ReceiptPacket) -> Result<(), AllocError>
-    ensures { OnOk result (string_bytes text.new ≡ string_bytes text.old ++ output_line 1 (Receipted packet)) }
+    ensures { OnOk result (string_bytes text.new ≡ string_bytes text.old ++ output_line 1
+        (Receipted packet)) }
 {
     let from = packet.from.number();
     let to = packet.to.number();
@@ -147,7 +149,8 @@ fn print_receipt(text: &mut String, packet: ReceiptPacket) -> Result<(), AllocEr
 }
 
 fn print_data(text: &mut String, version: Version, packet: DataPacket) -> Result<(), AllocError>
-    ensures { OnOk result (string_bytes text.new ≡ string_bytes text.old ++ output_line version (Sent packet)) }
+    ensures { OnOk result (string_bytes text.new ≡ string_bytes text.old ++ output_line version
+        (Sent packet)) }
 {
     let from = packet.from.number();
     let to = packet.to.number();

@@ -106,7 +106,8 @@ fn number_in(word: &str) -> Option<u64>
 
 /// The same, if it is below 256.
 fn small_number_in(word: &str) -> Option<u8>
-    ensures { result ≡ option_and_then (λ n. if nat_lt n 256 then Some n else None) (number_of word.now) }
+    ensures { result ≡ option_and_then (λ n. if nat_lt n 256 then Some n else None)
+        (number_of word.now) }
 {
     u8::try_from(number_in(word)?).ok()
 }

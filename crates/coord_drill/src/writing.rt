@@ -15,7 +15,8 @@ const MOST_WRITES: u64 = 1_048_576;
 /// Writes a text whole.
 pub fn write_text<W: Write>(writer: &mut W, text: &[u8]) -> Result<(), Fault>
     ensures ok { OnOk result (Appends (W.contents writer.old) (W.contents writer.new) text.now) }
-    ensures err { OnErr result (WritesFirstPart (W.contents writer.old) (W.contents writer.new) text.now) }
+    ensures err { OnErr result (WritesFirstPart (W.contents writer.old)
+        (W.contents writer.new) text.now) }
     ensures fault { IfErr result IsOfWork }
 {
     let mut rest = text;

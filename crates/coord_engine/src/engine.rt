@@ -52,8 +52,11 @@ impl<D: Disk, L: Origin> Engine<D, L> {
 
     /// A share without notes, where not all 65,535 were given out.
     pub fn share<R: Wait>(&self, rt: &R) -> Option<Share<L>>
-        ensures given { IfSome result (λ share. (share ≡ []) × AtSomeMoment (based_on D.keeps_model D.present L.base L.before) (λ g. g.given < most_shares)) }
-        ensures none { IfNone result (AtSomeMoment (based_on D.keeps_model D.present L.base L.before) (λ g. g.given ≡ most_shares)) }
+        ensures given { IfSome result (λ share. (share ≡ []) ×
+            AtSomeMoment (based_on D.keeps_model D.present L.base L.before) (λ g.
+            g.given < most_shares)) }
+        ensures none { IfNone result (AtSomeMoment
+            (based_on D.keeps_model D.present L.base L.before) (λ g. g.given ≡ most_shares)) }
     {
         let mut guarded = self.guarded.lock(rt);
         guarded.keeps();
@@ -68,7 +71,8 @@ impl<D: Disk, L: Origin> Engine<D, L> {
         step: Step,
         mine: &mut Share<L>,
     ) -> Result<Ticket, Refusal>
-        ensures { AtSomeMoment (based_on D.keeps_model D.present L.base L.before) (Submits {D = D} step result mine.old mine.new) }
+        ensures { AtSomeMoment (based_on D.keeps_model D.present L.base L.before)
+            (Submits {D = D} step result mine.old mine.new) }
     {
         let mut guarded = self.guarded.lock(rt);
         guarded.keeps();
@@ -85,8 +89,12 @@ impl<D: Disk, L: Origin> Engine<D, L> {
     /// of another ledger, and `Stopped` one whose step will not be settled any more; both give it
     /// back.
     pub fn collect<R: Wait>(&self, rt: &R, ticket: Ticket) -> Result<Reply, (Refusal, Ticket)>
-        ensures settled { IfOk result (λ reply. (reply ≡ reply_of ticket) × AtSomeMoment (based_on D.keeps_model D.present L.base L.before) (λ g. IsCollectable g.ledger.log ticket)) }
-        ensures refused { IfErr result (λ refused. (refused.1 ≡ ticket) × AtSomeMoment (based_on D.keeps_model D.present L.base L.before) (λ g. RefusesTicket g.ledger ticket refused.0)) }
+        ensures settled { IfOk result (λ reply. (reply ≡ reply_of ticket) ×
+            AtSomeMoment (based_on D.keeps_model D.present L.base L.before) (λ g.
+            IsCollectable g.ledger.log ticket)) }
+        ensures refused { IfErr result (λ refused. (refused.1 ≡ ticket) ×
+            AtSomeMoment (based_on D.keeps_model D.present L.base L.before) (λ g.
+            RefusesTicket g.ledger ticket refused.0)) }
     {
         let mut waiting = ticket;
         let mut guarded = self.guarded.lock(rt);
@@ -104,8 +112,12 @@ impl<D: Disk, L: Origin> Engine<D, L> {
 
     /// Shows the settled world, of which the caller must not have seen more.
     pub fn show<R: Wait>(&self, rt: &R, seen: &mut Seen) -> Result<View, Refusal>
-        ensures shown { IfOk result (λ view. AtSomeMoment (based_on D.keeps_model D.present L.base L.before) (Shows {D = D} view seen.old seen.new)) }
-        ensures refused { IfErr result (λ refusal. AtSomeMoment (based_on D.keeps_model D.present L.base L.before) (RefusesShow {D = D} refusal seen.old)) }
+        ensures shown { IfOk result (λ view.
+            AtSomeMoment (based_on D.keeps_model D.present L.base L.before)
+            (Shows {D = D} view seen.old seen.new)) }
+        ensures refused { IfErr result (λ refusal.
+            AtSomeMoment (based_on D.keeps_model D.present L.base L.before)
+            (RefusesShow {D = D} refusal seen.old)) }
         ensures unseen { OnErr result (seen.new ≡ seen.old) }
     {
         let guarded = self.guarded.lock(rt);
@@ -116,7 +128,8 @@ impl<D: Disk, L: Origin> Engine<D, L> {
     /// How many steps it keeps: those that its ledger had accepted when the engine was made, and all
     /// since.
     pub fn kept<R: Wait>(&self, rt: &R) -> usize
-        ensures { AtSomeMoment (based_on D.keeps_model D.present L.base L.before) (λ g. result ≡ length g.ledger.log.trail) }
+        ensures { AtSomeMoment (based_on D.keeps_model D.present L.base L.before) (λ g. result ≡
+            length g.ledger.log.trail) }
     {
         let guarded = self.guarded.lock(rt);
         guarded.keeps();
@@ -125,7 +138,9 @@ impl<D: Disk, L: Origin> Engine<D, L> {
 
     /// The packets that may have been lost, to be sent again as of step 0.
     pub fn resend<R: Wait>(&self, rt: &R) -> Result<Releases, AllocError>
-        ensures { IfOk result (λ releases. AtSomeMoment (based_on D.keeps_model D.present L.base L.before) (SendsAgain {D = D} releases)) }
+        ensures { IfOk result (λ releases.
+            AtSomeMoment (based_on D.keeps_model D.present L.base L.before)
+            (SendsAgain {D = D} releases)) }
     {
         let guarded = self.guarded.lock(rt);
         guarded.keeps();
@@ -137,9 +152,15 @@ impl<D: Disk, L: Origin> Engine<D, L> {
     ///
     /// After `OutOfMemory` it may be tried again; after `Device` the ledger has stopped.
     pub fn flush_once<R: Wait>(&self, rt: &R) -> Result<Option<Releases>, CommitFault>
-        ensures flushed { IfOk result (λ begun. IfSome begun (λ releases. AtSomeMoment (based_on D.keeps_model D.present L.base L.before) (Flushes {D = D} releases))) }
-        ensures nothing { IfOk result (λ begun. IfNone begun (AtSomeMoment (based_on D.keeps_model D.present L.base L.before) (λ g. keeps_store g.ledger ≡ true))) }
-        ensures refused { IfErr result (RefusesFlush (based_on D.keeps_model D.present L.base L.before) D.failures) }
+        ensures flushed { IfOk result (λ begun.
+            IfSome begun (λ releases.
+            AtSomeMoment (based_on D.keeps_model D.present L.base L.before)
+            (Flushes {D = D} releases))) }
+        ensures nothing { IfOk result (λ begun.
+            IfNone begun (AtSomeMoment (based_on D.keeps_model D.present L.base L.before) (λ g.
+            keeps_store g.ledger ≡ true))) }
+        ensures refused { IfErr result
+            (RefusesFlush (based_on D.keeps_model D.present L.base L.before) D.failures) }
     {
         let mut hangar = EngineHangar::new(rt, self);
         let told = fly(&mut hangar);
@@ -155,9 +176,15 @@ impl<D: Disk, L: Origin> Engine<D, L> {
 
     /// Sends the next flight out.
     pub(crate) fn begin<R: Wait>(&self, rt: &R) -> Result<Option<Flight<D>>, AllocError>
-        ensures begun { IfOk result (λ begun. IfSome begun (λ flight. AtSomeMoment (based_on D.keeps_model D.present L.base L.before) (Leaves {D = D} flight))) }
-        ensures nothing { IfOk result (λ begun. IfNone begun (AtSomeMoment (based_on D.keeps_model D.present L.base L.before) (λ g. keeps_store g.ledger ≡ true))) }
-        ensures refused { OnErr result (AtSomeMoment (based_on D.keeps_model D.present L.base L.before) (λ g. keeps_store g.ledger ≡ false)) }
+        ensures begun { IfOk result (λ begun.
+            IfSome begun (λ flight. AtSomeMoment (based_on D.keeps_model D.present L.base L.before)
+            (Leaves {D = D} flight))) }
+        ensures nothing { IfOk result (λ begun.
+            IfNone begun (AtSomeMoment (based_on D.keeps_model D.present L.base L.before) (λ g.
+            keeps_store g.ledger ≡ true))) }
+        ensures refused { OnErr result
+            (AtSomeMoment (based_on D.keeps_model D.present L.base L.before) (λ g.
+            keeps_store g.ledger ≡ false)) }
     {
         let mut guarded = self.guarded.lock(rt);
         guarded.count_leaving();
@@ -172,7 +199,8 @@ impl<D: Disk, L: Origin> Engine<D, L> {
     /// Takes a flight back. Where it is refused, for memory, it is tried again.
     pub(crate) fn end<R: Wait>(&self, rt: &R, flight: Flight<D>) -> Releases
         ensures released { result ≡ releases_in flight flight.mark }
-        ensures back { AtSomeMoment (based_on D.keeps_model D.present L.base L.before) (ComesBack flight) }
+        ensures back { AtSomeMoment (based_on D.keeps_model D.present L.base L.before)
+            (ComesBack flight) }
     {
         let mut out = flight;
         for _ in rt.forever() {
@@ -205,9 +233,14 @@ impl<D: Disk, L: Origin> Engine<D, L> {
         shares: Vec<Share<L>>,
     ) -> Result<Closed<D>, (CloseFault, Self, Vec<Share<L>>)>
         requires { L.parts ≡ 65536 }
-        ensures since { IfOk result (λ closed. IsSince L.base L.before shares.items closed.base closed.trail.items) }
-        ensures closed { IfOk result (λ closed. AtSomeMoment (based_on D.keeps_model D.present L.base L.before) (Closes closed.store closed.base closed.trail.items closed.settled shares.items)) }
-        ensures refused { IfErr result (λ refused. AtSomeMoment (based_on D.keeps_model D.present L.base L.before) (λ g. RefusesClosing g shares.items refused.0)) }
+        ensures since { IfOk result (λ closed.
+            IsSince L.base L.before shares.items closed.base closed.trail.items) }
+        ensures closed { IfOk result (λ closed.
+            AtSomeMoment (based_on D.keeps_model D.present L.base L.before)
+            (Closes closed.store closed.base closed.trail.items closed.settled shares.items)) }
+        ensures refused { IfErr result (λ refused.
+            AtSomeMoment (based_on D.keeps_model D.present L.base L.before) (λ g.
+            RefusesClosing g shares.items refused.0)) }
         ensures back { IfErr result (λ refused. refused.2.items ≡ shares.items) }
     {
         let Engine {

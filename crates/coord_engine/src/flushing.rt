@@ -103,7 +103,12 @@ impl<'a, D: Disk, L: Origin, P: Port, R: Wait> Taker for EngineDeck<'a, D, L, P,
 }
 
 impl<'a, D: Disk, L: Origin, P: Port, R: Wait + Clock> Deck for EngineDeck<'a, D, L, P, R> {
-    ghost moves = { record { waits = λ _ _ _. Unit {0}; flushes = λ _ _ _. Unit {0}; rests = λ _ _. Unit {0} } };
+    ghost moves = { record {
+      waits = λ _ _ _. Unit {0};
+      flushes = λ _ _ _. Unit {0};
+      rests = λ _ _.
+          Unit {0};
+    } };
 
     fn wait(&mut self) -> bool {
         self.engine.waits_for_flight(self.rt, self.patience)

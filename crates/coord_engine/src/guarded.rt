@@ -49,12 +49,21 @@ impl<D: Disk, L: Origin> Model for Guarded<D, L> {
 
     ghost Value = { GuardedState D };
 
-    ghost view = { λ g. record { ledger = g.ledger; start = g.start; noted = g.book.total; given = g.given; finishing = g.finishing; in_hand = g.in_hand; awaited = g.awaited } };
+    ghost view = { λ g. record {
+      ledger = g.ledger;
+      start = g.start;
+      noted = g.book.total;
+      given = g.given;
+      finishing = g.finishing;
+      in_hand = g.in_hand;
+      awaited = g.awaited;
+    } };
 
     ghost invariant = { λ g.
         (g.given ≤ most_shares) × (g.rest.parts + g.given ≡ most_shares + 1) × (g.rest.amount ≡ 0)
         × (length g.ledger.log.trail ≡ g.start + g.book.total)
-        × (g.ledger.log.base ≡ L.base) × (g.start ≡ length L.before) × (take g.start g.ledger.log.trail ≡ L.before)
+        × (g.ledger.log.base ≡ L.base) × (g.start ≡ length L.before) ×
+        (take g.start g.ledger.log.trail ≡ L.before)
         × IfSome g.ledger.doubt (λ _. g.ledger.out ≡ None) };
 }
 
@@ -85,7 +94,8 @@ impl<D: Disk, L: Origin> Guarded<D, L> {
 
     /// A share without notes, where not all 65,535 were given out.
     pub fn share(&mut self) -> Option<Share<L>>
-        ensures some { IfSome result (λ share. (share ≡ []) × (self.old.given < most_shares) × (self.new ≡ with_share self.old)) }
+        ensures some { IfSome result (λ share. (share ≡ []) × (self.old.given < most_shares) ×
+            (self.new ≡ with_share self.old)) }
         ensures none { IfNone result ((self.old.given ≡ most_shares) × (self.new ≡ self.old)) }
     {
         if self.given >= MOST_SHARES {

@@ -40,7 +40,8 @@ impl<'a, D: Disk, L: Origin, R: Wait> Hangar for EngineHangar<'a, D, L, R> {
     ghost use Rattle.coord_engine.specs.Flights.{hangar_moves};
     ghost use Rattle.coord_engine.specs.State.{based_on};
 
-    ghost moves = { hangar_moves (based_on D.keeps_model D.present L.base L.before) D.failures (λ s. s.out) };
+    ghost moves = { hangar_moves (based_on D.keeps_model D.present L.base L.before) D.failures (λ s.
+        s.out) };
 
     fn begin(&mut self) -> Result<bool, CommitFault> {
         match self.engine.begin(self.rt) {

@@ -12,10 +12,14 @@ use std::alloc::Global;
 
 /// All the bytes, once they are on the disk. A crash meanwhile leaves nothing that it could not have left before.
 pub fn read_settled<D: Disk>(alloc: Global, disk: &mut D) -> Result<Vec<u8>, JournalFault>
-    ensures bytes { D.keeps_model disk.old ≡ true → IfOk result (λ bytes. bytes.items ≡ (D.present disk.old).read) }
-    ensures settled { D.keeps_model disk.old ≡ true → OnOk result (D.present disk.new ≡ whole (D.present disk.old).read) }
-    ensures any_moment { D.keeps_model disk.old ≡ true → LeavesOnly D.clock D.left_since disk.old disk.new (IsImage (D.present disk.old)) }
-    ensures unchanged { D.keeps_model disk.old ≡ true → IfErr result (λ fault. fault ≢ Device → D.present disk.new ≡ whole (D.present disk.old).read) }
+    ensures bytes { D.keeps_model disk.old ≡ true →
+        IfOk result (λ bytes. bytes.items ≡ (D.present disk.old).read) }
+    ensures settled { D.keeps_model disk.old ≡ true →
+        OnOk result (D.present disk.new ≡ whole (D.present disk.old).read) }
+    ensures any_moment { D.keeps_model disk.old ≡ true →
+        LeavesOnly D.clock D.left_since disk.old disk.new (IsImage (D.present disk.old)) }
+    ensures unchanged { D.keeps_model disk.old ≡ true → IfErr result (λ fault. fault ≢ Device →
+        D.present disk.new ≡ whole (D.present disk.old).read) }
     ensures fault { IfErr result (λ fault. (fault ≡ OutOfMemory) ⊎ (fault ≡ Device)) }
     ensures model { D.keeps_model disk.new ≡ D.keeps_model disk.old }
     ensures failures { D.failures disk.new ≡ D.failures disk.old + failures_in result }

@@ -26,13 +26,19 @@ pub fn format<D: Disk>(
     snapshot: &[u8],
 ) -> Result<(), JournalFault>
     requires { length snapshot.now ≤ MAX_SNAPSHOT }
-    ensures empty { D.keeps_model disk.old ≡ true → OnOk result (length (D.present disk.old).read ≡ 0) }
+    ensures empty { D.keeps_model disk.old ≡ true →
+        OnOk result (length (D.present disk.old).read ≡ 0) }
     ensures half_size { OnOk result (IsHalfSize half_size) }
-    ensures bytes { D.keeps_model disk.old ≡ true → OnOk result (D.present disk.new ≡ whole (formatted half_size version snapshot.now)) }
-    ensures text { D.keeps_model disk.old ≡ true → OnOk result (IsText (without_batch version snapshot.now) (D.present disk.new).read) }
-    ensures fault { D.keeps_model disk.old ≡ true → IfErr result (RefusesFormat (D.present disk.old).read half_size) }
-    ensures unchanged { D.keeps_model disk.old ≡ true → IfErr result (λ fault. fault ≢ Device → D.present disk.new ≡ D.present disk.old) }
-    ensures any_moment { D.keeps_model disk.old ≡ true → IfErr result (λ fault. fault ≢ Device → LeavesOnly D.clock D.left_since disk.old disk.new (IsImage (D.present disk.old))) }
+    ensures bytes { D.keeps_model disk.old ≡ true →
+        OnOk result (D.present disk.new ≡ whole (formatted half_size version snapshot.now)) }
+    ensures text { D.keeps_model disk.old ≡ true →
+        OnOk result (IsText (without_batch version snapshot.now) (D.present disk.new).read) }
+    ensures fault { D.keeps_model disk.old ≡ true →
+        IfErr result (RefusesFormat (D.present disk.old).read half_size) }
+    ensures unchanged { D.keeps_model disk.old ≡ true → IfErr result (λ fault. fault ≢ Device →
+        D.present disk.new ≡ D.present disk.old) }
+    ensures any_moment { D.keeps_model disk.old ≡ true → IfErr result (λ fault. fault ≢ Device →
+        LeavesOnly D.clock D.left_since disk.old disk.new (IsImage (D.present disk.old))) }
     ensures model { D.keeps_model disk.new ≡ D.keeps_model disk.old }
     ensures named { IfErr result IsFormatFault }
     ensures failures { D.failures disk.new ≡ D.failures disk.old + failures_in result }

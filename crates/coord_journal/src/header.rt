@@ -26,9 +26,11 @@ fn read_size(bytes: &[u8]) -> u64
 
 // What a header spells, whatever its size is.
 fn split_header(bytes: &[u8]) -> Option<Header<'_>>
-    ensures some { IfSome result (λ header. bytes.now ≡ (header.selector ∷ magic) ++ (to_be_bytes w64 header.half_size ++ header.rest.now)) }
+    ensures some { IfSome result (λ header. bytes.now ≡
+        (header.selector ∷ magic) ++ (to_be_bytes w64 header.half_size ++ header.rest.now)) }
     ensures range { IfSome result (λ header. header.half_size < 2 ^ 64) }
-    ensures none { result ≡ None → (selector half_size : ℕ) (rest : List ℕ) → half_size < 2 ^ 64 → bytes.now ≡ (selector ∷ magic) ++ (to_be_bytes w64 half_size ++ rest) → ⊥ }
+    ensures none { result ≡ None → (selector half_size : ℕ) (rest : List ℕ) → half_size < 2 ^ 64 →
+        bytes.now ≡ (selector ∷ magic) ++ (to_be_bytes w64 half_size ++ rest) → ⊥ }
 {
     if bytes.len() < HEADER || bytes[1..9] != MAGIC[..] {
         return None;
@@ -42,9 +44,11 @@ fn split_header(bytes: &[u8]) -> Option<Header<'_>>
 
 /// The header, where the bytes begin with one.
 pub fn read_header(bytes: &[u8]) -> Option<Header<'_>>
-    ensures some { IfSome result (λ header. HasHeader bytes.now header.selector header.half_size header.rest.now) }
+    ensures some { IfSome result (λ header.
+        HasHeader bytes.now header.selector header.half_size header.rest.now) }
     ensures long { IfSome result (λ header. length bytes.now ≡ 17 + length header.rest.now) }
-    ensures none { result ≡ None → (selector half_size : ℕ) (rest : List ℕ) → HasHeader bytes.now selector half_size rest → ⊥ }
+    ensures none { result ≡ None → (selector half_size : ℕ) (rest : List ℕ) →
+        HasHeader bytes.now selector half_size rest → ⊥ }
 {
     let Some(header) = split_header(bytes) else {
         return None;

@@ -80,7 +80,8 @@ impl<D: Disk> Journal<D> {
 
     // Where the closed gate of the selected half stands.
     fn gate(&self) -> u64
-        ensures place { result ≡ gate_place (half_size_of self.now) (half_of self.now) (used_of self.now) }
+        ensures place { result ≡ gate_place (half_size_of self.now) (half_of self.now)
+            (used_of self.now) }
         ensures near { result ≤ 16 + 2 * MAX_HALF }
     {
         (HEADER as u64 - 1) + self.half.start(self.half_size) + self.used
@@ -94,23 +95,31 @@ impl<D: Disk> Journal<D> {
         requires fits { HasRoomFor self.old (length body.now) }
 
         // A crash at any moment of the call leaves the text of the content from before it, with the batch or without.
-        ensures any_moment { (content : Content) → D.keeps_model (disk_of self.old) ≡ true → IsReady D.present self.old content
-            → LeavesOnly D.clock D.left_since (disk_of self.old) (disk_of self.new) (IsEitherText content (with_batch content body.now)) }
+        ensures any_moment { (content : Content) → D.keeps_model (disk_of self.old) ≡ true →
+            IsReady D.present self.old content
+            → LeavesOnly D.clock D.left_since (disk_of self.old) (disk_of self.new)
+            (IsEitherText content (with_batch content body.now)) }
 
         // Once it has returned Ok, with it.
-        ensures done { (content : Content) → D.keeps_model (disk_of self.old) ≡ true → IsReady D.present self.old content
+        ensures done { (content : Content) → D.keeps_model (disk_of self.old) ≡ true →
+            IsReady D.present self.old content
             → OnOk result (IsReady D.present self.new (with_batch content body.now)) }
-        ensures bytes { D.keeps_model (disk_of self.old) ≡ true → let gate = gate_place (half_size_of self.old) (half_of self.old) (used_of self.old) in
-            OnOk result (D.present (disk_of self.new) ≡ whole (with_body_at gate body.now (D.present (disk_of self.old)).read)) }
-        ensures used { used_of self.new ≡ (if is_ok result then used_of self.old + 5 + length body.now else used_of self.old) }
+        ensures bytes { D.keeps_model (disk_of self.old) ≡ true →
+            let gate = gate_place (half_size_of self.old) (half_of self.old) (used_of self.old) in
+            OnOk result (D.present (disk_of self.new) ≡
+            whole (with_body_at gate body.now (D.present (disk_of self.old)).read)) }
+        ensures used { used_of self.new ≡
+            (if is_ok result then used_of self.old + 5 + length body.now else used_of self.old) }
         ensures half { half_of self.new ≡ half_of self.old }
         ensures half_size { half_size_of self.new ≡ half_size_of self.old }
-        ensures calls { D.keeps_model (disk_of self.old) ≡ true → D.clock (disk_of self.new) ≤ D.clock (disk_of self.old) + 4 }
+        ensures calls { D.keeps_model (disk_of self.old) ≡ true →
+            D.clock (disk_of self.new) ≤ D.clock (disk_of self.old) + 4 }
 
         // When it is refused, and what it is then.
         ensures stopped { IsErrOf result JournalFault.Stopped ↔ (has_stopped self.old ≡ true) }
         ensures fault { IfErr result IsWriteFault }
-        ensures failures { D.failures (disk_of self.new) ≡ D.failures (disk_of self.old) + failures_in result }
+        ensures failures { D.failures (disk_of self.new) ≡
+            D.failures (disk_of self.old) + failures_in result }
         ensures device { IsErrOf result JournalFault.Device → has_stopped self.new ≡ true }
         ensures going { OnOk result (has_stopped self.new ≡ false) }
         ensures unchanged { IfErr result (λ fault. fault ≢ Device → self.new ≡ self.old) }
@@ -136,24 +145,33 @@ impl<D: Disk> Journal<D> {
         requires { length snapshot.now ≤ MAX_SNAPSHOT }
 
         // A crash at any moment of the call leaves the text of the content from before it, or of the new one.
-        ensures any_moment { (content : Content) → D.keeps_model (disk_of self.old) ≡ true → IsReady D.present self.old content
-            → LeavesOnly D.clock D.left_since (disk_of self.old) (disk_of self.new) (IsEitherText content (without_batch version snapshot.now)) }
+        ensures any_moment { (content : Content) → D.keeps_model (disk_of self.old) ≡ true →
+            IsReady D.present self.old content
+            → LeavesOnly D.clock D.left_since (disk_of self.old) (disk_of self.new)
+            (IsEitherText content (without_batch version snapshot.now)) }
 
         // Once it has returned Ok, of the new one, and a body of any size fits.
-        ensures done { (content : Content) → D.keeps_model (disk_of self.old) ≡ true → IsReady D.present self.old content
+        ensures done { (content : Content) → D.keeps_model (disk_of self.old) ≡ true →
+            IsReady D.present self.old content
             → OnOk result (IsReady D.present self.new (without_batch version snapshot.now)) }
         ensures bytes { D.keeps_model (disk_of self.old) ≡ true → let half = 1 - half_of self.old in
-            OnOk result (D.present (disk_of self.new) ≡ whole (with_half half (half_size_of self.old) version snapshot.now (D.present (disk_of self.old)).read)) }
+            OnOk result (D.present (disk_of self.new) ≡
+            whole (with_half half (half_size_of self.old) version snapshot.now
+            (D.present (disk_of self.old)).read)) }
         ensures fits { OnOk result (HasRoomFor self.new MAX_BODY) }
-        ensures used { used_of self.new ≡ (if is_ok result then 6 + length snapshot.now else used_of self.old) }
-        ensures half { half_of self.new ≡ (if is_ok result then 1 - half_of self.old else half_of self.old) }
+        ensures used { used_of self.new ≡
+            (if is_ok result then 6 + length snapshot.now else used_of self.old) }
+        ensures half { half_of self.new ≡
+            (if is_ok result then 1 - half_of self.old else half_of self.old) }
         ensures half_size { half_size_of self.new ≡ half_size_of self.old }
-        ensures calls { D.keeps_model (disk_of self.old) ≡ true → D.clock (disk_of self.new) ≤ D.clock (disk_of self.old) + 4 }
+        ensures calls { D.keeps_model (disk_of self.old) ≡ true →
+            D.clock (disk_of self.new) ≤ D.clock (disk_of self.old) + 4 }
 
         // When it is refused, and what it is then.
         ensures stopped { IsErrOf result JournalFault.Stopped ↔ (has_stopped self.old ≡ true) }
         ensures fault { IfErr result IsWriteFault }
-        ensures failures { D.failures (disk_of self.new) ≡ D.failures (disk_of self.old) + failures_in result }
+        ensures failures { D.failures (disk_of self.new) ≡
+            D.failures (disk_of self.old) + failures_in result }
         ensures device { IsErrOf result JournalFault.Device → has_stopped self.new ≡ true }
         ensures going { OnOk result (has_stopped self.new ≡ false) }
         ensures unchanged { IfErr result (λ fault. fault ≢ Device → self.new ≡ self.old) }

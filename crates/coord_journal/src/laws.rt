@@ -4,5 +4,6 @@ ghost use Rattle.coord_journal.specs.Text.{Content, IsText};
 
 /// The bytes of a device are the text of one content at most.
 pub fn one_content()
-    ensures { (bytes : List ℕ) (one other : Content) → IsText one bytes → IsText other bytes → one ≡ other }
+    ensures { (bytes : List ℕ) (one other : Content) → IsText one bytes → IsText other bytes →
+        one ≡ other }
 {}

@@ -28,8 +28,10 @@ struct Place {
 
 // What the bytes of a device say.
 fn read_text(alloc: Global, bytes: &[u8]) -> Result<(Place, Contents), JournalFault>
-    ensures text { IfOk result (λ read. IsTextAt bytes.now (content_of read.1) read.0.half_size (half_number read.0.half) read.0.used) }
-    ensures only { (content : Content) → IsText content bytes.now → IfOk result (λ read. content_of read.1 ≡ content) }
+    ensures text { IfOk result (λ read. IsTextAt bytes.now (content_of read.1) read.0.half_size
+        (half_number read.0.half) read.0.used) }
+    ensures only { (content : Content) → IsText content bytes.now →
+        IfOk result (λ read. content_of read.1 ≡ content) }
     ensures used { IfOk result (λ read. read.0.used ≡ used_by (content_of read.1)) }
     ensures fault { IfErr result (RefusesOpen bytes.now) }
     ensures not_device { IfErr result (λ fault. fault ≢ Device) }
@@ -64,23 +66,38 @@ pub fn open<D: Disk>(
     mut disk: D,
 ) -> Result<(Journal<D>, Contents), (JournalFault, D)>
     // Where the bytes of the device are the text of a content, it gives that content, or there is no memory or the device fails.
-    ensures text { D.keeps_model disk ≡ true → IfOk result (λ opened. IsText (content_of opened.1) (D.present disk).read) }
-    ensures only { (content : Content) → D.keeps_model disk ≡ true → IsText content (D.present disk).read → IfOk result (λ opened. content_of opened.1 ≡ content) }
-    ensures fault { D.keeps_model disk ≡ true → IfErr result (λ refused. RefusesOpen (D.present disk).read refused.0) }
+    ensures text { D.keeps_model disk ≡ true →
+        IfOk result (λ opened. IsText (content_of opened.1) (D.present disk).read) }
+    ensures only { (content : Content) → D.keeps_model disk ≡ true →
+        IsText content (D.present disk).read →
+        IfOk result (λ opened. content_of opened.1 ≡ content) }
+    ensures fault { D.keeps_model disk ≡ true →
+        IfErr result (λ refused. RefusesOpen (D.present disk).read refused.0) }
 
     // It may be added to, and the device reads as before.
-    ensures ready { D.keeps_model disk ≡ true → IfOk result (λ opened. IsReady D.present opened.0 (content_of opened.1)) }
-    ensures bytes { D.keeps_model disk ≡ true → IfOk result (λ opened. D.present (disk_of opened.0) ≡ whole (D.present disk).read) }
+    ensures ready { D.keeps_model disk ≡ true →
+        IfOk result (λ opened. IsReady D.present opened.0 (content_of opened.1)) }
+    ensures bytes { D.keeps_model disk ≡ true →
+        IfOk result (λ opened. D.present (disk_of opened.0) ≡ whole (D.present disk).read) }
     ensures going { IfOk result (λ opened. has_stopped opened.0 ≡ false) }
-    ensures unchanged { D.keeps_model disk ≡ true → IfErr result (λ refused. refused.0 ≢ Device → D.present refused.1 ≡ whole (D.present disk).read) }
+    ensures unchanged { D.keeps_model disk ≡ true → IfErr result (λ refused. refused.0 ≢ Device →
+        D.present refused.1 ≡ whole (D.present disk).read) }
 
     // A crash at any moment leaves nothing that it could not have left before.
-    ensures any_moment { D.keeps_model disk ≡ true → IfOk result (λ opened. LeavesOnly D.clock D.left_since disk (disk_of opened.0) (IsImage (D.present disk))) }
-    ensures any_moment_refused { D.keeps_model disk ≡ true → IfErr result (λ refused. LeavesOnly D.clock D.left_since disk refused.1 (IsImage (D.present disk))) }
+    ensures any_moment { D.keeps_model disk ≡ true →
+        IfOk result (λ opened. LeavesOnly D.clock D.left_since disk (disk_of opened.0)
+        (IsImage (D.present disk))) }
+    ensures any_moment_refused { D.keeps_model disk ≡ true →
+        IfErr result (λ refused. LeavesOnly D.clock D.left_since disk refused.1
+        (IsImage (D.present disk))) }
 
-    ensures model { MatchResult result (λ opened. D.keeps_model (disk_of opened.0) ≡ D.keeps_model disk) (λ refused. D.keeps_model refused.1 ≡ D.keeps_model disk) }
-    ensures failures { MatchResult result (λ opened. D.failures (disk_of opened.0) ≡ D.failures disk) (λ refused. D.failures refused.1 ≡ D.failures disk + failed_in refused.0) }
-    ensures calls { MatchResult result (λ opened. D.keeps_model disk ≡ true → D.clock (disk_of opened.0) ≤ D.clock disk + 3) (λ refused. D.keeps_model disk ≡ true → D.clock refused.1 ≤ D.clock disk + 3) }
+    ensures model { MatchResult result (λ opened. D.keeps_model (disk_of opened.0) ≡
+        D.keeps_model disk) (λ refused. D.keeps_model refused.1 ≡ D.keeps_model disk) }
+    ensures failures { MatchResult result (λ opened. D.failures (disk_of opened.0) ≡
+        D.failures disk) (λ refused. D.failures refused.1 ≡ D.failures disk + failed_in refused.0) }
+    ensures calls { MatchResult result (λ opened. D.keeps_model disk ≡ true →
+        D.clock (disk_of opened.0) ≤ D.clock disk + 3) (λ refused. D.keeps_model disk ≡ true →
+        D.clock refused.1 ≤ D.clock disk + 3) }
     ensures named { IfErr result (λ refused. IsOpenFault refused.0) }
 {
     let bytes = match read_settled(alloc, &mut disk) {

@@ -14,8 +14,10 @@ use std::alloc::Global;
 // The body behind the first byte, and what stands behind the body.
 fn split_body(rest: &[u8], limit: usize) -> Option<(&[u8], &[u8])>
     requires { 0 < length rest.now }
-    ensures some { IfSome result (λ parts. BeginsWithBody limit (get_or rest.now 0 0) parts.0.now parts.1.now rest.now) }
-    ensures none { result ≡ None → (first : ℕ) (body behind : List ℕ) → BeginsWithBody limit first body behind rest.now → ⊥ }
+    ensures some { IfSome result (λ parts.
+        BeginsWithBody limit (get_or rest.now 0 0) parts.0.now parts.1.now rest.now) }
+    ensures none { result ≡ None → (first : ℕ) (body behind : List ℕ) →
+        BeginsWithBody limit first body behind rest.now → ⊥ }
 {
     if rest.len() < 5 {
         return None;
@@ -31,7 +33,8 @@ fn split_body(rest: &[u8], limit: usize) -> Option<(&[u8], &[u8])>
 // The batches behind open gates, up to the first closed gate, and how many bytes stand before that.
 fn read_batches(alloc: Global, text: &[u8]) -> Result<(Vec<Vec<u8>>, usize), JournalFault>
     ensures ok { IfOk result (λ read. ReadsAs (bodies read.0.items) read.1 text.now) }
-    ensures bad { IfErr result (λ fault. fault ≡ BadRecord → (batches : List (List ℕ)) (size : ℕ) → ReadsAs batches size text.now → ⊥) }
+    ensures bad { IfErr result (λ fault. fault ≡ BadRecord → (batches : List (List ℕ)) (size : ℕ) →
+        ReadsAs batches size text.now → ⊥) }
     ensures fault { IfErr result IsReadFault }
 {
     let mut batches = Vec::new(alloc);
@@ -53,7 +56,8 @@ fn read_batches(alloc: Global, text: &[u8]) -> Result<(Vec<Vec<u8>>, usize), Jou
 pub fn read_half(alloc: Global, half: &[u8]) -> Result<(Contents, usize), JournalFault>
     ensures ok { IfOk result (λ read. IsHalf half.now (content_of read.0) read.1) }
     ensures within { IfOk result (λ read. read.1 ≤ length half.now) }
-    ensures bad { IfErr result (λ fault. fault ≡ BadRecord → (content : Content) (used : ℕ) → IsHalf half.now content used → ⊥) }
+    ensures bad { IfErr result (λ fault. fault ≡ BadRecord → (content : Content) (used : ℕ) →
+        IsHalf half.now content used → ⊥) }
     ensures fault { IfErr result IsReadFault }
 {
     if half.is_empty() {

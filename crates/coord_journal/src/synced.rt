@@ -10,8 +10,12 @@ use coord_disk::{Disk, DiskFault};
 /// Writes and syncs. Until it is done, a crash may leave anything in the range.
 pub fn write_synced<D: Disk>(disk: &mut D, at: u64, new: &[u8]) -> Result<(), DiskFault>
     requires { at + length new.now < 2 ^ 64 }
-    ensures any_moment { (bytes : List ℕ) → D.keeps_model disk.old ≡ true → D.present disk.old ≡ whole bytes → LeavesOnly D.clock D.left_since disk.old disk.new (Torn bytes at new.now) }
-    ensures done { D.keeps_model disk.old ≡ true → OnOk result (D.present disk.new ≡ whole (overwritten (D.present disk.old).read at new.now)) }
+    ensures any_moment { (bytes : List ℕ) → D.keeps_model disk.old ≡ true →
+        D.present disk.old ≡ whole bytes →
+        LeavesOnly D.clock D.left_since disk.old disk.new (Torn bytes at new.now) }
+    ensures done { D.keeps_model disk.old ≡ true →
+        OnOk result (D.present disk.new ≡
+        whole (overwritten (D.present disk.old).read at new.now)) }
     ensures calls { D.keeps_model disk.old ≡ true → D.clock disk.new ≤ D.clock disk.old + 2 }
     ensures model { D.keeps_model disk.new ≡ D.keeps_model disk.old }
     ensures cause { HasCause (D.failures disk.old) (D.failures disk.new) result }
@@ -32,9 +36,13 @@ pub fn write_in_turn<D: Disk>(
     requires second_in_range { next + length second.now < 2 ^ 64 }
 
     // The second write begins when the first one is on the disk.
-    ensures any_moment { (bytes : List ℕ) → D.keeps_model disk.old ≡ true → D.present disk.old ≡ whole bytes
-        → LeavesOnly D.clock D.left_since disk.old disk.new (TornInTurn bytes at first.now next second.now) }
-    ensures done { D.keeps_model disk.old ≡ true → OnOk result (D.present disk.new ≡ whole (overwritten (overwritten (D.present disk.old).read at first.now) next second.now)) }
+    ensures any_moment { (bytes : List ℕ) → D.keeps_model disk.old ≡ true →
+        D.present disk.old ≡ whole bytes
+        → LeavesOnly D.clock D.left_since disk.old disk.new
+        (TornInTurn bytes at first.now next second.now) }
+    ensures done { D.keeps_model disk.old ≡ true →
+        OnOk result (D.present disk.new ≡
+        whole (overwritten (overwritten (D.present disk.old).read at first.now) next second.now)) }
     ensures calls { D.keeps_model disk.old ≡ true → D.clock disk.new ≤ D.clock disk.old + 4 }
     ensures model { D.keeps_model disk.new ≡ D.keeps_model disk.old }
     ensures cause { HasCause (D.failures disk.old) (D.failures disk.new) result }

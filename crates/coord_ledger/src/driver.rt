@@ -67,7 +67,8 @@ impl<D: CrashDisk> Driver<D> {
     /// may leave between two events is the world after a prefix of the accepted steps that holds all
     /// that was released, and a legal one.
     pub fn survives(&self)
-        ensures { (b : Beside) (s : Machine) → IsConsistent s → Follows (held self.now b) s → HeldSurvives D.keeps_model D.present (held self.now b) s }
+        ensures { (b : Beside) (s : Machine) → IsConsistent s → Follows (held self.now b) s →
+            HeldSurvives D.keeps_model D.present (held self.now b) s }
     {
         match &self.flight {
             Some(flight) => flight.images_give_world(),
@@ -79,7 +80,9 @@ impl<D: CrashDisk> Driver<D> {
     /// before its first event (`Drives`).
     pub fn begins(&self)
         requires { self.now.flight ≡ None }
-        ensures { (first : D) → self.now.ledger.disk ≡ Some first → Drives D.present D.clock D.left_since D.crashes (D.keeps_model first) first self.now.ledger [] [] (held self.now nothing_beside) }
+        ensures { (first : D) → self.now.ledger.disk ≡ Some first →
+            Drives D.present D.clock D.left_since D.crashes
+            (D.keeps_model first) first self.now.ledger [] [] (held self.now nothing_beside) }
     {
         self.ledger.log_is_consistent();
         self.survives();
@@ -88,7 +91,9 @@ impl<D: CrashDisk> Driver<D> {
     /// Gives the disk up, the ledger's or that of the flight that is out.
     pub fn into_disk(self) -> D
         ensures disk { disk_driven self ≡ Some result }
-        ensures images { ImagesGive (D.keeps_model result) (D.present result) self.ledger.log (kept_by self.ledger.log.settled (option_map flight_out self.flight) self.ledger.doubt) }
+        ensures images { ImagesGive (D.keeps_model result) (D.present result) self.ledger.log
+            (kept_by self.ledger.log.settled
+            (option_map flight_out self.flight) self.ledger.doubt) }
     {
         let Driver { ledger, flight } = self;
         match flight {

@@ -40,15 +40,22 @@ pub fn run_events<D: CrashDisk>(
     requires going { ledger.doubt ≡ None }
 
     // A run that is answered: the main theorem, and the ledger that is left.
-    ensures ran { IfOk result (λ r. (before : D) → (after : D) → ledger.disk ≡ Some before → r.1.disk ≡ Some after
-        → Promised (D.keeps_model before) events.now (Ran D.present D.clock D.left_since D.crashes (started ledger) events.now r.0.answers.items r.0.released.items r.1 (D.keeps_model after) before after)) }
+    ensures ran { IfOk result (λ r. (before : D) → (after : D) → ledger.disk ≡ Some before →
+        r.1.disk ≡ Some after
+        → Promised (D.keeps_model before) events.now (Ran D.present D.clock D.left_since D.crashes
+        (started ledger) events.now r.0.answers.items r.0.released.items r.1
+        (D.keeps_model after) before after)) }
     ensures at_home { IfOk result (λ r. r.1.out ≡ None) }
-    ensures same_model { IfOk result (λ r. option_map D.keeps_model r.1.disk ≡ option_map D.keeps_model ledger.disk) }
+    ensures same_model { IfOk result (λ r. option_map D.keeps_model r.1.disk ≡
+        option_map D.keeps_model ledger.disk) }
 
     // A run that ended early.
     ensures broke { IfErr result (λ fault. (before : D) → ledger.disk ≡ Some before
-        → Promised (D.keeps_model before) events.now (Broke D.present D.clock D.left_since D.crashes (started ledger) events.now fault.at fault.trace.answers.items fault.trace.released.items (D.keeps_model before) before)) }
-    ensures cause { IfErr result (λ fault. (before : D) → ledger.disk ≡ Some before → HasCause (D.keeps_model before) events.now fault.at fault.kind) }
+        → Promised (D.keeps_model before) events.now (Broke D.present D.clock D.left_since D.crashes
+        (started ledger) events.now fault.at fault.trace.answers.items fault.trace.released.items
+        (D.keeps_model before) before)) }
+    ensures cause { IfErr result (λ fault. (before : D) → ledger.disk ≡ Some before →
+        HasCause (D.keeps_model before) events.now fault.at fault.kind) }
 {
     ledger.log_is_consistent();
     let mut held = Run {

@@ -36,7 +36,13 @@ impl<D: Disk> Model for Flight<D> {
 
     ghost Value = { FlightState D };
 
-    ghost view = { λ f. record { first = f.first; steps = f.steps.items; world = f.world; mark = f.mark; disk = f.store.disk } };
+    ghost view = { λ f. record {
+      first = f.first;
+      steps = f.steps.items;
+      world = f.world;
+      mark = f.mark;
+      disk = f.store.disk;
+    } };
 
     ghost invariant = { λ f. IsFlight f.steps.items f.world f.mark f.store };
 }
@@ -51,27 +57,42 @@ impl<D: Disk> Flight<D> {
     pub fn commit(&mut self) -> Result<(), CommitFault>
         // A crash at any moment of the call leaves what gives the world from before the steps or from after them.
         ensures any_moment { D.keeps_model self.old.disk ≡ true → self.old.mark ≡ New
-            → LeavesOnly D.clock D.left_since self.old.disk self.new.disk (GivesEither self.old.world (fold self.old.world self.old.steps)) }
+            → LeavesOnly D.clock D.left_since self.old.disk self.new.disk
+            (GivesEither self.old.world (fold self.old.world self.old.steps)) }
         // Where it is refused for memory, the world from before them alone.
-        ensures any_moment_refused { D.keeps_model self.old.disk ≡ true → self.old.mark ≡ New → IsErrOf result CommitFault.OutOfMemory
-            → LeavesOnly D.clock D.left_since self.old.disk self.new.disk (IsOnlyWorld self.old.world) }
+        ensures any_moment_refused { D.keeps_model self.old.disk ≡ true → self.old.mark ≡ New →
+            IsErrOf result CommitFault.OutOfMemory
+            → LeavesOnly D.clock D.left_since self.old.disk self.new.disk
+            (IsOnlyWorld self.old.world) }
 
         // What it answers, and what the flight is then.
-        ensures tried { self.old.mark ≡ New → MatchResult result (λ _. self.new.mark ≡ Good) (λ fault. ((fault ≡ Device) × (self.new.mark ≡ Torn)) ⊎ ((fault ≡ OutOfMemory) × (self.new.mark ≡ New))) }
-        ensures again { self.old.mark ≡ Good → (result ≡ Err CommitFault.Again) × (self.new ≡ self.old) }
-        ensures stopped { self.old.mark ≡ Torn → (result ≡ Err CommitFault.Stopped) × (self.new ≡ self.old) }
+        ensures tried { self.old.mark ≡ New →
+            MatchResult result (λ _. self.new.mark ≡ Good) (λ fault. ((fault ≡ Device) ×
+            (self.new.mark ≡ Torn)) ⊎ ((fault ≡ OutOfMemory) × (self.new.mark ≡ New))) }
+        ensures again { self.old.mark ≡ Good → (result ≡ Err CommitFault.Again) ×
+            (self.new ≡ self.old) }
+        ensures stopped { self.old.mark ≡ Torn → (result ≡ Err CommitFault.Stopped) ×
+            (self.new ≡ self.old) }
         ensures same_first { self.new.first ≡ self.old.first }
         ensures same_steps { self.new.steps ≡ self.old.steps }
         ensures same_world { self.new.world ≡ self.old.world }
 
         // What it does to the disk.
-        ensures failures { D.failures self.new.disk ≡ D.failures self.old.disk + failures_in result }
-        ensures calls { D.keeps_model self.old.disk ≡ true → D.clock self.new.disk ≤ D.clock self.old.disk + 8 }
+        ensures failures { D.failures self.new.disk ≡
+            D.failures self.old.disk + failures_in result }
+        ensures calls { D.keeps_model self.old.disk ≡ true →
+            D.clock self.new.disk ≤ D.clock self.old.disk + 8 }
 
         // Where the body of the batch fits behind what is there, no checkpoint is made.
-        ensures calls_where_it_fits { (half : ℕ) (body : List ℕ) → D.keeps_model self.old.disk ≡ true → self.old.mark ≡ New → IsBody self.old.world body self.old.steps → HasPlaceIn half (length body) (D.present self.old.disk).read
+        ensures calls_where_it_fits { (half : ℕ) (body : List ℕ) →
+            D.keeps_model self.old.disk ≡ true → self.old.mark ≡ New →
+            IsBody self.old.world body self.old.steps →
+            HasPlaceIn half (length body) (D.present self.old.disk).read
             → D.clock self.new.disk ≤ D.clock self.old.disk + 4 }
-        ensures half_where_it_fits { (half : ℕ) (body : List ℕ) → D.keeps_model self.old.disk ≡ true → self.old.mark ≡ New → IsBody self.old.world body self.old.steps → HasPlaceIn half (length body) (D.present self.old.disk).read
+        ensures half_where_it_fits { (half : ℕ) (body : List ℕ) →
+            D.keeps_model self.old.disk ≡ true → self.old.mark ≡ New →
+            IsBody self.old.world body self.old.steps →
+            HasPlaceIn half (length body) (D.present self.old.disk).read
             → OnOk result (IsTextIn half (D.present self.new.disk).read) }
         ensures model { D.keeps_model self.new.disk ≡ D.keeps_model self.old.disk }
     {

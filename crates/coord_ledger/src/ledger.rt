@@ -50,9 +50,22 @@ impl<D: Disk> Model for Ledger<D> {
 
     ghost Value = { LedgerState D };
 
-    ghost view = { λ l. record { log = record { base = l.base; trail = l.trail.items; settled = l.done }; out = out_of l.store l.out; doubt = l.doubt; disk = disk_at l.store } };
+    ghost view = { λ l. record {
+      log = record {
+        base = l.base;
+        trail = l.trail.items;
+        settled = l.done;
+      };
+      out = out_of l.store l.out;
+      doubt = l.doubt;
+      disk = disk_at l.store;
+    } };
 
-    ghost invariant = { λ l. IsLedger (record { base = l.base; trail = l.trail.items; settled = l.done }) l.kinds.items l.front l.settled l.out l.doubt l.store };
+    ghost invariant = { λ l. IsLedger (record {
+      base = l.base;
+      trail = l.trail.items;
+      settled = l.done;
+    }) l.kinds.items l.front l.settled l.out l.doubt l.store };
 }
 
 /// Three copies of a world: what is the base, the front and the settled world at first.
@@ -158,7 +171,8 @@ impl<D: Disk> Ledger<D> {
 
     /// Does nothing: its contract is what the type keeps of every ledger.
     pub fn images_give_settled(&self)
-        ensures { IfSome self.now.disk (λ disk. D.keeps_model disk ≡ true → LedgerGives D.present self.now disk) }
+        ensures { IfSome self.now.disk (λ disk. D.keeps_model disk ≡ true →
+            LedgerGives D.present self.now disk) }
     {
         if let Some(store) = &self.store {
             store.images_give_world();

@@ -39,5 +39,10 @@ impl Model for View {
 
     ghost Value = { Shown };
 
-    ghost view = { λ a. record { accepted = a.accepted; settled = a.settled; nodes = a.nodes.items; links = a.links.items } };
+    ghost view = { λ a. record {
+      accepted = a.accepted;
+      settled = a.settled;
+      nodes = a.nodes.items;
+      links = a.links.items;
+    } };
 }

@@ -34,15 +34,33 @@ impl Model for Lane {
 
     ghost coded = { lane_code };
 
-    ghost view = { λ a. record { inc = a.inc; base = a.base; got = a.got; queue = take a.len a.queue } };
+    ghost view = { λ a. record {
+      inc = a.inc;
+      base = a.base;
+      got = a.got;
+      queue = take a.len a.queue;
+    } };
 
-    ghost invariant = { λ a. (a.queue ≡ padded (take a.len a.queue)) × (a.len ≡ length (take a.len a.queue)) };
+    ghost invariant = { λ a. (a.queue ≡ padded (take a.len a.queue)) ×
+        (a.len ≡ length (take a.len a.queue)) };
 
-    ghost inverse = { λ l. record { inc = l.inc; base = l.base; got = l.got; queue = padded l.queue; len = length l.queue } };
+    ghost inverse = { λ l. record {
+      inc = l.inc;
+      base = l.base;
+      got = l.got;
+      queue = padded l.queue;
+      len = length l.queue;
+    } };
 
     ghost use Rattle.std.proofs.Common.{sym};
 
-    ghost inverse_ok = { λ a h. λ i. record { inc = a.inc; base = a.base; got = a.got; queue = sym h.0 i; len = sym h.1 i } };
+    ghost inverse_ok = { λ a h. λ i. record {
+      inc = a.inc;
+      base = a.base;
+      got = a.got;
+      queue = sym h.0 i;
+      len = sym h.1 i;
+    } };
 }
 
 impl Lane {

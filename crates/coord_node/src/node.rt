@@ -216,8 +216,10 @@ impl Node {
     ) -> Result<Deed, AllocError>
         requires { distance < 2 ^ 64 - 1 }
         ensures state { OnOk result (self.new ≡ (on_abort self.old from distance).state) }
-        ensures sends { IfOk result (λ d. d.sends.items ≡ sends_of (on_abort self.old from distance)) }
-        ensures finished { IfOk result (λ d. d.finished ≡ (on_abort self.old from distance).finished) }
+        ensures sends { IfOk result (λ d. d.sends.items ≡
+            sends_of (on_abort self.old from distance)) }
+        ensures finished { IfOk result (λ d. d.finished ≡
+            (on_abort self.old from distance).finished) }
         ensures err { OnErr result (self.new ≡ self.old) }
     {
         if self.mode != Mode::Ready {
@@ -341,7 +343,8 @@ impl Node {
     ) -> Result<Deed, AllocError>
         requires { distance < 2 ^ 64 - 1 }
         ensures state { OnOk result (self.new ≡ (wave_on self.old parent others distance).state) }
-        ensures sends { IfOk result (λ d. d.sends.items ≡ sends_of (wave_on self.old parent others distance)) }
+        ensures sends { IfOk result (λ d. d.sends.items ≡
+            sends_of (wave_on self.old parent others distance)) }
         ensures finished { IfOk result (λ d. d.finished ≡ false) }
         ensures err { OnErr result (self.new ≡ self.old) }
     {
@@ -382,8 +385,10 @@ impl Node {
     fn acknowledged(&mut self, alloc: Global) -> Result<Deed, AllocError>
         requires { self.old.epoch < 2 ^ 64 - 1 }
         ensures state { OnOk result (self.new ≡ (acknowledged self.old self.old.parent).state) }
-        ensures sends { IfOk result (λ d. d.sends.items ≡ sends_of (acknowledged self.old self.old.parent)) }
-        ensures finished { IfOk result (λ d. d.finished ≡ (acknowledged self.old self.old.parent).finished) }
+        ensures sends { IfOk result (λ d. d.sends.items ≡
+            sends_of (acknowledged self.old self.old.parent)) }
+        ensures finished { IfOk result (λ d. d.finished ≡
+            (acknowledged self.old self.old.parent).finished) }
         ensures err { OnErr result (self.new ≡ self.old) }
     {
         match self.parent {
@@ -422,7 +427,8 @@ impl Node {
     #[tactic(auto, using(coord_types::proofs::Sets::listed))]
     fn go_on(&mut self, alloc: Global, awaited: bool, child: bool) -> Result<Deed, AllocError>
         requires { self.old.epoch < 2 ^ 64 - 1 }
-        ensures state { OnOk result (self.new ≡ (lost_in self.old.mode self.old awaited child).state) }
+        ensures state { OnOk result (self.new ≡
+            (lost_in self.old.mode self.old awaited child).state) }
         ensures sends { IfOk result
             (λ d. d.sends.items ≡ sends_of (lost_in self.old.mode self.old awaited child)) }
         ensures finished { IfOk result

@@ -52,7 +52,9 @@ pub fn run<
 ) -> Ran<L, C>
     requires own { own ≡ [] }
     requires met { IfSome met IsOfStart }
-    ensures { (seen : ℕ) × ServesLife (based_on D.keeps_model D.present L.base L.before) C.met callers result.callers (record { notes = result.own; seen = seen }) result.left }
+    ensures { (seen : ℕ) × ServesLife
+        (based_on D.keeps_model D.present L.base L.before) C.met callers result.callers
+        (record { notes = result.own; seen = seen }) result.left }
 {
     match met {
         None => run_threads(rt, alloc, most, engine, port, packets, own, callers),
@@ -69,7 +71,9 @@ fn not_run<D: Disk, L: Origin, C: Callers>(
 ) -> Ran<L, C>
     requires own { own ≡ [] }
     requires fault { IsOfStart fault }
-    ensures { (seen : ℕ) × ServesLife (based_on D.keeps_model D.present L.base L.before) C.met callers result.callers (record { notes = result.own; seen = seen }) result.left }
+    ensures { (seen : ℕ) × ServesLife
+        (based_on D.keeps_model D.present L.base L.before) C.met callers result.callers
+        (record { notes = result.own; seen = seen }) result.left }
 {
     Ran {
         own,
@@ -95,14 +99,18 @@ fn run_threads<
     callers: C,
 ) -> Ran<L, C>
     requires { own ≡ [] }
-    ensures { (seen : ℕ) × ServesLife (based_on D.keeps_model D.present L.base L.before) C.met callers result.callers (record { notes = result.own; seen = seen }) result.left }
+    ensures { (seen : ℕ) × ServesLife
+        (based_on D.keeps_model D.present L.base L.before) C.met callers result.callers
+        (record { notes = result.own; seen = seen }) result.left }
 {
     thread::scope(
         thread::scope_env(),
         rt,
         |scope| -> Ran<L, C>
             requires { IsSend D.row × IsSend L.row × IsSync L.row × IsSync R.row × (own ≡ []) }
-            ensures { (seen : ℕ) × ServesLife (based_on D.keeps_model D.present L.base L.before) C.met callers result.callers (record { notes = result.own; seen = seen }) result.left }
+            ensures { (seen : ℕ) × ServesLife
+                (based_on D.keeps_model D.present L.base L.before) C.met callers result.callers
+                (record { notes = result.own; seen = seen }) result.left }
         { run_in(scope, rt, alloc, most, engine, port, packets, own, callers) },
     )
 }
@@ -131,7 +139,9 @@ fn run_in<
     callers: C,
 ) -> Ran<L, C>
     requires { own ≡ [] }
-    ensures { (seen : ℕ) × ServesLife (based_on D.keeps_model D.present L.base L.before) C.met callers result.callers (record { notes = result.own; seen = seen }) result.left }
+    ensures { (seen : ℕ) × ServesLife
+        (based_on D.keeps_model D.present L.base L.before) C.met callers result.callers
+        (record { notes = result.own; seen = seen }) result.left }
 {
     let Some(flushing) = start_flusher(scope, rt, engine, port) else {
         return not_run::<D, L, C>(alloc, own, callers, ServerFault::OutOfMemory);
@@ -227,7 +237,9 @@ fn serve_if<'a, D: Disk, L: Origin, C: Callers, R: Wait>(
     callers: C,
 ) -> Ran<L, C>
     requires { own ≡ [] }
-    ensures { (seen : ℕ) × ServesLife (based_on D.keeps_model D.present L.base L.before) C.met callers result.callers (record { notes = result.own; seen = seen }) result.left }
+    ensures { (seen : ℕ) × ServesLife
+        (based_on D.keeps_model D.present L.base L.before) C.met callers result.callers
+        (record { notes = result.own; seen = seen }) result.left }
 {
     if is_whole {
         serve_over(rt, alloc, most, engine, port, own, callers)
@@ -247,7 +259,9 @@ fn serve_over<'a, D: Disk, L: Origin, C: Callers, R: Wait>(
     callers: C,
 ) -> Ran<L, C>
     requires { own ≡ [] }
-    ensures { (seen : ℕ) × ServesLife (based_on D.keeps_model D.present L.base L.before) C.met callers result.callers (record { notes = result.own; seen = seen }) result.left }
+    ensures { (seen : ℕ) × ServesLife
+        (based_on D.keeps_model D.present L.base L.before) C.met callers result.callers
+        (record { notes = result.own; seen = seen }) result.left }
 {
     let age = EngineAge::new(rt, engine, most);
     let mut life = LifeCallers::new(callers, &age);
@@ -269,7 +283,8 @@ fn serve_clients<D: Disk, L: Origin, C: Callers, A: Age, P: Port, R: Wait>(
     desk: &mut EngineDesk<'_, D, L, P, R>,
 ) -> Left
     requires { desk.old ≡ new_desk }
-    ensures { ServesLife (based_on D.keeps_model D.present L.base L.before) C.met life.old.callers life.new.callers desk.new result }
+    ensures { ServesLife (based_on D.keeps_model D.present L.base L.before) C.met life.old.callers
+        life.new.callers desk.new result }
 {
     if desk.resend().is_err() {
         return Left::Ended(Some(ServerFault::OutOfMemory));

@@ -68,7 +68,8 @@ fn order<D: Disk, L: Origin, R: Wait>(
     step: Step,
     share: &mut Share<L>,
 ) -> Result<Reply, Refusal>
-    ensures { Orders (based_on D.keeps_model D.present L.base L.before) step result share.old share.new }
+    ensures { Orders (based_on D.keeps_model D.present L.base L.before) step result share.old
+        share.new }
 {
     let ticket = engine.submit(rt, step, share)?;
     match engine.collect(rt, ticket) {

@@ -23,7 +23,8 @@ impl<D: Disk, C> Ended<D, C> {
     /// What is told of all that was met: a stopped store first, then what ended the serving, then an
     /// output that failed. None where the server was closed and nothing else was met.
     pub fn fault(&self) -> Option<ServerFault>
-        ensures { result ≡ fault_at_end (has_stopped self.now.closed.store) self.now.served self.now.is_broken }
+        ensures { result ≡ fault_at_end
+            (has_stopped self.now.closed.store) self.now.served self.now.is_broken }
     {
         if self.closed.store.stopped() {
             return Some(ServerFault::Device);

@@ -50,7 +50,10 @@ pub fn serve_life<D: Disk + Send, C: Callers + Drop, R: Threads + Wait + Clock +
 ) -> Result<Life<D, C>, ServerFault>
     requires going { has_stopped store ≡ false }
     requires met { IfSome met IsOfStart }
-    ensures { IfOk result (λ life. (desk : DeskState) × ServesLife (based_on D.keeps_model D.present store.world []) C.met callers life.callers desk life.left × IsOneHistory (based_on D.keeps_model D.present store.world []) desk.notes life.closed.store life.closed.base life.closed.trail.items life.closed.settled) }
+    ensures { IfOk result (λ life. (desk : DeskState) ×
+        ServesLife (based_on D.keeps_model D.present store.world []) C.met callers life.callers desk
+        life.left × IsOneHistory (based_on D.keeps_model D.present store.world []) desk.notes
+        life.closed.store life.closed.base life.closed.trail.items life.closed.settled) }
 {
     match Ledger::adopt(alloc, store) {
         Ok(ledger) => {
@@ -82,7 +85,11 @@ fn serve_ledger<
     requires base { ledger.log.base ≡ L.base }
     requires before { (ledger.log.trail ≡ L.before) × (L.before ≡ []) }
     requires met { IfSome met IsOfStart }
-    ensures { IfOk result (λ life. (desk : DeskState) × ServesLife (based_on D.keeps_model D.present L.base L.before) C.met callers life.callers desk life.left × IsOneHistory (based_on D.keeps_model D.present L.base L.before) desk.notes life.closed.store life.closed.base life.closed.trail.items life.closed.settled) }
+    ensures { IfOk result (λ life. (desk : DeskState) ×
+        ServesLife (based_on D.keeps_model D.present L.base L.before) C.met callers life.callers
+        desk life.left × IsOneHistory
+        (based_on D.keeps_model D.present L.base L.before) desk.notes life.closed.store
+        life.closed.base life.closed.trail.items life.closed.settled) }
 {
     let (to, packets) = channels(alloc)?;
     // Room for all shares: none of them may be lost for want of memory.
@@ -149,8 +156,11 @@ fn close<D: Disk, L: Origin>(
     shares: Vec<Share<L>>,
 ) -> Result<Closed<D>, CloseFault>
     requires { L.parts ≡ 65536 }
-    ensures since { IfOk result (λ closed. IsSince L.base L.before shares.items closed.base closed.trail.items) }
-    ensures closed { IfOk result (λ closed. AtSomeMoment (based_on D.keeps_model D.present L.base L.before) (Closes closed.store closed.base closed.trail.items closed.settled shares.items)) }
+    ensures since { IfOk result (λ closed.
+        IsSince L.base L.before shares.items closed.base closed.trail.items) }
+    ensures closed { IfOk result (λ closed.
+        AtSomeMoment (based_on D.keeps_model D.present L.base L.before)
+        (Closes closed.store closed.base closed.trail.items closed.settled shares.items)) }
 {
     match engine.close(shares) {
         Ok(closed) => Ok(closed),

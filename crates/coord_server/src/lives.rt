@@ -52,7 +52,9 @@ pub fn serve_lives<
     output: W,
 ) -> Result<Ended<D, C>, ServerFault>
     requires { has_stopped store ≡ false }
-    ensures { IfOk result (λ ended. HasLived D.keeps_model D.present C.met store.world callers ended.callers ended.served ended.closed.store ended.closed.base ended.closed.trail.items ended.closed.settled) }
+    ensures { IfOk result (λ ended.
+        HasLived D.keeps_model D.present C.met store.world callers ended.callers ended.served
+        ended.closed.store ended.closed.base ended.closed.trail.items ended.closed.settled) }
 {
     let (told, signals) = crossbeam_channel::unbounded(alloc)?;
     let port = LocalPort::new(rt, Vec::new(alloc), told);
@@ -63,8 +65,12 @@ pub fn serve_lives<
         thread::scope_env(),
         rt,
         |scope| -> Result<Ended<D, C>, ServerFault>
-            requires { IsSend D.row × IsSend W.row × IsSync R.row × (has_stopped store ≡ false) × IfSome met IsOfStart }
-            ensures { IfOk result (λ ended. HasLived D.keeps_model D.present C.met store.world callers ended.callers ended.served ended.closed.store ended.closed.base ended.closed.trail.items ended.closed.settled) }
+            requires { IsSend D.row × IsSend W.row × IsSync R.row × (has_stopped store ≡ false) ×
+                IfSome met IsOfStart }
+            ensures { IfOk result (λ ended.
+                HasLived D.keeps_model D.present C.met store.world callers ended.callers
+                ended.served ended.closed.store ended.closed.base ended.closed.trail.items
+                ended.closed.settled) }
         {
             print_and_live(
                 scope, rt, alloc, most, store, callers, port, signals, printer, met,
@@ -113,7 +119,9 @@ fn print_and_live<
 ) -> Result<Ended<D, C>, ServerFault>
     requires going { has_stopped store ≡ false }
     requires met { IfSome met IsOfStart }
-    ensures { IfOk result (λ ended. HasLived D.keeps_model D.present C.met store.world callers ended.callers ended.served ended.closed.store ended.closed.base ended.closed.trail.items ended.closed.settled) }
+    ensures { IfOk result (λ ended.
+        HasLived D.keeps_model D.present C.met store.world callers ended.callers ended.served
+        ended.closed.store ended.closed.base ended.closed.trail.items ended.closed.settled) }
 {
     let printing = start_printing(scope, rt, signals, printer);
     let met = match met {
@@ -163,7 +171,9 @@ fn live<D: Disk + Send, C: Callers + Drop, R: Threads + Wait + Clock + Sync>(
 ) -> Result<Ended<D, C>, ServerFault>
     requires going { has_stopped store ≡ false }
     requires met { IfSome met IsOfStart }
-    ensures { IfOk result (λ ended. HasLived D.keeps_model D.present C.met store.world callers ended.callers ended.served ended.closed.store ended.closed.base ended.closed.trail.items ended.closed.settled) }
+    ensures { IfOk result (λ ended.
+        HasLived D.keeps_model D.present C.met store.world callers ended.callers ended.served
+        ended.closed.store ended.closed.base ended.closed.trail.items ended.closed.settled) }
 {
     let mut store = store;
     let mut callers = callers;
@@ -182,7 +192,8 @@ fn live<D: Disk + Send, C: Callers + Drop, R: Threads + Wait + Clock + Sync>(
 
 /// Whether the store has not stopped and all that was accepted is settled.
 fn is_settled<D: Disk>(closed: &Closed<D>) -> bool
-    ensures { result ≡ true → (has_stopped closed.now.store ≡ false) × (closed.now.settled ≡ closed.now.base.count + length closed.now.trail.items) }
+    ensures { result ≡ true → (has_stopped closed.now.store ≡ false) ×
+        (closed.now.settled ≡ closed.now.base.count + length closed.now.trail.items) }
 {
     let base = closed.base.count();
     if closed.settled < base {
@@ -194,9 +205,12 @@ fn is_settled<D: Disk>(closed: &Closed<D>) -> bool
 /// Over what the next life begins. Else how the server ends, which it does too where a life rests over
 /// a store that has stopped.
 fn next_of<D: Disk, C>(life: Life<D, C>) -> Result<(Store<D>, C), Ended<D, C>>
-    ensures next { IfOk result (λ next. (life.left ≡ LeftAs.Resting) × (next.0 ≡ life.closed.store) × (next.1 ≡ life.callers)) }
-    ensures settled { IfOk result (λ next. (has_stopped life.closed.store ≡ false) × (life.closed.settled ≡ life.closed.base.count + length life.closed.trail.items)) }
-    ensures over { IfErr result (λ ended. IsOver life.left ended.served × (ended.closed ≡ life.closed) × (ended.callers ≡ life.callers)) }
+    ensures next { IfOk result (λ next. (life.left ≡ LeftAs.Resting) ×
+        (next.0 ≡ life.closed.store) × (next.1 ≡ life.callers)) }
+    ensures settled { IfOk result (λ next. (has_stopped life.closed.store ≡ false) ×
+        (life.closed.settled ≡ life.closed.base.count + length life.closed.trail.items)) }
+    ensures over { IfErr result (λ ended. IsOver life.left ended.served ×
+        (ended.closed ≡ life.closed) × (ended.callers ≡ life.callers)) }
 {
     let Life {
         closed,

@@ -49,7 +49,9 @@ impl<W: Write> Printer<W> {
     /// Says that a reset has ended at a node, with the epoch that began. Whether it was written.
     /// Where it was not, and lines are printed on, there was no memory for it, and nothing of it was.
     pub fn print_signal(&mut self, node: NodeId, epoch: u64) -> bool
-        ensures written { result ≡ true → Appends (W.contents self.old.output) (W.contents self.new.output) (signal_line node epoch) }
+        ensures written { result ≡ true →
+            Appends (W.contents self.old.output) (W.contents self.new.output)
+            (signal_line node epoch) }
         ensures whole { result ≡ true → self.new.is_broken ≡ false }
         ensures broken { self.old.is_broken ≡ true → (result ≡ false) × (self.new ≡ self.old) }
         ensures failed { result ≡ false → self.new.is_broken ≡ false → self.new ≡ self.old }
@@ -64,7 +66,9 @@ impl<W: Write> Printer<W> {
     /// Says at which address the server listens. Whether it was written; where it was not, and lines
     /// are printed on, nothing of it was.
     pub fn print_address(&mut self, address: SocketAddr) -> bool
-        ensures written { result ≡ true → Appends (W.contents self.old.output) (W.contents self.new.output) (listening_line address) }
+        ensures written { result ≡ true →
+            Appends (W.contents self.old.output) (W.contents self.new.output)
+            (listening_line address) }
         ensures whole { result ≡ true → self.new.is_broken ≡ false }
         ensures broken { self.old.is_broken ≡ true → (result ≡ false) × (self.new ≡ self.old) }
         ensures failed { result ≡ false → self.new.is_broken ≡ false → self.new ≡ self.old }
@@ -77,7 +81,8 @@ impl<W: Write> Printer<W> {
 
     /// Writes a line and flushes it.
     fn print(&mut self, line: &str) -> bool
-        ensures written { result ≡ true → Appends (W.contents self.old.output) (W.contents self.new.output) line.now }
+        ensures written { result ≡ true →
+            Appends (W.contents self.old.output) (W.contents self.new.output) line.now }
         ensures whole { result ≡ true → self.new.is_broken ≡ false }
         ensures broken { self.old.is_broken ≡ true → (result ≡ false) × (self.new ≡ self.old) }
         ensures failed { result ≡ false → self.new.is_broken ≡ true }

@@ -84,7 +84,8 @@ impl<'a, C: Callers, A: Age> Callers for LifeCallers<'a, C, A> {
 
     ghost at_rest = { λ a. C.at_rest a.callers };
 
-    ghost in_turn = { λ a b c some more first second. C.in_turn a.callers b.callers c.callers some more first second };
+    ghost in_turn = { λ a b c some more first second.
+        C.in_turn a.callers b.callers c.callers some more first second };
 }
 
 /// A connection that is cut once its life is too old: each line that ended has its reply then, and
@@ -115,5 +116,6 @@ impl<'a, N: Duplex, A: Age> Duplex for LifeLine<'a, N, A> {
 
     ghost at_rest = { λ a. N.at_rest a.line };
 
-    ghost in_turn = { λ a b c came more went later first second. N.in_turn a.line b.line c.line came more went later first second };
+    ghost in_turn = { λ a b c came more went later first second.
+        N.in_turn a.line b.line c.line came more went later first second };
 }

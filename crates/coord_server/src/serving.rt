@@ -35,7 +35,9 @@ pub fn serve_store<
 >(rt: &R, alloc: Global, store: Store<D>, listener: &A, output: W) -> Result<Closed<D>, ServerFault>
     requires { has_stopped store ≡ false }
     ensures going { IfOk result (λ closed. has_stopped closed.store ≡ false) }
-    ensures lives { IfOk result (λ closed. HasLivedToClose D.keeps_model D.present store.world closed.store closed.base closed.trail.items closed.settled) }
+    ensures lives { IfOk result (λ closed.
+        HasLivedToClose D.keeps_model D.present store.world closed.store closed.base
+        closed.trail.items closed.settled) }
 {
     let callers = Accepted::new(rt, listener, Patience::usual());
     let ended = serve_callers(rt, alloc, store, callers, output)?;
@@ -54,7 +56,9 @@ pub fn serve_callers<
     R: Threads + Wait + Clock + Sync,
 >(rt: &R, alloc: Global, store: Store<D>, callers: C, output: W) -> Result<Ended<D, C>, ServerFault>
     requires { has_stopped store ≡ false }
-    ensures lives { IfOk result (λ ended. HasLived D.keeps_model D.present C.met store.world callers ended.callers ended.served ended.closed.store ended.closed.base ended.closed.trail.items ended.closed.settled) }
+    ensures lives { IfOk result (λ ended.
+        HasLived D.keeps_model D.present C.met store.world callers ended.callers ended.served
+        ended.closed.store ended.closed.base ended.closed.trail.items ended.closed.settled) }
 {
     serve_lives(rt, alloc, LIFE_STEPS, store, callers, output)
 }

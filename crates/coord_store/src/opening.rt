@@ -40,7 +40,8 @@ pub fn told(fault: JournalFault) -> StoreFault
 fn read_contents(alloc: Global, contents: &Contents) -> Result<World, StoreFault>
     ensures gives { IfOk result (Gives (content_of contents.now)) }
     ensures legal { IfOk result (λ world. Legal world) }
-    ensures refused { IfErr result (λ fault. (fault ≡ OutOfMemory) ⊎ RefusesContent (content_of contents.now) fault) }
+    ensures refused { IfErr result (λ fault. (fault ≡ OutOfMemory) ⊎
+        RefusesContent (content_of contents.now) fault) }
 {
     let start = read_snapshot(alloc, contents)?;
     match replay(alloc, start, &contents.batches) {
@@ -58,23 +59,38 @@ impl<D: Disk> Store<D> {
     /// `BadBatch` and `BadStep`.
     pub fn open(alloc: Global, disk: D) -> Result<Self, (StoreFault, D)>
         // Where the bytes of the device give a world, it is opened with that world, or there is no memory or the device fails.
-        ensures world { D.keeps_model disk ≡ true → IfOk result (λ store. Recovered (D.present disk).read store.world) }
-        ensures only { (w : Numbered) → D.keeps_model disk ≡ true → Recovered (D.present disk).read w → MatchResult result (λ store. store.world ≡ w) (λ refused. IsPassing refused.0) }
-        ensures fault { D.keeps_model disk ≡ true → IfErr result (λ refused. RefusesOpen (D.present disk).read refused.0) }
+        ensures world { D.keeps_model disk ≡ true →
+            IfOk result (λ store. Recovered (D.present disk).read store.world) }
+        ensures only { (w : Numbered) → D.keeps_model disk ≡ true →
+            Recovered (D.present disk).read w →
+            MatchResult result (λ store. store.world ≡ w) (λ refused. IsPassing refused.0) }
+        ensures fault { D.keeps_model disk ≡ true →
+            IfErr result (λ refused. RefusesOpen (D.present disk).read refused.0) }
         ensures named { IfErr result (λ refused. IsOpenFault refused.0) }
 
         // It may be committed to, and the device reads as before.
         ensures going { IfOk result (λ store. store.torn ≡ None) }
-        ensures bytes { D.keeps_model disk ≡ true → IfOk result (λ store. D.present store.disk ≡ whole (D.present disk).read) }
-        ensures unchanged { D.keeps_model disk ≡ true → IfErr result (λ refused. refused.0 ≢ Device → D.present refused.1 ≡ whole (D.present disk).read) }
+        ensures bytes { D.keeps_model disk ≡ true →
+            IfOk result (λ store. D.present store.disk ≡ whole (D.present disk).read) }
+        ensures unchanged { D.keeps_model disk ≡ true →
+            IfErr result (λ refused. refused.0 ≢ Device →
+            D.present refused.1 ≡ whole (D.present disk).read) }
 
         // A crash at any moment leaves nothing that it could not have left before.
-        ensures any_moment { D.keeps_model disk ≡ true → IfOk result (λ store. LeavesOnly D.clock D.left_since disk store.disk (IsImage (D.present disk))) }
-        ensures any_moment_refused { D.keeps_model disk ≡ true → IfErr result (λ refused. LeavesOnly D.clock D.left_since disk refused.1 (IsImage (D.present disk))) }
+        ensures any_moment { D.keeps_model disk ≡ true →
+            IfOk result (λ store. LeavesOnly D.clock D.left_since disk store.disk
+            (IsImage (D.present disk))) }
+        ensures any_moment_refused { D.keeps_model disk ≡ true →
+            IfErr result (λ refused. LeavesOnly D.clock D.left_since disk refused.1
+            (IsImage (D.present disk))) }
 
-        ensures model { MatchResult result (λ store. D.keeps_model store.disk ≡ D.keeps_model disk) (λ refused. D.keeps_model refused.1 ≡ D.keeps_model disk) }
-        ensures failures { MatchResult result (λ store. D.failures store.disk ≡ D.failures disk) (λ refused. D.failures refused.1 ≡ D.failures disk + failed_in refused.0) }
-        ensures calls { MatchResult result (λ store. D.keeps_model disk ≡ true → D.clock store.disk ≤ D.clock disk + 3) (λ refused. D.keeps_model disk ≡ true → D.clock refused.1 ≤ D.clock disk + 3) }
+        ensures model { MatchResult result (λ store. D.keeps_model store.disk ≡ D.keeps_model disk)
+            (λ refused. D.keeps_model refused.1 ≡ D.keeps_model disk) }
+        ensures failures { MatchResult result (λ store. D.failures store.disk ≡ D.failures disk)
+            (λ refused. D.failures refused.1 ≡ D.failures disk + failed_in refused.0) }
+        ensures calls { MatchResult result (λ store. D.keeps_model disk ≡ true →
+            D.clock store.disk ≤ D.clock disk + 3) (λ refused. D.keeps_model disk ≡ true →
+            D.clock refused.1 ≤ D.clock disk + 3) }
     {
         let (journal, contents) = match coord_journal::open(alloc, disk) {
             Ok(opened) => opened,

@@ -18,7 +18,8 @@ use std::alloc::Global;
 /// The batch that a body spells, where it is the world's next one.
 fn read_next(alloc: Global, world: &World, body: &[u8]) -> Result<Batch, StoreFault>
     ensures spelled { IfOk result (λ batch. IsBody world.now body.now batch.steps.items) }
-    ensures refused { IfErr result (λ fault. (fault ≡ OutOfMemory) ⊎ ((fault ≡ BadBatch) × ((steps : List Taken) → IsBody world.now body.now steps → ⊥))) }
+    ensures refused { IfErr result (λ fault. (fault ≡ OutOfMemory) ⊎
+        ((fault ≡ BadBatch) × ((steps : List Taken) → IsBody world.now body.now steps → ⊥))) }
 {
     let batch = match read_batch(alloc, world.version().number(), body) {
         Ok(batch) => batch,
@@ -41,10 +42,12 @@ fn replay_batch(
 ) -> Result<(), StoreFault>
     requires same { world.old ≡ settled.old }
     requires legal { Legal world.old }
-    ensures taken { OnOk result ((steps : List Taken) × Takes world.old body.now steps × (world.new ≡ fold world.old steps)) }
+    ensures taken { OnOk result ((steps : List Taken) × Takes world.old body.now steps ×
+        (world.new ≡ fold world.old steps)) }
     ensures settled { OnOk result (settled.new ≡ world.new) }
     ensures legal { Legal world.new }
-    ensures refused { IfErr result (λ fault. (fault ≡ OutOfMemory) ⊎ RefusesBatch world.old number body.now fault) }
+    ensures refused { IfErr result (λ fault. (fault ≡ OutOfMemory) ⊎
+        RefusesBatch world.old number body.now fault) }
 {
     let batch = read_next(alloc, world, body)?;
     judge_all(world, settled, number, &batch.steps)?;
@@ -57,7 +60,8 @@ pub fn replay(alloc: Global, start: World, batches: &[Vec<u8>]) -> Result<World,
     requires { Legal start }
     ensures led { IfOk result (Replays start (bodies batches.now)) }
     ensures legal { IfOk result (λ world. Legal world) }
-    ensures refused { IfErr result (λ fault. (fault ≡ OutOfMemory) ⊎ RefusesReplay start (bodies batches.now) fault) }
+    ensures refused { IfErr result (λ fault. (fault ≡ OutOfMemory) ⊎
+        RefusesReplay start (bodies batches.now) fault) }
 {
     let mut settled = start.copy()?;
     let mut world = start;

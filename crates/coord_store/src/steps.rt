@@ -54,7 +54,8 @@ pub fn judge_all(
     ensures world { OnOk result (world.new ≡ fold world.old steps.now) }
     ensures fresh { OnOk result (AllFresh world.old world.old steps.now) }
     ensures legal { Legal world.new }
-    ensures fault { IfErr result (λ fault. (fault ≡ OutOfMemory) ⊎ ((index : ℕ) × (fault ≡ BadStep batch index) × StopsAt world.old steps.now index)) }
+    ensures fault { IfErr result (λ fault. (fault ≡ OutOfMemory) ⊎
+        ((index : ℕ) × (fault ≡ BadStep batch index) × StopsAt world.old steps.now index)) }
 {
     for (index, step) in steps.iter().enumerate() {
         if !is_fresh(world, settled, step) {

@@ -81,7 +81,8 @@ impl<D: Disk> Store<D> {
     /// Gives the disk back. Where no commit was torn, opening it gives the world again.
     pub fn into_disk(self) -> D
         ensures disk { result ≡ self.disk }
-        ensures reopens { D.keeps_model self.disk ≡ true → self.torn ≡ None → Recovered (D.present result).read self.world }
+        ensures reopens { D.keeps_model self.disk ≡ true → self.torn ≡ None →
+            Recovered (D.present result).read self.world }
     {
         self.journal.into_disk()
     }

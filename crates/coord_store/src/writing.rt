@@ -43,16 +43,22 @@ fn checkpoint<D: Disk>(
 ) -> Result<(), CommitFault>
     requires legal { Legal world.now }
     requires going { has_stopped journal.old ≡ false }
-    ensures any_moment { D.keeps_model (disk_of journal.old) ≡ true → Holds D.present journal.old world.now
-        → LeavesOnly D.clock D.left_since (disk_of journal.old) (disk_of journal.new) (IsOnlyWorld world.now) }
-    ensures done { D.keeps_model (disk_of journal.old) ≡ true → Holds D.present journal.old world.now → OnOk result (Holds D.present journal.new world.now) }
+    ensures any_moment { D.keeps_model (disk_of journal.old) ≡ true →
+        Holds D.present journal.old world.now
+        → LeavesOnly D.clock D.left_since (disk_of journal.old) (disk_of journal.new)
+        (IsOnlyWorld world.now) }
+    ensures done { D.keeps_model (disk_of journal.old) ≡ true →
+        Holds D.present journal.old world.now →
+        OnOk result (Holds D.present journal.new world.now) }
     ensures fits { OnOk result (HasRoomFor journal.new MAX_BODY) }
     ensures going { OnOk result (has_stopped journal.new ≡ false) }
     ensures fault { IfErr result (λ fault. (fault ≡ OutOfMemory) ⊎ (fault ≡ Device)) }
     ensures unchanged { IfErr result (λ fault. fault ≢ Device → journal.new ≡ journal.old) }
     ensures device { IsErrOf result CommitFault.Device → has_stopped journal.new ≡ true }
-    ensures failures { D.failures (disk_of journal.new) ≡ D.failures (disk_of journal.old) + failures_in result }
-    ensures calls { D.keeps_model (disk_of journal.old) ≡ true → D.clock (disk_of journal.new) ≤ D.clock (disk_of journal.old) + 4 }
+    ensures failures { D.failures (disk_of journal.new) ≡
+        D.failures (disk_of journal.old) + failures_in result }
+    ensures calls { D.keeps_model (disk_of journal.old) ≡ true →
+        D.clock (disk_of journal.new) ≤ D.clock (disk_of journal.old) + 4 }
     ensures model { D.keeps_model (disk_of journal.new) ≡ D.keeps_model (disk_of journal.old) }
 {
     world.ranges();
@@ -74,15 +80,20 @@ pub fn put_in_place<D: Disk>(
 ) -> Result<(), CommitFault>
     requires legal { Legal other.now }
     requires going { has_stopped journal.old ≡ false }
-    ensures any_moment { (w : Numbered) → D.keeps_model (disk_of journal.old) ≡ true → Holds D.present journal.old w
-        → LeavesOnly D.clock D.left_since (disk_of journal.old) (disk_of journal.new) (GivesEither w other.now) }
-    ensures done { (w : Numbered) → D.keeps_model (disk_of journal.old) ≡ true → Holds D.present journal.old w → OnOk result (Holds D.present journal.new other.now) }
+    ensures any_moment { (w : Numbered) → D.keeps_model (disk_of journal.old) ≡ true →
+        Holds D.present journal.old w
+        → LeavesOnly D.clock D.left_since (disk_of journal.old) (disk_of journal.new)
+        (GivesEither w other.now) }
+    ensures done { (w : Numbered) → D.keeps_model (disk_of journal.old) ≡ true →
+        Holds D.present journal.old w → OnOk result (Holds D.present journal.new other.now) }
     ensures going { OnOk result (has_stopped journal.new ≡ false) }
     ensures fault { IfErr result (λ fault. (fault ≡ OutOfMemory) ⊎ (fault ≡ Device)) }
     ensures unchanged { IfErr result (λ fault. fault ≢ Device → journal.new ≡ journal.old) }
     ensures device { IsErrOf result CommitFault.Device → has_stopped journal.new ≡ true }
-    ensures failures { D.failures (disk_of journal.new) ≡ D.failures (disk_of journal.old) + failures_in result }
-    ensures calls { D.keeps_model (disk_of journal.old) ≡ true → D.clock (disk_of journal.new) ≤ D.clock (disk_of journal.old) + 4 }
+    ensures failures { D.failures (disk_of journal.new) ≡
+        D.failures (disk_of journal.old) + failures_in result }
+    ensures calls { D.keeps_model (disk_of journal.old) ≡ true →
+        D.clock (disk_of journal.new) ≤ D.clock (disk_of journal.old) + 4 }
     ensures model { D.keeps_model (disk_of journal.new) ≡ D.keeps_model (disk_of journal.old) }
 {
     other.ranges();
@@ -101,19 +112,27 @@ fn append<D: Disk>(journal: &mut Journal<D>, body: &[u8]) -> Result<(), CommitFa
     requires short { length body.now ≤ MAX_BODY }
     requires fits { HasRoomFor journal.old (length body.now) }
     requires going { has_stopped journal.old ≡ false }
-    ensures any_moment { (w : Numbered) (steps : List Taken) → D.keeps_model (disk_of journal.old) ≡ true → Holds D.present journal.old w → Takes w body.now steps
-        → LeavesOnly D.clock D.left_since (disk_of journal.old) (disk_of journal.new) (GivesEither w (fold w steps)) }
-    ensures done { (w : Numbered) (steps : List Taken) → D.keeps_model (disk_of journal.old) ≡ true → Holds D.present journal.old w → Takes w body.now steps
+    ensures any_moment { (w : Numbered) (steps : List Taken) → D.keeps_model (disk_of journal.old) ≡
+        true → Holds D.present journal.old w → Takes w body.now steps
+        → LeavesOnly D.clock D.left_since (disk_of journal.old) (disk_of journal.new)
+        (GivesEither w (fold w steps)) }
+    ensures done { (w : Numbered) (steps : List Taken) → D.keeps_model (disk_of journal.old) ≡
+        true → Holds D.present journal.old w → Takes w body.now steps
         → OnOk result (Holds D.present journal.new (fold w steps)) }
-    ensures any_moment_refused { (w : Numbered) → D.keeps_model (disk_of journal.old) ≡ true → Holds D.present journal.old w
-        → IfErr result (λ fault. fault ≢ Device → LeavesOnly D.clock D.left_since (disk_of journal.old) (disk_of journal.new) (IsOnlyWorld w)) }
+    ensures any_moment_refused { (w : Numbered) → D.keeps_model (disk_of journal.old) ≡ true →
+        Holds D.present journal.old w
+        → IfErr result (λ fault. fault ≢ Device →
+        LeavesOnly D.clock D.left_since (disk_of journal.old) (disk_of journal.new)
+        (IsOnlyWorld w)) }
     ensures going { OnOk result (has_stopped journal.new ≡ false) }
     ensures half { half_of journal.new ≡ half_of journal.old }
     ensures fault { IfErr result (λ fault. (fault ≡ OutOfMemory) ⊎ (fault ≡ Device)) }
     ensures unchanged { IfErr result (λ fault. fault ≢ Device → journal.new ≡ journal.old) }
     ensures device { IsErrOf result CommitFault.Device → has_stopped journal.new ≡ true }
-    ensures failures { D.failures (disk_of journal.new) ≡ D.failures (disk_of journal.old) + failures_in result }
-    ensures calls { D.keeps_model (disk_of journal.old) ≡ true → D.clock (disk_of journal.new) ≤ D.clock (disk_of journal.old) + 4 }
+    ensures failures { D.failures (disk_of journal.new) ≡
+        D.failures (disk_of journal.old) + failures_in result }
+    ensures calls { D.keeps_model (disk_of journal.old) ≡ true →
+        D.clock (disk_of journal.new) ≤ D.clock (disk_of journal.old) + 4 }
     ensures model { D.keeps_model (disk_of journal.new) ≡ D.keeps_model (disk_of journal.old) }
 {
     match journal.append(body) {
@@ -132,22 +151,34 @@ pub fn write<D: Disk>(
     requires legal { Legal world.now }
     requires short { length body.now ≤ MAX_BODY }
     requires going { has_stopped journal.old ≡ false }
-    ensures any_moment { (steps : List Taken) → D.keeps_model (disk_of journal.old) ≡ true → Holds D.present journal.old world.now → Takes world.now body.now steps
-        → LeavesOnly D.clock D.left_since (disk_of journal.old) (disk_of journal.new) (GivesEither world.now (fold world.now steps)) }
-    ensures done { (steps : List Taken) → D.keeps_model (disk_of journal.old) ≡ true → Holds D.present journal.old world.now → Takes world.now body.now steps
+    ensures any_moment { (steps : List Taken) → D.keeps_model (disk_of journal.old) ≡ true →
+        Holds D.present journal.old world.now → Takes world.now body.now steps
+        → LeavesOnly D.clock D.left_since (disk_of journal.old) (disk_of journal.new)
+        (GivesEither world.now (fold world.now steps)) }
+    ensures done { (steps : List Taken) → D.keeps_model (disk_of journal.old) ≡ true →
+        Holds D.present journal.old world.now → Takes world.now body.now steps
         → OnOk result (Holds D.present journal.new (fold world.now steps)) }
-    ensures any_moment_refused { D.keeps_model (disk_of journal.old) ≡ true → Holds D.present journal.old world.now
-        → IfErr result (λ fault. fault ≢ Device → LeavesOnly D.clock D.left_since (disk_of journal.old) (disk_of journal.new) (IsOnlyWorld world.now)) }
-    ensures held { D.keeps_model (disk_of journal.old) ≡ true → Holds D.present journal.old world.now
+    ensures any_moment_refused { D.keeps_model (disk_of journal.old) ≡ true →
+        Holds D.present journal.old world.now
+        → IfErr result (λ fault. fault ≢ Device →
+        LeavesOnly D.clock D.left_since (disk_of journal.old) (disk_of journal.new)
+        (IsOnlyWorld world.now)) }
+    ensures held { D.keeps_model (disk_of journal.old) ≡ true →
+        Holds D.present journal.old world.now
         → IfErr result (λ fault. fault ≢ Device → Holds D.present journal.new world.now) }
     ensures going { OnOk result (has_stopped journal.new ≡ false) }
     ensures fault { IfErr result (λ fault. (fault ≡ OutOfMemory) ⊎ (fault ≡ Device)) }
     ensures still { IfErr result (λ fault. fault ≢ Device → has_stopped journal.new ≡ false) }
     ensures device { IsErrOf result CommitFault.Device → has_stopped journal.new ≡ true }
-    ensures failures { D.failures (disk_of journal.new) ≡ D.failures (disk_of journal.old) + failures_in result }
-    ensures calls { D.keeps_model (disk_of journal.old) ≡ true → D.clock (disk_of journal.new) ≤ D.clock (disk_of journal.old) + 8 }
-    ensures calls_where_it_fits { D.keeps_model (disk_of journal.old) ≡ true → HasRoomFor journal.old (length body.now) → D.clock (disk_of journal.new) ≤ D.clock (disk_of journal.old) + 4 }
-    ensures half_where_it_fits { HasRoomFor journal.old (length body.now) → half_of journal.new ≡ half_of journal.old }
+    ensures failures { D.failures (disk_of journal.new) ≡
+        D.failures (disk_of journal.old) + failures_in result }
+    ensures calls { D.keeps_model (disk_of journal.old) ≡ true →
+        D.clock (disk_of journal.new) ≤ D.clock (disk_of journal.old) + 8 }
+    ensures calls_where_it_fits { D.keeps_model (disk_of journal.old) ≡ true →
+        HasRoomFor journal.old (length body.now) →
+        D.clock (disk_of journal.new) ≤ D.clock (disk_of journal.old) + 4 }
+    ensures half_where_it_fits { HasRoomFor journal.old (length body.now) →
+        half_of journal.new ≡ half_of journal.old }
     ensures model { D.keeps_model (disk_of journal.new) ≡ D.keeps_model (disk_of journal.old) }
 {
     if journal.fits(body.len()) {

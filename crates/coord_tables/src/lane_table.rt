@@ -98,7 +98,11 @@ impl LaneTable {
     /// Makes the two lanes of a link. All memory is there before anything changes.
     pub fn link(&mut self, a: NodeId, b: NodeId, lane: Lane) -> Result<(), AllocError>
         requires { table.len self.old < 2 ^ 16 - 2 }
-        ensures ok { OnOk result (self.new ≡ table.insert (table.insert self.old record { 0 = a; 1 = b } lane) record { 0 = b; 1 = a } lane) }
+        ensures ok { OnOk result (self.new ≡
+            table.insert (table.insert self.old record { 0 = a; 1 = b } lane) record {
+              0 = b;
+              1 = a;
+            } lane) }
         ensures err { OnErr result (self.new ≡ self.old) }
     {
         let mut lanes = Vec::from_slice(*self.lanes.allocator(), &self.lanes)?;
@@ -113,7 +117,10 @@ impl LaneTable {
     /// Removes the two lanes of a link.
     pub fn unlink(&mut self, a: NodeId, b: NodeId)
         requires { IsSome (table.get self.old record { 0 = a; 1 = b }) }
-        ensures { self.new ≡ table.remove (table.remove self.old record { 0 = a; 1 = b }) record { 0 = b; 1 = a } }
+        ensures { self.new ≡ table.remove (table.remove self.old record {
+          0 = a;
+          1 = b;
+        }) record { 0 = b; 1 = a } }
     {
         let Some(_) = place_in(&self.places, a, b) else {
             return;

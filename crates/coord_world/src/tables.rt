@@ -31,7 +31,13 @@ impl Model for Tables {
 
     ghost coded = { world_code };
 
-    ghost view = { λ a. record { version = a.version; count = a.count; nodes = a.nodes; lanes = a.lanes; sessions = a.sessions } };
+    ghost view = { λ a. record {
+      version = a.version;
+      count = a.count;
+      nodes = a.nodes;
+      lanes = a.lanes;
+      sessions = a.sessions;
+    } };
 }
 
 impl Tables {

@@ -187,9 +187,12 @@ impl World {
         ensures value { result ≡ accepts self.now settled.now step.now }
 
         // A verdict of Fresh has the kind of the reply, and the world takes the step over itself too.
-        ensures fresh { (k : Kind) → result ≡ Ok (Verdict.Fresh k) → IsFresh self.now settled.now step.now }
-        ensures itself { (k : Kind) → result ≡ Ok (Verdict.Fresh k) → IsFresh self.now self.now step.now }
-        ensures kind { (k : Kind) → result ≡ Ok (Verdict.Fresh k) → k ≡ kind (state self.now) step.now }
+        ensures fresh { (k : Kind) → result ≡ Ok (Verdict.Fresh k) →
+            IsFresh self.now settled.now step.now }
+        ensures itself { (k : Kind) → result ≡ Ok (Verdict.Fresh k) →
+            IsFresh self.now self.now step.now }
+        ensures kind { (k : Kind) → result ≡ Ok (Verdict.Fresh k) →
+            k ≡ kind (state self.now) step.now }
     {
         self.tables.judge(&settled.tables, step)
     }
@@ -200,7 +203,8 @@ impl World {
         requires fresh { IsFresh self.old self.old step.now }
         ensures world { OnOk result (self.new ≡ next self.old step.now) }
         ensures reply { IfOk result (λ outcome. outcome.reply ≡ reply self.old step.now) }
-        ensures outputs { IfOk result (λ outcome. outcome.outputs.items ≡ outputs self.old step.now) }
+        ensures outputs { IfOk result (λ outcome. outcome.outputs.items ≡
+            outputs self.old step.now) }
         ensures legal { Legal self.new }
         ensures err { OnErr result (self.new ≡ self.old) }
     {

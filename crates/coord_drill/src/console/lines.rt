@@ -23,11 +23,16 @@ impl Console {
         requires number { self.old.number + length piece.now < 2 ^ 64 - 1 }
         ensures ready { OnOk result (IsReady self.new.drill) }
         ensures number { OnOk result (self.new.number ≤ self.old.number + length piece.now) }
-        ensures printed { OnOk result ((text : List ℕ) × Appends (W.contents writer.old) (W.contents writer.new) text
-            × ((more rest : List ℕ) → Prints (state_of self.new.drill) (self.new.number + 1) (lines_on self.new.line more) rest
-            → Prints (state_of self.old.drill) (self.old.number + 1) (lines_on self.old.line (piece.now ++ more)) (text ++ rest))) }
+        ensures printed { OnOk result ((text : List ℕ) ×
+            Appends (W.contents writer.old) (W.contents writer.new) text
+            × ((more rest : List ℕ) →
+            Prints (state_of self.new.drill) (self.new.number + 1)
+            (lines_on self.new.line more) rest
+            → Prints (state_of self.old.drill) (self.old.number + 1)
+            (lines_on self.old.line (piece.now ++ more)) (text ++ rest))) }
         ensures failed { OnErr result ((text : List ℕ)
-            × Prints (state_of self.old.drill) (self.old.number + 1) (lines_on self.old.line piece.now) text
+            × Prints (state_of self.old.drill) (self.old.number + 1)
+            (lines_on self.old.line piece.now) text
             × WritesFirstPart (W.contents writer.old) (W.contents writer.new) text) }
         ensures fault { IfErr result IsOfWork }
     {
@@ -45,7 +50,8 @@ impl Console {
         requires number { self.old.number < 2 ^ 64 - 1 }
         ensures ready { OnOk result (IsReady self.new.drill) }
         ensures printed { OnOk result ((told : List ℕ)
-            × LineResponds (state_of self.old.drill) (self.old.number + 1) self.old.line told (state_of self.new.drill)
+            × LineResponds (state_of self.old.drill) (self.old.number + 1) self.old.line told
+            (state_of self.new.drill)
             × Appends (W.contents writer.old) (W.contents writer.new) told) }
         ensures failed { OnErr result ((told : List ℕ) × (t : DrillState)
             × LineResponds (state_of self.old.drill) (self.old.number + 1) self.old.line told t
@@ -64,7 +70,9 @@ impl Console {
         requires ready { IsReady self.old.drill }
         requires number { self.old.number < 2 ^ 64 - 1 }
         ensures ready { OnOk result (IsReady self.new.drill) }
-        ensures told { OnOk result (LineResponds (state_of self.old.drill) (self.old.number + 1) self.old.line (string_bytes self.new.text) (state_of self.new.drill)) }
+        ensures told { OnOk result (LineResponds (state_of self.old.drill)
+            (self.old.number + 1) self.old.line (string_bytes self.new.text)
+            (state_of self.new.drill)) }
         ensures fault { IfErr result IsOfWork }
         ensures number { OnOk result (self.new.number ≡ self.old.number + 1) }
         ensures line { OnOk result (self.new.line ≡ Some []) }
@@ -92,7 +100,9 @@ fn respond(
     requires ready { IsReady drill.old }
     ensures ready { OnOk result (IsReady drill.new) }
     ensures told { OnOk result (Tells (string_bytes text.old) (string_bytes text.new)
-        (λ told. Responds (state_of drill.old) number (option_and_then (asked_by (state_of drill.old)) (option_copied line.entry)) told (state_of drill.new))) }
+        (λ told. Responds (state_of drill.old) number
+        (option_and_then (asked_by (state_of drill.old)) (option_copied line.entry)) told
+        (state_of drill.new))) }
     ensures fault { IfErr result IsOfWork }
 {
     let request = match line {

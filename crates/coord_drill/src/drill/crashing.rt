@@ -17,7 +17,8 @@ impl Drill {
     pub(super) fn crash(&mut self, text: &mut String) -> Result<(), Fault>
         requires ready { IsReady self.old }
         ensures ready { OnOk result (IsReady self.new) }
-        ensures told { OnOk result (Tells (string_bytes text.old) (string_bytes text.new) (λ told. Does (state_of self.old) Crash told (state_of self.new))) }
+        ensures told { OnOk result (Tells (string_bytes text.old) (string_bytes text.new) (λ told.
+            Does (state_of self.old) Crash told (state_of self.new))) }
         ensures moments { OnOk result (GoesOn self.old.driver self.new.driver) }
         ensures fault { IfErr result IsOfWork }
     {

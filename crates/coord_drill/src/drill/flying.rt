@@ -39,7 +39,8 @@ impl Drill {
     pub(super) fn flush(&mut self, text: &mut String) -> Result<(), Fault>
         requires ready { IsReady self.old }
         ensures ready { OnOk result (IsReady self.new) }
-        ensures told { OnOk result (Tells (string_bytes text.old) (string_bytes text.new) (λ told. Does (state_of self.old) Flush told (state_of self.new))) }
+        ensures told { OnOk result (Tells (string_bytes text.old) (string_bytes text.new) (λ told.
+            Does (state_of self.old) Flush told (state_of self.new))) }
         ensures moments { OnOk result (GoesOn self.old.driver self.new.driver) }
         ensures fault { IfErr result IsOfWork }
     {
@@ -56,7 +57,8 @@ impl Drill {
     pub(super) fn fly(&mut self, text: &mut String) -> Result<(), Fault>
         requires ready { IsReady self.old }
         ensures ready { OnOk result (IsReady self.new) }
-        ensures told { OnOk result (Tells (string_bytes text.old) (string_bytes text.new) (λ told. Flies (state_of self.old) told (state_of self.new))) }
+        ensures told { OnOk result (Tells (string_bytes text.old) (string_bytes text.new) (λ told.
+            Flies (state_of self.old) told (state_of self.new))) }
         ensures moments { OnOk result (GoesOn self.old.driver self.new.driver) }
         ensures fault { IfErr result IsOfWork }
     {
@@ -78,8 +80,10 @@ fn print_flown(
     text: &mut String,
 ) -> Result<(), AllocError>
     requires granted { AreGranted ledger.now.log flown tickets.old.items }
-    ensures printed { OnOk result (string_bytes text.new ≡ string_bytes text.old ++ flown_lines (settled_world ledger.now.log) flown tickets.old.items) }
-    ensures left { OnOk result (tickets.new.items ≡ left_by (settled_world ledger.now.log) flown tickets.old.items) }
+    ensures printed { OnOk result (string_bytes text.new ≡ string_bytes text.old ++ flown_lines
+        (settled_world ledger.now.log) flown tickets.old.items) }
+    ensures left { OnOk result (tickets.new.items ≡
+        left_by (settled_world ledger.now.log) flown tickets.old.items) }
 {
     match flown {
         Flown::Nothing => Ok(()),
@@ -111,7 +115,8 @@ fn send_out(driver: Driver<MemDisk>) -> Result<(Flown, Driver<MemDisk>), Fault>
 
 /// Commits the flight that is out, and takes it back.
 fn land(driver: Driver<MemDisk>) -> Result<(Flown, Driver<MemDisk>), Fault>
-    ensures landed { IfOk result (λ r. (f : FlightState Disk) → driver.flight ≡ Some f → f.mark ≡ New → LandsAs driver.ledger f r.0 r.1) }
+    ensures landed { IfOk result (λ r. (f : FlightState Disk) → driver.flight ≡ Some f →
+        f.mark ≡ New → LandsAs driver.ledger f r.0 r.1) }
     ensures moments { IfOk result (λ r. GoesOnTo driver r.1) }
     ensures fault { IfErr result IsOfWork }
 {
@@ -135,7 +140,8 @@ fn land(driver: Driver<MemDisk>) -> Result<(Flown, Driver<MemDisk>), Fault>
 
 /// Takes the flight that is out back. Where there is no memory for what it releases, all is lost.
 fn take_back(driver: Driver<MemDisk>) -> Result<(Releases, Driver<MemDisk>), Fault>
-    ensures landed { IfOk result (λ r. (f : FlightState Disk) → driver.flight ≡ Some f → LandsTo driver.ledger f (Ok (Some r.0)) r.1) }
+    ensures landed { IfOk result (λ r. (f : FlightState Disk) → driver.flight ≡ Some f →
+        LandsTo driver.ledger f (Ok (Some r.0)) r.1) }
     ensures moments { IfOk result (λ r. GoesOnTo driver r.1) }
     ensures fault { IfErr result IsOfWork }
 {
@@ -163,8 +169,11 @@ fn print_settled(
     text: &mut String,
 ) -> Result<(), AllocError>
     requires granted { AllByRecursion (IsGranted ledger.now.log) tickets.old.items }
-    ensures printed { OnOk result (string_bytes text.new ≡ string_bytes text.old ++ collected_lines (settled_world ledger.now.log).version (settled_world ledger.now.log).count tickets.old.items releases) }
-    ensures waiting { OnOk result (tickets.new.items ≡ waiting (settled_world ledger.now.log).count tickets.old.items) }
+    ensures printed { OnOk result (string_bytes text.new ≡ string_bytes text.old ++ collected_lines
+        (settled_world ledger.now.log).version
+        (settled_world ledger.now.log).count tickets.old.items releases) }
+    ensures waiting { OnOk result (tickets.new.items ≡
+        waiting (settled_world ledger.now.log).count tickets.old.items) }
 {
     let printed = print_collected(ledger, tickets, &mut releases, text);
     releases.lose_rest();
@@ -179,8 +188,11 @@ fn print_collected(
     text: &mut String,
 ) -> Result<(), AllocError>
     requires granted { AllByRecursion (IsGranted ledger.now.log) tickets.old.items }
-    ensures printed { OnOk result (string_bytes text.new ≡ string_bytes text.old ++ collected_lines (settled_world ledger.now.log).version (settled_world ledger.now.log).count tickets.old.items releases.old) }
-    ensures waiting { OnOk result (tickets.new.items ≡ waiting (settled_world ledger.now.log).count tickets.old.items) }
+    ensures printed { OnOk result (string_bytes text.new ≡ string_bytes text.old ++ collected_lines
+        (settled_world ledger.now.log).version
+        (settled_world ledger.now.log).count tickets.old.items releases.old) }
+    ensures waiting { OnOk result (tickets.new.items ≡
+        waiting (settled_world ledger.now.log).count tickets.old.items) }
 {
     let settled = ledger.settled().count();
     let version = ledger.settled().version();
@@ -195,9 +207,12 @@ fn print_collected(
 
 /// Takes the next ticket out, if its step is among the first so many.
 fn next_settled(tickets: &mut VecDeque<Ticket>, settled: u64) -> Option<Ticket>
-    ensures some { IfSome result (λ ticket. (tickets.old.items ≡ ticket ∷ tickets.new.items) × (ticket.step ≤ settled)) }
-    ensures none { IfNone result ((waiting settled tickets.old.items ≡ tickets.old.items) × (tickets.new.items ≡ tickets.old.items)) }
-    ensures nothing { IfNone result ((version : ℕ) (releases : List Row) → collected_lines version settled tickets.old.items releases ≡ []) }
+    ensures some { IfSome result (λ ticket. (tickets.old.items ≡ ticket ∷ tickets.new.items) ×
+        (ticket.step ≤ settled)) }
+    ensures none { IfNone result ((waiting settled tickets.old.items ≡ tickets.old.items) ×
+        (tickets.new.items ≡ tickets.old.items)) }
+    ensures nothing { IfNone result ((version : ℕ) (releases : List Row) →
+        collected_lines version settled tickets.old.items releases ≡ []) }
 {
     match tickets.front() {
         Some(ticket) if ticket.step() <= settled => tickets.pop_front(),
@@ -229,8 +244,10 @@ pub(super) fn print_released(
     ahead: &mut Option<Release>,
     releases: &mut Releases,
 ) -> Result<(), AllocError>
-    ensures printed { OnOk result (string_bytes text.new ≡ string_bytes text.old ++ released_lines version step (left ahead.old releases.old)) }
-    ensures rest { OnOk result (left ahead.new releases.new ≡ behind step (left ahead.old releases.old)) }
+    ensures printed { OnOk result (string_bytes text.new ≡
+        string_bytes text.old ++ released_lines version step (left ahead.old releases.old)) }
+    ensures rest { OnOk result (left ahead.new releases.new ≡
+        behind step (left ahead.old releases.old)) }
 {
     while let Some(release) = *ahead {
         if release.step != step {

@@ -22,7 +22,8 @@ impl Drill {
     pub(super) fn submit(&mut self, step: Step, text: &mut String) -> Result<(), Fault>
         requires ready { IsReady self.old }
         ensures ready { OnOk result (IsReady self.new) }
-        ensures told { OnOk result (Tells (string_bytes text.old) (string_bytes text.new) (λ told. Does (state_of self.old) (Submit step) told (state_of self.new))) }
+        ensures told { OnOk result (Tells (string_bytes text.old) (string_bytes text.new) (λ told.
+            Does (state_of self.old) (Submit step) told (state_of self.new))) }
         ensures moments { OnOk result (GoesOn self.old.driver self.new.driver) }
         ensures fault { IfErr result IsOfWork }
     {
@@ -54,7 +55,8 @@ impl Drill {
 /// Prints the reply that is kept for a repeat, once its step is settled.
 fn print_kept(ledger: &Ledger<MemDisk>, ticket: Ticket, text: &mut String) -> Result<(), AllocError>
     requires { IsGranted ledger.now.log ticket }
-    ensures { OnOk result (string_bytes text.new ≡ string_bytes text.old ++ kept_line (settled_count ledger.now.log) (reply_of ticket)) }
+    ensures { OnOk result (string_bytes text.new ≡
+        string_bytes text.old ++ kept_line (settled_count ledger.now.log) (reply_of ticket)) }
 {
     match ledger.collect(ticket) {
         Ok(reply) => print_reply(text, reply),

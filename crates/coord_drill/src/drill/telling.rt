@@ -19,7 +19,8 @@ impl Drill {
     /// Prints that a lane is not there.
     #[tactic(auto, using(crate::proofs::Quiet::tells_refusal))]
     pub(super) fn refuse(&self, refusal: Refusal, text: &mut String) -> Result<(), Fault>
-        ensures told { OnOk result (Tells (string_bytes text.old) (string_bytes text.new) (λ told. Does (state_of self.now) (ask.Refuse refusal) told (state_of self.now))) }
+        ensures told { OnOk result (Tells (string_bytes text.old) (string_bytes text.new) (λ told.
+            Does (state_of self.now) (ask.Refuse refusal) told (state_of self.now))) }
         ensures fault { IfErr result IsOfWork }
     {
         print_refusal(text, refusal)?;
@@ -29,7 +30,8 @@ impl Drill {
     /// Prints that nothing waits on a lane.
     #[tactic(auto, using(crate::proofs::Quiet::tells_idle))]
     pub(super) fn idle(&self, text: &mut String) -> Result<(), Fault>
-        ensures told { OnOk result (Tells (string_bytes text.old) (string_bytes text.new) (λ told. Does (state_of self.now) ask.Nothing told (state_of self.now))) }
+        ensures told { OnOk result (Tells (string_bytes text.old) (string_bytes text.new) (λ told.
+            Does (state_of self.now) ask.Nothing told (state_of self.now))) }
         ensures fault { IfErr result IsOfWork }
     {
         print_idle(text)?;
@@ -40,7 +42,8 @@ impl Drill {
     #[tactic(auto, using(crate::proofs::Quiet::tells_resent, crate::proofs::Settling::resent_lines, crate::proofs::Settling::looked_at))]
     pub(super) fn resend(&self, text: &mut String) -> Result<(), Fault>
         requires ready { IsReady self.now }
-        ensures told { OnOk result (Tells (string_bytes text.old) (string_bytes text.new) (λ told. Does (state_of self.now) ask.Resend told (state_of self.now))) }
+        ensures told { OnOk result (Tells (string_bytes text.old) (string_bytes text.new) (λ told.
+            Does (state_of self.now) ask.Resend told (state_of self.now))) }
         ensures fault { IfErr result IsOfWork }
     {
         let Some(driver) = &self.driver else {
@@ -61,7 +64,8 @@ impl Drill {
     #[tactic(auto, using(crate::proofs::Quiet::tells_check))]
     pub(super) fn check(&self, text: &mut String) -> Result<(), Fault>
         requires ready { IsReady self.now }
-        ensures told { OnOk result (Tells (string_bytes text.old) (string_bytes text.new) (λ told. Does (state_of self.now) ask.Check told (state_of self.now))) }
+        ensures told { OnOk result (Tells (string_bytes text.old) (string_bytes text.new) (λ told.
+            Does (state_of self.now) ask.Check told (state_of self.now))) }
         ensures fault { IfErr result IsOfWork }
     {
         let Some(driver) = &self.driver else {
@@ -76,7 +80,8 @@ impl Drill {
     #[tactic(auto, using(crate::proofs::Quiet::tells_show))]
     pub(super) fn show(&self, text: &mut String) -> Result<(), Fault>
         requires ready { IsReady self.now }
-        ensures told { OnOk result (Tells (string_bytes text.old) (string_bytes text.new) (λ told. Does (state_of self.now) ask.Show told (state_of self.now))) }
+        ensures told { OnOk result (Tells (string_bytes text.old) (string_bytes text.new) (λ told.
+            Does (state_of self.now) ask.Show told (state_of self.now))) }
         ensures fault { IfErr result IsOfWork }
     {
         let Some(driver) = &self.driver else {
@@ -89,7 +94,8 @@ impl Drill {
 
 /// Prints what a ledger shows.
 fn print_shown(ledger: &Ledger<MemDisk>, text: &mut String) -> Result<(), Fault>
-    ensures printed { OnOk result (string_bytes text.new ≡ string_bytes text.old ++ shown_lines ledger.now.log ledger.now.doubt) }
+    ensures printed { OnOk result (string_bytes text.new ≡
+        string_bytes text.old ++ shown_lines ledger.now.log ledger.now.doubt) }
     ensures fault { IfErr result IsOfWork }
 {
     match ledger.show(&mut Seen::new()) {

@@ -41,7 +41,9 @@ impl<D: Disk, L: Origin> Guarded<D, L> {
     /// Whether the shares noted, each in order, all that was accepted since the start. That they
     /// noted no more shows in the count.
     fn are_noted(&self, shares: &[Share<L>]) -> bool
-        ensures { IsTrue result ↔ AreNoted shares.now (self.now.ledger.log.base.count + self.now.start) (drop self.now.start self.now.ledger.log.trail) }
+        ensures { IsTrue result ↔ AreNoted shares.now
+            (self.now.ledger.log.base.count + self.now.start)
+            (drop self.now.start self.now.ledger.log.trail) }
     {
         if !all_ascending(shares) {
             return false;
@@ -59,11 +61,17 @@ impl<D: Disk, L: Origin> Guarded<D, L> {
     ) -> Result<Closed<D>, (CloseFault, Self, Vec<Share<L>>)>
         requires { L.parts ≡ 65536 }
         ensures may { IfOk result (λ closed. MayClose self shares.items) }
-        ensures since { IfOk result (λ closed. IsSince L.base L.before shares.items closed.base closed.trail.items) }
-        ensures store { IfOk result (λ closed. (self.ledger.disk ≡ Some closed.store.disk) × (closed.store.world ≡ settled_world self.ledger.log) × (has_stopped closed.store ≡ is_some self.ledger.doubt)) }
-        ensures log { IfOk result (λ closed. (closed.base ≡ self.ledger.log.base) × (closed.trail.items ≡ self.ledger.log.trail) × (closed.settled ≡ settled_count self.ledger.log)) }
+        ensures since { IfOk result (λ closed.
+            IsSince L.base L.before shares.items closed.base closed.trail.items) }
+        ensures store { IfOk result (λ closed. (self.ledger.disk ≡ Some closed.store.disk) ×
+            (closed.store.world ≡ settled_world self.ledger.log) ×
+            (has_stopped closed.store ≡ is_some self.ledger.doubt)) }
+        ensures log { IfOk result (λ closed. (closed.base ≡ self.ledger.log.base) ×
+            (closed.trail.items ≡ self.ledger.log.trail) ×
+            (closed.settled ≡ settled_count self.ledger.log)) }
         ensures refused { IfErr result (λ refused. RefusesClosing self shares.items refused.0) }
-        ensures back { IfErr result (λ refused. (refused.1 ≡ self) × (refused.2.items ≡ shares.items)) }
+        ensures back { IfErr result (λ refused. (refused.1 ≡ self) ×
+            (refused.2.items ≡ shares.items)) }
     {
         if self.ledger.is_out() {
             return Err((CloseFault::FlightOut, self, shares));

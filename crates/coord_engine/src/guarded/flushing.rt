@@ -23,8 +23,13 @@ impl<D: Disk, L: Origin> Guarded<D, L> {
 
     /// Sends the next flight out, as the ledger does.
     pub fn begin(&mut self) -> Result<Option<Flight<D>>, AllocError>
-        ensures nothing { keeps_store self.old.ledger ≡ true → (result ≡ Ok None) × (self.new ≡ self.old) }
-        ensures begun { keeps_store self.old.ledger ≡ false → IfOk result (λ begun. IsSomeAnd begun (λ flight. (flight ≡ next_flight self.old.ledger.log flight.disk) × (self.old.ledger.disk ≡ Some flight.disk) × (self.new ≡ with_ledger self.old (with_out self.old.ledger (length flight.steps))))) }
+        ensures nothing { keeps_store self.old.ledger ≡ true → (result ≡ Ok None) ×
+            (self.new ≡ self.old) }
+        ensures begun { keeps_store self.old.ledger ≡ false →
+            IfOk result (λ begun. IsSomeAnd begun (λ flight.
+            (flight ≡ next_flight self.old.ledger.log flight.disk) ×
+            (self.old.ledger.disk ≡ Some flight.disk) ×
+            (self.new ≡ with_ledger self.old (with_out self.old.ledger (length flight.steps))))) }
         ensures err { OnErr result (self.new ≡ self.old) }
     {
         self.ledger.begin_flush()
@@ -33,7 +38,9 @@ impl<D: Disk, L: Origin> Guarded<D, L> {
     /// Takes the flight that is out back, as the ledger does.
     pub fn end(&mut self, flight: Flight<D>) -> Result<Releases, (Refusal, Flight<D>)>
         ensures own { OnOk result (IsOut self.old.ledger flight) }
-        ensures taken { OnOk result (self.new ≡ with_ledger self.old (taken_back self.old.ledger (length flight.steps) flight.mark flight.disk)) }
+        ensures taken { OnOk result (self.new ≡
+            with_ledger self.old (taken_back self.old.ledger
+            (length flight.steps) flight.mark flight.disk)) }
         ensures released { IfOk result (λ releases. releases ≡ releases_in flight flight.mark) }
         ensures refused { IfErr result (λ refused. RefusesFlight self.old.ledger flight refused.0) }
         ensures back { IfErr result (λ refused. refused.1 ≡ flight) }

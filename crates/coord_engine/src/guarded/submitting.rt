@@ -16,7 +16,9 @@ impl<D: Disk, L: Origin> Guarded<D, L> {
     /// Room for the note is taken first, so `OutOfMemory` may come before any other refusal. Then
     /// comes `Stopped`, also where the engine is finishing.
     pub fn submit(&mut self, step: Step, mine: &mut Share<L>) -> Result<Ticket, Refusal>
-        ensures answer { AnswersStep step (engine_verdict self.old step) (record { ledger = self.old.ledger; notes = mine.old }) result (record { ledger = self.new.ledger; notes = mine.new }) }
+        ensures answer { AnswersStep step (engine_verdict self.old step)
+            (record { ledger = self.old.ledger; notes = mine.old }) result
+            (record { ledger = self.new.ledger; notes = mine.new }) }
         ensures noted { self.new.noted + length mine.old ≡ self.old.noted + length mine.new }
         ensures others { self.new ≡ with_noted self.old self.new.ledger self.new.noted }
     {

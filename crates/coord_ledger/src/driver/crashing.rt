@@ -20,9 +20,13 @@ use std::alloc::Global;
 
 /// Crashes a disk, and makes a ledger of what it then holds. A refusal gives the disk back.
 fn reopen<D: CrashDisk>(alloc: Global, disk: D) -> Result<Ledger<D>, (RunFaultKind, D)>
-    ensures opened { IfOk result (IsReopened D.keeps_model D.present D.clock D.left_since D.crashes disk) }
-    ensures cause { IfErr result (λ refused. IsReopenFault (D.keeps_model disk) (D.present disk) refused.0) }
-    ensures lost { IfErr result (λ refused. D.keeps_model disk ≡ true → Reopens D.present D.clock D.left_since D.crashes (IsImage (D.present disk)) disk refused.1) }
+    ensures opened { IfOk result (IsReopened D.keeps_model D.present D.clock D.left_since D.crashes
+        disk) }
+    ensures cause { IfErr result (λ refused.
+        IsReopenFault (D.keeps_model disk) (D.present disk) refused.0) }
+    ensures lost { IfErr result (λ refused. D.keeps_model disk ≡ true →
+        Reopens D.present D.clock D.left_since D.crashes
+        (IsImage (D.present disk)) disk refused.1) }
 {
     let opened = match Store::open(alloc, disk.crash()) {
         Ok(store) => store,
@@ -38,14 +42,23 @@ impl<D: CrashDisk> Driver<D> {
     /// The disk crashes and is opened again, and the flight is gone. The count of the world that was
     /// opened, and its driver; or why none was, and the disk.
     pub fn crash(self, alloc: Global) -> Result<(u64, Self), (RunFaultKind, D)>
-        ensures answered { (b : Beside) (s : Machine) → IsConsistent s → Follows (held self b) s → model_driven D.keeps_model self ≡ Some true
-            → IfOk result (λ opened. FollowsTo s Crash (Opened opened.0) (held opened.1 (after_crash b))) }
-        ensures left { model_driven D.keeps_model self ≡ Some true → IfOk result (λ opened. IsLeftByCrash self opened.1) }
+        ensures answered { (b : Beside) (s : Machine) → IsConsistent s → Follows (held self b) s →
+            model_driven D.keeps_model self ≡ Some true
+            → IfOk result (λ opened. FollowsTo s Crash (Opened opened.0)
+            (held opened.1 (after_crash b))) }
+        ensures left { model_driven D.keeps_model self ≡ Some true →
+            IfOk result (λ opened. IsLeftByCrash self opened.1) }
         ensures count { IfOk result (λ opened. opened.0 ≡ settled_count opened.1.ledger.log) }
         ensures disk { (b : Beside) (s : Machine) → IsConsistent s → Follows (held self b) s
-            → MatchResult result (λ opened. HeldTouches D.keeps_model D.present D.clock D.left_since D.crashes s true Crash (held self b) (held opened.1 (after_crash b))) (λ refused. IsLost D.keeps_model D.present D.clock D.left_since D.crashes s Crash (held self b) refused.1) }
-        ensures model { IfOk result (λ opened. model_driven D.keeps_model opened.1 ≡ model_driven D.keeps_model self) }
-        ensures cause { IfErr result (λ refused. IsEventFault (model_driven D.keeps_model self) Crash refused.0) }
+            → MatchResult result (λ opened.
+            HeldTouches D.keeps_model D.present D.clock D.left_since D.crashes s true Crash
+            (held self b) (held opened.1 (after_crash b))) (λ refused.
+            IsLost D.keeps_model D.present D.clock D.left_since D.crashes s Crash
+            (held self b) refused.1) }
+        ensures model { IfOk result (λ opened. model_driven D.keeps_model opened.1 ≡
+            model_driven D.keeps_model self) }
+        ensures cause { IfErr result (λ refused.
+            IsEventFault (model_driven D.keeps_model self) Crash refused.0) }
     {
         self.survives();
         let ledger = reopen(alloc, self.into_disk())?;

@@ -21,7 +21,8 @@ impl<D: CrashDisk> Driver<D> {
     /// A flight goes out. While one is out, none does. Answers `Begun`, `Nothing`, or `Refused` for
     /// want of memory.
     pub fn begin(self) -> (Answer, Self)
-        ensures answered { (b : Beside) (s : Machine) → IsConsistent s → Follows (held self b) s → FollowsTo s Begin result.0 (held result.1 b) }
+        ensures answered { (b : Beside) (s : Machine) → IsConsistent s → Follows (held self b) s →
+            FollowsTo s Begin result.0 (held result.1 b) }
         ensures sent { self.flight ≡ None → SendsOut self.ledger result.0 result.1 }
         ensures disk { disk_driven result.1 ≡ disk_driven self }
     {
@@ -40,10 +41,14 @@ impl<D: CrashDisk> Driver<D> {
 
     /// The flight that is out is committed. Answers `Committed`, `Failed`, or `NoFlight`.
     pub fn commit(&mut self) -> Answer
-        ensures answered { (b : Beside) (s : Machine) → IsConsistent s → Follows (held self.old b) s → FollowsTo s Commit result (held self.new b) }
-        ensures tried { (f : FlightState D) → self.old.flight ≡ Some f → f.mark ≡ New → CommitsTo self.old.ledger f result self.new }
+        ensures answered { (b : Beside) (s : Machine) → IsConsistent s →
+            Follows (held self.old b) s → FollowsTo s Commit result (held self.new b) }
+        ensures tried { (f : FlightState D) → self.old.flight ≡ Some f → f.mark ≡ New →
+            CommitsTo self.old.ledger f result self.new }
         ensures disk { (b : Beside) (s : Machine) → IsConsistent s → Follows (held self.old b) s
-            → HeldTouches D.keeps_model D.present D.clock D.left_since D.crashes (found_by_crash s Commit result) (touches_disk Commit result) Commit (held self.old b) (held self.new b) }
+            → HeldTouches D.keeps_model D.present D.clock D.left_since D.crashes
+            (found_by_crash s Commit result) (touches_disk Commit result) Commit (held self.old b)
+            (held self.new b) }
         ensures model { model_driven D.keeps_model self.new ≡ model_driven D.keeps_model self.old }
     {
         self.survives();
@@ -59,8 +64,10 @@ impl<D: CrashDisk> Driver<D> {
     /// The flight that is out comes back: what it releases, or None where no flight is out. For want
     /// of memory it stays out.
     pub fn finish(self) -> (Result<Option<Releases>, Refusal>, Self)
-        ensures answered { (b : Beside) (s : Machine) → IsConsistent s → Follows (held self b) s → FinishesTo s b result.0 result.1 }
-        ensures landed { (f : FlightState D) → self.flight ≡ Some f → LandsTo self.ledger f result.0 result.1 }
+        ensures answered { (b : Beside) (s : Machine) → IsConsistent s → Follows (held self b) s →
+            FinishesTo s b result.0 result.1 }
+        ensures landed { (f : FlightState D) → self.flight ≡ Some f →
+            LandsTo self.ledger f result.0 result.1 }
         ensures disk { disk_driven result.1 ≡ disk_driven self }
     {
         let Driver { mut ledger, flight } = self;

@@ -16,7 +16,9 @@ use coord_types::{Refusal, Step};
 impl<D: CrashDisk> Driver<D> {
     /// Hands a step in: `Ledger::hand_in`.
     pub fn submit(&mut self, step: Step) -> Result<Handed, Refusal>
-        ensures answered { (b : Beside) (s : Machine) → IsConsistent s → Follows (held self.old b) s → FollowsTo s (Submit step) (answer_to result) (held self.new (with_claim b result)) }
+        ensures answered { (b : Beside) (s : Machine) → IsConsistent s →
+            Follows (held self.old b) s →
+            FollowsTo s (Submit step) (answer_to result) (held self.new (with_claim b result)) }
         ensures handed { HandedTo self.old.ledger step result self.new.ledger }
         ensures flight { self.new.flight ≡ self.old.flight }
         ensures disk { disk_driven self.new ≡ disk_driven self.old }

@@ -18,12 +18,19 @@ use std::alloc::Global;
 impl<D: CrashDisk> Run<D> {
     /// The disk crashes and is opened again. Tickets and the flight are gone.
     pub fn crash(self, alloc: Global) -> Result<(Answer, Self), Broken<D>>
-        ensures answered { (s : Machine) → IsConsistent s → Follows self s → IsPromised (model_of D.keeps_model self) Crash
-            → MatchResult result (λ held. FollowsTo s Crash held.0 held.1) (λ broken. IsCutShort s Crash broken.released.items) }
+        ensures answered { (s : Machine) → IsConsistent s → Follows self s →
+            IsPromised (model_of D.keeps_model self) Crash
+            → MatchResult result (λ held. FollowsTo s Crash held.0 held.1) (λ broken.
+            IsCutShort s Crash broken.released.items) }
         ensures disk { (s : Machine) → IsConsistent s → Follows self s
-            → MatchResult result (λ held. HeldTouches D.keeps_model D.present D.clock D.left_since D.crashes s true Crash self held.1) (λ broken. IsLost D.keeps_model D.present D.clock D.left_since D.crashes s Crash self broken.disk) }
-        ensures model { IfOk result (λ held. model_of D.keeps_model held.1 ≡ model_of D.keeps_model self) }
-        ensures cause { IfErr result (λ broken. IsEventFault (model_of D.keeps_model self) Crash broken.kind) }
+            → MatchResult result (λ held.
+            HeldTouches D.keeps_model D.present D.clock D.left_since D.crashes s true Crash self
+            held.1) (λ broken. IsLost D.keeps_model D.present D.clock D.left_since D.crashes s Crash
+            self broken.disk) }
+        ensures model { IfOk result (λ held. model_of D.keeps_model held.1 ≡
+            model_of D.keeps_model self) }
+        ensures cause { IfErr result (λ broken.
+            IsEventFault (model_of D.keeps_model self) Crash broken.kind) }
     {
         let Run {
             driver,

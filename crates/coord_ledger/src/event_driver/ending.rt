@@ -18,11 +18,16 @@ impl<D: CrashDisk> Run<D> {
     /// Takes back the flight that is out, and gives up what it releases and the tickets that are
     /// left.
     pub fn end(self) -> Result<(Vec<Release>, Ledger<D>), Broken<D>>
-        ensures ran { (start : LedgerState D) → (first : D) → (events : List What) → (given : List Reaction) → (after : D)
-            → Drives D.present D.clock D.left_since D.crashes (D.keeps_model after) first start events given self
-            → IfOk result (λ r. r.1.disk ≡ Some after → Ran D.present D.clock D.left_since D.crashes (started start) events given r.0.items r.1 (D.keeps_model after) first after) }
+        ensures ran { (start : LedgerState D) → (first : D) → (events : List What) →
+            (given : List Reaction) → (after : D)
+            → Drives D.present D.clock D.left_since D.crashes
+            (D.keeps_model after) first start events given self
+            → IfOk result (λ r. r.1.disk ≡ Some after →
+            Ran D.present D.clock D.left_since D.crashes (started start) events given r.0.items r.1
+            (D.keeps_model after) first after) }
         ensures home { IfOk result (λ r. r.1.out ≡ None) }
-        ensures disk { MatchResult result (λ r. r.1.disk ≡ disk_held self) (λ broken. disk_held self ≡ Some broken.disk) }
+        ensures disk { MatchResult result (λ r. r.1.disk ≡ disk_held self) (λ broken.
+            disk_held self ≡ Some broken.disk) }
         ensures refused { IfErr result (λ broken. broken.released.items ≡ self.released) }
         ensures kind { IfErr result (λ broken. broken.kind ≡ OutOfMemory) }
     {

@@ -40,13 +40,21 @@ impl<D: CrashDisk> Run<D> {
     /// One event. Where the driver's own lists find no memory, or the disk isn't opened after a
     /// crash, all but what was released is gone.
     pub fn meet(self, alloc: Global, event: Event) -> Result<(Answer, Self), Broken<D>>
-        ensures answered { (s : Machine) → IsConsistent s → Follows self s → IsPromised (model_of D.keeps_model self) event
-            → MatchResult result (λ held. FollowsTo s event held.0 held.1) (λ broken. IsCutShort s event broken.released.items) }
+        ensures answered { (s : Machine) → IsConsistent s → Follows self s →
+            IsPromised (model_of D.keeps_model self) event
+            → MatchResult result (λ held. FollowsTo s event held.0 held.1) (λ broken.
+            IsCutShort s event broken.released.items) }
         ensures disk { (s : Machine) → IsConsistent s → Follows self s
-            → MatchResult result (λ held. HeldTouches D.keeps_model D.present D.clock D.left_since D.crashes (found_by_crash s event held.0) (touches_disk event held.0) event self held.1) (λ broken. IsLost D.keeps_model D.present D.clock D.left_since D.crashes s event self broken.disk) }
+            → MatchResult result (λ held.
+            HeldTouches D.keeps_model D.present D.clock D.left_since D.crashes
+            (found_by_crash s event held.0) (touches_disk event held.0) event self held.1)
+            (λ broken. IsLost D.keeps_model D.present D.clock D.left_since D.crashes s event self
+            broken.disk) }
         ensures named { EventInRange event }
-        ensures model { IfOk result (λ held. model_of D.keeps_model held.1 ≡ model_of D.keeps_model self) }
-        ensures cause { IfErr result (λ broken. IsEventFault (model_of D.keeps_model self) event broken.kind) }
+        ensures model { IfOk result (λ held. model_of D.keeps_model held.1 ≡
+            model_of D.keeps_model self) }
+        ensures cause { IfErr result (λ broken.
+            IsEventFault (model_of D.keeps_model self) event broken.kind) }
     {
         self.survives();
         let mut held = self;

@@ -42,7 +42,8 @@ impl<D: CrashDisk> Broken<D> {
 impl<D: CrashDisk> Run<D> {
     /// A flight goes out. While one is out, none does.
     pub fn begin(self) -> (Answer, Self)
-        ensures answered { (s : Machine) → IsConsistent s → Follows self s → FollowsTo s Begin result.0 result.1 }
+        ensures answered { (s : Machine) → IsConsistent s → Follows self s →
+            FollowsTo s Begin result.0 result.1 }
         ensures disk { disk_held result.1 ≡ disk_held self }
     {
         let Run {
@@ -63,8 +64,11 @@ impl<D: CrashDisk> Run<D> {
 
     /// The flight comes back, and what it releases is kept.
     pub fn finish(self) -> Result<(Answer, Self), Broken<D>>
-        ensures answered { (s : Machine) → IsConsistent s → Follows self s → MatchResult result (λ held. FollowsTo s Finish held.0 held.1) (λ broken. IsCutShort s Finish broken.released.items) }
-        ensures disk { MatchResult result (λ held. disk_held held.1 ≡ disk_held self) (λ broken. disk_held self ≡ Some broken.disk) }
+        ensures answered { (s : Machine) → IsConsistent s → Follows self s →
+            MatchResult result (λ held. FollowsTo s Finish held.0 held.1) (λ broken.
+            IsCutShort s Finish broken.released.items) }
+        ensures disk { MatchResult result (λ held. disk_held held.1 ≡ disk_held self) (λ broken.
+            disk_held self ≡ Some broken.disk) }
         ensures kind { IfErr result (λ broken. broken.kind ≡ OutOfMemory) }
     {
         let Run {

@@ -12,7 +12,9 @@ use std::alloc::AllocError;
 pub fn push_releases(released: &mut Vec<Release>, mut releases: Releases) -> Result<u64, AllocError>
     ensures count { IfOk result (λ n. n ≡ length releases) }
     ensures all { IfOk result (λ _. released.new.items ≡ released.old.items ++ releases) }
-    ensures some { OnErr result ((more : List Row) × ((rest : List Row) × ((releases ≡ more ++ rest) × (released.new.items ≡ released.old.items ++ more)))) }
+    ensures some { OnErr result ((more : List Row) ×
+        ((rest : List Row) × ((releases ≡ more ++ rest) ×
+        (released.new.items ≡ released.old.items ++ more)))) }
 {
     let before = released.len();
     while let Some(release) = releases.next() {

@@ -30,7 +30,13 @@ impl<D: CrashDisk> Model for Run<D> {
 
     ghost Value = { Held D };
 
-    ghost view = { λ r. record { ledger = r.driver.ledger; flight = r.driver.flight; claims = r.tickets.items; seen = r.seen; released = r.released.items } };
+    ghost view = { λ r. record {
+      ledger = r.driver.ledger;
+      flight = r.driver.flight;
+      claims = r.tickets.items;
+      seen = r.seen;
+      released = r.released.items;
+    } };
 }
 
 impl<D: CrashDisk> Run<D> {
@@ -38,14 +44,16 @@ impl<D: CrashDisk> Run<D> {
     /// may leave between two events is the world after a prefix of the accepted steps that holds all
     /// that was released, and a legal one.
     pub fn survives(&self)
-        ensures { (s : Machine) → IsConsistent s → Follows self.now s → HeldSurvives D.keeps_model D.present self.now s }
+        ensures { (s : Machine) → IsConsistent s → Follows self.now s →
+            HeldSurvives D.keeps_model D.present self.now s }
     {
         self.driver.survives();
     }
 
     /// A step is handed in.
     pub fn submit(&mut self, step: Step) -> Result<Answer, AllocError>
-        ensures answered { (s : Machine) → IsConsistent s → Follows self.old s → IfOk result (λ answer. FollowsTo s (Submit step) answer self.new) }
+        ensures answered { (s : Machine) → IsConsistent s → Follows self.old s →
+            IfOk result (λ answer. FollowsTo s (Submit step) answer self.new) }
         ensures err { OnErr result (self.new ≡ self.old) }
         ensures disk { disk_held self.new ≡ disk_held self.old }
     {
@@ -67,7 +75,8 @@ impl<D: CrashDisk> Run<D> {
 
     /// A ticket is collected.
     pub fn collect(&mut self, index: usize) -> Answer
-        ensures answered { (s : Machine) → IsConsistent s → Follows self.old s → FollowsTo s (Collect index) result self.new }
+        ensures answered { (s : Machine) → IsConsistent s → Follows self.old s →
+            FollowsTo s (Collect index) result self.new }
         ensures disk { disk_held self.new ≡ disk_held self.old }
     {
         if index >= self.tickets.len() {
@@ -89,9 +98,11 @@ impl<D: CrashDisk> Run<D> {
 
     /// The flight that is out is committed.
     pub fn commit(&mut self) -> Answer
-        ensures answered { (s : Machine) → IsConsistent s → Follows self.old s → FollowsTo s Commit result self.new }
+        ensures answered { (s : Machine) → IsConsistent s → Follows self.old s →
+            FollowsTo s Commit result self.new }
         ensures disk { (s : Machine) → IsConsistent s → Follows self.old s
-            → HeldTouches D.keeps_model D.present D.clock D.left_since D.crashes (found_by_crash s Commit result) (touches_disk Commit result) Commit self.old self.new }
+            → HeldTouches D.keeps_model D.present D.clock D.left_since D.crashes
+            (found_by_crash s Commit result) (touches_disk Commit result) Commit self.old self.new }
         ensures model { model_of D.keeps_model self.new ≡ model_of D.keeps_model self.old }
     {
         self.driver.commit()
@@ -99,8 +110,10 @@ impl<D: CrashDisk> Run<D> {
 
     /// What may have been lost is released again.
     pub fn resend(&mut self) -> Result<Answer, AllocError>
-        ensures answered { (s : Machine) → IsConsistent s → Follows self.old s → IfOk result (λ answer. FollowsTo s Resend answer self.new) }
-        ensures cut { (s : Machine) → IsConsistent s → Follows self.old s → OnErr result (IsCutShort s Resend self.new.released) }
+        ensures answered { (s : Machine) → IsConsistent s → Follows self.old s →
+            IfOk result (λ answer. FollowsTo s Resend answer self.new) }
+        ensures cut { (s : Machine) → IsConsistent s → Follows self.old s →
+            OnErr result (IsCutShort s Resend self.new.released) }
         ensures disk { disk_held self.new ≡ disk_held self.old }
     {
         match self.driver.ledger().resend() {
@@ -114,7 +127,8 @@ impl<D: CrashDisk> Run<D> {
 
     /// The settled world is shown.
     pub fn show(&mut self) -> Answer
-        ensures answered { (s : Machine) → IsConsistent s → Follows self.old s → FollowsTo s Show result self.new }
+        ensures answered { (s : Machine) → IsConsistent s → Follows self.old s →
+            FollowsTo s Show result self.new }
         ensures disk { disk_held self.new ≡ disk_held self.old }
     {
         match self.driver.ledger().show(&mut self.seen) {

@@ -29,7 +29,8 @@ fn is_kept(world: &World, ticket: &Ticket) -> bool
 fn stands_at(trail: &[Step], kinds: &[Kind], place: usize, ticket: &Ticket) -> bool
     requires in_trail { place < length trail.now }
     requires in_kinds { place < length kinds.now }
-    ensures { IsTrue result ↔ ((slice_get trail.now place ≡ Some ticket.now.what) × (slice_get kinds.now place ≡ Some ticket.now.kind)) }
+    ensures { IsTrue result ↔ ((slice_get trail.now place ≡ Some ticket.now.what) ×
+        (slice_get kinds.now place ≡ Some ticket.now.kind)) }
 {
     if !is_same_step(&trail[place], &ticket.what) {
         return false;
@@ -65,8 +66,10 @@ impl<D: Disk> Ledger<D> {
     /// The reply to the ticket's step, once the step is settled; before that, and for a ticket of
     /// another ledger, the ticket. It answers after a stop too.
     pub fn collect(&self, ticket: Ticket) -> Result<Reply, Ticket>
-        ensures settled { IfOk result (λ reply. (reply ≡ reply_of ticket) × IsCollectable self.now.log ticket) }
-        ensures waiting { IfErr result (λ back. (back ≡ ticket) × ¬ IsCollectable self.now.log ticket) }
+        ensures settled { IfOk result (λ reply. (reply ≡ reply_of ticket) ×
+            IsCollectable self.now.log ticket) }
+        ensures waiting { IfErr result (λ back. (back ≡ ticket) ×
+            ¬ IsCollectable self.now.log ticket) }
     {
         if !self.is_collectable(&ticket) {
             return Err(ticket);

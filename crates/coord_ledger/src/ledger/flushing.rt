@@ -27,7 +27,10 @@ impl<D: Disk> Ledger<D> {
     /// nothing is pending, a flight is out or the ledger has stopped.
     pub fn begin_flush(&mut self) -> Result<Option<Flight<D>>, AllocError>
         ensures nothing { keeps_store self.old ≡ true → (result ≡ Ok None) × (self.new ≡ self.old) }
-        ensures begun { keeps_store self.old ≡ false → IfOk result (λ begun. IsSomeAnd begun (λ flight. (flight ≡ next_flight self.old.log flight.disk) × (self.old.disk ≡ Some flight.disk) × (self.new ≡ with_out self.old (length flight.steps)))) }
+        ensures begun { keeps_store self.old ≡ false →
+            IfOk result (λ begun. IsSomeAnd begun (λ flight.
+            (flight ≡ next_flight self.old.log flight.disk) × (self.old.disk ≡ Some flight.disk) ×
+            (self.new ≡ with_out self.old (length flight.steps)))) }
         ensures err { OnErr result (self.new ≡ self.old) }
     {
         if self.doubt.is_some() || self.done >= self.trail.len() {
@@ -126,7 +129,8 @@ impl<D: Disk> Ledger<D> {
     /// `Stranger`. A refusal gives the flight back.
     pub fn end_flush(&mut self, flight: Flight<D>) -> Result<Releases, (Refusal, Flight<D>)>
         ensures own { OnOk result (IsOut self.old flight) }
-        ensures taken { OnOk result (self.new ≡ taken_back self.old (length flight.steps) flight.mark flight.disk) }
+        ensures taken { OnOk result (self.new ≡
+            taken_back self.old (length flight.steps) flight.mark flight.disk) }
         ensures released { IfOk result (λ releases. releases ≡ releases_in flight flight.mark) }
         ensures refused { IfErr result (λ refused. RefusesFlight self.old flight refused.0) }
         ensures back { IfErr result (λ refused. refused.1 ≡ flight) }

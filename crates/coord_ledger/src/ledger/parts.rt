@@ -73,8 +73,10 @@ impl<D: Disk> Ledger<D> {
     /// stopped has it back.
     pub fn log_is_consistent(&self)
         ensures log { IsConsistentLog self.now.log }
-        ensures out { IfSome self.now.out (λ size. (1 ≤ size) × (size ≤ MAX_BATCH_STEPS) × (self.now.log.settled + size ≤ length self.now.log.trail)) }
-        ensures doubted { IfSome self.now.doubt (λ size. (1 ≤ size) × (self.now.log.settled + size ≤ length self.now.log.trail)) }
+        ensures out { IfSome self.now.out (λ size. (1 ≤ size) × (size ≤ MAX_BATCH_STEPS) ×
+            (self.now.log.settled + size ≤ length self.now.log.trail)) }
+        ensures doubted { IfSome self.now.doubt (λ size. (1 ≤ size) ×
+            (self.now.log.settled + size ≤ length self.now.log.trail)) }
         ensures stopped { IfSome self.now.doubt (λ _. self.now.out ≡ None) }
         ensures home { is_some self.now.out ≡ is_none self.now.disk }
     {

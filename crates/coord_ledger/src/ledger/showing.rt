@@ -62,7 +62,8 @@ impl<D: Disk> Ledger<D> {
 
     /// The settled world's rows.
     fn view(&self) -> Result<View, AllocError>
-        ensures { IfOk result (λ view. view ≡ shown (accepted_count self.now.log) (settled_world self.now.log)) }
+        ensures { IfOk result (λ view. view ≡
+            shown (accepted_count self.now.log) (settled_world self.now.log)) }
     {
         let parts = self.settled.parts()?;
         Ok(View {
@@ -78,8 +79,12 @@ impl<D: Disk> Ledger<D> {
     /// has seen becomes the settled count.
     pub fn show(&self, seen: &mut Seen) -> Result<View, Refusal>
         ensures stopped { is_some self.now.doubt ≡ true → result ≡ Err Refusal.Stopped }
-        ensures behind { is_some self.now.doubt ≡ false → settled_count self.now.log < seen.old → result ≡ Err (Refusal.Behind (settled_count self.now.log)) }
-        ensures shown { is_some self.now.doubt ≡ false → seen.old ≤ settled_count self.now.log → MatchResult result (λ view. (view ≡ shown (accepted_count self.now.log) (settled_world self.now.log)) × (seen.new ≡ settled_count self.now.log)) (λ refusal. refusal ≡ OutOfMemory) }
+        ensures behind { is_some self.now.doubt ≡ false → settled_count self.now.log < seen.old →
+            result ≡ Err (Refusal.Behind (settled_count self.now.log)) }
+        ensures shown { is_some self.now.doubt ≡ false → seen.old ≤ settled_count self.now.log →
+            MatchResult result (λ view.
+            (view ≡ shown (accepted_count self.now.log) (settled_world self.now.log)) ×
+            (seen.new ≡ settled_count self.now.log)) (λ refusal. refusal ≡ OutOfMemory) }
         ensures unseen { OnErr result (seen.new ≡ seen.old) }
     {
         if self.doubt.is_some() {

@@ -73,8 +73,13 @@ impl<D: Disk> Ledger<D> {
     /// settled; a repeat comes before it), `Exhausted`, the step's own refusals in the order of
     /// `World::judge`, and `OutOfMemory`.
     pub fn submit(&mut self, step: Step) -> Result<Ticket, Refusal>
-        ensures fresh { (kind : Sort) → ledger_verdict self.old step ≡ Ok (Verdict.Fresh kind) → MatchResult result (λ ticket. (ticket ≡ claimed step (reply (front_world self.old.log) step)) × (self.new ≡ with_accepted self.old step)) (λ refusal. refusal ≡ OutOfMemory) }
-        ensures repeated { (kept : Answered) → ledger_verdict self.old step ≡ Ok (Verdict.Repeat kept) → IsOkAnd result (λ ticket. (ticket ≡ claimed step kept) × (self.new ≡ self.old)) }
+        ensures fresh { (kind : Sort) → ledger_verdict self.old step ≡ Ok (Verdict.Fresh kind) →
+            MatchResult result (λ ticket.
+            (ticket ≡ claimed step (reply (front_world self.old.log) step)) ×
+            (self.new ≡ with_accepted self.old step)) (λ refusal. refusal ≡ OutOfMemory) }
+        ensures repeated { (kept : Answered) →
+            ledger_verdict self.old step ≡ Ok (Verdict.Repeat kept) →
+            IsOkAnd result (λ ticket. (ticket ≡ claimed step kept) × (self.new ≡ self.old)) }
         ensures refused { (why : Why) → ledger_verdict self.old step ≡ Err why → result ≡ Err why }
         ensures unchanged { OnErr result (self.new ≡ self.old) }
     {

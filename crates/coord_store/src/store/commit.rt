@@ -25,7 +25,8 @@ impl<D: Disk> Store<D> {
     /// Whether these steps are fresh, each after those before it, with the world from before them
     /// all as the settled one. `commit` asks for this.
     pub fn takes(&self, steps: &[Step]) -> Result<bool, AllocError>
-        ensures { IfOk result (λ takes. IsTrue takes ↔ AllFresh self.now.world self.now.world steps.now) }
+        ensures { IfOk result (λ takes. IsTrue takes ↔
+            AllFresh self.now.world self.now.world steps.now) }
     {
         let mut next = self.world.copy()?;
         match judge_all(&mut next, &self.world, 0, steps) {
@@ -52,28 +53,41 @@ impl<D: Disk> Store<D> {
 
         // A crash at any moment of the call, also inside a checkpoint, leaves what gives the world from before it or from after it, and where it is refused for memory the one from before it.
         ensures any_moment { D.keeps_model self.old.disk ≡ true → self.old.torn ≡ None
-            → LeavesOnly D.clock D.left_since self.old.disk self.new.disk (GivesEither self.old.world (fold self.old.world steps.now)) }
+            → LeavesOnly D.clock D.left_since self.old.disk self.new.disk
+            (GivesEither self.old.world (fold self.old.world steps.now)) }
         ensures any_moment_refused { D.keeps_model self.old.disk ≡ true → self.old.torn ≡ None
-            → IfErr result (λ fault. fault ≢ Device → LeavesOnly D.clock D.left_since self.old.disk self.new.disk (IsOnlyWorld self.old.world)) }
+            → IfErr result (λ fault. fault ≢ Device →
+            LeavesOnly D.clock D.left_since self.old.disk self.new.disk
+            (IsOnlyWorld self.old.world)) }
 
         // What the store is then: after Device one of both worlds may be on the disk.
         ensures world { OnOk result (self.new.world ≡ fold self.old.world steps.now) }
         ensures going { OnOk result (self.new.torn ≡ None) }
-        ensures torn { IsErrOf result CommitFault.Device → self.new.torn ≡ Some (fold self.old.world steps.now) }
+        ensures torn { IsErrOf result CommitFault.Device →
+            self.new.torn ≡ Some (fold self.old.world steps.now) }
         ensures same_world { IfErr result (λ fault. self.new.world ≡ self.old.world) }
         ensures unchanged { IfErr result (λ fault. fault ≢ Device → self.new.torn ≡ self.old.torn) }
         ensures untouched { IsErrOf result CommitFault.Stopped → self.new ≡ self.old }
 
         // When it is refused.
         ensures stopped { IsErrOf result CommitFault.Stopped ↔ (has_stopped self.old ≡ true) }
-        ensures fault { IfErr result (λ fault. (fault ≡ Stopped) ⊎ ((fault ≡ OutOfMemory) ⊎ (fault ≡ Device))) }
-        ensures failures { D.failures self.new.disk ≡ D.failures self.old.disk + failures_in result }
-        ensures calls { D.keeps_model self.old.disk ≡ true → D.clock self.new.disk ≤ D.clock self.old.disk + 8 }
+        ensures fault { IfErr result (λ fault. (fault ≡ Stopped) ⊎
+            ((fault ≡ OutOfMemory) ⊎ (fault ≡ Device))) }
+        ensures failures { D.failures self.new.disk ≡
+            D.failures self.old.disk + failures_in result }
+        ensures calls { D.keeps_model self.old.disk ≡ true →
+            D.clock self.new.disk ≤ D.clock self.old.disk + 8 }
 
         // Where the body of the batch fits behind what is there, no checkpoint is made.
-        ensures calls_where_it_fits { (half : ℕ) (body : List ℕ) → D.keeps_model self.old.disk ≡ true → self.old.torn ≡ None → IsBody self.old.world body steps.now → HasPlaceIn half (length body) (D.present self.old.disk).read
+        ensures calls_where_it_fits { (half : ℕ) (body : List ℕ) →
+            D.keeps_model self.old.disk ≡ true → self.old.torn ≡ None →
+            IsBody self.old.world body steps.now →
+            HasPlaceIn half (length body) (D.present self.old.disk).read
             → D.clock self.new.disk ≤ D.clock self.old.disk + 4 }
-        ensures half_where_it_fits { (half : ℕ) (body : List ℕ) → D.keeps_model self.old.disk ≡ true → self.old.torn ≡ None → IsBody self.old.world body steps.now → HasPlaceIn half (length body) (D.present self.old.disk).read
+        ensures half_where_it_fits { (half : ℕ) (body : List ℕ) →
+            D.keeps_model self.old.disk ≡ true → self.old.torn ≡ None →
+            IsBody self.old.world body steps.now →
+            HasPlaceIn half (length body) (D.present self.old.disk).read
             → OnOk result (IsTextIn half (D.present self.new.disk).read) }
         ensures model { D.keeps_model self.new.disk ≡ D.keeps_model self.old.disk }
     {

@@ -21,14 +21,18 @@ impl<D: Disk> Store<D> {
     pub fn migrate(&mut self) -> Result<(), StoreFault>
         // A crash at any moment of the call leaves what gives the world in one version or the other, and where it is refused for memory the one from before it.
         ensures any_moment { D.keeps_model self.old.disk ≡ true → self.old.torn ≡ None
-            → LeavesOnly D.clock D.left_since self.old.disk self.new.disk (GivesEither self.old.world (risen self.old.world)) }
+            → LeavesOnly D.clock D.left_since self.old.disk self.new.disk
+            (GivesEither self.old.world (risen self.old.world)) }
         ensures any_moment_refused { D.keeps_model self.old.disk ≡ true → self.old.torn ≡ None
-            → IfErr result (λ fault. fault ≢ Device → LeavesOnly D.clock D.left_since self.old.disk self.new.disk (IsOnlyWorld self.old.world)) }
+            → IfErr result (λ fault. fault ≢ Device →
+            LeavesOnly D.clock D.left_since self.old.disk self.new.disk
+            (IsOnlyWorld self.old.world)) }
 
         // What the store is then.
         ensures world { OnOk result (self.new.world ≡ risen self.old.world) }
         ensures going { OnOk result (self.new.torn ≡ None) }
-        ensures torn { IsErrOf result StoreFault.Device → self.new.torn ≡ Some (risen self.old.world) }
+        ensures torn { IsErrOf result StoreFault.Device →
+            self.new.torn ≡ Some (risen self.old.world) }
         ensures same_world { IfErr result (λ fault. self.new.world ≡ self.old.world) }
         ensures unchanged { IfErr result (λ fault. fault ≢ Device → self.new ≡ self.old) }
         ensures again { self.old.world.version ≡ 2 → OnOk result (self.new ≡ self.old) }
@@ -36,8 +40,10 @@ impl<D: Disk> Store<D> {
         // When it is refused, in this order.
         ensures stopped { IsErrOf result StoreFault.Stopped ↔ (has_stopped self.old ≡ true) }
         ensures fault { IfErr result (RefusesMigration self.old.world) }
-        ensures failures { D.failures self.new.disk ≡ D.failures self.old.disk + failures_in result }
-        ensures calls { D.keeps_model self.old.disk ≡ true → D.clock self.new.disk ≤ D.clock self.old.disk + 4 }
+        ensures failures { D.failures self.new.disk ≡
+            D.failures self.old.disk + failures_in result }
+        ensures calls { D.keeps_model self.old.disk ≡ true →
+            D.clock self.new.disk ≤ D.clock self.old.disk + 4 }
         ensures model { D.keeps_model self.new.disk ≡ D.keeps_model self.old.disk }
     {
         if self.torn.is_some() {

@@ -40,7 +40,8 @@ fn nodes_of(
     rows: &[NodeRow],
     near: &Neighbours,
 ) -> Result<Vec<(NodeId, Node)>, AllocError>
-    ensures { IfOk result (λ nodes. nodes.items ≡ map (entry_with version (near_in near.now.sets)) rows.now) }
+    ensures { IfOk result (λ nodes. nodes.items ≡
+        map (entry_with version (near_in near.now.sets)) rows.now) }
 {
     let mut nodes = Vec::with_capacity(alloc, rows.len())?;
     for row in rows {

@@ -57,7 +57,9 @@ fn node_row(id: NodeId, node: &Node) -> NodeRow
 
 /// One row for the two lanes of each link.
 fn link_rows(alloc: Global, lanes: &LaneTable) -> Result<Vec<LinkRow>, AllocError>
-    ensures { IfOk result (λ links. links.items ≡ map (link_row (record (no_world 1) { lanes = lanes.now })) (where_key pair_cmp goes_up (table.entries lanes.now))) }
+    ensures { IfOk result (λ links. links.items ≡
+        map (link_row (record (no_world 1) { lanes = lanes.now }))
+        (where_key pair_cmp goes_up (table.entries lanes.now))) }
 {
     let mut links = Vec::new(alloc);
     for entry in lanes.entries() {

@@ -40,7 +40,8 @@ impl Neighbours {
 
 /// Notes a neighbour of a node.
 fn note(sets: &mut [NodeSet; NODES], id: NodeId, neighbour: NodeId)
-    ensures set { sets.new ≡ slice_set sets.old (id - 1) (set.insert (near_in sets.old id) neighbour) }
+    ensures set { sets.new ≡ slice_set sets.old (id - 1)
+        (set.insert (near_in sets.old id) neighbour) }
     ensures node { IsNode id }
 {
     let place = usize::from(id.number() - 1);

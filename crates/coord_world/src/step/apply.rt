@@ -21,7 +21,8 @@ impl Tables {
         requires { IsReadyFor self.old step.now }
         ensures world { OnOk result (self.new ≡ next self.old step.now) }
         ensures reply { IfOk result (λ outcome. outcome.reply ≡ reply self.old step.now) }
-        ensures outputs { IfOk result (λ outcome. outcome.outputs.items ≡ outputs self.old step.now) }
+        ensures outputs { IfOk result (λ outcome. outcome.outputs.items ≡
+            outputs self.old step.now) }
         ensures err { OnErr result (self.new ≡ self.old) }
     {
         let reply = self.reply_to(step);
@@ -38,8 +39,12 @@ impl Tables {
         reply: Reply,
     ) -> Result<Vec<Output>, AllocError>
         requires { IsReadyFor self.old step.now }
-        ensures world { OnOk result (self.new ≡ with_reply (with_transitions (prepared self.old step.now) (transitions (state self.old) step.now)) reply step.now) }
-        ensures outputs { IfOk result (λ outputs. outputs.items ≡ receipts step.now ++ signals (transitions (state self.old) step.now) ++ new_fronts self.old step.now) }
+        ensures world { OnOk result (self.new ≡
+            with_reply (with_transitions (prepared self.old step.now)
+            (transitions (state self.old) step.now)) reply step.now) }
+        ensures outputs { IfOk result (λ outputs. outputs.items ≡
+            receipts step.now ++ signals (transitions (state self.old) step.now) ++
+            new_fronts self.old step.now) }
         ensures err { OnErr result (self.new ≡ self.old) }
     {
         match *step {
@@ -86,8 +91,13 @@ impl Tables {
         reply: Reply,
     ) -> Result<Vec<Output>, AllocError>
         requires { IsReadyFor self.old (Step.Order client number command.now) }
-        ensures world { OnOk result (self.new ≡ with_reply (with_transitions (with_command self.old command.now) (transitions_ordered (state self.old) command.now)) reply (Step.Order client number command.now)) }
-        ensures outputs { IfOk result (λ outputs. outputs.items ≡ signals (transitions_ordered (state self.old) command.now) ++ fronts_ordered self.old command.now) }
+        ensures world { OnOk result (self.new ≡
+            with_reply (with_transitions (with_command self.old command.now)
+            (transitions_ordered (state self.old) command.now)) reply
+            (Step.Order client number command.now)) }
+        ensures outputs { IfOk result (λ outputs. outputs.items ≡
+            signals (transitions_ordered (state self.old) command.now) ++
+            fronts_ordered self.old command.now) }
         ensures err { OnErr result (self.new ≡ self.old) }
     {
         let mut sessions = self.sessions.copy()?;

@@ -34,8 +34,11 @@ impl Tables {
         command: &Command,
     ) -> Result<Vec<Output>, AllocError>
         requires { IsReadyFor self.old (Order client number command.now) }
-        ensures world { OnOk result (self.new ≡ with_transitions (with_command self.old command.now) (transitions_ordered (state self.old) command.now)) }
-        ensures outputs { IfOk result (λ outputs. outputs.items ≡ signals (transitions_ordered (state self.old) command.now) ++ fronts_ordered self.old command.now) }
+        ensures world { OnOk result (self.new ≡ with_transitions (with_command self.old command.now)
+            (transitions_ordered (state self.old) command.now)) }
+        ensures outputs { IfOk result (λ outputs. outputs.items ≡
+            signals (transitions_ordered (state self.old) command.now) ++
+            fronts_ordered self.old command.now) }
         ensures err { OnErr result (self.new ≡ self.old) }
     {
         match *command {
@@ -51,12 +54,27 @@ impl Tables {
 
     /// A node takes the data packet that came.
     pub fn deliver(&mut self, alloc: Global, packet: &DataPacket) -> Result<Vec<Output>, AllocError>
-        requires taken { ForSome (table.get self.old.lanes record { 0 = packet.now.from; 1 = packet.now.to }) (λ l. l.got < 2 ^ 64 - 1) }
-        requires acts { CanApply self.old packet.now.to (transition packet.now.msg (state self.old packet.now.to) packet.now.from) (on_lane self.old packet.now.from packet.now.to took).lanes }
+        requires taken { ForSome (table.get self.old.lanes record {
+          0 = packet.now.from;
+          1 = packet.now.to;
+        }) (λ l. l.got < 2 ^ 64 - 1) }
+        requires acts { CanApply self.old packet.now.to
+            (transition packet.now.msg (state self.old packet.now.to) packet.now.from)
+            (on_lane self.old packet.now.from packet.now.to took).lanes }
         requires numbered { AreNumbered self.old.lanes }
         requires near { brought packet.now.msg < 2 ^ 64 - 1 }
-        ensures world { OnOk result (self.new ≡ with_transition (on_lane self.old packet.now.from packet.now.to took) packet.now.to (transition packet.now.msg (state self.old packet.now.to) packet.now.from)) }
-        ensures outputs { IfOk result (λ outputs. outputs.items ≡ Output.Receipted (receipt packet.now) ∷ (signals (record { 0 = packet.now.to; 1 = transition packet.now.msg (state self.old packet.now.to) packet.now.from } ∷ []) ++ fronts_sent self.old.lanes packet.now.to (sends_of (transition packet.now.msg (state self.old packet.now.to) packet.now.from)))) }
+        ensures world { OnOk result (self.new ≡
+            with_transition (on_lane self.old packet.now.from packet.now.to took) packet.now.to
+            (transition packet.now.msg (state self.old packet.now.to) packet.now.from)) }
+        ensures outputs { IfOk result (λ outputs. outputs.items ≡
+            Output.Receipted (receipt packet.now) ∷ (signals
+            (record {
+              0 = packet.now.to;
+              1 = transition packet.now.msg (state self.old packet.now.to) packet.now.from;
+            } ∷ []) ++
+            fronts_sent self.old.lanes packet.now.to
+            (sends_of (transition packet.now.msg
+            (state self.old packet.now.to) packet.now.from)))) }
         ensures err { OnErr result (self.new ≡ self.old) }
     {
         let node_step = self.delivered(alloc, *packet)?;
@@ -72,8 +90,11 @@ impl Tables {
     fn reset(&mut self, alloc: Global, id: NodeId) -> Result<Vec<Output>, AllocError>
         requires acts { CanApply self.old id (request (state self.old id)) self.old.lanes }
         requires numbered { AreNumbered self.old.lanes }
-        ensures world { OnOk result (self.new ≡ with_transition self.old id (request (state self.old id))) }
-        ensures outputs { IfOk result (λ outputs. outputs.items ≡ signals (record { 0 = id; 1 = request (state self.old id) } ∷ []) ++ fronts_sent self.old.lanes id (sends_of (request (state self.old id)))) }
+        ensures world { OnOk result (self.new ≡
+            with_transition self.old id (request (state self.old id))) }
+        ensures outputs { IfOk result (λ outputs. outputs.items ≡
+            signals (record { 0 = id; 1 = request (state self.old id) } ∷ []) ++
+            fronts_sent self.old.lanes id (sends_of (request (state self.old id)))) }
         ensures err { OnErr result (self.new ≡ self.old) }
     {
         let node_step = self.requested(alloc, id)?;
@@ -87,11 +108,20 @@ impl Tables {
     /// The link of two nodes vanishes, first at `a` and then at `b`.
     fn drop_link(&mut self, alloc: Global, a: NodeId, b: NodeId) -> Result<Vec<Output>, AllocError>
         requires linked { IsSome (table.get self.old.lanes record { 0 = a; 1 = b }) }
-        requires first { CanApply self.old a (lost (state self.old a) b) (with_command self.old (Command.Drop a b)).lanes }
-        requires second { CanApply self.old b (lost (state self.old b) a) (with_transition (with_command self.old (Command.Drop a b)) a (lost (state self.old a) b)).lanes }
+        requires first { CanApply self.old a (lost (state self.old a) b)
+            (with_command self.old (Command.Drop a b)).lanes }
+        requires second { CanApply self.old b (lost (state self.old b) a)
+            (with_transition (with_command self.old (Command.Drop a b)) a
+            (lost (state self.old a) b)).lanes }
         requires numbered { AreNumbered self.old.lanes }
-        ensures world { OnOk result (self.new ≡ with_transition (with_transition (with_command self.old (Command.Drop a b)) a (lost (state self.old a) b)) b (lost (state self.old b) a)) }
-        ensures outputs { IfOk result (λ outputs. outputs.items ≡ signals (record { 0 = a; 1 = lost (state self.old a) b } ∷ record { 0 = b; 1 = lost (state self.old b) a } ∷ []) ++ fronts_ordered self.old (Command.Drop a b)) }
+        ensures world { OnOk result (self.new ≡
+            with_transition (with_transition (with_command self.old (Command.Drop a b)) a
+            (lost (state self.old a) b)) b (lost (state self.old b) a)) }
+        ensures outputs { IfOk result (λ outputs. outputs.items ≡
+            signals (record { 0 = a; 1 = lost (state self.old a) b } ∷ record {
+              0 = b;
+              1 = lost (state self.old b) a;
+            } ∷ []) ++ fronts_ordered self.old (Command.Drop a b)) }
         ensures err { OnErr result (self.new ≡ self.old) }
     {
         let first = self.dropped(alloc, a, b)?;
@@ -145,7 +175,8 @@ impl Tables {
 
     /// Notes on a lane that its front was taken.
     fn take_front(&mut self, from: NodeId, to: NodeId)
-        requires { ForSome (table.get self.old.lanes record { 0 = from; 1 = to }) (λ l. l.got < 2 ^ 64 - 1) }
+        requires { ForSome (table.get self.old.lanes record { 0 = from; 1 = to }) (λ l.
+            l.got < 2 ^ 64 - 1) }
         ensures { self.new ≡ on_lane self.old from to took }
     {
         let Some(lane) = self.lanes.get(from, to) else {
@@ -163,10 +194,16 @@ impl Tables {
         from: NodeId,
         to: NodeId,
     ) -> Result<Vec<Output>, AllocError>
-        requires there { ForSome (table.get self.old.lanes record { 0 = from; 1 = to }) (λ l. 0 < length l.queue) }
-        requires numbered { ForSome (table.get self.old.lanes record { 0 = from; 1 = to }) (λ l. l.base < 2 ^ 64 - 2) }
+        requires there { ForSome (table.get self.old.lanes record { 0 = from; 1 = to }) (λ l.
+            0 < length l.queue) }
+        requires numbered { ForSome (table.get self.old.lanes record { 0 = from; 1 = to }) (λ l.
+            l.base < 2 ^ 64 - 2) }
         ensures world { OnOk result (self.new ≡ on_lane self.old from to cleared) }
-        ensures outputs { IfOk result (λ outputs. outputs.items ≡ front_behind (table.get self.old.lanes record { 0 = from; 1 = to }) record { 0 = from; 1 = to }) }
+        ensures outputs { IfOk result (λ outputs. outputs.items ≡
+            front_behind (table.get self.old.lanes record { 0 = from; 1 = to }) record {
+              0 = from;
+              1 = to;
+            }) }
         ensures err { OnErr result (self.new ≡ self.old) }
     {
         let Some(lane) = self.lanes.get(from, to) else {

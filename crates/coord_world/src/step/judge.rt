@@ -58,7 +58,8 @@ impl Tables {
     /// What a command in its turn is answered, or why it is refused.
     #[tactic(auto, using(crate::proofs::acceptance::RefusedOr::passes, crate::proofs::acceptance::RefusedOr::refuses))]
     fn judge_fresh(&self, command: &Command) -> Result<Verdict, Refusal>
-        ensures { result ≡ refused_or (Verdict.Fresh (kind_ordered (state self.now) command.now)) (against_command self.now command.now) }
+        ensures { result ≡ refused_or (Verdict.Fresh (kind_ordered (state self.now) command.now))
+            (against_command self.now command.now) }
     {
         if let Err(refusal) = self.judge_command(command) {
             return Err(refusal);

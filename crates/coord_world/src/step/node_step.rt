@@ -25,7 +25,8 @@ impl Tables {
     pub fn requested(&self, alloc: Global, id: NodeId) -> Result<NodeStep, AllocError>
         requires there { IsSome (table.get self.now.nodes id) }
         requires room { (state self.now id).epoch < 2 ^ 64 - 1 }
-        ensures { IfOk result (λ node_step. IsNodeStepOf node_step id (request (state self.now id))) }
+        ensures { IfOk result (λ node_step.
+            IsNodeStepOf node_step id (request (state self.now id))) }
     {
         let mut node = *self.node(id).unwrap();
         let deed = node.request(alloc)?;
@@ -37,7 +38,9 @@ impl Tables {
         requires there { IsSome (table.get self.now.nodes packet.to) }
         requires room { (state self.now packet.to).epoch < 2 ^ 64 - 1 }
         requires near { brought packet.msg < 2 ^ 64 - 1 }
-        ensures { IfOk result (λ node_step. IsNodeStepOf node_step packet.to (transition packet.msg (state self.now packet.to) packet.from)) }
+        ensures { IfOk result (λ node_step.
+            IsNodeStepOf node_step packet.to
+            (transition packet.msg (state self.now packet.to) packet.from)) }
     {
         let mut node = *self.node(packet.to).unwrap();
         let deed = match packet.msg {
@@ -56,7 +59,8 @@ impl Tables {
     pub fn dropped(&self, alloc: Global, id: NodeId, other: NodeId) -> Result<NodeStep, AllocError>
         requires there { IsSome (table.get self.now.nodes id) }
         requires room { (state self.now id).epoch < 2 ^ 64 - 1 }
-        ensures { IfOk result (λ node_step. IsNodeStepOf node_step id (lost (state self.now id) other)) }
+        ensures { IfOk result (λ node_step.
+            IsNodeStepOf node_step id (lost (state self.now id) other)) }
     {
         let mut node = *self.node(id).unwrap();
         let deed = node.lost(alloc, other)?;

@@ -15,7 +15,8 @@ use std::alloc::{AllocError, Global};
 
 /// Adds the receipt of a data packet.
 pub fn push_receipt(packet: &DataPacket, outputs: &mut Vec<Output>) -> Result<(), AllocError>
-    ensures { OnOk result (outputs.new.items ≡ outputs.old.items ++ Output.Receipted (receipt packet.now) ∷ []) }
+    ensures { OnOk result (outputs.new.items ≡ outputs.old.items ++ Output.Receipted
+        (receipt packet.now) ∷ []) }
 {
     outputs.push(Output::Receipted(ReceiptPacket {
         from: packet.from,
@@ -43,7 +44,9 @@ pub fn push_fronts(
     outputs: &mut Vec<Output>,
 ) -> Result<(), AllocError>
     requires { AreNumbered lanes.now }
-    ensures { OnOk result (outputs.new.items ≡ outputs.old.items ++ fronts_sent lanes.now node_step.now.id node_step.now.deed.sends.items) }
+    ensures { OnOk result (outputs.new.items ≡
+        outputs.old.items ++ fronts_sent lanes.now node_step.now.id
+        node_step.now.deed.sends.items) }
 {
     for send in &node_step.deed.sends {
         push_front(lanes, node_step.id, send.0, send.1, outputs)?;
@@ -59,7 +62,10 @@ pub fn push_fronts_of_both(
     outputs: &mut Vec<Output>,
 ) -> Result<(), AllocError>
     requires { AreNumbered lanes.now }
-    ensures { OnOk result (outputs.new.items ≡ outputs.old.items ++ by_lesser first.now.id second.now.id (fronts_sent lanes.now first.now.id first.now.deed.sends.items) (fronts_sent lanes.now second.now.id second.now.deed.sends.items)) }
+    ensures { OnOk result (outputs.new.items ≡
+        outputs.old.items ++ by_lesser first.now.id second.now.id
+        (fronts_sent lanes.now first.now.id first.now.deed.sends.items)
+        (fronts_sent lanes.now second.now.id second.now.deed.sends.items)) }
 {
     if first.id < second.id {
         push_fronts(lanes, first, outputs)?;
@@ -79,7 +85,11 @@ fn push_front(
     outputs: &mut Vec<Output>,
 ) -> Result<(), AllocError>
     requires { AreNumbered lanes.now }
-    ensures { OnOk result (outputs.new.items ≡ outputs.old.items ++ front_sent (table.get lanes.now record { 0 = from; 1 = to }) record { 0 = from; 1 = to } msg) }
+    ensures { OnOk result (outputs.new.items ≡
+        outputs.old.items ++ front_sent (table.get lanes.now record {
+          0 = from;
+          1 = to;
+        }) record { 0 = from; 1 = to } msg) }
 {
     let Some(lane) = lanes.get(from, to) else {
         return Ok(());
@@ -104,7 +114,8 @@ pub fn front_packets(
     lane: &Lane,
 ) -> Result<Vec<Output>, AllocError>
     requires { lane.now.base < 2 ^ 64 - 1 }
-    ensures { IfOk result (λ outputs. outputs.items ≡ packets_of record { 0 = from; 1 = to } lane.now lane.now.queue) }
+    ensures { IfOk result (λ outputs. outputs.items ≡
+        packets_of record { 0 = from; 1 = to } lane.now lane.now.queue) }
 {
     let Some((number, msg)) = lane.current() else {
         return Ok(Vec::new(alloc));
@@ -122,7 +133,8 @@ pub fn front_packets(
 /// Adds what is sent again on a lane: its front, and its receipt where the front was taken.
 fn push_again(entry: &((NodeId, NodeId), Lane), outputs: &mut Vec<Output>) -> Result<(), AllocError>
     requires { HasNumber entry.now }
-    ensures { OnOk result (outputs.new.items ≡ outputs.old.items ++ again_by entry.now.0 entry.now.1 entry.now.1.queue) }
+    ensures { OnOk result (outputs.new.items ≡
+        outputs.old.items ++ again_by entry.now.0 entry.now.1 entry.now.1.queue) }
 {
     let ((from, to), lane) = *entry;
     let Some((number, msg)) = lane.current() else {
@@ -150,7 +162,8 @@ fn push_again(entry: &((NodeId, NodeId), Lane), outputs: &mut Vec<Output>) -> Re
 /// Adds what is sent again on all lanes, in ascending order.
 pub fn push_all_again(lanes: &LaneTable, outputs: &mut Vec<Output>) -> Result<(), AllocError>
     requires { All HasNumber (table.entries lanes.now) }
-    ensures { OnOk result (outputs.new.items ≡ outputs.old.items ++ all_again (table.entries lanes.now)) }
+    ensures { OnOk result (outputs.new.items ≡
+        outputs.old.items ++ all_again (table.entries lanes.now)) }
 {
     for entry in lanes.entries() {
         push_again(entry, outputs)?;

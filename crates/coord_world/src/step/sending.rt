@@ -17,7 +17,8 @@ impl Tables {
     pub fn carry_out(&mut self, node_step: NodeStep)
         requires there { IsSome (table.get self.old.nodes node_step.id) }
         requires room { CanSend node_step.id node_step.deed.sends.items self.old.lanes }
-        ensures { self.new ≡ node_stepped self.old node_step.id node_step.node node_step.deed.sends.items }
+        ensures { self.new ≡ node_stepped self.old node_step.id node_step.node
+            node_step.deed.sends.items }
     {
         let NodeStep { id, node, deed } = node_step;
         self.nodes.replace(id, node);
@@ -36,7 +37,8 @@ impl Tables {
 
     /// Puts a message into the lane from one node to another.
     fn send(&mut self, from: NodeId, to: NodeId, msg: Msg)
-        requires { ForSome (table.get self.old.lanes record { 0 = from; 1 = to }) (λ l. length l.queue < 4) }
+        requires { ForSome (table.get self.old.lanes record { 0 = from; 1 = to }) (λ l.
+            length l.queue < 4) }
         ensures { self.new ≡ on_lane self.old from to (sent (msg ∷ [])) }
     {
         let Some(lane) = self.lanes.get(from, to) else {

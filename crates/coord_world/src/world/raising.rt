@@ -19,7 +19,8 @@ impl World {
     /// The least node that is not Ready; None where every node is.
     pub fn first_busy(&self) -> Option<NodeId>
         ensures none { result ≡ None → AllReady self.now }
-        ensures some { IfSome result (λ u. (is_ready (state self.now u).mode ≡ false) × ((v : ℕ) → v < u → (state self.now v).mode ≡ Ready)) }
+        ensures some { IfSome result (λ u. (is_ready (state self.now u).mode ≡ false) ×
+            ((v : ℕ) → v < u → (state self.now v).mode ≡ Ready)) }
     {
         self.ranges();
         for number in 1..65u8 {
