@@ -161,7 +161,7 @@ fn take_back(driver: Driver<MemDisk>) -> Result<(Releases, Driver<MemDisk>), Fau
 
 /// Collects the replies of the steps that are settled, and prints each before what its step
 /// released.
-#[tactic(auto, using(crate::proofs::Settling::looked_at))]
+#[tactic(auto, using(crate::proofs::does::Settled::looked_at))]
 fn print_settled(
     ledger: &Ledger<MemDisk>,
     tickets: &mut VecDeque<Ticket>,
@@ -180,7 +180,7 @@ fn print_settled(
     printed
 }
 
-#[tactic(auto, using(crate::proofs::Settling::looked_at))]
+#[tactic(auto, using(crate::proofs::does::Settled::looked_at))]
 fn print_collected(
     ledger: &Ledger<MemDisk>,
     tickets: &mut VecDeque<Ticket>,
@@ -221,7 +221,7 @@ fn next_settled(tickets: &mut VecDeque<Ticket>, settled: u64) -> Option<Ticket>
 }
 
 /// The reply to a step that is settled.
-#[tactic(auto, using(crate::proofs::Settling::collectable))]
+#[tactic(auto, using(crate::proofs::does::Settled::collectable))]
 fn collected(ledger: &Ledger<MemDisk>, ticket: Ticket) -> Reply
     requires granted { IsGranted ledger.now.log ticket }
     requires settled { ticket.step ≤ (settled_world ledger.now.log).count }

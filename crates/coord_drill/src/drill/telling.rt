@@ -17,7 +17,7 @@ use coord_types::Refusal;
 
 impl Drill {
     /// Prints that a lane is not there.
-    #[tactic(auto, using(crate::proofs::Quiet::tells_refusal))]
+    #[tactic(auto, using(crate::proofs::does::LineResponds::tells_refusal))]
     pub(super) fn refuse(&self, refusal: Refusal, text: &mut String) -> Result<(), Fault>
         ensures told { OnOk result (Tells (string_bytes text.old) (string_bytes text.new) (λ told.
             Does (state_of self.now) (ask.Refuse refusal) told (state_of self.now))) }
@@ -28,7 +28,7 @@ impl Drill {
     }
 
     /// Prints that nothing waits on a lane.
-    #[tactic(auto, using(crate::proofs::Quiet::tells_idle))]
+    #[tactic(auto, using(crate::proofs::does::LineResponds::tells_idle))]
     pub(super) fn idle(&self, text: &mut String) -> Result<(), Fault>
         ensures told { OnOk result (Tells (string_bytes text.old) (string_bytes text.new) (λ told.
             Does (state_of self.now) ask.Nothing told (state_of self.now))) }
@@ -39,7 +39,7 @@ impl Drill {
     }
 
     /// Prints what is sent again of the settled world.
-    #[tactic(auto, using(crate::proofs::Quiet::tells_resent, crate::proofs::Settling::resent_lines, crate::proofs::Settling::looked_at))]
+    #[tactic(auto, using(crate::proofs::does::LineResponds::tells_resent, crate::proofs::does::Settled::resent_lines, crate::proofs::does::Settled::looked_at))]
     pub(super) fn resend(&self, text: &mut String) -> Result<(), Fault>
         requires ready { IsReady self.now }
         ensures told { OnOk result (Tells (string_bytes text.old) (string_bytes text.new) (λ told.
@@ -61,7 +61,7 @@ impl Drill {
     }
 
     /// Checks the front world.
-    #[tactic(auto, using(crate::proofs::Quiet::tells_check))]
+    #[tactic(auto, using(crate::proofs::does::LineResponds::tells_check))]
     pub(super) fn check(&self, text: &mut String) -> Result<(), Fault>
         requires ready { IsReady self.now }
         ensures told { OnOk result (Tells (string_bytes text.old) (string_bytes text.new) (λ told.
@@ -77,7 +77,7 @@ impl Drill {
     }
 
     /// Shows the settled world.
-    #[tactic(auto, using(crate::proofs::Quiet::tells_show))]
+    #[tactic(auto, using(crate::proofs::does::LineResponds::tells_show))]
     pub(super) fn show(&self, text: &mut String) -> Result<(), Fault>
         requires ready { IsReady self.now }
         ensures told { OnOk result (Tells (string_bytes text.old) (string_bytes text.new) (λ told.

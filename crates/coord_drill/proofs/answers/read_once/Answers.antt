@@ -1,4 +1,4 @@
-use Rattle.coord_drill.proofs.Answering.{read_told, read_within}
+use Rattle.coord_drill.proofs.prints.Answers.{read_told, read_within}
 use Rattle.coord_drill.proofs.answers.read_once.Goals as goal
 
 pub returns-clause-bytes : goal.returns-clause-bytes

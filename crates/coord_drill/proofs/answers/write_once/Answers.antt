@@ -1,4 +1,4 @@
-use Rattle.coord_drill.proofs.Answering.{write_told, write_within}
+use Rattle.coord_drill.proofs.prints.Answers.{write_told, write_within}
 use Rattle.coord_drill.proofs.answers.write_once.Goals as goal
 
 pub returns-clause-bytes : goal.returns-clause-bytes

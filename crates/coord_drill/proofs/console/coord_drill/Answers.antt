@@ -3,9 +3,9 @@ use Rattle.std.proofs.KnownBytes.{Consumes-nil}
 use Rattle.coord_lines.specs.Lines.{lines_of}
 use Rattle.coord_world.specs.protocol.NumberedWorld.{no_world}
 use Rattle.coord_drill.specs.Drill.{drill_over}
-use Rattle.coord_drill.proofs.FirstParts.{first_part-none}
-use Rattle.coord_drill.proofs.Quiet.{prints_somehow}
-use Rattle.coord_drill.proofs.Taken.{IfErr-by_work, not_of_reading}
+use Rattle.coord_drill.proofs.prints.FirstParts.{first_part-none}
+use Rattle.coord_drill.proofs.does.LineResponds.{prints_somehow}
+use Rattle.coord_drill.proofs.prints.Prints.{IfErr-by_work, not_of_reading}
 use Rattle.coord_drill.proofs.console.coord_drill.Goals as goal
 
 pub returns-in_err-console-clause-failed : goal.returns-in_err-console-clause-failed

@@ -4,9 +4,9 @@ use Rattle.coord_ledger.specs.ledger.Driven.{Driven}
 use Rattle.coord_ledger.specs.ledger.Driver.{IsEventFault, model_of}
 use Rattle.coord_ledger.specs.ledger.State.{started}
 use Rattle.coord_ledger.specs.promises.Headline.{IsCutShort, Ran}
-use Rattle.coord_ledger.proofs.Breaking.{broke_after, broke_first, broke_meeting, caused}
-use Rattle.coord_ledger.proofs.Driving.{Underway, underway_first, underway_on}
-use Rattle.coord_ledger.proofs.Ending.{ran_all}
+use Rattle.coord_ledger.proofs.drives.BreaksOff.{broke_after, broke_first, broke_meeting, caused}
+use Rattle.coord_ledger.proofs.drives.Drives.{Underway, underway_first, underway_on}
+use Rattle.coord_ledger.proofs.drives.Ends.{ran_all}
 use Rattle.coord_ledger.proofs.event_driver.run_events.Goals as goal
 
 -- what a call ensures where it succeeds

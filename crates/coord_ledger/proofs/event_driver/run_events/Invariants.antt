@@ -1,5 +1,5 @@
 use Rattle.std.proofs.Common.{◌+◌, ◌≤◌, length, vec_capacity, vec_len}
-use Rattle.coord_ledger.proofs.Driving.{Underway}
+use Rattle.coord_ledger.proofs.drives.Drives.{Underway}
 use Rattle.coord_ledger.proofs.event_driver.run_events.Given as goal
 
 abbrev pub invariant-loop-at : goal.invariant-loop-at

@@ -1,4 +1,4 @@
-use Rattle.coord_ledger.proofs.Safe as law
+use Rattle.coord_ledger.proofs.machine.Safe as law
 use Rattle.coord_ledger.proofs.laws.prefix_from_images.Goals as goal
 
 pub returns : goal.returns

@@ -1,4 +1,4 @@
-use Rattle.coord_ledger.proofs.Judging as law
+use Rattle.coord_ledger.proofs.machine.Verdicts as law
 use Rattle.coord_ledger.proofs.laws.submit_order.Goals as goal
 
 pub returns : goal.returns

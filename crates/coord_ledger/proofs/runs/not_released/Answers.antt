@@ -1,4 +1,4 @@
-use Rattle.coord_ledger.proofs.WorkedRuns.{not_released}
+use Rattle.coord_ledger.proofs.machine.WorkedRuns.{not_released}
 use Rattle.coord_ledger.proofs.runs.not_released.Goals as goal
 
 pub returns : goal.returns

@@ -1,4 +1,4 @@
-use Rattle.coord_ledger.proofs.WorkedRuns.{sessions_after_crash}
+use Rattle.coord_ledger.proofs.machine.WorkedRuns.{sessions_after_crash}
 use Rattle.coord_ledger.proofs.runs.sessions_after_crash.Goals as goal
 
 pub returns : goal.returns

@@ -1,4 +1,4 @@
-use Rattle.coord_ledger.proofs.WorkedRuns.{signalled_before}
+use Rattle.coord_ledger.proofs.machine.WorkedRuns.{signalled_before}
 use Rattle.coord_ledger.proofs.runs.signalled_before.Goals as goal
 
 pub returns : goal.returns

@@ -1,4 +1,4 @@
-use Rattle.coord_ledger.proofs.WorkedRuns.{tried_again}
+use Rattle.coord_ledger.proofs.machine.WorkedRuns.{tried_again}
 use Rattle.coord_ledger.proofs.runs.tried_again.Goals as goal
 
 pub returns : goal.returns

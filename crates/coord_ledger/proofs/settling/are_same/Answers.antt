@@ -1,5 +1,5 @@
 use Rattle.std.proofs.lemmas.Slice.Eq.{slice_eq-Decides}
-use Rattle.coord_ledger.proofs.SameSteps.{step_eq}
+use Rattle.coord_ledger.proofs.follows.SameSteps.{step_eq}
 use Rattle.coord_ledger.proofs.settling.are_same.Goals as goal
 
 pub returns : goal.returns

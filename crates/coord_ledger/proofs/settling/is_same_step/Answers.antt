@@ -1,6 +1,6 @@
 use Rattle.std.proofs.Common.{◌≡◌, Bool, subst, sym}
 use Rattle.std.specs.Bool.{Decides}
-use Rattle.coord_ledger.proofs.SameSteps.{step_eq}
+use Rattle.coord_ledger.proofs.follows.SameSteps.{step_eq}
 use Rattle.coord_ledger.proofs.settling.is_same_step.Goals as goal
 
 pub returns : goal.returns

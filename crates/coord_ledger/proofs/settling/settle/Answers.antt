@@ -6,7 +6,7 @@ use Rattle.coord_world.specs.protocol.NumberedWorld.{World}
 use Rattle.coord_world.specs.protocol.Outputs.{outputs, outs}
 use Rattle.coord_ledger.specs.machine.After.{release_of, releases_of}
 use Rattle.coord_store.proofs.Freshness.{fold-take, fresh_over_itself, take-push}
-use Rattle.coord_ledger.proofs.ReleasedSteps.{releases-push}
+use Rattle.coord_ledger.proofs.machine.ReleasedSteps.{releases-push}
 use Rattle.coord_ledger.proofs.settling.settle.Goals as goal
 
 pub apply-requires-clause-fresh : goal.apply-requires-clause-fresh

@@ -2,8 +2,8 @@ use Rattle.std.proofs.Common.{◌++◌, ◌+◌, [], rules}
 use Rattle.coord_lines.specs.Lines.{lines_on}
 use Rattle.coord_drill.specs.Drilled.{Prints}
 use Rattle.coord_drill.specs.Holding.{state_of}
-use Rattle.coord_drill.proofs.Quiet.{prints_somehow}
-use Rattle.coord_drill.proofs.Taken.{prints-so_far, put_cut, put_failed, put_printed}
+use Rattle.coord_drill.proofs.does.LineResponds.{prints_somehow}
+use Rattle.coord_drill.proofs.prints.Prints.{prints-so_far, put_cut, put_failed, put_printed}
 use Rattle.coord_drill.proofs.console.Console.answer.Goals as goal
 
 pub returns-in_err-write_text-clause-failed : goal.returns-in_err-write_text-clause-failed

@@ -1,6 +1,6 @@
 use Rattle.std.proofs.Common.{◌+◌, rules, string_bytes}
 use Rattle.coord_drill.specs.Holding.{state_of}
-use Rattle.coord_drill.proofs.Taken.{line_failed, line_unwritten}
+use Rattle.coord_drill.proofs.prints.Prints.{line_failed, line_unwritten}
 use Rattle.coord_drill.proofs.console.Console.end_line.Goals as goal
 
 pub returns-in_err-answer_line-clause-failed : goal.returns-in_err-answer_line-clause-failed

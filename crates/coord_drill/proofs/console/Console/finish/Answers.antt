@@ -1,8 +1,8 @@
 use Rattle.std.proofs.Common.{◌+◌, rules}
 use Rattle.std.proofs.KnownBytes.{Appends-kept}
 use Rattle.coord_drill.specs.Holding.{state_of}
-use Rattle.coord_drill.proofs.Taken.{end_failed, prints-end}
-use Rattle.coord_drill.proofs.FirstParts.{first_part-all}
+use Rattle.coord_drill.proofs.prints.Prints.{end_failed, prints-end}
+use Rattle.coord_drill.proofs.prints.FirstParts.{first_part-all}
 use Rattle.coord_drill.proofs.console.Console.finish.Goals as goal
 
 pub returns-in_err-end_line-clause-failed : goal.returns-in_err-end_line-clause-failed

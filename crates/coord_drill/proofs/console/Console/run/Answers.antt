@@ -4,9 +4,9 @@ use Rattle.std.specs.Io.KnownBytes.{IsAtEnd}
 use Rattle.coord_lines.specs.Lines.{lines_on}
 use Rattle.coord_drill.specs.Drilled.{Prints}
 use Rattle.coord_drill.specs.Holding.{state_of}
-use Rattle.coord_drill.proofs.FirstParts.{first_part-after, first_part-whole}
-use Rattle.coord_drill.proofs.Quiet.{prints_somehow}
-use Rattle.coord_drill.proofs.Taken.{prints-so_far, prints-whole, Consumes-none, not_of_reading, IfErr-of_piece, IfErr-of_work}
+use Rattle.coord_drill.proofs.prints.FirstParts.{first_part-after, first_part-whole}
+use Rattle.coord_drill.proofs.does.LineResponds.{prints_somehow}
+use Rattle.coord_drill.proofs.prints.Prints.{prints-so_far, prints-whole, Consumes-none, not_of_reading, IfErr-of_piece, IfErr-of_work}
 use Rattle.coord_drill.proofs.console.Console.run.Goals as goal
 
 pub loop-init : goal.loop-init

@@ -4,9 +4,9 @@ use Rattle.coord_lines.specs.Lines.{lines_on}
 use Rattle.coord_lines.proofs.LinesOn.{behind-shorter}
 use Rattle.coord_drill.specs.Drilled.{Prints}
 use Rattle.coord_drill.specs.Holding.{state_of}
-use Rattle.coord_drill.proofs.FirstParts.{first_part-after, first_part-longer}
-use Rattle.coord_drill.proofs.Quiet.{prints_somehow}
-use Rattle.coord_drill.proofs.Taken.{piece_part, prints-ended, prints-so_far, prints-unended}
+use Rattle.coord_drill.proofs.prints.FirstParts.{first_part-after, first_part-longer}
+use Rattle.coord_drill.proofs.does.LineResponds.{prints_somehow}
+use Rattle.coord_drill.proofs.prints.Prints.{piece_part, prints-ended, prints-so_far, prints-unended}
 use Rattle.coord_drill.proofs.console.Console.take.Goals as goal
 
 pub returns-in_err-end_line-clause-failed : goal.returns-in_err-end_line-clause-failed

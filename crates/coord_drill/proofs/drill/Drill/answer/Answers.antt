@@ -6,8 +6,8 @@ use Rattle.coord_drill.specs.Asked.{asked}
 use Rattle.coord_drill.specs.Holding.{front_of}
 use Rattle.coord_drill.specs.Moments.{IsRun, MovesFrom}
 use Rattle.coord_drill.specs.declared.asked.Asked.TheVariants as ask
-use Rattle.coord_drill.proofs.Doing.{home_is}
-use Rattle.coord_drill.proofs.Moments.{moves_made, moves_to, on_ok_all, still}
+use Rattle.coord_drill.proofs.does.Does.{home_is}
+use Rattle.coord_drill.proofs.does.Moments.{moves_made, moves_to, on_ok_all, still}
 use Rattle.coord_drill.proofs.drill.Drill.answer.Goals as goal
 
 pub begins-requires : goal.begins-requires

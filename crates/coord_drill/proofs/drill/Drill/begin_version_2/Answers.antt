@@ -5,8 +5,8 @@ use Rattle.coord_ledger.specs.ledger.Driven.{Driven}
 use Rattle.coord_drill.specs.Answered.{Does}
 use Rattle.coord_drill.specs.Holding.{IsHeld, IsMade, IsReadyWith, drill_of, state_of}
 use Rattle.coord_drill.specs.declared.asked.Asked.TheVariants.{Version2}
-use Rattle.coord_drill.proofs.Doing.{new_held, state_with}
-use Rattle.coord_drill.proofs.Quiet.{does_begin}
+use Rattle.coord_drill.proofs.does.Does.{new_held, state_with}
+use Rattle.coord_drill.proofs.does.LineResponds.{does_begin}
 use Rattle.coord_drill.proofs.drill.Drill.begin_version_2.Goals as goal
 
 pub over-driver-requires : goal.over-driver-requires

@@ -10,9 +10,9 @@ use Rattle.coord_drill.specs.Answered.{Does}
 use Rattle.coord_drill.specs.Holding.{IsReadyWith, drill_of}
 use Rattle.coord_drill.specs.Printed.{opened_line}
 use Rattle.coord_drill.specs.declared.asked.Asked.TheVariants.{Crash}
-use Rattle.coord_drill.proofs.Crashing.{crash_held, crash_told, has_model, home_left, opened_count, reopened}
-use Rattle.coord_drill.proofs.Doing.{held_is, home_is, state_with, tells_of}
-use Rattle.coord_drill.proofs.Moments.{goes_on, run_on}
+use Rattle.coord_drill.proofs.does.ReopenedTo.{crash_held, crash_told, has_model, home_left, opened_count, reopened}
+use Rattle.coord_drill.proofs.does.Does.{held_is, home_is, state_with, tells_of}
+use Rattle.coord_drill.proofs.does.Moments.{goes_on, run_on}
 use Rattle.coord_drill.proofs.drill.Drill.crash.Goals as goal
 
 pub returns-clause-ready : goal.returns-clause-ready

@@ -2,7 +2,7 @@ use Rattle.std.proofs.Common.{◌≡◌, ◌++◌, ap, ◌∙◌, append_assoc, 
 use Rattle.coord_ledger.specs.machine.Log.{settled_world}
 use Rattle.coord_drill.specs.Holding.{state_of}
 use Rattle.coord_drill.specs.Printed.{count_line}
-use Rattle.coord_drill.proofs.Doing.{does_flush}
+use Rattle.coord_drill.proofs.does.Does.{does_flush}
 use Rattle.coord_drill.proofs.drill.Drill.flush.Goals as goal
 
 pub returns-clause-told : goal.returns-clause-told

@@ -7,9 +7,9 @@ use Rattle.coord_ledger.specs.ledger.State.{LedgerState}
 use Rattle.coord_ledger.specs.machine.Log.{log_over, settled_world}
 use Rattle.coord_drill.specs.Answered.{Flies}
 use Rattle.coord_drill.specs.Holding.{AreGranted, IsReadyWith, drill_of, flown_lines, left_by}
-use Rattle.coord_drill.proofs.Doing.{held_is, home_is, state_with, tells_of}
-use Rattle.coord_drill.proofs.Flying.{flown_granted, flown_held, flown_told}
-use Rattle.coord_drill.proofs.Moments.{goes_on}
+use Rattle.coord_drill.proofs.does.Does.{held_is, home_is, state_with, tells_of}
+use Rattle.coord_drill.proofs.does.FlownTo.{flown_granted, flown_held, flown_told}
+use Rattle.coord_drill.proofs.does.Moments.{goes_on}
 use Rattle.coord_drill.proofs.drill.Drill.fly.Goals as goal
 
 pub send_out-requires : goal.send_out-requires

@@ -1,5 +1,5 @@
 use Rattle.coord_drill.specs.Holding.{state_of}
-use Rattle.coord_drill.proofs.Quiet.{does_hold}
+use Rattle.coord_drill.proofs.does.LineResponds.{does_hold}
 use Rattle.coord_drill.proofs.drill.Drill.hold.Goals as goal
 
 pub returns-clause-told : goal.returns-clause-told

@@ -3,7 +3,7 @@ use Rattle.coord_disk.specs.declared.memory.MemDisk.{MemDisk}
 use Rattle.coord_world.specs.protocol.NumberedWorld.{no_world}
 use Rattle.coord_ledger.specs.ledger.Driven.{Driven}
 use Rattle.coord_drill.specs.Holding.{IsHeld, drill_of}
-use Rattle.coord_drill.proofs.Doing.{new_held}
+use Rattle.coord_drill.proofs.does.Does.{new_held}
 use Rattle.coord_drill.proofs.drill.Drill.new.Goals as goal
 
 pub over-requires : goal.over-requires

@@ -10,9 +10,9 @@ use Rattle.coord_drill.specs.Answered.{Does, kept_line}
 use Rattle.coord_drill.specs.Holding.{IsHeld, drill_of, state_of}
 use Rattle.coord_drill.specs.Printed.{pending_line, refusal_line}
 use Rattle.coord_drill.specs.declared.asked.Asked.TheVariants.{Submit}
-use Rattle.coord_drill.proofs.Doing.{held_is, home_is, tells_of}
-use Rattle.coord_drill.proofs.Handing.{accepted_held, held_told, refused_told, repeated_granted, repeated_told, settled_told}
-use Rattle.coord_drill.proofs.Moments.{goes_on, goes_then, run_aside}
+use Rattle.coord_drill.proofs.does.Does.{held_is, home_is, tells_of}
+use Rattle.coord_drill.proofs.does.HandedTo.{accepted_held, held_told, refused_told, repeated_granted, repeated_told, settled_told}
+use Rattle.coord_drill.proofs.does.Moments.{goes_on, goes_then, run_aside}
 use Rattle.coord_drill.proofs.drill.Drill.submit.Goals as goal
 
 pub returns-then-self-clause-ready : goal.returns-then-self-clause-ready

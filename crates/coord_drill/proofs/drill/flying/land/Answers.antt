@@ -2,8 +2,8 @@ use Rattle.std.proofs.Common.{subst}
 use Rattle.coord_ledger.specs.declared.events.Event.TheVariants.{Commit}
 use Rattle.coord_ledger.specs.ledger.Driven.{CommitsTo}
 use Rattle.coord_drill.specs.Moments.{GoesOnTo}
-use Rattle.coord_drill.proofs.Flying.{lands_failed, lands_settled}
-use Rattle.coord_drill.proofs.Moments.{run_on}
+use Rattle.coord_drill.proofs.does.FlownTo.{lands_failed, lands_settled}
+use Rattle.coord_drill.proofs.does.Moments.{run_on}
 use Rattle.coord_drill.proofs.drill.flying.land.Goals as goal
 use Rattle.coord_drill.proofs.drill.flying.land.Goals.{in-Committed, in-Failed, in_default+in-Filled-1, in_default+in-Lost-1}
 

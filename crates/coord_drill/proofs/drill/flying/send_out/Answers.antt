@@ -4,8 +4,8 @@ use Rattle.coord_ledger.specs.declared.events.Event.TheVariants.{Begin}
 use Rattle.coord_ledger.specs.ledger.Calls.{next_flight, with_out}
 use Rattle.coord_ledger.specs.ledger.Driven.{Driven, SendsOut}
 use Rattle.coord_drill.specs.Moments.{GoesOnTo}
-use Rattle.coord_drill.proofs.Flying.{flown_to, landed_as, landed_home}
-use Rattle.coord_drill.proofs.Moments.{if_ok_more, run_aside}
+use Rattle.coord_drill.proofs.does.FlownTo.{flown_to, landed_as, landed_home}
+use Rattle.coord_drill.proofs.does.Moments.{if_ok_more, run_aside}
 use Rattle.coord_drill.proofs.drill.flying.send_out.Goals as goal
 use Rattle.coord_drill.proofs.drill.flying.send_out.Goals.{in-Begun, in-Nothing, in_default+in-Filled-1, in_default+in-Lost-1}
 

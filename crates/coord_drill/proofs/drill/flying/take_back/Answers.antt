@@ -3,7 +3,7 @@ use Rattle.coord_ledger.specs.declared.events.Answer.TheVariants.{Finished}
 use Rattle.coord_ledger.specs.declared.events.Event.TheVariants.{Finish}
 use Rattle.coord_ledger.specs.ledger.Driven.{FinishesTo, LandsTo, with_releases}
 use Rattle.coord_ledger.specs.machine.Log.{settled_count}
-use Rattle.coord_drill.proofs.Moments.{run_aside}
+use Rattle.coord_drill.proofs.does.Moments.{run_aside}
 use Rattle.coord_drill.proofs.drill.flying.take_back.Goals as goal
 
 pub returns-in-Ok-Some-clause-landed : goal.returns-in-Ok-Some-clause-landed

@@ -6,9 +6,9 @@ use Rattle.coord_ledger.specs.declared.events.Event.TheVariants.{Begin}
 use Rattle.coord_ledger.specs.ledger.Driven.{Driven, SendsOut, at_home, held}
 use Rattle.coord_ledger.specs.ledger.Follows.{Follows, FollowsTo, HoldsFlight}
 use Rattle.coord_ledger.specs.ledger.State.{FlightState, LedgerState}
-use Rattle.coord_ledger.proofs.Calling.{follows_next}
-use Rattle.coord_ledger.proofs.FollowingFlights.{follows_not_begun, follows_nothing}
-use Rattle.coord_ledger.proofs.RunningFlights.{begun_err, begun_none, begun_some, begun_to, departs_own}
+use Rattle.coord_ledger.proofs.follows.FollowsCalls.{follows_next}
+use Rattle.coord_ledger.proofs.follows.FollowsFlights.{follows_not_begun, follows_nothing}
+use Rattle.coord_ledger.proofs.drives.Flights.{begun_err, begun_none, begun_some, begun_to, departs_own}
 use Rattle.coord_ledger.proofs.driver.Driver.begin.Goals as goal
 use Rattle.coord_ledger.proofs.driver.Driver.begin.Goals.{in-Ok-Some, in-Ok-None, in-Err}
 

@@ -4,7 +4,7 @@ use Rattle.coord_ledger.specs.ledger.Driven.{Driven, nothing_beside}
 use Rattle.coord_ledger.specs.ledger.Follows.{HoldsFlight}
 use Rattle.coord_ledger.specs.ledger.State.{LedgerState}
 use Rattle.coord_ledger.specs.machine.Consistent.{IsConsistentLog}
-use Rattle.coord_ledger.proofs.Driving.{drives_first}
+use Rattle.coord_ledger.proofs.drives.Drives.{drives_first}
 use Rattle.coord_ledger.proofs.driver.Driver.begins.Goals as goal
 
 pub returns : goal.returns

@@ -5,8 +5,8 @@ use Rattle.coord_ledger.specs.ledger.Driver.{HeldTouches, disk_with}
 use Rattle.coord_ledger.specs.ledger.Driven.{CommitsTo, Driven, disk_driven, held}
 use Rattle.coord_ledger.specs.promises.Headline.{found_by_crash}
 use Rattle.coord_ledger.specs.promises.Moments.{touches_disk}
-use Rattle.coord_ledger.proofs.Moments.{commit_touches, held_untouched, told}
-use Rattle.coord_ledger.proofs.RunningFlights.{committed}
+use Rattle.coord_ledger.proofs.drives.EachMoment.{commit_touches, held_untouched, told}
+use Rattle.coord_ledger.proofs.drives.Flights.{committed}
 use Rattle.coord_ledger.proofs.driver.Driver.commit.Goals as goal
 use Rattle.coord_ledger.proofs.driver.Driver.commit.Goals.{in-None, in-Some+in-Ok, in-Some+in-Err}
 

@@ -6,9 +6,9 @@ use Rattle.coord_ledger.specs.declared.events.Event.TheVariants.{Crash}
 use Rattle.coord_ledger.specs.ledger.Driven.{Driven, IsLeftByCrash, after_crash, at_home, disk_driven, held, model_driven}
 use Rattle.coord_ledger.specs.ledger.Follows.{FollowsTo, flight_out}
 use Rattle.coord_ledger.specs.machine.Answers.{kept_by}
-use Rattle.coord_ledger.proofs.FollowingCrashes.{images_follow}
-use Rattle.coord_ledger.proofs.Meeting.{crash_fault, follows_reopened, left_by_crash, some_is}
-use Rattle.coord_ledger.proofs.Moments.{crash_lost, crash_touches}
+use Rattle.coord_ledger.proofs.follows.FollowsCrashes.{images_follow}
+use Rattle.coord_ledger.proofs.drives.FollowsTo.{crash_fault, follows_reopened, left_by_crash, some_is}
+use Rattle.coord_ledger.proofs.drives.EachMoment.{crash_lost, crash_touches}
 use Rattle.coord_ledger.proofs.driver.Driver.crash.Goals as goal
 
 pub returns-in-Ok-clause-answered : goal.returns-in-Ok-clause-answered

@@ -6,7 +6,7 @@ use Rattle.coord_ledger.specs.ledger.Driven.{Driven}
 use Rattle.coord_ledger.specs.ledger.Follows.{HoldsFlight, ImagesGive, flight_out}
 use Rattle.coord_ledger.specs.ledger.State.{FlightState}
 use Rattle.coord_ledger.specs.machine.Answers.{kept_by}
-use Rattle.coord_ledger.proofs.Calling.{flight_images, ledger_images}
+use Rattle.coord_ledger.proofs.follows.FollowsCalls.{flight_images, ledger_images}
 use Rattle.coord_ledger.proofs.driver.Driver.into_disk.Goals as goal
 
 pub returns-in-Some-clause-images : goal.returns-in-Some-clause-images

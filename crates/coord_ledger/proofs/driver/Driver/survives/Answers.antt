@@ -3,7 +3,7 @@ use Rattle.std.specs.Prelude.{◌≡◌, IfSome}
 use Rattle.coord_ledger.specs.ledger.Calls.{LedgerGives}
 use Rattle.coord_ledger.specs.ledger.Driven.{Driven, held}
 use Rattle.coord_ledger.specs.ledger.State.{LedgerState}
-use Rattle.coord_ledger.proofs.Moments.{flight_survives, home_survives}
+use Rattle.coord_ledger.proofs.drives.EachMoment.{flight_survives, home_survives}
 use Rattle.coord_ledger.proofs.driver.Driver.survives.Goals as goal
 
 pub returns-in-Some : goal.returns-in-Some

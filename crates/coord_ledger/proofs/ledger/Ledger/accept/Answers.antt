@@ -2,7 +2,7 @@ use Rattle.std.proofs.Common.{◌≡◌, ◌++◌, ◌∷◌, [], Ok, sym, ap, �
 use Rattle.coord_world.specs.declared.verdicts.Verdict.TheVariants.{Fresh}
 use Rattle.coord_ledger.specs.ledger.Calls.{ledger_verdict}
 use Rattle.coord_ledger.specs.ledger.State.{LedgerState}
-use Rattle.coord_ledger.proofs.Holding.{fresh_front, legal_front, took_step}
+use Rattle.coord_ledger.proofs.follows.Kept.{fresh_front, legal_front, took_step}
 use Rattle.coord_ledger.proofs.ledger.Ledger.accept.Goals as goal
 
 pub apply-requires-clause-legal : goal.apply-requires-clause-legal

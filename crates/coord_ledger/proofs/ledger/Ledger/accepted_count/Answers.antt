@@ -1,7 +1,7 @@
 use Rattle.std.proofs.Common.{ap, ◌∙◌}
 use Rattle.coord_ledger.specs.ledger.State.{LedgerState}
 use Rattle.coord_ledger.specs.machine.Log.{accepted_count}
-use Rattle.coord_ledger.proofs.Holding.{counts_front}
+use Rattle.coord_ledger.proofs.follows.Kept.{counts_front}
 use Rattle.coord_ledger.proofs.ledger.Ledger.accepted_count.Goals as goal
 
 pub returns-clause-value : goal.returns-clause-value

@@ -6,8 +6,8 @@ use Rattle.coord_ledger.specs.code.Holding.{IsLedger, disk_at}
 use Rattle.coord_ledger.specs.declared.mark.Mark.TheVariants.{New}
 use Rattle.coord_ledger.specs.ledger.State.{LedgerState}
 use Rattle.coord_ledger.specs.machine.Log.{Log, pending, settled_world}
-use Rattle.coord_ledger.proofs.Holding.{flies}
-use Rattle.coord_ledger.proofs.OwnFlight.{same_away, same_flight}
+use Rattle.coord_ledger.proofs.follows.Kept.{flies}
+use Rattle.coord_ledger.proofs.follows.IsOut.{same_away, same_flight}
 use Rattle.coord_ledger.proofs.ledger.Ledger.begin_flush.Goals as goal
 
 pub invariant_of-result : goal.invariant_of-result

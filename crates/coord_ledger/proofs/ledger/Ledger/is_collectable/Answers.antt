@@ -1,7 +1,7 @@
 use Rattle.std.proofs.Common.{◌≤◌, ap, subst, sym, arith}
 use Rattle.coord_ledger.specs.ledger.State.{Claim, IsCollectable, LedgerState}
 use Rattle.coord_ledger.specs.machine.Log.{Log}
-use Rattle.coord_ledger.proofs.Collecting.{kept_collectable, old_kept}
+use Rattle.coord_ledger.proofs.follows.Collectable.{kept_collectable, old_kept}
 use Rattle.coord_ledger.proofs.ledger.Ledger.is_collectable.Goals as goal
 
 pub returns-then-ticket-count : goal.returns-then-ticket-count

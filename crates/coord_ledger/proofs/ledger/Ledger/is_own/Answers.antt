@@ -2,7 +2,7 @@ use Rattle.std.proofs.Common.{◌≡◌, ◌+◌, false, is_some, length, take, 
 use Rattle.coord_ledger.specs.ledger.Follows.{IsOut}
 use Rattle.coord_ledger.specs.ledger.State.{FlightState, LedgerState}
 use Rattle.coord_ledger.specs.machine.Log.{Log, settled_count}
-use Rattle.coord_ledger.proofs.OwnFlight.{flight_of, ledger_of, own_is, own_steps}
+use Rattle.coord_ledger.proofs.follows.IsOut.{flight_of, ledger_of, own_is, own_steps}
 use Rattle.coord_ledger.proofs.ledger.Ledger.is_own.Goals as goal
 
 pub returns : goal.returns

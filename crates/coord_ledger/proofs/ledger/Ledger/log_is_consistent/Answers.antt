@@ -1,6 +1,6 @@
 use Rattle.std.proofs.Common.{◌≡◌, None, IfSome, subst}
 use Rattle.coord_ledger.specs.ledger.State.{LedgerState}
-use Rattle.coord_ledger.proofs.Holding.{stopped_is_home}
+use Rattle.coord_ledger.proofs.follows.Kept.{stopped_is_home}
 use Rattle.coord_ledger.proofs.ledger.Ledger.log_is_consistent.Goals as goal
 
 pub returns-clause-stopped : goal.returns-clause-stopped

@@ -1,6 +1,6 @@
 use Rattle.std.proofs.Common.{◌≡◌, length, rules}
 use Rattle.coord_ledger.specs.declared.mark.Mark.TheVariants.{Torn}
-use Rattle.coord_ledger.proofs.OwnFlight.{took_torn}
+use Rattle.coord_ledger.proofs.follows.IsOut.{took_torn}
 use Rattle.coord_ledger.proofs.ledger.Ledger.take_back.Goals as goal
 
 pub invariant_of-self : goal.invariant_of-self

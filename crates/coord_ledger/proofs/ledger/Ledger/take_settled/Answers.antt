@@ -1,7 +1,7 @@
 use Rattle.std.proofs.Common.{◌≡◌, length, sym, ap, ◌∙◌, rules}
 use Rattle.coord_world.specs.protocol.Next.{fold}
 use Rattle.coord_ledger.specs.ledger.State.{FlightState}
-use Rattle.coord_ledger.proofs.OwnFlight.{took_good}
+use Rattle.coord_ledger.proofs.follows.IsOut.{took_good}
 use Rattle.coord_ledger.proofs.ledger.Ledger.take_settled.Goals as goal
 
 pub invariant_of-self : goal.invariant_of-self

@@ -5,8 +5,8 @@ use Rattle.coord_ledger.specs.declared.events.Event.TheVariants.{Collect}
 use Rattle.coord_ledger.specs.ledger.Follows.{Follows, FollowsTo, Held}
 use Rattle.coord_ledger.specs.ledger.State.{Claim, IsCollectable, LedgerState, reply_of}
 use Rattle.coord_ledger.specs.machine.After.{spent}
-use Rattle.coord_ledger.proofs.FollowingTickets.{follows_collected, follows_no_ticket, follows_waiting}
-use Rattle.coord_ledger.proofs.RunningTickets.{put_back, set_same, spent_is, ticket_past, ticket_within}
+use Rattle.coord_ledger.proofs.follows.FollowsTickets.{follows_collected, follows_no_ticket, follows_waiting}
+use Rattle.coord_ledger.proofs.drives.Tickets.{put_back, set_same, spent_is, ticket_past, ticket_within}
 use Rattle.coord_ledger.proofs.event_driver.run.Run.collect.Goals as goal
 
 pub returns-then-index-len-clause-answered : goal.returns-then-index-len-clause-answered

@@ -4,8 +4,8 @@ use Rattle.coord_ledger.specs.declared.events.Event.TheVariants.{Crash}
 use Rattle.coord_ledger.specs.ledger.Driven.{Beside, after_crash, held}
 use Rattle.coord_ledger.specs.ledger.Driver.{HeldTouches, IsEventFault, IsLost, model_of}
 use Rattle.coord_ledger.specs.ledger.Follows.{Follows, FollowsTo, Held}
-use Rattle.coord_ledger.proofs.CutShort.{cut_before}
-use Rattle.coord_ledger.proofs.Meeting.{crash_on}
+use Rattle.coord_ledger.proofs.drives.CutShort.{cut_before}
+use Rattle.coord_ledger.proofs.drives.FollowsTo.{crash_on}
 use Rattle.coord_ledger.proofs.event_driver.run.Run.crash.Goals as goal
 
 pub returns-in-Ok-clause-answered : goal.returns-in-Ok-clause-answered

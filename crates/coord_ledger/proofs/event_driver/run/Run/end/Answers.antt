@@ -1,7 +1,7 @@
 use Rattle.std.proofs.Common.{refl, sym, subst}
 use Rattle.coord_ledger.specs.ledger.Driver.{Drives}
 use Rattle.coord_ledger.specs.ledger.Follows.{Held}
-use Rattle.coord_ledger.proofs.Ending.{ran_home}
+use Rattle.coord_ledger.proofs.drives.Ends.{ran_home}
 use Rattle.coord_ledger.proofs.event_driver.run.Run.end.Goals as goal
 
 pub returns-in-Ok-clause-ran : goal.returns-in-Ok-clause-ran

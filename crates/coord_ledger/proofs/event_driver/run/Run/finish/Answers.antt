@@ -9,8 +9,8 @@ use Rattle.coord_ledger.specs.ledger.Driven.{Beside, FinishesTo}
 use Rattle.coord_ledger.specs.ledger.Follows.{Follows, FollowsTo, Held}
 use Rattle.coord_ledger.specs.ledger.State.{LedgerState}
 use Rattle.coord_ledger.specs.machine.Log.{settled_count}
-use Rattle.coord_ledger.proofs.CutShort.{cut_within}
-use Rattle.coord_ledger.proofs.Running.{err_gives, ok_gives}
+use Rattle.coord_ledger.proofs.drives.CutShort.{cut_within}
+use Rattle.coord_ledger.proofs.drives.Answers.{err_gives, ok_gives}
 use Rattle.coord_ledger.proofs.event_driver.run.Run.finish.Goals as goal
 use Rattle.coord_ledger.proofs.event_driver.run.Run.finish.Goals.{in-Ok-None, in-Ok-Some+else-is_err, in-Err}
 

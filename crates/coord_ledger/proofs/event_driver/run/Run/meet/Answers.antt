@@ -5,9 +5,9 @@ use Rattle.coord_ledger.specs.ledger.Driver.{HeldTouches, IsLost, disk_held, mod
 use Rattle.coord_ledger.specs.ledger.Follows.{Held}
 use Rattle.coord_ledger.specs.promises.Headline.{IsCutShort, found_by_crash, wants_memory}
 use Rattle.coord_ledger.specs.promises.Moments.{touches_disk}
-use Rattle.coord_ledger.proofs.CutShort.{cut_before}
-use Rattle.coord_ledger.proofs.Meeting.{if_err_map, memory_fault, met, met_cut, on_err_map}
-use Rattle.coord_ledger.proofs.Moments.{lost_as_held, match_map, met_aside, met_commit}
+use Rattle.coord_ledger.proofs.drives.CutShort.{cut_before}
+use Rattle.coord_ledger.proofs.drives.FollowsTo.{if_err_map, memory_fault, met, met_cut, on_err_map}
+use Rattle.coord_ledger.proofs.drives.EachMoment.{lost_as_held, match_map, met_aside, met_commit}
 use Rattle.coord_ledger.proofs.event_driver.run.Run.meet.Goals as goal
 use Rattle.coord_ledger.proofs.event_driver.run.Run.meet.Goals.{in-Submit, in-Commit, in-Collect, in-Resend, in-Show}
 

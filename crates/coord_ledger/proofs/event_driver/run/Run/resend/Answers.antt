@@ -6,9 +6,9 @@ use Rattle.coord_ledger.specs.ledger.Follows.{Follows, FollowsTo, Held}
 use Rattle.coord_ledger.specs.ledger.State.{LedgerState}
 use Rattle.coord_ledger.specs.machine.After.{resent}
 use Rattle.coord_ledger.specs.machine.Log.{settled_world}
-use Rattle.coord_ledger.proofs.CutShort.{cut_within}
-use Rattle.coord_ledger.proofs.FollowingTickets.{follows_resent}
-use Rattle.coord_ledger.proofs.Running.{on_err, resent_count}
+use Rattle.coord_ledger.proofs.drives.CutShort.{cut_within}
+use Rattle.coord_ledger.proofs.follows.FollowsTickets.{follows_resent}
+use Rattle.coord_ledger.proofs.drives.Answers.{on_err, resent_count}
 use Rattle.coord_ledger.proofs.event_driver.run.Run.resend.Goals as goal
 
 pub returns-in_ok-count-in-Ok-clause-answered : goal.returns-in_ok-count-in-Ok-clause-answered

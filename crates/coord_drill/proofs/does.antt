@@ -1,0 +1,8 @@
+-- What a request makes of the drill, and what is printed of it.
+pub mod Does
+pub mod HandedTo
+pub mod FlownTo
+pub mod Settled
+pub mod ReopenedTo
+pub mod LineResponds
+pub mod Moments

@@ -1,0 +1,108 @@
+-- What a driver makes of each event follows the event machine.
+use Rattle.std.proofs.Common.{◌≡◌, ℕ, ◌≤◌, Bool, true, false, length, Some, Ok, Err, refl, sym, ap, ◌∙◌, subst}
+use Rattle.std.specs.Prelude.{Result, MatchResult, OnErr, IfOk, is_err, is_some}
+use Rattle.std.proofs.lemmas.List.{length-map}
+use Rattle.coord_types.specs.declared.refusals.Refusal.{Refusal}
+use Rattle.coord_types.specs.declared.refusals.Refusal.TheVariants as why
+use Rattle.coord_types.specs.declared.refusals.Refusal.TheVariants.{OutOfMemory, Stopped}
+use Rattle.coord_world.specs.protocol.NumberedWorld.{World}
+use Rattle.coord_world.specs.protocol.Outputs.{again}
+use Rattle.coord_ledger.specs.declared.events.Answer.{Answer}
+use Rattle.coord_ledger.specs.declared.events.Answer.TheVariants.{Refused, Shown}
+use Rattle.coord_ledger.specs.declared.events.Event.TheVariants.{Finish, Show}
+use Rattle.coord_ledger.specs.ledger.Calls.{RefusesFlight}
+use Rattle.coord_ledger.specs.ledger.Follows.{Follows, FollowsTo, Held, HoldsFlight}
+use Rattle.coord_ledger.specs.ledger.State.{FlightState}
+use Rattle.coord_ledger.specs.machine.After.{release_of, resent}
+use Rattle.coord_ledger.specs.machine.Consistent.{IsConsistent, IsConsistentLog}
+use Rattle.coord_ledger.specs.machine.Log.{Log, accepted_count, settled_count, settled_world}
+use Rattle.coord_ledger.specs.machine.Machine.{Machine}
+use Rattle.coord_ledger.specs.machine.Shown as view
+use Rattle.coord_ledger.proofs.follows.FollowsFlights.{follows_not_finished}
+use Rattle.coord_ledger.proofs.follows.FollowsTickets.{follows_not_shown, follows_shown, follows_unshown, never_behind}
+use Rattle.coord_ledger.proofs.machine.Logs.{count_after}
+
+-- what a show is answered
+abbrev pub shown_as : Result view.Shown Refusal → Answer
+shown_as (Ok v) = Shown v
+shown_as (Err e) = Refused e
+
+module _ {D : Type 0} (h : Held D) (s : Machine) (is : IsConsistent s) (follows : Follows h s) where
+  -- ---- show
+
+  pub follows_show : (r : Result view.Shown Refusal) (seen : ℕ) (a : Answer) → (is_some h.ledger.doubt ≡ true → r ≡ Err Stopped) →
+      (is_some h.ledger.doubt ≡ false → h.seen ≤ settled_count h.ledger.log → MatchResult r (λ v. (v ≡ view.shown (accepted_count h.ledger.log) (settled_world h.ledger.log)) × (seen ≡ settled_count h.ledger.log)) (λ e. e ≡ OutOfMemory)) →
+      OnErr r (seen ≡ h.seen) → a ≡ shown_as r → FollowsTo s Show a (record h { seen = seen })
+  follows_show r seen a stopped shows unseen says = by_doubt (is_some h.ledger.doubt) refl
+    where
+      by_result : (r : Result view.Shown Refusal) → is_some h.ledger.doubt ≡ false → MatchResult r (λ v. (v ≡ view.shown (accepted_count h.ledger.log) (settled_world h.ledger.log)) × (seen ≡ settled_count h.ledger.log)) (λ e. e ≡ OutOfMemory) →
+          OnErr r (seen ≡ h.seen) → a ≡ shown_as r → FollowsTo s Show a (record h { seen = seen })
+      by_result (Ok v) going given unseen says =
+          let answer = says ∙ ap Shown given.0 in
+          subst (λ b. FollowsTo s Show b (record h { seen = seen })) (sym answer)
+          (subst (λ n. FollowsTo s Show (Shown (view.shown (accepted_count h.ledger.log) (settled_world h.ledger.log))) (record h { seen = n })) (sym given.1) (follows_shown h s is follows going))
+      by_result (Err e) going given unseen says =
+          let answer = says ∙ ap Refused given in
+          subst (λ b. FollowsTo s Show b (record h { seen = seen })) (sym answer)
+          (subst (λ n. FollowsTo s Show (Refused OutOfMemory) (record h { seen = n })) (sym unseen) (follows_unshown h s is follows going))
+
+      by_doubt : (b : Bool) → is_some h.ledger.doubt ≡ b → FollowsTo s Show a (record h { seen = seen })
+      by_doubt true on =
+          let same = subst (λ q. OnErr q (seen ≡ h.seen)) (stopped on) unseen in
+          subst (λ b. FollowsTo s Show b (record h { seen = seen })) (sym (says ∙ ap shown_as (stopped on)))
+          (subst (λ n. FollowsTo s Show (Refused Stopped) (record h { seen = n })) (sym same) (follows_not_shown h s is follows on))
+      by_doubt false going = by_result r going (shows going (never_behind h s is follows)) unseen says
+
+-- ---- resend
+
+-- so many are released again
+pub resent_count : (w : World) → length (resent w) ≡ length (again w)
+resent_count w = length-map (again w) (release_of 0)
+
+-- the settled count is that of the settled world
+pub count_settled : (log : Log) → IsConsistentLog log → (settled_world log).count ≡ settled_count log
+count_settled log is = count_after log log.settled is.within
+
+-- ---- results
+
+pub on_err : {A E X : Type 0} (r : Result A E) → X → OnErr r X
+on_err (Ok a) x = tt
+on_err (Err e) x = x
+
+pub err_gives : {A E X : Type 0} (r : Result A E) → is_err r ≡ true → OnErr r X → X
+err_gives (Ok a) failed x = let no : ⊥ = cc in absurd no
+err_gives (Err e) failed x = x
+
+pub ok_gives : {A E X : Type 0} (r : Result A E) → is_err r ≡ false → IfOk r (λ _. X) → X
+ok_gives (Ok a) fine x = x
+ok_gives (Err e) fine x = let no : ⊥ = cc in absurd no
+
+-- ---- finish
+
+-- a flight of its own is kept out by want of memory alone
+pub follows_unfinished : {D : Type 0} (h : Held D) (s : Machine) (f : FlightState D) (e : Refusal) → IsConsistent s → Follows h s → h.flight ≡ Some f → RefusesFlight h.ledger f e → FollowsTo s Finish (Refused e) h
+follows_unfinished h s f e is follows holds refuses = by_reason e refuses
+  where
+    by_reason : (e : Refusal) → RefusesFlight h.ledger f e → FollowsTo s Finish (Refused e) h
+    by_reason (why.Behind _) reason = elim reason [ ]
+    by_reason why.Stranger reason = absurd (reason (subst (HoldsFlight h.ledger) holds follows.own))
+    by_reason why.OutOfMemory reason = follows_not_finished h s is follows f holds reason.1
+    by_reason (why.Stopped) reason = absurd reason
+    by_reason (why.Exhausted) reason = absurd reason
+    by_reason (why.OutOfTurn) reason = absurd reason
+    by_reason (why.NumberReused) reason = absurd reason
+    by_reason (why.UnknownNode) reason = absurd reason
+    by_reason (why.NodeExists) reason = absurd reason
+    by_reason (why.HasLinks) reason = absurd reason
+    by_reason (why.SameNode) reason = absurd reason
+    by_reason (why.OtherGroup) reason = absurd reason
+    by_reason (why.LinkExists) reason = absurd reason
+    by_reason (why.NoLink) reason = absurd reason
+    by_reason (why.DegreeFull) reason = absurd reason
+    by_reason (why.LinksFull) reason = absurd reason
+    by_reason (why.BadEpoch) reason = absurd reason
+    by_reason (why.Old) reason = absurd reason
+    by_reason (why.Early) reason = absurd reason
+    by_reason (why.Differs) reason = absurd reason
+    by_reason (why.NotReleased) reason = absurd reason
+    by_reason (why.PendingFull) reason = absurd reason

@@ -1,0 +1,170 @@
+-- A run of events, from its first to its last: what a driver keeps before each event.
+use Rattle.std.proofs.Common.{◌≡◌, ◌⊎◌, ℕ, ◌+◌, ◌-◌, ◌<◌, Bool, true, false, List, [], ◌∷◌, ◌++◌, ◌≤◌, length, take, get_or, zero, suc, None, Some, refl, sym, ap, ◌∙◌, subst, arith, inl, inr}
+use Rattle.std.specs.List.{AllByRecursion}
+use Rattle.std.specs.Option.{option_map}
+use Rattle.std.specs.Prelude.{IfSome, Option, slice_get}
+use Rattle.std.proofs.lemmas.Option.{slice_get_read}
+use Rattle.coord_disk.specs.Model.Present.{Present}
+use Rattle.coord_store.proofs.Freshness.{take-push}
+use Rattle.coord_ledger.specs.declared.events.Answer.{Answer}
+use Rattle.coord_ledger.specs.declared.events.Event.{Event}
+use Rattle.coord_ledger.specs.ledger.Driven.{Driven, held, nothing_beside}
+use Rattle.coord_ledger.specs.ledger.Driver.{Drives, HeldSurvives, HeldTouches, IsPromised, disk_held, disk_with, model_of}
+use Rattle.coord_ledger.specs.ledger.Follows.{Follows, FollowsTo, Held, HoldsFlight, HoldsTickets, flight_out}
+use Rattle.coord_ledger.specs.ledger.State.{LedgerState, started}
+use Rattle.coord_ledger.specs.machine.After.{after}
+use Rattle.coord_ledger.specs.machine.Consistent.{DoubtFits, EventInRange, IsConsistent, IsConsistentLog}
+use Rattle.coord_ledger.specs.machine.Log.{Log}
+use Rattle.coord_ledger.specs.machine.Machine.{Machine}
+use Rattle.coord_ledger.specs.machine.Runs.{Answered, run}
+use Rattle.coord_ledger.specs.promises.Headline.{CrashPrefix, EachMoment, Promised, Touches, found_by_crash, is_crash}
+use Rattle.coord_ledger.specs.promises.Moments.{touches_disk}
+use Rattle.coord_ledger.proofs.machine.Consistent.{run_goes_on, stays_consistent}
+use Rattle.coord_ledger.proofs.drives.EachMoment.{moments_on}
+
+-- what holds of all items holds of the one at this place
+all_at : {A : Type 0} (P : A → Type 0) (xs : List A) (i : ℕ) (x : A) → slice_get xs i ≡ Some x → AllByRecursion P xs → P x
+all_at P [] i x there all = let no : ⊥ = cc in absurd no
+all_at P (y ∷ ys) zero x there all = let same : y ≡ x = cc in subst P same all.0
+all_at P (y ∷ ys) (suc i) x there all = all_at P ys i x there all.1
+
+doubt_fits : (log : Log) (o : Option ℕ) → IfSome o (λ b. (1 ≤ b) × (log.settled + b ≤ length log.trail)) → DoubtFits log None o
+doubt_fits log None doubted = tt
+doubt_fits log (Some b) doubted = doubted.1
+
+module _ {D : Type 0} (present : D → Present) (clock : D → ℕ) (left_since : D → ℕ → List ℕ → Type 0) (crashes : D → D → Type 0) where
+  -- a run begins where no flight is out
+  pub drives_first : (keeps_model : D → Bool) (first : D) (d : Driven D) → d.flight ≡ None → HoldsFlight d.ledger d.flight → IsConsistentLog d.ledger.log → IfSome d.ledger.doubt (λ b. (1 ≤ b) × (d.ledger.log.settled + b ≤ length d.ledger.log.trail)) → d.ledger.disk ≡ Some first →
+      ((s : Machine) → IsConsistent s → Follows (held d nothing_beside) s → HeldSurvives keeps_model present (held d nothing_beside) s) → Drives present clock left_since crashes (keeps_model first) first d.ledger [] [] (held d nothing_beside)
+  drives_first keeps_model first d none own log_is doubted home survives =
+      let log = d.ledger.log in
+      let is : IsConsistent (started d.ledger) =
+      record {
+        log = log_is;
+        flight = tt;
+        doubt = doubt_fits log d.ledger.doubt doubted;
+        seen = omega arith;
+        tickets = tt;
+        told = record { released_settled = tt; once = tt; again = tt; replied_settled = tt; truly = tt };
+      } in
+      let all : log.settled - 0 ≡ log.settled = omega arith in
+      let follows : Follows (held d nothing_beside) (started d.ledger) =
+      record {
+        by = 0;
+        within = omega arith;
+        log = λ i. record { base = log.base; trail = log.trail; settled = sym all i };
+        doubt = refl;
+        flight = ap (option_map flight_out) none;
+        own = own;
+        tickets = tt;
+        seen = refl;
+        released = refl;
+      } in
+      let there : disk_held (held d nothing_beside) ≡ Some first = ap (disk_with d.ledger.disk) none ∙ home in
+      record { answered = tt; consistent = is; follows = follows; disk = first; holds = there; moments = (refl, survives (started d.ledger) is follows first there) }
+
+  -- one event more
+  pub drives_on : (keeps_model : D → Bool) (on : Bool) (first : D) (start : LedgerState D) (events : List Event) (given : List Answer) (h new : Held D) (e : Event) (a : Answer) →
+      (drives : Drives present clock left_since crashes on first start events given h) → keeps_model drives.disk ≡ on → EventInRange e → FollowsTo (run (started start) events given) e a new →
+      HeldTouches keeps_model present clock left_since crashes (found_by_crash (run (started start) events given) e a) (touches_disk e a) e h new → ((s : Machine) → IsConsistent s → Follows new s → (disk : D) → disk_held new ≡ Some disk → CrashPrefix s on (present disk)) →
+      Drives present clock left_since crashes on first start (events ++ e ∷ []) (given ++ a ∷ []) new
+  drives_on keeps_model on first start events given h new e a drives same named to touches survives =
+      let s = run (started start) events given in
+      let more = run_goes_on (started start) events given e a drives.answered to.allowed in
+      let consistent = stays_consistent s e a named drives.consistent to.allowed in
+      let moved = touches drives.disk drives.holds in
+      record {
+        answered = more.0;
+        consistent = subst IsConsistent (sym more.1) consistent;
+        follows = subst (Follows new) (sym more.1) to.follows;
+        disk = moved.0;
+        holds = moved.1.0;
+        moments = moments_on present clock left_since crashes on (started start) events given e a first drives.disk moved.0 drives.moments
+            (subst (λ b. Touches present clock left_since crashes b (found_by_crash s e a) (touches_disk e a) e drives.disk moved.0) same moved.1.1)
+            (survives (after s e a) consistent to.follows moved.0 moved.1.0);
+      }
+
+  -- what the loop of a run keeps before the event at this index
+  pub record Underway (keeps_model : D → Bool) (start : LedgerState D) (events : List Event) (at : ℕ) (given : List Answer) (h : Held D) : Type 0 where
+    pub same_model : model_of keeps_model h ≡ option_map keeps_model start.disk
+    pub drives : (before : D) → start.disk ≡ Some before → Promised (keeps_model before) events (Drives present clock left_since crashes (keeps_model before) before start (take at events) given h)
+
+  -- before the first event
+  pub underway_first : (keeps_model : D → Bool) (start : LedgerState D) (events : List Event) (given : List Answer) (h : Held D) → start.out ≡ None → start.doubt ≡ None → IsConsistentLog start.log →
+      h.ledger ≡ start → h.flight ≡ None → h.claims ≡ [] → h.seen ≡ 0 → h.released ≡ [] → given ≡ [] → ((s : Machine) → IsConsistent s → Follows h s → HeldSurvives keeps_model present h s) → Underway keeps_model start events 0 given h
+  underway_first keeps_model start events given h home going log_is its none claims seen released unanswered survives =
+      let is : IsConsistent (started start) =
+      record {
+        log = log_is;
+        flight = tt;
+        doubt = subst (DoubtFits start.log None) (sym going) tt;
+        seen = omega arith;
+        tickets = tt;
+        told = record { released_settled = tt; once = tt; again = tt; replied_settled = tt; truly = tt };
+      } in
+      let all : start.log.settled - 0 ≡ start.log.settled = omega arith in
+      let follows : Follows h (started start) =
+      record {
+        by = 0;
+        within = omega arith;
+        log = ap (λ (l : LedgerState D). l.log) its ∙ (λ i. record { base = start.log.base; trail = start.log.trail; settled = sym all i });
+        doubt = ap (λ (l : LedgerState D). l.doubt) its;
+        flight = ap (option_map flight_out) none;
+        own = subst (HoldsFlight h.ledger) (sym none) (ap (λ (l : LedgerState D). l.out) its ∙ home);
+        tickets = subst (λ cs. HoldsTickets h.ledger.log cs []) (sym claims) tt;
+        seen = seen;
+        released = released;
+      } in
+      let disk_is : disk_held h ≡ start.disk = λ i. disk_with (its i).disk (none i) in
+      record {
+        same_model = ap (option_map keeps_model) disk_is;
+        drives = λ before disk promised. record {
+          answered = subst (Answered (started start) []) (sym unanswered) tt;
+          consistent = is;
+          follows = follows;
+          disk = before;
+          holds = disk_is ∙ disk;
+          moments = subst (λ l. EachMoment present clock left_since crashes (keeps_model before) (started start) [] l before before) (sym unanswered) (refl, survives (started start) is follows before (disk_is ∙ disk));
+        };
+      }
+
+  module _ (keeps_model : D → Bool) (start : LedgerState D) (events : List Event) (at : ℕ) (given : List Answer) (h : Held D) (way : Underway keeps_model start events at given h) where
+    -- the disk that is held keeps the model as the first one does
+    pub same_model : (before disk : D) → start.disk ≡ Some before → disk_held h ≡ Some disk → keeps_model disk ≡ keeps_model before
+    same_model before disk first there =
+        let is : option_map keeps_model (Some disk) ≡ option_map keeps_model (Some before) = sym (ap (option_map keeps_model) there) ∙ way.same_model ∙ ap (option_map keeps_model) first in
+        cc
+
+    module _ (e : Event) (below : at < length events) (is : e ≡ get_or events at e) where
+      pub event_there : slice_get events at ≡ Some e
+      event_there = slice_get_read events (length events) at e refl below is
+
+      pub model_there : (before : D) → start.disk ≡ Some before → model_of keeps_model h ≡ Some (keeps_model before)
+      model_there before disk = way.same_model ∙ ap (option_map keeps_model) disk
+
+      -- what is promised of a run is promised of each of its events
+      pub event_promised : (before : D) → start.disk ≡ Some before → (keeps_model before ≡ true) ⊎ AllByRecursion (λ x. is_crash x ≡ false) events → IsPromised (model_of keeps_model h) e
+      event_promised before disk (inl on) = inl (model_there before disk ∙ ap Some on)
+      event_promised before disk (inr none) = inr (all_at (λ x. is_crash x ≡ false) events at e event_there none)
+
+      -- the event was answered
+      pub underway_on : (new : Held D) (a : Answer) → EventInRange e → ((s : Machine) → IsConsistent s → Follows h s → IsPromised (model_of keeps_model h) e → FollowsTo s e a new) → model_of keeps_model new ≡ model_of keeps_model h →
+          ((s : Machine) → IsConsistent s → Follows h s → HeldTouches keeps_model present clock left_since crashes (found_by_crash s e a) (touches_disk e a) e h new) → ((s : Machine) → IsConsistent s → Follows new s → HeldSurvives keeps_model present new s) →
+          Underway keeps_model start events (at + 1) (given ++ a ∷ []) new
+      underway_on new a named answered same touches survives =
+          record {
+            same_model = same ∙ way.same_model;
+            drives = λ before disk promised.
+                let drives = way.drives before disk promised in
+                let s = run (started start) (take at events) given in
+                let to = answered s drives.consistent drives.follows (event_promised before disk promised) in
+                let later = λ (now : D) (there : disk_held new ≡ Some now). new_model new same before now disk there in
+                subst (λ l. Drives present clock left_since crashes (keeps_model before) before start l (given ++ a ∷ []) new) (sym (take-push events at e below is))
+                (drives_on keeps_model (keeps_model before) before start (take at events) given h new e a drives (same_model before drives.disk disk drives.holds) named to (touches s drives.consistent drives.follows)
+                (λ t consistent follows now there. subst (λ b. CrashPrefix t b (present now)) (later now there) (survives t consistent follows now there)));
+          }
+        where
+          new_model : (new : Held D) → model_of keeps_model new ≡ model_of keeps_model h → (before now : D) → start.disk ≡ Some before → disk_held new ≡ Some now → keeps_model now ≡ keeps_model before
+          new_model new same before now first there =
+              let is : option_map keeps_model (Some now) ≡ option_map keeps_model (Some before) = sym (ap (option_map keeps_model) there) ∙ same ∙ way.same_model ∙ ap (option_map keeps_model) first in
+              cc

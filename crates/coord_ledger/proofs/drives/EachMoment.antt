@@ -1,0 +1,264 @@
+-- What a crash may leave at each moment of an event, and of a run.
+use Rattle.std.proofs.Common.{◌≡◌, ◌⊎◌, ℕ, ◌+◌, Bool, true, false, List, [], ◌∷◌, ◌++◌, length, Some, None, Result, Ok, Err, refl, sym, ap, ◌∙◌, subst, inl, inr}
+use Rattle.std.specs.Prelude.{IfSome, IsErrOf, MatchResult}
+use Rattle.std.specs.Option.{option_map}
+use Rattle.coord_disk.specs.Model.Moments.{LeavesOnly}
+use Rattle.coord_disk.specs.Model.Present.{Present, IsImage}
+use Rattle.coord_disk.proofs.MomentLemmas.{started, weaker}
+use Rattle.coord_store.specs.Kept.{GivesEither, IsOnlyWorld}
+use Rattle.coord_store.specs.declared.faults.CommitFault.{CommitFault}
+use Rattle.coord_store.specs.declared.faults.CommitFault.TheVariants as fault
+use Rattle.coord_world.specs.protocol.Next.{fold}
+use Rattle.coord_ledger.specs.declared.events.Answer.{Answer}
+use Rattle.coord_ledger.specs.declared.events.Answer.TheVariants.{Committed, Failed}
+use Rattle.coord_ledger.specs.declared.events.Event.{Event}
+use Rattle.coord_ledger.specs.declared.events.Event.TheVariants.{Submit, Begin, Commit, Finish, Collect, Resend, Show, Crash}
+use Rattle.coord_ledger.specs.declared.mark.Mark.{Mark}
+use Rattle.coord_ledger.specs.declared.mark.Mark.TheVariants.{New, Good, Torn}
+use Rattle.coord_ledger.specs.laws.Commits.{CommitIsSafe}
+use Rattle.coord_ledger.specs.ledger.Driver.{HeldSurvives, HeldTouches, IsLost, IsReopened, disk_held, disk_with}
+use Rattle.coord_ledger.specs.ledger.Calls.{FlightGives, GivesFlown, LedgerGives}
+use Rattle.coord_ledger.specs.ledger.Follows.{Follows, GivesOneOf, Held, HoldsFlight, IsOut, flight_out}
+use Rattle.coord_ledger.specs.ledger.State.{FlightState, LedgerState}
+use Rattle.coord_ledger.specs.machine.After.{after, marked}
+use Rattle.coord_ledger.specs.machine.Answers.{IsOneOf, answers, kept, kept_by, to_commit, with_flight}
+use Rattle.coord_ledger.specs.machine.Consistent.{IsConsistent}
+use Rattle.coord_ledger.specs.machine.Log.{world_after}
+use Rattle.coord_ledger.specs.machine.Machine.{FlightOut, Machine}
+use Rattle.coord_ledger.specs.machine.Runs.{run}
+use Rattle.coord_ledger.specs.promises.Headline.{CrashPrefix, EachMoment, IsSafe, Survives, Touches, found_by_crash, is_crash}
+use Rattle.coord_ledger.specs.promises.Moments.{LeavesWithin, Reopens, touches_disk}
+use Rattle.coord_ledger.proofs.follows.FollowsCalls.{flight_gives, ledger_images}
+use Rattle.coord_ledger.proofs.machine.Consistent.{stays_consistent}
+use Rattle.coord_ledger.proofs.follows.FollowsCrashes.{given_follows}
+use Rattle.coord_ledger.proofs.machine.Safe.{given_survives, kept_is_safe}
+
+-- ---- a commit
+
+-- while a new flight is committed, the machine is consistent as it is once the device has failed
+torn_is_consistent : (s : Machine) (b : ℕ) → IsConsistent s → s.flight ≡ Some (record { size = b; mark = New }) → IsConsistent (after s Commit (Failed fault.Device))
+torn_is_consistent s b is out =
+    let allowed : IsOneOf (Failed fault.Device) (answers s Commit) = subst (λ o. IsOneOf (Failed fault.Device) (with_flight o (λ (f : FlightOut). to_commit f.mark))) (sym out) (inr (inl refl)) in
+    stays_consistent s Commit (Failed fault.Device) tt is allowed
+
+pub commit_is_safe : CommitIsSafe
+commit_is_safe s b is out = (safe s.log.settled (inl refl), safe (s.log.settled + b) (inr (inl refl)))
+  where
+    safe : (n : ℕ) → IsOneOf n (s.log.settled ∷ (s.log.settled + b) ∷ []) → IsSafe s (world_after s.log n)
+    safe n one =
+        let may : IsOneOf n (kept (after s Commit (Failed fault.Device))) = subst (λ o. IsOneOf n (kept_by s.log.settled (marked Torn o) s.doubt)) (sym out) one in
+        let of_torn = kept_is_safe (after s Commit (Failed fault.Device)) n (torn_is_consistent s b is out) may in
+        record { legal = of_torn.legal; released = of_torn.released; replied = of_torn.replied; accepted = of_torn.accepted }
+
+module _ {D : Type 0} (h : Held D) (s : Machine) (f : FlightState D) (is : IsConsistent s) (follows : Follows h s) (holds : h.flight ≡ Some f) where
+  out : (m : Mark) → f.mark ≡ m → s.flight ≡ Some (record { size = length f.steps; mark = m })
+  out m mark = sym follows.flight ∙ ap (option_map flight_out) holds ∙ ap (λ x. Some (record { size = length f.steps; mark = x })) mark
+
+  own : IsOut h.ledger f
+  own = subst (HoldsFlight h.ledger) holds follows.own
+
+  -- what bytes give while it is torn
+  pub either_survives : f.mark ≡ New → (bytes : List ℕ) → GivesEither f.world (fold f.world f.steps) bytes → Survives (after s Commit (Failed fault.Device)) bytes
+  either_survives new bytes gives =
+      let g : FlightState D = record f { mark = Torn } in
+      let its : IsOut h.ledger (record f { mark = Torn }) = record { size = own.size; first = own.first; steps = own.steps; world = own.world } in
+      let there : Follows (record h { flight = Some (record f { mark = Torn }) }) (after s Commit (Failed fault.Device)) =
+      record {
+        by = follows.by;
+        within = follows.within;
+        log = follows.log;
+        doubt = follows.doubt;
+        flight = ap (marked Torn) (sym (out New new));
+        own = its;
+        tickets = follows.tickets;
+        seen = follows.seen;
+        released = follows.released;
+      } in
+      given_survives (after s Commit (Failed fault.Device)) bytes (torn_is_consistent s (length f.steps) is (out New new))
+      (given_follows (record h { flight = Some (record f { mark = Torn }) }) (after s Commit (Failed fault.Device)) bytes there (flight_gives h.ledger (record f { mark = Torn }) bytes its gives))
+
+  -- and where it was refused for memory
+  pub only_survives : f.mark ≡ New → (bytes : List ℕ) → IsOnlyWorld f.world bytes → Survives s bytes
+  only_survives new bytes gives =
+      given_survives s bytes is
+      (given_follows h s bytes follows
+      (subst (λ o. GivesOneOf h.ledger.log (kept_by h.ledger.log.settled (option_map flight_out o) h.ledger.doubt) bytes) (sym holds)
+      (flight_gives h.ledger f bytes own (subst (λ m. GivesFlown m f.world f.steps bytes) (sym new) gives))))
+
+-- ---- between two events
+
+module _ {D : Type 0} (keeps_model : D → Bool) (present : D → Present) (h : Held D) (s : Machine) (is : IsConsistent s) (follows : Follows h s) where
+  -- with a flight out
+  pub flight_survives : (f : FlightState D) → h.flight ≡ Some f → (keeps_model f.disk ≡ true → FlightGives present f) → HeldSurvives keeps_model present h s
+  flight_survives f holds gives disk there on image here =
+      let same : f.disk ≡ disk = cc (ap (disk_with h.ledger.disk) holds, there) in
+      let given = gives (ap keeps_model same ∙ on) image (subst (λ d. IsImage (present d) image) (sym same) here) in
+      given_survives s image is
+      (given_follows h s image follows
+      (subst (λ o. GivesOneOf h.ledger.log (kept_by h.ledger.log.settled (option_map flight_out o) h.ledger.doubt) image) (sym holds)
+      (flight_gives h.ledger f image (subst (HoldsFlight h.ledger) holds follows.own) given)))
+
+  -- with the store at home
+  pub home_survives : h.flight ≡ None → IfSome h.ledger.disk (λ d. keeps_model d ≡ true → LedgerGives present h.ledger d) → HeldSurvives keeps_model present h s
+  home_survives none gives disk there on image here =
+      let at_home : h.ledger.disk ≡ Some disk = sym (ap (disk_with h.ledger.disk) none) ∙ there in
+      let each = subst (λ o. IfSome o (λ d. keeps_model d ≡ true → LedgerGives present h.ledger d)) at_home gives in
+      given_survives s image is
+      (given_follows h s image follows
+      (subst (λ o. GivesOneOf h.ledger.log (kept_by h.ledger.log.settled (option_map flight_out o) h.ledger.doubt) image) (sym none)
+      (ledger_images h.ledger disk (keeps_model disk) present each on image here)))
+
+-- ---- an event
+
+-- what a result holds implies more of it
+pub match_map : {A E : Type 0} {P P2 : A → Type 0} {Q Q2 : E → Type 0} (r : Result A E) → ((a : A) → P a → P2 a) → ((e : E) → Q e → Q2 e) → MatchResult r P Q → MatchResult r P2 Q2
+match_map (Ok a) f g p = f a p
+match_map (Err e) f g q = g e q
+
+-- a commit's answer
+abbrev pub told : {T : Type 0} → Result T CommitFault → Answer
+told (Ok done) = Committed
+told (Err why) = Failed why
+
+module _ {D : Type 0} (present : D → Present) (clock : D → ℕ) (left_since : D → ℕ → List ℕ → Type 0) (crashes : D → D → Type 0) where
+  within_event : (e : Event) (P : List ℕ → Type 0) (old new : D) → is_crash e ≡ false → LeavesOnly clock left_since old new P → LeavesWithin present clock left_since crashes e P old new
+  within_event (Submit x) P old new other leaves = leaves
+  within_event Begin P old new other leaves = leaves
+  within_event Commit P old new other leaves = leaves
+  within_event Finish P old new other leaves = leaves
+  within_event (Collect i) P old new other leaves = leaves
+  within_event Resend P old new other leaves = leaves
+  within_event Show P old new other leaves = leaves
+  within_event Crash P old new other leaves = let no : ⊥ = cc in absurd no
+
+  module _ (keeps_model : D → Bool) (only_now : (disk : D) (image : List ℕ) → keeps_model disk ≡ true → left_since disk (clock disk) image → IsImage (present disk) image) where
+    -- nothing was done to the disk
+    pub untouched : (s : Machine) (touches : Bool) (e : Event) (old new : D) → is_crash e ≡ false → new ≡ old → CrashPrefix s (keeps_model old) (present old) → Touches present clock left_since crashes (keeps_model old) s touches e old new
+    untouched s touches e old new other same prefix =
+        record {
+          untouched = λ _. same;
+          inside = λ on. subst (LeavesWithin present clock left_since crashes e (Survives s) old) (sym same)
+              (within_event e (Survives s) old old other (started clock left_since old (Survives s) (λ image left. prefix on image (only_now old image on left))));
+        }
+
+    pub held_untouched : (s : Machine) (touches : Bool) (e : Event) (h new : Held D) → is_crash e ≡ false → disk_held new ≡ disk_held h → HeldSurvives keeps_model present h s → HeldTouches keeps_model present clock left_since crashes s touches e h new
+    held_untouched s touches e h new other same survives old holds = (old, (same ∙ holds, untouched s touches e old old other refl (survives old holds)))
+
+    -- so it is in each event but a commit and a crash
+    pub met_aside : (s : Machine) (e what : Event) (a : Answer) (h new : Held D) → e ≡ what → is_crash what ≡ false → found_by_crash s what a ≡ s → disk_held new ≡ disk_held h → HeldSurvives keeps_model present h s →
+        HeldTouches keeps_model present clock left_since crashes (found_by_crash s e a) (touches_disk e a) e h new
+    met_aside s e what a h new event other found same survives =
+        subst (λ x. HeldTouches keeps_model present clock left_since crashes (found_by_crash s x a) (touches_disk x a) x h new) (sym event)
+        (subst (λ t. HeldTouches keeps_model present clock left_since crashes t (touches_disk what a) what h new) (sym found) (held_untouched s (touches_disk what a) what h new other same survives))
+
+    -- a flight was committed, or not
+    module _ (h : Held D) (s : Machine) (f g : FlightState D) (is : IsConsistent s) (follows : Follows h s) (holds : h.flight ≡ Some f) (survives : HeldSurvives keeps_model present h s) (new : Held D) (now : disk_held new ≡ Some g.disk) where
+      its_disk : disk_held h ≡ Some f.disk
+      its_disk = ap (disk_with h.ledger.disk) holds
+
+      -- at each moment of it a crash left only what has P
+      leaves : (found : Machine) (P : List ℕ → Type 0) → (keeps_model f.disk ≡ true → LeavesOnly clock left_since f.disk g.disk P) → ((bytes : List ℕ) → P bytes → Survives found bytes) → HeldTouches keeps_model present clock left_since crashes found true Commit h new
+      leaves found P moments each old there =
+          let same : f.disk ≡ old = cc (its_disk, there) in (
+            g.disk,
+            (
+              now,
+              record {
+                untouched = λ no. let never : ⊥ = cc in absurd never;
+                inside = λ on. subst (λ d. LeavesOnly clock left_since d g.disk (Survives found)) same (weaker clock left_since f.disk g.disk P (Survives found) (moments (ap keeps_model same ∙ on)) each);
+              },
+            ),
+          )
+
+      -- the flight was left as it was
+      alone : g ≡ f → HeldTouches keeps_model present clock left_since crashes s false Commit h new
+      alone same = held_untouched s false Commit h new refl (now ∙ ap (λ (x : FlightState D). Some x.disk) same ∙ sym its_disk) survives
+
+      pub commit_touches : {T : Type 0} (r : Result T CommitFault) →
+          (keeps_model f.disk ≡ true → f.mark ≡ New → LeavesOnly clock left_since f.disk g.disk (GivesEither f.world (fold f.world f.steps))) →
+          (keeps_model f.disk ≡ true → f.mark ≡ New → IsErrOf r fault.OutOfMemory → LeavesOnly clock left_since f.disk g.disk (IsOnlyWorld f.world)) →
+          (f.mark ≡ New → MatchResult r (λ _. g.mark ≡ Good) (λ why. ((why ≡ fault.Device) × (g.mark ≡ Torn)) ⊎ ((why ≡ fault.OutOfMemory) × (g.mark ≡ New)))) →
+          (f.mark ≡ Good → (r ≡ Err fault.Again) × (g ≡ f)) →
+          (f.mark ≡ Torn → (r ≡ Err fault.Stopped) × (g ≡ f)) →
+          HeldTouches keeps_model present clock left_since crashes (found_by_crash s Commit (told r)) (touches_disk Commit (told r)) Commit h new
+      commit_touches {T} r either refused tried again stopped = by_mark f.mark refl
+        where
+          Goal : Result T CommitFault → Type 0
+          Goal r = HeldTouches keeps_model present clock left_since crashes (found_by_crash s Commit (told r)) (touches_disk Commit (told r)) Commit h new
+
+          by_result : f.mark ≡ New → (q : Result T CommitFault) → r ≡ q → Goal q
+          by_result new (Ok done) same = leaves (after s Commit (Failed fault.Device)) (GivesEither f.world (fold f.world f.steps)) (λ on. either on new) (either_survives h s f is follows holds new)
+          by_result new (Err why) same =
+              elim (subst (λ q. MatchResult q (λ _. g.mark ≡ Good) (λ why. ((why ≡ fault.Device) × (g.mark ≡ Torn)) ⊎ ((why ≡ fault.OutOfMemory) × (g.mark ≡ New)))) same (tried new)) [
+                | inl device ↦
+                    subst (λ x. Goal (Err x)) (sym device.0)
+                    (leaves (after s Commit (Failed fault.Device)) (GivesEither f.world (fold f.world f.steps)) (λ on. either on new) (either_survives h s f is follows holds new))
+                | inr memory ↦
+                    subst (λ x. Goal (Err x)) (sym memory.0)
+                    (leaves s (IsOnlyWorld f.world) (λ on. refused on new (same ∙ ap Err memory.0)) (only_survives h s f is follows holds new))
+              ]
+
+          by_mark : (m : Mark) → f.mark ≡ m → Goal r
+          by_mark New mark = by_result mark r refl
+          by_mark Good mark = subst Goal (sym (again mark).0) (alone (again mark).1)
+          by_mark Torn mark = subst Goal (sym (stopped mark).0) (alone (stopped mark).1)
+
+  pub met_commit : {E : Type 0} (keeps_model : D → Bool) (s : Machine) (e : Event) (said : Answer) (answer : Result Answer E) (a : Answer) (h held new : Held D) → e ≡ Commit → answer ≡ Ok said → answer ≡ Ok a → held ≡ new →
+      HeldTouches keeps_model present clock left_since crashes (found_by_crash s Commit said) (touches_disk Commit said) Commit h new → HeldTouches keeps_model present clock left_since crashes (found_by_crash s e a) (touches_disk e a) e h held
+  met_commit keeps_model s e said answer a h held new event says ok is touches =
+      let same : said ≡ a = cc (says, ok) in
+      subst (λ x. HeldTouches keeps_model present clock left_since crashes (found_by_crash s x a) (touches_disk x a) x h held) (sym event)
+      (subst (HeldTouches keeps_model present clock left_since crashes (found_by_crash s Commit a) (touches_disk Commit a) Commit h) (sym is)
+      (subst (λ b. HeldTouches keeps_model present clock left_since crashes (found_by_crash s Commit b) (touches_disk Commit b) Commit h new) same touches))
+
+  -- the disk was given up as it was held
+  pub lost_as_held : (keeps_model : D → Bool) (s : Machine) (e : Event) (h : Held D) (lost : D) → disk_held h ≡ Some lost → IsLost keeps_model present clock left_since crashes s e h lost
+  lost_as_held keeps_model s e h lost there old holds = let same : lost ≡ old = cc in inl same
+
+  -- ---- a crash
+
+  -- what has P has Q
+  pub reopens_more : (P Q : List ℕ → Type 0) (old new : D) → Reopens present clock left_since crashes P old new → ((bytes : List ℕ) → P bytes → Q bytes) → Reopens present clock left_since crashes Q old new
+  reopens_more P Q old new reopens more =
+      record {
+        taken = reopens.taken;
+        crash = reopens.crash;
+        image = reopens.image;
+        synced = reopens.synced;
+        opening = reopens.opening;
+        each = λ bytes here. more bytes (reopens.each bytes here);
+      }
+
+  -- the disk was crashed and opened again
+  module _ (keeps_model : D → Bool) (h : Held D) (s : Machine) (d : D) (held : disk_held h ≡ Some d) (survives : HeldSurvives keeps_model present h s) where
+    survives_each : (old new : D) → disk_held h ≡ Some old → (keeps_model d ≡ true → Reopens present clock left_since crashes (IsImage (present d)) d new) → keeps_model old ≡ true → Reopens present clock left_since crashes (Survives s) old new
+    survives_each old new there moments on =
+        let same : d ≡ old = cc (held, there) in
+        subst (λ x. Reopens present clock left_since crashes (Survives s) x new) same
+        (reopens_more (IsImage (present d)) (Survives s) d new (moments (ap keeps_model same ∙ on)) (λ bytes here. survives d held (ap keeps_model same ∙ on) bytes here))
+
+    pub crash_touches : (l : LedgerState D) (new : Held D) → IsReopened keeps_model present clock left_since crashes d l → disk_held new ≡ l.disk → HeldTouches keeps_model present clock left_since crashes s true Crash h new
+    crash_touches l new opened at_home old there = (
+      opened.disk,
+      (
+        at_home ∙ ap (λ (m : LedgerState D). m.disk) opened.is,
+        record { untouched = λ no. let never : ⊥ = cc in absurd never; inside = λ on. survives_each old opened.disk there opened.moments on },
+      ),
+    )
+
+    pub crash_lost : (lost : D) → (keeps_model d ≡ true → Reopens present clock left_since crashes (IsImage (present d)) d lost) → IsLost keeps_model present clock left_since crashes s Crash h lost
+    crash_lost lost moments old there = inr (refl, λ on. survives_each old lost there moments on)
+
+  -- ---- a run
+
+  pub moments_on : (keeps_model : Bool) (s : Machine) (events : List Event) (given : List Answer) (e : Event) (a : Answer) (first mid last : D) → EachMoment present clock left_since crashes keeps_model s events given first mid →
+      Touches present clock left_since crashes keeps_model (found_by_crash (run s events given) e a) (touches_disk e a) e mid last → CrashPrefix (after (run s events given) e a) keeps_model (present last) →
+      EachMoment present clock left_since crashes keeps_model s (events ++ e ∷ []) (given ++ a ∷ []) first last
+  moments_on keeps_model s [] [] e a first mid last moments touches prefix = (
+    subst (λ d. CrashPrefix s keeps_model (present d)) moments.0 moments.1,
+    (last, (subst (λ d. Touches present clock left_since crashes keeps_model (found_by_crash s e a) (touches_disk e a) e d last) moments.0 touches, (refl, prefix))),
+  )
+  moments_on keeps_model s [] (b ∷ given) e a first mid last moments touches prefix = absurd moments
+  moments_on keeps_model s (x ∷ events) [] e a first mid last moments touches prefix = absurd moments
+  moments_on keeps_model s (x ∷ events) (b ∷ given) e a first mid last moments touches prefix =
+      (moments.0, (moments.1.0, (moments.1.1.0, moments_on keeps_model (after s x b) events given e a moments.1.0 mid last moments.1.1.1 touches prefix)))

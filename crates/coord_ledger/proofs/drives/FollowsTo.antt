@@ -1,0 +1,77 @@
+-- What a driver makes of any event, and of a crash.
+use Rattle.std.proofs.Common.{◌≡◌, ℕ, Bool, true, false, List, [], Option, Some, None, Ok, Err, refl, sym, ap, ◌∙◌, subst, inl, inr}
+use Rattle.std.specs.Prelude.{IfErr, IfOk, OnErr, Result}
+use Rattle.std.specs.Option.{option_map}
+use Rattle.coord_disk.specs.Model.Present.{Present}
+use Rattle.coord_store.proofs.OneWorld.{recovered_is_one}
+use Rattle.coord_ledger.specs.declared.events.Answer.{Answer}
+use Rattle.coord_ledger.specs.declared.events.Answer.TheVariants.{Opened}
+use Rattle.coord_ledger.specs.declared.events.Event.{Event}
+use Rattle.coord_ledger.specs.declared.events.Event.TheVariants.{Crash}
+use Rattle.coord_ledger.specs.declared.release.Release.{Release}
+use Rattle.coord_ledger.specs.declared.trace.RunFaultKind.{RunFaultKind}
+use Rattle.coord_ledger.specs.declared.trace.RunFaultKind.TheVariants.{OutOfMemory, Store}
+use Rattle.coord_ledger.specs.ledger.Driven.{Driven, IsLeftByCrash, at_home}
+use Rattle.coord_ledger.specs.ledger.Driver.{IsEventFault, IsPromised, IsReopenFault, IsReopened}
+use Rattle.coord_ledger.specs.ledger.Follows.{FollowsTo, Held, ImagesGive, flight_out}
+use Rattle.coord_ledger.specs.ledger.State.{LedgerState, ledger_over}
+use Rattle.coord_ledger.specs.machine.Answers.{kept, kept_by}
+use Rattle.coord_ledger.specs.machine.Consistent.{IsConsistent}
+use Rattle.coord_ledger.specs.machine.Log.{Log, settled_world, world_after}
+use Rattle.coord_ledger.specs.machine.Machine.{Machine}
+use Rattle.coord_ledger.specs.promises.Headline.{IsCutShort, wants_memory}
+use Rattle.coord_ledger.proofs.follows.FollowsCalls.{follows_crash}
+
+-- ---- the event that it was
+
+pub met : {D E : Type 0} (s : Machine) (e what : Event) (r answer : Result Answer E) (h new : Held D) (a : Answer) → IfOk r (λ x. FollowsTo s what x new) → answer ≡ r → answer ≡ Ok a → e ≡ what → h ≡ new → FollowsTo s e a h
+met s e what r answer h new a to says ok event held =
+    let one : FollowsTo s what a new = subst (λ q. IfOk q (λ x. FollowsTo s what x new)) (sym says ∙ ok) to in
+    subst (λ x. FollowsTo s x a h) (sym event) (subst (FollowsTo s what a) (sym held) one)
+
+pub met_cut : {D E : Type 0} (s : Machine) (e what : Event) (r answer : Result Answer E) (h new : Held D) (x : E) (released : List Release) → OnErr r (IsCutShort s what new.released) → answer ≡ r → answer ≡ Err x → e ≡ what → h ≡ new → released ≡ h.released → IsCutShort s e released
+met_cut {D} s e what r answer h new x released cut says err event held given =
+    let one : IsCutShort s what new.released = subst (λ q. OnErr q (IsCutShort s what new.released)) (sym says ∙ err) cut in
+    subst (λ y. IsCutShort s y released) (sym event) (subst (IsCutShort s what) (sym (given ∙ ap (λ (k : Held D). k.released) held)) one)
+
+pub on_err_map : {A E X Y : Type 0} (r : Result A E) → (X → Y) → OnErr r X → OnErr r Y
+on_err_map (Ok a) f x = tt
+on_err_map (Err e) f x = f x
+
+pub if_err_map : {A E : Type 0} {P Q : E → Type 0} (r : Result A E) → ((e : E) → P e → Q e) → IfErr r P → IfErr r Q
+if_err_map (Ok a) f p = tt
+if_err_map (Err e) f p = f e p
+
+pub memory_fault : (model : Option Bool) (e : Event) (k : RunFaultKind) → k ≡ OutOfMemory → wants_memory e ≡ true → IsEventFault model e k
+memory_fault model e k is wants = subst (IsEventFault model e) (sym is) wants
+
+-- ---- a crash
+
+pub some_is : (b : Bool) → Some b ≡ Some true → b ≡ true
+some_is true is = refl
+some_is false is = cc
+
+pub crash_on : (model : Option Bool) → IsPromised model Crash → model ≡ Some true
+crash_on model (inl on) = on
+crash_on model (inr other) = let none : ⊥ = cc in absurd none
+
+pub crash_fault : (model : Option Bool) (b : Bool) (present : Present) (log : Log) (counts : List ℕ) (k : RunFaultKind) → model ≡ Some b → ImagesGive b present log counts → IsReopenFault b present k → IsEventFault model Crash k
+crash_fault model b present log counts OutOfMemory is images cause = refl
+crash_fault model b present log counts (Store fault) is images cause = (refl, λ on. let keeps = some_is b (sym is ∙ on) in cause keeps (λ image here. let one = images keeps image here in (world_after log one.0, one.1.1)))
+
+-- a ledger that was made anew follows it
+pub follows_reopened : {D : Type 0} (s : Machine) (keeps_model : D → Bool) (present : D → Present) (clock : D → ℕ) (left_since : D → ℕ → List ℕ → Type 0) (crashes : D → D → Type 0) (before : D) (l : LedgerState D) (released : List Release) → IsConsistent s → released ≡ s.released → ImagesGive (keeps_model before) (present before) s.log (kept s) → keeps_model before ≡ true → IsReopened keeps_model present clock left_since crashes before l →
+    FollowsTo s Crash (Opened (settled_world l.log).count) (record { ledger = l; flight = None; claims = []; seen = 0; released = released })
+follows_reopened {D} s keeps_model present clock left_since crashes before l released is given images keeps opened =
+    let from = opened.from keeps in
+    subst (λ (m : LedgerState D). FollowsTo s Crash (Opened (settled_world m.log).count) (record { ledger = m; flight = None; claims = []; seen = 0; released = released })) (sym opened.is)
+    (follows_crash s released (keeps_model before) (present before) from.0 opened.world opened.disk is given images keeps from.1.0 from.1.1)
+
+-- and is over a world that the crash may leave
+pub left_by_crash : {D : Type 0} (d : Driven D) (keeps_model : D → Bool) (present : D → Present) (clock : D → ℕ) (left_since : D → ℕ → List ℕ → Type 0) (crashes : D → D → Type 0) (before : D) (l : LedgerState D) → keeps_model before ≡ true →
+    ImagesGive (keeps_model before) (present before) d.ledger.log (kept_by d.ledger.log.settled (option_map flight_out d.flight) d.ledger.doubt) → IsReopened keeps_model present clock left_since crashes before l → IsLeftByCrash d (at_home l)
+left_by_crash {D} d keeps_model present clock left_since crashes before l keeps images opened =
+    let from = opened.from keeps in
+    let one = images keeps from.0 from.1.0 in
+    let world = recovered_is_one from.0 opened.world (world_after d.ledger.log one.0) from.1.1 one.1.1 in
+    (one.0, (one.1.0, (opened.disk, ap at_home opened.is ∙ ap (λ w. at_home (ledger_over w opened.disk)) world)))

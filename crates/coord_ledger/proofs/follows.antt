@@ -1,0 +1,12 @@
+-- How a ledger and its flight follow the event machine.
+pub mod SameSteps
+pub mod Granted
+pub mod Collectable
+pub mod Kept
+pub mod IsOut
+pub mod Follows
+pub mod FollowsSteps
+pub mod FollowsFlights
+pub mod FollowsTickets
+pub mod FollowsCrashes
+pub mod FollowsCalls

@@ -1,0 +1,44 @@
+-- The numbers and worlds of a ledger that follows the event machine are the machine's.
+use Rattle.std.proofs.Common.{◌≡◌, sym, ap, ◌∙◌, subst}
+use Rattle.std.specs.Prelude.{is_some}
+use Rattle.coord_types.specs.declared.steps.Step.{Step}
+use Rattle.coord_ledger.specs.declared.events.Answer.{Answer}
+use Rattle.coord_ledger.specs.declared.events.Event.{Event}
+use Rattle.coord_ledger.specs.ledger.Follows.{Follows, FollowsTo, Held}
+use Rattle.coord_ledger.specs.machine.After.{after}
+use Rattle.coord_ledger.specs.machine.Answers.{IsOneOf, answers, verdict_on}
+use Rattle.coord_ledger.specs.machine.Consistent.{IsConsistent, IsConsistentLog}
+use Rattle.coord_ledger.specs.machine.Log.{Log, accepted_count, pending, settled_count, settled_world}
+use Rattle.coord_ledger.specs.machine.Machine.{Machine, has_stopped}
+use Rattle.coord_ledger.specs.machine.Submits.{verdict}
+use Rattle.coord_ledger.proofs.machine.Logs.{moved_accepted, moved_count, moved_is_consistent, moved_pending, moved_settled}
+use Rattle.coord_ledger.proofs.machine.Moved.{moved_verdict}
+
+module _ {D : Type 0} (h : Held D) (s : Machine) (is : IsConsistent s) (follows : Follows h s) where
+  abbrev log : Log
+  log = h.ledger.log
+
+  pub log_consistent : IsConsistentLog h.ledger.log
+  log_consistent = subst IsConsistentLog (sym follows.log) (moved_is_consistent s.log follows.by is.log follows.within)
+
+  pub accepted_is : accepted_count h.ledger.log ≡ accepted_count s.log
+  accepted_is = ap accepted_count follows.log ∙ moved_accepted s.log follows.by follows.within is.log
+
+  pub count_is : settled_count h.ledger.log ≡ settled_count s.log
+  count_is = ap settled_count follows.log ∙ moved_count s.log follows.by follows.within is.log
+
+  pub settled_is : settled_world h.ledger.log ≡ settled_world s.log
+  settled_is = ap settled_world follows.log ∙ moved_settled s.log follows.by follows.within
+
+  pub pending_is : pending h.ledger.log ≡ pending s.log
+  pending_is = ap pending follows.log ∙ moved_pending s.log follows.by follows.within
+
+  pub stopped_is : is_some h.ledger.doubt ≡ has_stopped s
+  stopped_is = ap is_some follows.doubt
+
+  pub verdict_is : (x : Step) → verdict (is_some h.ledger.doubt) h.ledger.log x ≡ verdict_on s x
+  verdict_is x = (λ i. verdict (stopped_is i) (follows.log i) x) ∙ moved_verdict (has_stopped s) s.log follows.by follows.within is.log x
+
+  -- whatever an event leaves as it was
+  pub stays : (e : Event) (a : Answer) → IsOneOf a (answers s e) → after s e a ≡ s → FollowsTo s e a h
+  stays e a allowed same = record { allowed = allowed; follows = subst (Follows h) (sym same) follows }

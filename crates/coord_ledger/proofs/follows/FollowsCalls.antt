@@ -1,0 +1,107 @@
+-- What the calls of a ledger and of a flight make of them follows the event machine.
+use Rattle.std.proofs.Common.{◌≡◌, ℕ, zero, suc, ◌+◌, Bool, true, false, List, [], ◌∷◌, ◌++◌, length, take, Option, Some, None, refl, sym, ap, ◌∙◌, subst, append-nil, inl, inr}
+use Rattle.std.proofs.lemmas.List.{length-take}
+use Rattle.coord_types.specs.declared.limits.TheConstants.{MAX_BATCH_STEPS}
+use Rattle.coord_disk.specs.Model.Present.{Present, IsImage}
+use Rattle.coord_store.proofs.OneWorld.{recovered_is_one}
+use Rattle.coord_store.specs.Recovered.{Recovered}
+use Rattle.coord_world.specs.protocol.Next.{fold}
+use Rattle.coord_world.specs.protocol.NumberedWorld.{World}
+use Rattle.coord_world.specs.protocol.Outputs.{outs}
+use Rattle.coord_ledger.specs.declared.events.Answer.TheVariants.{Begun, Finished, Opened}
+use Rattle.coord_ledger.specs.declared.events.Event.TheVariants.{Begin, Finish, Crash}
+use Rattle.coord_ledger.specs.declared.mark.Mark.{Mark}
+use Rattle.coord_ledger.specs.declared.mark.Mark.TheVariants.{New, Good, Torn}
+use Rattle.coord_ledger.specs.declared.release.Release.{Release}
+use Rattle.coord_ledger.specs.ledger.Calls.{FlightGives, GivesFlown, GivesSettled, LedgerGives, keeps_store, next_flight, releases_in, taken_back, with_out}
+use Rattle.coord_ledger.specs.ledger.Follows.{Follows, FollowsTo, GivesOneOf, Held, ImagesGive, IsOut, flight_out}
+use Rattle.coord_ledger.specs.ledger.State.{FlightState, LedgerState, ledger_over}
+use Rattle.coord_ledger.specs.machine.After.{releases_of, settling_releases}
+use Rattle.coord_ledger.specs.machine.Answers.{IsOneOf, kept, kept_by}
+use Rattle.coord_ledger.specs.machine.Consistent.{IsConsistent}
+use Rattle.coord_ledger.specs.machine.Log.{pending, settled_count, world_after}
+use Rattle.coord_ledger.specs.machine.Machine.{Machine}
+use Rattle.coord_ledger.proofs.follows.FollowsCrashes.{follows_opened}
+use Rattle.coord_ledger.proofs.follows.FollowsFlights.{follows_begun, follows_good, follows_stopped, follows_unsettled}
+use Rattle.coord_ledger.proofs.machine.Logs.{world-add}
+
+-- ---- flights go out and come back
+
+-- the flight that goes out next is the ledger's own
+pub next_is_out : {D : Type 0} (l : LedgerState D) (disk : D) → IsOut (with_out l (length (take MAX_BATCH_STEPS (pending l.log)))) (next_flight l.log disk)
+next_is_out l disk = record { size = refl; first = refl; steps = taken_twice MAX_BATCH_STEPS (pending l.log); world = refl }
+  where
+    taken_twice : {A : Type 0} (n : ℕ) (xs : List A) → take n xs ≡ take (length (take n xs)) xs
+    taken_twice zero xs = refl
+    taken_twice (suc n) [] = refl
+    taken_twice (suc n) (x ∷ xs) = ap (λ l. x ∷ l) (taken_twice n xs)
+
+pub follows_next : {D : Type 0} (h : Held D) (s : Machine) (f : FlightState D) (left : LedgerState D) → IsConsistent s → Follows h s → keeps_store h.ledger ≡ false → f ≡ next_flight h.ledger.log f.disk → left ≡ with_out h.ledger (length f.steps) →
+    FollowsTo s Begin (Begun (length f.steps)) (record h { ledger = left; flight = Some f })
+follows_next h s f left is follows goes flies leaves =
+    let log = h.ledger.log in
+    let steps : f.steps ≡ take MAX_BATCH_STEPS (pending log) = ap (λ (g : FlightState _). g.steps) flies in
+    let same : left ≡ with_out h.ledger (length (take MAX_BATCH_STEPS (pending log))) = leaves ∙ ap (λ l. with_out h.ledger (length l)) steps in
+    let own : IsOut left f = subst (λ l. IsOut l f) (sym same) (subst (IsOut (with_out h.ledger (length (take MAX_BATCH_STEPS (pending log))))) (sym flies) (next_is_out h.ledger f.disk)) in
+    follows_begun h s is follows f left goes (ap (λ (l : LedgerState _). l.log) leaves) (ap (λ (l : LedgerState _). l.doubt) leaves) own (ap (λ (g : FlightState _). g.mark) flies) (ap length steps ∙ length-take MAX_BATCH_STEPS (pending log))
+
+-- what a flight of its own releases
+own_releases : {D : Type 0} (l : LedgerState D) (f : FlightState D) → IsOut l f → releases_of (outs f.world f.steps) ≡ settling_releases l.log (length f.steps)
+own_releases l f own = λ i. releases_of (outs (own.world i) (own.steps i))
+
+pub follows_returned : {D : Type 0} (h : Held D) (s : Machine) (f : FlightState D) (back : LedgerState D) (releases : List Release) → IsConsistent s → Follows h s → h.flight ≡ Some f → IsOut h.ledger f → back ≡ taken_back h.ledger (length f.steps) f.mark f.disk → releases ≡ releases_in f f.mark →
+    FollowsTo s Finish (Finished (settled_count back.log)) (record h { ledger = back; flight = None; released = h.released ++ releases })
+follows_returned {D} h s f back releases is follows holds own returns gives = by_mark f.mark refl
+  where
+    by_mark : (m : Mark) → f.mark ≡ m → FollowsTo s Finish (Finished (settled_count back.log)) (record h { ledger = back; flight = None; released = h.released ++ releases })
+    by_mark New mark =
+        let now : back ≡ taken_back h.ledger (length f.steps) New f.disk = returns ∙ ap (λ m. taken_back h.ledger (length f.steps) m f.disk) mark in
+        let none : releases ≡ [] = gives ∙ ap (releases_in f) mark in
+        subst (λ rs. FollowsTo s Finish (Finished (settled_count back.log)) (record h { ledger = back; flight = None; released = rs })) (sym (ap (λ l. h.released ++ l) none ∙ append-nil h.released))
+        (follows_unsettled h s is follows f holds back mark (ap (λ (l : LedgerState D). l.log) now) (ap (λ (l : LedgerState D). l.doubt) now) (ap (λ (l : LedgerState D). l.out) now))
+    by_mark Good mark =
+        let now : back ≡ taken_back h.ledger (length f.steps) Good f.disk = returns ∙ ap (λ m. taken_back h.ledger (length f.steps) m f.disk) mark in
+        let all : releases ≡ settling_releases h.ledger.log (length f.steps) = gives ∙ ap (releases_in f) mark ∙ own_releases h.ledger f own in
+        follows_good h s is follows f holds back (h.released ++ releases) mark (ap (λ (l : LedgerState D). l.log) now) (ap (λ (l : LedgerState D). l.doubt) now) (ap (λ (l : LedgerState D). l.out) now) (ap (λ l. h.released ++ l) all)
+    by_mark Torn mark =
+        let now : back ≡ taken_back h.ledger (length f.steps) Torn f.disk = returns ∙ ap (λ m. taken_back h.ledger (length f.steps) m f.disk) mark in
+        let none : releases ≡ [] = gives ∙ ap (releases_in f) mark in
+        subst (λ rs. FollowsTo s Finish (Finished (settled_count back.log)) (record h { ledger = back; flight = None; released = rs })) (sym (ap (λ l. h.released ++ l) none ∙ append-nil h.released))
+        (follows_stopped h s is follows f holds back mark (ap (λ (l : LedgerState D). l.log) now) (ap (λ (l : LedgerState D). l.doubt) now) (ap (λ (l : LedgerState D). l.out) now))
+
+-- ---- images
+
+-- of a ledger's disk, while its store is at home
+pub ledger_images : {D : Type 0} (l : LedgerState D) (disk : D) (keeps_model : Bool) (present : D → Present) → (keeps_model ≡ true → LedgerGives present l disk) → ImagesGive keeps_model (present disk) l.log (kept_by l.log.settled None l.doubt)
+ledger_images l disk keeps_model present gives model image here = by_doubt l.doubt (gives model image here)
+  where
+    by_doubt : (o : Option ℕ) → GivesSettled l.log o image → (n : ℕ) × (IsOneOf n (kept_by l.log.settled None o) × Recovered image (world_after l.log n))
+    by_doubt None given = (l.log.settled, (inl refl, given))
+    by_doubt (Some b) (inl given) = (l.log.settled, (inl refl, given))
+    by_doubt (Some b) (inr given) = (l.log.settled + b, (inr (inl refl), given))
+
+-- what bytes give of a flight's world, they give of its ledger's log
+pub flight_gives : {D : Type 0} (l : LedgerState D) (f : FlightState D) (image : List ℕ) → IsOut l f → GivesFlown f.mark f.world f.steps image → GivesOneOf l.log (kept_by l.log.settled (Some (flight_out f)) l.doubt) image
+flight_gives l f image own gives = by_mark f.mark gives
+  where
+    all : fold f.world f.steps ≡ world_after l.log (l.log.settled + length f.steps)
+    all = (λ i. fold (own.world i) (own.steps i)) ∙ sym (world-add l.log l.log.settled (length f.steps))
+
+    by_mark : (m : Mark) → GivesFlown m f.world f.steps image → GivesOneOf l.log (kept_by l.log.settled (Some (record { size = length f.steps; mark = m })) l.doubt) image
+    by_mark New given = (l.log.settled, (inl refl, subst (Recovered image) own.world given))
+    by_mark Good given = (l.log.settled + length f.steps, (inl refl, subst (Recovered image) all given))
+    by_mark Torn (inl given) = (l.log.settled, (inl refl, subst (Recovered image) own.world given))
+    by_mark Torn (inr given) = (l.log.settled + length f.steps, (inr (inl refl), subst (Recovered image) all given))
+
+-- of the disk of a flight that is out
+pub flight_images : {D : Type 0} (l : LedgerState D) (f : FlightState D) (keeps_model : Bool) (present : D → Present) → IsOut l f → (keeps_model ≡ true → FlightGives present f) → ImagesGive keeps_model (present f.disk) l.log (kept_by l.log.settled (Some (flight_out f)) l.doubt)
+flight_images l f keeps_model present own gives model image here = flight_gives l f image own (gives model image here)
+
+-- ---- crash
+
+-- a store that was opened on an image is one of a world that a crash may keep
+pub follows_crash : {D : Type 0} (s : Machine) (released : List Release) (keeps_model : Bool) (present : Present) (image : List ℕ) (w : World) (disk : D) → IsConsistent s → released ≡ s.released → ImagesGive keeps_model present s.log (kept s) → keeps_model ≡ true → IsImage present image → Recovered image w →
+    FollowsTo s Crash (Opened w.count) (record { ledger = ledger_over w disk; flight = None; claims = []; seen = 0; released = released })
+follows_crash s released keeps_model present image w disk is given images model here recovered =
+    let one = images model image here in
+    follows_opened s released one.0 w disk is given one.1.0 (recovered_is_one image w (world_after s.log one.0) recovered one.1.1)

@@ -1,0 +1,123 @@
+-- What a driver holds follows the event machine where replies are collected, packets sent again, and worlds shown.
+use Rattle.std.proofs.Common.{◌≡◌, ℕ, ◌≤◌, Bool, false, true, List, [], ◌∷◌, ◌++◌, length, Option, Some, None, refl, sym, ap, ◌∙◌, subst, arith, inl, inr, cond}
+use Rattle.std.specs.Prelude.{is_some, nat_le}
+use Rattle.std.proofs.lemmas.Bool.Decides.{nat_tests}
+use Rattle.coord_types.specs.declared.refusals.Refusal.TheVariants.{OutOfMemory, Stopped}
+use Rattle.coord_types.specs.declared.steps.Reply.{Reply}
+use Rattle.coord_world.specs.protocol.Outputs.{again}
+use Rattle.coord_ledger.specs.declared.events.Answer.{Answer}
+use Rattle.coord_ledger.specs.declared.events.Answer.TheVariants.{Refused, NoTicket, Collected, Waiting, Resent, Shown}
+use Rattle.coord_ledger.specs.declared.events.Event.TheVariants.{Collect, Resend, Show}
+use Rattle.coord_ledger.specs.declared.release.Release.{Release}
+use Rattle.coord_ledger.specs.ledger.Follows.{Follows, FollowsTo, Held, HoldsTicket}
+use Rattle.coord_ledger.specs.ledger.State.{Claim, IsCollectable, IsGranted, reply_of}
+use Rattle.coord_ledger.specs.machine.After.{resent, spent}
+use Rattle.coord_ledger.specs.machine.Answers.{IsOneOf, answers, ticket, to_collect}
+use Rattle.coord_ledger.specs.machine.Consistent.{IsConsistent}
+use Rattle.coord_ledger.specs.machine.Log.{Log, accepted_count, settled_count, settled_world}
+use Rattle.coord_ledger.specs.machine.Machine.{Machine}
+use Rattle.coord_ledger.specs.machine.Shown.{shown}
+use Rattle.coord_ledger.proofs.follows.Granted.{holds_at, holds_spent}
+use Rattle.coord_ledger.proofs.follows.Follows.{accepted_is, count_is, settled_is, stays, stopped_is}
+
+module _ {D : Type 0} (h : Held D) (s : Machine) (is : IsConsistent s) (follows : Follows h s) where
+  abbrev log : Log
+  log = h.ledger.log
+
+  -- ---- collect
+
+  pub follows_no_ticket : (i : ℕ) → ticket h.claims i ≡ None → FollowsTo s (Collect i) NoTicket h
+  follows_no_ticket i none = stays h s is follows (Collect i) NoTicket (by_ticket (ticket s.tickets i) (subst (λ c. HoldsTicket log c (ticket s.tickets i)) none (holds_at log h.claims s.tickets i follows.tickets))) refl
+    where
+      by_ticket : (t : Option Reply) → HoldsTicket log None t → IsOneOf NoTicket (to_collect (settled_count s.log) t)
+      by_ticket None holds = inl refl
+      by_ticket (Some r) holds = absurd holds
+
+  module _ (i : ℕ) (claim : Claim) (there : ticket h.claims i ≡ Some claim) where
+    -- the machine's ticket is this claim's
+    ticket_is : (ticket s.tickets i ≡ Some (reply_of claim)) × IsGranted log claim
+    ticket_is = by_ticket (ticket s.tickets i) (subst (λ c. HoldsTicket log c (ticket s.tickets i)) there (holds_at log h.claims s.tickets i follows.tickets))
+      where
+        by_ticket : (t : Option Reply) → HoldsTicket log (Some claim) t → (t ≡ Some (reply_of claim)) × IsGranted log claim
+        by_ticket None holds = absurd holds
+        by_ticket (Some r) holds = (ap Some (sym holds.0), holds.1)
+
+    may_collect : (a : Answer) → IsOneOf a (cond (nat_le claim.step (settled_count s.log)) (Collected (reply_of claim)) Waiting ∷ []) → IsOneOf a (answers s (Collect i))
+    may_collect a one = subst (λ t. IsOneOf a (to_collect (settled_count s.log) t)) (sym ticket_is.0) one
+
+    pub follows_collected : IsCollectable log claim → FollowsTo s (Collect i) (Collected (reply_of claim)) (record h { claims = spent h.claims i })
+    follows_collected settled =
+        let here : claim.step ≤ settled_count s.log = subst (λ n. claim.step ≤ n) (count_is h s is follows) settled.settled in
+        let low : nat_le claim.step (settled_count s.log) ≡ true = grind (arith, nat_tests, here) in
+        record {
+          allowed = may_collect (Collected (reply_of claim)) (subst (λ b. IsOneOf (Collected (reply_of claim)) (cond b (Collected (reply_of claim)) Waiting ∷ [])) (sym low) (inl refl));
+          follows = record {
+            by = follows.by;
+            within = follows.within;
+            log = follows.log;
+            doubt = follows.doubt;
+            flight = follows.flight;
+            own = follows.own;
+            tickets = holds_spent log h.claims s.tickets i follows.tickets;
+            seen = follows.seen;
+            released = follows.released;
+          };
+        }
+
+    pub follows_waiting : (IsCollectable log claim → ⊥) → FollowsTo s (Collect i) Waiting h
+    follows_waiting never = stays h s is follows (Collect i) Waiting (may_collect Waiting (by_count (nat_le claim.step (settled_count s.log)) refl)) refl
+      where
+        by_count : (b : Bool) → nat_le claim.step (settled_count s.log) ≡ b → IsOneOf Waiting (cond b (Collected (reply_of claim)) Waiting ∷ [])
+        by_count true low =
+            let here : claim.step ≤ settled_count s.log = grind (arith, nat_tests, low) in
+            absurd (never (record { settled = subst (λ n. claim.step ≤ n) (sym (count_is h s is follows)) here; granted = ticket_is.1 }))
+        by_count false high = inl refl
+
+  -- ---- resend and show
+
+  pub follows_resent : (released : List Release) → released ≡ h.released ++ resent (settled_world log) → FollowsTo s Resend (Resent (length (again (settled_world log)))) (record h { released = released })
+  follows_resent released given =
+      record {
+        allowed = inl (ap (λ w. Resent (length (again w))) (settled_is h s is follows));
+        follows = record {
+          by = follows.by;
+          within = follows.within;
+          log = follows.log;
+          doubt = follows.doubt;
+          flight = follows.flight;
+          own = follows.own;
+          tickets = follows.tickets;
+          seen = follows.seen;
+          released = given ∙ (λ i. follows.released i ++ resent (settled_is h s is follows i));
+        };
+      }
+
+  -- nothing greater was shown
+  pub never_behind : h.seen ≤ settled_count h.ledger.log
+  never_behind = omega (arith, follows.seen, is.seen, count_is h s is follows)
+
+  may_show : (b : Bool) (a : Answer) → is_some h.ledger.doubt ≡ b → IsOneOf a (cond b (Refused Stopped ∷ []) (Shown (shown (accepted_count s.log) (settled_world s.log)) ∷ Refused OutOfMemory ∷ [])) → IsOneOf a (answers s Show)
+  may_show b a stopped one = subst (λ x. IsOneOf a (cond x (Refused Stopped ∷ []) (Shown (shown (accepted_count s.log) (settled_world s.log)) ∷ Refused OutOfMemory ∷ []))) (sym stopped ∙ stopped_is h s is follows) one
+
+  pub follows_shown : is_some h.ledger.doubt ≡ false → FollowsTo s Show (Shown (shown (accepted_count log) (settled_world log))) (record h { seen = settled_count log })
+  follows_shown going =
+      record {
+        allowed = may_show false (Shown (shown (accepted_count log) (settled_world log))) going (inl (λ i. Shown (shown (accepted_is h s is follows i) (settled_is h s is follows i))));
+        follows = record {
+          by = follows.by;
+          within = follows.within;
+          log = follows.log;
+          doubt = follows.doubt;
+          flight = follows.flight;
+          own = follows.own;
+          tickets = follows.tickets;
+          seen = count_is h s is follows;
+          released = follows.released;
+        };
+      }
+
+  pub follows_not_shown : is_some h.ledger.doubt ≡ true → FollowsTo s Show (Refused Stopped) h
+  follows_not_shown stopped = stays h s is follows Show (Refused Stopped) (may_show true (Refused Stopped) stopped (inl refl)) refl
+
+  pub follows_unshown : is_some h.ledger.doubt ≡ false → FollowsTo s Show (Refused OutOfMemory) h
+  follows_unshown going = stays h s is follows Show (Refused OutOfMemory) (may_show false (Refused OutOfMemory) going (inr (inl refl))) refl

@@ -1,0 +1,73 @@
+-- A flight that is the ledger's own, and how the ledger takes it back.
+use Rattle.std.proofs.Common.{◌≡◌, ℕ, ◌+◌, false, List, length, take, drop, Option, Some, None, is_some, refl, sym, ap, ◌∙◌, subst}
+use Rattle.coord_store.specs.Kept.{Kept}
+use Rattle.coord_types.specs.declared.steps.Kind.{Kind}
+use Rattle.coord_types.specs.declared.steps.Step.{Step}
+use Rattle.coord_world.specs.protocol.Next.{fold}
+use Rattle.coord_world.specs.protocol.NumberedWorld.{World}
+use Rattle.coord_ledger.specs.code.Holding.{IsFlight, IsLedger, disk_at, out_of}
+use Rattle.coord_ledger.specs.declared.mark.Mark.{Mark}
+use Rattle.coord_ledger.specs.declared.mark.Mark.TheVariants.{Good, Torn}
+use Rattle.coord_ledger.specs.ledger.Calls.{with_out}
+use Rattle.coord_ledger.specs.ledger.Follows.{IsOut}
+use Rattle.coord_ledger.specs.ledger.State.{FlightState, LedgerState}
+use Rattle.coord_ledger.specs.machine.Log.{Log, pending, settled_count, with_settled}
+use Rattle.coord_ledger.proofs.follows.Kept.{back_good, back_torn}
+
+module _ {D : Type 0} where
+  -- what a ledger and a flight are to contracts, of their parts
+  abbrev pub ledger_of : Log → ℕ → Option ℕ → Option (Kept D) → LedgerState D
+  ledger_of log out doubt store = record { log = log; out = out_of store out; doubt = doubt; disk = disk_at store }
+
+  abbrev pub flight_of : ℕ → List Step → World → Mark → Kept D → FlightState D
+  flight_of first steps world mark kept = record { first = first; steps = steps; world = world; mark = mark; disk = kept.disk }
+
+  -- equal in all their parts
+  pub same_flight : (a b : ℕ) (xs ys : List Step) (v w : World) (mark : Mark) (kept : Kept D) → a ≡ b → xs ≡ ys → v ≡ w → flight_of a xs v mark kept ≡ flight_of b ys w mark kept
+  same_flight a b xs ys v w mark kept p q r = ap (λ n. flight_of n xs v mark kept) p ∙ ap (λ l. flight_of b l v mark kept) q ∙ ap (λ x. flight_of b ys x mark kept) r
+
+  pub same_away : (log : Log) (out n m : ℕ) (doubt : Option ℕ) (store later : Option (Kept D)) (l : LedgerState D) → ledger_of log out doubt store ≡ l → later ≡ None → n ≡ m → ledger_of log n doubt later ≡ with_out l m
+  same_away log out n m doubt store (Some kept) l seen gone same = cc
+  same_away log out n m doubt store None l seen gone same = let away : Option (Kept D) = None in ap (λ k. ledger_of log k doubt away) same ∙ ap (λ (x : LedgerState D). with_out x m) seen
+
+  -- a ledger of which a flight is out
+  away_of : (log : Log) (kinds : List Kind) (front settled : World) (out n : ℕ) (doubt : Option ℕ) (store : Option (Kept D)) → IsLedger log kinds front settled out doubt store → out_of store out ≡ Some n
+      → IsLedger {D = D} log kinds front settled n doubt None
+  away_of log kinds front settled out n doubt None is flown = let same : out ≡ n = cc in subst (λ m. IsLedger {D = D} log kinds front settled m doubt None) same is
+  away_of log kinds front settled out n doubt (Some kept) is flown = cc
+
+  module _ (log : Log) (kinds : List Kind) (front settled : World) (out : ℕ) (doubt : Option ℕ) (store : Option (Kept D)) (l : LedgerState D) (seen : ledger_of log out doubt store ≡ l) (is : IsLedger log kinds front settled out doubt store) (first : ℕ) (steps : List Step) (world : World) (mark : Mark) (kept : Kept D) (f : FlightState D) (flown : flight_of first steps world mark kept ≡ f) (flight : IsFlight steps world mark kept) (own : IsOut l f) where
+    parts : IsOut (ledger_of log out doubt store) (flight_of first steps world mark kept)
+    parts = subst (λ x. IsOut x (flight_of first steps world mark kept)) (sym seen) (subst (λ y. IsOut l y) (sym flown) own)
+
+    away : IsLedger {D = D} log kinds front settled (length steps) doubt None
+    away = away_of log kinds front settled out (length steps) doubt store is parts.size
+
+    of_mark : (m : Mark) → mark ≡ m → IsFlight steps world m kept
+    of_mark m same = subst (λ x. IsFlight steps world x kept) same flight
+
+    pub took_torn : (n : ℕ) → n ≡ length steps → mark ≡ Torn → IsLedger log kinds front settled out (Some n) (Some kept)
+    took_torn n size torn =
+        subst (λ m. IsLedger log kinds front settled out (Some m) (Some kept)) (sym size) (back_torn log kinds front settled (length steps) out doubt kept steps world away (of_mark Torn torn) parts.world refl parts.steps)
+
+    pub took_good : (n : ℕ) (later : World) → n ≡ length steps → mark ≡ Good → later ≡ fold world steps → IsLedger (with_settled log n) kinds front later out doubt (Some kept)
+    took_good n later size good led =
+        subst (λ m. IsLedger (with_settled log m) kinds front later out doubt (Some kept)) (sym size) (back_good log kinds front settled later (length steps) out doubt kept steps world away (of_mark Good good) parts.world refl parts.steps led)
+
+  -- ---- whether it is the own one
+
+  module _ (log : Log) (kinds : List Kind) (front settled : World) (out : ℕ) (doubt : Option ℕ) (store : Option (Kept D)) (is : IsLedger log kinds front settled out doubt store) (first : ℕ) (steps : List Step) (world : World) (mark : Mark) (kept : Kept D) where
+    pub own_is : is_some store ≡ false → length steps ≡ out → first ≡ settled_count log + 1 → world ≡ settled → steps ≡ take out (drop log.settled log.trail) → IsOut (ledger_of log out doubt store) (flight_of first steps world mark kept)
+    own_is gone size number at same = record {
+      size = out_is store gone ∙ ap Some (sym size);
+      first = number;
+      steps = same ∙ ap (λ n. take n (pending log)) (sym size);
+      world = at ∙ is.settled_is;
+    }
+      where
+        out_is : (o : Option (Kept D)) → is_some o ≡ false → out_of o out ≡ Some out
+        out_is None gone = refl
+        out_is (Some kept) gone = cc
+
+    pub own_steps : length steps ≡ out → IsOut (ledger_of log out doubt store) (flight_of first steps world mark kept) → steps ≡ take out (drop log.settled log.trail)
+    own_steps size own = own.steps ∙ ap (λ n. take n (pending log)) size

@@ -1,0 +1,17 @@
+-- What holds of the event machine, whatever its events are answered.
+pub mod Lists
+pub mod Verdicts
+pub mod Logs
+pub mod Releases
+pub mod ReleasedSteps
+pub mod Replies
+pub mod ReplyKinds
+pub mod ConsistentTold
+pub mod ConsistentSteps
+pub mod ConsistentFlights
+pub mod Consistent
+pub mod SettledStays
+pub mod Safe
+pub mod Moved
+pub mod SignalsOnce
+pub mod WorkedRuns

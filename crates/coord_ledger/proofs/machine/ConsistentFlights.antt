@@ -1,0 +1,147 @@
+-- The machine stays consistent as flights go out and come back, and over a crash.
+use Rattle.std.proofs.Common.{◌≡◌, ℕ, ◌+◌, ◌-◌, ◌≤◌, false, List, [], ◌∷◌, map, length, Option, Some, None, refl, sym, subst, arith, cond}
+use Rattle.std.specs.Prelude.{is_some}
+use Rattle.std.specs.List.{AllByRecursion}
+use Rattle.std.proofs.lemmas.Bool.Decides.{nat_tests}
+use Rattle.std.proofs.lemmas.List.{length-drop, take-take}
+use Rattle.coord_types.specs.declared.refusals.Refusal.TheVariants.{OutOfMemory}
+use Rattle.coord_world.proofs.Facade.{by_test}
+use Rattle.coord_ledger.specs.declared.events.Answer.TheVariants.{Begun, Nothing, Opened, Refused}
+use Rattle.coord_ledger.specs.declared.events.Event.TheVariants.{Begin, Commit, Finish, Crash}
+use Rattle.coord_ledger.specs.declared.mark.Mark.{Mark}
+use Rattle.coord_ledger.specs.declared.mark.Mark.TheVariants.{New, Good, Torn}
+use Rattle.coord_ledger.specs.machine.After.{after, after_finish, crashed, finished, marked}
+use Rattle.coord_ledger.specs.machine.Answers.{IsOneOf, kept, kept_by, kept_with, next_size, stays_home, to_begin, to_commit, to_finish, with_flight}
+use Rattle.coord_ledger.specs.machine.Consistent.{DoubtFits, FlightFits, IsConsistent}
+use Rattle.coord_ledger.specs.machine.Log.{Log, cut_to, pending, settled_count, with_settled}
+use Rattle.coord_ledger.specs.machine.Machine.{FlightOut, Machine, has_stopped}
+use Rattle.coord_ledger.proofs.machine.Lists.{each_one}
+use Rattle.coord_ledger.proofs.machine.Logs.{log_stays}
+use Rattle.coord_ledger.proofs.machine.ConsistentTold.{told_releasing, told_same, told_settled}
+
+-- ---- flights
+
+stays_flight : (s : Machine) (f : Option FlightOut) → IsConsistent s → FlightFits s.log f → DoubtFits s.log f s.doubt → IsConsistent (record s { flight = f })
+stays_flight s f is fits doubt = record { log = is.log; flight = fits; doubt = doubt; seen = is.seen; tickets = is.tickets; told = is.told }
+
+pub all_begin : (s : Machine) → IsConsistent s → AllByRecursion (λ a. IsConsistent (after s Begin a)) (to_begin s)
+all_begin s is =
+    by_test (stays_home (has_stopped s) (is_some s.flight) s.log)
+    (λ b. AllByRecursion (λ a. IsConsistent (after s Begin a)) (cond b (Nothing ∷ []) (Begun (next_size s.log) ∷ Refused OutOfMemory ∷ [])))
+    (λ _. (is, tt))
+    (λ free.
+    let f : FlightOut = record { size = next_size s.log; mark = New } in
+    let rest : length (pending s.log) ≡ length s.log.trail - s.log.settled = length-drop s.log.settled s.log.trail in
+    let some : 1 ≤ length (pending s.log) = grind (arith, nat_tests, free) in
+    (stays_flight s (Some f) is (grind (arith, some), grind (arith, some), grind (arith, some, rest, is.log.within)) (going s.log f s.doubt (grind (arith, nat_tests, free))), (is, tt)))
+  where
+    going : (log : Log) (f : FlightOut) (o : Option ℕ) → is_some o ≡ false → DoubtFits log (Some f) o
+    going log f None none = tt
+    going log f (Some b) none = cc
+
+-- the mark of the flight
+pub all_commit : (s : Machine) (f : Option FlightOut) → IsConsistent s → AllByRecursion (λ a. IsConsistent (after s Commit a)) (with_flight f (λ g. to_commit g.mark))
+all_commit s None is = (is, tt)
+all_commit s (Some f) is = by_mark f.mark
+  where
+    fits : (log : Log) (m : Mark) (o : Option FlightOut) → FlightFits log o → FlightFits log (marked m o)
+    fits log m None h = h
+    fits log m (Some g) h = h
+
+    doubts : (log : Log) (m : Mark) (o : Option FlightOut) (b : Option ℕ) → DoubtFits log o b → DoubtFits log (marked m o) b
+    doubts log m o None h = tt
+    doubts log m None (Some b) h = h
+    doubts log m (Some g) (Some b) h = h
+
+    with_mark : (m : Mark) → IsConsistent (record s { flight = marked m s.flight })
+    with_mark m = stays_flight s (marked m s.flight) is (fits s.log m s.flight is.flight) (doubts s.log m s.flight s.doubt is.doubt)
+
+    by_mark : (m : Mark) → AllByRecursion (λ a. IsConsistent (after s Commit a)) (to_commit m)
+    by_mark New = (with_mark Good, (with_mark Torn, (is, tt)))
+    by_mark Good = (is, tt)
+    by_mark Torn = (is, tt)
+
+-- where a flight is out, nothing is in doubt
+pub no_doubt : (log : Log) (f : FlightOut) (o : Option ℕ) → DoubtFits log (Some f) o → o ≡ None
+no_doubt log f None fits = refl
+no_doubt log f (Some b) fits = absurd fits
+
+stays_settled : (s : Machine) (b : ℕ) → IsConsistent s → s.log.settled + b ≤ length s.log.trail → s.doubt ≡ None → IsConsistent (after_finish s b Good)
+stays_settled s b is le none =
+    record {
+      log = log_stays.settled s.log b is.log le;
+      flight = tt;
+      doubt = subst (DoubtFits (with_settled s.log b) None) (sym none) tt;
+      seen = omega (arith, is.seen);
+      tickets = is.tickets;
+      told = told_releasing s.log b s.released s.replied le is.told;
+    }
+
+stays_torn : (s : Machine) (b : ℕ) → IsConsistent s → s.log.settled + b ≤ length s.log.trail → IsConsistent (after_finish s b Torn)
+stays_torn s b is le = record { log = is.log; flight = tt; doubt = le; seen = is.seen; tickets = is.tickets; told = is.told }
+
+pub all_finish : (s : Machine) (f : Option FlightOut) → IsConsistent s → s.flight ≡ f → AllByRecursion (λ a. IsConsistent (after s Finish a)) (with_flight f (λ g. to_finish (settled_count s.log) g.size g.mark))
+all_finish s None is out = (is, tt)
+all_finish s (Some f) is out = by_mark f.mark refl
+  where
+    fits : FlightFits s.log (Some f)
+    fits = subst (FlightFits s.log) out is.flight
+
+    none : s.doubt ≡ None
+    none = no_doubt s.log f s.doubt (subst (λ o. DoubtFits s.log o s.doubt) out is.doubt)
+
+    back : (m : Mark) → f.mark ≡ m → IsConsistent (after_finish s f.size m) → IsConsistent (finished s s.flight)
+    back m e is = subst (λ o. IsConsistent (finished s o)) (sym out) (subst (λ x. IsConsistent (after_finish s f.size x)) (sym e) is)
+
+    by_mark : (m : Mark) → f.mark ≡ m → AllByRecursion (λ a. IsConsistent (after s Finish a)) (to_finish (settled_count s.log) f.size m)
+    by_mark New e = (back New e (stays_flight s None is tt (subst (DoubtFits s.log None) (sym none) tt)), tt)
+    by_mark Good e = (back Good e (stays_settled s f.size is fits.2 none), (is, tt))
+    by_mark Torn e = (back Torn e (stays_torn s f.size is fits.2), tt)
+
+-- ---- crashes
+
+-- a crash keeps the settled steps, and perhaps some more
+pub record KeepsMore (s : Machine) (n : ℕ) : Type 0 where
+  pub more : ℕ
+  pub is : n ≡ s.log.settled + more
+  pub within : s.log.settled + more ≤ length s.log.trail
+
+pub all_keep_more : (s : Machine) (f : Option FlightOut) (o : Option ℕ) → s.log.settled ≤ length s.log.trail → FlightFits s.log f → DoubtFits s.log f o → AllByRecursion (KeepsMore s) (kept_by s.log.settled f o)
+all_keep_more s None None within fits doubt = (record { more = 0; is = omega arith; within = omega (arith, within) }, tt)
+all_keep_more s None (Some b) within fits doubt = (record { more = 0; is = omega arith; within = omega (arith, within) }, (record { more = b; is = refl; within = doubt }, tt))
+all_keep_more s (Some f) o within fits doubt = by_mark f.mark
+  where
+    none : KeepsMore s s.log.settled
+    none = record { more = 0; is = omega arith; within = omega (arith, within) }
+
+    all : KeepsMore s (s.log.settled + f.size)
+    all = record { more = f.size; is = refl; within = fits.2 }
+
+    by_mark : (m : Mark) → AllByRecursion (KeepsMore s) (kept_with s.log.settled f.size m)
+    by_mark New = (none, tt)
+    by_mark Good = (all, tt)
+    by_mark Torn = (none, (all, tt))
+
+pub kept_more : (s : Machine) (n : ℕ) → IsConsistent s → IsOneOf n (kept s) → KeepsMore s n
+kept_more s n is one = each_one (KeepsMore s) (kept s) n one (all_keep_more s s.flight s.doubt is.log.within is.flight is.doubt)
+
+stays_crashed : (s : Machine) (k : ℕ) → IsConsistent s → s.log.settled + k ≤ length s.log.trail → IsConsistent (crashed s (s.log.settled + k))
+stays_crashed s k is le =
+    let n = s.log.settled + k in
+    record {
+      log = log_stays.cut s.log n is.log (omega arith) le;
+      flight = tt;
+      doubt = tt;
+      seen = omega arith;
+      tickets = tt;
+      told = told_same (with_settled s.log k) (cut_to s.log n) s.released s.replied refl refl (take-take n n s.log.trail (omega arith)) (told_settled s.log k s.released s.replied is.told);
+    }
+
+crash_stays : (s : Machine) (n : ℕ) → IsConsistent s → KeepsMore s n → IsConsistent (after s Crash (Opened (s.log.base.count + n)))
+crash_stays s n is keeps =
+    let same : s.log.base.count + n - s.log.base.count ≡ s.log.settled + keeps.more = omega (arith, keeps.is) in
+    subst (λ m. IsConsistent (crashed s m)) (sym same) (stays_crashed s keeps.more is keeps.within)
+
+pub all_crash : (s : Machine) (ns : List ℕ) → IsConsistent s → AllByRecursion (KeepsMore s) ns → AllByRecursion (λ a. IsConsistent (after s Crash a)) (map (λ n. Opened (s.log.base.count + n)) ns)
+all_crash s [] is all = tt
+all_crash s (n ∷ ns) is all = (crash_stays s n is all.0, all_crash s ns is all.1)

@@ -1,0 +1,161 @@
+-- A machine whose base is moved along its settled steps gives the same answers.
+use Rattle.std.proofs.Common.{◌≡◌, ℕ, ◌+◌, ◌-◌, ◌≤◌, Bool, false, List, [], ◌∷◌, ◌++◌, map, length, take, drop, Option, Some, None, Ok, Err, refl, sym, ap, subst, arith, cond}
+use Rattle.std.specs.Prelude.{is_some, nat_le, Result, ◌||◌, ◌==◌, min}
+use Rattle.std.specs.List.{AllByRecursion}
+use Rattle.std.proofs.lemmas.List.{drop-append-le, take-append-le, take-take}
+use Rattle.coord_types.specs.declared.limits.TheConstants.{MAX_BATCH_STEPS, MAX_PENDING}
+use Rattle.coord_types.specs.declared.refusals.Refusal.{Refusal}
+use Rattle.coord_types.specs.declared.refusals.Refusal.TheVariants.{OutOfMemory, Stopped}
+use Rattle.coord_types.specs.declared.steps.Reply.{Reply}
+use Rattle.coord_types.specs.declared.steps.Step.{Step}
+use Rattle.coord_world.proofs.Facade.{by_test}
+use Rattle.coord_world.specs.declared.verdicts.Verdict.{Verdict}
+use Rattle.coord_world.specs.declared.verdicts.Verdict.TheVariants.{Fresh, Repeat}
+use Rattle.coord_world.specs.protocol.Acceptance.{accepts}
+use Rattle.coord_world.specs.protocol.Next.{fold}
+use Rattle.coord_world.specs.protocol.Outputs.{again, outs}
+use Rattle.coord_ledger.specs.declared.events.Answer.{Answer}
+use Rattle.coord_ledger.specs.declared.events.Answer.TheVariants.{Begun, Collected, NoFlight, Nothing, Opened, Refused, Resent, Shown, Waiting}
+use Rattle.coord_ledger.specs.declared.events.Event.{Event}
+use Rattle.coord_ledger.specs.declared.events.Event.TheVariants.{Submit, Begin, Commit, Finish, Collect, Resend, Show, Crash}
+use Rattle.coord_ledger.specs.declared.mark.Mark.{Mark}
+use Rattle.coord_ledger.specs.declared.mark.Mark.TheVariants.{New, Good, Torn}
+use Rattle.coord_ledger.specs.laws.Moving.{CrashReopens, MovedAnswersAlike, MovedGoesOn, with_base_moved}
+use Rattle.coord_ledger.specs.machine.After.{after, after_finish, after_submit, crashed, finished, releases_of, resent}
+use Rattle.coord_ledger.specs.machine.Answers.{answers, kept_by, kept_with, ticket, to_collect, to_commit, to_finish, to_submit, stays_home, next_size, verdict_on, with_flight}
+use Rattle.coord_ledger.specs.machine.Consistent.{IsConsistent, IsConsistentLog}
+use Rattle.coord_ledger.specs.machine.Log.{Log, accepted_count, moved, pending, settled_count, settled_world, with_settled, with_step, world_after}
+use Rattle.coord_ledger.specs.machine.Machine.{FlightOut, Machine, has_stopped}
+use Rattle.coord_ledger.specs.machine.Shown.{shown}
+use Rattle.coord_ledger.specs.machine.Submits.{unless_full, verdict}
+use Rattle.coord_ledger.specs.promises.Headline.{is_crash}
+use Rattle.coord_ledger.proofs.machine.Lists.{each_one}
+use Rattle.coord_ledger.proofs.machine.Logs.{moved_accepted, moved_count, moved_front, moved_pending, moved_settled, none_behind}
+
+-- what a crash may keep, by counts
+kept_counts : (c d : ℕ) (f : Option FlightOut) (o : Option ℕ) (c' d' : ℕ) → c' + d' ≡ c + d → map (λ n. Opened (c' + n)) (kept_by d' f o) ≡ map (λ n. Opened (c + n)) (kept_by d f o)
+kept_counts c d f o c' d' e = by_flight f o
+  where
+    one : Opened (c' + d') ≡ Opened (c + d)
+    one = ap Opened e
+
+    more : (b : ℕ) → Opened (c' + (d' + b)) ≡ Opened (c + (d + b))
+    more b = ap Opened (omega (arith, e))
+
+    by_mark : (b : ℕ) (m : Mark) → map (λ n. Opened (c' + n)) (kept_with d' b m) ≡ map (λ n. Opened (c + n)) (kept_with d b m)
+    by_mark b New = λ i. one i ∷ []
+    by_mark b Good = λ i. more b i ∷ []
+    by_mark b Torn = λ i. one i ∷ more b i ∷ []
+
+    by_flight : (f : Option FlightOut) (o : Option ℕ) → map (λ n. Opened (c' + n)) (kept_by d' f o) ≡ map (λ n. Opened (c + n)) (kept_by d f o)
+    by_flight None None = λ i. one i ∷ []
+    by_flight None (Some b) = λ i. one i ∷ more b i ∷ []
+    by_flight (Some f) o = by_mark f.size f.mark
+
+-- the verdict on a step
+pub moved_verdict : (stopped : Bool) (log : Log) (n : ℕ) (le : n ≤ log.settled) (is : IsConsistentLog log) (x : Step) → verdict stopped (moved log n) x ≡ verdict stopped log x
+moved_verdict stopped log n le is x =
+    λ i. cond stopped (Err Stopped) (unless_full (nat_le MAX_PENDING (length (moved_pending log n le i))) (accepts (moved_front log n le is i) (moved_settled log n le i) x))
+
+-- a step more
+pub moved_step : (log : Log) (n : ℕ) (x : Step) → n ≤ length log.trail → with_step (moved log n) x ≡ moved (with_step log x) n
+moved_step log n x le =
+    let begins : take n (log.trail ++ x ∷ []) ≡ take n log.trail = take-append-le n log.trail (x ∷ []) le in
+    let ends : drop n (log.trail ++ x ∷ []) ≡ drop n log.trail ++ x ∷ [] = drop-append-le n log.trail (x ∷ []) le in
+    λ i. record { base = fold log.base (sym begins i); trail = sym ends i; settled = log.settled - n }
+
+-- more steps settled
+pub moved_more : (log : Log) (n b : ℕ) → n ≤ log.settled → with_settled (moved log n) b ≡ moved (with_settled log b) n
+moved_more log n b le =
+    let more : log.settled - n + b ≡ log.settled + b - n = omega (arith, le) in
+    λ i. record { base = world_after log n; trail = drop n log.trail; settled = more i }
+
+module _ (s : Machine) (n : ℕ) (is : IsConsistent s) (le : n ≤ s.log.settled) where
+  accepted : accepted_count (moved s.log n) ≡ accepted_count s.log
+  accepted = moved_accepted s.log n le is.log
+
+  settled : settled_world (moved s.log n) ≡ settled_world s.log
+  settled = moved_settled s.log n le
+
+  waiting : pending (moved s.log n) ≡ pending s.log
+  waiting = moved_pending s.log n le
+
+  count : settled_count (moved s.log n) ≡ settled_count s.log
+  count = moved_count s.log n le is.log
+
+  judged : (x : Step) → verdict_on (with_base_moved s n) x ≡ verdict_on s x
+  judged x = moved_verdict (has_stopped s) s.log n le is.log x
+
+  alike : (e : Event) → answers (with_base_moved s n) e ≡ answers s e
+  alike (Submit x) = λ i. to_submit (accepted i + 1) (judged x i)
+  alike Begin = λ i. cond (has_stopped s || is_some s.flight || (length (waiting i) == 0)) (Nothing ∷ []) (Begun (min MAX_BATCH_STEPS (length (waiting i))) ∷ Refused OutOfMemory ∷ [])
+  alike Commit = refl
+  alike Finish = λ i. with_flight s.flight (λ f. to_finish (count i) f.size f.mark)
+  alike (Collect j) = λ i. to_collect (count i) (ticket s.tickets j)
+  alike Resend = λ i. Resent (length (again (settled i))) ∷ Refused OutOfMemory ∷ []
+  alike Show = λ i. cond (has_stopped s) (Refused Stopped ∷ []) (Shown (shown (accepted i) (settled i)) ∷ Refused OutOfMemory ∷ [])
+  alike Crash = kept_counts s.log.base.count s.log.settled s.flight s.doubt (moved s.log n).base.count (s.log.settled - n) count
+
+  on_submit : (x : Step) (v : Result Verdict Refusal) → AllByRecursion (λ a. after_submit (with_base_moved s n) x v a ≡ with_base_moved (after_submit s x v a) n) (to_submit (accepted_count s.log + 1) v)
+  on_submit x (Ok (Fresh k)) =
+      let new : Reply = record { step = accepted_count s.log + 1; kind = k } in
+      ((λ i. record s { log = moved_step s.log n x (omega (arith, le, is.log.within)) i; tickets = s.tickets ++ Some new ∷ [] }), (refl, tt))
+  on_submit x (Ok (Repeat r)) = (refl, tt)
+  on_submit x (Err e) = (refl, tt)
+
+  on_mark : (b : ℕ) (m : Mark) → after_finish (with_base_moved s n) b m ≡ with_base_moved (after_finish s b m) n
+  on_mark b New = refl
+  on_mark b Good = λ i. record s { log = moved_more s.log n b le i; flight = None; released = s.released ++ releases_of (outs (settled i) (take b (waiting i))) }
+  on_mark b Torn = refl
+
+  on_finish : (f : Option FlightOut) → finished (with_base_moved s n) f ≡ with_base_moved (finished s f) n
+  on_finish None = refl
+  on_finish (Some f) = on_mark f.size f.mark
+
+  on_finished : (b : ℕ) (m : Mark) → AllByRecursion (λ a. after (with_base_moved s n) Finish a ≡ with_base_moved (after s Finish a) n) (to_finish (settled_count s.log) b m)
+  on_finished b New = (on_finish s.flight, tt)
+  on_finished b Good = (on_finish s.flight, (refl, tt))
+  on_finished b Torn = (on_finish s.flight, tt)
+
+  on_committed : (m : Mark) → AllByRecursion (λ a. after (with_base_moved s n) Commit a ≡ with_base_moved (after s Commit a) n) (to_commit m)
+  on_committed New = (refl, (refl, (refl, tt)))
+  on_committed Good = (refl, tt)
+  on_committed Torn = (refl, tt)
+
+  on_flight : (e : Event) (f : Option FlightOut) (given : FlightOut → List Answer) → after (with_base_moved s n) e NoFlight ≡ with_base_moved (after s e NoFlight) n → ((g : FlightOut) → AllByRecursion (λ a. after (with_base_moved s n) e a ≡ with_base_moved (after s e a) n) (given g)) →
+      AllByRecursion (λ a. after (with_base_moved s n) e a ≡ with_base_moved (after s e a) n) (with_flight f given)
+  on_flight e None given none all = (none, tt)
+  on_flight e (Some f) given none all = all f
+
+  on_collect : (j : ℕ) (t : Option Reply) → AllByRecursion (λ a. after (with_base_moved s n) (Collect j) a ≡ with_base_moved (after s (Collect j) a) n) (to_collect (settled_count s.log) t)
+  on_collect j None = (refl, tt)
+  on_collect j (Some r) =
+      by_test (nat_le r.step (settled_count s.log)) (λ b. AllByRecursion (λ a. after (with_base_moved s n) (Collect j) a ≡ with_base_moved (after s (Collect j) a) n) (cond b (Collected r) Waiting ∷ [])) (λ _. (refl, tt)) (λ _. (refl, tt))
+
+  on_event : (e : Event) → is_crash e ≡ false → AllByRecursion (λ a. after (with_base_moved s n) e a ≡ with_base_moved (after s e a) n) (answers s e)
+  on_event (Submit x) calm =
+      subst (λ u. AllByRecursion (λ a. after_submit (with_base_moved s n) x u a ≡ with_base_moved (after_submit s x (verdict_on s x) a) n) (to_submit (accepted_count s.log + 1) (verdict_on s x))) (sym (judged x)) (on_submit x (verdict_on s x))
+  on_event Begin calm =
+      by_test (stays_home (has_stopped s) (is_some s.flight) s.log)
+      (λ b. AllByRecursion (λ a. after (with_base_moved s n) Begin a ≡ with_base_moved (after s Begin a) n) (cond b (Nothing ∷ []) (Begun (next_size s.log) ∷ Refused OutOfMemory ∷ [])))
+      (λ _. (refl, tt)) (λ _. (refl, (refl, tt)))
+  on_event Commit calm = on_flight Commit s.flight (λ f. to_commit f.mark) refl (λ f. on_committed f.mark)
+  on_event Finish calm = on_flight Finish s.flight (λ f. to_finish (settled_count s.log) f.size f.mark) refl (λ f. on_finished f.size f.mark)
+  on_event (Collect j) calm = on_collect j (ticket s.tickets j)
+  on_event Resend calm = ((λ i. record (with_base_moved s n) { released = s.released ++ resent (settled i) }), (refl, tt))
+  on_event Show calm =
+      by_test (has_stopped s)
+      (λ b. AllByRecursion (λ a. after (with_base_moved s n) Show a ≡ with_base_moved (after s Show a) n) (cond b (Refused Stopped ∷ []) (Shown (shown (accepted_count s.log) (settled_world s.log)) ∷ Refused OutOfMemory ∷ [])))
+      (λ _. (refl, tt)) (λ _. ((λ i. record (with_base_moved s n) { seen = count i }), (refl, tt)))
+  on_event Crash calm = let no : ⊥ = cc in absurd no
+
+pub moved_answers_alike : MovedAnswersAlike
+moved_answers_alike s n e is le = alike s n is le e
+
+pub moved_goes_on : MovedGoesOn
+moved_goes_on s n e a is le calm one = each_one (λ b. after (with_base_moved s n) e b ≡ with_base_moved (after s e b) n) (answers s e) a one (on_event s n is le e calm)
+
+pub crash_reopens : CrashReopens
+crash_reopens s n =
+    let none : n - n ≡ 0 = omega arith in
+    λ i. record (crashed s n) { log = record { base = fold s.log.base (take-take n n s.log.trail (omega arith) i); trail = none_behind n s.log.trail i; settled = none i } }

@@ -1,0 +1,94 @@
+-- The settled steps stay.
+use Rattle.std.proofs.Common.{◌≡◌, ℕ, ◌+◌, ◌-◌, ◌≤◌, List, [], ◌∷◌, map, length, Option, Some, None, Ok, Err, refl, sym, subst, arith, cond}
+use Rattle.std.specs.Prelude.{is_some, nat_le, Result}
+use Rattle.std.specs.List.{AllByRecursion}
+use Rattle.std.proofs.lemmas.List.{take-append-le, take-take}
+use Rattle.coord_types.specs.declared.refusals.Refusal.{Refusal}
+use Rattle.coord_types.specs.declared.refusals.Refusal.TheVariants.{OutOfMemory, Stopped}
+use Rattle.coord_types.specs.declared.steps.Reply.{Reply}
+use Rattle.coord_types.specs.declared.steps.Step.{Step}
+use Rattle.coord_world.proofs.Facade.{by_test}
+use Rattle.coord_world.specs.declared.verdicts.Verdict.{Verdict}
+use Rattle.coord_world.specs.declared.verdicts.Verdict.TheVariants.{Fresh, Repeat}
+use Rattle.coord_ledger.specs.declared.events.Answer.{Answer}
+use Rattle.coord_ledger.specs.declared.events.Answer.TheVariants.{Begun, Collected, NoFlight, Nothing, Opened, Refused, Shown, Waiting}
+use Rattle.coord_ledger.specs.declared.events.Event.{Event}
+use Rattle.coord_ledger.specs.declared.events.Event.TheVariants.{Submit, Begin, Commit, Finish, Collect, Resend, Show, Crash}
+use Rattle.coord_ledger.specs.declared.mark.Mark.{Mark}
+use Rattle.coord_ledger.specs.declared.mark.Mark.TheVariants.{New, Good, Torn}
+use Rattle.coord_ledger.specs.laws.Laws.{KeepsSettled, SettledStays}
+use Rattle.coord_ledger.specs.machine.After.{after, after_finish, after_submit, crashed, finished}
+use Rattle.coord_ledger.specs.machine.Answers.{answers, kept, next_size, stays_home, ticket, to_collect, to_commit, to_finish, to_submit, verdict_on, with_flight}
+use Rattle.coord_ledger.specs.machine.Consistent.{IsConsistent}
+use Rattle.coord_ledger.specs.machine.Log.{accepted_count, settled_count, settled_world}
+use Rattle.coord_ledger.specs.machine.Machine.{FlightOut, Machine, has_stopped}
+use Rattle.coord_ledger.specs.machine.Shown.{shown}
+use Rattle.coord_ledger.proofs.machine.ConsistentFlights.{KeepsMore, all_keep_more}
+use Rattle.coord_ledger.proofs.machine.Lists.{each_one}
+
+-- where log and settled steps are as they were
+same : (s : Machine) → KeepsSettled s s
+same s = record { base = refl; settled = omega arith; steps = refl }
+
+keeps_submit : (s : Machine) (x : Step) (v : Result Verdict Refusal) → s.log.settled ≤ length s.log.trail → AllByRecursion (λ a. KeepsSettled s (after_submit s x v a)) (to_submit (accepted_count s.log + 1) v)
+keeps_submit s x (Ok (Fresh k)) le = (record { base = refl; settled = omega arith; steps = take-append-le s.log.settled s.log.trail (x ∷ []) le }, (same s, tt))
+keeps_submit s x (Ok (Repeat r)) le = (record { base = refl; settled = omega arith; steps = refl }, tt)
+keeps_submit s x (Err e) le = (same s, tt)
+
+keeps_commit : (s : Machine) (m : Mark) → AllByRecursion (λ a. KeepsSettled s (after s Commit a)) (to_commit m)
+keeps_commit s New = (record { base = refl; settled = omega arith; steps = refl }, (record { base = refl; settled = omega arith; steps = refl }, (same s, tt)))
+keeps_commit s Good = (same s, tt)
+keeps_commit s Torn = (same s, tt)
+
+after_keeps : (s : Machine) (b : ℕ) (m : Mark) → KeepsSettled s (after_finish s b m)
+after_keeps s b New = record { base = refl; settled = omega arith; steps = refl }
+after_keeps s b Good = record { base = refl; settled = omega arith; steps = refl }
+after_keeps s b Torn = record { base = refl; settled = omega arith; steps = refl }
+
+finish_keeps : (s : Machine) (f : Option FlightOut) → KeepsSettled s (finished s f)
+finish_keeps s None = same s
+finish_keeps s (Some f) = after_keeps s f.size f.mark
+
+keeps_finish : (s : Machine) (m : Mark) (b : ℕ) → AllByRecursion (λ a. KeepsSettled s (after s Finish a)) (to_finish (settled_count s.log) b m)
+keeps_finish s New b = (finish_keeps s s.flight, tt)
+keeps_finish s Good b = (finish_keeps s s.flight, (same s, tt))
+keeps_finish s Torn b = (finish_keeps s s.flight, tt)
+
+-- where a flight is out
+keeps_flight : (s : Machine) (e : Event) (f : Option FlightOut) (given : FlightOut → List Answer) → KeepsSettled s (after s e NoFlight) → ((g : FlightOut) → AllByRecursion (λ a. KeepsSettled s (after s e a)) (given g)) → AllByRecursion (λ a. KeepsSettled s (after s e a)) (with_flight f given)
+keeps_flight s e None given none all = (none, tt)
+keeps_flight s e (Some f) given none all = all f
+
+keeps_collect : (s : Machine) (i : ℕ) (t : Option Reply) → AllByRecursion (λ a. KeepsSettled s (after s (Collect i) a)) (to_collect (settled_count s.log) t)
+keeps_collect s i None = (same s, tt)
+keeps_collect s i (Some r) =
+    by_test (nat_le r.step (settled_count s.log)) (λ b. AllByRecursion (λ a. KeepsSettled s (after s (Collect i) a)) (cond b (Collected r) Waiting ∷ []))
+    (λ _. (record { base = refl; settled = omega arith; steps = refl }, tt)) (λ _. (same s, tt))
+
+crash_keeps : (s : Machine) (n : ℕ) → KeepsMore s n → KeepsSettled s (after s Crash (Opened (s.log.base.count + n)))
+crash_keeps s n keeps =
+    let more = keeps.more in
+    let is : s.log.base.count + n - s.log.base.count ≡ s.log.settled + more = omega (arith, keeps.is) in
+    subst (λ m. KeepsSettled s (crashed s m)) (sym is) (record { base = refl; settled = omega arith; steps = take-take s.log.settled (s.log.settled + more) s.log.trail (omega arith) })
+
+keeps_crash : (s : Machine) (ns : List ℕ) → AllByRecursion (KeepsMore s) ns → AllByRecursion (λ a. KeepsSettled s (after s Crash a)) (map (λ n. Opened (s.log.base.count + n)) ns)
+keeps_crash s [] all = tt
+keeps_crash s (n ∷ ns) all = (crash_keeps s n all.0, keeps_crash s ns all.1)
+
+all_keep : (s : Machine) (e : Event) → IsConsistent s → AllByRecursion (λ a. KeepsSettled s (after s e a)) (answers s e)
+all_keep s (Submit x) is = keeps_submit s x (verdict_on s x) is.log.within
+all_keep s Begin is =
+    by_test (stays_home (has_stopped s) (is_some s.flight) s.log)
+    (λ b. AllByRecursion (λ a. KeepsSettled s (after s Begin a)) (cond b (Nothing ∷ []) (Begun (next_size s.log) ∷ Refused OutOfMemory ∷ [])))
+    (λ _. (same s, tt)) (λ _. (record { base = refl; settled = omega arith; steps = refl }, (same s, tt)))
+all_keep s Commit is = keeps_flight s Commit s.flight (λ f. to_commit f.mark) (same s) (λ f. keeps_commit s f.mark)
+all_keep s Finish is = keeps_flight s Finish s.flight (λ f. to_finish (settled_count s.log) f.size f.mark) (same s) (λ f. keeps_finish s f.mark f.size)
+all_keep s (Collect i) is = keeps_collect s i (ticket s.tickets i)
+all_keep s Resend is = (record { base = refl; settled = omega arith; steps = refl }, (same s, tt))
+all_keep s Show is =
+    by_test (has_stopped s) (λ b. AllByRecursion (λ a. KeepsSettled s (after s Show a)) (cond b (Refused Stopped ∷ []) (Shown (shown (accepted_count s.log) (settled_world s.log)) ∷ Refused OutOfMemory ∷ [])))
+    (λ _. (same s, tt)) (λ _. (record { base = refl; settled = omega arith; steps = refl }, (same s, tt)))
+all_keep s Crash is = keeps_crash s (kept s) (all_keep_more s s.flight s.doubt is.log.within is.flight is.doubt)
+
+pub settled_stays : SettledStays
+settled_stays s e a is one = each_one (λ a. KeepsSettled s (after s e a)) (answers s e) a one (all_keep s e is)
