@@ -4,7 +4,7 @@ ghost use Rattle.std.specs.Prelude.{◌≤◌};
 
 use crate::scripts::{HALF, begun, count_on, created};
 use coord_check::{Letter, Violation};
-use coord_disk::MemDisk;
+use coord_disk::{BlipDisk, MemDisk};
 use coord_journal::format;
 use coord_store::{Store, StoreFault};
 use coord_types::NodeId;
@@ -100,6 +100,38 @@ fn a_store_is_made_once_and_not_too_small(rt: HostRuntime) -> Result<(), Fail> {
     let alloc = rt.alloc();
     let again = is_refused(alloc, &CREATED, HALF, StoreFault::NotEmpty)?;
     assert!(rt; again && is_refused(alloc, &[], HALF - 1, StoreFault::HalfSize)?);
+    Ok(())
+}
+
+/// How many calls of the device a making takes: its length is asked for, the header and the first half
+/// are written and synced, and then it is opened.
+const MAKING: u64 = 6;
+
+// Whether a making over a device that fails this call is told so, and one that ends before it is not.
+fn is_making_told(alloc: Global, call: u64) -> Result<bool, StoreFault> {
+    let disk = BlipDisk::new(MemDisk::new(alloc), call);
+    match Store::create(alloc, disk, HALF, 2) {
+        Ok(_store) => Ok(MAKING <= call),
+        Err((StoreFault::OutOfMemory, _disk)) => Err(StoreFault::OutOfMemory),
+        Err((StoreFault::Device, _disk)) if MAKING <= call => Err(StoreFault::Device),
+        Err((fault, _disk)) => Ok(fault == StoreFault::Device),
+    }
+}
+
+// The first call for which it is not.
+fn first_untold_call(alloc: Global) -> Result<Option<u64>, StoreFault> {
+    for call in 0..7 {
+        if !is_making_told(alloc, call)? {
+            return Ok(Some(call));
+        }
+    }
+    Ok(None)
+}
+
+#[test]
+fn a_making_may_fail_at_each_call(rt: HostRuntime) -> Result<(), Fail> {
+    let wrong = first_untold_call(rt.alloc())?;
+    assert!(rt; wrong.is_none(), "{wrong:?}");
     Ok(())
 }
 

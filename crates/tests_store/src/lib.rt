@@ -17,3 +17,5 @@ mod migration;
 mod migration_stops;
 #[cfg(test)]
 mod scripts;
+#[cfg(test)]
+mod settled;

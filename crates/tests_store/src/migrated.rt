@@ -4,7 +4,7 @@ ghost use Rattle.std.specs.Prelude.{◌≤◌, IfSome};
 ghost use Rattle.coord_batch.specs.Batches.{IsNumbered};
 
 use crate::scripts::{begun, commits, created, opened, order, resets, resetting, told_on};
-use coord_disk::{BlipDisk, MemDisk};
+use coord_disk::{BlipDisk, Disk, MemDisk};
 use coord_store::{CommitFault, Store, StoreFault};
 use coord_types::{Command, Group, Kind, Mode, NodeId, Output, Reply, Step};
 use coord_world::{Verdict, World};
@@ -135,15 +135,15 @@ fn is_answered(world: &World) -> bool {
     world.judge(world, &making(16)) == Ok(Verdict::Repeat(kept))
 }
 
-// Whether the raised ring answers so, and a reset goes all the way round it: to the node opposite,
-// four links away.
+// Whether the raised ring answers so, a reset goes all the way round it, to the node opposite, four
+// links away, and its steps, the distances of its Aborts with them, are read again.
 fn goes_on(alloc: Global) -> Result<bool, Fail> {
     let mut store = opened(alloc, ring(alloc)?)?;
     let is_raised = raises(&mut store);
     let is_answered = is_answered(store.world());
     let greatest = reset_ring(&mut store);
-    let are_reset = are_reset(store.world());
-    drop(store);
+    let disk = store.into_disk();
+    let are_reset = are_reset(opened(alloc, disk)?.world());
     Ok(is_raised? && is_answered && greatest? == 4 && are_reset)
 }
 
@@ -186,21 +186,31 @@ fn a_raised_store_makes_checkpoints(rt: HostRuntime) -> Result<(), Fail> {
     Ok(())
 }
 
-// Whether a store whose commit was torn is not raised, and calls its device no more: three calls open
-// it, and the next one fails.
+// Whether a commit to a store that has stopped is told so, which wants no memory.
+fn is_commit_stopped<D: Disk>(store: &mut Store<D>) -> Result<bool, CommitFault> {
+    let steps = [resetting(2)];
+    let are_fresh = store.takes(&steps)?;
+    Ok(are_fresh && store.commit(&steps) == Err(CommitFault::Stopped))
+}
+
+// Whether a store whose commit was torn is neither committed to nor raised, and calls its device no
+// more: three calls open it, and the next one fails.
 fn is_stopped(alloc: Global) -> Result<bool, Fail> {
     let mut store = opened(alloc, BlipDisk::new(begun(alloc, 1)?, 3))?;
     let torn = commits(&mut store, &[resetting(2)]);
     let answer = store.migrate();
+    let is_refused = is_commit_stopped(&mut store);
     let calls = store.into_disk().calls();
     match torn {
-        Err(CommitFault::Device) => Ok(answer == Err(StoreFault::Stopped) && calls == 4),
+        Err(CommitFault::Device) => {
+            Ok(answer == Err(StoreFault::Stopped) && calls == 4 && is_refused?)
+        }
         other => Ok(other? && false),
     }
 }
 
 #[test]
-fn a_store_that_has_stopped_is_not_raised(rt: HostRuntime) -> Result<(), Fail> {
+fn a_store_that_has_stopped_stays_as_it_is(rt: HostRuntime) -> Result<(), Fail> {
     assert!(rt; is_stopped(rt.alloc())?);
     Ok(())
 }
