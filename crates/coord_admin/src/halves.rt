@@ -38,8 +38,7 @@ impl<R: Read, W: Write> Duplex for Halves<R, W> {
 
     ghost in_turn = { λ a b c came more went later first second. (
       Consumes-trans _ _ _ came more first.0 second.0,
-      Appends-trans _ _ _ went later first.1
-          second.1,
+      Appends-trans _ _ _ went later first.1 second.1,
     ) };
 }
 
