@@ -11,6 +11,8 @@ use Rattle.coord_types.specs.declared.steps.Step.{Step}
 use Rattle.coord_world.specs.protocol.Next.{next, reply}
 use Rattle.coord_world.specs.protocol.NumberedWorld.{World, no_world}
 use Rattle.coord_world.specs.protocol.Outputs.{outs}
+use Rattle.coord_ledger.specs.declared.events.Answer.{Answer}
+use Rattle.coord_ledger.specs.declared.events.Answer.TheVariants.{Begun, Committed, Failed, Finished, Nothing}
 use Rattle.coord_ledger.specs.declared.mark.Mark.TheVariants.{New, Good, Torn}
 use Rattle.coord_ledger.specs.declared.release.Release.{Release}
 use Rattle.coord_ledger.specs.ledger.Calls.{claimed, keeps_store, taken_back}
@@ -89,6 +91,18 @@ LandsAs l f (flown.Settled releases) d = (disk : MemDisk) × ((releases ≡ rele
 LandsAs l f (flown.Failed Device) d = (disk : MemDisk) × (d ≡ at_home (taken_back l (length f.steps) Torn disk))
 LandsAs l f (flown.Failed OutOfMemory) d = (disk : MemDisk) × (d ≡ at_home (taken_back l (length f.steps) New disk))
 LandsAs l f (flown.Failed fault) d = ⊥
+
+-- what the commit of a flight and its return were answered, where so many steps are settled then
+abbrev pub landed_answers : Flown → ℕ → List Answer
+landed_answers flown.Nothing count = []
+landed_answers (flown.Settled releases) count = Committed ∷ Finished count ∷ []
+landed_answers (flown.Failed fault) count = Failed fault ∷ Finished count ∷ []
+
+-- so with its departure, for so many steps
+abbrev pub flown_answers : Flown → ℕ → ℕ → List Answer
+flown_answers flown.Nothing b count = Nothing ∷ []
+flown_answers (flown.Settled releases) b count = Begun b ∷ landed_answers (flown.Settled releases) count
+flown_answers (flown.Failed fault) b count = Begun b ∷ landed_answers (flown.Failed fault) count
 
 -- a ledger that was made of the disk of another one after a crash: over a world that the crash may leave
 abbrev pub ReopenedTo : LedgerState MemDisk → LedgerState MemDisk → Type 0
