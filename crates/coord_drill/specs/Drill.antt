@@ -78,9 +78,9 @@ holds_after holds Hold = true
 holds_after holds Crash = false
 holds_after holds asked = holds
 
-abbrev pub begun_after : Bool → List Answer → Bool
-begun_after begun (Accepted n ∷ given) = true
-begun_after begun given = begun
+abbrev pub begun_after : Bool → Asked → List Answer → Bool
+begun_after begun (Submit x) (Accepted n ∷ given) = true
+begun_after begun asked given = begun
 
 unfoldable pub after_asked : DrillState → Asked → List Answer → DrillState
-after_asked s asked given = seen_as (machine_after s asked given) (holds_after s.holds asked) (begun_after s.has_begun given)
+after_asked s asked given = seen_as (machine_after s asked given) (holds_after s.holds asked) (begun_after s.has_begun asked given)

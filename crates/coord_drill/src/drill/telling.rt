@@ -18,7 +18,7 @@ use coord_types::Refusal;
 
 impl Drill {
     /// Prints that a lane is not there.
-    #[tactic(auto, using(crate::proofs::does::LineResponds::tells_refusal))]
+    #[tactic(auto, using(crate::proofs::does::Moments::tells_refusal))]
     pub(super) fn refuse(&self, refusal: Refusal, text: &mut String) -> Result<(), Fault>
         requires ready { IsReady self.now }
         ensures told { OnOk result (Tells (string_bytes text.old) (string_bytes text.new) (λ told.
@@ -31,7 +31,7 @@ impl Drill {
     }
 
     /// Prints that nothing waits on a lane.
-    #[tactic(auto, using(crate::proofs::does::LineResponds::tells_idle))]
+    #[tactic(auto, using(crate::proofs::does::Moments::tells_idle))]
     pub(super) fn idle(&self, text: &mut String) -> Result<(), Fault>
         requires ready { IsReady self.now }
         ensures told { OnOk result (Tells (string_bytes text.old) (string_bytes text.new) (λ told.
@@ -44,7 +44,7 @@ impl Drill {
     }
 
     /// Prints what is sent again of the settled world.
-    #[tactic(auto, using(crate::proofs::does::LineResponds::tells_resent, crate::proofs::does::Settled::resent_lines, crate::proofs::does::Settled::looked_at))]
+    #[tactic(auto, using(crate::proofs::does::Moments::tells_resent, crate::proofs::does::Settled::resent_lines, crate::proofs::does::Settled::looked_at))]
     pub(super) fn resend(&self, text: &mut String) -> Result<(), Fault>
         requires ready { IsReady self.now }
         ensures told { OnOk result (Tells (string_bytes text.old) (string_bytes text.new) (λ told.
@@ -63,7 +63,7 @@ impl Drill {
     }
 
     /// Checks the front world.
-    #[tactic(auto, using(crate::proofs::does::LineResponds::tells_check))]
+    #[tactic(auto, using(crate::proofs::does::Moments::tells_check))]
     pub(super) fn check(&self, text: &mut String) -> Result<(), Fault>
         requires ready { IsReady self.now }
         ensures told { OnOk result (Tells (string_bytes text.old) (string_bytes text.new) (λ told.
@@ -76,7 +76,7 @@ impl Drill {
     }
 
     /// Shows the settled world.
-    #[tactic(auto, using(crate::proofs::does::LineResponds::tells_show))]
+    #[tactic(auto, using(crate::proofs::does::Moments::tells_show))]
     pub(super) fn show(&self, text: &mut String) -> Result<(), Fault>
         requires ready { IsReady self.now }
         ensures told { OnOk result (Tells (string_bytes text.old) (string_bytes text.new) (λ told.
