@@ -138,13 +138,15 @@ landed_home l f (flown.Failed commit.Again) new to = absurd to
 -- ---- its events
 
 -- as many steps are out as the machine sends
-pub begun_size : (m : Machine) (b : ℕ) → stays_home (has_stopped m) (is_some m.flight) m.log ≡ false → IsOneOf (Begun b) (to_begin m) → b ≡ next_size m.log
-begun_size m b away one = by_one (subst (λ home. IsOneOf (Begun b) (cond home (Nothing ∷ []) (Begun (next_size m.log) ∷ Refused OutOfMemory ∷ []))) away one)
+pub begun_size : (m : Machine) (b : ℕ) → IsOneOf (Begun b) (to_begin m) → b ≡ next_size m.log
+begun_size m b one = by_home (stays_home (has_stopped m) (is_some m.flight) m.log) one
   where
-    by_one : IsOneOf (Begun b) (Begun (next_size m.log) ∷ Refused OutOfMemory ∷ []) → b ≡ next_size m.log
-    by_one (inl same) = cc
-    by_one (inr (inl same)) = cc
-    by_one (inr (inr never)) = absurd never
+    by_home : (home : Bool) → IsOneOf (Begun b) (cond home (Nothing ∷ []) (Begun (next_size m.log) ∷ Refused OutOfMemory ∷ [])) → b ≡ next_size m.log
+    by_home true (inl same) = cc
+    by_home true (inr never) = absurd never
+    by_home false (inl same) = cc
+    by_home false (inr (inl same)) = cc
+    by_home false (inr (inr never)) = absurd never
 
 -- the departure of a flight, and then its commit and its return
 pub flown_by : (l : LedgerState MemDisk) (f : FlightState MemDisk) (v out new : Driven MemDisk) (r : Flown) (b count : ℕ) → LandsAs l f r new → GoesOnTo v (Begin ∷ []) (Begun b ∷ []) out → GoesOnTo out landing_events (landed_answers r count) new → GoesBy v (flown_answers r b count) new

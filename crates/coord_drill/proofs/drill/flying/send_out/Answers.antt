@@ -53,7 +53,7 @@ returns-clause-moments c =
           let sent = subst (λ a. SendsOut l a out) w.in-Begun.is (c.begin-begun.ensures.sent c.requires.home) in
           let drives = c.begins.ensures sent.1.0 sent.1.1.0 in
           let allowed = (c.begin-begun.ensures.answered nothing_beside (started l) drives.consistent drives.follows).allowed in
-          let size = begun_size (started l) w.in-Begun.field-0 sent.0 (subst (λ a. IsOneOf a (to_begin (started l))) w.in-Begun.is allowed) in
+          let size = begun_size (started l) w.in-Begun.field-0 (subst (λ a. IsOneOf a (to_begin (started l))) w.in-Begun.is allowed) in
           let begun = subst (λ a. GoesOnTo v (Begin ∷ []) (a ∷ []) out) w.in-Begun.is goes in
           rw w.result-is
           (if_ok_more w.land.result
