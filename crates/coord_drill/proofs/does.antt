@@ -4,5 +4,7 @@ pub mod HandedTo
 pub mod FlownTo
 pub mod Settled
 pub mod ReopenedTo
+pub mod Verdicts
 pub mod LineResponds
 pub mod Moments
+pub mod Flushes

@@ -1,7 +1,8 @@
 -- What a drill prints to what is asked of it. Each line comes from the call of the ledger that it tells of.
-use Rattle.std.specs.Prelude.{◌≡◌, ℕ, ◌+◌, nat_le, List, [], ◌++◌, take, is_some, Option, Some, None, Result, Ok, Err, if◌then◌else◌}
+use Rattle.std.specs.Prelude.{◌≡◌, ◌≢◌, ℕ, nat_le, List, [], ◌∷◌, ◌++◌, take, is_some, Option, Some, None, Result, Ok, Err, if◌then◌else◌}
+use Rattle.std.specs.List.{AllByRecursion}
 use Rattle.coord_types.specs.declared.refusals.Refusal.{Refusal}
-use Rattle.coord_types.specs.declared.refusals.Refusal.TheVariants.{Stopped}
+use Rattle.coord_types.specs.declared.refusals.Refusal.TheVariants.{OutOfMemory, Stopped}
 use Rattle.coord_types.specs.declared.steps.Reply.{Reply}
 use Rattle.coord_types.specs.declared.steps.Step.{Step}
 use Rattle.coord_check.specs.Faults.{first, faults}
@@ -9,13 +10,13 @@ use Rattle.coord_world.specs.declared.verdicts.Verdict.{Verdict}
 use Rattle.coord_world.specs.declared.verdicts.Verdict.TheVariants.{Fresh, Repeat}
 use Rattle.coord_world.specs.protocol.Outputs.{again, outs}
 use Rattle.coord_ledger.specs.declared.events.Answer.{Answer}
-use Rattle.coord_ledger.specs.declared.events.Answer.TheVariants.{Committed, Failed}
-use Rattle.coord_ledger.specs.declared.mark.Mark.TheVariants.{New}
-use Rattle.coord_ledger.specs.machine.Answers.{IsOneOf, next_size, to_commit}
-use Rattle.coord_ledger.specs.machine.Log.{Log, accepted_count, front_world, pending, settled_count, settled_world, world_after}
+use Rattle.coord_ledger.specs.declared.events.Answer.TheVariants.{Accepted, Begun, Committed, Failed, Opened, Refused, Repeated}
+use Rattle.coord_ledger.specs.machine.Answers.{next_size, verdict_on}
+use Rattle.coord_ledger.specs.machine.Log.{Log, accepted_count, front_world, pending, settled_count, settled_world, with_step}
+use Rattle.coord_ledger.specs.machine.Runs.{Answered}
 use Rattle.coord_ledger.specs.machine.Shown.{shown}
 use Rattle.coord_drill.specs.Asked.{asked}
-use Rattle.coord_drill.specs.Drill.{DrillState, IsAllowed, Luck, after_asked, after_flight, has_no_flight, drill_verdict, with_accepted}
+use Rattle.coord_drill.specs.Drill.{DrillState, after_asked, line_events, machine_of}
 use Rattle.coord_drill.specs.Printed.{bad_line, commit_line, count_line, fault_line, idle_line, opened_line, output_lines, pending_line, refusal_line, reply_line, settled_lines, view_lines}
 use Rattle.coord_drill.specs.declared.asked.Asked.{Asked}
 use Rattle.coord_drill.specs.declared.asked.Asked.TheVariants.{Submit, Refuse, Nothing, Resend, Check, Show, Hold, Flush, Crash, Version2}
@@ -24,13 +25,10 @@ use Rattle.coord_drill.specs.declared.request.Request.{Request}
 -- ---- flights: begin_flush, commit, end_flush, and for each step that is settled collect and the releases
 
 -- a flight of the next steps settles them, or tells why it was not committed
-abbrev pub commit_lines : Log → Answer → List ℕ
-commit_lines log Committed = settled_lines (settled_world log).version (outs (settled_world log) (take (next_size log) (pending log)))
-commit_lines log (Failed fault) = commit_line fault
-commit_lines log answer = []
-
-unfoldable pub flight_lines : Answer → DrillState → List ℕ
-flight_lines answer s = if has_no_flight s then [] else commit_lines s.log answer
+abbrev pub flight_lines : Log → List Answer → List ℕ
+flight_lines log (Begun b ∷ Committed ∷ given) = settled_lines (settled_world log).version (outs (settled_world log) (take (next_size log) (pending log)))
+flight_lines log (Begun b ∷ Failed fault ∷ given) = commit_line fault
+flight_lines log given = []
 
 -- ---- steps: submit, and for a repeat collect
 
@@ -38,13 +36,16 @@ flight_lines answer s = if has_no_flight s then [] else commit_lines s.log answe
 abbrev pub kept_line : ℕ → Reply → List ℕ
 kept_line count reply = if nat_le reply.step count then reply_line reply else pending_line reply.step
 
-abbrev pub verdict_lines : Luck → DrillState → Step → Result Verdict Refusal → List ℕ
-verdict_lines luck s x (Ok (Fresh kind)) = if s.holds then pending_line ((front_world s.log).count + 1) else flight_lines luck.commit (with_accepted s x)
-verdict_lines luck s x (Ok (Repeat reply)) = kept_line (settled_count s.log) reply
-verdict_lines luck s x (Err refusal) = refusal_line refusal
+abbrev pub repeat_line : ℕ → Result Verdict Refusal → List ℕ
+repeat_line count (Ok (Repeat reply)) = kept_line count reply
+repeat_line count (Ok (Fresh kind)) = []
+repeat_line count (Err refusal) = []
 
-unfoldable pub step_lines : Luck → DrillState → Step → List ℕ
-step_lines luck s x = verdict_lines luck s x (drill_verdict s x)
+abbrev pub step_lines : DrillState → Step → List Answer → List ℕ
+step_lines s x (Accepted n ∷ given) = if s.holds then pending_line n else flight_lines (with_step s.log x) given
+step_lines s x (Repeated n ∷ given) = repeat_line (settled_count s.log) (verdict_on (machine_of s) x)
+step_lines s x (Refused refusal ∷ given) = refusal_line refusal
+step_lines s x given = []
 
 -- ---- all that may be asked
 
@@ -52,33 +53,35 @@ step_lines luck s x = verdict_lines luck s x (drill_verdict s x)
 abbrev pub shown_lines : Log → Option ℕ → List ℕ
 shown_lines log doubt = if is_some doubt then refusal_line Stopped else view_lines (shown (accepted_count log) (settled_world log))
 
-unfoldable pub asked_lines : Luck → DrillState → Asked → List ℕ
-asked_lines luck s (Submit x) = step_lines luck s x
-asked_lines luck s (Refuse refusal) = refusal_line refusal
-asked_lines luck s Nothing = idle_line
-asked_lines luck s Resend = output_lines (settled_world s.log).version (again (settled_world s.log))
-asked_lines luck s Check = fault_line (first (faults (front_world s.log)))
-asked_lines luck s Show = shown_lines s.log s.doubt
-asked_lines luck s Hold = []
-asked_lines luck s Flush = flight_lines luck.commit s ++ count_line (settled_world (after_flight luck.commit s).log).count
-asked_lines luck s Crash = opened_line (world_after s.log luck.kept).count
-asked_lines luck s Version2 = []
+abbrev pub opened_lines : List Answer → List ℕ
+opened_lines (Opened count ∷ given) = opened_line count
+opened_lines given = []
+
+unfoldable pub asked_lines : DrillState → Asked → List Answer → List ℕ
+asked_lines s (Submit x) given = step_lines s x given
+asked_lines s (Refuse refusal) given = refusal_line refusal
+asked_lines s Nothing given = idle_line
+asked_lines s Resend given = output_lines (settled_world s.log).version (again (settled_world s.log))
+asked_lines s Check given = fault_line (first (faults (front_world s.log)))
+asked_lines s Show given = shown_lines s.log s.doubt
+asked_lines s Hold given = []
+asked_lines s Flush given = flight_lines s.log given ++ count_line (settled_world (after_asked s Flush given).log).count
+asked_lines s Crash given = opened_lines given
+asked_lines s Version2 given = []
 
 -- ---- what may be answered
 
--- a flight may print this and leave the drill so
-pub record Flies (s : DrillState) (told : List ℕ) (t : DrillState) : Type 0 where
-  pub answer : Answer
-  pub allowed : IsOneOf answer (to_commit New)
-  pub printed : told ≡ flight_lines answer s
-  pub goes_on : t ≡ after_flight answer s
+-- What is asked may print this and leave the drill so, where its events were answered so: the event machine allows it,
+-- and memory did not lack.
+pub record IsAnswered (s : DrillState) (a : Asked) (given : List Answer) (told : List ℕ) (t : DrillState) : Type 0 where
+  pub answered : Answered (machine_of s) (line_events s.holds a given) given
+  pub with_memory : AllByRecursion (λ answer. answer ≢ Refused OutOfMemory) given
+  pub printed : told ≡ asked_lines s a given
+  pub goes_on : t ≡ after_asked s a given
 
--- what is asked may print this and leave the drill so
-pub record Does (s : DrillState) (a : Asked) (told : List ℕ) (t : DrillState) : Type 0 where
-  pub luck : Luck
-  pub allowed : IsAllowed s luck
-  pub printed : told ≡ asked_lines luck s a
-  pub goes_on : t ≡ after_asked luck s a
+-- so with some answers
+abbrev pub Does : DrillState → Asked → List ℕ → DrillState → Type 0
+Does s a told t = (given : List Answer) × IsAnswered s a given told t
 
 -- so may the line of this number, by what it asks for; a bad line asks for nothing
 abbrev pub Responds : DrillState → ℕ → Option Request → List ℕ → DrillState → Type 0

@@ -1,22 +1,21 @@
 -- The state of a drill, and what becomes of it.
 --
--- It is the event machine's, without its tickets: a drill holds one for each pending step. A line is a few events of
--- the machine, and where the machine has several answers to one of these, the luck of the line says which it was.
-use Rattle.std.specs.Prelude.{ℕ, Bool, false, true, Option, Some, None, is_some, Result, Ok, Err, if◌then◌else◌}
-use Rattle.coord_types.specs.declared.refusals.Refusal.{Refusal}
+-- A drill is the event machine, of which only the log and the doubt are seen here: it holds a ticket for each pending
+-- step. A line is a few events of the machine. Where the machine may give several answers to one of these, memory, the
+-- device or the crash has chosen, and the answer tells what was chosen.
+use Rattle.std.specs.Prelude.{ℕ, Bool, false, true, List, [], ◌∷◌, Option, None, if◌then◌else◌}
 use Rattle.coord_types.specs.declared.steps.Step.{Step}
-use Rattle.coord_store.specs.declared.faults.CommitFault.TheVariants as fault
-use Rattle.coord_world.specs.declared.verdicts.Verdict.{Verdict}
-use Rattle.coord_world.specs.declared.verdicts.Verdict.TheVariants.{Fresh, Repeat}
 use Rattle.coord_world.specs.protocol.NumberedWorld.{World, no_world}
 use Rattle.coord_ledger.specs.declared.events.Answer.{Answer}
-use Rattle.coord_ledger.specs.declared.events.Answer.TheVariants.{Committed, Failed}
-use Rattle.coord_ledger.specs.declared.mark.Mark.TheVariants.{New}
-use Rattle.coord_ledger.specs.machine.Answers.{IsOneOf, kept_by, next_size, stays_home, to_commit}
-use Rattle.coord_ledger.specs.machine.Log.{Log, front_world, log_over, with_settled, with_step, world_after}
-use Rattle.coord_ledger.specs.machine.Submits.{verdict}
+use Rattle.coord_ledger.specs.declared.events.Answer.TheVariants.{Accepted, Begun}
+use Rattle.coord_ledger.specs.declared.events.Event.{Event}
+use Rattle.coord_ledger.specs.declared.events.Event.TheVariants as event
+use Rattle.coord_ledger.specs.laws.Moving.{with_base_moved}
+use Rattle.coord_ledger.specs.machine.Log.{Log, front_world}
+use Rattle.coord_ledger.specs.machine.Machine.{Machine, adopted}
+use Rattle.coord_ledger.specs.machine.Runs.{run}
 use Rattle.coord_drill.specs.declared.asked.Asked.{Asked}
-use Rattle.coord_drill.specs.declared.asked.Asked.TheVariants.{Submit, Refuse, Nothing, Resend, Check, Show, Hold, Flush, Crash, Version2}
+use Rattle.coord_drill.specs.declared.asked.Asked.TheVariants.{Submit, Hold, Flush, Crash, Version2}
 
 pub record DrillState : Type 0 where
   pub log : Log
@@ -24,68 +23,64 @@ pub record DrillState : Type 0 where
   pub holds : Bool  -- accepted steps are not settled at once
   pub has_begun : Bool  -- a step was accepted, be it lost since
 
+-- what is seen of a machine
+abbrev pub seen_as : Machine → Bool → Bool → DrillState
+seen_as m holds begun = record { log = m.log; doubt = m.doubt; holds = holds; has_begun = begun }
+
+-- the machine before a line: no flight is out of it, and nothing was given out in this line
+abbrev pub machine_of : DrillState → Machine
+machine_of s = record { log = s.log; flight = None; doubt = s.doubt; tickets = []; seen = 0; released = []; replied = [] }
+
 -- over a ledger of this world, that goes on
 abbrev pub drill_over : World → DrillState
-drill_over w = record { log = log_over w; doubt = None; holds = false; has_begun = false }
+drill_over w = seen_as (adopted w) false false
 
 -- a drill is of its world's version
 abbrev pub version_of : DrillState → ℕ
 version_of s = (front_world s.log).version
 
--- ---- luck
+-- ---- the events of a line, by what they are answered
 
--- the answer to the commit of a line's flight, and how many steps its crash keeps; a line without them leaves its luck unused
-pub record Luck : Type 0 where
-  pub commit : Answer
-  pub kept : ℕ
+-- a flight that is out is committed and comes back
+abbrev pub landing_events : List Event
+landing_events = event.Commit ∷ event.Finish ∷ []
 
--- the event machine allows both
-pub record IsAllowed (s : DrillState) (luck : Luck) : Type 0 where
-  pub commit : IsOneOf luck.commit (to_commit New)
-  pub kept : IsOneOf luck.kept (kept_by s.log.settled None s.doubt)
-
--- ---- flights
-
--- no flight goes out: it has stopped, or nothing is pending
-abbrev pub has_no_flight : DrillState → Bool
-has_no_flight s = stays_home (is_some s.doubt) false s.log
-
--- a flight of the next steps was committed, or not
-abbrev pub after_commit : DrillState → Answer → DrillState
-after_commit s Committed = record { log = with_settled s.log (next_size s.log); doubt = s.doubt; holds = s.holds; has_begun = s.has_begun }
-after_commit s (Failed fault.Device) = record { log = s.log; doubt = Some (next_size s.log); holds = s.holds; has_begun = s.has_begun }
-after_commit s answer = s
-
-unfoldable pub after_flight : Answer → DrillState → DrillState
-after_flight answer s = if has_no_flight s then s else after_commit s answer
-
--- ---- lines
-
-abbrev pub with_accepted : DrillState → Step → DrillState
-with_accepted s x = record { log = with_step s.log x; doubt = s.doubt; holds = s.holds; has_begun = true }
+abbrev pub flight_events : List Answer → List Event
+flight_events (Begun b ∷ given) = event.Begin ∷ landing_events
+flight_events given = event.Begin ∷ []
 
 -- a step that is accepted is settled at once, unless steps are held
-abbrev pub after_verdict : Luck → DrillState → Step → Result Verdict Refusal → DrillState
-after_verdict luck s x (Ok (Fresh kind)) = if s.holds then with_accepted s x else after_flight luck.commit (with_accepted s x)
-after_verdict luck s x (Ok (Repeat reply)) = s
-after_verdict luck s x (Err refusal) = s
+abbrev pub step_events : Bool → Step → List Answer → List Event
+step_events holds x (Accepted n ∷ given) = event.Submit x ∷ (if holds then [] else flight_events given)
+step_events holds x given = event.Submit x ∷ []
 
--- what the ledger says to a step
-abbrev pub drill_verdict : DrillState → Step → Result Verdict Refusal
-drill_verdict s x = verdict (is_some s.doubt) s.log x
+-- what changes nothing is no event
+abbrev pub line_events : Bool → Asked → List Answer → List Event
+line_events holds (Submit x) given = step_events holds x given
+line_events holds Flush given = flight_events given
+line_events holds Crash given = event.Crash ∷ []
+line_events holds asked given = []
 
-unfoldable pub after_step : Luck → DrillState → Step → DrillState
-after_step luck s x = after_verdict luck s x (drill_verdict s x)
+-- ---- what a line leaves
 
--- after a crash a drill goes on from the world that was opened; one of version 2 begins before any step
-unfoldable pub after_asked : Luck → DrillState → Asked → DrillState
-after_asked luck s (Submit x) = after_step luck s x
-after_asked luck s Hold = record { log = s.log; doubt = s.doubt; holds = true; has_begun = s.has_begun }
-after_asked luck s Flush = after_flight luck.commit s
-after_asked luck s Crash = record { log = log_over (world_after s.log luck.kept); doubt = None; holds = false; has_begun = s.has_begun }
-after_asked luck s Version2 = record { log = log_over (no_world 2); doubt = None; holds = s.holds; has_begun = s.has_begun }
-after_asked luck s (Refuse refusal) = s
-after_asked luck s Nothing = s
-after_asked luck s Resend = s
-after_asked luck s Check = s
-after_asked luck s Show = s
+-- the same machine, its log seen from the settled world
+abbrev pub from_settled : Machine → Machine
+from_settled m = with_base_moved m m.log.settled
+
+-- after a crash it is seen from the world that was opened; a drill of version 2 begins before any step
+abbrev pub machine_after : DrillState → Asked → List Answer → Machine
+machine_after s Crash given = from_settled (run (machine_of s) (event.Crash ∷ []) given)
+machine_after s Version2 given = adopted (no_world 2)
+machine_after s asked given = run (machine_of s) (line_events s.holds asked given) given
+
+abbrev pub holds_after : Bool → Asked → Bool
+holds_after holds Hold = true
+holds_after holds Crash = false
+holds_after holds asked = holds
+
+abbrev pub begun_after : Bool → Asked → List Answer → Bool
+begun_after begun (Submit x) (Accepted n ∷ given) = true
+begun_after begun asked given = begun
+
+unfoldable pub after_asked : DrillState → Asked → List Answer → DrillState
+after_asked s asked given = seen_as (machine_after s asked given) (holds_after s.holds asked) (begun_after s.has_begun asked given)

@@ -1,5 +1,5 @@
 -- What the code holds: a ledger with its store at home, and a ticket for each pending step; and what it prints of these.
-use Rattle.std.specs.Prelude.{◌≡◌, ℕ, ◌==◌, ◌≤◌, nat_le, false, true, List, [], ◌∷◌, ◌++◌, length, Option, Some, None, if◌then◌else◌, Bool}
+use Rattle.std.specs.Prelude.{◌≡◌, ℕ, ◌==◌, ◌≤◌, nat_le, List, [], ◌∷◌, ◌++◌, length, Option, Some, None, if◌then◌else◌, Bool}
 use Rattle.std.specs.List.{AllByRecursion}
 use Rattle.std.specs.Option.{option_map_or}
 use Rattle.coord_disk.specs.Disks.Memory.{present_of}
@@ -11,9 +11,11 @@ use Rattle.coord_types.specs.declared.steps.Step.{Step}
 use Rattle.coord_world.specs.protocol.Next.{next, reply}
 use Rattle.coord_world.specs.protocol.NumberedWorld.{World, no_world}
 use Rattle.coord_world.specs.protocol.Outputs.{outs}
+use Rattle.coord_ledger.specs.declared.events.Answer.{Answer}
+use Rattle.coord_ledger.specs.declared.events.Answer.TheVariants.{Begun, Committed, Failed, Finished, Nothing}
 use Rattle.coord_ledger.specs.declared.mark.Mark.TheVariants.{New, Good, Torn}
 use Rattle.coord_ledger.specs.declared.release.Release.{Release}
-use Rattle.coord_ledger.specs.ledger.Calls.{claimed, keeps_store, taken_back}
+use Rattle.coord_ledger.specs.ledger.Calls.{claimed, taken_back}
 use Rattle.coord_ledger.specs.ledger.Driven.{Driven, at_home}
 use Rattle.coord_ledger.specs.ledger.State.{Claim, FlightState, IsGranted, LedgerState, ledger_over, reply_of}
 use Rattle.coord_ledger.specs.machine.After.{releases_of, settling_releases}
@@ -66,9 +68,8 @@ pub record IsMade (version : ℕ) (l : LedgerState MemDisk) : Type 0 where
   pub adopted : l ≡ ledger_over (no_world version) disk
   pub present : present_of disk ≡ made 65536 version
 
--- a flight went out and is back, with this log and this doubt
-pub record IsBack (l : LedgerState MemDisk) (log : Log) (doubt : Option ℕ) (new : LedgerState MemDisk) : Type 0 where
-  pub away : keeps_store l ≡ false
+-- a flight is back, with this log and this doubt
+pub record IsBack (log : Log) (doubt : Option ℕ) (new : LedgerState MemDisk) : Type 0 where
   pub home : new.out ≡ None
   pub here : (disk : MemDisk) × (new.disk ≡ Some disk)
   pub log_is : new.log ≡ log
@@ -76,10 +77,10 @@ pub record IsBack (l : LedgerState MemDisk) (log : Log) (doubt : Option ℕ) (ne
 
 -- a flight of the next steps, if one may go out
 abbrev pub FlownTo : LedgerState MemDisk → Flown → LedgerState MemDisk → Type 0
-FlownTo l flown.Nothing new = (keeps_store l ≡ true) × (new ≡ l)
-FlownTo l (flown.Settled releases) new = IsBack l (with_settled l.log (next_size l.log)) l.doubt new × (releases ≡ settling_releases l.log (next_size l.log))
-FlownTo l (flown.Failed Device) new = IsBack l l.log (Some (next_size l.log)) new
-FlownTo l (flown.Failed OutOfMemory) new = IsBack l l.log l.doubt new
+FlownTo l flown.Nothing new = new ≡ l
+FlownTo l (flown.Settled releases) new = IsBack (with_settled l.log (next_size l.log)) l.doubt new × (releases ≡ settling_releases l.log (next_size l.log))
+FlownTo l (flown.Failed Device) new = IsBack l.log (Some (next_size l.log)) new
+FlownTo l (flown.Failed OutOfMemory) new = IsBack l.log l.doubt new
 FlownTo l (flown.Failed fault) new = ⊥
 
 -- a new flight is committed and comes back
@@ -89,6 +90,18 @@ LandsAs l f (flown.Settled releases) d = (disk : MemDisk) × ((releases ≡ rele
 LandsAs l f (flown.Failed Device) d = (disk : MemDisk) × (d ≡ at_home (taken_back l (length f.steps) Torn disk))
 LandsAs l f (flown.Failed OutOfMemory) d = (disk : MemDisk) × (d ≡ at_home (taken_back l (length f.steps) New disk))
 LandsAs l f (flown.Failed fault) d = ⊥
+
+-- what the commit of a flight and its return were answered, where so many steps are settled then
+abbrev pub landed_answers : Flown → ℕ → List Answer
+landed_answers flown.Nothing count = []
+landed_answers (flown.Settled releases) count = Committed ∷ Finished count ∷ []
+landed_answers (flown.Failed fault) count = Failed fault ∷ Finished count ∷ []
+
+-- so with its departure, for so many steps
+abbrev pub flown_answers : Flown → ℕ → ℕ → List Answer
+flown_answers flown.Nothing b count = Nothing ∷ []
+flown_answers (flown.Settled releases) b count = Begun b ∷ landed_answers (flown.Settled releases) count
+flown_answers (flown.Failed fault) b count = Begun b ∷ landed_answers (flown.Failed fault) count
 
 -- a ledger that was made of the disk of another one after a crash: over a world that the crash may leave
 abbrev pub ReopenedTo : LedgerState MemDisk → LedgerState MemDisk → Type 0

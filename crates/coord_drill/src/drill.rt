@@ -2,16 +2,13 @@
 //! settled.
 
 ghost use Rattle.std.specs.Prelude.{◌≡◌, ◌++◌, ◌+◌, ◌≤◌, [], false, Some, IfOk, OnOk, string_bytes, IfErr};
-ghost use Rattle.coord_disk.specs.declared.memory.MemDisk.{MemDisk as Disk};
-ghost use Rattle.coord_ledger.specs.ledger.Driven.{Driven};
-ghost use Rattle.coord_store.specs.Kept.{has_stopped, made};
+ghost use Rattle.coord_store.specs.Kept.{made};
 ghost use Rattle.coord_world.specs.protocol.NumberedWorld.{no_world};
-ghost use Rattle.coord_drill.specs.Answered.{Does};
 ghost use Rattle.coord_drill.specs.Asked.{asked};
 ghost use Rattle.coord_drill.specs.Drill.{drill_over};
 ghost use Rattle.coord_drill.specs.Drilled.{IsOfWork, asked_by};
 ghost use Rattle.coord_drill.specs.Holding.{HasDisk, IsMade, IsReady, Tells, front_of, state_of};
-ghost use Rattle.coord_drill.specs.Moments.{MovesFrom};
+ghost use Rattle.coord_drill.specs.Moments.{Begins, Carries};
 ghost use Rattle.coord_drill.specs.declared.asked.Asked.TheVariants as ask;
 
 mod crashing;
@@ -66,34 +63,22 @@ impl Drill {
         requires ready { IsReady self.now }
         ensures { result ≡ asked_by (state_of self.now) line.now }
     {
-        let Some(driver) = &self.driver else {
-            unreachable!()
-        };
-        match parse(driver.ledger().front().version(), line)? {
+        match parse(self.driver().ledger().front().version(), line)? {
             Request::Version2 if self.has_begun => None,
             request => Some(request),
         }
     }
 
-    /// Carries out what a request asks for, and adds the answer's lines to a text.
+    /// Carries out what a request asks for, and adds the answer's lines to a text. At each moment of
+    /// it the headline holds of the drill's disk.
     pub fn answer(&mut self, request: &Request, text: &mut String) -> Result<(), Fault>
         requires ready { IsReady self.old }
         ensures ready { OnOk result (IsReady self.new) }
         ensures told { OnOk result (Tells (string_bytes text.old) (string_bytes text.new) (λ told.
-            Does (state_of self.old) (asked (front_of self.old) request.now) told
-            (state_of self.new))) }
-        // At each moment of it the headline holds of the drill's disk.
-        ensures moments { OnOk result
-            (MovesFrom (asked (front_of self.old) request.now) self.old.driver self.new.driver) }
+            Carries self.old (asked (front_of self.old) request.now) told self.new)) }
         ensures fault { IfErr result IsOfWork }
     {
-        let wanted = match &self.driver {
-            Some(driver) => {
-                driver.begins();
-                wanted_by(driver.ledger().front(), request)
-            }
-            None => unreachable!(),
-        };
+        let wanted = wanted_by(self.driver().ledger().front(), request);
         match wanted {
             Asked::Submit(step) => self.submit(step, text),
             Asked::Flush => self.flush(text),
@@ -111,23 +96,35 @@ impl Drill {
         }
     }
 
+    /// The driver, at which a run of events may begin.
+    fn driver(&self) -> &Driver<MemDisk>
+        requires ready { IsReady self.now }
+        ensures driver { self.now.driver ≡ Some result.now }
+        ensures begins { Begins self.now.driver }
+    {
+        let Some(driver) = &self.driver else {
+            unreachable!()
+        };
+        driver.begins();
+        driver
+    }
+
     /// From now on accepted steps are not settled at once.
     fn hold(&mut self)
         requires ready { IsReady self.old }
         ensures ready { IsReady self.new }
-        ensures told { Does (state_of self.old) ask.Hold [] (state_of self.new) }
-        ensures driver { self.new.driver ≡ self.old.driver }
+        ensures told { Carries self.old ask.Hold [] self.new }
     {
+        self.driver();
         self.holds = true;
     }
 
     /// Goes on over an empty store of version 2.
     fn begin_version_2(&mut self) -> Result<(), Fault>
+        requires ready { IsReady self.old }
         ensures ready { OnOk result (IsReady self.new) }
         ensures disk { OnOk result (HasDisk self.new (made 65_536 2)) }
-        ensures told { OnOk result (Does (state_of self.old) ask.Version2 [] (state_of self.new)) }
-        ensures made { OnOk result ((v : Driven Disk) ×
-            ((self.new.driver ≡ Some v) × IsMade 2 v.ledger)) }
+        ensures told { OnOk result (Carries self.old ask.Version2 [] self.new) }
         ensures fault { IfErr result IsOfWork }
     {
         let driver = Driver::over(new_ledger(self.alloc, 2)?);

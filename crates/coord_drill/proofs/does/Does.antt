@@ -1,5 +1,5 @@
--- What flights, steps and crashes print, and what becomes of the drill.
-use Rattle.std.proofs.Common.{◌≡◌, ℕ, ◌+◌, Bool, true, false, cond, List, [], ◌++◌, Ok, Err, Option, Some, None, refl, sym, ap, ◌∙◌, subst, arith, inl}
+-- What flights, steps and crashes print, and what becomes of the drill, by the answers to their events.
+use Rattle.std.proofs.Common.{◌≡◌, ℕ, ◌+◌, ◌-◌, ◌≤◌, Bool, true, false, cond, List, [], ◌∷◌, ◌++◌, length, Ok, Err, Option, Some, None, refl, sym, ap, ◌∙◌, subst, arith, inl, inr}
 use Rattle.std.specs.Option.{option_map_or}
 use Rattle.coord_disk.specs.declared.memory.MemDisk.{MemDisk}
 use Rattle.coord_types.specs.declared.refusals.Refusal.{Refusal}
@@ -9,29 +9,33 @@ use Rattle.coord_types.specs.declared.steps.Step.{Step}
 use Rattle.coord_world.specs.declared.verdicts.Verdict.TheVariants.{Fresh, Repeat}
 use Rattle.coord_world.specs.protocol.NumberedWorld.{World, no_world}
 use Rattle.coord_ledger.specs.declared.events.Answer.{Answer}
-use Rattle.coord_ledger.specs.declared.events.Answer.TheVariants.{Committed}
-use Rattle.coord_ledger.specs.declared.mark.Mark.TheVariants.{New}
+use Rattle.coord_ledger.specs.declared.events.Answer.TheVariants.{Accepted, Opened, Refused, Repeated}
 use Rattle.coord_ledger.specs.ledger.Driven.{Driven}
 use Rattle.coord_ledger.specs.ledger.State.{Claim, LedgerState, ledger_over}
-use Rattle.coord_ledger.specs.machine.Answers.{IsOneOf, kept_by, to_commit}
-use Rattle.coord_ledger.specs.machine.Log.{front_world, log_over, settled_count, settled_world, world_after}
-use Rattle.coord_drill.specs.Answered.{Does, Flies, asked_lines, commit_lines, flight_lines, kept_line, step_lines, verdict_lines}
-use Rattle.coord_drill.specs.Drill.{DrillState, Luck, after_asked, after_commit, after_flight, after_step, after_verdict, has_no_flight, drill_verdict, with_accepted}
-use Rattle.coord_drill.specs.Holding.{IsHeld, IsReady, IsReadyWith, Tells, drill_of, state_of}
-use Rattle.coord_drill.specs.Printed.{count_line, opened_line, pending_line, refusal_line}
-use Rattle.coord_drill.specs.declared.asked.Asked.TheVariants.{Crash, Flush, Submit}
+use Rattle.coord_ledger.specs.machine.After.{after_submit, crashed}
+use Rattle.coord_ledger.specs.machine.Answers.{verdict_on}
+use Rattle.coord_ledger.specs.machine.Log.{log_over, settled_count, with_step, world_after}
+use Rattle.coord_ledger.specs.machine.Machine.{Machine, adopted}
+use Rattle.coord_ledger.specs.machine.Runs.{run}
+use Rattle.coord_ledger.proofs.machine.Moved.{crash_reopens}
+use Rattle.coord_drill.specs.Answered.{asked_lines, flight_lines, kept_line, repeat_line}
+use Rattle.coord_drill.specs.Drill.{DrillState, after_asked, flight_events, from_settled, machine_of, seen_as}
+use Rattle.coord_drill.specs.Holding.{IsHeld, IsReady, IsReadyWith, drill_of, state_of}
+use Rattle.coord_drill.specs.Printed.{opened_line, pending_line, refusal_line}
+use Rattle.coord_drill.specs.declared.asked.Asked.TheVariants.{Crash, Submit}
 use Rattle.coord_drill.specs.declared.drill.Drill.{Drill}
-use Rattle.coord_drill.proofs.does.LineResponds.{does_quietly, quiet_luck, settled_kept}
 
 -- ---- drills over a ledger
 
-state_is : (d : Drill) (v : Driven MemDisk) → d.driver ≡ Some v → state_of d ≡ drill_of v.ledger d.holds d.has_begun
+pub state_is : (d : Drill) (v : Driven MemDisk) → d.driver ≡ Some v → state_of d ≡ drill_of v.ledger d.holds d.has_begun
 state_is d v is = ap (λ o. record { log = option_map_or (λ (k : Driven MemDisk). k.ledger.log) o (log_over (no_world 1)); doubt = option_map_or (λ (k : Driven MemDisk). k.ledger.doubt) o None; holds = d.holds; has_begun = d.has_begun }) is
 
--- that of a drill that holds this
-pub state_with : (o : Option (Driven MemDisk)) (v : Driven MemDisk) (holds begun : Bool) → o ≡ Some v →
-    record { log = option_map_or (λ (k : Driven MemDisk). k.ledger.log) o (log_over (no_world 1)); doubt = option_map_or (λ (k : Driven MemDisk). k.ledger.doubt) o None; holds = holds; has_begun = begun } ≡ drill_of v.ledger holds begun
-state_with o v holds begun is = ap (λ p. record { log = option_map_or (λ (k : Driven MemDisk). k.ledger.log) p (log_over (no_world 1)); doubt = option_map_or (λ (k : Driven MemDisk). k.ledger.doubt) p None; holds = holds; has_begun = begun }) is
+pub driver_of : (d : Drill) → IsReady d → (v : Driven MemDisk) × (d.driver ≡ Some v)
+driver_of d ready = by_driver d.driver refl ready
+  where
+    by_driver : (o : Option (Driven MemDisk)) → d.driver ≡ o → IsReadyWith o d.tickets.items → (v : Driven MemDisk) × (d.driver ≡ Some v)
+    by_driver None is ready = absurd ready
+    by_driver (Some v) is ready = (v, is)
 
 pub held_is : (d : Drill) (v : Driven MemDisk) → d.driver ≡ Some v → IsReady d → IsHeld v.ledger d.tickets.items
 held_is d v is ready = (subst (λ o. IsReadyWith o d.tickets.items) is ready).1
@@ -43,72 +47,60 @@ home_is d v is ready = (subst (λ o. IsReadyWith o d.tickets.items) is ready).0
 pub new_held : (l : LedgerState MemDisk) (w : World) (disk : MemDisk) (claims : List Claim) → l ≡ ledger_over w disk → claims ≡ [] → IsHeld l claims
 new_held l w disk claims is none = subst (λ cs. IsHeld l cs) (sym none) (subst (λ m. IsHeld m []) (sym is) (record { home = refl; here = (disk, refl); within = omega arith; tickets = refl }))
 
--- what is told of a ledger is told of its drill
-pub tells_of : (P : DrillState → List ℕ → Type 0) (d : Drill) (v : Driven MemDisk) (old new told : List ℕ) → d.driver ≡ Some v → new ≡ old ++ told → P (drill_of v.ledger d.holds d.has_begun) told → Tells old new (P (state_of d))
-tells_of P d v old new told is text done = (told, (text, subst (λ s. P s told) (sym (state_is d v is)) done))
-
--- ---- flights
-
--- where none goes out
-pub stays : (s : DrillState) → has_no_flight s ≡ true → Flies s [] s
-unfolding flight_lines after_flight
-stays s home = record {
-  answer = Committed;
-  allowed = inl refl;
-  printed = ap (λ b. cond b [] (commit_lines s.log Committed)) (sym home);
-  goes_on = ap (λ b. cond b s (after_commit s Committed)) (sym home);
-}
-
--- where one goes out, by the answer to its commit
-pub flies : (s : DrillState) (answer : Answer) → has_no_flight s ≡ false → IsOneOf answer (to_commit New) → Flies s (commit_lines s.log answer) (after_commit s answer)
-unfolding flight_lines after_flight
-flies s answer away allowed = record {
-  answer = answer;
-  allowed = allowed;
-  printed = ap (λ b. cond b [] (commit_lines s.log answer)) (sym away);
-  goes_on = ap (λ b. cond b s (after_commit s answer)) (sym away);
-}
-
-pub does_flush : (s : DrillState) (told : List ℕ) (t : DrillState) → Flies s told t → Does s Flush (told ++ count_line (settled_world t.log).count) t
-unfolding asked_lines after_asked
-does_flush s told t flown = record {
-  luck = record { commit = flown.answer; kept = s.log.settled };
-  allowed = record { commit = flown.allowed; kept = settled_kept s.log.settled s.doubt };
-  printed = ap (λ l. l ++ count_line (settled_world t.log).count) flown.printed ∙ ap (λ (u : DrillState). flight_lines flown.answer s ++ count_line (settled_world u.log).count) flown.goes_on;
-  goes_on = flown.goes_on;
-}
-
 -- ---- steps
 
-pub does_repeat : (s : DrillState) (x : Step) (r : Reply) → drill_verdict s x ≡ Ok (Repeat r) → Does s (Submit x) (kept_line (settled_count s.log) r) s
-unfolding asked_lines after_asked step_lines after_step
-does_repeat s x r is = does_quietly s (Submit x) _ s (ap (verdict_lines (quiet_luck s) s x) (sym is)) (ap (after_verdict (quiet_luck s) s x) (sym is))
+module _ (s : DrillState) (x : Step) where
+  -- what the machine is after a step was accepted: the log has it, and a ticket was given
+  accepted : (k : Kind) (n : ℕ) → verdict_on (machine_of s) x ≡ Ok (Fresh k) →
+      after_submit (machine_of s) x (verdict_on (machine_of s) x) (Accepted n) ≡ record (machine_of s) { log = with_step s.log x; tickets = Some (record { step = n; kind = k }) ∷ [] }
+  accepted k n is = ap (λ v. after_submit (machine_of s) x v (Accepted n)) is
 
-pub does_refuse : (s : DrillState) (x : Step) (e : Refusal) → drill_verdict s x ≡ Err e → Does s (Submit x) (refusal_line e) s
-unfolding asked_lines after_asked step_lines after_step
-does_refuse s x e is = does_quietly s (Submit x) _ s (ap (verdict_lines (quiet_luck s) s x) (sym is)) (ap (after_verdict (quiet_luck s) s x) (sym is))
+  pub held_line : (n : ℕ) → s.holds ≡ true → asked_lines s (Submit x) (Accepted n ∷ []) ≡ pending_line n
+  unfolding asked_lines
+  held_line n is = ap (λ b. cond b (pending_line n) []) is
 
-pub does_hold_step : (s : DrillState) (x : Step) (k : Kind) → drill_verdict s x ≡ Ok (Fresh k) → s.holds ≡ true → Does s (Submit x) (pending_line ((front_world s.log).count + 1)) (with_accepted s x)
-unfolding asked_lines after_asked step_lines after_step
-does_hold_step s x k is held =
-    let luck = quiet_luck s in
-    does_quietly s (Submit x) _ (with_accepted s x)
-    (ap (λ b. cond b (pending_line ((front_world s.log).count + 1)) (flight_lines luck.commit (with_accepted s x))) (sym held) ∙ ap (verdict_lines luck s x) (sym is))
-    (ap (λ b. cond b (with_accepted s x) (after_flight luck.commit (with_accepted s x))) (sym held) ∙ ap (after_verdict luck s x) (sym is))
+  pub held_after : (k : Kind) (n : ℕ) → verdict_on (machine_of s) x ≡ Ok (Fresh k) → s.holds ≡ true → after_asked s (Submit x) (Accepted n ∷ []) ≡ record { log = with_step s.log x; doubt = s.doubt; holds = s.holds; has_begun = true }
+  unfolding after_asked
+  held_after k n fresh is =
+      let m = after_submit (machine_of s) x (verdict_on (machine_of s) x) (Accepted n) in
+      ap (λ b. seen_as (run m (cond b [] (flight_events [])) []) s.holds true) is ∙ ap (λ m. seen_as m s.holds true) (accepted k n fresh)
 
-pub does_settle_step : (s : DrillState) (x : Step) (k : Kind) (told : List ℕ) (t : DrillState) → drill_verdict s x ≡ Ok (Fresh k) → s.holds ≡ false → Flies (with_accepted s x) told t → Does s (Submit x) told t
-unfolding asked_lines after_asked step_lines after_step
-does_settle_step s x k told t is free flown =
-    let luck : Luck = record { commit = flown.answer; kept = s.log.settled } in
-    record {
-      luck = luck;
-      allowed = record { commit = flown.allowed; kept = settled_kept s.log.settled s.doubt };
-      printed = flown.printed ∙ ap (λ b. cond b (pending_line ((front_world s.log).count + 1)) (flight_lines flown.answer (with_accepted s x))) (sym free) ∙ ap (verdict_lines luck s x) (sym is);
-      goes_on = flown.goes_on ∙ ap (λ b. cond b (with_accepted s x) (after_flight flown.answer (with_accepted s x))) (sym free) ∙ ap (after_verdict luck s x) (sym is);
-    }
+  pub flown_line : (n : ℕ) (given : List Answer) → s.holds ≡ false → asked_lines s (Submit x) (Accepted n ∷ given) ≡ flight_lines (with_step s.log x) given
+  unfolding asked_lines
+  flown_line n given is = ap (λ b. cond b (pending_line n) (flight_lines (with_step s.log x) given)) is
+
+  pub flown_after : (k : Kind) (n : ℕ) (given : List Answer) → verdict_on (machine_of s) x ≡ Ok (Fresh k) → s.holds ≡ false →
+      after_asked s (Submit x) (Accepted n ∷ given) ≡ seen_as (run (record (machine_of s) { log = with_step s.log x; tickets = Some (record { step = n; kind = k }) ∷ [] }) (flight_events given) given) s.holds true
+  unfolding after_asked
+  flown_after k n given fresh is =
+      let m = after_submit (machine_of s) x (verdict_on (machine_of s) x) (Accepted n) in
+      ap (λ b. seen_as (run m (cond b [] (flight_events given)) given) s.holds true) is ∙ ap (λ m. seen_as (run m (flight_events given) given) s.holds true) (accepted k n fresh)
+
+  pub repeat_lines : (r : Reply) (n : ℕ) → verdict_on (machine_of s) x ≡ Ok (Repeat r) → asked_lines s (Submit x) (Repeated n ∷ []) ≡ kept_line (settled_count s.log) r
+  unfolding asked_lines
+  repeat_lines r n is = ap (repeat_line (settled_count s.log)) is
+
+  pub repeat_after : (r : Reply) (n : ℕ) → verdict_on (machine_of s) x ≡ Ok (Repeat r) → after_asked s (Submit x) (Repeated n ∷ []) ≡ s
+  unfolding after_asked
+  repeat_after r n is = ap (λ v. seen_as (after_submit (machine_of s) x v (Repeated n)) s.holds s.has_begun) is
+
+  pub refused_line : (e : Refusal) → asked_lines s (Submit x) (Refused e ∷ []) ≡ refusal_line e
+  unfolding asked_lines
+  refused_line e = refl
+
+  pub refused_after : (e : Refusal) → verdict_on (machine_of s) x ≡ Err e → after_asked s (Submit x) (Refused e ∷ []) ≡ s
+  unfolding after_asked
+  refused_after e is = ap (λ v. seen_as (after_submit (machine_of s) x v (Refused e)) s.holds s.has_begun) is
 
 -- ---- crashes
 
-pub does_crash : (s : DrillState) (n : ℕ) → IsOneOf n (kept_by s.log.settled None s.doubt) → Does s Crash (opened_line (world_after s.log n).count) (record { log = log_over (world_after s.log n); doubt = None; holds = false; has_begun = s.has_begun })
-unfolding asked_lines after_asked
-does_crash s n allowed = record { luck = record { commit = Committed; kept = n }; allowed = record { commit = inl refl; kept = allowed }; printed = refl; goes_on = refl }
+pub crash_line : (s : DrillState) (count : ℕ) → opened_line count ≡ asked_lines s Crash (Opened count ∷ [])
+unfolding asked_lines
+crash_line s count = refl
+
+-- after a crash that keeps n steps it is over their world
+pub crash_after : (s : DrillState) (n : ℕ) → after_asked s Crash (Opened (s.log.base.count + n) ∷ []) ≡ record { log = log_over (world_after s.log n); doubt = None; holds = false; has_begun = s.has_begun }
+unfolding after_asked
+crash_after s n =
+    let back : s.log.base.count + n - s.log.base.count ≡ n = omega arith in
+    ap (λ k. seen_as (from_settled (crashed (machine_of s) k)) false s.has_begun) back ∙ ap (λ (m : Machine). seen_as m false s.has_begun) (crash_reopens (machine_of s) n)

@@ -1,10 +1,12 @@
 -- What a flight makes of a ledger, what is printed of it, and the tickets that stay.
-use Rattle.std.proofs.Common.{◌≡◌, ℕ, ◌≤◌, Bool, true, false, List, [], length, take, drop, Option, Some, None, Ok, refl, sym, ap, ◌∙◌, subst, arith, inl, inr}
+use Rattle.std.proofs.Common.{◌≡◌, ◌≢◌, ℕ, ◌≤◌, Bool, true, false, cond, List, [], ◌∷◌, length, take, drop, Option, Some, None, Ok, refl, sym, ap, ◌∙◌, subst, arith, inl, inr}
 use Rattle.std.proofs.Math.Nat.{min-le_right}
 use Rattle.std.proofs.lemmas.List.{drop-drop, length-drop, length-take, take-append-drop, take_min}
 use Rattle.std.specs.List.{AllByRecursion}
 use Rattle.std.specs.Prelude.{is_some}
 use Rattle.coord_disk.specs.declared.memory.MemDisk.{MemDisk}
+use Rattle.coord_types.specs.declared.refusals.Refusal.TheVariants.{OutOfMemory}
+use Rattle.coord_types.specs.declared.steps.Reply.{Reply}
 use Rattle.coord_store.specs.declared.faults.CommitFault.{CommitFault}
 use Rattle.coord_store.specs.declared.faults.CommitFault.TheVariants as commit
 use Rattle.coord_world.specs.protocol.Next.{fold}
@@ -12,24 +14,30 @@ use Rattle.coord_world.specs.protocol.NumberedWorld.{World}
 use Rattle.coord_world.specs.protocol.Outputs.{outs}
 use Rattle.coord_ledger.proofs.machine.Logs.{world-add}
 use Rattle.coord_ledger.specs.declared.events.Answer.{Answer}
-use Rattle.coord_ledger.specs.declared.events.Answer.TheVariants.{Committed, Failed}
+use Rattle.coord_ledger.specs.declared.events.Answer.TheVariants.{Begun, Committed, Failed, Nothing, Refused}
+use Rattle.coord_ledger.specs.declared.events.Event.TheVariants.{Begin}
 use Rattle.coord_ledger.specs.declared.mark.Mark.{Mark}
 use Rattle.coord_ledger.specs.declared.mark.Mark.TheVariants.{New, Good, Torn}
 use Rattle.coord_ledger.specs.declared.release.Release.{Release}
-use Rattle.coord_ledger.specs.ledger.Calls.{keeps_store, next_flight, releases_in, taken_back, with_out}
+use Rattle.coord_ledger.specs.ledger.Calls.{next_flight, releases_in, taken_back, with_out}
 use Rattle.coord_ledger.specs.ledger.Driven.{CommitsTo, Driven, IsMarked, LandsTo, at_home}
 use Rattle.coord_ledger.specs.ledger.State.{Claim, FlightState, IsGranted, LedgerState}
 use Rattle.coord_ledger.specs.machine.After.{releases_of}
 use Rattle.coord_types.specs.declared.limits.TheConstants.{MAX_BATCH_STEPS}
-use Rattle.coord_ledger.specs.machine.Answers.{IsOneOf, next_size, stays_home, to_commit}
-use Rattle.coord_ledger.specs.machine.Log.{Log, pending, settled_world, with_settled}
-use Rattle.coord_drill.specs.Answered.{Flies, commit_lines}
-use Rattle.coord_drill.specs.Drill.{DrillState, after_commit, has_no_flight}
-use Rattle.coord_drill.specs.Holding.{AreGranted, FlownTo, IsBack, IsHeld, LandsAs, claims_of, collected_lines, drill_of, flown_lines, left_by, waiting}
-use Rattle.coord_drill.specs.Printed.{commit_line, settled_lines}
+use Rattle.coord_ledger.specs.machine.Answers.{IsOneOf, next_size, stays_home, to_begin}
+use Rattle.coord_ledger.specs.machine.Log.{Log, pending, settled_count, settled_world, with_settled}
+use Rattle.coord_ledger.specs.machine.Machine.{Machine, has_stopped}
+use Rattle.coord_ledger.specs.machine.Runs.{run}
+use Rattle.coord_drill.specs.Answered.{flight_lines}
+use Rattle.coord_drill.specs.Drill.{DrillState, flight_events, landing_events, machine_of, seen_as}
+use Rattle.coord_drill.specs.Holding.{AreGranted, FlownTo, IsBack, IsHeld, IsReady, LandsAs, claims_of, collected_lines, drill_of, flown_answers, flown_lines, landed_answers, left_by, waiting}
+use Rattle.coord_drill.specs.Moments.{Flies, GoesBy, GoesOnTo}
+use Rattle.coord_drill.specs.Printed.{settled_lines}
+use Rattle.coord_drill.specs.declared.drill.Drill.{Drill}
 use Rattle.coord_drill.specs.declared.drill.flying.Flown.{Flown}
 use Rattle.coord_drill.specs.declared.drill.flying.Flown.TheVariants as flown
-use Rattle.coord_drill.proofs.does.Does.{flies, stays}
+use Rattle.coord_drill.proofs.does.Does.{held_is, state_is}
+use Rattle.coord_drill.proofs.does.Moments.{goes_on, goes_then}
 use Rattle.coord_drill.proofs.does.Settled.{collected_are, fold_version, granted_from, waiting_are}
 
 -- ---- out and back
@@ -79,12 +87,11 @@ came_to l = length-take MAX_BATCH_STEPS (pending l.log)
 back_as : (l new : LedgerState MemDisk) (disk was : MemDisk) (mark : Mark) → new ≡ taken_back (with_out l (length (next_flight l.log was).steps)) (length (next_flight l.log was).steps) mark disk → new ≡ taken_back (with_out l (next_size l.log)) (next_size l.log) mark disk
 back_as l new disk was mark is = is ∙ ap (λ n. taken_back (with_out l n) n mark disk) (came_to l)
 
-pub flown_to : (l : LedgerState MemDisk) (was : MemDisk) (r : Flown) (new : Driven MemDisk) → keeps_store l ≡ false → LandsAs (with_out l (length (next_flight l.log was).steps)) (next_flight l.log was) r new → FlownTo l r new.ledger
-flown_to l was flown.Nothing new away to = absurd to
-flown_to l was (flown.Settled rs) new away to =
+pub flown_to : (l : LedgerState MemDisk) (was : MemDisk) (r : Flown) (new : Driven MemDisk) → LandsAs (with_out l (length (next_flight l.log was).steps)) (next_flight l.log was) r new → FlownTo l r new.ledger
+flown_to l was flown.Nothing new to = absurd to
+flown_to l was (flown.Settled rs) new to =
     let is = back_as l new.ledger to.0 was Good (ap (λ (d : Driven MemDisk). d.ledger) to.1.1) in (
       record {
-        away = away;
         home = ap (λ (m : LedgerState MemDisk). m.out) is;
         here = (to.0, ap (λ (m : LedgerState MemDisk). m.disk) is);
         log_is = ap (λ (m : LedgerState MemDisk). m.log) is;
@@ -92,27 +99,25 @@ flown_to l was (flown.Settled rs) new away to =
       },
       to.1.0 ∙ ap (λ ss. releases_of (outs (settled_world l.log) ss)) (sym (take_min MAX_BATCH_STEPS (pending l.log))),
     )
-flown_to l was (flown.Failed commit.Device) new away to =
+flown_to l was (flown.Failed commit.Device) new to =
     let is = back_as l new.ledger to.0 was Torn (ap (λ (d : Driven MemDisk). d.ledger) to.1) in
     record {
-      away = away;
       home = ap (λ (m : LedgerState MemDisk). m.out) is;
       here = (to.0, ap (λ (m : LedgerState MemDisk). m.disk) is);
       log_is = ap (λ (m : LedgerState MemDisk). m.log) is;
       doubt_is = ap (λ (m : LedgerState MemDisk). m.doubt) is;
     }
-flown_to l was (flown.Failed commit.OutOfMemory) new away to =
+flown_to l was (flown.Failed commit.OutOfMemory) new to =
     let is = back_as l new.ledger to.0 was New (ap (λ (d : Driven MemDisk). d.ledger) to.1) in
     record {
-      away = away;
       home = ap (λ (m : LedgerState MemDisk). m.out) is;
       here = (to.0, ap (λ (m : LedgerState MemDisk). m.disk) is);
       log_is = ap (λ (m : LedgerState MemDisk). m.log) is;
       doubt_is = ap (λ (m : LedgerState MemDisk). m.doubt) is;
     }
-flown_to l was (flown.Failed commit.Full) new away to = absurd to
-flown_to l was (flown.Failed commit.Stopped) new away to = absurd to
-flown_to l was (flown.Failed commit.Again) new away to = absurd to
+flown_to l was (flown.Failed commit.Full) new to = absurd to
+flown_to l was (flown.Failed commit.Stopped) new to = absurd to
+flown_to l was (flown.Failed commit.Again) new to = absurd to
 
 -- by the flight that went out
 pub landed_as : (l : LedgerState MemDisk) (was : MemDisk) (out : Driven MemDisk) → out ≡ record { ledger = with_out l (length (next_flight l.log was).steps); flight = Some (next_flight l.log was) } → (r : Flown) (new : Driven MemDisk) →
@@ -130,28 +135,37 @@ landed_home l f (flown.Failed commit.Full) new to = absurd to
 landed_home l f (flown.Failed commit.Stopped) new to = absurd to
 landed_home l f (flown.Failed commit.Again) new to = absurd to
 
+-- ---- its events
+
+-- as many steps are out as the machine sends
+pub begun_size : (m : Machine) (b : ℕ) → IsOneOf (Begun b) (to_begin m) → b ≡ next_size m.log
+begun_size m b one = by_home (stays_home (has_stopped m) (is_some m.flight) m.log) one
+  where
+    by_home : (home : Bool) → IsOneOf (Begun b) (cond home (Nothing ∷ []) (Begun (next_size m.log) ∷ Refused OutOfMemory ∷ [])) → b ≡ next_size m.log
+    by_home true (inl same) = cc
+    by_home true (inr never) = absurd never
+    by_home false (inl same) = cc
+    by_home false (inr (inl same)) = cc
+    by_home false (inr (inr never)) = absurd never
+
+-- the departure of a flight, and then its commit and its return
+pub flown_by : (l : LedgerState MemDisk) (f : FlightState MemDisk) (v out new : Driven MemDisk) (r : Flown) (b count : ℕ) → LandsAs l f r new → GoesOnTo v (Begin ∷ []) (Begun b ∷ []) out → GoesOnTo out landing_events (landed_answers r count) new → GoesBy v (flown_answers r b count) new
+flown_by l f v out new flown.Nothing b count to begun landed = absurd to
+flown_by l f v out new (flown.Settled rs) b count to begun landed = goes_then v out new (Begin ∷ []) landing_events (Begun b ∷ []) (landed_answers (flown.Settled rs) count) begun landed
+flown_by l f v out new (flown.Failed fault) b count to begun landed = goes_then v out new (Begin ∷ []) landing_events (Begun b ∷ []) (landed_answers (flown.Failed fault) count) begun landed
+
 -- ---- what is printed
 
-abbrev state : Log → Option ℕ → Bool → Bool → DrillState
-state log doubt holds begun = record { log = log; doubt = doubt; holds = holds; has_begun = begun }
+-- what becomes of a drill over such a ledger, whatever tickets the machine has given
+abbrev pub Leaves : LedgerState MemDisk → List Answer → LedgerState MemDisk → Bool → Bool → Type 0
+Leaves l given new holds begun = (tickets : List (Option Reply)) → drill_of new holds begun ≡ seen_as (run (record (machine_of (drill_of l holds begun)) { tickets = tickets }) (flight_events given) given) holds begun
 
 module _ (l new : LedgerState MemDisk) (claims : List Claim) (held : IsHeld l claims) where
-  -- none is out, so what keeps the store is what a drill sees
-  seen : (holds begun : Bool) → has_no_flight (drill_of l holds begun) ≡ keeps_store l
-  seen holds begun = ap (λ o. stays_home (is_some l.doubt) (is_some o) l.log) (sym held.home)
-
-  pub nothing_told : (holds begun : Bool) → FlownTo l flown.Nothing new → Flies (drill_of l holds begun) [] (drill_of new holds begun)
-  nothing_told holds begun to = subst (λ m. Flies (drill_of l holds begun) [] (drill_of m holds begun)) (sym to.1) (stays (drill_of l holds begun) (seen holds begun ∙ to.0))
-
-  back_told : (holds begun : Bool) (answer : Answer) (log : Log) (doubt : Option ℕ) → IsBack l log doubt new → IsOneOf answer (to_commit New) → after_commit (drill_of l holds begun) answer ≡ state log doubt holds begun
-      → Flies (drill_of l holds begun) (commit_lines l.log answer) (drill_of new holds begun)
-  back_told holds begun answer log doubt back allowed after =
-      let same : after_commit (drill_of l holds begun) answer ≡ drill_of new holds begun =
-      after ∙ sym (ap (λ g. state g new.doubt holds begun) back.log_is ∙ ap (λ d. state log d holds begun) back.doubt_is) in
-      subst (λ t. Flies (drill_of l holds begun) (commit_lines l.log answer) t) same (flies (drill_of l holds begun) answer (seen holds begun ∙ back.away) allowed)
+  back_as_seen : (log : Log) (doubt : Option ℕ) (holds begun : Bool) → IsBack log doubt new → drill_of new holds begun ≡ record { log = log; doubt = doubt; holds = holds; has_begun = begun }
+  back_as_seen log doubt holds begun back = λ i. record { log = back.log_is i; doubt = back.doubt_is i; holds = holds; has_begun = begun }
 
   -- of a flight that was not committed
-  same_held : (doubt : Option ℕ) → IsBack l l.log doubt new → IsHeld new claims
+  same_held : (doubt : Option ℕ) → IsBack l.log doubt new → IsHeld new claims
   same_held doubt back = record {
     home = back.home;
     here = back.here;
@@ -159,19 +173,19 @@ module _ (l new : LedgerState MemDisk) (claims : List Claim) (held : IsHeld l cl
     tickets = held.tickets ∙ ap (λ g. claims_of (settled_world g) (pending g)) (sym back.log_is);
   }
 
-  pub failed_told : (holds begun : Bool) (fault : CommitFault) → FlownTo l (flown.Failed fault) new → Flies (drill_of l holds begun) (commit_line fault) (drill_of new holds begun)
-  failed_told holds begun commit.Device back = back_told holds begun (Failed commit.Device) l.log (Some (next_size l.log)) back (inr (inl refl)) refl
-  failed_told holds begun commit.OutOfMemory back = back_told holds begun (Failed commit.OutOfMemory) l.log l.doubt back (inr (inr (inl refl))) refl
-  failed_told holds begun commit.Full back = absurd back
-  failed_told holds begun commit.Stopped back = absurd back
-  failed_told holds begun commit.Again back = absurd back
-
-  pub failed_held : (fault : CommitFault) → FlownTo l (flown.Failed fault) new → IsHeld new claims
+  failed_held : (fault : CommitFault) → FlownTo l (flown.Failed fault) new → IsHeld new claims
   failed_held commit.Device back = same_held (Some (next_size l.log)) back
   failed_held commit.OutOfMemory back = same_held l.doubt back
   failed_held commit.Full back = absurd back
   failed_held commit.Stopped back = absurd back
   failed_held commit.Again back = absurd back
+
+  failed_leaves : (holds begun : Bool) (fault : CommitFault) (count : ℕ) → FlownTo l (flown.Failed fault) new → Leaves l (flown_answers (flown.Failed fault) (next_size l.log) count) new holds begun
+  failed_leaves holds begun commit.Device count back tickets = back_as_seen l.log (Some (next_size l.log)) holds begun back
+  failed_leaves holds begun commit.OutOfMemory count back tickets = back_as_seen l.log l.doubt holds begun back
+  failed_leaves holds begun commit.Full count back tickets = absurd back
+  failed_leaves holds begun commit.Stopped count back tickets = absurd back
+  failed_leaves holds begun commit.Again count back tickets = absurd back
 
   -- of a flight that is settled
   module _ (rs : List Release) (to : FlownTo l (flown.Settled rs) new) where
@@ -187,18 +201,13 @@ module _ (l new : LedgerState MemDisk) (claims : List Claim) (held : IsHeld l cl
     same : (settled_world new.log).version ≡ (settled_world l.log).version
     same = ap (λ (v : World). v.version) settles ∙ fold_version (settled_world l.log) (take (next_size l.log) (pending l.log))
 
-    lines : collected_lines (settled_world new.log).version (settled_world new.log).count claims rs ≡ settled_lines (settled_world l.log).version (outs (settled_world l.log) (take (next_size l.log) (pending l.log)))
-    lines =
+    pub settled_told : collected_lines (settled_world new.log).version (settled_world new.log).count claims rs ≡ settled_lines (settled_world l.log).version (outs (settled_world l.log) (take (next_size l.log) (pending l.log)))
+    settled_told =
         ap (λ n. collected_lines n (settled_world new.log).count claims rs) same
         ∙ ap (λ (v : World). collected_lines (settled_world l.log).version v.count claims rs) settles
         ∙ ap (λ cs. collected_lines (settled_world l.log).version (fold (settled_world l.log) (take (next_size l.log) (pending l.log))).count cs rs) held.tickets
         ∙ ap (λ given. collected_lines (settled_world l.log).version (fold (settled_world l.log) (take (next_size l.log) (pending l.log))).count (claims_of (settled_world l.log) (pending l.log)) given) to.1
         ∙ collected_are (settled_world l.log).version (settled_world l.log) (next_size l.log) (pending l.log)
-
-    pub settled_told : (holds begun : Bool) → Flies (drill_of l holds begun) (collected_lines (settled_world new.log).version (settled_world new.log).count claims rs) (drill_of new holds begun)
-    settled_told holds begun =
-        subst (λ told. Flies (drill_of l holds begun) told (drill_of new holds begun)) (sym lines)
-        (back_told holds begun Committed (with_settled l.log (next_size l.log)) l.doubt to.0 (inl refl) refl)
 
     pub settled_held : (rest : List Claim) → rest ≡ waiting (settled_world new.log).count claims → IsHeld new rest
     settled_held rest is = record {
@@ -224,11 +233,39 @@ module _ (l new : LedgerState MemDisk) (claims : List Claim) (held : IsHeld l cl
   flown_granted (flown.Failed fault) to = tt
 
   pub flown_held : (r : Flown) (rest : List Claim) → FlownTo l r new → rest ≡ left_by (settled_world new.log) r claims → IsHeld new rest
-  flown_held flown.Nothing rest to is = subst (λ cs. IsHeld new cs) (sym is) (subst (λ m. IsHeld m claims) (sym to.1) held)
+  flown_held flown.Nothing rest to is = subst (λ cs. IsHeld new cs) (sym is) (subst (λ m. IsHeld m claims) (sym to) held)
   flown_held (flown.Settled rs) rest to is = settled_held l new claims held rs to rest is
   flown_held (flown.Failed fault) rest to is = subst (λ cs. IsHeld new cs) (sym is) (failed_held l new claims held fault to)
 
-  pub flown_told : (holds begun : Bool) (r : Flown) → FlownTo l r new → Flies (drill_of l holds begun) (flown_lines (settled_world new.log) r claims) (drill_of new holds begun)
-  flown_told holds begun flown.Nothing to = nothing_told l new claims held holds begun to
-  flown_told holds begun (flown.Settled rs) to = settled_told l new claims held rs to holds begun
-  flown_told holds begun (flown.Failed fault) to = failed_told l new claims held holds begun fault to
+  pub flown_told : (r : Flown) (count : ℕ) → FlownTo l r new → flown_lines (settled_world new.log) r claims ≡ flight_lines l.log (flown_answers r (next_size l.log) count)
+  flown_told flown.Nothing count to = refl
+  flown_told (flown.Settled rs) count to = settled_told l new claims held rs to
+  flown_told (flown.Failed fault) count to = refl
+
+  pub flown_leaves : (holds begun : Bool) (r : Flown) (count : ℕ) → FlownTo l r new → Leaves l (flown_answers r (next_size l.log) count) new holds begun
+  flown_leaves holds begun flown.Nothing count to tickets = ap (λ m. drill_of m holds begun) to
+  flown_leaves holds begun (flown.Settled rs) count to tickets = back_as_seen l new claims held (with_settled l.log (next_size l.log)) l.doubt holds begun to.0
+  flown_leaves holds begun (flown.Failed fault) count to tickets = failed_leaves l new claims held holds begun fault count to tickets
+
+pub flown_memory : (r : Flown) (b count : ℕ) → AllByRecursion (λ answer. answer ≢ Refused OutOfMemory) (flown_answers r b count)
+flown_memory flown.Nothing b count = ((λ same. cc), tt)
+flown_memory (flown.Settled rs) b count = ((λ same. cc), ((λ same. cc), ((λ same. cc), tt)))
+flown_memory (flown.Failed fault) b count = ((λ same. cc), ((λ same. cc), ((λ same. cc), tt)))
+
+-- a drill that sent a flight out and took it back
+pub flies : (d new : Drill) (v w : Driven MemDisk) (r : Flown) → d.driver ≡ Some v → new.driver ≡ Some w → new.holds ≡ d.holds → new.has_begun ≡ d.has_begun → IsReady d → FlownTo v.ledger r w.ledger →
+    GoesBy v (flown_answers r (next_size v.ledger.log) (settled_count w.ledger.log)) w → Flies d (flown_lines (settled_world w.ledger.log) r d.tickets.items) new
+flies d new v w r is now holds begun ready to by =
+    let held = held_is d v is ready in
+    let given = flown_answers r (next_size v.ledger.log) (settled_count w.ledger.log) in
+    let told = flown_lines (settled_world w.ledger.log) r d.tickets.items in
+    let seen = state_is d v is in
+    record {
+      given = given;
+      with_memory = flown_memory r (next_size v.ledger.log) (settled_count w.ledger.log);
+      printed = subst (λ (s : DrillState). told ≡ flight_lines s.log given) (sym seen) (flown_told v.ledger w.ledger d.tickets.items held r (settled_count w.ledger.log) to);
+      goes_on = λ tickets.
+          state_is new w now ∙ (λ i. drill_of w.ledger (holds i) (begun i)) ∙ flown_leaves v.ledger w.ledger d.tickets.items held d.holds d.has_begun r (settled_count w.ledger.log) to tickets
+          ∙ ap (λ (s : DrillState). seen_as (run (record (machine_of s) { tickets = tickets }) (flight_events given) given) d.holds d.has_begun) (sym seen);
+      moments = goes_on d.driver new.driver v w (flight_events given) given is now by;
+    }

@@ -1,5 +1,5 @@
 -- What a step that is handed in makes of a ledger, what is printed of it, and the tickets then.
-use Rattle.std.proofs.Common.{◌≡◌, ◌≢◌, ℕ, Bool, true, false, List, [], ◌∷◌, ◌++◌, drop, Result, Ok, Err, refl, sym, ap, ◌∙◌, subst, arith}
+use Rattle.std.proofs.Common.{◌≡◌, ◌≢◌, ℕ, Bool, true, false, List, Option, Some, [], ◌∷◌, ◌++◌, drop, Result, Ok, Err, refl, sym, ap, ◌∙◌, subst, arith}
 use Rattle.std.proofs.lemmas.List.{drop-append-le, length-append, take-append-le}
 use Rattle.std.specs.Prelude.{is_some}
 use Rattle.coord_disk.specs.declared.memory.MemDisk.{MemDisk}
@@ -14,16 +14,19 @@ use Rattle.coord_world.specs.declared.verdicts.Verdict.TheVariants.{Fresh, Repea
 use Rattle.coord_world.specs.protocol.Next.{fold, next, reply}
 use Rattle.coord_world.specs.protocol.NumberedWorld.{World}
 use Rattle.coord_ledger.proofs.follows.Granted.{granted_repeat}
+use Rattle.coord_ledger.specs.declared.events.Answer.{Answer}
+use Rattle.coord_ledger.specs.declared.events.Answer.TheVariants.{Refused}
+use Rattle.coord_ledger.specs.declared.events.Answer.TheVariants as answer
 use Rattle.coord_ledger.specs.declared.handed.Handed.TheVariants.{Accepted, Repeated}
 use Rattle.coord_ledger.specs.ledger.Calls.{HandedTo, RefusesStep, claimed, ledger_verdict, with_accepted}
 use Rattle.coord_ledger.specs.ledger.State.{Claim, IsGranted, LedgerState, reply_of}
 use Rattle.coord_ledger.specs.machine.Log.{front_world, pending, settled_count, settled_world, with_step}
-use Rattle.coord_drill.specs.Answered.{Does, Flies, kept_line}
-use Rattle.coord_drill.specs.Drill.{DrillState}
+use Rattle.coord_ledger.specs.machine.Runs.{run}
+use Rattle.coord_drill.specs.Answered.{asked_lines, flight_lines, kept_line}
+use Rattle.coord_drill.specs.Drill.{DrillState, after_asked, flight_events, machine_of, seen_as}
 use Rattle.coord_drill.specs.Holding.{IsHeld, claims_of, drill_of}
-use Rattle.coord_drill.specs.Printed.{pending_line, refusal_line}
 use Rattle.coord_drill.specs.declared.asked.Asked.TheVariants.{Submit}
-use Rattle.coord_drill.proofs.does.Does.{does_hold_step, does_refuse, does_repeat, does_settle_step}
+use Rattle.coord_drill.proofs.does.Does.{flown_after, flown_line, held_after, refused_after, repeat_after, repeat_lines}
 
 -- ---- what a ledger answers
 
@@ -62,25 +65,32 @@ pub repeated_granted : (l new : LedgerState MemDisk) (x : Step) (t : Claim) → 
 repeated_granted l new x t to =
     subst (λ (m : LedgerState MemDisk). IsGranted m.log t) (sym to.1.1.1) (subst (IsGranted l.log) (sym to.1.1.0) (granted_repeat (is_some l.doubt) l.log x to.0 to.1.0))
 
--- ---- what is printed
+-- ---- what is printed, and what becomes of the drill
 
 module _ (l new : LedgerState MemDisk) (holds begun : Bool) (x : Step) where
-  pub refused_told : (e : Refusal) → HandedTo l x (Err e) new → e ≢ OutOfMemory → Does (drill_of l holds begun) (Submit x) (refusal_line e) (drill_of new holds begun)
-  refused_told e to other =
-      subst (λ m. Does (drill_of l holds begun) (Submit x) (refusal_line e) (drill_of m holds begun)) (sym to.1) (does_refuse (drill_of l holds begun) x e (refused_said e (ledger_verdict l x) to.0 other))
+  abbrev s : DrillState
+  s = drill_of l holds begun
 
-  pub repeated_told : (t : Claim) → HandedTo l x (Ok (Repeated t)) new → Does (drill_of l holds begun) (Submit x) (kept_line (settled_count new.log) (reply_of t)) (drill_of new holds begun)
-  repeated_told t to =
-      subst (λ (m : LedgerState MemDisk). Does (drill_of l holds begun) (Submit x) (kept_line (settled_count m.log) (reply_of t)) (drill_of m holds begun)) (sym to.1.1.1)
-      (subst (λ c. Does (drill_of l holds begun) (Submit x) (kept_line (settled_count l.log) (reply_of c)) (drill_of l holds begun)) (sym to.1.1.0)
-      (does_repeat (drill_of l holds begun) x to.0 to.1.0))
+  pub refused_leaves : (e : Refusal) → HandedTo l x (Err e) new → e ≢ OutOfMemory → drill_of new holds begun ≡ after_asked s (Submit x) (Refused e ∷ [])
+  refused_leaves e to other = ap (λ m. drill_of m holds begun) to.1 ∙ sym (refused_after s x e (refused_said e (ledger_verdict l x) to.0 other))
 
-  pub held_told : (t : Claim) → HandedTo l x (Ok (Accepted t)) new → holds ≡ true → Does (drill_of l holds begun) (Submit x) (pending_line t.step) (drill_of new holds true)
-  held_told t to is =
-      subst (λ (m : LedgerState MemDisk). Does (drill_of l holds begun) (Submit x) (pending_line t.step) (drill_of m holds true)) (sym to.1.1.1)
-      (subst (λ (c : Claim). Does (drill_of l holds begun) (Submit x) (pending_line c.step) (drill_of (with_accepted l x) holds true)) (sym to.1.1.0)
-      (does_hold_step (drill_of l holds begun) x to.0 to.1.0 is))
+  pub repeated_told : (t : Claim) → HandedTo l x (Ok (Repeated t)) new → kept_line (settled_count new.log) (reply_of t) ≡ asked_lines s (Submit x) (answer.Repeated t.step ∷ [])
+  repeated_told t to = (λ i. kept_line (settled_count (to.1.1.1 i).log) (reply_of (to.1.1.0 i))) ∙ sym (repeat_lines s x to.0 t.step to.1.0)
 
-  pub settled_told : (t : Claim) (told : List ℕ) (after : DrillState) → HandedTo l x (Ok (Accepted t)) new → holds ≡ false → Flies (drill_of new holds true) told after → Does (drill_of l holds begun) (Submit x) told after
-  settled_told t told after to is flown =
-      does_settle_step (drill_of l holds begun) x to.0 told after to.1.0 is (subst (λ m. Flies (drill_of m holds true) told after) to.1.1.1 flown)
+  pub repeated_leaves : (t : Claim) → HandedTo l x (Ok (Repeated t)) new → drill_of new holds begun ≡ after_asked s (Submit x) (answer.Repeated t.step ∷ [])
+  repeated_leaves t to = ap (λ m. drill_of m holds begun) to.1.1.1 ∙ sym (repeat_after s x to.0 t.step to.1.0)
+
+  pub held_leaves : (t : Claim) → HandedTo l x (Ok (Accepted t)) new → holds ≡ true → drill_of new holds true ≡ after_asked s (Submit x) (answer.Accepted t.step ∷ [])
+  held_leaves t to is = ap (λ m. drill_of m holds true) to.1.1.1 ∙ sym (held_after s x to.0 t.step to.1.0 is)
+
+  module _ (t : Claim) (to : HandedTo l x (Ok (Accepted t)) new) (given : List Answer) (free : holds ≡ false) where
+    pub flown_told : flight_lines new.log given ≡ asked_lines s (Submit x) (answer.Accepted t.step ∷ given)
+    flown_told = ap (λ (m : LedgerState MemDisk). flight_lines m.log given) to.1.1.1 ∙ sym (flown_line s x t.step given free)
+
+    -- the machine has given the ticket of the step before it
+    pub flown_leaves : (after : DrillState) → ((tickets : List (Option Reply)) → after ≡ seen_as (run (record (machine_of (drill_of new holds true)) { tickets = tickets }) (flight_events given) given) holds true) → after ≡ after_asked s (Submit x) (answer.Accepted t.step ∷ given)
+    flown_leaves after goes_on =
+        let tickets : List (Option Reply) = Some (record { step = t.step; kind = to.0 }) ∷ [] in
+        goes_on tickets
+        ∙ ap (λ m. seen_as (run (record (machine_of (drill_of m holds true)) { tickets = tickets }) (flight_events given) given) holds true) to.1.1.1
+        ∙ sym (flown_after s x to.0 t.step given to.1.0 free)

@@ -1,69 +1,100 @@
--- Lines whose luck is not used, and texts that lines may print: there always is one.
-use Rattle.std.proofs.Common.{◌≡◌, ℕ, ◌+◌, Bool, true, false, List, [], ◌∷◌, ◌++◌, Option, Some, None, refl, inl}
-use Rattle.coord_check.specs.Faults.{first, faults}
+-- There always is a text that lines may print: the machine has an answer to each event that is not want of memory.
+use Rattle.std.proofs.Common.{◌≡◌, ◌≢◌, ℕ, ◌+◌, Bool, true, false, cond, List, [], ◌∷◌, ◌++◌, Option, Some, None, Result, Ok, Err, refl, sym, ap, ◌∙◌, subst, inl}
+use Rattle.std.specs.List.{AllByRecursion}
+use Rattle.std.specs.Prelude.{is_some, map}
 use Rattle.coord_lines.specs.Lines.{Line}
 use Rattle.coord_types.specs.declared.refusals.Refusal.{Refusal}
-use Rattle.coord_world.specs.protocol.NumberedWorld.{no_world}
-use Rattle.coord_world.specs.protocol.Outputs.{again}
-use Rattle.coord_ledger.specs.declared.events.Answer.TheVariants.{Committed}
-use Rattle.coord_ledger.specs.machine.Answers.{IsOneOf, kept_by}
-use Rattle.coord_ledger.specs.machine.Log.{front_world, log_over, settled_world}
-use Rattle.coord_drill.specs.Answered.{Does, Responds, asked_lines, shown_lines}
+use Rattle.coord_types.specs.declared.refusals.Refusal.TheVariants.{OutOfMemory}
+use Rattle.coord_types.specs.declared.steps.Reply.{Reply}
+use Rattle.coord_types.specs.declared.steps.Step.{Step}
+use Rattle.coord_world.specs.declared.verdicts.Verdict.{Verdict}
+use Rattle.coord_world.specs.declared.verdicts.Verdict.TheVariants.{Fresh, Repeat}
+use Rattle.coord_ledger.specs.declared.events.Answer.{Answer}
+use Rattle.coord_ledger.specs.declared.events.Answer.TheVariants.{Accepted, Begun, Committed, Finished, Nothing, Opened, Refused, Repeated}
+use Rattle.coord_ledger.specs.declared.events.Event.{Event}
+use Rattle.coord_ledger.specs.declared.events.Event.TheVariants as event
+use Rattle.coord_ledger.specs.machine.After.{after_submit}
+use Rattle.coord_ledger.specs.machine.Answers.{IsOneOf, kept_by, next_size, stays_home, to_submit, verdict_on}
+use Rattle.coord_ledger.specs.machine.Log.{accepted_count, front_world, settled_count, with_step}
+use Rattle.coord_ledger.specs.machine.Machine.{Machine}
+use Rattle.coord_ledger.specs.machine.Runs.{Answered}
+use Rattle.coord_drill.specs.Answered.{Responds, asked_lines}
 use Rattle.coord_drill.specs.Asked.{asked}
-use Rattle.coord_drill.specs.Drill.{DrillState, IsAllowed, Luck, after_asked}
+use Rattle.coord_drill.specs.Drill.{DrillState, after_asked, flight_events, line_events, machine_of, step_events}
 use Rattle.coord_drill.specs.Drilled.{LineResponds, Prints, UnlessSkipped, asked_by, is_skipped}
-use Rattle.coord_drill.specs.Printed.{bad_line, fault_line, idle_line, output_lines, refusal_line}
-use Rattle.coord_drill.specs.Holding.{Tells}
+use Rattle.coord_drill.specs.Printed.{bad_line}
 use Rattle.coord_drill.specs.declared.asked.Asked.{Asked}
 use Rattle.coord_drill.specs.declared.asked.Asked.TheVariants as ask
 use Rattle.coord_drill.specs.declared.request.Request.{Request}
+use Rattle.coord_drill.proofs.does.Verdicts.{never_memory}
 
--- a commit goes well, and a crash keeps what is settled
-abbrev pub quiet_luck : DrillState → Luck
-quiet_luck s = record { commit = Committed; kept = s.log.settled }
+-- ---- answers
 
-pub settled_kept : (d : ℕ) (doubt : Option ℕ) → IsOneOf d (kept_by d None doubt)
-settled_kept d None = inl refl
-settled_kept d (Some b) = inl refl
+abbrev HaveMemory : List Answer → Type 0
+HaveMemory given = AllByRecursion (λ answer. answer ≢ Refused OutOfMemory) given
 
-quiet_allowed : (s : DrillState) → IsAllowed s (quiet_luck s)
-quiet_allowed s = record { commit = inl refl; kept = settled_kept s.log.settled s.doubt }
+-- answers that these events may have, by the answers
+abbrev May : Machine → (List Answer → List Event) → Type 0
+May m events = (given : List Answer) × (Answered m (events given) given × HaveMemory given)
 
--- what changes nothing, and prints the same whatever the luck
-pub does_quietly : (s : DrillState) (a : Asked) (told : List ℕ) (t : DrillState) → told ≡ asked_lines (quiet_luck s) s a → t ≡ after_asked (quiet_luck s) s a → Does s a told t
-does_quietly s a told t printed goes_on = record { luck = quiet_luck s; allowed = quiet_allowed s; printed = printed; goes_on = goes_on }
+-- a flight stays home, or goes out and is committed
+may_fly : (s : DrillState) (tickets : List (Option Reply)) → May (record (machine_of s) { tickets = tickets }) flight_events
+may_fly s tickets = by_home (stays_home (is_some s.doubt) false s.log) refl
+  where
+    m : Machine
+    m = record (machine_of s) { tickets = tickets }
 
-pub does_hold : (s : DrillState) → Does s ask.Hold [] (record { log = s.log; doubt = s.doubt; holds = true; has_begun = s.has_begun })
-unfolding asked_lines after_asked
-does_hold s = does_quietly s ask.Hold [] _ refl refl
+    by_home : (home : Bool) → stays_home (is_some s.doubt) false s.log ≡ home → May m flight_events
+    by_home true is = (Nothing ∷ [], ((subst (λ b. IsOneOf Nothing (cond b (Nothing ∷ []) (Begun (next_size s.log) ∷ Refused OutOfMemory ∷ []))) (sym is) (inl refl), tt), ((λ same. cc), tt)))
+    by_home false is =
+        let b = next_size s.log in (
+          Begun b ∷ Committed ∷ Finished (settled_count s.log + b) ∷ [],
+          (
+            (subst (λ h. IsOneOf (Begun b) (cond h (Nothing ∷ []) (Begun b ∷ Refused OutOfMemory ∷ []))) (sym is) (inl refl), (inl refl, (inl refl, tt))),
+            ((λ same. cc), ((λ same. cc), ((λ same. cc), tt))),
+          ),
+        )
 
-pub does_begin : (s : DrillState) → Does s ask.Version2 [] (record { log = log_over (no_world 2); doubt = None; holds = s.holds; has_begun = s.has_begun })
-unfolding asked_lines after_asked
-does_begin s = does_quietly s ask.Version2 [] _ refl refl
+module _ (s : DrillState) (x : Step) where
+  -- what the machine may answer to the step and to the events behind it, by what it says to the step
+  may_say : (v : Result Verdict Refusal) (a : Answer) → verdict_on (machine_of s) x ≡ v → IsOneOf a (to_submit (accepted_count s.log + 1) v) → (es : List Event) (given : List Answer) → Answered (after_submit (machine_of s) x v a) es given → Answered (machine_of s) (event.Submit x ∷ es) (a ∷ given)
+  may_say v a is one es given rest =
+      subst (λ w. IsOneOf a (to_submit (accepted_count s.log + 1) w) × Answered (after_submit (machine_of s) x w a) es given) (sym is) (one, rest)
 
--- ---- texts that change nothing
+  may_step : (holds : Bool) (v : Result Verdict Refusal) → verdict_on (machine_of s) x ≡ v → May (machine_of s) (step_events holds x)
+  may_step true (Ok (Fresh k)) is =
+      let n = accepted_count s.log + 1 in
+      (Accepted n ∷ [], (may_say (Ok (Fresh k)) (Accepted n) is (inl refl) [] [] tt, ((λ same. cc), tt)))
+  may_step false (Ok (Fresh k)) is =
+      let n = accepted_count s.log + 1 in
+      let t : DrillState = record s { log = with_step s.log x } in
+      let rest = may_fly t (Some (record { step = n; kind = k }) ∷ []) in
+      (Accepted n ∷ rest.0, (may_say (Ok (Fresh k)) (Accepted n) is (inl refl) (flight_events rest.0) rest.0 rest.1.0, ((λ same. cc), rest.1.1)))
+  may_step holds (Ok (Repeat r)) is = (Repeated r.step ∷ [], (may_say (Ok (Repeat r)) (Repeated r.step) is (inl refl) [] [] tt, ((λ same. cc), tt)))
+  may_step holds (Err e) is =
+      let other : Refused e ≢ Refused OutOfMemory = λ same. let memory : e ≡ OutOfMemory = cc in never_memory (is_some s.doubt) s.log x (is ∙ ap (λ w. Err w) memory) in
+      (Refused e ∷ [], (may_say (Err e) (Refused e) is (inl refl) [] [] tt, (other, tt)))
 
-pub tells_refusal : (s : DrillState) (old new : List ℕ) (refusal : Refusal) → new ≡ old ++ refusal_line refusal → Tells old new (λ told. Does s (ask.Refuse refusal) told s)
-unfolding asked_lines after_asked
-tells_refusal s old new refusal is = (refusal_line refusal, (is, does_quietly s (ask.Refuse refusal) _ s refl refl))
+may_crash : (s : DrillState) → May (machine_of s) (λ given. event.Crash ∷ [])
+may_crash s = (Opened (s.log.base.count + s.log.settled) ∷ [], ((by_doubt s.doubt, tt), ((λ same. cc), tt)))
+  where
+    by_doubt : (o : Option ℕ) → IsOneOf (Opened (s.log.base.count + s.log.settled)) (map (λ n. Opened (s.log.base.count + n)) (kept_by s.log.settled None o))
+    by_doubt None = inl refl
+    by_doubt (Some b) = inl refl
 
-pub tells_idle : (s : DrillState) (old new : List ℕ) → new ≡ old ++ idle_line → Tells old new (λ told. Does s ask.Nothing told s)
-unfolding asked_lines after_asked
-tells_idle s old new is = (idle_line, (is, does_quietly s ask.Nothing _ s refl refl))
+may_line : (s : DrillState) (a : Asked) → May (machine_of s) (line_events s.holds a)
+may_line s (ask.Submit x) = may_step s x s.holds (verdict_on (machine_of s) x) refl
+may_line s ask.Flush = may_fly s []
+may_line s ask.Crash = may_crash s
+may_line s (ask.Refuse e) = ([], (tt, tt))
+may_line s ask.Nothing = ([], (tt, tt))
+may_line s ask.Resend = ([], (tt, tt))
+may_line s ask.Check = ([], (tt, tt))
+may_line s ask.Show = ([], (tt, tt))
+may_line s ask.Hold = ([], (tt, tt))
+may_line s ask.Version2 = ([], (tt, tt))
 
-pub tells_check : (s : DrillState) (old new : List ℕ) → new ≡ old ++ fault_line (first (faults (front_world s.log))) → Tells old new (λ told. Does s ask.Check told s)
-unfolding asked_lines after_asked
-tells_check s old new is = (fault_line (first (faults (front_world s.log))), (is, does_quietly s ask.Check _ s refl refl))
-
-pub tells_resent : (s : DrillState) (old new : List ℕ) → new ≡ old ++ output_lines (settled_world s.log).version (again (settled_world s.log)) → Tells old new (λ told. Does s ask.Resend told s)
-unfolding asked_lines after_asked
-tells_resent s old new is = (output_lines (settled_world s.log).version (again (settled_world s.log)), (is, does_quietly s ask.Resend _ s refl refl))
-
-pub tells_show : (s : DrillState) (old new : List ℕ) → new ≡ old ++ shown_lines s.log s.doubt → Tells old new (λ told. Does s ask.Show told s)
-unfolding asked_lines after_asked
-tells_show s old new is = (shown_lines s.log s.doubt, (is, does_quietly s ask.Show _ s refl refl))
-
--- ---- there is always something to print
+-- ---- lines
 
 abbrev pub Somehow : (List ℕ → DrillState → Type 0) → Type 0
 Somehow P = (told : List ℕ) × (t : DrillState) × P told t
@@ -72,7 +103,8 @@ responds_somehow : (s : DrillState) (n : ℕ) (r : Option Request) → Somehow (
 responds_somehow s n None = (bad_line n, s, (refl, refl))
 responds_somehow s n (Some r) =
     let a = asked (front_world s.log) r in
-    (asked_lines (quiet_luck s) s a, after_asked (quiet_luck s) s a, does_quietly s a _ _ refl refl)
+    let may = may_line s a in
+    (asked_lines s a may.0, after_asked s a may.0, (may.0, record { answered = may.1.0; with_memory = may.1.1; printed = refl; goes_on = refl }))
 
 pub line_somehow : (s : DrillState) (n : ℕ) (line : Line) → Somehow (LineResponds s n line)
 line_somehow s n None = responds_somehow s n None

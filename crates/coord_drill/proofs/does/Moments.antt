@@ -1,28 +1,40 @@
 -- A run of the driver's events goes on, over a disk in memory.
-use Rattle.std.proofs.Common.{◌≡◌, ◌≢◌, ℕ, Bool, true, false, List, [], ◌∷◌, ◌++◌, Option, Some, None, Result, Ok, Err, IfOk, refl, sym, subst}
+use Rattle.std.proofs.Common.{◌≡◌, ◌≢◌, ℕ, Bool, true, false, List, [], ◌∷◌, ◌++◌, Option, Some, None, Result, Ok, Err, IfOk, refl, sym, ◌∙◌, subst, append_assoc}
+use Rattle.std.specs.List.{AllByRecursion}
 use Rattle.std.specs.Prelude.{OnOk}
 use Rattle.coord_disk.specs.Disks.History.{LeftSince}
 use Rattle.coord_disk.specs.Disks.Memory.{CrashesByChoice, clock_of, past_of, present_of}
 use Rattle.coord_disk.specs.Disks.MemoryLaws.{only_now}
 use Rattle.coord_disk.specs.declared.memory.MemDisk.{MemDisk}
+use Rattle.coord_check.specs.Faults.{first, faults}
+use Rattle.coord_types.specs.declared.refusals.Refusal.{Refusal}
+use Rattle.coord_types.specs.declared.refusals.Refusal.TheVariants.{OutOfMemory}
+use Rattle.coord_world.specs.protocol.Outputs.{again}
 use Rattle.coord_ledger.specs.declared.events.Answer.{Answer}
+use Rattle.coord_ledger.specs.declared.events.Answer.TheVariants.{Refused}
 use Rattle.coord_ledger.specs.declared.events.Event.{Event}
 use Rattle.coord_ledger.specs.ledger.Driven.{Beside, Driven, disk_driven, held}
 use Rattle.coord_ledger.specs.ledger.Driver.{HeldSurvives, HeldTouches}
 use Rattle.coord_ledger.specs.ledger.Follows.{Follows, FollowsTo}
-use Rattle.coord_ledger.specs.ledger.State.{LedgerState}
+use Rattle.coord_ledger.specs.ledger.State.{LedgerState, started}
 use Rattle.coord_ledger.specs.machine.Consistent.{EventInRange, IsConsistent}
+use Rattle.coord_ledger.specs.machine.Log.{front_world, settled_world}
 use Rattle.coord_ledger.specs.machine.Machine.{Machine}
 use Rattle.coord_ledger.specs.machine.Runs.{run as after_run}
-use Rattle.coord_ledger.specs.ledger.State.{started}
 use Rattle.coord_ledger.specs.promises.Headline.{found_by_crash, is_crash}
 use Rattle.coord_ledger.specs.promises.Moments.{touches_disk}
 use Rattle.coord_ledger.proofs.drives.Drives.{drives_on}
 use Rattle.coord_ledger.proofs.drives.EachMoment.{met_aside}
-use Rattle.coord_drill.specs.Holding.{IsMade}
-use Rattle.coord_drill.specs.Moments.{GoesOn, GoesOnTo, IsRun, Moves, MovesFrom}
+use Rattle.coord_drill.specs.Answered.{IsAnswered, asked_lines, shown_lines}
+use Rattle.coord_drill.specs.Drill.{DrillState, after_asked, line_events}
+use Rattle.coord_drill.specs.Holding.{IsMade, IsReady, Tells, drill_of, state_of}
+use Rattle.coord_drill.specs.Moments.{Begins, Carries, GoesOn, GoesOnTo, IsRun, Moves, MovesFrom}
+use Rattle.coord_drill.specs.Printed.{fault_line, idle_line, output_lines, refusal_line}
 use Rattle.coord_drill.specs.declared.asked.Asked.{Asked}
+use Rattle.coord_drill.specs.declared.asked.Asked.TheVariants as ask
 use Rattle.coord_drill.specs.declared.asked.Asked.TheVariants.{Version2}
+use Rattle.coord_drill.specs.declared.drill.Drill.{Drill}
+use Rattle.coord_drill.proofs.does.Does.{driver_of, held_is, state_is}
 
 abbrev keeps : MemDisk → Bool
 keeps disk = true
@@ -34,65 +46,127 @@ pub if_ok_more : {A E : Type 0} {P Q : A → Type 0} (r : Result A E) → ((a : 
 if_ok_more (Ok a) more p = more a p
 if_ok_more (Err e) more p = tt
 
-pub on_ok_all : {A E X : Type 0} (r : Result A E) → X → OnOk r X
-on_ok_all (Ok a) x = x
-on_ok_all (Err e) x = tt
+pub if_ok_both : {A E : Type 0} (P Q : A → Type 0) (r : Result A E) → IfOk r P → IfOk r Q → IfOk r (λ a. P a × Q a)
+if_ok_both P Q (Ok a) p q = (p, q)
+if_ok_both P Q (Err e) p q = tt
+
+pub on_ok_both : {A E : Type 0} (P Q : Type 0) (r : Result A E) → OnOk r P → OnOk r Q → OnOk r (P × Q)
+on_ok_both P Q (Ok a) p q = (p, q)
+on_ok_both P Q (Err e) p q = tt
 
 -- whatever is driven survives
 abbrev pub Survive : Driven MemDisk → Type 0
 Survive d = (b : Beside) (s : Machine) → IsConsistent s → Follows (held d b) s → HeldSurvives keeps present_of (held d b) s
 
-module _ (l : LedgerState MemDisk) (d new : Driven MemDisk) (e : Event) (a : Answer) (next : Beside → Beside) (named : EventInRange e) where
+module _ (l : LedgerState MemDisk) (es : List Event) (gs : List Answer) (d new : Driven MemDisk) (e : Event) (a : Answer) (next : Beside → Beside) (named : EventInRange e) where
   -- one event more
   pub run_on : ((disk : MemDisk) (b : Beside) (s : Machine) → disk_driven d ≡ Some disk → IsConsistent s → Follows (held d b) s → FollowsTo s e a (held new (next b))) →
       ((b : Beside) (s : Machine) → IsConsistent s → Follows (held d b) s → HeldTouches keeps present_of clock_of since CrashesByChoice (found_by_crash s e a) (touches_disk e a) e (held d b) (held new (next b))) →
-      Survive new → IsRun l d → IsRun l new
+      Survive new → IsRun l es gs d → IsRun l (es ++ e ∷ []) (gs ++ a ∷ []) new
   run_on answered touches survives run = record {
-    events = run.events ++ e ∷ [];
-    given = run.given ++ a ∷ [];
     beside = next run.beside;
     drives = λ first there.
         let drives = run.drives first there in
-        let s = after_run (started l) run.events run.given in
-        drives_on present_of clock_of since CrashesByChoice keeps true first l run.events run.given (held d run.beside) (held new (next run.beside)) e a drives refl named
+        let s = after_run (started l) es gs in
+        drives_on present_of clock_of since CrashesByChoice keeps true first l es gs (held d run.beside) (held new (next run.beside)) e a drives refl named
         (answered drives.disk run.beside s drives.holds drives.consistent drives.follows) (touches run.beside s drives.consistent drives.follows) (survives (next run.beside));
   }
 
   -- so of one that leaves the disk as it is
   pub run_aside : is_crash e ≡ false → ((s : Machine) → found_by_crash s e a ≡ s) → disk_driven new ≡ disk_driven d → ((b : Beside) (s : Machine) → IsConsistent s → Follows (held d b) s → FollowsTo s e a (held new (next b))) →
-      Survive d → Survive new → IsRun l d → IsRun l new
+      Survive d → Survive new → IsRun l es gs d → IsRun l (es ++ e ∷ []) (gs ++ a ∷ []) new
   run_aside other found same answered before survives =
       run_on (λ disk b s there is follows. answered b s is follows)
       (λ b s is follows. met_aside present_of clock_of since CrashesByChoice keeps (λ disk image on left. only_now (past_of disk) image left) s e e a (held d b) (held new (next b)) refl other (found s) same (before b s is follows))
       survives
 
--- what a drill holds
-pub goes_on : (o p : Option (Driven MemDisk)) (v w : Driven MemDisk) → o ≡ Some v → p ≡ Some w → GoesOnTo v w → GoesOn o p
-goes_on o p v w was now to = subst (λ x. GoesOn x p) (sym was) (subst (λ y. GoesOn (Some v) y) (sym now) to)
+-- the events of the one and then of the other
+pub goes_then : (d m new : Driven MemDisk) (es fs : List Event) (gs hs : List Answer) → GoesOnTo d es gs m → GoesOnTo m fs hs new → GoesOnTo d (es ++ fs) (gs ++ hs) new
+goes_then d m new es fs gs hs first then l before given run =
+    subst (λ xs. IsRun l xs (given ++ (gs ++ hs)) new) (append_assoc before es fs)
+    (subst (λ ys. IsRun l ((before ++ es) ++ fs) ys new) (append_assoc given gs hs) (then l (before ++ es) (given ++ gs) (first l before given run)))
 
-pub goes_then : (o p q : Option (Driven MemDisk)) → GoesOn o p → GoesOn p q → GoesOn o q
-goes_then None p q first then = absurd first
-goes_then (Some u) None q first then = absurd first
-goes_then (Some u) (Some v) None first then = absurd then
-goes_then (Some u) (Some v) (Some w) first then = λ l run. then l (first l run)
+-- what a drill holds
+pub goes_on : (o p : Option (Driven MemDisk)) (v w : Driven MemDisk) (es : List Event) (gs : List Answer) → o ≡ Some v → p ≡ Some w → GoesOnTo v es gs w → GoesOn o es gs p
+goes_on o p v w es gs was now to = subst (λ x. GoesOn x es gs p) (sym was) (subst (λ y. GoesOn (Some v) es gs y) (sym now) to)
+
+pub goes_to : (o p : Option (Driven MemDisk)) (v w : Driven MemDisk) (es : List Event) (gs : List Answer) → o ≡ Some v → p ≡ Some w → GoesOn o es gs p → GoesOnTo v es gs w
+goes_to o p v w es gs was now on = subst (λ y. GoesOn (Some v) es gs y) now (subst (λ x. GoesOn x es gs p) was on)
+
+pub begins_at : (o : Option (Driven MemDisk)) (v : Driven MemDisk) → o ≡ Some v → Begins o → IsRun v.ledger [] [] v
+begins_at o v is begins = subst Begins is begins
 
 -- ---- lines
 
--- a line goes on from where a run begins
-pub moves_to : (a : Asked) (o p : Option (Driven MemDisk)) (v : Driven MemDisk) → a ≢ Version2 → o ≡ Some v → IsRun v.ledger v → GoesOn o p → MovesFrom a o p
-moves_to a o p v other is begun on = subst (λ x. MovesFrom a x p) (sym is) (by_new p (subst (λ x. GoesOn x p) is on))
-  where
-    by_asked : (b : Asked) (w : Driven MemDisk) → b ≢ Version2 → IsRun v.ledger w → Moves b v w
-    by_asked Version2 w other run = absurd (other refl)
-    by_asked b w other run = run
+-- text, state and disk of a line go by the same answers
+module _ (d new : Drill) (v w : Driven MemDisk) (a : Asked) (given : List Answer) (told : List ℕ) (is : d.driver ≡ Some v) (now : new.driver ≡ Some w) where
+  -- where it is a run of events
+  pub carries : IsReady d → a ≢ Version2 → IsRun v.ledger (line_events d.holds a given) given w → AllByRecursion (λ x. x ≢ Refused OutOfMemory) given →
+      told ≡ asked_lines (drill_of v.ledger d.holds d.has_begun) a given → drill_of w.ledger new.holds new.has_begun ≡ after_asked (drill_of v.ledger d.holds d.has_begun) a given → Carries d a told new
+  carries ready other run memory printed on =
+      let here = (held_is d v is ready).here in
+      record {
+        given = given;
+        answered = subst (λ s. IsAnswered s a given told (state_of new)) (sym (state_is d v is)) (subst (λ t. IsAnswered (drill_of v.ledger d.holds d.has_begun) a given told t) (sym (state_is new w now)) (record {
+          answered = (run.drives here.0 here.1).answered;
+          with_memory = memory;
+          printed = printed;
+          goes_on = on;
+        }));
+        moments = moved (by_asked a other run);
+      }
+    where
+      by_asked : (b : Asked) → b ≢ Version2 → IsRun v.ledger (line_events d.holds b given) given w → Moves b (line_events d.holds b given) given v w
+      by_asked Version2 other run = absurd (other refl)
+      by_asked b other run = run
 
-    by_new : (q : Option (Driven MemDisk)) → GoesOn (Some v) q → MovesFrom a (Some v) q
-    by_new None on = absurd on
-    by_new (Some w) on = by_asked a w other (on v.ledger begun)
+      moved : Moves a (line_events d.holds a given) given v w → MovesFrom a (line_events d.holds a given) given d.driver new.driver
+      moved to = subst (λ o. MovesFrom a (line_events d.holds a given) given o new.driver) (sym is) (subst (λ p. MovesFrom a (line_events d.holds a given) given (Some v) p) (sym now) to)
 
--- what holds still goes on
-pub still : (o : Option (Driven MemDisk)) (v : Driven MemDisk) → o ≡ Some v → GoesOn o o
-still o v is = subst (λ x. GoesOn x x) (sym is) (λ l run. run)
+-- a line that is no event leaves the drill as it is
+still : (d : Drill) (a : Asked) (old text told : List ℕ) → IsReady d → Begins d.driver → a ≢ Version2 → line_events d.holds a [] ≡ [] → text ≡ old ++ told → told ≡ asked_lines (state_of d) a [] → ((s : DrillState) → s ≡ after_asked s a []) → Tells old text (λ told. Carries d a told d)
+still d a old text told ready begins other none is printed same =
+    let v = driver_of d ready in
+    let run = subst (λ es. IsRun v.0.ledger es [] v.0) (sym none) (begins_at d.driver v.0 v.1 begins) in
+    (told, (is, carries d d v.0 v.0 a [] told v.1 v.1 ready other run tt (subst (λ s. told ≡ asked_lines s a []) (state_is d v.0 v.1) printed) (same (drill_of v.0.ledger d.holds d.has_begun))))
 
-pub moves_made : (o p : Option (Driven MemDisk)) (v w : Driven MemDisk) → o ≡ Some v → p ≡ Some w → IsMade 2 w.ledger → MovesFrom Version2 o p
-moves_made o p v w was now made = subst (λ x. MovesFrom Version2 x p) (sym was) (subst (λ y. MovesFrom Version2 (Some v) y) (sym now) made)
+pub tells_refusal : (d : Drill) (old text : List ℕ) (refusal : Refusal) → IsReady d → Begins d.driver → text ≡ old ++ refusal_line refusal → Tells old text (λ told. Carries d (ask.Refuse refusal) told d)
+unfolding asked_lines after_asked
+tells_refusal d old text refusal ready begins is = still d (ask.Refuse refusal) old text _ ready begins (λ same. cc) refl is refl (λ s. refl)
+
+pub tells_idle : (d : Drill) (old text : List ℕ) → IsReady d → Begins d.driver → text ≡ old ++ idle_line → Tells old text (λ told. Carries d ask.Nothing told d)
+unfolding asked_lines after_asked
+tells_idle d old text ready begins is = still d ask.Nothing old text _ ready begins (λ same. cc) refl is refl (λ s. refl)
+
+pub tells_check : (d : Drill) (old text : List ℕ) → IsReady d → Begins d.driver → text ≡ old ++ fault_line (first (faults (front_world (state_of d).log))) → Tells old text (λ told. Carries d ask.Check told d)
+unfolding asked_lines after_asked
+tells_check d old text ready begins is = still d ask.Check old text _ ready begins (λ same. cc) refl is refl (λ s. refl)
+
+pub tells_resent : (d : Drill) (old text : List ℕ) → IsReady d → Begins d.driver → text ≡ old ++ output_lines (settled_world (state_of d).log).version (again (settled_world (state_of d).log)) → Tells old text (λ told. Carries d ask.Resend told d)
+unfolding asked_lines after_asked
+tells_resent d old text ready begins is = still d ask.Resend old text _ ready begins (λ same. cc) refl is refl (λ s. refl)
+
+pub tells_show : (d : Drill) (old text : List ℕ) → IsReady d → Begins d.driver → text ≡ old ++ shown_lines (state_of d).log (state_of d).doubt → Tells old text (λ told. Carries d ask.Show told d)
+unfolding asked_lines after_asked
+tells_show d old text ready begins is = still d ask.Show old text _ ready begins (λ same. cc) refl is refl (λ s. refl)
+
+-- from now on it holds
+pub carries_hold : (d new : Drill) → IsReady d → Begins d.driver → new.driver ≡ d.driver → new.holds ≡ true → new.has_begun ≡ d.has_begun → Carries d ask.Hold [] new
+unfolding asked_lines after_asked
+carries_hold d new ready begins same holds begun =
+    let v = driver_of d ready in
+    carries d new v.0 v.0 ask.Hold [] [] v.1 (same ∙ v.1) ready (λ same. cc) (begins_at d.driver v.0 v.1 begins) tt refl (λ i. drill_of v.0.ledger (holds i) (begun i))
+
+-- a new disk is not one of the run's
+pub carries_made : (d new : Drill) (v w : Driven MemDisk) → d.driver ≡ Some v → new.driver ≡ Some w → new.holds ≡ d.holds → new.has_begun ≡ d.has_begun → IsMade 2 w.ledger → Carries d ask.Version2 [] new
+unfolding asked_lines after_asked
+carries_made d new v w is now holds begun made = record {
+  given = [];
+  answered = record {
+    answered = tt;
+    with_memory = tt;
+    printed = refl;
+    goes_on = state_is new w now ∙ (λ i. drill_of (made.adopted i) (holds i) (begun i));
+  };
+  moments = subst (λ o. MovesFrom ask.Version2 [] [] o new.driver) (sym is) (subst (λ p. MovesFrom ask.Version2 [] [] (Some v) p) (sym now) made);
+}

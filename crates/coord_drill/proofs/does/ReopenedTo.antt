@@ -1,18 +1,20 @@
 -- What a crash of the disk leaves, and what is printed of it.
-use Rattle.std.proofs.Common.{◌≡◌, Bool, true, false, List, [], Some, None, sym, ap, ◌∙◌, subst, arith}
+use Rattle.std.proofs.Common.{◌≡◌, ℕ, ◌+◌, ◌≤◌, Bool, true, false, List, [], ◌∷◌, length, Option, Some, None, sym, ap, ◌∙◌, subst, arith, inl, inr}
 use Rattle.std.specs.Option.{option_map}
 use Rattle.coord_disk.specs.declared.memory.MemDisk.{MemDisk}
+use Rattle.coord_ledger.specs.declared.events.Answer.TheVariants.{Opened}
 use Rattle.coord_ledger.specs.ledger.Driven.{Driven, IsLeftByCrash, disk_driven}
 use Rattle.coord_ledger.specs.ledger.Driver.{disk_with}
 use Rattle.coord_ledger.specs.ledger.Follows.{flight_out}
-use Rattle.coord_ledger.specs.ledger.State.{Claim, LedgerState}
+use Rattle.coord_ledger.specs.ledger.State.{Claim, LedgerState, started}
 use Rattle.coord_ledger.specs.machine.Answers.{IsOneOf, kept_by}
-use Rattle.coord_ledger.specs.machine.Log.{front_world, log_over, settled_count, world_after}
-use Rattle.coord_drill.specs.Answered.{Does}
+use Rattle.coord_ledger.specs.machine.Consistent.{DoubtFits, IsConsistent}
+use Rattle.coord_ledger.specs.machine.Log.{log_over, settled_count, world_after}
+use Rattle.coord_ledger.proofs.machine.Logs.{count_after}
+use Rattle.coord_drill.specs.Drill.{after_asked}
 use Rattle.coord_drill.specs.Holding.{IsHeld, ReopenedTo, drill_of}
-use Rattle.coord_drill.specs.Printed.{opened_line}
 use Rattle.coord_drill.specs.declared.asked.Asked.TheVariants.{Crash}
-use Rattle.coord_drill.proofs.does.Does.{does_crash, new_held}
+use Rattle.coord_drill.proofs.does.Does.{crash_after, new_held}
 
 -- what the driver left of a ledger at home
 pub reopened : (v new : Driven MemDisk) → v.flight ≡ None → IsLeftByCrash v new → ReopenedTo v.ledger new.ledger
@@ -22,20 +24,29 @@ reopened v new home left =
 pub crash_held : (l new : LedgerState MemDisk) (claims : List Claim) → ReopenedTo l new → claims ≡ [] → IsHeld new claims
 crash_held l new claims to none = new_held new (world_after l.log to.0) to.2.0 claims to.2.1 none
 
-pub crash_told : (l new : LedgerState MemDisk) (holds begun : Bool) → ReopenedTo l new → Does (drill_of l holds begun) Crash (opened_line (front_world new.log).count) (drill_of new false begun)
-crash_told l new holds begun to =
-    subst (λ (m : LedgerState MemDisk). Does (drill_of l holds begun) Crash (opened_line (front_world m.log).count) (drill_of m false begun)) (sym to.2.1)
-    (does_crash (drill_of l holds begun) to.0 to.1)
+-- it is seen from the world that was opened
+pub crash_leaves : (v new : Driven MemDisk) (holds begun : Bool) → (left : IsLeftByCrash v new) → drill_of new.ledger false begun ≡ after_asked (drill_of v.ledger holds begun) Crash (Opened (v.ledger.log.base.count + left.0) ∷ [])
+crash_leaves v new holds begun left = ap (λ (d : Driven MemDisk). drill_of d.ledger false begun) left.1.1.1 ∙ sym (crash_after (drill_of v.ledger holds begun) left.0)
 
 pub home_left : (v new : Driven MemDisk) → IsLeftByCrash v new → new.flight ≡ None
 home_left v new left = ap (λ (d : Driven MemDisk). d.flight) left.1.1.1
 
--- its count is that of its world
-pub opened_count : (v new : Driven MemDisk) → IsLeftByCrash v new → settled_count new.ledger.log ≡ (front_world new.ledger.log).count
-opened_count v new left =
-    let log = ap (λ (d : Driven MemDisk). d.ledger.log) left.1.1.1 in
-    let plain : settled_count (log_over (world_after v.ledger.log left.0)) ≡ (front_world (log_over (world_after v.ledger.log left.0))).count = omega arith in
-    ap settled_count log ∙ plain ∙ ap (λ g. (front_world g).count) (sym log)
+-- its count is the base's, and the steps that the crash left
+pub opened_count : (v new : Driven MemDisk) (left : IsLeftByCrash v new) → v.flight ≡ None → IsConsistent (started v.ledger) → settled_count new.ledger.log ≡ v.ledger.log.base.count + left.0
+opened_count v new left home is =
+    let log = v.ledger.log in
+    let one = subst (λ o. IsOneOf left.0 (kept_by log.settled (option_map flight_out o) v.ledger.doubt)) home left.1.0 in
+    ap (λ (d : Driven MemDisk). settled_count d.ledger.log) left.1.1.1 ∙ count_is (by_doubt v.ledger.doubt one is.doubt)
+  where
+    by_doubt : (o : Option ℕ) → IsOneOf left.0 (kept_by v.ledger.log.settled None o) → DoubtFits v.ledger.log None o → left.0 ≤ length v.ledger.log.trail
+    by_doubt None (inl same) fits = omega (arith, same, is.log.within)
+    by_doubt None (inr never) fits = absurd never
+    by_doubt (Some b) (inl same) fits = omega (arith, same, is.log.within)
+    by_doubt (Some b) (inr (inl same)) fits = omega (arith, same, fits)
+    by_doubt (Some b) (inr (inr never)) fits = absurd never
+
+    count_is : left.0 ≤ length v.ledger.log.trail → settled_count (log_over (world_after v.ledger.log left.0)) ≡ v.ledger.log.base.count + left.0
+    count_is le = omega (arith, count_after v.ledger.log left.0 le)
 
 -- a disk in memory keeps the model
 pub has_model : (v : Driven MemDisk) (claims : List Claim) → v.flight ≡ None → IsHeld v.ledger claims → option_map (λ (disk : MemDisk). true) (disk_driven v) ≡ Some true

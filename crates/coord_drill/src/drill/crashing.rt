@@ -1,10 +1,9 @@
 //! The disk crashes, and is opened again.
 
 ghost use Rattle.std.specs.Prelude.{◌≡◌, OnOk, string_bytes, IfErr};
-ghost use Rattle.coord_drill.specs.Answered.{Does};
 ghost use Rattle.coord_drill.specs.Drilled.{IsOfWork};
-ghost use Rattle.coord_drill.specs.Holding.{IsReady, Tells, state_of};
-ghost use Rattle.coord_drill.specs.Moments.{GoesOn};
+ghost use Rattle.coord_drill.specs.Holding.{IsReady, Tells};
+ghost use Rattle.coord_drill.specs.Moments.{Carries};
 ghost use Rattle.coord_drill.specs.declared.asked.Asked.TheVariants.{Crash};
 
 use super::{Drill, forget_all, put};
@@ -18,10 +17,10 @@ impl Drill {
         requires ready { IsReady self.old }
         ensures ready { OnOk result (IsReady self.new) }
         ensures told { OnOk result (Tells (string_bytes text.old) (string_bytes text.new) (λ told.
-            Does (state_of self.old) Crash told (state_of self.new))) }
-        ensures moments { OnOk result (GoesOn self.old.driver self.new.driver) }
+            Carries self.old Crash told self.new)) }
         ensures fault { IfErr result IsOfWork }
     {
+        self.driver();
         let Some(driver) = self.driver.take() else {
             unreachable!()
         };

@@ -3,16 +3,20 @@
 ghost use Rattle.std.specs.Prelude.{◌≡◌, ◌≤◌, ◌∷◌, ◌++◌, ℕ, List, [], None, Ok, Some, OnOk, IfOk, IfSome, IfNone, length, string_bytes, IfErr};
 ghost use Rattle.std.specs.List.{AllByRecursion};
 ghost use Rattle.coord_disk.specs.declared.memory.MemDisk.{MemDisk as Disk};
+ghost use Rattle.coord_ledger.specs.declared.events.Answer.TheVariants.{Finished};
+ghost use Rattle.coord_ledger.specs.declared.events.Event.TheVariants.{Finish};
 ghost use Rattle.coord_ledger.specs.declared.mark.Mark.TheVariants.{New};
 ghost use Rattle.coord_ledger.specs.declared.release.Release.{Release as Row};
 ghost use Rattle.coord_ledger.specs.ledger.Driven.{LandsTo};
 ghost use Rattle.coord_ledger.specs.ledger.State.{FlightState, IsGranted, reply_of};
-ghost use Rattle.coord_ledger.specs.machine.Log.{settled_world};
-ghost use Rattle.coord_drill.specs.Answered.{Does, Flies};
+ghost use Rattle.coord_ledger.specs.machine.Answers.{next_size};
+ghost use Rattle.coord_ledger.specs.machine.Log.{settled_count, settled_world};
+ghost use Rattle.coord_drill.specs.Drill.{landing_events};
 ghost use Rattle.coord_drill.specs.Drilled.{IsOfWork};
-ghost use Rattle.coord_drill.specs.Holding.{AreGranted, FlownTo, IsReady, LandsAs, Tells, behind, collected_lines, flown_lines, left, left_by, released_lines, state_of, waiting};
-ghost use Rattle.coord_drill.specs.Moments.{GoesOn, GoesOnTo};
+ghost use Rattle.coord_drill.specs.Holding.{AreGranted, FlownTo, IsReady, LandsAs, Tells, behind, collected_lines, flown_answers, flown_lines, landed_answers, left, left_by, released_lines, waiting};
+ghost use Rattle.coord_drill.specs.Moments.{Carries, Flies, GoesBy, GoesOnTo};
 ghost use Rattle.coord_drill.specs.declared.asked.Asked.TheVariants.{Flush};
+ghost use Rattle.coord_drill.specs.declared.fault.Fault.TheVariants.{OutOfMemory};
 
 use super::{Drill, put};
 use crate::fault::Fault;
@@ -34,22 +38,24 @@ enum Flown {
     Failed(CommitFault),
 }
 
+/// What became of a flight, and the driver with no flight out.
+struct Landing {
+    flown: Flown,
+    driver: Driver<MemDisk>,
+}
+
 impl Drill {
     /// Settles pending steps in one flight, and prints how many steps are settled then.
     pub(super) fn flush(&mut self, text: &mut String) -> Result<(), Fault>
         requires ready { IsReady self.old }
         ensures ready { OnOk result (IsReady self.new) }
         ensures told { OnOk result (Tells (string_bytes text.old) (string_bytes text.new) (λ told.
-            Does (state_of self.old) Flush told (state_of self.new))) }
-        ensures moments { OnOk result (GoesOn self.old.driver self.new.driver) }
+            Carries self.old Flush told self.new)) }
         ensures fault { IfErr result IsOfWork }
     {
+        self.driver();
         self.fly(text)?;
-        let Some(driver) = &self.driver else {
-            unreachable!()
-        };
-        print_count(text, driver.ledger().settled().count())?;
-        Ok(())
+        Ok(print_count(text, self.driver().ledger().settled().count())?)
     }
 
     /// Sends the next pending steps out in one flight, if any may go, and takes it back. Prints what
@@ -58,14 +64,13 @@ impl Drill {
         requires ready { IsReady self.old }
         ensures ready { OnOk result (IsReady self.new) }
         ensures told { OnOk result (Tells (string_bytes text.old) (string_bytes text.new) (λ told.
-            Flies (state_of self.old) told (state_of self.new))) }
-        ensures moments { OnOk result (GoesOn self.old.driver self.new.driver) }
+            Flies self.old told self.new)) }
         ensures fault { IfErr result IsOfWork }
     {
         let Some(driver) = self.driver.take() else {
             unreachable!()
         };
-        let (flown, driver) = send_out(driver)?;
+        let Landing { flown, driver } = send_out(driver)?;
         let printed = print_flown(driver.ledger(), &mut self.tickets, flown, text);
         put(&mut self.driver, driver);
         Ok(printed?)
@@ -93,31 +98,35 @@ fn print_flown(
 }
 
 /// Sends the next steps out, commits them, and takes the flight back.
-fn send_out(driver: Driver<MemDisk>) -> Result<(Flown, Driver<MemDisk>), Fault>
+fn send_out(driver: Driver<MemDisk>) -> Result<Landing, Fault>
     requires home { driver.flight ≡ None }
-    ensures flown { IfOk result (λ r. FlownTo driver.ledger r.0 r.1.ledger) }
-    ensures home { IfOk result (λ r. r.1.flight ≡ None) }
-    ensures moments { IfOk result (λ r. GoesOnTo driver r.1) }
+    ensures flown { IfOk result (λ r. FlownTo driver.ledger r.flown r.driver.ledger) }
+    ensures home { IfOk result (λ r. r.driver.flight ≡ None) }
+    ensures moments { IfOk result (λ r. GoesBy driver
+        (flown_answers r.flown (next_size driver.ledger.log) (settled_count r.driver.ledger.log))
+        r.driver) }
     ensures fault { IfErr result IsOfWork }
 {
+    driver.begins();
     driver.survives();
     let (begun, driver) = driver.begin();
     driver.survives();
     match begun {
         Answer::Begun(_) => land(driver),
-        Answer::Nothing => Ok((Flown::Nothing, driver)),
-        _ => {
-            let _disk = driver.into_disk();
-            Err(Fault::OutOfMemory)
-        }
+        Answer::Nothing => Ok(Landing {
+            flown: Flown::Nothing,
+            driver,
+        }),
+        _ => Err(lost(driver)),
     }
 }
 
 /// Commits the flight that is out, and takes it back.
-fn land(driver: Driver<MemDisk>) -> Result<(Flown, Driver<MemDisk>), Fault>
+fn land(driver: Driver<MemDisk>) -> Result<Landing, Fault>
     ensures landed { IfOk result (λ r. (f : FlightState Disk) → driver.flight ≡ Some f →
-        f.mark ≡ New → LandsAs driver.ledger f r.0 r.1) }
-    ensures moments { IfOk result (λ r. GoesOnTo driver r.1) }
+        f.mark ≡ New → LandsAs driver.ledger f r.flown r.driver) }
+    ensures moments { IfOk result (λ r. GoesOnTo driver landing_events
+        (landed_answers r.flown (settled_count r.driver.ledger.log)) r.driver) }
     ensures fault { IfErr result IsOfWork }
 {
     let mut driver = driver;
@@ -125,15 +134,20 @@ fn land(driver: Driver<MemDisk>) -> Result<(Flown, Driver<MemDisk>), Fault>
     driver.survives();
     let (releases, driver) = take_back(driver)?;
     match answer {
-        Answer::Committed => Ok((Flown::Settled(releases), driver)),
+        Answer::Committed => Ok(Landing {
+            flown: Flown::Settled(releases),
+            driver,
+        }),
         Answer::Failed(fault) => {
             releases.lose_rest();
-            Ok((Flown::Failed(fault), driver))
+            Ok(Landing {
+                flown: Flown::Failed(fault),
+                driver,
+            })
         }
         _ => {
             releases.lose_rest();
-            let _disk = driver.into_disk();
-            Err(Fault::OutOfMemory)
+            Err(lost(driver))
         }
     }
 }
@@ -142,7 +156,8 @@ fn land(driver: Driver<MemDisk>) -> Result<(Flown, Driver<MemDisk>), Fault>
 fn take_back(driver: Driver<MemDisk>) -> Result<(Releases, Driver<MemDisk>), Fault>
     ensures landed { IfOk result (λ r. (f : FlightState Disk) → driver.flight ≡ Some f →
         LandsTo driver.ledger f (Ok (Some r.0)) r.1) }
-    ensures moments { IfOk result (λ r. GoesOnTo driver r.1) }
+    ensures moments { IfOk result (λ r. GoesOnTo driver (Finish ∷ [])
+        (Finished (settled_count r.1.ledger.log) ∷ []) r.1) }
     ensures fault { IfErr result IsOfWork }
 {
     driver.survives();
@@ -152,11 +167,16 @@ fn take_back(driver: Driver<MemDisk>) -> Result<(Releases, Driver<MemDisk>), Fau
             driver.survives();
             Ok((releases, driver))
         }
-        _ => {
-            let _disk = driver.into_disk();
-            Err(Fault::OutOfMemory)
-        }
+        _ => Err(lost(driver)),
     }
+}
+
+/// Gives a driver up that found no memory.
+fn lost(driver: Driver<MemDisk>) -> Fault
+    ensures { result ≡ OutOfMemory }
+{
+    let _disk = driver.into_disk();
+    Fault::OutOfMemory
 }
 
 /// Collects the replies of the steps that are settled, and prints each before what its step

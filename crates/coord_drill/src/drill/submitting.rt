@@ -3,10 +3,10 @@
 ghost use Rattle.std.specs.Prelude.{◌≡◌, ◌++◌, OnOk, string_bytes, IfErr};
 ghost use Rattle.coord_ledger.specs.ledger.State.{IsGranted, reply_of};
 ghost use Rattle.coord_ledger.specs.machine.Log.{settled_count};
-ghost use Rattle.coord_drill.specs.Answered.{Does, kept_line};
+ghost use Rattle.coord_drill.specs.Answered.{kept_line};
 ghost use Rattle.coord_drill.specs.Drilled.{IsOfWork};
-ghost use Rattle.coord_drill.specs.Holding.{IsReady, Tells, state_of};
-ghost use Rattle.coord_drill.specs.Moments.{GoesOn};
+ghost use Rattle.coord_drill.specs.Holding.{IsReady, Tells};
+ghost use Rattle.coord_drill.specs.Moments.{Carries};
 ghost use Rattle.coord_drill.specs.declared.asked.Asked.TheVariants.{Submit};
 
 use super::Drill;
@@ -23,10 +23,10 @@ impl Drill {
         requires ready { IsReady self.old }
         ensures ready { OnOk result (IsReady self.new) }
         ensures told { OnOk result (Tells (string_bytes text.old) (string_bytes text.new) (λ told.
-            Does (state_of self.old) (Submit step) told (state_of self.new))) }
-        ensures moments { OnOk result (GoesOn self.old.driver self.new.driver) }
+            Carries self.old (Submit step) told self.new)) }
         ensures fault { IfErr result IsOfWork }
     {
+        self.driver();
         let Some(driver) = &mut self.driver else {
             unreachable!()
         };

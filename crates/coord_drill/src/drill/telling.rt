@@ -1,9 +1,10 @@
 //! What changes nothing: refusals, what is sent again, the check, and what is shown.
 
 ghost use Rattle.std.specs.Prelude.{◌≡◌, ◌++◌, OnOk, string_bytes, IfErr};
-ghost use Rattle.coord_drill.specs.Answered.{Does, shown_lines};
+ghost use Rattle.coord_drill.specs.Answered.{shown_lines};
 ghost use Rattle.coord_drill.specs.Drilled.{IsOfWork};
-ghost use Rattle.coord_drill.specs.Holding.{IsReady, Tells, state_of};
+ghost use Rattle.coord_drill.specs.Holding.{IsReady, Tells};
+ghost use Rattle.coord_drill.specs.Moments.{Carries};
 ghost use Rattle.coord_drill.specs.declared.asked.Asked.TheVariants as ask;
 
 use super::Drill;
@@ -17,39 +18,40 @@ use coord_types::Refusal;
 
 impl Drill {
     /// Prints that a lane is not there.
-    #[tactic(auto, using(crate::proofs::does::LineResponds::tells_refusal))]
+    #[tactic(auto, using(crate::proofs::does::Moments::tells_refusal))]
     pub(super) fn refuse(&self, refusal: Refusal, text: &mut String) -> Result<(), Fault>
+        requires ready { IsReady self.now }
         ensures told { OnOk result (Tells (string_bytes text.old) (string_bytes text.new) (λ told.
-            Does (state_of self.now) (ask.Refuse refusal) told (state_of self.now))) }
+            Carries self.now (ask.Refuse refusal) told self.now)) }
         ensures fault { IfErr result IsOfWork }
     {
+        self.driver();
         print_refusal(text, refusal)?;
         Ok(())
     }
 
     /// Prints that nothing waits on a lane.
-    #[tactic(auto, using(crate::proofs::does::LineResponds::tells_idle))]
+    #[tactic(auto, using(crate::proofs::does::Moments::tells_idle))]
     pub(super) fn idle(&self, text: &mut String) -> Result<(), Fault>
+        requires ready { IsReady self.now }
         ensures told { OnOk result (Tells (string_bytes text.old) (string_bytes text.new) (λ told.
-            Does (state_of self.now) ask.Nothing told (state_of self.now))) }
+            Carries self.now ask.Nothing told self.now)) }
         ensures fault { IfErr result IsOfWork }
     {
+        self.driver();
         print_idle(text)?;
         Ok(())
     }
 
     /// Prints what is sent again of the settled world.
-    #[tactic(auto, using(crate::proofs::does::LineResponds::tells_resent, crate::proofs::does::Settled::resent_lines, crate::proofs::does::Settled::looked_at))]
+    #[tactic(auto, using(crate::proofs::does::Moments::tells_resent, crate::proofs::does::Settled::resent_lines, crate::proofs::does::Settled::looked_at))]
     pub(super) fn resend(&self, text: &mut String) -> Result<(), Fault>
         requires ready { IsReady self.now }
         ensures told { OnOk result (Tells (string_bytes text.old) (string_bytes text.new) (λ told.
-            Does (state_of self.now) ask.Resend told (state_of self.now))) }
+            Carries self.now ask.Resend told self.now)) }
         ensures fault { IfErr result IsOfWork }
     {
-        let Some(driver) = &self.driver else {
-            unreachable!()
-        };
-        let ledger = driver.ledger();
+        let ledger = self.driver().ledger();
         let mut releases = ledger.resend()?;
         let mut ahead = releases.next();
         // All of it is as of step 0.
@@ -61,33 +63,27 @@ impl Drill {
     }
 
     /// Checks the front world.
-    #[tactic(auto, using(crate::proofs::does::LineResponds::tells_check))]
+    #[tactic(auto, using(crate::proofs::does::Moments::tells_check))]
     pub(super) fn check(&self, text: &mut String) -> Result<(), Fault>
         requires ready { IsReady self.now }
         ensures told { OnOk result (Tells (string_bytes text.old) (string_bytes text.new) (λ told.
-            Does (state_of self.now) ask.Check told (state_of self.now))) }
+            Carries self.now ask.Check told self.now)) }
         ensures fault { IfErr result IsOfWork }
     {
-        let Some(driver) = &self.driver else {
-            unreachable!()
-        };
-        let ledger = driver.ledger();
+        let ledger = self.driver().ledger();
         print_fault(text, check(ledger.front()))?;
         Ok(())
     }
 
     /// Shows the settled world.
-    #[tactic(auto, using(crate::proofs::does::LineResponds::tells_show))]
+    #[tactic(auto, using(crate::proofs::does::Moments::tells_show))]
     pub(super) fn show(&self, text: &mut String) -> Result<(), Fault>
         requires ready { IsReady self.now }
         ensures told { OnOk result (Tells (string_bytes text.old) (string_bytes text.new) (λ told.
-            Does (state_of self.now) ask.Show told (state_of self.now))) }
+            Carries self.now ask.Show told self.now)) }
         ensures fault { IfErr result IsOfWork }
     {
-        let Some(driver) = &self.driver else {
-            unreachable!()
-        };
-        let ledger = driver.ledger();
+        let ledger = self.driver().ledger();
         print_shown(ledger, text)
     }
 }

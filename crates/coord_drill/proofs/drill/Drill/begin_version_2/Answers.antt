@@ -2,11 +2,9 @@ use Rattle.std.proofs.Common.{◌≡◌, [], None, ap, ◌∙◌, refl, sym, sub
 use Rattle.coord_disk.specs.declared.memory.MemDisk.{MemDisk}
 use Rattle.coord_world.specs.protocol.NumberedWorld.{no_world}
 use Rattle.coord_ledger.specs.ledger.Driven.{Driven}
-use Rattle.coord_drill.specs.Answered.{Does}
-use Rattle.coord_drill.specs.Holding.{IsHeld, IsMade, IsReadyWith, drill_of, state_of}
-use Rattle.coord_drill.specs.declared.asked.Asked.TheVariants.{Version2}
-use Rattle.coord_drill.proofs.does.Does.{new_held, state_with}
-use Rattle.coord_drill.proofs.does.LineResponds.{does_begin}
+use Rattle.coord_drill.specs.Holding.{IsHeld, IsMade, IsReadyWith}
+use Rattle.coord_drill.proofs.does.Does.{driver_of, new_held}
+use Rattle.coord_drill.proofs.does.Moments.{carries_made}
 use Rattle.coord_drill.proofs.drill.Drill.begin_version_2.Goals as goal
 
 pub over-driver-requires : goal.over-driver-requires
@@ -27,10 +25,6 @@ returns-clause-disk c =
 pub returns-clause-told : goal.returns-clause-told
 returns-clause-told c =
     let d = c.args.self.now in
-    let is = ap (λ (v : Driven MemDisk). drill_of v.ledger d.holds d.has_begun) c.over-driver.ensures ∙ ap (λ l. drill_of l d.holds d.has_begun) c.in_ok-new_ledger.ensures.made.adopted in
-    subst (λ t. Does (state_of d) Version2 [] t) (sym (state_with c.put.new.place c.over-driver.result d.holds d.has_begun c.put.ensures ∙ is)) (does_begin (state_of d))
-
-pub returns-clause-made : goal.returns-clause-made
-returns-clause-made c =
-    let made = c.in_ok-new_ledger.ensures.made in
-    (c.over-driver.result, (c.put.ensures, subst (λ (v : Driven MemDisk). IsMade 2 v.ledger) (sym c.over-driver.ensures) made))
+    let v = driver_of d c.requires.ready in
+    let made = subst (λ (w : Driven MemDisk). IsMade 2 w.ledger) (sym c.over-driver.ensures) c.in_ok-new_ledger.ensures.made in
+    carries_made d _ v.0 c.over-driver.result v.1 c.put.ensures refl refl made

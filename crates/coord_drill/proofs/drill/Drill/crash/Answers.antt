@@ -1,18 +1,16 @@
-use Rattle.std.proofs.Common.{◌≡◌, ◌++◌, Some, None, false, true, sym, ap, ◌∙◌, subst, rules, string_bytes}
-use Rattle.std.specs.Option.{option_map, option_map_or}
+use Rattle.std.proofs.Common.{◌≡◌, ◌++◌, [], ◌∷◌, Some, false, true, sym, ap, ◌∙◌, subst, rules, string_bytes}
+use Rattle.std.specs.Option.{option_map}
 use Rattle.coord_disk.specs.declared.memory.MemDisk.{MemDisk}
-use Rattle.coord_world.specs.protocol.NumberedWorld.{no_world}
 use Rattle.coord_ledger.specs.declared.events.Answer.TheVariants.{Opened}
 use Rattle.coord_ledger.specs.declared.events.Event.TheVariants as event
 use Rattle.coord_ledger.specs.ledger.Driven.{Driven, after_crash}
-use Rattle.coord_ledger.specs.machine.Log.{log_over}
-use Rattle.coord_drill.specs.Answered.{Does}
+use Rattle.coord_drill.specs.Drill.{after_asked}
 use Rattle.coord_drill.specs.Holding.{IsReadyWith, drill_of}
 use Rattle.coord_drill.specs.Printed.{opened_line}
 use Rattle.coord_drill.specs.declared.asked.Asked.TheVariants.{Crash}
-use Rattle.coord_drill.proofs.does.ReopenedTo.{crash_held, crash_told, has_model, home_left, opened_count, reopened}
-use Rattle.coord_drill.proofs.does.Does.{held_is, home_is, state_with, tells_of}
-use Rattle.coord_drill.proofs.does.Moments.{goes_on, run_on}
+use Rattle.coord_drill.proofs.does.ReopenedTo.{crash_held, crash_leaves, has_model, home_left, opened_count, reopened}
+use Rattle.coord_drill.proofs.does.Does.{crash_line, held_is, home_is}
+use Rattle.coord_drill.proofs.does.Moments.{begins_at, carries, run_on}
 use Rattle.coord_drill.proofs.drill.Drill.crash.Goals as goal
 
 pub returns-clause-ready : goal.returns-clause-ready
@@ -33,22 +31,15 @@ returns-clause-told c =
     let w = c.in-Ok.opened.1 in
     let is : d.driver ≡ Some v = search rules in
     let home = home_is d v is c.requires.ready in
-    let left = c.in-Ok.ensures.left (has_model v d.tickets.items home (held_is d v is c.requires.ready)) in
-    let count = c.in-Ok.ensures.count ∙ opened_count v w left in
-    let text : string_bytes c.print_opened.new.text ≡ string_bytes c.args.text.now ++ opened_line c.in-Ok.opened.0 = search rules in
-    let state = state_with c.put.new.place w false d.has_begun c.put.ensures in
-    tells_of (λ s told. Does s Crash told (record { log = option_map_or (λ (k : Driven MemDisk). k.ledger.log) c.put.new.place (log_over (no_world 1)); doubt = option_map_or (λ (k : Driven MemDisk). k.ledger.doubt) c.put.new.place None; holds = false; has_begun = d.has_begun })) d v (string_bytes c.args.text.now) (string_bytes c.print_opened.new.text) (opened_line c.in-Ok.opened.0) is text
-    (subst (λ t. Does (drill_of v.ledger d.holds d.has_begun) Crash (opened_line c.in-Ok.opened.0) t) (sym state)
-    (subst (λ n. Does (drill_of v.ledger d.holds d.has_begun) Crash (opened_line n) (drill_of w.ledger false d.has_begun)) (sym count)
-    (crash_told v.ledger w.ledger d.holds d.has_begun (reopened v w home left))))
-
-pub returns-clause-moments : goal.returns-clause-moments
-returns-clause-moments c =
-    let d = c.args.self.now in
-    let v = c.in-Some.driver in
-    let w = c.in-Ok.opened.1 in
-    let is : d.driver ≡ Some v = search rules in
-    goes_on d.driver c.put.new.place v w is c.put.ensures
-    (λ l run. run_on l v w event.Crash (Opened c.in-Ok.opened.0) after_crash tt
+    let held = held_is d v is c.requires.ready in
+    let left = c.in-Ok.ensures.left (has_model v d.tickets.items home held) in
+    let begun = begins_at d.driver v is c.driver.ensures.begins in
+    let count = c.in-Ok.ensures.count ∙ opened_count v w left home (begun.drives held.here.0 held.here.1).consistent in
+    let line = opened_line c.in-Ok.opened.0 in
+    let text : string_bytes c.print_opened.new.text ≡ string_bytes c.args.text.now ++ line = search rules in
+    let run =
+    run_on v.ledger [] [] v w event.Crash (Opened c.in-Ok.opened.0) after_crash tt
     (λ disk b s there consistent follows. c.in-Ok.ensures.answered b s consistent follows (ap (option_map (λ (x : MemDisk). true)) there))
-    c.in-Ok.ensures.disk c.survives.ensures run)
+    c.in-Ok.ensures.disk c.survives.ensures begun in
+    let leaves = subst (λ n. drill_of w.ledger false d.has_begun ≡ after_asked (drill_of v.ledger d.holds d.has_begun) Crash (Opened n ∷ [])) (sym count) (crash_leaves v w d.holds d.has_begun left) in
+    (line, (text, carries d _ v w Crash (Opened c.in-Ok.opened.0 ∷ []) line is c.put.ensures c.requires.ready (λ same. cc) run ((λ same. cc), tt) (crash_line (drill_of v.ledger d.holds d.has_begun) c.in-Ok.opened.0) leaves))

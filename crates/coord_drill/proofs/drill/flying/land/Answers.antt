@@ -1,11 +1,15 @@
-use Rattle.std.proofs.Common.{subst}
-use Rattle.coord_ledger.specs.declared.events.Event.TheVariants.{Commit}
+use Rattle.std.proofs.Common.{[], ◌∷◌, subst}
+use Rattle.coord_ledger.specs.declared.events.Answer.{Answer}
+use Rattle.coord_ledger.specs.declared.events.Answer.TheVariants.{Finished}
+use Rattle.coord_ledger.specs.declared.events.Event.TheVariants.{Commit, Finish}
 use Rattle.coord_ledger.specs.ledger.Driven.{CommitsTo}
+use Rattle.coord_ledger.specs.machine.Log.{settled_count}
+use Rattle.coord_drill.specs.Drill.{landing_events}
 use Rattle.coord_drill.specs.Moments.{GoesOnTo}
 use Rattle.coord_drill.proofs.does.FlownTo.{lands_failed, lands_settled}
-use Rattle.coord_drill.proofs.does.Moments.{run_on}
+use Rattle.coord_drill.proofs.does.Moments.{goes_then, run_on}
 use Rattle.coord_drill.proofs.drill.flying.land.Goals as goal
-use Rattle.coord_drill.proofs.drill.flying.land.Goals.{in-Committed, in-Failed, in_default+in-Filled-1, in_default+in-Lost-1}
+use Rattle.coord_drill.proofs.drill.flying.land.Goals.{in-Committed, in-Failed, in_default}
 
 pub returns-clause-landed : goal.returns-clause-landed
 returns-clause-landed c =
@@ -20,20 +24,22 @@ returns-clause-landed c =
       | in-Failed w ↦
           rw w.result-is
           (λ f is new. lands_failed l f tried back releases w.in-Failed.fault (subst (λ a. CommitsTo l f a tried) w.in-Failed.is (c.commit-answer.ensures.tried f is new)) c.in_ok-releases.ensures.landed)
-      | in_default+in-Filled-1 w ↦ rw w.result-is tt
-      | in_default+in-Lost-1 w ↦ rw w.result-is tt
+      | in_default w ↦ rw w.result-is tt
     ]
 
 pub returns-clause-moments : goal.returns-clause-moments
 returns-clause-moments c =
     let v = c.args.driver in
     let tried = c.commit-answer.new.self in
-    let goes : GoesOnTo v c.in_ok-releases.driver =
-    λ l run. c.in_ok-releases.ensures.moments l
-    (run_on l v tried Commit c.commit-answer.result (λ b. b) tt (λ disk b s there is follows. c.commit-answer.ensures.answered b s is follows) c.commit-answer.ensures.disk c.survives.ensures run) in
+    let back = c.in_ok-releases.driver in
+    let given = c.commit-answer.result in
+    let count = settled_count back.ledger.log in
+    let tries : GoesOnTo v (Commit ∷ []) (given ∷ []) tried =
+    λ l es gs run. run_on l es gs v tried Commit given (λ b. b) tt (λ disk b s there is follows. c.commit-answer.ensures.answered b s is follows) c.commit-answer.ensures.disk c.survives.ensures run in
+    let goes : GoesOnTo v landing_events (given ∷ Finished count ∷ []) back =
+    goes_then v tried back (Commit ∷ []) (Finish ∷ []) (given ∷ []) (Finished count ∷ []) tries c.in_ok-releases.ensures.moments in
     elim c.match-answer-2.branch [
-      | in-Committed w ↦ rw w.result-is goes
-      | in-Failed w ↦ rw w.result-is goes
-      | in_default+in-Filled-1 w ↦ rw w.result-is tt
-      | in_default+in-Lost-1 w ↦ rw w.result-is tt
+      | in-Committed w ↦ rw w.result-is (subst (λ (a : Answer). GoesOnTo v landing_events (a ∷ Finished count ∷ []) back) w.in-Committed.is goes)
+      | in-Failed w ↦ rw w.result-is (subst (λ (a : Answer). GoesOnTo v landing_events (a ∷ Finished count ∷ []) back) w.in-Failed.is goes)
+      | in_default w ↦ rw w.result-is tt
     ]

@@ -11,8 +11,8 @@ returns-in-Ok-Some-clause-landed c f there =
     subst (λ r. LandsTo c.args.driver.ledger f r c.finish-landed.result.1) (c.in-Ok-Some.is ∙ ap Ok c.in-Ok-Some.field-0-is) (c.finish-landed.ensures.landed f there)
 
 pub returns-in-Ok-Some-clause-moments : goal.returns-in-Ok-Some-clause-moments
-returns-in-Ok-Some-clause-moments c l run =
+returns-in-Ok-Some-clause-moments c l es gs run =
     let new = c.finish-landed.result.1 in
-    run_aside l c.args.driver new Finish (Finished (settled_count new.ledger.log)) (λ b. with_releases b c.in-Ok-Some.releases) tt refl (λ s. refl) c.finish-landed.ensures.disk
+    run_aside l es gs c.args.driver new Finish (Finished (settled_count new.ledger.log)) (λ b. with_releases b c.in-Ok-Some.releases) tt refl (λ s. refl) c.finish-landed.ensures.disk
     (λ b s is follows. subst (λ r. FinishesTo s b r new) (c.in-Ok-Some.is ∙ ap Ok c.in-Ok-Some.field-0-is) (c.finish-landed.ensures.answered b s is follows))
     c.survives.ensures c.survives-in-Ok-Some.ensures run
