@@ -62,7 +62,7 @@ pub fn write(
 }
 
 /// Syncs what is read, and records it. Without memory nothing changes.
-pub fn settle(alloc: Global, read: &Vec<u8>, history: &mut History) -> Result<(), AllocError>
+pub fn record_sync(alloc: Global, read: &Vec<u8>, history: &mut History) -> Result<(), AllocError>
     requires led { LedTo history.old read.now.items }
     ensures led { LedTo history.new read.now.items }
     ensures ok { OnOk result (Adds (past_with read.now.items (Some history.old))

@@ -6,7 +6,7 @@ ghost use Rattle.coord_disk.specs.Model.Present.{IsImage, overwritten, whole, wr
 ghost use Rattle.coord_disk.specs.Disks.History.{Past, LedTo, Adds, LeftSince, past_with, present_after};
 
 use crate::crash::crash_bytes;
-use crate::history::{History, settle, write};
+use crate::history::{History, record_sync, write};
 use crate::{Choice, CrashDisk, Disk, DiskFault};
 use http_server::Log;
 use std::alloc::{AllocError, Global};
@@ -124,7 +124,7 @@ impl MemDisk {
     {
         self.begin()?;
         match &mut self.history {
-            Some(history) => settle(self.alloc, &self.read, history),
+            Some(history) => record_sync(self.alloc, &self.read, history),
             None => unreachable!(),
         }
     }

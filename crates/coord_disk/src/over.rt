@@ -92,7 +92,7 @@ impl<F: RawFile> RawDisk<F> {
     }
 
     /// Syncs the bytes, with the length where it may have changed.
-    fn settle(&mut self) -> io::Result<()>
+    fn sync_bytes(&mut self) -> io::Result<()>
         ensures ok { OnOk result ((has_lost self.old ≡ false) × (has_lost self.new ≡ false)) }
         ensures err { OnErr result (has_lost self.new ≡ true) }
         ensures failures { failures_of self.new ≡ failures_of self.old }
@@ -288,7 +288,7 @@ impl<F: RawFile> Disk for RawDisk<F> {
             (is_ok result) (file_of self.new) }
         ensures none { has_lost self.old ≡ true → file_of self.new ≡ file_of self.old }
     {
-        let answer = self.settle();
+        let answer = self.sync_bytes();
         told(&mut self.failed, answer)
     }
 }

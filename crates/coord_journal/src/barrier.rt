@@ -11,10 +11,10 @@ use coord_disk::Disk;
 use std::alloc::Global;
 
 /// All the bytes, once they are on the disk. A crash meanwhile leaves nothing that it could not have left before.
-pub fn read_settled<D: Disk>(alloc: Global, disk: &mut D) -> Result<Vec<u8>, JournalFault>
+pub fn read_durable<D: Disk>(alloc: Global, disk: &mut D) -> Result<Vec<u8>, JournalFault>
     ensures bytes { D.keeps_model disk.old ≡ true →
         IfOk result (λ bytes. bytes.items ≡ (D.present disk.old).read) }
-    ensures settled { D.keeps_model disk.old ≡ true →
+    ensures durable { D.keeps_model disk.old ≡ true →
         OnOk result (D.present disk.new ≡ whole (D.present disk.old).read) }
     ensures any_moment { D.keeps_model disk.old ≡ true →
         LeavesOnly D.clock D.left_since disk.old disk.new (IsImage (D.present disk.old)) }

@@ -10,7 +10,7 @@ ghost use Rattle.coord_journal.specs.Half.{half_number};
 ghost use Rattle.coord_journal.specs.Text.{Content, IsText, IsTextAt, used_by};
 ghost use Rattle.coord_journal.specs.declared.fault.JournalFault.TheVariants.{Device};
 
-use crate::barrier::read_settled;
+use crate::barrier::read_durable;
 use crate::half::Half;
 use crate::header::read_header;
 use crate::read::read_half;
@@ -100,7 +100,7 @@ pub fn open<D: Disk>(
         D.clock refused.1 ≤ D.clock disk + 3) }
     ensures named { IfErr result (λ refused. IsOpenFault refused.0) }
 {
-    let bytes = match read_settled(alloc, &mut disk) {
+    let bytes = match read_durable(alloc, &mut disk) {
         Ok(bytes) => bytes,
         Err(fault) => return Err((fault, disk)),
     };

@@ -64,6 +64,13 @@ fn sent_again<D: Disk, L: Origin, R: Wait>(
     }
 }
 
+// Whether a caller who has seen a second step is shown nothing while one is settled.
+fn is_behind<D: Disk, L: Origin, R: Wait>(rt: &R, engine: &Engine<D, L>) -> bool {
+    let mut seen = Seen::new();
+    seen.note(2);
+    engine.show(rt, &mut seen).err() == Some(Refusal::Behind { settled: 1 })
+}
+
 // Whether one step is settled by one flight, and is shown then.
 fn settles<D: Disk, L: Origin, R: Wait>(
     rt: &R,
@@ -73,9 +80,23 @@ fn settles<D: Disk, L: Origin, R: Wait>(
     let accepted = submit(rt, engine, engine.share(rt), step)?;
     let first = flushed(rt, engine)?;
     let second = flushed(rt, engine)?;
-    let settled = shown(rt, engine)?;
+    let settled = shown(rt, engine)? == 1 && is_behind(rt, engine);
     let again = sent_again(rt, engine)?;
-    Ok(accepted && first == Some(0) && second.is_none() && settled == 1 && again == 0)
+    Ok(accepted && first == Some(0) && second.is_none() && settled && again == 0)
+}
+
+// Whether an engine that was told to finish refuses a step.
+fn accepts_no_more<D: Disk, L: Origin, R: Wait>(
+    rt: &R,
+    engine: &Engine<D, L>,
+    step: Step,
+) -> Result<bool, Fail> {
+    engine.finish(rt);
+    match submit(rt, engine, engine.share(rt), step) {
+        Ok(_) => Ok(false),
+        Err(Refusal::Stopped) => Ok(true),
+        Err(refusal) => Err(refusal)?,
+    }
 }
 
 fn settle_one<D: Disk, L: Origin, R: Wait>(
@@ -83,7 +104,7 @@ fn settle_one<D: Disk, L: Origin, R: Wait>(
     alloc: Global,
     blank: Blank,
     ledger: Ledger<D>,
-    step: Step,
+    steps: [Step; 2],
 ) -> Result<bool, Fail>
     requires name { blank.name ≡ L.name }
     requires parts { (blank.parts ≡ L.parts) × (L.parts ≡ 65536) }
@@ -91,17 +112,23 @@ fn settle_one<D: Disk, L: Origin, R: Wait>(
     requires before { ledger.log.trail ≡ L.before }
 {
     match engine::<D, L>(alloc, blank, ledger) {
-        Some(engine) => settles(rt, &engine, step),
+        Some(engine) => {
+            Ok(settles(rt, &engine, steps[0])? && accepts_no_more(rt, &engine, steps[1])?)
+        }
         None => Ok(false),
     }
 }
 
 fn settles_one<R: Wait>(rt: &R, alloc: Global) -> Result<bool, Fail> {
-    let step = adding(1, 1, 1).ok_or("step")?;
+    let steps = [
+        adding(1, 1, 1).ok_or("step")?,
+        adding(1, 2, 2).ok_or("step")?,
+    ];
     let ledger = created(alloc, MemDisk::new(alloc), &[])?;
-    settle_one::<MemDisk, Brand, R>(rt, alloc, Blank::new(65536), ledger, step)
+    settle_one::<MemDisk, Brand, R>(rt, alloc, Blank::new(65536), ledger, steps)
 }
 
+/// And once the engine finishes no other is accepted.
 #[test]
 fn one_step_is_settled(rt: HostRuntime) -> Result<(), Fail> {
     assert!(rt; settles_one(&rt, rt.alloc())?);

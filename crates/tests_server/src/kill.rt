@@ -1,4 +1,5 @@
-//! A server that is killed in the midst of a wave, and started again from what its disk keeps.
+//! A server that is killed in the midst of a wave, and started again from what its disk keeps; and
+//! one whose disk fails from its first order on.
 
 use crate::asking::{ask, is_closed, ring_lines};
 use crate::rings::{all_signalled, runs};
@@ -184,5 +185,38 @@ fn a_kill_that_loses(rt: HostRuntime) -> Result<(), Fail> {
 #[test]
 fn a_kill_that_keeps(rt: HostRuntime) -> Result<(), Fail> {
     assert!(rt; is_told_once(&rt, rt.alloc(), Choice::Kept)?);
+    Ok(())
+}
+
+const ADD: &str = "{\"op\":\"add\",\"client\":1,\"number\":1,\"node\":1,\"group\":1}\n";
+
+const STOPPED: &str = "{\"name\":\"Stopped\",\"refused\":1}\n";
+
+/// Whether an order whose step can't be written is told that the store has stopped.
+fn is_told_stopped<
+    R: Threads + Wait + Clock + Net<Stream = TcpStream, Listener = TcpListener> + Sync,
+>(rt: &R, alloc: Global) -> Result<bool, Fail> {
+    let listener = TcpListener::bind(rt, "127.0.0.1:0")?;
+    let address = listener.local_addr()?;
+    let is_killed = AtomicBool::new(false);
+    let store = created(rt, alloc, &is_killed, Choice::Lost).ok_or(AllocError)?;
+    is_killed.store(true, Ordering::SeqCst);
+    let mut output = Vec::new(alloc);
+    let (left, told) = thread::join(
+        rt,
+        || served(rt, alloc, store, &listener, &mut output).is_some(),
+        || -> io::Result<String> {
+            let told = ask(rt, alloc, address, ADD);
+            is_closed(rt, alloc, address)?;
+            told
+        },
+    );
+    Ok(left && told?.as_str() == STOPPED)
+}
+
+/// What is not on the disk gets no other reply.
+#[test]
+fn an_order_that_is_not_written(rt: HostRuntime) -> Result<(), Fail> {
+    assert!(rt; is_told_stopped(&rt, rt.alloc())?);
     Ok(())
 }

@@ -40,11 +40,20 @@ fn reset() -> Option<Step> {
     Some(Step::Order(Client::new(1)?, 1, reset))
 }
 
-/// Whether what is left of the engine has this fourth step, and a legal store with all that was
-/// accepted.
+/// How many of these steps are orders.
+fn order_count(trail: &[Step]) -> usize {
+    trail
+        .iter()
+        .filter(|step| matches!(step, Step::Order(..)))
+        .count()
+}
+
+/// Whether what is left of the engine has this fourth step and no other order than the client's, and
+/// a legal store with all that was accepted.
 fn is_settled<D: Disk>(closed: &Closed<D>, fourth: &Step) -> bool {
     let world = closed.store.world();
     closed.trail.get(3) == Some(fourth)
+        && order_count(&closed.trail) == 4
         && check(world).is_none()
         && closed.settled == closed.trail.len() as u64
         && world.count() == closed.settled

@@ -1,7 +1,7 @@
 use Rattle.std.proofs.Common.{◌≡◌, ◌∙◌, ℕ, List, length, take, drop, ap, sym, arith}
 use Rattle.std.proofs.lemmas.List.{take_all, take_at}
 use Rattle.std.specs.Prelude.{vec_len}
-use Rattle.coord_journal.proofs.barrier.read_settled.Goals as goal
+use Rattle.coord_journal.proofs.barrier.read_durable.Goals as goal
 
 pub returns-clause-bytes : goal.returns-clause-bytes
 returns-clause-bytes g c k =

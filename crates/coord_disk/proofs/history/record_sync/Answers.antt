@@ -1,6 +1,6 @@
 use Rattle.std.proofs.Common.{◌≡◌, ◌∙◌, refl, rules}
 use Rattle.coord_disk.proofs.Replays.{sync_led, sync_adds}
-use Rattle.coord_disk.proofs.history.settle.Goals as goal
+use Rattle.coord_disk.proofs.history.record_sync.Goals as goal
 
 pub returns-clause-led : goal.returns-clause-led
 returns-clause-led c =
