@@ -7,7 +7,7 @@ ghost use Rattle.coord_engine.specs.State.{with_noted};
 use super::Guarded;
 use crate::{Origin, Share};
 use coord_disk::Disk;
-use coord_ledger::Ticket;
+use coord_ledger::{Handed, Ticket};
 use coord_types::{Refusal, Step};
 
 impl<D: Disk, L: Origin> Guarded<D, L> {
@@ -15,6 +15,7 @@ impl<D: Disk, L: Origin> Guarded<D, L> {
     ///
     /// Room for the note is taken first, so `OutOfMemory` may come before any other refusal. Then
     /// comes `Stopped`, also where the engine is finishing.
+    #[tactic(auto, using(crate::proofs::Submitting::refused_step))]
     pub fn submit(&mut self, step: Step, mine: &mut Share<L>) -> Result<Ticket, Refusal>
         ensures answer { AnswersStep step (engine_verdict self.old step)
             (record { ledger = self.old.ledger; notes = mine.old }) result
@@ -28,16 +29,13 @@ impl<D: Disk, L: Origin> Guarded<D, L> {
         if self.finishing {
             return Err(Refusal::Stopped);
         }
-        let before = self.ledger.trail().len();
-        let ticket = match self.ledger.submit(step) {
-            Ok(ticket) => ticket,
-            Err(refusal) => return Err(refusal),
-        };
-        if self.ledger.trail().len() == before {
-            return Ok(ticket);
+        match self.ledger.hand_in(step)? {
+            Handed::Accepted(ticket) => {
+                self.book.add(&mut mine.part, 1);
+                mine.notes.push_reserved(ticket.note());
+                Ok(ticket)
+            }
+            Handed::Repeated(ticket) => Ok(ticket),
         }
-        self.book.add(&mut mine.part, 1);
-        mine.notes.push_reserved(ticket.note());
-        Ok(ticket)
     }
 }
