@@ -19,11 +19,12 @@ use Rattle.coord_ledger.specs.ledger.Calls.{claimed, taken_back}
 use Rattle.coord_ledger.specs.ledger.Driven.{Driven, at_home}
 use Rattle.coord_ledger.specs.ledger.State.{Claim, FlightState, IsGranted, LedgerState, ledger_over, reply_of}
 use Rattle.coord_ledger.specs.machine.After.{releases_of, settling_releases}
-use Rattle.coord_ledger.specs.machine.Answers.{IsOneOf, kept_by, next_size}
-use Rattle.coord_ledger.specs.machine.Log.{Log, front_world, log_over, pending, settled_world, with_settled, world_after}
+use Rattle.coord_ledger.specs.machine.Answers.{next_size}
+use Rattle.coord_ledger.specs.machine.Log.{Log, front_world, log_over, pending, settled_world, with_settled}
 use Rattle.coord_drill.specs.Drill.{DrillState}
 use Rattle.coord_drill.specs.Printed.{commit_line, output_line, reply_line}
 use Rattle.coord_drill.specs.declared.drill.Drill.{Drill}
+use Rattle.coord_drill.specs.declared.drill.TheConstants.{HALF_SIZE}
 use Rattle.coord_drill.specs.declared.drill.flying.Flown.{Flown}
 use Rattle.coord_drill.specs.declared.drill.flying.Flown.TheVariants as flown
 
@@ -66,7 +67,7 @@ front_of d = front_world (state_of d).log
 pub record IsMade (version : ℕ) (l : LedgerState MemDisk) : Type 0 where
   pub disk : MemDisk
   pub adopted : l ≡ ledger_over (no_world version) disk
-  pub present : present_of disk ≡ made 65536 version
+  pub present : present_of disk ≡ made HALF_SIZE version
 
 -- a flight is back, with this log and this doubt
 pub record IsBack (log : Log) (doubt : Option ℕ) (new : LedgerState MemDisk) : Type 0 where
@@ -102,10 +103,6 @@ abbrev pub flown_answers : Flown → ℕ → ℕ → List Answer
 flown_answers flown.Nothing b count = Nothing ∷ []
 flown_answers (flown.Settled releases) b count = Begun b ∷ landed_answers (flown.Settled releases) count
 flown_answers (flown.Failed fault) b count = Begun b ∷ landed_answers (flown.Failed fault) count
-
--- a ledger that was made of the disk of another one after a crash: over a world that the crash may leave
-abbrev pub ReopenedTo : LedgerState MemDisk → LedgerState MemDisk → Type 0
-ReopenedTo l new = (n : ℕ) × IsOneOf n (kept_by l.log.settled None l.doubt) × ((disk : MemDisk) × (new ≡ ledger_over (world_after l.log n) disk))
 
 -- ---- texts
 
