@@ -41,10 +41,19 @@ abbrev pub LineResponds : DrillState → ℕ → Line → List ℕ → DrillStat
 LineResponds s n None told t = Responds s n None told t
 LineResponds s n (Some line) told t = UnlessSkipped (is_skipped line) s told t (Responds s n (asked_by s line) told t)
 
+-- a text that is what a line prints, and behind it what is printed to the drill that it leaves
+pub record PrintsOn (Line : List ℕ → DrillState → Type 0) (Behind : DrillState → List ℕ → Type 0) (text : List ℕ) : Type 0 where
+  pub told : List ℕ
+  pub after : DrillState
+  pub rest : List ℕ
+  pub line : Line told after
+  pub behind : Behind after rest
+  pub whole : text ≡ told ++ rest
+
 -- lines of which the first has this number may print this
 abbrev pub Prints : DrillState → ℕ → List Line → List ℕ → Type 0
 Prints s n [] text = text ≡ []
-Prints s n (l ∷ ls) text = (told : List ℕ) × (t : DrillState) × (rest : List ℕ) × LineResponds s n l told t × Prints t (n + 1) ls rest × (text ≡ told ++ rest)
+Prints s n (l ∷ ls) text = PrintsOn (LineResponds s n l) (λ t rest. Prints t (n + 1) ls rest) text
 
 -- a drill may print this to its input; it begins in version 1
 abbrev pub IsDrilled : List ℕ → List ℕ → Type 0

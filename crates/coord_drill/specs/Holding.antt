@@ -6,24 +6,25 @@ use Rattle.coord_disk.specs.Disks.Memory.{present_of}
 use Rattle.coord_disk.specs.Model.Present.{Present}
 use Rattle.coord_disk.specs.declared.memory.MemDisk.{MemDisk}
 use Rattle.coord_store.specs.Kept.{made}
-use Rattle.coord_store.specs.declared.faults.CommitFault.TheVariants.{Device, OutOfMemory}
 use Rattle.coord_types.specs.declared.steps.Step.{Step}
 use Rattle.coord_world.specs.protocol.Next.{next, reply}
 use Rattle.coord_world.specs.protocol.NumberedWorld.{World, no_world}
 use Rattle.coord_world.specs.protocol.Outputs.{outs}
 use Rattle.coord_ledger.specs.declared.events.Answer.{Answer}
 use Rattle.coord_ledger.specs.declared.events.Answer.TheVariants.{Begun, Committed, Failed, Finished, Nothing}
-use Rattle.coord_ledger.specs.declared.mark.Mark.TheVariants.{New, Good, Torn}
+use Rattle.coord_ledger.specs.declared.mark.Mark.{Mark}
+use Rattle.coord_ledger.specs.declared.mark.Mark.TheVariants.{Good}
 use Rattle.coord_ledger.specs.declared.release.Release.{Release}
-use Rattle.coord_ledger.specs.ledger.Calls.{claimed, taken_back}
-use Rattle.coord_ledger.specs.ledger.Driven.{Driven, at_home}
+use Rattle.coord_ledger.specs.ledger.Calls.{claimed, taken_back, with_out}
+use Rattle.coord_ledger.specs.ledger.Driven.{Driven, IsMarked, at_home}
 use Rattle.coord_ledger.specs.ledger.State.{Claim, FlightState, IsGranted, LedgerState, ledger_over, reply_of}
 use Rattle.coord_ledger.specs.machine.After.{releases_of, settling_releases}
-use Rattle.coord_ledger.specs.machine.Answers.{IsOneOf, kept_by, next_size}
-use Rattle.coord_ledger.specs.machine.Log.{Log, front_world, log_over, pending, settled_world, with_settled, world_after}
+use Rattle.coord_ledger.specs.machine.Answers.{next_size}
+use Rattle.coord_ledger.specs.machine.Log.{Log, front_world, log_over, pending, settled_world}
 use Rattle.coord_drill.specs.Drill.{DrillState}
 use Rattle.coord_drill.specs.Printed.{commit_line, output_line, reply_line}
 use Rattle.coord_drill.specs.declared.drill.Drill.{Drill}
+use Rattle.coord_drill.specs.declared.drill.TheConstants.{HALF_SIZE}
 use Rattle.coord_drill.specs.declared.drill.flying.Flown.{Flown}
 use Rattle.coord_drill.specs.declared.drill.flying.Flown.TheVariants as flown
 
@@ -66,30 +67,32 @@ front_of d = front_world (state_of d).log
 pub record IsMade (version : ℕ) (l : LedgerState MemDisk) : Type 0 where
   pub disk : MemDisk
   pub adopted : l ≡ ledger_over (no_world version) disk
-  pub present : present_of disk ≡ made 65536 version
+  pub present : present_of disk ≡ made HALF_SIZE version
 
--- a flight is back, with this log and this doubt
-pub record IsBack (log : Log) (doubt : Option ℕ) (new : LedgerState MemDisk) : Type 0 where
-  pub home : new.out ≡ None
-  pub here : (disk : MemDisk) × (new.disk ≡ Some disk)
-  pub log_is : new.log ≡ log
-  pub doubt_is : new.doubt ≡ doubt
-
--- a flight of the next steps, if one may go out
-abbrev pub FlownTo : LedgerState MemDisk → Flown → LedgerState MemDisk → Type 0
-FlownTo l flown.Nothing new = new ≡ l
-FlownTo l (flown.Settled releases) new = IsBack (with_settled l.log (next_size l.log)) l.doubt new × (releases ≡ settling_releases l.log (next_size l.log))
-FlownTo l (flown.Failed Device) new = IsBack l.log (Some (next_size l.log)) new
-FlownTo l (flown.Failed OutOfMemory) new = IsBack l.log l.doubt new
-FlownTo l (flown.Failed fault) new = ⊥
+-- what is told of a flight that is back with this mark, where its steps release all of these
+abbrev pub IsTold : Flown → List Release → Mark → Type 0
+IsTold flown.Nothing all mark = ⊥
+IsTold (flown.Settled releases) all mark = (mark ≡ Good) × (releases ≡ all)
+IsTold (flown.Failed fault) all mark = IsMarked (Failed fault) mark
 
 -- a new flight is committed and comes back
-abbrev pub LandsAs : LedgerState MemDisk → FlightState MemDisk → Flown → Driven MemDisk → Type 0
-LandsAs l f flown.Nothing d = ⊥
-LandsAs l f (flown.Settled releases) d = (disk : MemDisk) × ((releases ≡ releases_of (outs f.world f.steps)) × (d ≡ at_home (taken_back l (length f.steps) Good disk)))
-LandsAs l f (flown.Failed Device) d = (disk : MemDisk) × (d ≡ at_home (taken_back l (length f.steps) Torn disk))
-LandsAs l f (flown.Failed OutOfMemory) d = (disk : MemDisk) × (d ≡ at_home (taken_back l (length f.steps) New disk))
-LandsAs l f (flown.Failed fault) d = ⊥
+pub record LandsAs (l : LedgerState MemDisk) (f : FlightState MemDisk) (r : Flown) (d : Driven MemDisk) : Type 0 where
+  pub disk : MemDisk
+  pub mark : Mark
+  pub told : IsTold r (releases_of (outs f.world f.steps)) mark
+  pub is : d ≡ at_home (taken_back l (length f.steps) mark disk)
+
+-- a flight of the next steps went out and is back
+pub record IsBack (l : LedgerState MemDisk) (r : Flown) (new : LedgerState MemDisk) : Type 0 where
+  pub disk : MemDisk
+  pub mark : Mark
+  pub told : IsTold r (settling_releases l.log (next_size l.log)) mark
+  pub is : new ≡ taken_back (with_out l (next_size l.log)) (next_size l.log) mark disk
+
+-- so if one may go out
+abbrev pub FlownTo : LedgerState MemDisk → Flown → LedgerState MemDisk → Type 0
+FlownTo l flown.Nothing new = new ≡ l
+FlownTo l r new = IsBack l r new
 
 -- what the commit of a flight and its return were answered, where so many steps are settled then
 abbrev pub landed_answers : Flown → ℕ → List Answer
@@ -102,10 +105,6 @@ abbrev pub flown_answers : Flown → ℕ → ℕ → List Answer
 flown_answers flown.Nothing b count = Nothing ∷ []
 flown_answers (flown.Settled releases) b count = Begun b ∷ landed_answers (flown.Settled releases) count
 flown_answers (flown.Failed fault) b count = Begun b ∷ landed_answers (flown.Failed fault) count
-
--- a ledger that was made of the disk of another one after a crash: over a world that the crash may leave
-abbrev pub ReopenedTo : LedgerState MemDisk → LedgerState MemDisk → Type 0
-ReopenedTo l new = (n : ℕ) × IsOneOf n (kept_by l.log.settled None l.doubt) × ((disk : MemDisk) × (new ≡ ledger_over (world_after l.log n) disk))
 
 -- ---- texts
 

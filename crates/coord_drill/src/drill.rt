@@ -45,7 +45,7 @@ impl Drill {
     /// A drill in the world before any step, over a disk in memory with halves of 65,536 bytes.
     pub fn new(alloc: Global) -> Result<Self, Fault>
         ensures ready { IfOk result IsReady }
-        ensures disk { IfOk result (λ drill. HasDisk drill (made 65_536 1)) }
+        ensures disk { IfOk result (λ drill. HasDisk drill (made HALF_SIZE 1)) }
         ensures state { IfOk result (λ drill. state_of drill ≡ drill_over (no_world 1)) }
         ensures fault { IfErr result IsOfWork }
     {
@@ -123,7 +123,7 @@ impl Drill {
     fn begin_version_2(&mut self) -> Result<(), Fault>
         requires ready { IsReady self.old }
         ensures ready { OnOk result (IsReady self.new) }
-        ensures disk { OnOk result (HasDisk self.new (made 65_536 2)) }
+        ensures disk { OnOk result (HasDisk self.new (made HALF_SIZE 2)) }
         ensures told { OnOk result (Carries self.old ask.Version2 [] self.new) }
         ensures fault { IfErr result IsOfWork }
     {

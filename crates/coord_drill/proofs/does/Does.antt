@@ -1,5 +1,5 @@
 -- What flights, steps and crashes print, and what becomes of the drill, by the answers to their events.
-use Rattle.std.proofs.Common.{◌≡◌, ℕ, ◌+◌, ◌-◌, ◌≤◌, Bool, true, false, cond, List, [], ◌∷◌, ◌++◌, length, Ok, Err, Option, Some, None, refl, sym, ap, ◌∙◌, subst, arith, inl, inr}
+use Rattle.std.proofs.Common.{◌≡◌, ℕ, ◌+◌, ◌-◌, true, false, cond, List, [], ◌∷◌, Ok, Err, Option, Some, None, refl, sym, ap, ◌∙◌, subst, arith}
 use Rattle.std.specs.Option.{option_map_or}
 use Rattle.coord_disk.specs.declared.memory.MemDisk.{MemDisk}
 use Rattle.coord_types.specs.declared.refusals.Refusal.{Refusal}
@@ -15,7 +15,7 @@ use Rattle.coord_ledger.specs.ledger.State.{Claim, LedgerState, ledger_over}
 use Rattle.coord_ledger.specs.machine.After.{after_submit, crashed}
 use Rattle.coord_ledger.specs.machine.Answers.{verdict_on}
 use Rattle.coord_ledger.specs.machine.Log.{log_over, settled_count, with_step, world_after}
-use Rattle.coord_ledger.specs.machine.Machine.{Machine, adopted}
+use Rattle.coord_ledger.specs.machine.Machine.{Machine}
 use Rattle.coord_ledger.specs.machine.Runs.{run}
 use Rattle.coord_ledger.proofs.machine.Moved.{crash_reopens}
 use Rattle.coord_drill.specs.Answered.{asked_lines, flight_lines, kept_line, repeat_line}

@@ -67,57 +67,29 @@ lands l f d new releases answer to landed =
 pub lands_settled : (l : LedgerState MemDisk) (f : FlightState MemDisk) (d new : Driven MemDisk) (releases : List Release) → CommitsTo l f Committed d → ((g : FlightState MemDisk) → d.flight ≡ Some g → LandsTo d.ledger g (Ok (Some releases)) new) → LandsAs l f (flown.Settled releases) new
 lands_settled l f d new releases to landed =
     let all = lands l f d new releases Committed to landed in
-    (all.0, (all.2.1.0 ∙ ap (releases_in f) all.2.0, all.2.1.1 ∙ ap (λ m. at_home (taken_back l (length f.steps) m all.0)) all.2.0))
+    record { disk = all.0; mark = all.1; told = (all.2.0, all.2.1.0 ∙ ap (releases_in f) all.2.0); is = all.2.1.1 }
 
 pub lands_failed : (l : LedgerState MemDisk) (f : FlightState MemDisk) (d new : Driven MemDisk) (releases : List Release) (fault : CommitFault) → CommitsTo l f (Failed fault) d → ((g : FlightState MemDisk) → d.flight ≡ Some g → LandsTo d.ledger g (Ok (Some releases)) new) → LandsAs l f (flown.Failed fault) new
-lands_failed l f d new releases commit.Device to landed =
-    let all = lands l f d new releases (Failed commit.Device) to landed in
-    (all.0, all.2.1.1 ∙ ap (λ m. at_home (taken_back l (length f.steps) m all.0)) all.2.0)
-lands_failed l f d new releases commit.OutOfMemory to landed =
-    let all = lands l f d new releases (Failed commit.OutOfMemory) to landed in
-    (all.0, all.2.1.1 ∙ ap (λ m. at_home (taken_back l (length f.steps) m all.0)) all.2.0)
-lands_failed l f d new releases commit.Full to landed = absurd to.marked
-lands_failed l f d new releases commit.Stopped to landed = absurd to.marked
-lands_failed l f d new releases commit.Again to landed = absurd to.marked
+lands_failed l f d new releases fault to landed =
+    let all = lands l f d new releases (Failed fault) to landed in
+    record { disk = all.0; mark = all.1; told = all.2.0; is = all.2.1.1 }
 
 -- a flight of the next steps is out and back
 came_to : (l : LedgerState MemDisk) → length (take MAX_BATCH_STEPS (pending l.log)) ≡ next_size l.log
 came_to l = length-take MAX_BATCH_STEPS (pending l.log)
 
-back_as : (l new : LedgerState MemDisk) (disk was : MemDisk) (mark : Mark) → new ≡ taken_back (with_out l (length (next_flight l.log was).steps)) (length (next_flight l.log was).steps) mark disk → new ≡ taken_back (with_out l (next_size l.log)) (next_size l.log) mark disk
-back_as l new disk was mark is = is ∙ ap (λ n. taken_back (with_out l n) n mark disk) (came_to l)
+back_as : (l : LedgerState MemDisk) (new : Driven MemDisk) (disk was : MemDisk) (mark : Mark) → new ≡ at_home (taken_back (with_out l (length (next_flight l.log was).steps)) (length (next_flight l.log was).steps) mark disk) → new.ledger ≡ taken_back (with_out l (next_size l.log)) (next_size l.log) mark disk
+back_as l new disk was mark is = ap (λ (d : Driven MemDisk). d.ledger) is ∙ ap (λ n. taken_back (with_out l n) n mark disk) (came_to l)
 
 pub flown_to : (l : LedgerState MemDisk) (was : MemDisk) (r : Flown) (new : Driven MemDisk) → LandsAs (with_out l (length (next_flight l.log was).steps)) (next_flight l.log was) r new → FlownTo l r new.ledger
-flown_to l was flown.Nothing new to = absurd to
-flown_to l was (flown.Settled rs) new to =
-    let is = back_as l new.ledger to.0 was Good (ap (λ (d : Driven MemDisk). d.ledger) to.1.1) in (
-      record {
-        home = ap (λ (m : LedgerState MemDisk). m.out) is;
-        here = (to.0, ap (λ (m : LedgerState MemDisk). m.disk) is);
-        log_is = ap (λ (m : LedgerState MemDisk). m.log) is;
-        doubt_is = ap (λ (m : LedgerState MemDisk). m.doubt) is;
-      },
-      to.1.0 ∙ ap (λ ss. releases_of (outs (settled_world l.log) ss)) (sym (take_min MAX_BATCH_STEPS (pending l.log))),
-    )
-flown_to l was (flown.Failed commit.Device) new to =
-    let is = back_as l new.ledger to.0 was Torn (ap (λ (d : Driven MemDisk). d.ledger) to.1) in
-    record {
-      home = ap (λ (m : LedgerState MemDisk). m.out) is;
-      here = (to.0, ap (λ (m : LedgerState MemDisk). m.disk) is);
-      log_is = ap (λ (m : LedgerState MemDisk). m.log) is;
-      doubt_is = ap (λ (m : LedgerState MemDisk). m.doubt) is;
-    }
-flown_to l was (flown.Failed commit.OutOfMemory) new to =
-    let is = back_as l new.ledger to.0 was New (ap (λ (d : Driven MemDisk). d.ledger) to.1) in
-    record {
-      home = ap (λ (m : LedgerState MemDisk). m.out) is;
-      here = (to.0, ap (λ (m : LedgerState MemDisk). m.disk) is);
-      log_is = ap (λ (m : LedgerState MemDisk). m.log) is;
-      doubt_is = ap (λ (m : LedgerState MemDisk). m.doubt) is;
-    }
-flown_to l was (flown.Failed commit.Full) new to = absurd to
-flown_to l was (flown.Failed commit.Stopped) new to = absurd to
-flown_to l was (flown.Failed commit.Again) new to = absurd to
+flown_to l was flown.Nothing new to = absurd to.told
+flown_to l was (flown.Settled rs) new to = record {
+  disk = to.disk;
+  mark = to.mark;
+  told = (to.told.0, to.told.1 ∙ ap (λ ss. releases_of (outs (settled_world l.log) ss)) (sym (take_min MAX_BATCH_STEPS (pending l.log))));
+  is = back_as l new to.disk was to.mark to.is;
+}
+flown_to l was (flown.Failed fault) new to = record { disk = to.disk; mark = to.mark; told = to.told; is = back_as l new to.disk was to.mark to.is }
 
 -- by the flight that went out
 pub landed_as : (l : LedgerState MemDisk) (was : MemDisk) (out : Driven MemDisk) → out ≡ record { ledger = with_out l (length (next_flight l.log was).steps); flight = Some (next_flight l.log was) } → (r : Flown) (new : Driven MemDisk) →
@@ -127,13 +99,7 @@ landed_as l was out is r new landed =
 
 -- and no flight is out
 pub landed_home : (l : LedgerState MemDisk) (f : FlightState MemDisk) (r : Flown) (new : Driven MemDisk) → LandsAs l f r new → new.flight ≡ None
-landed_home l f flown.Nothing new to = absurd to
-landed_home l f (flown.Settled rs) new to = ap (λ (d : Driven MemDisk). d.flight) to.1.1
-landed_home l f (flown.Failed commit.Device) new to = ap (λ (d : Driven MemDisk). d.flight) to.1
-landed_home l f (flown.Failed commit.OutOfMemory) new to = ap (λ (d : Driven MemDisk). d.flight) to.1
-landed_home l f (flown.Failed commit.Full) new to = absurd to
-landed_home l f (flown.Failed commit.Stopped) new to = absurd to
-landed_home l f (flown.Failed commit.Again) new to = absurd to
+landed_home l f r new to = ap (λ (d : Driven MemDisk). d.flight) to.is
 
 -- ---- its events
 
@@ -150,7 +116,7 @@ begun_size m b one = by_home (stays_home (has_stopped m) (is_some m.flight) m.lo
 
 -- the departure of a flight, and then its commit and its return
 pub flown_by : (l : LedgerState MemDisk) (f : FlightState MemDisk) (v out new : Driven MemDisk) (r : Flown) (b count : ℕ) → LandsAs l f r new → GoesOnTo v (Begin ∷ []) (Begun b ∷ []) out → GoesOnTo out landing_events (landed_answers r count) new → GoesBy v (flown_answers r b count) new
-flown_by l f v out new flown.Nothing b count to begun landed = absurd to
+flown_by l f v out new flown.Nothing b count to begun landed = absurd to.told
 flown_by l f v out new (flown.Settled rs) b count to begun landed = goes_then v out new (Begin ∷ []) landing_events (Begun b ∷ []) (landed_answers (flown.Settled rs) count) begun landed
 flown_by l f v out new (flown.Failed fault) b count to begun landed = goes_then v out new (Begin ∷ []) landing_events (Begun b ∷ []) (landed_answers (flown.Failed fault) count) begun landed
 
@@ -161,42 +127,44 @@ abbrev pub Leaves : LedgerState MemDisk → List Answer → LedgerState MemDisk 
 Leaves l given new holds begun = (tickets : List (Option Reply)) → drill_of new holds begun ≡ seen_as (run (record (machine_of (drill_of l holds begun)) { tickets = tickets }) (flight_events given) given) holds begun
 
 module _ (l new : LedgerState MemDisk) (claims : List Claim) (held : IsHeld l claims) where
-  back_as_seen : (log : Log) (doubt : Option ℕ) (holds begun : Bool) → IsBack log doubt new → drill_of new holds begun ≡ record { log = log; doubt = doubt; holds = holds; has_begun = begun }
-  back_as_seen log doubt holds begun back = λ i. record { log = back.log_is i; doubt = back.doubt_is i; holds = holds; has_begun = begun }
+  abbrev b : ℕ
+  b = next_size l.log
+
+  -- the ledger with such a mark
+  marked : (r : Flown) (mark : Mark) (back : IsBack l r new) → back.mark ≡ mark → new ≡ taken_back (with_out l b) b mark back.disk
+  marked r mark back same = back.is ∙ ap (λ m. taken_back (with_out l b) b m back.disk) same
 
   -- of a flight that was not committed
-  same_held : (doubt : Option ℕ) → IsBack l.log doubt new → IsHeld new claims
-  same_held doubt back = record {
-    home = back.home;
-    here = back.here;
-    within = subst (λ (g : Log). g.settled ≤ length g.trail) (sym back.log_is) held.within;
-    tickets = held.tickets ∙ ap (λ g. claims_of (settled_world g) (pending g)) (sym back.log_is);
-  }
-
   failed_held : (fault : CommitFault) → FlownTo l (flown.Failed fault) new → IsHeld new claims
-  failed_held commit.Device back = same_held (Some (next_size l.log)) back
-  failed_held commit.OutOfMemory back = same_held l.doubt back
-  failed_held commit.Full back = absurd back
-  failed_held commit.Stopped back = absurd back
-  failed_held commit.Again back = absurd back
+  failed_held commit.Device back = subst (λ m. IsHeld m claims) (sym (marked (flown.Failed commit.Device) Torn back back.told)) (record { home = refl; here = (back.disk, refl); within = held.within; tickets = held.tickets })
+  failed_held commit.OutOfMemory back = subst (λ m. IsHeld m claims) (sym (marked (flown.Failed commit.OutOfMemory) New back back.told)) (record { home = refl; here = (back.disk, refl); within = held.within; tickets = held.tickets })
+  failed_held commit.Full back = absurd back.told
+  failed_held commit.Stopped back = absurd back.told
+  failed_held commit.Again back = absurd back.told
 
-  failed_leaves : (holds begun : Bool) (fault : CommitFault) (count : ℕ) → FlownTo l (flown.Failed fault) new → Leaves l (flown_answers (flown.Failed fault) (next_size l.log) count) new holds begun
-  failed_leaves holds begun commit.Device count back tickets = back_as_seen l.log (Some (next_size l.log)) holds begun back
-  failed_leaves holds begun commit.OutOfMemory count back tickets = back_as_seen l.log l.doubt holds begun back
-  failed_leaves holds begun commit.Full count back tickets = absurd back
-  failed_leaves holds begun commit.Stopped count back tickets = absurd back
-  failed_leaves holds begun commit.Again count back tickets = absurd back
+  failed_leaves : (holds begun : Bool) (fault : CommitFault) (count : ℕ) → FlownTo l (flown.Failed fault) new → Leaves l (flown_answers (flown.Failed fault) b count) new holds begun
+  failed_leaves holds begun commit.Device count back tickets = ap (λ m. drill_of m holds begun) (marked (flown.Failed commit.Device) Torn back back.told)
+  failed_leaves holds begun commit.OutOfMemory count back tickets = ap (λ m. drill_of m holds begun) (marked (flown.Failed commit.OutOfMemory) New back back.told)
+  failed_leaves holds begun commit.Full count back tickets = absurd back.told
+  failed_leaves holds begun commit.Stopped count back tickets = absurd back.told
+  failed_leaves holds begun commit.Again count back tickets = absurd back.told
 
   -- of a flight that is settled
   module _ (rs : List Release) (to : FlownTo l (flown.Settled rs) new) where
+    pub settled_is : new ≡ taken_back (with_out l b) b Good to.disk
+    settled_is = marked (flown.Settled rs) Good to to.told.0
+
+    log_is : new.log ≡ with_settled l.log b
+    log_is = ap (λ (m : LedgerState MemDisk). m.log) settled_is
+
     pub settled_granted : AllByRecursion (IsGranted new.log) claims
     settled_granted =
         subst (λ cs. AllByRecursion (IsGranted new.log) cs) (sym held.tickets)
-        (subst (λ g. AllByRecursion (IsGranted g) (claims_of (settled_world l.log) (pending l.log))) (sym to.0.log_is)
+        (subst (λ g. AllByRecursion (IsGranted g) (claims_of (settled_world l.log) (pending l.log))) (sym log_is)
         (granted_from (with_settled l.log (next_size l.log)) (take l.log.settled l.log.trail) (drop l.log.settled l.log.trail) (sym (take-append-drop l.log.settled l.log.trail))))
 
     settles : settled_world new.log ≡ fold (settled_world l.log) (take (next_size l.log) (pending l.log))
-    settles = ap settled_world to.0.log_is ∙ world-add l.log l.log.settled (next_size l.log)
+    settles = ap settled_world log_is ∙ world-add l.log l.log.settled (next_size l.log)
 
     same : (settled_world new.log).version ≡ (settled_world l.log).version
     same = ap (λ (v : World). v.version) settles ∙ fold_version (settled_world l.log) (take (next_size l.log) (pending l.log))
@@ -206,22 +174,22 @@ module _ (l new : LedgerState MemDisk) (claims : List Claim) (held : IsHeld l cl
         ap (λ n. collected_lines n (settled_world new.log).count claims rs) same
         ∙ ap (λ (v : World). collected_lines (settled_world l.log).version v.count claims rs) settles
         ∙ ap (λ cs. collected_lines (settled_world l.log).version (fold (settled_world l.log) (take (next_size l.log) (pending l.log))).count cs rs) held.tickets
-        ∙ ap (λ given. collected_lines (settled_world l.log).version (fold (settled_world l.log) (take (next_size l.log) (pending l.log))).count (claims_of (settled_world l.log) (pending l.log)) given) to.1
+        ∙ ap (λ given. collected_lines (settled_world l.log).version (fold (settled_world l.log) (take (next_size l.log) (pending l.log))).count (claims_of (settled_world l.log) (pending l.log)) given) to.told.1
         ∙ collected_are (settled_world l.log).version (settled_world l.log) (next_size l.log) (pending l.log)
 
     pub settled_held : (rest : List Claim) → rest ≡ waiting (settled_world new.log).count claims → IsHeld new rest
     settled_held rest is = record {
-      home = to.0.home;
-      here = to.0.here;
+      home = ap (λ (m : LedgerState MemDisk). m.out) settled_is;
+      here = (to.disk, ap (λ (m : LedgerState MemDisk). m.disk) settled_is);
       within =
-          subst (λ (g : Log). g.settled ≤ length g.trail) (sym to.0.log_is)
+          subst (λ (g : Log). g.settled ≤ length g.trail) (sym log_is)
           (omega (arith, held.within, min-le_right MAX_BATCH_STEPS (length (pending l.log)), length-drop l.log.settled l.log.trail));
       tickets =
           is ∙ ap (λ (v : World). waiting v.count claims) settles
           ∙ ap (λ cs. waiting (fold (settled_world l.log) (take (next_size l.log) (pending l.log))).count cs) held.tickets
           ∙ waiting_are (settled_world l.log) (next_size l.log) (pending l.log)
           ∙ ap (λ v. claims_of v (drop (next_size l.log) (pending l.log))) (sym settles)
-          ∙ ap (claims_of (settled_world new.log)) (drop-drop (next_size l.log) l.log.settled l.log.trail ∙ ap pending (sym to.0.log_is));
+          ∙ ap (claims_of (settled_world new.log)) (drop-drop (next_size l.log) l.log.settled l.log.trail ∙ ap pending (sym log_is));
     }
 
 -- ---- whatever became of it
@@ -244,7 +212,7 @@ module _ (l new : LedgerState MemDisk) (claims : List Claim) (held : IsHeld l cl
 
   pub flown_leaves : (holds begun : Bool) (r : Flown) (count : ℕ) → FlownTo l r new → Leaves l (flown_answers r (next_size l.log) count) new holds begun
   flown_leaves holds begun flown.Nothing count to tickets = ap (λ m. drill_of m holds begun) to
-  flown_leaves holds begun (flown.Settled rs) count to tickets = back_as_seen l new claims held (with_settled l.log (next_size l.log)) l.doubt holds begun to.0
+  flown_leaves holds begun (flown.Settled rs) count to tickets = ap (λ m. drill_of m holds begun) (settled_is l new claims held rs to)
   flown_leaves holds begun (flown.Failed fault) count to tickets = failed_leaves l new claims held holds begun fault count to tickets
 
 pub flown_memory : (r : Flown) (b count : ℕ) → AllByRecursion (λ answer. answer ≢ Refused OutOfMemory) (flown_answers r b count)

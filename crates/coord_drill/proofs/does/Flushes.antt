@@ -1,7 +1,6 @@
 -- Lines that send a flight out: a flush, and a step that is settled at once.
-use Rattle.std.proofs.Common.{◌≡◌, ◌≢◌, ℕ, true, false, cond, List, [], ◌∷◌, ◌++◌, Option, Some, Ok, sym, ap, ◌∙◌, subst}
+use Rattle.std.proofs.Common.{◌≡◌, ℕ, true, false, cond, List, [], ◌∷◌, ◌++◌, Option, Some, Ok, sym, ap, ◌∙◌, subst}
 use Rattle.coord_disk.specs.declared.memory.MemDisk.{MemDisk}
-use Rattle.coord_types.specs.declared.refusals.Refusal.TheVariants.{OutOfMemory}
 use Rattle.coord_types.specs.declared.steps.Reply.{Reply}
 use Rattle.coord_types.specs.declared.steps.Step.{Step}
 use Rattle.coord_ledger.specs.declared.events.Answer.TheVariants as answer
@@ -16,7 +15,7 @@ use Rattle.coord_ledger.specs.machine.Runs.{run}
 use Rattle.coord_drill.specs.Answered.{asked_lines, flight_lines}
 use Rattle.coord_drill.specs.Drill.{DrillState, after_asked, flight_events, machine_of, seen_as}
 use Rattle.coord_drill.specs.Holding.{IsReady, drill_of, state_of}
-use Rattle.coord_drill.specs.Moments.{Begins, Carries, Flies, GoesOnTo, IsRun}
+use Rattle.coord_drill.specs.Moments.{Begins, Carries, Flies, IsRun}
 use Rattle.coord_drill.specs.Printed.{count_line}
 use Rattle.coord_drill.specs.declared.asked.Asked.TheVariants.{Flush, Submit}
 use Rattle.coord_drill.specs.declared.drill.Drill.{Drill}

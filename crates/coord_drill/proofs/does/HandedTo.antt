@@ -1,11 +1,10 @@
 -- What a step that is handed in makes of a ledger, what is printed of it, and the tickets then.
-use Rattle.std.proofs.Common.{◌≡◌, ◌≢◌, ℕ, Bool, true, false, List, Option, Some, [], ◌∷◌, ◌++◌, drop, Result, Ok, Err, refl, sym, ap, ◌∙◌, subst, arith}
+use Rattle.std.proofs.Common.{◌≡◌, ◌≢◌, Bool, true, false, List, Option, Some, [], ◌∷◌, ◌++◌, drop, Result, Ok, Err, refl, sym, ap, ◌∙◌, subst, arith}
 use Rattle.std.proofs.lemmas.List.{drop-append-le, length-append, take-append-le}
 use Rattle.std.specs.Prelude.{is_some}
 use Rattle.coord_disk.specs.declared.memory.MemDisk.{MemDisk}
 use Rattle.coord_types.specs.declared.refusals.Refusal.{Refusal}
 use Rattle.coord_types.specs.declared.refusals.Refusal.TheVariants.{OutOfMemory}
-use Rattle.coord_types.specs.declared.steps.Kind.{Kind}
 use Rattle.coord_types.specs.declared.steps.Reply.{Reply}
 use Rattle.coord_types.specs.declared.steps.Step.{Step}
 use Rattle.coord_world.proofs.Facade.{fold-take_drop}
@@ -20,7 +19,7 @@ use Rattle.coord_ledger.specs.declared.events.Answer.TheVariants as answer
 use Rattle.coord_ledger.specs.declared.handed.Handed.TheVariants.{Accepted, Repeated}
 use Rattle.coord_ledger.specs.ledger.Calls.{HandedTo, RefusesStep, claimed, ledger_verdict, with_accepted}
 use Rattle.coord_ledger.specs.ledger.State.{Claim, IsGranted, LedgerState, reply_of}
-use Rattle.coord_ledger.specs.machine.Log.{front_world, pending, settled_count, settled_world, with_step}
+use Rattle.coord_ledger.specs.machine.Log.{pending, settled_count, settled_world}
 use Rattle.coord_ledger.specs.machine.Runs.{run}
 use Rattle.coord_drill.specs.Answered.{asked_lines, flight_lines, kept_line}
 use Rattle.coord_drill.specs.Drill.{DrillState, after_asked, flight_events, machine_of, seen_as}

@@ -119,4 +119,4 @@ prints_somehow s n [] = ([], refl)
 prints_somehow s n (l ∷ ls) =
     let one = line_somehow s n l in
     let rest = prints_somehow one.1 (n + 1) ls in
-    (one.0 ++ rest.0, (one.0, one.1, rest.0, one.2, rest.1, refl))
+    (one.0 ++ rest.0, record { told = one.0; after = one.1; rest = rest.0; line = one.2; behind = rest.1; whole = refl })

@@ -6,23 +6,18 @@ use Rattle.coord_ledger.specs.declared.events.Answer.TheVariants.{Opened}
 use Rattle.coord_ledger.specs.ledger.Driven.{Driven, IsLeftByCrash, disk_driven}
 use Rattle.coord_ledger.specs.ledger.Driver.{disk_with}
 use Rattle.coord_ledger.specs.ledger.Follows.{flight_out}
-use Rattle.coord_ledger.specs.ledger.State.{Claim, LedgerState, started}
+use Rattle.coord_ledger.specs.ledger.State.{Claim, started}
 use Rattle.coord_ledger.specs.machine.Answers.{IsOneOf, kept_by}
 use Rattle.coord_ledger.specs.machine.Consistent.{DoubtFits, IsConsistent}
 use Rattle.coord_ledger.specs.machine.Log.{log_over, settled_count, world_after}
 use Rattle.coord_ledger.proofs.machine.Logs.{count_after}
 use Rattle.coord_drill.specs.Drill.{after_asked}
-use Rattle.coord_drill.specs.Holding.{IsHeld, ReopenedTo, drill_of}
+use Rattle.coord_drill.specs.Holding.{IsHeld, drill_of}
 use Rattle.coord_drill.specs.declared.asked.Asked.TheVariants.{Crash}
 use Rattle.coord_drill.proofs.does.Does.{crash_after, new_held}
 
--- what the driver left of a ledger at home
-pub reopened : (v new : Driven MemDisk) → v.flight ≡ None → IsLeftByCrash v new → ReopenedTo v.ledger new.ledger
-reopened v new home left =
-    (left.0, subst (λ o. IsOneOf left.0 (kept_by v.ledger.log.settled (option_map flight_out o) v.ledger.doubt)) home left.1.0, (left.1.1.0, ap (λ (d : Driven MemDisk). d.ledger) left.1.1.1))
-
-pub crash_held : (l new : LedgerState MemDisk) (claims : List Claim) → ReopenedTo l new → claims ≡ [] → IsHeld new claims
-crash_held l new claims to none = new_held new (world_after l.log to.0) to.2.0 claims to.2.1 none
+pub crash_held : (v new : Driven MemDisk) (claims : List Claim) → IsLeftByCrash v new → claims ≡ [] → IsHeld new.ledger claims
+crash_held v new claims left none = new_held new.ledger (world_after v.ledger.log left.0) left.1.1.0 claims (ap (λ (d : Driven MemDisk). d.ledger) left.1.1.1) none
 
 -- it is seen from the world that was opened
 pub crash_leaves : (v new : Driven MemDisk) (holds begun : Bool) → (left : IsLeftByCrash v new) → drill_of new.ledger false begun ≡ after_asked (drill_of v.ledger holds begun) Crash (Opened (v.ledger.log.base.count + left.0) ∷ [])

@@ -16,7 +16,7 @@ pub prints-ended : (s : DrillState) (n : ℕ) (line : Line) (piece more behind :
     → (told : List ℕ) (t : DrillState) (rest : List ℕ) → LineResponds s n whole told t → Prints t (n + 1) (lines_on (Some []) (behind ++ more)) rest → Prints s n (lines_on line (piece ++ more)) (told ++ rest)
 prints-ended s n line piece more behind whole e f told t rest responds later =
     let lines = lines_on-ended line piece more behind (sym e) ∙ ap (λ l. l ∷ lines_on (Some []) (behind ++ more)) (sym f) in
-    subst (λ ls. Prints s n ls (told ++ rest)) (sym lines) (told, t, rest, responds, later, refl)
+    subst (λ ls. Prints s n ls (told ++ rest)) (sym lines) (record { told = told; after = t; rest = rest; line = responds; behind = later; whole = refl })
 
 -- with none the line goes on
 pub prints-unended : (s : DrillState) (n : ℕ) (line : Line) (piece more : List ℕ) (longer : Line) → None ≡ behind_line_feed piece → longer ≡ extended line (before_line_feed piece)
@@ -27,7 +27,7 @@ prints-unended s n line piece more longer e f text prints =
 -- the end of the input ends the line
 pub prints-end : (s : DrillState) (n : ℕ) (line : Line) → IsWithin line → (told : List ℕ) (t : DrillState) → LineResponds s n line told t → Prints s n (lines_on line []) told
 prints-end s n line within told t responds =
-    subst (λ l. Prints s n (l ∷ []) told) (sym (extended-nothing line within)) (told, t, [], responds, refl, sym (append-nil told))
+    subst (λ l. Prints s n (l ∷ []) told) (sym (extended-nothing line within)) (record { told = told; after = t; rest = []; line = responds; behind = refl; whole = sym (append-nil told) })
 
 -- of what it prints a first part was written
 pub end_failed : (s : DrillState) (n : ℕ) (line : Line) → IsWithin line → (a b : Option (List ℕ)) → ((told : List ℕ) × (t : DrillState) × LineResponds s n line told t × WritesFirstPart a b told) → (text : List ℕ) × Prints s n (lines_on line []) text × WritesFirstPart a b text

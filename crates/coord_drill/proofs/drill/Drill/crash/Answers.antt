@@ -3,12 +3,12 @@ use Rattle.std.specs.Option.{option_map}
 use Rattle.coord_disk.specs.declared.memory.MemDisk.{MemDisk}
 use Rattle.coord_ledger.specs.declared.events.Answer.TheVariants.{Opened}
 use Rattle.coord_ledger.specs.declared.events.Event.TheVariants as event
-use Rattle.coord_ledger.specs.ledger.Driven.{Driven, after_crash}
+use Rattle.coord_ledger.specs.ledger.Driven.{after_crash}
 use Rattle.coord_drill.specs.Drill.{after_asked}
 use Rattle.coord_drill.specs.Holding.{IsReadyWith, drill_of}
 use Rattle.coord_drill.specs.Printed.{opened_line}
 use Rattle.coord_drill.specs.declared.asked.Asked.TheVariants.{Crash}
-use Rattle.coord_drill.proofs.does.ReopenedTo.{crash_held, crash_leaves, has_model, home_left, opened_count, reopened}
+use Rattle.coord_drill.proofs.does.ReopenedTo.{crash_held, crash_leaves, has_model, home_left, opened_count}
 use Rattle.coord_drill.proofs.does.Does.{crash_line, held_is, home_is}
 use Rattle.coord_drill.proofs.does.Moments.{begins_at, carries, run_on}
 use Rattle.coord_drill.proofs.drill.Drill.crash.Goals as goal
@@ -22,7 +22,7 @@ returns-clause-ready c =
     let home = home_is d v is c.requires.ready in
     let left = c.in-Ok.ensures.left (has_model v d.tickets.items home (held_is d v is c.requires.ready)) in
     subst (λ o. IsReadyWith o c.forget_all.new.tickets.items) (sym c.put.ensures)
-    (home_left v w left, crash_held v.ledger w.ledger c.forget_all.new.tickets.items (reopened v w home left) c.forget_all.ensures)
+    (home_left v w left, crash_held v w c.forget_all.new.tickets.items left c.forget_all.ensures)
 
 pub returns-clause-told : goal.returns-clause-told
 returns-clause-told c =
