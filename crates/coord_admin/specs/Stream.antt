@@ -1,8 +1,8 @@
 -- What `serve` writes: a reply to each line of a text, in order, by what a desk may answer.
 use Rattle.std.specs.Prelude.{◌≡◌, ◌⊎◌, ℕ, ◌≤◌, ◌^◌, Bool, true, false, List, [], ◌∷◌, ◌++◌, length, IsSome, IfSome, Option, Some, Result, Ok, Err}
-use Rattle.std.specs.Io.KnownBytes.{Appends}
 use Rattle.std.specs.Str.{IsUtf8}
 use Rattle.coord_lines.specs.Lines.{Line, lines_of}
+use Rattle.coord_lines.specs.Written.{IsFirstPart}
 use Rattle.coord_admin.specs.declared.request.Request.{Request}
 use Rattle.coord_admin.specs.declared.answer.Answer.{Answer}
 use Rattle.coord_admin.specs.declared.answer.Answer.TheVariants.{Closed, Faulted}
@@ -29,14 +29,6 @@ takes_memory a = true
 abbrev pub last_answers : Line → List Answer
 last_answers (Some []) = []
 last_answers line = Faulted Unfinished ∷ []
-
--- a text, or a first part of it
-abbrev pub IsFirstPart : List ℕ → List ℕ → Type 0
-IsFirstPart part text = (rest : List ℕ) × (text ≡ part ++ rest)
-
--- of a text a first part was written, and no more
-abbrev pub WritesFirstPart : Option (List ℕ) → Option (List ℕ) → List ℕ → Type 0
-WritesFirstPart old new text = (part : List ℕ) × Appends old new part × IsFirstPart part text
 
 -- of a text a first part went out over a connection, and no more
 abbrev pub WritesPart : {C : Type 0} → (C → List ℕ → List ℕ → C → Type 0) → C → C → List ℕ → Type 0

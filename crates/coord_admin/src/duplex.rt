@@ -1,7 +1,7 @@
 //! What lines are read from and replies are written to.
 
 ghost use Rattle.std.specs.Prelude.{◌≡◌, ◌<◌, ◌≤◌, ◌++◌, List, [], ℕ, length, take, IfOk, OnErr, OnOk};
-ghost use Rattle.coord_admin.specs.Stream.{IsFirstPart};
+ghost use Rattle.coord_lines.specs.Written.{IsFirstPart};
 
 /// Nothing more could be read, or not in time.
 #[derive(Clone, Copy, Debug, PartialEq, Eq)]

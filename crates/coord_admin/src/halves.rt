@@ -3,13 +3,11 @@
 ghost use Rattle.std.specs.Prelude.{◌≡◌, List, ℕ, OnErr, OnOk};
 ghost use Rattle.std.specs.Io.KnownBytes.{Appends, Consumes, IsAtEnd};
 ghost use Rattle.std.proofs.KnownBytes.{Appends-nil, Appends-trans, Consumes-nil, Consumes-trans};
-ghost use Rattle.coord_admin.specs.Stream.{WritesFirstPart};
+ghost use Rattle.coord_lines.specs.Written.{WritesFirstPart};
 
 use crate::duplex::{Duplex, NotRead, NotWritten};
-use std::io::{ErrorKind, Read, Write};
-
-/// The most calls of `write` for one reply.
-const MOST_WRITES: u64 = 1_048_576;
+use coord_lines::write_whole;
+use std::io::{Read, Write};
 
 /// Reads from the one and writes to the other. It waits as long as they do.
 #[derive(Drop)]
@@ -45,29 +43,17 @@ impl<R: Read, W: Write> Duplex for Halves<R, W> {
     ) };
 }
 
-/// Writes a text whole, by one call of `write` where the writer takes it whole, and flushes.
+/// Writes a text whole, and flushes.
 fn write_text<W: Write>(writer: &mut W, text: &[u8]) -> Result<(), NotWritten>
     ensures ok { OnOk result (Appends (W.contents writer.old) (W.contents writer.new) text.now) }
     ensures err { OnErr result (WritesFirstPart (W.contents writer.old)
         (W.contents writer.new) text.now) }
 {
-    let mut rest = text;
-    for _ in 0..MOST_WRITES {
-        if rest.is_empty() {
-            return match writer.flush() {
-                Ok(()) => Ok(()),
-                Err(_) => Err(NotWritten),
-            };
-        }
-        match writer.write(rest) {
-            Ok(0) => return Err(NotWritten),
-            Ok(count) => rest = &rest[count..],
-            Err(error) => {
-                if error.kind() != ErrorKind::Interrupted {
-                    return Err(NotWritten);
-                }
-            }
-        }
+    if write_whole(writer, text).is_err() {
+        return Err(NotWritten);
     }
-    Err(NotWritten)
+    match writer.flush() {
+        Ok(()) => Ok(()),
+        Err(_) => Err(NotWritten),
+    }
 }

@@ -5,6 +5,7 @@ use Rattle.toml.specs.Data.{Data, depth, has_valid_dates, is_sorted, items_depth
 use Rattle.toml.specs.Parse.{parse_document}
 use Rattle.toml.specs.Text.{IsDocumentText}
 use Rattle.toml.proofs.ReadBack.{parse_document-printed}
+use Rattle.coord_config.specs.declared.values.TheConstants.{MAX_HALF, MIN_HALF}
 use Rattle.coord_config.specs.declared.topology.NodeEntry.{NodeEntry}
 use Rattle.coord_config.specs.declared.topology.LinkEntry.{LinkEntry}
 use Rattle.coord_config.specs.Keys.{items_have_just, link_keys, node_keys}

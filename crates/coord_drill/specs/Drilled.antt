@@ -1,8 +1,8 @@
 -- What a drill may print to a whole input.
 use Rattle.std.specs.Prelude.{◌≡◌, ℕ, ◌+◌, ◌==◌, Bool, true, false, List, [], ◌∷◌, ◌++◌, Option, Some, None, if◌then◌else◌}
-use Rattle.std.specs.Io.KnownBytes.{Appends}
 use Rattle.std.specs.Str.{is_utf8}
 use Rattle.coord_lines.specs.Lines.{Line, lines_of}
+pub use Rattle.coord_lines.specs.Written.{WritesFirstPart}
 use Rattle.coord_world.specs.protocol.NumberedWorld.{no_world}
 use Rattle.coord_drill.specs.declared.request.Request.{Request}
 use Rattle.coord_drill.specs.declared.request.Request.TheVariants.{Version2}
@@ -49,10 +49,6 @@ Prints s n (l ∷ ls) text = (told : List ℕ) × (t : DrillState) × (rest : Li
 -- a drill may print this to its input; it begins in version 1
 abbrev pub IsDrilled : List ℕ → List ℕ → Type 0
 IsDrilled input text = Prints (drill_over (no_world 1)) 1 (lines_of input) text
-
--- of a text a first part was written, and no more
-abbrev pub WritesFirstPart : Option (List ℕ) → Option (List ℕ) → List ℕ → Type 0
-WritesFirstPart old new text = (written : List ℕ) × Appends old new written × ((rest : List ℕ) × (text ≡ written ++ rest))
 
 -- what is not of reading may end the printing of a line
 abbrev pub IsOfWork : Fault → Type 0

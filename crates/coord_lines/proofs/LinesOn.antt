@@ -6,12 +6,13 @@ use Rattle.std.proofs.lemmas.Grind.{common_steps}
 use Rattle.std.proofs.lemmas.List.Elements.{All-head, All-tail}
 use Rattle.std.proofs.lemmas.List.Splits.{slice_split_at, length-slice_split}
 use Rattle.std.proofs.lemmas.List.Sums.{split_at_first, fails_before_first, passes_at_first}
-use Rattle.coord_lines.specs.Lines.{Line, IsWithin, is_line_feed, limit, line_of, lines_of, extended, going_on, lines_on, before_line_feed, behind_line_feed}
+use Rattle.coord_types.specs.declared.limits.TheConstants.{MAX_LINE_BYTES}
+use Rattle.coord_lines.specs.Lines.{Line, IsWithin, is_line_feed, line_of, lines_of, extended, going_on, lines_on, before_line_feed, behind_line_feed}
 
 -- ---- a line in two steps
 
 -- a line that is over the limit stays so
-long_stays : (line a b : List ℕ) (t u : Bool) → (t ≡ leb (length line) limit) → (u ≡ leb (length (line ++ b)) limit) → extended (cond t (Some line) None) b ≡ cond u (Some (line ++ b)) None
+long_stays : (line a b : List ℕ) (t u : Bool) → (t ≡ leb (length line) MAX_LINE_BYTES) → (u ≡ leb (length (line ++ b)) MAX_LINE_BYTES) → extended (cond t (Some line) None) b ≡ cond u (Some (line ++ b)) None
 unfolding line_of
 long_stays line a b true u e f = ap (λ v. cond v (Some (line ++ b)) None) (sym f)
 long_stays line a b false true e f = absurd (grind (arith, nat_tests, length-append line b))

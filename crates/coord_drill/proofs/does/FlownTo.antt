@@ -20,7 +20,8 @@ use Rattle.coord_ledger.specs.ledger.Calls.{keeps_store, next_flight, releases_i
 use Rattle.coord_ledger.specs.ledger.Driven.{CommitsTo, Driven, IsMarked, LandsTo, at_home}
 use Rattle.coord_ledger.specs.ledger.State.{Claim, FlightState, IsGranted, LedgerState}
 use Rattle.coord_ledger.specs.machine.After.{releases_of}
-use Rattle.coord_ledger.specs.machine.Answers.{IsOneOf, most_in_flight, next_size, stays_home, to_commit}
+use Rattle.coord_types.specs.declared.limits.TheConstants.{MAX_BATCH_STEPS}
+use Rattle.coord_ledger.specs.machine.Answers.{IsOneOf, next_size, stays_home, to_commit}
 use Rattle.coord_ledger.specs.machine.Log.{Log, pending, settled_world, with_settled}
 use Rattle.coord_drill.specs.Answered.{Flies, commit_lines}
 use Rattle.coord_drill.specs.Drill.{DrillState, after_commit, has_no_flight}
@@ -72,8 +73,8 @@ lands_failed l f d new releases commit.Stopped to landed = absurd to.marked
 lands_failed l f d new releases commit.Again to landed = absurd to.marked
 
 -- a flight of the next steps is out and back
-came_to : (l : LedgerState MemDisk) → length (take most_in_flight (pending l.log)) ≡ next_size l.log
-came_to l = length-take most_in_flight (pending l.log)
+came_to : (l : LedgerState MemDisk) → length (take MAX_BATCH_STEPS (pending l.log)) ≡ next_size l.log
+came_to l = length-take MAX_BATCH_STEPS (pending l.log)
 
 back_as : (l new : LedgerState MemDisk) (disk was : MemDisk) (mark : Mark) → new ≡ taken_back (with_out l (length (next_flight l.log was).steps)) (length (next_flight l.log was).steps) mark disk → new ≡ taken_back (with_out l (next_size l.log)) (next_size l.log) mark disk
 back_as l new disk was mark is = is ∙ ap (λ n. taken_back (with_out l n) n mark disk) (came_to l)
@@ -89,7 +90,7 @@ flown_to l was (flown.Settled rs) new away to =
         log_is = ap (λ (m : LedgerState MemDisk). m.log) is;
         doubt_is = ap (λ (m : LedgerState MemDisk). m.doubt) is;
       },
-      to.1.0 ∙ ap (λ ss. releases_of (outs (settled_world l.log) ss)) (sym (take_min most_in_flight (pending l.log))),
+      to.1.0 ∙ ap (λ ss. releases_of (outs (settled_world l.log) ss)) (sym (take_min MAX_BATCH_STEPS (pending l.log))),
     )
 flown_to l was (flown.Failed commit.Device) new away to =
     let is = back_as l new.ledger to.0 was Torn (ap (λ (d : Driven MemDisk). d.ledger) to.1) in
@@ -205,7 +206,7 @@ module _ (l new : LedgerState MemDisk) (claims : List Claim) (held : IsHeld l cl
       here = to.0.here;
       within =
           subst (λ (g : Log). g.settled ≤ length g.trail) (sym to.0.log_is)
-          (omega (arith, held.within, min-le_right most_in_flight (length (pending l.log)), length-drop l.log.settled l.log.trail));
+          (omega (arith, held.within, min-le_right MAX_BATCH_STEPS (length (pending l.log)), length-drop l.log.settled l.log.trail));
       tickets =
           is ∙ ap (λ (v : World). waiting v.count claims) settles
           ∙ ap (λ cs. waiting (fold (settled_world l.log) (take (next_size l.log) (pending l.log))).count cs) held.tickets

@@ -8,7 +8,7 @@
 ghost use Rattle.std.specs.Prelude.{◌≡◌, ◌+◌, ◌-◌, ◌^◌, min, take};
 ghost use Rattle.std.specs.List.{count_by};
 ghost use Rattle.coord_engine.specs.Pacing.{is_gathered, is_idle, is_order, is_over, leaving_orders, starts_at_once, wakes_flusher, with_awaited, with_callers_awaited, with_in_hand};
-ghost use Rattle.coord_ledger.specs.machine.Answers.{most_in_flight};
+ghost use Rattle.coord_types.specs.declared.limits.TheConstants.{MAX_BATCH_STEPS};
 ghost use Rattle.coord_ledger.specs.machine.Log.{pending};
 
 use super::Guarded;
@@ -29,7 +29,7 @@ fn count_orders(steps: &[Step]) -> usize
 
 /// The first of these steps, as many as a flight takes.
 fn next_steps(steps: &[Step]) -> &[Step]
-    ensures { result.now ≡ take most_in_flight steps.now }
+    ensures { result.now ≡ take MAX_BATCH_STEPS steps.now }
 {
     &steps[..MAX_BATCH_STEPS.min(steps.len())]
 }

@@ -61,8 +61,12 @@ impl<D: CrashDisk> Driver<D> {
             IsEventFault (model_driven D.keeps_model self) Crash refused.0) }
     {
         self.survives();
-        let ledger = reopen(alloc, self.into_disk())?;
-        let count = ledger.settled().count();
-        Ok((count, Driver::over(ledger)))
+        match reopen(alloc, self.into_disk()) {
+            Ok(ledger) => {
+                let count = ledger.settled().count();
+                Ok((count, Driver::over(ledger)))
+            }
+            Err(refused) => Err(refused),
+        }
     }
 }

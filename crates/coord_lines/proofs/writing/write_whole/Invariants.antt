@@ -1,6 +1,6 @@
 use Rattle.std.proofs.Common.{◌≡◌, ℕ, List, ◌++◌}
 use Rattle.std.specs.Io.KnownBytes.{Appends}
-use Rattle.coord_admin.proofs.halves.write_text.Given as goal
+use Rattle.coord_lines.proofs.writing.write_whole.Given as goal
 
 -- what was written so far, and what is still to be written
 abbrev pub invariant-loop : goal.invariant-loop

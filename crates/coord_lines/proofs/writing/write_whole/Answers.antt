@@ -1,8 +1,8 @@
 use Rattle.std.proofs.Common.{arith, ◌++◌, take, drop, sym, ap, ◌∙◌, append_assoc, take-append-drop}
 use Rattle.std.proofs.lemmas.Grind.{common_steps}
 use Rattle.std.proofs.KnownBytes.{Appends-trans, Appends-kept}
-use Rattle.coord_commands.proofs.lines.write_whole.Goals as goal
-use Rattle.coord_commands.proofs.lines.write_whole.Goals.{in-Ok, in-Err+else-ne}
+use Rattle.coord_lines.proofs.writing.write_whole.Goals as goal
+use Rattle.coord_lines.proofs.writing.write_whole.Goals.{in-Ok, in-Err+else-ne}
 
 pub loop-preserved : goal.loop-preserved
 loop-preserved g c =
