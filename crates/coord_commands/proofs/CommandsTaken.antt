@@ -1,8 +1,9 @@
 -- The words of each command are taken.
-use Rattle.std.proofs.Common.{◌≡◌, true, [], ◌∷◌, codes, refl}
-use Rattle.clap.specs.Words.{Text}
+use Rattle.std.proofs.Common.{◌≡◌, true, [], ◌∷◌, codes, refl, None}
+use Rattle.clap.specs.Words.{Text, takes}
 use Rattle.clap.proofs.OnLiterals.{clap_on_literals}
 use Rattle.coord_commands.specs.Laws.{AreTakenAs, CommandsAreTaken}
+use Rattle.coord_commands.specs.Words.{resetd, task_of}
 use Rattle.coord_commands.specs.Words as asked
 
 takes_drill : (name : Text) → AreTakenAs (name ∷ codes "drill" ∷ []) asked.drill
@@ -29,7 +30,7 @@ takes_serve : (name file address : Text) → AreTakenAs (name ∷ codes "serve" 
 unfolding clap_on_literals
 takes_serve name file address = (refl, refl)
 
-takes_behind_dashes : (name file : Text) → AreTakenAs (name ∷ codes "check" ∷ codes "--" ∷ file ∷ []) (asked.check file)
+takes_behind_dashes : (name file : Text) → (takes resetd (name ∷ codes "check" ∷ codes "--" ∷ file ∷ []) ≡ true) × (task_of (name ∷ codes "check" ∷ codes "--" ∷ file ∷ []) ≡ None)
 unfolding clap_on_literals
 takes_behind_dashes name file = (refl, refl)
 

@@ -1,5 +1,5 @@
 -- The law of the program's words.
-use Rattle.std.specs.Prelude.{◌≡◌, true, List, [], ◌∷◌, codes, Some}
+use Rattle.std.specs.Prelude.{◌≡◌, true, List, [], ◌∷◌, codes, None, Some}
 use Rattle.clap.specs.Words.{Text, takes}
 use Rattle.coord_commands.specs.Words.{Asked, resetd, task_of}
 use Rattle.coord_commands.specs.Words as asked
@@ -16,5 +16,5 @@ pub record CommandsAreTaken : Type 0 where
   pub show : (name file : Text) → AreTakenAs (name ∷ codes "show" ∷ (47 ∷ file) ∷ []) (asked.show (47 ∷ file))
   pub migrate : (name file : Text) → AreTakenAs (name ∷ codes "migrate" ∷ (47 ∷ file) ∷ []) (asked.migrate (47 ∷ file))
   pub serve : (name file address : Text) → AreTakenAs (name ∷ codes "serve" ∷ (47 ∷ file) ∷ (49 ∷ address) ∷ []) (asked.serve (47 ∷ file) (49 ∷ address))
-  -- behind `--` any name of a file is taken, as one that begins with a minus sign
-  pub behind_dashes : (name file : Text) → AreTakenAs (name ∷ codes "check" ∷ codes "--" ∷ file ∷ []) (asked.check file)
+  -- `clap` takes `--` before a file, and the words then ask for nothing
+  pub behind_dashes : (name file : Text) → (takes resetd (name ∷ codes "check" ∷ codes "--" ∷ file ∷ []) ≡ true) × (task_of (name ∷ codes "check" ∷ codes "--" ∷ file ∷ []) ≡ None)

@@ -1,5 +1,5 @@
 -- What the program's words ask for.
-use Rattle.std.specs.Prelude.{List, [], ◌∷◌, codes, bytes_eq, Option, Some, None, true, if◌then◌else◌, option_and_then, option_map}
+use Rattle.std.specs.Prelude.{ℕ, ◌==◌, length, List, [], ◌∷◌, codes, bytes_eq, Option, Some, None, true, if◌then◌else◌, option_and_then, option_map}
 use Rattle.clap.specs.Words.{App, Row, Rule, Text, first_of, new_app, new_rule, subcommand_of, with_rule, with_subcommand}
 use Rattle.clap.specs.Simple.{on_top}
 use Rattle.clap.specs.declared.builder.action.ArgAction.TheVariants.{Set}
@@ -23,6 +23,19 @@ asked_of (task.Show file) = show file.now
 asked_of (task.Migrate file) = migrate file.now
 asked_of (task.Init file topology) = init file.now topology.now
 asked_of (task.Serve file address) = serve file.now address.now
+
+-- how many words ask for it, with the program's name
+abbrev pub words_for : Asked → ℕ
+words_for drill = 2
+words_for (check file) = 3
+words_for (show file) = 3
+words_for (migrate file) = 3
+words_for (init file topology) = 4
+words_for (serve file address) = 4
+
+-- it is asked for in so many words
+abbrev pub in_words : ℕ → Asked → Option Asked
+in_words count asked = if words_for asked == count then Some asked else None
 
 -- what a command asks for with a file and, where it has one, a second word
 abbrev pub asked_of_file : Text → Text → List Row → Option Asked
@@ -58,6 +71,7 @@ resetd =
     (with_rule (with_rule (new_app (codes "serve")) (word_named (codes "file"))) (word_named (codes "address"))).top)
     (with_rule (new_app (codes "migrate")) (word_named (codes "file"))).top
 
--- What the words ask for, the first of which is the program's own name: what the command that `clap` finds in them asks for.
+-- What the words ask for, the first of which is the program's own name: what the command that `clap` finds in them asks for,
+-- where no other word is among them, as `--`.
 abbrev pub task_of : List Text → Option Asked
-task_of words = option_and_then (λ found. asked_by found.0 found.1) (subcommand_of resetd words)
+task_of words = option_and_then (in_words (length words)) (option_and_then (λ found. asked_by found.0 found.1) (subcommand_of resetd words))

@@ -3,7 +3,7 @@
 ghost use Rattle.std.specs.Prelude.{◌≡◌, ◌⊎◌, false, true, map, option_and_then, option_map, IfOk, IfErr, Some, None, string_bytes};
 ghost use Rattle.clap.specs.Words.{app_of, found_of, new_app, rows_of, rule_of, subcommand_rows_of, takes, with_rule, with_subcommand};
 ghost use Rattle.coord_commands.specs.declared.fault.Fault.TheVariants.{Usage, OutOfMemory};
-ghost use Rattle.coord_commands.specs.Words.{asked_by, asked_of, asked_of_file, resetd, task_of, word_named};
+ghost use Rattle.coord_commands.specs.Words.{asked_by, asked_of, asked_of_file, in_words, resetd, task_of, word_named, words_for};
 
 use crate::fault::Fault;
 use clap::error::ErrorKind;
@@ -27,6 +27,19 @@ pub enum Task<'a> {
     Serve { file: &'a str, address: &'a str },
 }
 
+impl Task<'_> {
+    /// How many words ask for it, with the program's name.
+    fn words(&self) -> usize
+        ensures { result ≡ words_for (asked_of self.now) }
+    {
+        match self {
+            Task::Drill => 2,
+            Task::Check { .. } | Task::Show { .. } | Task::Migrate { .. } => 3,
+            Task::Init { .. } | Task::Serve { .. } => 4,
+        }
+    }
+}
+
 /// What the program's words ask for, the first of which is its own name: `drill`, `check FILE`,
 /// `show FILE`, `migrate FILE`, `init FILE TOPOLOGY` or `serve FILE ADDRESS`. All else, and what
 /// `clap` refuses, is refused: `help`, `--help`, `-h` and `--version` too.
@@ -38,7 +51,7 @@ pub fn read_words<'a>(alloc: Global, words: &'a [String]) -> Result<Task<'a>, Fa
 {
     let program = program(alloc)?;
     match program.try_get_matches_from(words) {
-        Ok(matches) => task_in(&matches).ok_or(Fault::Usage),
+        Ok(matches) => task_in(&matches, words.len()).ok_or(Fault::Usage),
         Err(error) => match error.kind() {
             ErrorKind::OutOfMemory => Err(Fault::OutOfMemory),
             _ => Err(Fault::Usage),
@@ -100,13 +113,18 @@ fn word_named(alloc: Global, id: &str) -> Arg<'_>
     Arg::new(alloc, id).required(true).action(ArgAction::Set)
 }
 
-/// What the command asks for that `clap` found in the words.
-fn task_in<'a>(matches: &ArgMatches<'a>) -> Option<Task<'a>>
-    ensures { option_map asked_of result ≡ option_and_then (λ found. asked_by found.0 found.1)
-        (subcommand_rows_of matches.now) }
+/// What the command asks for that `clap` found in so many words.
+fn task_in<'a>(matches: &ArgMatches<'a>, count: usize) -> Option<Task<'a>>
+    ensures { option_map asked_of result ≡ option_and_then (in_words count)
+        (option_and_then (λ found. asked_by found.0 found.1) (subcommand_rows_of matches.now)) }
 {
     let (name, found) = matches.subcommand()?;
-    task_named(name, found)
+    let task = task_named(name, found)?;
+    if task.words() == count {
+        Some(task)
+    } else {
+        None
+    }
 }
 
 /// What the command of a name asks for, with the first values of its words.

@@ -1,9 +1,10 @@
-use Rattle.std.proofs.Common.{◌≡◌, ◌⊎◌, ◌∙◌, ap, inl, inr, map, refl, rules, string_bytes, subst, sym, true, List, Option, Some, None}
+use Rattle.std.proofs.Common.{◌≡◌, ◌⊎◌, ◌∙◌, ap, ap₂, inl, length, ℕ, inr, map, refl, rules, string_bytes, subst, sym, true, List, Option, Some, None}
+use Rattle.std.proofs.lemmas.List.{length-map}
 use Rattle.std.specs.Prelude.{IfErr, IfOk, Result, option_and_then, option_map}
 use Rattle.std.specs.Option.{ok_or}
 use Rattle.clap.specs.Words.{App, Row, Text, app_of, is_simple, subcommand_of, takes}
 use Rattle.clap.proofs.OnLiterals.{clap_on_literals}
-use Rattle.coord_commands.specs.Words.{Asked, asked_by, asked_of, resetd, task_of}
+use Rattle.coord_commands.specs.Words.{Asked, asked_by, asked_of, in_words, resetd, task_of}
 use Rattle.coord_commands.specs.declared.fault.Fault.{Fault}
 use Rattle.coord_commands.specs.declared.fault.Fault.TheVariants.{OutOfMemory, Usage}
 use Rattle.coord_commands.specs.declared.words.Task.{Task}
@@ -28,12 +29,14 @@ returns-in-Ok c =
     let words = map (λ s. string_bytes s) c.args.words.now in
     let program_is : app_of c.in_ok-program.program ≡ resetd = search rules in
     let found = c.in-Ok.ensures.matches (ap is_simple program_is ∙ is_simple_resetd) in
-    let is : option_map asked_of c.task_in.result ≡ task_of words =
-    c.task_in.ensures ∙ ap (option_and_then (λ (f : Text × List Row). asked_by f.0 f.1)) (found.1 ∙ ap (λ (a : App). subcommand_of a words) program_is) in
+    let command = found.1 ∙ ap (λ (a : App). subcommand_of a words) program_is in
+    let count : length c.args.words.now ≡ length words = sym (length-map c.args.words.now (λ s. string_bytes s)) in
+    let asked : ℕ → Option (Text × List Row) → Option Asked = λ n f. option_and_then (in_words n) (option_and_then (λ (p : Text × List Row). asked_by p.0 p.1) f) in
+    let is : option_map asked_of c.task_in.result ≡ task_of words = c.task_in.ensures ∙ ap₂ asked count command in
     record {
       ok = subst (λ (r : Result Task Fault). IfOk r (λ task. task_of words ≡ Some (asked_of task))) (sym c.ok_or.ensures.value) (ok_of c.task_in.result (task_of words) is);
       err = subst (λ (r : Result Task Fault). IfErr r (λ fault. (fault ≡ OutOfMemory) ⊎ ((fault ≡ Usage) × (takes resetd words ≡ true → task_of words ≡ None)))) (sym c.ok_or.ensures.value)
-      (err_of words c.task_in.result is);
+          (err_of words c.task_in.result is);
     }
 
 pub returns : goal.returns
