@@ -1,0 +1,9 @@
+use Rattle.std.proofs.Common.{inl, map, string_bytes}
+use Rattle.coord_commands.proofs.RefusedWords.{refused_words}
+use Rattle.coord_commands.proofs.running.run_in.Goals as goal
+
+pub returns-in-Err-clause-done : goal.returns-in-Err-clause-done
+returns-in-Err-clause-done g c =
+    inl
+    (refused_words (map string_bytes c.args.words.now) c.in-Err.fault c.report.result (g.R.Read.remaining c.args.input.now) (g.W.Write.contents c.args.output.now) (g.E.Write.contents c.args.errors.now)
+    (g.E.Write.contents c.report.new.errors) (g.F.Folder.holds c.args.folder.now) (g.F.Folder.says c.args.folder.now) c.in-Err.ensures.err c.report.ensures.status c.report.ensures.told)
