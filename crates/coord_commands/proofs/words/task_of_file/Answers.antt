@@ -1,7 +1,6 @@
-use Rattle.std.proofs.Common.{rules}
+use Rattle.std.proofs.Common.{codes, rules}
 use Rattle.clap.specs.Words.{found_of}
 use Rattle.clap.proofs.WalkLemmas.{first_value-rows}
-use Rattle.std.proofs.Common.{codes}
 use Rattle.coord_commands.proofs.words.task_of_file.Goals as goal
 
 pub returns-in_err-topology : goal.returns-in_err-topology
