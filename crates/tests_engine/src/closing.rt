@@ -50,7 +50,10 @@ fn gives_all<D: Disk, L: Origin, R: Wait>(
             let are_all = shares.len() == MOST && engine.share(rt).is_none();
             Ok(closed(engine, shares).is_some() && are_all)
         }
-        Err(fault) => Err(fault),
+        Err(fault) => {
+            drop(engine);
+            Err(fault)
+        }
     }
 }
 

@@ -45,10 +45,11 @@ fn ledger_on<D: Disk>(alloc: Global, disk: D) -> Result<Ledger<D>, StoreFault> {
 // A ledger with these steps pending.
 fn with_pending<D: Disk>(ledger: Ledger<D>, steps: &[Step]) -> Result<Ledger<D>, Refusal> {
     let mut ledger = ledger;
-    match submit_all(&mut ledger, steps) {
-        Ok(()) => Ok(ledger),
-        Err(refusal) => Err(refusal),
+    if let Err(refusal) = submit_all(&mut ledger, steps) {
+        drop(ledger);
+        return Err(refusal);
     }
+    Ok(ledger)
 }
 
 /// A ledger over a store that is made on this device, with these steps pending.
@@ -69,6 +70,7 @@ pub(crate) fn engine<D: Disk, L: Origin>(
     requires before { ledger.log.trail ≡ L.before }
 {
     if ledger.is_out() {
+        drop(ledger);
         return None;
     }
     Some(Engine::new(alloc, blank, ledger))
@@ -99,7 +101,11 @@ pub(crate) fn closed<D: Disk, L: Origin>(
     let last = shares.pop();
     match engine.close(shares) {
         Err((CloseFault::SharesMissing, engine, shares)) => closed_by(engine, shares, last),
-        _ => None,
+        other => {
+            drop(other);
+            drop(last);
+            None
+        }
     }
 }
 
