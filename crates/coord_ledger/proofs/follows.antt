@@ -2,6 +2,7 @@
 pub mod SameSteps
 pub mod Granted
 pub mod Collectable
+pub mod Given
 pub mod Kept
 pub mod IsOut
 pub mod Follows

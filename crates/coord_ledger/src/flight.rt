@@ -25,12 +25,16 @@ use std::marker::Model;
 pub struct Flight<D: Disk> {
     pub(crate) first: u64,
     pub(crate) steps: Vec<Step>,
-    pub(crate) world: World,
+    /// The settled world when it went out, once the store's own is the one after the steps.
+    pub(crate) before: Option<World>,
+    /// The world after the steps, until it is the store's.
+    pub(crate) next: Option<World>,
     pub(crate) mark: Mark,
     pub(crate) store: Store<D>,
 }
 
 impl<D: Disk> Model for Flight<D> {
+    ghost use Rattle.std.specs.Prelude.{unwrap_or};
     ghost use Rattle.coord_ledger.specs.code.Holding.{IsFlight};
     ghost use Rattle.coord_ledger.specs.ledger.State.{FlightState};
 
@@ -39,12 +43,13 @@ impl<D: Disk> Model for Flight<D> {
     ghost view = { λ f. record {
       first = f.first;
       steps = f.steps.items;
-      world = f.world;
+      world = unwrap_or f.before f.store.world;
       mark = f.mark;
       disk = f.store.disk;
     } };
 
-    ghost invariant = { λ f. IsFlight f.steps.items f.world f.mark f.store };
+    ghost invariant = { λ f. IsFlight f.steps.items (unwrap_or f.before f.store.world) f.next f.mark
+        f.store };
 }
 
 impl<D: Disk> Flight<D> {
@@ -99,8 +104,9 @@ impl<D: Disk> Flight<D> {
         match self.mark {
             Mark::Good => Err(CommitFault::Again),
             Mark::Torn => Err(CommitFault::Stopped),
-            Mark::New => match self.store.commit(&self.steps) {
-                Ok(()) => {
+            Mark::New => match self.store.commit_to(&self.steps, self.next.take()) {
+                Ok(before) => {
+                    self.before = Some(before);
                     self.mark = Mark::Good;
                     Ok(())
                 }
@@ -113,6 +119,16 @@ impl<D: Disk> Flight<D> {
         }
     }
 
+    /// The settled world when it went out.
+    pub(crate) fn world(&self) -> &World
+        ensures { result.now ≡ self.now.world }
+    {
+        match &self.before {
+            Some(before) => before,
+            None => self.store.world(),
+        }
+    }
+
     /// Gives the disk back, and loses what it carried: its ledger stays without its store.
     pub fn into_disk(self) -> D
         ensures { result ≡ self.disk }
@@ -120,7 +136,8 @@ impl<D: Disk> Flight<D> {
         let Flight {
             first: _,
             steps: _,
-            world: _,
+            before: _,
+            next: _,
             mark: _,
             store,
         } = self;

@@ -16,9 +16,10 @@ mod submitting;
 
 use coord_disk::Disk;
 use coord_store::Store;
-use coord_types::{Client, Kind, Step};
+use coord_types::{Client, Kind, Output, Step};
 use coord_world::World;
 use std::alloc::{AllocError, Global};
+use std::collections::VecDeque;
 use std::marker::Model;
 
 /// What was accepted since a base world, and how much of it is settled on the disk. Contracts see
@@ -26,7 +27,7 @@ use std::marker::Model;
 /// once it has stopped, and the disk while the store is at home.
 ///
 /// It keeps all steps since it was adopted, at most 1,024 of them not settled, and beside them the
-/// front world, after all of them, and the settled world.
+/// front world, after all of them, the settled world, and what each step that is not settled gave out.
 #[derive(Drop)]
 pub struct Ledger<D: Disk> {
     alloc: Global,
@@ -34,6 +35,8 @@ pub struct Ledger<D: Disk> {
     trail: Vec<Step>,
     /// The kinds of the replies to the steps of the trail.
     kinds: Vec<Kind>,
+    /// What the steps behind the settled ones gave out: it is released once they are settled.
+    given: VecDeque<Vec<Output>>,
     /// How many steps of the trail are settled.
     done: usize,
     front: World,
@@ -45,7 +48,7 @@ pub struct Ledger<D: Disk> {
 }
 
 impl<D: Disk> Model for Ledger<D> {
-    ghost use Rattle.coord_ledger.specs.code.Holding.{IsLedger, disk_at, out_of};
+    ghost use Rattle.coord_ledger.specs.code.Holding.{IsLedger, disk_at, listed, out_of};
     ghost use Rattle.coord_ledger.specs.ledger.State.{LedgerState};
 
     ghost Value = { LedgerState D };
@@ -65,7 +68,7 @@ impl<D: Disk> Model for Ledger<D> {
       base = l.base;
       trail = l.trail.items;
       settled = l.done;
-    }) l.kinds.items l.front l.settled l.out l.doubt l.store };
+    }) l.kinds.items (listed l.given.items) l.front l.settled l.out l.doubt l.store };
 }
 
 /// Three copies of a world: what is the base, the front and the settled world at first.
@@ -99,6 +102,7 @@ impl<D: Disk> Ledger<D> {
             base,
             trail: Vec::new(alloc),
             kinds: Vec::new(alloc),
+            given: VecDeque::new(alloc),
             done: 0,
             front,
             settled,

@@ -1,16 +1,14 @@
-//! What steps make of a world, and what they release.
+//! What steps release, and whether they are the same.
 
-ghost use Rattle.std.specs.Prelude.{◌≡◌, ◌++◌, ◌↔◌, map, IsTrue, OnOk, IfOk};
-ghost use Rattle.coord_ledger.specs.machine.After.{release_of, releases_of};
-ghost use Rattle.coord_store.specs.Recovered.{AllFresh};
-ghost use Rattle.coord_world.specs.protocol.Legal.{Legal};
-ghost use Rattle.coord_world.specs.protocol.Next.{fold};
-ghost use Rattle.coord_world.specs.protocol.Outputs.{outs};
+ghost use Rattle.std.specs.Prelude.{◌≡◌, ◌+◌, ◌<◌, ◌≤◌, ◌^◌, ◌++◌, ◌↔◌, drop, length, map, take, IsTrue, OnOk, IfOk};
+ghost use Rattle.coord_ledger.specs.code.Holding.{listed, released_from};
+ghost use Rattle.coord_ledger.specs.machine.After.{release_of};
 
 use crate::Release;
 use coord_types::{Output, Step};
 use coord_world::World;
 use std::alloc::{AllocError, Global};
+use std::collections::VecDeque;
 
 /// Whether these are the same step.
 pub fn is_same_step(a: &Step, b: &Step) -> bool
@@ -46,17 +44,30 @@ pub fn push_all(rows: &mut Vec<Release>, step: u64, outputs: &[Output]) -> Resul
     Ok(())
 }
 
-/// Takes steps that are fresh one after the other, and gives what they release.
-pub fn settle(alloc: Global, world: &mut World, steps: &[Step]) -> Result<Vec<Release>, AllocError>
-    requires legal { Legal world.old }
-    requires fresh { AllFresh world.old world.old steps.now }
-    ensures world { OnOk result (world.new ≡ fold world.old steps.now) }
-    ensures released { IfOk result (λ rows. rows.items ≡ releases_of (outs world.old steps.now)) }
+/// What the first so many of some steps release, which are numbered from here on and gave these out.
+pub fn released(
+    alloc: Global,
+    first: u64,
+    given: &VecDeque<Vec<Output>>,
+    size: usize,
+) -> Result<Vec<Release>, AllocError>
+    requires numbered { first + size < 2 ^ 64 }
+    requires within { size ≤ length given.now.items }
+    ensures { IfOk result (λ rows. rows.items ≡
+        released_from first (take size (listed given.now.items))) }
 {
     let mut rows = Vec::new(alloc);
-    for step in steps {
-        let outcome = world.apply(step)?;
-        push_all(&mut rows, outcome.reply.step, &outcome.outputs)?;
+    for place in 0..size {
+        push_all(&mut rows, first + place as u64, &given[place])?;
     }
     Ok(rows)
+}
+
+/// Drops what the first so many of some steps gave out.
+pub fn drop_first(given: &mut VecDeque<Vec<Output>>, size: usize)
+    ensures { listed given.new.items ≡ drop size (listed given.old.items) }
+{
+    for _place in 0..size {
+        given.pop_front();
+    }
 }

@@ -1,7 +1,7 @@
 -- Steps that are fresh one after the other.
 use Rattle.std.proofs.Common.{◌≡◌, ℕ, ◌+◌, ◌<◌, ◌≤◌, ◌^◌, suc, List, [], ◌∷◌, ◌++◌, length, take, drop, get_or, refl, sym, ap, ◌∙◌, subst, add-one, arith}
 use Rattle.std.proofs.lemmas.List.{take-append-drop}
-use Rattle.std.proofs.Math.Seq.{drop-cons, take-suc}
+use Rattle.std.proofs.Math.Seq.{drop-cons, take-length, take-suc}
 use Rattle.coord_types.specs.declared.steps.Step.{Step}
 use Rattle.coord_world.specs.protocol.Acceptance.{IsFresh}
 use Rattle.coord_world.specs.protocol.Next.{fold, next}
@@ -10,8 +10,9 @@ use Rattle.std.specs.List.{AllByRecursion}
 use Rattle.coord_types.specs.Messages.{brought}
 use Rattle.coord_types.specs.declared.steps.Step.TheVariants.{Order, Take, Clear}
 use Rattle.coord_batch.specs.Batches.{BringsRightly, IsNumbered, IsWritable}
-use Rattle.coord_world.specs.protocol.Ranges.{InRange, farthest}
-use Rattle.coord_world.proofs.Facade.{brought_within, fresh_count, itself, same_version}
+use Rattle.coord_world.specs.laws.Trails.{IsSound}
+use Rattle.coord_world.specs.protocol.Ranges.{InRange, StepInRange, farthest}
+use Rattle.coord_world.proofs.Facade.{EachFresh, brought_within, fresh_count, itself, same_version, trail_keeps_worlds, trail_of}
 use Rattle.coord_store.specs.Recovered.{AllFresh}
 
 -- the one that stands here is
@@ -75,3 +76,22 @@ writable version (Clear r) numbered brings = tt
 pub all_writable : (version : ℕ) (steps : List Step) → AllByRecursion IsNumbered steps → AllByRecursion (BringsRightly version) steps → AllByRecursion (IsWritable version) steps
 all_writable version [] numbered brings = tt
 all_writable version (s ∷ steps) numbered brings = (writable version s numbered.0 brings.0, all_writable version steps numbered.1 brings.1)
+
+-- ---- the worlds on the way of such steps
+
+-- each step is fresh over the world before it, and in its ranges
+pub each_fresh : (steps : List Step) (settled w : World) → AllByRecursion StepInRange steps → AllFresh settled w steps → EachFresh w steps
+each_fresh [] settled w named fresh = tt
+each_fresh (s ∷ steps) settled w named fresh = ((itself w settled s fresh.0, named.0), each_fresh steps settled (next w s) named.1 fresh.1)
+
+-- they lead to a legal world within its ranges
+pub led_soundly : (steps : List Step) (w : World) → IsSound w → EachFresh w steps → IsSound (fold w steps)
+led_soundly steps w sound each = subst (λ l. IsSound (fold w l)) (take-length steps) (trail_keeps_worlds w steps (length steps) (trail_of steps w sound each))
+
+-- and in version 1 none of them brings a distance
+pub all_brought : (steps : List Step) (w : World) → IsSound w → EachFresh w steps → AllByRecursion (BringsRightly w.version) steps
+all_brought [] w sound each = tt
+all_brought (s ∷ steps) w sound each = (
+  brings_rightly w w s sound.in_range each.0.0,
+  subst (λ v. AllByRecursion (BringsRightly v) steps) (same_version w s) (all_brought steps (next w s) (led_soundly (s ∷ []) w sound (each.0, tt)) each.1),
+)

@@ -16,7 +16,8 @@
 //! 5. But for these single bytes nothing is written where a reader of the device looks.
 //!
 //! `Store::create` makes a store, `Store::open` answers exactly what the bytes of the device give,
-//! and `Store::commit` takes steps. The main theorem stands on these: at each moment of a commit, also
+//! and `Store::commit` takes steps; `Store::commit_to` does so with the world after them where its
+//! caller has made it already. The main theorem stands on these: at each moment of a commit, also
 //! inside its checkpoint, whatever a crash may leave gives the world from before it or from after
 //! it, and once it has answered Ok the one from after it. The type `Store` keeps that of its
 //! images, so that the layers above speak of its world alone (`Store::images_give_world`).
@@ -33,4 +34,5 @@ mod store;
 mod writing;
 
 pub use faults::{CommitFault, StoreFault};
+pub use steps::take_all;
 pub use store::Store;

@@ -1,6 +1,6 @@
 //! Steps that a world takes, one after the other.
 
-ghost use Rattle.std.specs.Prelude.{◌≡◌, ◌⊎◌, ◌↔◌, ℕ, IsTrue, OnOk, IfErr};
+ghost use Rattle.std.specs.Prelude.{◌≡◌, ◌⊎◌, ◌↔◌, ℕ, IsTrue, OnOk, IfOk, IfErr, IfSome};
 ghost use Rattle.std.specs.List.{AllByRecursion};
 ghost use Rattle.coord_batch.specs.Batches.{BringsRightly};
 ghost use Rattle.coord_store.specs.Recovered.{AllFresh};
@@ -9,6 +9,7 @@ ghost use Rattle.coord_store.specs.declared.faults.StoreFault.TheVariants.{OutOf
 ghost use Rattle.coord_world.specs.protocol.Acceptance.{IsFresh};
 ghost use Rattle.coord_world.specs.protocol.Legal.{Legal};
 ghost use Rattle.coord_world.specs.protocol.Next.{fold};
+ghost use Rattle.coord_world.specs.protocol.Ranges.{StepInRange};
 
 use crate::StoreFault;
 use coord_types::Step;
@@ -28,6 +29,43 @@ pub fn take_all(world: &mut World, steps: &[Step]) -> Result<(), AllocError>
         world.apply(step)?;
     }
     Ok(())
+}
+
+/// Does nothing: its contract is what the types of steps keep.
+fn within_ranges(steps: &[Step])
+    ensures { AllByRecursion StepInRange steps.now }
+{
+    for step in steps {
+        step.within_ranges();
+    }
+}
+
+/// The world after steps, each of them fresh, with the world from before them all as the settled
+/// one: the one that was made of them before, or else a copy that takes them.
+pub(crate) fn led_to(
+    world: &World,
+    steps: &[Step],
+    made: Option<World>,
+) -> Result<World, AllocError>
+    requires legal { Legal world.now }
+    requires fresh { AllFresh world.now world.now steps.now }
+    requires made { IfSome made (λ next. next ≡ fold world.now steps.now) }
+    ensures world { IfOk result (λ next. next ≡ fold world.now steps.now) }
+    ensures brought { OnOk result (AllByRecursion (BringsRightly world.now.version) steps.now) }
+    ensures legal { IfOk result (λ next. Legal next) }
+{
+    match made {
+        Some(next) => {
+            world.ranges();
+            within_ranges(steps);
+            Ok(next)
+        }
+        None => {
+            let mut next = world.copy()?;
+            take_all(&mut next, steps)?;
+            Ok(next)
+        }
+    }
 }
 
 /// Whether the world takes the step, with `settled` as the settled world.

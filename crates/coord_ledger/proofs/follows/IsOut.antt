@@ -1,18 +1,25 @@
 -- A flight that is the ledger's own, and how the ledger takes it back.
-use Rattle.std.proofs.Common.{◌≡◌, ℕ, ◌+◌, false, List, length, take, drop, Option, Some, None, is_some, refl, sym, ap, ◌∙◌, subst}
+use Rattle.std.proofs.Common.{◌≡◌, ℕ, ◌+◌, false, List, ◌≤◌, length, take, drop, Option, Some, None, Vec, is_some, refl, sym, ap, ◌∙◌, subst, arith}
+use Rattle.std.proofs.lemmas.List.{length-take}
+use Rattle.std.specs.declared.alloc.Global.{Global}
 use Rattle.coord_store.specs.Kept.{Kept}
+use Rattle.coord_types.specs.declared.outputs.Output.{Output}
 use Rattle.coord_types.specs.declared.steps.Kind.{Kind}
 use Rattle.coord_types.specs.declared.steps.Step.{Step}
 use Rattle.coord_world.specs.protocol.Next.{fold}
 use Rattle.coord_world.specs.protocol.NumberedWorld.{World}
-use Rattle.coord_ledger.specs.code.Holding.{IsFlight, IsLedger, disk_at, out_of}
+use Rattle.coord_world.specs.protocol.Outputs.{outs}
+use Rattle.coord_ledger.specs.code.Holding.{IsFlight, IsLedger, disk_at, listed, out_of, outputs_of, released_from}
 use Rattle.coord_ledger.specs.declared.mark.Mark.{Mark}
 use Rattle.coord_ledger.specs.declared.mark.Mark.TheVariants.{Good, Torn}
 use Rattle.coord_ledger.specs.ledger.Calls.{with_out}
 use Rattle.coord_ledger.specs.ledger.Follows.{IsOut}
 use Rattle.coord_ledger.specs.ledger.State.{FlightState, LedgerState}
-use Rattle.coord_ledger.specs.machine.Log.{Log, pending, settled_count, with_settled}
+use Rattle.coord_ledger.specs.machine.After.{releases_of}
+use Rattle.coord_ledger.specs.machine.Log.{Log, pending, settled_count, settled_world, with_settled}
+use Rattle.coord_ledger.proofs.follows.Given.{listed-length, outputs_of-length, outputs_of-take, released_are}
 use Rattle.coord_ledger.proofs.follows.Kept.{back_good, back_torn}
+use Rattle.coord_ledger.proofs.machine.Logs.{count_after}
 
 module _ {D : Type 0} where
   -- what a ledger and a flight are to contracts, of their parts
@@ -31,32 +38,33 @@ module _ {D : Type 0} where
   same_away log out n m doubt store None l seen gone same = let away : Option (Kept D) = None in ap (λ k. ledger_of log k doubt away) same ∙ ap (λ (x : LedgerState D). with_out x m) seen
 
   -- a ledger of which a flight is out
-  away_of : (log : Log) (kinds : List Kind) (front settled : World) (out n : ℕ) (doubt : Option ℕ) (store : Option (Kept D)) → IsLedger log kinds front settled out doubt store → out_of store out ≡ Some n
-      → IsLedger {D = D} log kinds front settled n doubt None
-  away_of log kinds front settled out n doubt None is flown = let same : out ≡ n = cc in subst (λ m. IsLedger {D = D} log kinds front settled m doubt None) same is
-  away_of log kinds front settled out n doubt (Some kept) is flown = cc
+  away_of : (log : Log) (kinds : List Kind) (given : List (List Output)) (front settled : World) (out n : ℕ) (doubt : Option ℕ) (store : Option (Kept D)) → IsLedger log kinds given front settled out doubt store → out_of store out ≡ Some n
+      → IsLedger {D = D} log kinds given front settled n doubt None
+  away_of log kinds given front settled out n doubt None is flown = let same : out ≡ n = cc in subst (λ m. IsLedger {D = D} log kinds given front settled m doubt None) same is
+  away_of log kinds given front settled out n doubt (Some kept) is flown = cc
 
-  module _ (log : Log) (kinds : List Kind) (front settled : World) (out : ℕ) (doubt : Option ℕ) (store : Option (Kept D)) (l : LedgerState D) (seen : ledger_of log out doubt store ≡ l) (is : IsLedger log kinds front settled out doubt store) (first : ℕ) (steps : List Step) (world : World) (mark : Mark) (kept : Kept D) (f : FlightState D) (flown : flight_of first steps world mark kept ≡ f) (flight : IsFlight steps world mark kept) (own : IsOut l f) where
+  module _ (log : Log) (kinds : List Kind) (given : List (List Output)) (front settled : World) (out : ℕ) (doubt : Option ℕ) (store : Option (Kept D)) (l : LedgerState D) (seen : ledger_of log out doubt store ≡ l) (is : IsLedger log kinds given front settled out doubt store) (first : ℕ) (steps : List Step) (world : World) (next : Option World) (mark : Mark) (kept : Kept D) (f : FlightState D) (flown : flight_of first steps world mark kept ≡ f) (flight : IsFlight steps world next mark kept) (own : IsOut l f) where
     parts : IsOut (ledger_of log out doubt store) (flight_of first steps world mark kept)
     parts = subst (λ x. IsOut x (flight_of first steps world mark kept)) (sym seen) (subst (λ y. IsOut l y) (sym flown) own)
 
-    away : IsLedger {D = D} log kinds front settled (length steps) doubt None
-    away = away_of log kinds front settled out (length steps) doubt store is parts.size
+    away : IsLedger {D = D} log kinds given front settled (length steps) doubt None
+    away = away_of log kinds given front settled out (length steps) doubt store is parts.size
 
-    of_mark : (m : Mark) → mark ≡ m → IsFlight steps world m kept
-    of_mark m same = subst (λ x. IsFlight steps world x kept) same flight
+    of_mark : (m : Mark) → mark ≡ m → IsFlight steps world next m kept
+    of_mark m same = subst (λ x. IsFlight steps world next x kept) same flight
 
-    pub took_torn : (n : ℕ) → n ≡ length steps → mark ≡ Torn → IsLedger log kinds front settled out (Some n) (Some kept)
+    pub took_torn : (n : ℕ) → n ≡ length steps → mark ≡ Torn → IsLedger log kinds given front settled out (Some n) (Some kept)
     took_torn n size torn =
-        subst (λ m. IsLedger log kinds front settled out (Some m) (Some kept)) (sym size) (back_torn log kinds front settled (length steps) out doubt kept steps world away (of_mark Torn torn) parts.world refl parts.steps)
+        subst (λ m. IsLedger log kinds given front settled out (Some m) (Some kept)) (sym size) (back_torn log kinds given front settled (length steps) out doubt kept steps world next away (of_mark Torn torn) parts.world refl parts.steps)
 
-    pub took_good : (n : ℕ) (later : World) → n ≡ length steps → mark ≡ Good → later ≡ fold world steps → IsLedger (with_settled log n) kinds front later out doubt (Some kept)
-    took_good n later size good led =
-        subst (λ m. IsLedger (with_settled log m) kinds front later out doubt (Some kept)) (sym size) (back_good log kinds front settled later (length steps) out doubt kept steps world away (of_mark Good good) parts.world refl parts.steps led)
+    pub took_good : (n : ℕ) (left : List (List Output)) (later : World) → n ≡ length steps → mark ≡ Good → left ≡ drop n given → later ≡ fold world steps → IsLedger (with_settled log n) kinds left front later out doubt (Some kept)
+    took_good n left later size good rest led =
+        subst (λ m. IsLedger (with_settled log m) kinds left front later out doubt (Some kept)) (sym size)
+        (back_good log kinds given left front settled later (length steps) out doubt kept steps world next away (of_mark Good good) parts.world refl parts.steps (rest ∙ ap (λ m. drop m given) size) led)
 
   -- ---- whether it is the own one
 
-  module _ (log : Log) (kinds : List Kind) (front settled : World) (out : ℕ) (doubt : Option ℕ) (store : Option (Kept D)) (is : IsLedger log kinds front settled out doubt store) (first : ℕ) (steps : List Step) (world : World) (mark : Mark) (kept : Kept D) where
+  module _ (log : Log) (kinds : List Kind) (given : List (List Output)) (front settled : World) (out : ℕ) (doubt : Option ℕ) (store : Option (Kept D)) (is : IsLedger log kinds given front settled out doubt store) (first : ℕ) (steps : List Step) (world : World) (mark : Mark) (kept : Kept D) where
     pub own_is : is_some store ≡ false → length steps ≡ out → first ≡ settled_count log + 1 → world ≡ settled → steps ≡ take out (drop log.settled log.trail) → IsOut (ledger_of log out doubt store) (flight_of first steps world mark kept)
     own_is gone size number at same = record {
       size = out_is store gone ∙ ap Some (sym size);
@@ -71,3 +79,20 @@ module _ {D : Type 0} where
 
     pub own_steps : length steps ≡ out → IsOut (ledger_of log out doubt store) (flight_of first steps world mark kept) → steps ≡ take out (drop log.settled log.trail)
     own_steps size own = own.steps ∙ ap (λ n. take n (pending log)) size
+
+  -- ---- what it releases
+
+  module _ (log : Log) (kinds : List Kind) (front settled : World) (out : ℕ) (doubt : Option ℕ) (store : Option (Kept D)) (f : FlightState D) (own : IsOut (ledger_of log out doubt store) f) where
+    -- its steps have given something out, each
+    pub given_within : (vs : List (Vec Output Global)) → IsLedger log kinds (listed vs) front settled out doubt store → length f.steps ≤ length vs
+    given_within vs is =
+        omega (arith, listed-length vs, ap length is.given_is, outputs_of-length (pending log) (settled_world log), ap length own.steps, length-take (length f.steps) (pending log))
+
+    -- and that is what it releases
+    pub gives_out : (given : List (List Output)) (first size : ℕ) → IsLedger log kinds given front settled out doubt store → first ≡ settled_count log + 1 → size ≡ length f.steps → released_from first (take size given) ≡ releases_of (outs f.world f.steps)
+    gives_out given first size is number all =
+        let w = settled_world log in
+        let steps : take size (pending log) ≡ f.steps = ap (λ n. take n (pending log)) all ∙ sym own.steps in
+        ap (λ n. released_from n (take size given)) (number ∙ ap (λ n. n + 1) (sym (count_after log log.settled is.consistent.within)))
+        ∙ ap (released_from (w.count + 1)) (ap (take size) is.given_is ∙ outputs_of-take size (pending log) w ∙ ap (outputs_of w) steps)
+        ∙ released_are f.steps w ∙ ap (λ v. releases_of (outs v f.steps)) (sym own.world)

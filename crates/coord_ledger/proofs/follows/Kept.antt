@@ -1,7 +1,7 @@
 -- What the types of a ledger and of a flight keep, through each call.
-use Rattle.std.proofs.Common.{◌≡◌, ℕ, ◌+◌, ◌≤◌, false, List, [], ◌∷◌, ◌++◌, length, take, Option, Some, None, IfSome, IfNone, Ok, is_some, refl, sym, ap, ◌∙◌, subst, arith}
+use Rattle.std.proofs.Common.{◌≡◌, ℕ, ◌+◌, ◌≤◌, false, List, [], ◌∷◌, ◌++◌, length, take, drop, Option, Some, None, IfSome, IfNone, Ok, is_some, refl, sym, ap, ◌∙◌, subst, arith}
 use Rattle.std.proofs.Math.Seq.{take-length}
-use Rattle.std.proofs.lemmas.List.{length-append, length-take, take-append-le}
+use Rattle.std.proofs.lemmas.List.{drop-drop, length-append, length-take, take-append-le}
 use Rattle.std.specs.List.{AllByRecursion}
 use Rattle.coord_batch.specs.Batches.{IsNumbered}
 use Rattle.coord_node.specs.Steps.{kind}
@@ -9,6 +9,7 @@ use Rattle.coord_store.proofs.Freshness.{fold-push}
 use Rattle.coord_store.specs.Kept.{Kept}
 use Rattle.coord_store.specs.Recovered.{AllFresh}
 use Rattle.coord_types.specs.declared.limits.TheConstants.{MAX_BATCH_STEPS}
+use Rattle.coord_types.specs.declared.outputs.Output.{Output}
 use Rattle.coord_types.specs.declared.steps.Kind.{Kind}
 use Rattle.coord_types.specs.declared.steps.Step.{Step}
 use Rattle.coord_types.specs.declared.steps.Step.TheVariants.{Order, Take, Clear}
@@ -18,16 +19,18 @@ use Rattle.coord_world.specs.protocol.Acceptance.{IsFresh}
 use Rattle.coord_world.specs.protocol.Legal.{Legal}
 use Rattle.coord_world.specs.protocol.Next.{fold, next}
 use Rattle.coord_world.specs.protocol.NumberedWorld.{World, state}
+use Rattle.coord_world.specs.protocol.Outputs.{outputs}
 use Rattle.coord_world.specs.protocol.Ranges.{StepInRange}
-use Rattle.coord_ledger.specs.code.Holding.{IsAway, IsFlight, IsHome, IsLedger, doubted, kinds_of, out_of}
+use Rattle.coord_ledger.specs.code.Holding.{IsAway, IsFlight, IsHome, IsLedger, doubted, kinds_of, out_of, outputs_of}
 use Rattle.coord_ledger.specs.declared.mark.Mark.TheVariants.{New, Good, Torn}
 use Rattle.coord_ledger.specs.machine.Consistent.{IsConsistentLog}
 use Rattle.coord_ledger.specs.machine.Log.{Log, accepted_count, front_world, pending, settled_count, settled_world, with_settled, with_step, world_after}
 use Rattle.coord_ledger.specs.machine.Submits.{verdict}
+use Rattle.coord_ledger.proofs.follows.Given.{outputs_of-drop, outputs_of-push}
 use Rattle.coord_ledger.proofs.machine.ConsistentSteps.{accepted_stays}
 use Rattle.coord_ledger.proofs.machine.Verdicts.{verdict_accepts}
 use Rattle.coord_ledger.proofs.machine.ReplyKinds.{kinds_of-length, kinds_of-push}
-use Rattle.coord_ledger.proofs.machine.Logs.{count_after, count_front, fresh_first, log_stays, world-add}
+use Rattle.coord_ledger.proofs.machine.Logs.{count_after, count_front, fresh_first, front_is, log_stays, pending_with, world-add}
 
 -- an order that is fresh is numbered from 1
 numbered_one : (w settled : World) (s : Step) → IsFresh w settled s → IsNumbered s
@@ -47,6 +50,21 @@ away_with log s out away = record { some = away.some; most = away.most; within =
 length_next : (xs : List Step) → length (take MAX_BATCH_STEPS xs) ≤ MAX_BATCH_STEPS
 length_next xs = omega (arith, length-take MAX_BATCH_STEPS xs)
 
+-- what is given out with one step more
+given_with : (log : Log) (s : Step) (given : List (List Output)) (front : World) → log.settled ≤ length log.trail → IsConsistentLog log → given ≡ outputs_of (settled_world log) (pending log) → front ≡ front_world log
+    → given ++ outputs front s ∷ [] ≡ outputs_of (settled_world (with_step log s)) (pending (with_step log s))
+given_with log s given front le is same led =
+    let w = settled_world log in
+    let behind : front ≡ fold w (pending log) = led ∙ sym (front_is log is) in
+    ap (λ l. l ++ outputs front s ∷ []) same ∙ ap (λ v. outputs_of w (pending log) ++ outputs v s ∷ []) behind ∙ sym (outputs_of-push (pending log) w s)
+    ∙ ap (outputs_of w) (sym (pending_with log s is)) ∙ ap (λ v. outputs_of v (pending (with_step log s))) (sym (ap (fold log.base) (take-append-le log.settled log.trail (s ∷ []) le)))
+
+-- and what is left once the next n steps are settled
+given_behind : (log : Log) (n : ℕ) (given : List (List Output)) → given ≡ outputs_of (settled_world log) (pending log) → drop n given ≡ outputs_of (settled_world (with_settled log n)) (pending (with_settled log n))
+given_behind log n given same =
+    ap (drop n) same ∙ outputs_of-drop n (pending log) (settled_world log) ∙ ap (λ v. outputs_of v (drop n (pending log))) (sym (world-add log log.settled n))
+    ∙ ap (outputs_of (world_after log (log.settled + n))) (drop-drop n log.settled log.trail)
+
 module _ {D : Type 0} where
   -- ---- one step more
 
@@ -62,13 +80,14 @@ module _ {D : Type 0} where
     if_away_with None out away = away_with log s out away
     if_away_with (Some kept) out away = tt
 
-    pub accepted : (kinds : List Kind) (front settled : World) (out : ℕ) (store : Option (Kept D)) (k : Kind) → IsLedger {D = D} log kinds front settled out None store → IsConsistentLog (with_step log s)
-        → k ≡ kind (state front) s → IsLedger (with_step log s) (kinds ++ k ∷ []) (next front s) settled out None store
-    accepted kinds front settled out store k is consistent same =
+    pub accepted : (kinds : List Kind) (given : List (List Output)) (front settled : World) (out : ℕ) (store : Option (Kept D)) (k : Kind) → IsLedger {D = D} log kinds given front settled out None store → IsConsistentLog (with_step log s)
+        → k ≡ kind (state front) s → IsLedger (with_step log s) (kinds ++ k ∷ []) (given ++ outputs front s ∷ []) (next front s) settled out None store
+    accepted kinds given front settled out store k is consistent same =
         let le = is.consistent.within in
         record {
           consistent = consistent;
           kinds_are = ap (λ l. l ++ k ∷ []) is.kinds_are ∙ ap (λ x. kinds_of log.base log.trail ++ x ∷ []) (same ∙ ap (λ w. kind (state w) s) is.front_is) ∙ sym (kinds_of-push log.trail log.base s);
+          given_is = given_with log s given front le is.consistent is.given_is is.front_is;
           front_is = ap (λ w. next w s) is.front_is ∙ sym (fold-push log.trail log.base s);
           settled_is = is.settled_is ∙ sym (ap (fold log.base) (take-append-le log.settled log.trail (s ∷ []) le));
           doubt_within = tt;
@@ -79,11 +98,12 @@ module _ {D : Type 0} where
   -- ---- flights
 
   -- the next steps go out
-  pub flies : (log : Log) (kinds : List Kind) (front settled : World) (out : ℕ) (doubt : Option ℕ) (kept : Kept D) (steps : List Step) (world : World) → IsLedger log kinds front settled out doubt (Some kept) → doubt ≡ None
-      → steps ≡ take MAX_BATCH_STEPS (pending log) → world ≡ settled → 1 ≤ length steps → IsFlight steps world New kept
-  flies log kinds front settled out doubt kept steps world is going same at some =
+  pub flies : (log : Log) (kinds : List Kind) (given : List (List Output)) (front settled : World) (out : ℕ) (doubt : Option ℕ) (kept : Kept D) (steps : List Step) (later : World) → IsLedger log kinds given front settled out doubt (Some kept) → doubt ≡ None
+      → steps ≡ take MAX_BATCH_STEPS (pending log) → later ≡ fold (settled_world log) steps → 1 ≤ length steps → IsFlight steps kept.world (Some later) New kept
+  flies log kinds given front settled out doubt kept steps later is going same led some =
       let w = settled_world log in
-      let here : world ≡ w = at ∙ is.settled_is in
+      let world = kept.world in
+      let here : world ≡ w = is.home.world_is in
       let fresh : AllFresh w w (take MAX_BATCH_STEPS (pending log)) = fresh_first MAX_BATCH_STEPS (pending log) w w is.consistent.fresh in
       let flown : AllFresh world world steps = subst (λ l. AllFresh world world l) (sym same) (subst (λ v. AllFresh v v (take MAX_BATCH_STEPS (pending log))) (sym here) fresh) in
       record {
@@ -91,18 +111,20 @@ module _ {D : Type 0} where
         most = omega (arith, ap length same, length_next (pending log));
         numbered = numbered steps world world flown;
         fresh = flown;
-        world_is = is.home.world_is ∙ sym here;
+        world_is = refl;
         torn_is = is.home.torn_is ∙ ap (doubted log) going;
+        next_is = led ∙ ap (λ v. fold v steps) (sym here);
       }
 
   -- a flight comes back that was torn
-  pub back_torn : (log : Log) (kinds : List Kind) (front settled : World) (out any : ℕ) (doubt : Option ℕ) (kept : Kept D) (steps : List Step) (world : World) → IsLedger {D = D} log kinds front settled out doubt None → IsFlight steps world Torn kept
-      → world ≡ settled_world log → out ≡ length steps → steps ≡ take (length steps) (pending log) → IsLedger log kinds front settled any (Some (length steps)) (Some kept)
-  back_torn log kinds front settled out any doubt kept steps world is flight at size same =
+  pub back_torn : (log : Log) (kinds : List Kind) (given : List (List Output)) (front settled : World) (out any : ℕ) (doubt : Option ℕ) (kept : Kept D) (steps : List Step) (world : World) (next : Option World) → IsLedger {D = D} log kinds given front settled out doubt None → IsFlight steps world next Torn kept
+      → world ≡ settled_world log → out ≡ length steps → steps ≡ take (length steps) (pending log) → IsLedger log kinds given front settled any (Some (length steps)) (Some kept)
+  back_torn log kinds given front settled out any doubt kept steps world next is flight at size same =
       let flown : fold world steps ≡ world_after log (log.settled + length steps) = ap (λ w. fold w steps) at ∙ ap (fold (settled_world log)) same ∙ sym (world-add log log.settled (length steps)) in
       record {
         consistent = is.consistent;
         kinds_are = is.kinds_are;
+        given_is = is.given_is;
         front_is = is.front_is;
         settled_is = is.settled_is;
         doubt_within = (flight.some, omega (arith, is.away.within, size));
@@ -111,16 +133,17 @@ module _ {D : Type 0} where
       }
 
   -- one that was committed
-  pub back_good : (log : Log) (kinds : List Kind) (front settled later : World) (out any : ℕ) (doubt : Option ℕ) (kept : Kept D) (steps : List Step) (world : World) → IsLedger {D = D} log kinds front settled out doubt None → IsFlight steps world Good kept
-      → world ≡ settled_world log → out ≡ length steps → steps ≡ take (length steps) (pending log) → later ≡ fold world steps
-      → IsLedger (with_settled log (length steps)) kinds front later any doubt (Some kept)
-  back_good log kinds front settled later out any doubt kept steps world is flight at size same led =
+  pub back_good : (log : Log) (kinds : List Kind) (given left : List (List Output)) (front settled later : World) (out any : ℕ) (doubt : Option ℕ) (kept : Kept D) (steps : List Step) (world : World) (next : Option World) → IsLedger {D = D} log kinds given front settled out doubt None
+      → IsFlight steps world next Good kept → world ≡ settled_world log → out ≡ length steps → steps ≡ take (length steps) (pending log) → left ≡ drop (length steps) given → later ≡ fold world steps
+      → IsLedger (with_settled log (length steps)) kinds left front later any doubt (Some kept)
+  back_good log kinds given left front settled later out any doubt kept steps world next is flight at size same rest led =
       let within : log.settled + length steps ≤ length log.trail = omega (arith, is.away.within, size) in
       let flown : fold world steps ≡ settled_world (with_settled log (length steps)) = ap (λ w. fold w steps) at ∙ ap (fold (settled_world log)) same ∙ sym (world-add log log.settled (length steps)) in
       let none = is.away.going in
       record {
         consistent = log_stays.settled log (length steps) is.consistent within;
         kinds_are = is.kinds_are;
+        given_is = rest ∙ given_behind log (length steps) given is.given_is;
         front_is = is.front_is;
         settled_is = led ∙ flown;
         doubt_within = subst (λ o. IfSome o (λ b. (1 ≤ b) × (log.settled + length steps + b ≤ length log.trail))) (sym none) tt;
@@ -129,46 +152,61 @@ module _ {D : Type 0} where
       }
 
   -- a ledger that has stopped has its store back
-  pub stopped_is_home : (log : Log) (kinds : List Kind) (front settled : World) (out : ℕ) (doubt : Option ℕ) (store : Option (Kept D)) → IsLedger log kinds front settled out doubt store → IfSome doubt (λ _. out_of store out ≡ None)
-  stopped_is_home log kinds front settled out None store is = tt
-  stopped_is_home log kinds front settled out (Some b) None is = let none : Some b ≡ None = is.away.going in cc
-  stopped_is_home log kinds front settled out (Some b) (Some kept) is = refl
+  pub stopped_is_home : (log : Log) (kinds : List Kind) (given : List (List Output)) (front settled : World) (out : ℕ) (doubt : Option ℕ) (store : Option (Kept D)) → IsLedger log kinds given front settled out doubt store → IfSome doubt (λ _. out_of store out ≡ None)
+  stopped_is_home log kinds given front settled out None store is = tt
+  stopped_is_home log kinds given front settled out (Some b) None is = let none : Some b ≡ None = is.away.going in cc
+  stopped_is_home log kinds given front settled out (Some b) (Some kept) is = refl
 
   -- ---- what the front takes
 
-  pub legal_front : (log : Log) (kinds : List Kind) (front settled : World) (out : ℕ) (doubt : Option ℕ) (store : Option (Kept D)) → IsLedger log kinds front settled out doubt store → Legal front
-  legal_front log kinds front settled out doubt store is =
+  pub legal_front : (log : Log) (kinds : List Kind) (given : List (List Output)) (front settled : World) (out : ℕ) (doubt : Option ℕ) (store : Option (Kept D)) → IsLedger log kinds given front settled out doubt store → Legal front
+  legal_front log kinds given front settled out doubt store is =
       subst Legal (ap (fold log.base) (take-length log.trail) ∙ sym is.front_is) (trail_keeps_worlds log.base log.trail (length log.trail) is.consistent.trail).legal
 
-  pub legal_settled : (log : Log) (kinds : List Kind) (front settled : World) (out : ℕ) (doubt : Option ℕ) (store : Option (Kept D)) → IsLedger log kinds front settled out doubt store → Legal settled
-  legal_settled log kinds front settled out doubt store is =
+  pub legal_settled : (log : Log) (kinds : List Kind) (given : List (List Output)) (front settled : World) (out : ℕ) (doubt : Option ℕ) (store : Option (Kept D)) → IsLedger log kinds given front settled out doubt store → Legal settled
+  legal_settled log kinds given front settled out doubt store is =
       subst Legal (sym is.settled_is) (trail_keeps_worlds log.base log.trail log.settled is.consistent.trail).legal
 
-  pub fresh_front : (log : Log) (kinds : List Kind) (front settled : World) (out : ℕ) (doubt : Option ℕ) (store : Option (Kept D)) (s : Step) (k : Kind) → IsLedger log kinds front settled out doubt store
+  pub fresh_front : (log : Log) (kinds : List Kind) (given : List (List Output)) (front settled : World) (out : ℕ) (doubt : Option ℕ) (store : Option (Kept D)) (s : Step) (k : Kind) → IsLedger log kinds given front settled out doubt store
       → verdict (is_some doubt) log s ≡ Ok (Fresh k) → IsFresh front front s
-  fresh_front log kinds front settled out doubt store s k is said =
+  fresh_front log kinds given front settled out doubt store s k is said =
       let fresh = verdict_fresh (front_world log) (settled_world log) s k (verdict_accepts (is_some doubt) log s k said).fresh in
       subst (λ w. IsFresh w w s) (sym is.front_is) (itself (front_world log) (settled_world log) s fresh)
 
+  -- the next steps are fresh over the settled world
+  pub fresh_next : (log : Log) (kinds : List Kind) (given : List (List Output)) (front settled : World) (out : ℕ) (doubt : Option ℕ) (store : Option (Kept D)) (steps : List Step) → IsLedger log kinds given front settled out doubt store → steps ≡ take (length steps) (pending log)
+      → AllFresh settled settled steps
+  fresh_next log kinds given front settled out doubt store steps is same =
+      let w = settled_world log in
+      subst (AllFresh settled settled) (sym same) (subst (λ v. AllFresh v v (take (length steps) (pending log))) (sym is.settled_is) (fresh_first (length steps) (pending log) w w is.consistent.fresh))
+
+  -- and where no others are behind them, they lead to the front
+  pub front_behind : (log : Log) (kinds : List Kind) (given : List (List Output)) (front settled : World) (out : ℕ) (doubt : Option ℕ) (store : Option (Kept D)) (steps : List Step) → IsLedger log kinds given front settled out doubt store → steps ≡ take (length steps) (pending log)
+      → length steps ≡ length (pending log) → front ≡ fold (settled_world log) steps
+  front_behind log kinds given front settled out doubt store steps is same all =
+      is.front_is ∙ sym (front_is log is.consistent) ∙ ap (fold (settled_world log)) (sym (same ∙ ap (λ n. take n (pending log)) all ∙ take-length (pending log)))
+
   -- with a step that was judged fresh
-  pub took_step : (base : World) (trail : List Step) (done : ℕ) (kinds : List Kind) (front settled : World) (out : ℕ) (doubt : Option ℕ) (store : Option (Kept D)) (s : Step) (k : Kind) (longer : List Step) (more : List Kind) (later : World)
-      → IsLedger (record { base = base; trail = trail; settled = done }) kinds front settled out doubt store → verdict (is_some doubt) (record { base = base; trail = trail; settled = done }) s ≡ Ok (Fresh k) → StepInRange s
-      → longer ≡ trail ++ s ∷ [] → more ≡ kinds ++ k ∷ [] → later ≡ next front s → IsLedger (record { base = base; trail = longer; settled = done }) more later settled out doubt store
-  took_step base trail done kinds front settled out (Some b) store s k longer more later is said named t m w = cc
-  took_step base trail done kinds front settled out None store s k longer more later is said named t m w =
+  pub took_step : (base : World) (trail : List Step) (done : ℕ) (kinds : List Kind) (given : List (List Output)) (front settled : World) (out : ℕ) (doubt : Option ℕ) (store : Option (Kept D)) (s : Step) (k : Kind) (longer : List Step) (more : List Kind) (also : List (List Output)) (later : World)
+      → IsLedger (record { base = base; trail = trail; settled = done }) kinds given front settled out doubt store → verdict (is_some doubt) (record { base = base; trail = trail; settled = done }) s ≡ Ok (Fresh k) → StepInRange s
+      → longer ≡ trail ++ s ∷ [] → more ≡ kinds ++ k ∷ [] → also ≡ given ++ outputs front s ∷ [] → later ≡ next front s → IsLedger (record { base = base; trail = longer; settled = done }) more also later settled out doubt store
+  took_step base trail done kinds given front settled out (Some b) store s k longer more also later is said named t m g w = cc
+  took_step base trail done kinds given front settled out None store s k longer more also later is said named t m g w =
       let log : Log = record { base = base; trail = trail; settled = done } in
       let kind_is : k ≡ kind (state front) s = verdict_kind (front_world log) (settled_world log) s k (verdict_accepts false log s k said).fresh ∙ ap (λ v. kind (state v) s) (sym is.front_is) in
-      let now = accepted log s kinds front settled out store k is (accepted_stays false log s k is.consistent named said) kind_is in
-      subst (λ l. IsLedger (record { base = base; trail = l; settled = done }) more later settled out None store) (sym t)
-      (subst (λ l. IsLedger (with_step log s) l later settled out None store) (sym m) (subst (λ v. IsLedger (with_step log s) (kinds ++ k ∷ []) v settled out None store) (sym w) now))
+      let now = accepted log s kinds given front settled out store k is (accepted_stays false log s k is.consistent named said) kind_is in
+      subst (λ l. IsLedger (record { base = base; trail = l; settled = done }) more also later settled out None store) (sym t)
+      (subst (λ l. IsLedger (with_step log s) l also later settled out None store) (sym m)
+      (subst (λ l. IsLedger (with_step log s) (kinds ++ k ∷ []) l later settled out None store) (sym g)
+      (subst (λ v. IsLedger (with_step log s) (kinds ++ k ∷ []) (given ++ outputs front s ∷ []) v settled out None store) (sym w) now)))
 
   -- ---- counts
 
-  pub counts_settled : (log : Log) (kinds : List Kind) (front settled : World) (out : ℕ) (doubt : Option ℕ) (store : Option (Kept D)) → IsLedger log kinds front settled out doubt store → settled.count ≡ settled_count log
-  counts_settled log kinds front settled out doubt store is = ap (λ (w : World). w.count) is.settled_is ∙ count_after log log.settled is.consistent.within
+  pub counts_settled : (log : Log) (kinds : List Kind) (given : List (List Output)) (front settled : World) (out : ℕ) (doubt : Option ℕ) (store : Option (Kept D)) → IsLedger log kinds given front settled out doubt store → settled.count ≡ settled_count log
+  counts_settled log kinds given front settled out doubt store is = ap (λ (w : World). w.count) is.settled_is ∙ count_after log log.settled is.consistent.within
 
-  pub counts_front : (log : Log) (kinds : List Kind) (front settled : World) (out : ℕ) (doubt : Option ℕ) (store : Option (Kept D)) → IsLedger log kinds front settled out doubt store → front.count ≡ accepted_count log
-  counts_front log kinds front settled out doubt store is = ap (λ (w : World). w.count) is.front_is ∙ count_front log
+  pub counts_front : (log : Log) (kinds : List Kind) (given : List (List Output)) (front settled : World) (out : ℕ) (doubt : Option ℕ) (store : Option (Kept D)) → IsLedger log kinds given front settled out doubt store → front.count ≡ accepted_count log
+  counts_front log kinds given front settled out doubt store is = ap (λ (w : World). w.count) is.front_is ∙ count_front log
 
-  pub kinds_within : (log : Log) (kinds : List Kind) (front settled : World) (out : ℕ) (doubt : Option ℕ) (store : Option (Kept D)) → IsLedger log kinds front settled out doubt store → length kinds ≡ length log.trail
-  kinds_within log kinds front settled out doubt store is = ap length is.kinds_are ∙ kinds_of-length log.trail log.base
+  pub kinds_within : (log : Log) (kinds : List Kind) (given : List (List Output)) (front settled : World) (out : ℕ) (doubt : Option ℕ) (store : Option (Kept D)) → IsLedger log kinds given front settled out doubt store → length kinds ≡ length log.trail
+  kinds_within log kinds given front settled out doubt store is = ap length is.kinds_are ∙ kinds_of-length log.trail log.base

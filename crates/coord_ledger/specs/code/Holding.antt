@@ -1,8 +1,10 @@
 -- What the types of a ledger and of a flight keep of their parts.
-use Rattle.std.specs.Prelude.{◌≡◌, ℕ, ◌+◌, ◌≤◌, List, map, length, Option, Some, None, IfSome, IfNone}
+use Rattle.std.specs.Prelude.{◌≡◌, ℕ, ◌+◌, ◌≤◌, List, [], ◌∷◌, ◌++◌, map, length, Option, Some, None, IfSome, IfNone, Vec}
 use Rattle.std.specs.List.{AllByRecursion}
+use Rattle.std.specs.declared.alloc.Global.{Global}
 use Rattle.coord_batch.specs.Batches.{IsNumbered}
 use Rattle.coord_types.specs.declared.limits.TheConstants.{MAX_BATCH_STEPS}
+use Rattle.coord_types.specs.declared.outputs.Output.{Output}
 use Rattle.coord_types.specs.declared.steps.Kind.{Kind}
 use Rattle.coord_types.specs.declared.steps.Step.{Step}
 use Rattle.coord_store.specs.Kept.{Kept}
@@ -12,12 +14,27 @@ use Rattle.coord_world.specs.protocol.NumberedWorld.{World}
 use Rattle.coord_world.specs.protocol.Outputs.{outs}
 use Rattle.coord_ledger.specs.declared.mark.Mark.{Mark}
 use Rattle.coord_ledger.specs.declared.mark.Mark.TheVariants.{New, Good, Torn}
+use Rattle.coord_ledger.specs.declared.release.Release.{Release}
+use Rattle.coord_ledger.specs.machine.After.{release_of}
 use Rattle.coord_ledger.specs.machine.Consistent.{IsConsistentLog}
-use Rattle.coord_ledger.specs.machine.Log.{Log, front_world, settled_world, world_after}
+use Rattle.coord_ledger.specs.machine.Log.{Log, front_world, pending, settled_world, world_after}
 
 -- the kinds of the replies to these steps
 abbrev pub kinds_of : World → List Step → List Kind
 kinds_of w steps = map (λ r. r.reply.kind) (outs w steps)
+
+-- what these steps give out, each by itself
+abbrev pub outputs_of : World → List Step → List (List Output)
+outputs_of w steps = map (λ r. r.outputs) (outs w steps)
+
+abbrev pub listed : List (Vec Output Global) → List (List Output)
+listed [] = []
+listed (v ∷ vs) = v.items ∷ listed vs
+
+-- what steps release that are numbered from here on and gave these out
+abbrev pub released_from : ℕ → List (List Output) → List Release
+released_from n [] = []
+released_from n (given ∷ others) = map (release_of n) given ++ released_from (n + 1) others
 
 -- ---- a ledger
 
@@ -47,9 +64,10 @@ pub record IsAway (log : Log) (out : ℕ) (doubt : Option ℕ) : Type 0 where
   pub within : log.settled + out ≤ length log.trail
   pub going : doubt ≡ None
 
-pub record IsLedger {D : Type 0} (log : Log) (kinds : List Kind) (front settled : World) (out : ℕ) (doubt : Option ℕ) (store : Option (Kept D)) : Type 0 where
+pub record IsLedger {D : Type 0} (log : Log) (kinds : List Kind) (given : List (List Output)) (front settled : World) (out : ℕ) (doubt : Option ℕ) (store : Option (Kept D)) : Type 0 where
   pub consistent : IsConsistentLog log
   pub kinds_are : kinds ≡ kinds_of log.base log.trail
+  pub given_is : given ≡ outputs_of (settled_world log) (pending log)
   pub front_is : front ≡ front_world log
   pub settled_is : settled ≡ settled_world log
   pub doubt_within : IfSome doubt (λ b. (1 ≤ b) × (log.settled + b ≤ length log.trail))
@@ -70,10 +88,12 @@ carried_torn New w steps = None
 carried_torn Good w steps = None
 carried_torn Torn w steps = Some (fold w steps)
 
-pub record IsFlight {D : Type 0} (steps : List Step) (world : World) (mark : Mark) (kept : Kept D) : Type 0 where
+-- the world that is to be after the steps is made already, or not
+pub record IsFlight {D : Type 0} (steps : List Step) (world : World) (next : Option World) (mark : Mark) (kept : Kept D) : Type 0 where
   pub some : 1 ≤ length steps
   pub most : length steps ≤ MAX_BATCH_STEPS
   pub numbered : AllByRecursion IsNumbered steps
   pub fresh : AllFresh world world steps
   pub world_is : kept.world ≡ carried_world mark world steps
   pub torn_is : kept.torn ≡ carried_torn mark world steps
+  pub next_is : IfSome next (λ v. v ≡ fold kept.world steps)

@@ -4,12 +4,13 @@ ghost use Rattle.std.specs.Prelude.{◌≡◌, ◌≢◌, ◌+◌, ◌↔◌, �
 ghost use Rattle.coord_world.specs.protocol.Next.{fold};
 ghost use Rattle.coord_ledger.specs.ledger.Calls.{RefusesFlight, keeps_store, next_flight, releases_in, taken_back, with_out};
 ghost use Rattle.coord_ledger.specs.ledger.Follows.{IsOut};
-ghost use Rattle.coord_ledger.specs.machine.After.{releases_of};
+ghost use Rattle.coord_ledger.specs.machine.Log.{pending, settled_world};
 
 use super::Ledger;
-use crate::settling::{are_same, is_same_world, settle};
+use crate::settling::{are_same, drop_first, is_same_world, released};
 use crate::{Flight, Mark, Release, Releases};
 use coord_disk::Disk;
+use coord_store::take_all;
 use coord_types::{MAX_BATCH_STEPS, Refusal, Step};
 use coord_world::World;
 use std::alloc::AllocError;
@@ -23,6 +24,19 @@ fn next_steps(trail: &[Step], done: usize, size: usize) -> &[Step]
 }
 
 impl<D: Disk> Ledger<D> {
+    /// The world after the next steps: the front world, where no others are behind them.
+    fn world_behind(&self, steps: &[Step]) -> Result<World, AllocError>
+        requires { steps.now ≡ take (length steps.now) (pending self.now.log) }
+        ensures { IfOk result (λ world. world ≡ fold (settled_world self.now.log) steps.now) }
+    {
+        if steps.len() == self.pending() {
+            return self.front.copy();
+        }
+        let mut next = self.settled.copy()?;
+        take_all(&mut next, steps)?;
+        Ok(next)
+    }
+
     /// Sends the store out with the next steps that are not settled, at most 256. None where
     /// nothing is pending, a flight is out or the ledger has stopped.
     pub fn begin_flush(&mut self) -> Result<Option<Flight<D>>, AllocError>
@@ -41,7 +55,7 @@ impl<D: Disk> Ledger<D> {
         }
         let size = MAX_BATCH_STEPS.min(self.trail.len() - self.done);
         let steps = Vec::from_slice(self.alloc, next_steps(&self.trail, self.done, size))?;
-        let world = self.settled.copy()?;
+        let next = self.world_behind(&steps)?;
         let first = self.settled_count() + 1;
         let Some(store) = self.store.take() else {
             return Ok(None);
@@ -50,7 +64,8 @@ impl<D: Disk> Ledger<D> {
         Ok(Some(Flight {
             first,
             steps,
-            world,
+            before: None,
+            next: Some(next),
             mark: Mark::New,
             store,
         }))
@@ -66,20 +81,22 @@ impl<D: Disk> Ledger<D> {
         if flight.first != self.settled_count() + 1 {
             return false;
         }
-        if !is_same_world(&flight.world, &self.settled) {
+        if !is_same_world(flight.world(), &self.settled) {
             return false;
         }
         are_same(&flight.steps, next_steps(&self.trail, self.done, self.out))
     }
 
-    /// The settled world once a flight is settled, and what its steps release.
+    /// The settled world once a flight that was committed is settled, and what its steps release.
     fn settled_by(&self, flight: &Flight<D>) -> Result<(World, Vec<Release>), AllocError>
-        requires { IsOut self.now flight.now }
+        requires own { IsOut self.now flight.now }
+        requires good { flight.now.mark ≡ Mark.Good }
         ensures world { IfOk result (λ r. r.0 ≡ fold flight.now.world flight.now.steps) }
         ensures released { IfOk result (λ r. r.1.items ≡ releases_in flight.now Mark.Good) }
     {
-        let mut world = self.settled.copy()?;
-        let rows = settle(self.alloc, &mut world, &flight.steps)?;
+        let world = flight.store.world().copy()?;
+        let first = 1 + self.settled_count();
+        let rows = released(self.alloc, first, &self.given, flight.steps.len())?;
         Ok((world, rows))
     }
 
@@ -92,7 +109,8 @@ impl<D: Disk> Ledger<D> {
         let Flight {
             first: _,
             steps,
-            world: _,
+            before: _,
+            next: _,
             mark,
             store,
         } = flight;
@@ -112,12 +130,15 @@ impl<D: Disk> Ledger<D> {
         let Flight {
             first: _,
             steps,
-            world: _,
+            before: _,
+            next: _,
             mark: _,
             store,
         } = flight;
         self.store = Some(store);
-        self.done += steps.len();
+        let size = steps.len();
+        self.done += size;
+        drop_first(&mut self.given, size);
         self.settled = settled;
     }
 

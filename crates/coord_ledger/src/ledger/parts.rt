@@ -47,6 +47,7 @@ impl<D: Disk> Ledger<D> {
             base,
             trail,
             kinds: _,
+            given: _,
             done: _,
             front: _,
             settled: _,

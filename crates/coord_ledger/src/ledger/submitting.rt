@@ -13,7 +13,7 @@ use super::Ledger;
 use crate::{Handed, Ticket};
 use coord_disk::Disk;
 use coord_types::{Kind, MAX_PENDING, Refusal, Reply, Step};
-use coord_world::Verdict;
+use coord_world::{Outcome, Verdict};
 use std::alloc::AllocError;
 
 impl<D: Disk> Ledger<D> {
@@ -44,10 +44,13 @@ impl<D: Disk> Ledger<D> {
         step.within_ranges();
         self.trail.reserve(1)?;
         self.kinds.reserve(1)?;
+        self.given.reserve(1)?;
         let outcome = self.front.apply(&step)?;
+        let Outcome { reply, outputs } = outcome;
         self.trail.push_reserved(step);
         self.kinds.push_reserved(kind);
-        Ok(outcome.reply)
+        self.given.push_back_reserved(outputs);
+        Ok(reply)
     }
 
     /// Hands a step in: [`Ledger::submit`], and says whether the step is new.

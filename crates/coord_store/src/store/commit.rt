@@ -1,6 +1,6 @@
 //! Commits.
 
-ghost use Rattle.std.specs.Prelude.{◌≡◌, ◌≢◌, ◌⊎◌, ◌↔◌, ◌+◌, ◌≤◌, true, None, Some, List, ℕ, length, IsTrue, OnOk, IfOk, IfErr, IsErrOf};
+ghost use Rattle.std.specs.Prelude.{◌≡◌, ◌≢◌, ◌⊎◌, ◌↔◌, ◌+◌, ◌≤◌, true, None, Some, List, ℕ, length, IsTrue, OnOk, IfOk, IfErr, IsErrOf, IfSome};
 ghost use Rattle.std.specs.List.{AllByRecursion};
 ghost use Rattle.coord_batch.specs.Batches.{IsNumbered};
 ghost use Rattle.coord_types.specs.declared.limits.TheConstants.{MAX_BATCH_STEPS};
@@ -13,13 +13,15 @@ ghost use Rattle.coord_store.specs.declared.faults.CommitFault.TheVariants.{OutO
 ghost use Rattle.coord_world.specs.protocol.Next.{fold};
 
 use super::Store;
-use crate::steps::{judge_all, take_all};
+use crate::steps::{judge_all, led_to};
 use crate::writing::write;
 use crate::{CommitFault, StoreFault};
 use coord_batch::write_batch;
 use coord_disk::Disk;
 use coord_types::Step;
+use coord_world::World;
 use std::alloc::AllocError;
+use std::mem::replace;
 
 impl<D: Disk> Store<D> {
     /// Whether these steps are fresh, each after those before it, with the world from before them
@@ -91,12 +93,67 @@ impl<D: Disk> Store<D> {
             → OnOk result (IsTextIn half (D.present self.new.disk).read) }
         ensures model { D.keeps_model self.new.disk ≡ D.keeps_model self.old.disk }
     {
+        match self.commit_to(steps, None) {
+            Ok(_before) => Ok(()),
+            Err(fault) => Err(fault),
+        }
+    }
+
+    /// Commits steps as `commit` does, with the world after them where it was made before, and gives
+    /// the world from before them: so nobody has to copy either of both. Where it was not made, it is
+    /// made here.
+    pub fn commit_to(&mut self, steps: &[Step], made: Option<World>) -> Result<World, CommitFault>
+        requires some { (1 ≤ length steps.now) × (length steps.now ≤ MAX_BATCH_STEPS) }
+        requires numbered { AllByRecursion IsNumbered steps.now }
+        requires fresh { AllFresh self.old.world self.old.world steps.now }
+        requires made { IfSome made (λ next. next ≡ fold self.old.world steps.now) }
+
+        // A crash at any moment of the call, also inside a checkpoint, leaves what gives the world from before it or from after it, and where it is refused for memory the one from before it.
+        ensures any_moment { D.keeps_model self.old.disk ≡ true → self.old.torn ≡ None
+            → LeavesOnly D.clock D.left_since self.old.disk self.new.disk
+            (GivesEither self.old.world (fold self.old.world steps.now)) }
+        ensures any_moment_refused { D.keeps_model self.old.disk ≡ true → self.old.torn ≡ None
+            → IfErr result (λ fault. fault ≢ Device →
+            LeavesOnly D.clock D.left_since self.old.disk self.new.disk
+            (IsOnlyWorld self.old.world)) }
+
+        // What the store is then: after Device one of both worlds may be on the disk.
+        ensures world { OnOk result (self.new.world ≡ fold self.old.world steps.now) }
+        ensures before { IfOk result (λ before. before ≡ self.old.world) }
+        ensures going { OnOk result (self.new.torn ≡ None) }
+        ensures torn { IsErrOf result CommitFault.Device →
+            self.new.torn ≡ Some (fold self.old.world steps.now) }
+        ensures same_world { IfErr result (λ fault. self.new.world ≡ self.old.world) }
+        ensures unchanged { IfErr result (λ fault. fault ≢ Device → self.new.torn ≡ self.old.torn) }
+        ensures untouched { IsErrOf result CommitFault.Stopped → self.new ≡ self.old }
+
+        // When it is refused.
+        ensures stopped { IsErrOf result CommitFault.Stopped ↔ (has_stopped self.old ≡ true) }
+        ensures fault { IfErr result (λ fault. (fault ≡ Stopped) ⊎
+            ((fault ≡ OutOfMemory) ⊎ (fault ≡ Device))) }
+        ensures failures { D.failures self.new.disk ≡
+            D.failures self.old.disk + failures_in result }
+        ensures calls { D.keeps_model self.old.disk ≡ true →
+            D.clock self.new.disk ≤ D.clock self.old.disk + 8 }
+
+        // Where the body of the batch fits behind what is there, no checkpoint is made.
+        ensures calls_where_it_fits { (half : ℕ) (body : List ℕ) →
+            D.keeps_model self.old.disk ≡ true → self.old.torn ≡ None →
+            IsBody self.old.world body steps.now →
+            HasPlaceIn half (length body) (D.present self.old.disk).read
+            → D.clock self.new.disk ≤ D.clock self.old.disk + 4 }
+        ensures half_where_it_fits { (half : ℕ) (body : List ℕ) →
+            D.keeps_model self.old.disk ≡ true → self.old.torn ≡ None →
+            IsBody self.old.world body steps.now →
+            HasPlaceIn half (length body) (D.present self.old.disk).read
+            → OnOk result (IsTextIn half (D.present self.new.disk).read) }
+        ensures model { D.keeps_model self.new.disk ≡ D.keeps_model self.old.disk }
+    {
         if self.torn.is_some() {
             return Err(CommitFault::Stopped);
         }
         self.world.ranges();
-        let mut next = self.world.copy()?;
-        take_all(&mut next, steps)?;
+        let next = led_to(&self.world, steps, made)?;
         let body = write_batch(
             self.alloc,
             self.world.version(),
@@ -104,10 +161,7 @@ impl<D: Disk> Store<D> {
             steps,
         )?;
         match write(self.alloc, &mut self.journal, &self.world, &body) {
-            Ok(()) => {
-                self.world = next;
-                Ok(())
-            }
+            Ok(()) => Ok(replace(&mut self.world, next)),
             Err(fault) => {
                 if fault == CommitFault::Device {
                     self.torn = Some(next);

@@ -7,7 +7,7 @@ use Rattle.coord_ledger.proofs.ledger.Ledger.is_settled.Goals as goal
 
 pub stands_at-requires-clause-in_kinds : goal.stands_at-requires-clause-in_kinds
 stands_at-requires-clause-in_kinds g c =
-    omega (arith, c.if-place-self.false, c.self.invariant.consistent.within, kinds_within _ _ _ _ _ _ _ c.self.invariant, ap length c.deref-2.ensures.value)
+    omega (arith, c.if-place-self.false, c.self.invariant.consistent.within, kinds_within _ _ _ _ _ _ _ _ c.self.invariant, ap length c.deref-2.ensures.value)
 
 pub returns : goal.returns
 returns g c =

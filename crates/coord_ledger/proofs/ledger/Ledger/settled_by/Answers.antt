@@ -1,7 +1,35 @@
-use Rattle.std.proofs.Common.{sym, subst}
-use Rattle.coord_world.specs.protocol.Legal.{Legal}
-use Rattle.coord_ledger.proofs.follows.Kept.{legal_settled}
+use Rattle.std.proofs.Common.{◌+◌, rules, ◌≡◌, length, unwrap_or, sym, ap, ◌∙◌, subst, arith}
+use Rattle.coord_world.specs.protocol.Next.{fold}
+use Rattle.coord_ledger.specs.code.Holding.{carried_world, listed}
+use Rattle.coord_ledger.specs.declared.mark.Mark.TheVariants.{Good}
+use Rattle.coord_ledger.specs.ledger.Follows.{IsOut}
+use Rattle.coord_ledger.specs.ledger.State.{FlightState, LedgerState}
+use Rattle.coord_ledger.specs.machine.Log.{Log, settled_count}
+use Rattle.coord_ledger.proofs.follows.IsOut.{given_within, gives_out, ledger_of}
 use Rattle.coord_ledger.proofs.ledger.Ledger.settled_by.Goals as goal
 
-pub settle-requires-clause-legal : goal.settle-requires-clause-legal
-settle-requires-clause-legal g c = subst Legal (sym c.in_ok-world.ensures) (legal_settled _ _ _ _ _ _ _ c.self.invariant)
+pub released-requires-clause-within : goal.released-requires-clause-within
+released-requires-clause-within g c =
+    let log : Log = record { base = c.self.inside.base; trail = c.self.inside.trail.items; settled = c.self.inside.done } in
+    let l : LedgerState g.row.D.Denot = ledger_of log c.self.inside.out c.self.inside.doubt c.self.inside.store in
+    let own : IsOut l c.args.flight.now = subst (λ x. IsOut x c.args.flight.now) (sym c.self.view_is) c.requires.own in
+    omega (arith, given_within log _ _ _ _ _ _ c.args.flight.now own c.self.inside.given.items c.self.invariant, ap (λ (f : FlightState g.row.D.Denot). length f.steps) c.flight.view_is)
+
+pub returns-clause-world : goal.returns-clause-world
+returns-clause-world g c =
+    let f = c.flight.inside in
+    let begun = unwrap_or f.before f.store.world in
+    let good : f.mark ≡ Good = ap (λ (x : FlightState g.row.D.Denot). x.mark) c.flight.view_is ∙ c.requires.good in
+    c.in_ok-world.ensures ∙ c.world.ensures ∙ c.flight.invariant.world_is ∙ ap (λ m. carried_world m begun f.steps.items) good ∙ ap (λ (x : FlightState g.row.D.Denot). fold x.world x.steps) c.flight.view_is
+
+pub returns-clause-released : goal.returns-clause-released
+returns-clause-released g c =
+    let log : Log = record { base = c.self.inside.base; trail = c.self.inside.trail.items; settled = c.self.inside.done } in
+    let l : LedgerState g.row.D.Denot = ledger_of log c.self.inside.out c.self.inside.doubt c.self.inside.store in
+    let own : IsOut l c.args.flight.now = subst (λ x. IsOut x c.args.flight.now) (sym c.self.view_is) c.requires.own in
+    let same_count = ap (λ (x : LedgerState g.row.D.Denot). settled_count x.log) c.self.view_is in
+    let first = 1 + c.settled_count-first.result in
+    let number : first ≡ settled_count log + 1 = omega (arith, c.settled_count-first.ensures.value, same_count) in
+    let size : c.len.result ≡ length c.flight.inside.steps.items = search rules in
+    let all = size ∙ ap (λ (x : FlightState g.row.D.Denot). length x.steps) c.flight.view_is in
+    c.in_ok-rows.ensures ∙ gives_out log _ _ _ _ _ _ c.args.flight.now own (listed c.self.inside.given.items) first c.len.result c.self.invariant number all
