@@ -1,3 +1,4 @@
+pub mod Copied
 pub mod MomentLemmas
 pub mod Overwritten
 pub mod Replays

@@ -1,27 +1,27 @@
 -- What stands where after a write.
-use Rattle.std.proofs.Common.{◌≡◌, ◌⊎◌, inl, inr, ℕ, zero, suc, ◌+◌, ◌-◌, ◌<◌, ◌≤◌, min, max, false, List, [], ◌∷◌, ◌++◌, length, take, drop, refl, sym, ◌∙◌, ap, arith, append_assoc, length-append, length-take, length-drop}
+use Rattle.std.proofs.Common.{◌≡◌, ◌⊎◌, inl, inr, ℕ, zero, suc, ◌+◌, ◌-◌, ◌<◌, ◌≤◌, max, false, List, [], ◌∷◌, ◌++◌, length, take, drop, refl, sym, ◌∙◌, ap, arith, append_assoc, length-append, length-take, length-drop}
 use Rattle.std.specs.Prelude.{slice_get, replicate, nat_le, nat_lt, ◌&&◌, ◌||◌, Bool, true}
-use Rattle.std.proofs.lemmas.List.{take_all, take_rest}
+use Rattle.std.proofs.lemmas.List.{append-nil, drop-drop, drop_all, take-replicate, take_all}
 use Rattle.std.proofs.lemmas.Bool.Decides.{nat_tests}
 use Rattle.coord_disk.specs.Model.Present.{Present, Range, IsImage, Writes, is_within, overwritten, range_of, written_at}
 
-get_left : (xs ys : List ℕ) (i : ℕ) → i < length xs → slice_get (xs ++ ys) i ≡ slice_get xs i
+pub get_left : (xs ys : List ℕ) (i : ℕ) → i < length xs → slice_get (xs ++ ys) i ≡ slice_get xs i
 get_left [] ys i lt = absurd (omega (arith, lt))
 get_left (x ∷ xs) ys zero lt = refl
 get_left (x ∷ xs) ys (suc i) lt = get_left xs ys i (omega (arith, lt))
 
-get_right : (xs ys : List ℕ) (i n : ℕ) → i ≡ length xs + n → slice_get (xs ++ ys) i ≡ slice_get ys n
+pub get_right : (xs ys : List ℕ) (i n : ℕ) → i ≡ length xs + n → slice_get (xs ++ ys) i ≡ slice_get ys n
 get_right [] ys i n is = let same : i ≡ n = omega (arith, is) in ap (λ (k : ℕ). slice_get ys k) same
 get_right (x ∷ xs) ys zero n is = absurd (omega (arith, is))
 get_right (x ∷ xs) ys (suc i) n is = get_right xs ys i n (omega (arith, is))
 
-get_take : (xs : List ℕ) (n i : ℕ) → i < n → slice_get (take n xs) i ≡ slice_get xs i
+pub get_take : (xs : List ℕ) (n i : ℕ) → i < n → slice_get (take n xs) i ≡ slice_get xs i
 get_take xs zero i lt = absurd (omega (arith, lt))
 get_take [] (suc n) i lt = refl
 get_take (x ∷ xs) (suc n) zero lt = refl
 get_take (x ∷ xs) (suc n) (suc i) lt = get_take xs n i (omega (arith, lt))
 
-get_drop : (xs : List ℕ) (n i k : ℕ) → k ≡ n + i → slice_get (drop n xs) i ≡ slice_get xs k
+pub get_drop : (xs : List ℕ) (n i k : ℕ) → k ≡ n + i → slice_get (drop n xs) i ≡ slice_get xs k
 get_drop xs zero i k is = let same : i ≡ k = omega (arith, is) in ap (λ (j : ℕ). slice_get xs j) same
 get_drop [] (suc n) i k is = refl
 get_drop (x ∷ xs) (suc n) i zero is = absurd (omega (arith, is))
@@ -31,35 +31,35 @@ pub length_zeros : (n : ℕ) → length {A = ℕ} (replicate n 0) ≡ n
 length_zeros zero = refl
 length_zeros (suc n) = omega (arith, length_zeros n)
 
-pub take_min : (xs : List ℕ) (n k : ℕ) → k ≡ min n (length xs) → take k xs ≡ take n xs
-take_min [] n k is = let none : k ≡ 0 = omega (arith, is) in ap (λ (j : ℕ). take j []) none ∙ sym (take_all n [] (omega arith))
-take_min (x ∷ xs) zero k is = let none : k ≡ 0 = omega (arith, is) in ap (λ (j : ℕ). take j (x ∷ xs)) none
-take_min (x ∷ xs) (suc n) zero is = absurd (omega (arith, is))
-take_min (x ∷ xs) (suc n) (suc k) is = ap (λ (l : List ℕ). x ∷ l) (take_min xs n k (omega (arith, is)))
+take_padded : (old : List ℕ) (n k : ℕ) → n ≤ length old + k → take n (old ++ replicate k 0) ≡ take n old ++ replicate (n - length old) 0
+take_padded [] zero k le = refl
+take_padded [] (suc n) k le = take-replicate (suc n) k 0 (omega (arith, le))
+take_padded (x ∷ old) zero k le = refl
+take_padded (x ∷ old) (suc n) k le = ap (λ (l : List ℕ). x ∷ l) (take_padded old n k (omega (arith, le)))
 
-pub drop_min : (xs : List ℕ) (n k : ℕ) → k ≡ min n (length xs) → drop k xs ≡ drop n xs
-drop_min [] zero k is = let none : k ≡ 0 = omega (arith, is) in ap (λ (j : ℕ). drop j []) none
-drop_min [] (suc n) k is = let none : k ≡ 0 = omega (arith, is) in ap (λ (j : ℕ). drop j []) none
-drop_min (x ∷ xs) zero k is = let none : k ≡ 0 = omega (arith, is) in ap (λ (j : ℕ). drop j (x ∷ xs)) none
-drop_min (x ∷ xs) (suc n) zero is = absurd (omega (arith, is))
-drop_min (x ∷ xs) (suc n) (suc k) is = drop_min xs n k (omega (arith, is))
+drop_padded : (old : List ℕ) (n k : ℕ) → k ≤ n - length old → drop n (old ++ replicate k 0) ≡ drop n old
+drop_padded [] n k le = drop_all n (replicate k 0) (omega (arith, le, length_zeros k)) ∙ sym (drop_all n [] (omega arith))
+drop_padded (x ∷ old) zero k le =
+    let none : k ≡ 0 = omega (arith, le) in
+    ap (λ (j : ℕ). (x ∷ old) ++ replicate j 0) none ∙ append-nil (x ∷ old)
+drop_padded (x ∷ old) (suc n) k le = drop_padded old n k (omega (arith, le))
 
--- built up from the front
-pub built : (old kept next bytes all : List ℕ) (at n m k : ℕ) → 0 < length bytes → n ≡ min at (length old) → m ≡ length kept → k ≡ min (at + length bytes) (length old)
-    → kept ≡ take n old → next ≡ take at kept ++ replicate (at - m) 0 → all ≡ (next ++ bytes) ++ take (length old - k) (drop k old) → all ≡ overwritten old at bytes
-built old kept next [] all at n m k some n_is m_is k_is kept_is next_is all_is = absurd (omega (arith, some))
-built old kept next (b ∷ bs) all at n m k some n_is m_is k_is kept_is next_is all_is =
-    let size : length kept ≡ n = ap length kept_is ∙ length-take n old ∙ omega (arith, n_is) in
-    let front : next ≡ take at old ++ replicate (at - length old) 0 =
-    next_is
-    ∙ ap (λ (l : List ℕ). l ++ replicate (at - m) 0) (take_all at kept (omega (arith, size, n_is)) ∙ kept_is ∙ take_min old at n n_is)
-    ∙ ap (λ (j : ℕ). take at old ++ replicate j 0) (let e : at - m ≡ at - length old = omega (arith, m_is, size, n_is) in e) in
-    all_is
-    ∙ ap (λ (l : List ℕ). (next ++ (b ∷ bs)) ++ l) (take_rest old k)
-    ∙ ap (λ (l : List ℕ). l ++ (b ∷ bs) ++ drop k old) front
-    ∙ append_assoc (take at old ++ replicate (at - length old) 0) (b ∷ bs) (drop k old)
-    ∙ append_assoc (take at old) (replicate (at - length old) 0) ((b ∷ bs) ++ drop k old)
-    ∙ ap (λ (l : List ℕ). take at old ++ (replicate (at - length old) 0 ++ ((b ∷ bs) ++ l))) (drop_min old (at + length (b ∷ bs)) k k_is)
+-- written in place, once the bytes reach far enough
+pub in_place : (old grown bytes : List ℕ) (at size : ℕ) → 0 < length bytes → size ≡ max (length old) (at + length bytes) → grown ≡ take size old ++ replicate (size - length old) 0
+    → take at grown ++ (bytes ++ drop (length bytes) (drop at grown)) ≡ overwritten old at bytes
+in_place old grown [] at size some size_is is = absurd (omega (arith, some))
+in_place old grown (b ∷ bs) at size some size_is is =
+    let zeros : List ℕ = replicate (size - length old) 0 in
+    let front : take at grown ≡ take at old ++ replicate (at - length old) 0 =
+    ap (λ (l : List ℕ). take at l) (is ∙ ap (λ (l : List ℕ). l ++ zeros) (take_all size old (omega (arith, size_is))))
+    ∙ take_padded old at (size - length old) (omega (arith, size_is)) in
+    let behind : drop (length (b ∷ bs)) (drop at grown) ≡ drop (at + length (b ∷ bs)) old =
+    drop-drop (length (b ∷ bs)) at grown
+    ∙ ap (λ (l : List ℕ). drop (at + length (b ∷ bs)) l) (is ∙ ap (λ (l : List ℕ). l ++ zeros) (take_all size old (omega (arith, size_is))))
+    ∙ drop_padded old (at + length (b ∷ bs)) (size - length old) (omega (arith, size_is)) in
+    ap (λ (l : List ℕ). l ++ ((b ∷ bs) ++ drop (length (b ∷ bs)) (drop at grown))) front
+    ∙ append_assoc (take at old) (replicate (at - length old) 0) ((b ∷ bs) ++ drop (length (b ∷ bs)) (drop at grown))
+    ∙ ap (λ (l : List ℕ). take at old ++ (replicate (at - length old) 0 ++ ((b ∷ bs) ++ l))) behind
 
 size_of : (old bytes : List ℕ) (at : ℕ) (b : ℕ) → length (overwritten old at (b ∷ bytes)) ≡ max (length old) (at + length (b ∷ bytes))
 size_of old bytes at b =

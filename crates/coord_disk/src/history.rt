@@ -1,8 +1,8 @@
 //! What was done to a disk in memory.
 
-ghost use Rattle.std.specs.Prelude.{◌≡◌, ◌+◌, ◌<◌, ◌^◌, length, Some, IfOk, OnOk, OnErr};
-ghost use Rattle.coord_disk.specs.Model.Present.{overwritten, whole, written_at};
-ghost use Rattle.coord_disk.specs.Disks.History.{LedTo, Adds, past_with, present_after};
+ghost use Rattle.std.specs.Prelude.{◌≡◌, ◌+◌, ◌<◌, ◌^◌, List, ℕ, length, Some, OnOk, OnErr};
+ghost use Rattle.coord_disk.specs.Model.Present.{IsImage, overwritten, whole, written_at};
+ghost use Rattle.coord_disk.specs.Disks.History.{LedTo, Adds, past_with, present_after, replayed};
 
 use std::alloc::{AllocError, Global};
 
@@ -21,20 +21,19 @@ pub struct History {
     pub entries: Vec<Entry>,
 }
 
-// The bytes after a write.
-fn overwrite(alloc: Global, old: &[u8], at: usize, bytes: &[u8]) -> Result<Vec<u8>, AllocError>
-    requires { at + length bytes.now < 2 ^ 64 }
-    ensures { IfOk result (λ next. next.items ≡ overwritten old.now at bytes.now) }
+// Writes over the bytes, and past their end with zeros between. Without memory nothing changes.
+fn overwrite(bytes: &mut Vec<u8>, at: usize, new: &[u8]) -> Result<(), AllocError>
+    requires { at + length new.now < 2 ^ 64 }
+    ensures ok { OnOk result (bytes.new.items ≡ overwritten bytes.old.items at new.now) }
+    ensures err { OnErr result (bytes.new.items ≡ bytes.old.items) }
 {
-    if bytes.is_empty() {
-        return old.to_vec(alloc);
+    if new.is_empty() {
+        return Ok(());
     }
-    let mut next = old[..at.min(old.len())].to_vec(alloc)?;
-    next.resize(at, 0)?;
-    next.extend_from_slice(bytes)?;
-    let end = (at + bytes.len()).min(old.len());
-    next.extend_from_slice(&old[end..])?;
-    Ok(next)
+    let end = at + new.len();
+    bytes.resize(bytes.len().max(end), 0)?;
+    bytes[at..end].copy_from_slice(new);
+    Ok(())
 }
 
 /// Writes to what is read, and records it. Without memory nothing changes.
@@ -54,15 +53,39 @@ pub fn write(
     ensures err { OnErr result (past_with read.new.items (Some history.new) ≡
         past_with read.old.items (Some history.old)) }
 {
-    let next = overwrite(alloc, read, at as usize, bytes)?;
-    let bytes = bytes.to_vec(alloc)?;
-    history.entries.push(Entry::Wrote { at, bytes })?;
-    *read = next;
+    history.entries.reserve(1)?;
+    let recorded = bytes.to_vec(alloc)?;
+    overwrite(read, at as usize, bytes)?;
+    history.entries.push_reserved(Entry::Wrote {
+        at,
+        bytes: recorded,
+    });
     Ok(())
 }
 
+// Copies to what is synced what was written since, and no more: all else is the same in both.
+fn copy_written(entries: &[Entry], read: &[u8], synced: &mut [u8])
+    requires { length synced.old ≡ length read.now }
+    ensures { (first : List ℕ) → IsImage (record (replayed (whole first) entries.now)
+        { synced = synced.old }) read.now → synced.new ≡ read.now }
+{
+    let mut n = entries.len();
+    while n > 0 {
+        n -= 1;
+        match &entries[n] {
+            Entry::Synced => return,
+            Entry::Wrote { at, bytes } => {
+                // A write of no bytes may stand past the end.
+                let start = read.len().min(*at as usize);
+                let end = start + bytes.len().min(read.len() - start);
+                synced[start..end].copy_from_slice(&read[start..end]);
+            }
+        }
+    }
+}
+
 /// Syncs what is read, and records it. Without memory nothing changes.
-pub fn record_sync(alloc: Global, read: &Vec<u8>, history: &mut History) -> Result<(), AllocError>
+pub fn record_sync(read: &Vec<u8>, history: &mut History) -> Result<(), AllocError>
     requires led { LedTo history.old read.now.items }
     ensures led { LedTo history.new read.now.items }
     ensures ok { OnOk result (Adds (past_with read.now.items (Some history.old))
@@ -70,8 +93,10 @@ pub fn record_sync(alloc: Global, read: &Vec<u8>, history: &mut History) -> Resu
     ensures err { OnErr result (past_with read.now.items (Some history.new) ≡
         past_with read.now.items (Some history.old)) }
 {
-    let synced = read.to_vec(alloc)?;
-    history.entries.push(Entry::Synced)?;
-    history.synced = synced;
+    history.entries.reserve(1)?;
+    let before = history.synced.len();
+    history.synced.extend_from_slice(&read[before..])?;
+    copy_written(&history.entries, read, &mut history.synced);
+    history.entries.push_reserved(Entry::Synced);
     Ok(())
 }

@@ -124,7 +124,7 @@ impl MemDisk {
     {
         self.begin()?;
         match &mut self.history {
-            Some(history) => record_sync(self.alloc, &self.read, history),
+            Some(history) => record_sync(&self.read, history),
             None => unreachable!(),
         }
     }
