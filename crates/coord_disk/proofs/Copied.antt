@@ -1,7 +1,8 @@
 -- What stands where after a part of one list was copied to the same place of another.
-use Rattle.std.proofs.Common.{◌≡◌, ◌⊎◌, inl, inr, ℕ, ◌+◌, ◌-◌, ◌<◌, ◌≤◌, List, ◌++◌, length, take, drop, sym, ◌∙◌, ap, arith, length-append, length-take, length-drop}
-use Rattle.std.specs.Prelude.{slice_get, false}
+use Rattle.std.proofs.Common.{◌≡◌, ◌⊎◌, inl, inr, ℕ, ◌+◌, ◌-◌, ◌<◌, ◌≤◌, min, List, ◌++◌, length, take, drop, sym, ◌∙◌, ap, arith, length-append, length-take, length-drop}
+use Rattle.std.specs.Prelude.{slice_get, false, nat_le, nat_lt, ◌&&◌}
 use Rattle.std.proofs.lemmas.Bool.{cases_lt}
+use Rattle.std.proofs.lemmas.Bool.Decides.{nat_tests}
 use Rattle.coord_disk.specs.Model.Present.{Present, IsImage, is_within}
 use Rattle.coord_disk.proofs.Overwritten.{get_left, get_right, get_take, get_drop}
 
@@ -38,6 +39,11 @@ module _ (to from : List ℕ) (start stop : ℕ) (size : length to ≡ length fr
           ∙ get_drop (drop start to) (stop - start) n (stop - start + n) (omega arith)
           ∙ get_drop to start (stop - start + n) i (omega (arith, order, behind))
           ∙ elsewhere (inr behind)
+
+-- a place outside the part that lies before the end lies outside the range
+pub apart : (at len size start stop i : ℕ) → start ≡ min size at → stop ≡ start + min len (size - start) → i < size → (i < start) ⊎ (stop ≤ i) → (nat_le at i && nat_lt i (at + len)) ≡ false
+apart at len size start stop i start_is stop_is lt (inl before) = let here : i < at = omega (arith, before, start_is) in grind (arith, nat_tests, here)
+apart at len size start stop i start_is stop_is lt (inr behind) = let here : at + len ≤ i = omega (arith, behind, start_is, stop_is, lt) in grind (arith, nat_tests, here)
 
 -- the synced bytes once they are as long as what is read
 pub grown : (disk : Present) (read tail : List ℕ) → IsImage disk read → tail ≡ drop (length disk.synced) read → IsImage (record disk { synced = disk.synced ++ tail }) read

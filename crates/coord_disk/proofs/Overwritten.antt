@@ -31,11 +31,11 @@ pub length_zeros : (n : ℕ) → length {A = ℕ} (replicate n 0) ≡ n
 length_zeros zero = refl
 length_zeros (suc n) = omega (arith, length_zeros n)
 
-take_padded : (old : List ℕ) (n k : ℕ) → n ≤ length old + k → take n (old ++ replicate k 0) ≡ take n old ++ replicate (n - length old) 0
-take_padded [] zero k le = refl
-take_padded [] (suc n) k le = take-replicate (suc n) k 0 (omega (arith, le))
-take_padded (x ∷ old) zero k le = refl
-take_padded (x ∷ old) (suc n) k le = ap (λ (l : List ℕ). x ∷ l) (take_padded old n k (omega (arith, le)))
+take_padded : (old : List ℕ) (n k m : ℕ) → n ≤ length old + k → m ≡ n - length old → take n (old ++ replicate k 0) ≡ take n old ++ replicate m 0
+take_padded [] zero k m le m_is = let none : 0 ≡ m = omega (arith, m_is) in ap (λ (j : ℕ). replicate j 0) none
+take_padded [] (suc n) k m le m_is = let all : suc n ≡ m = omega (arith, m_is) in take-replicate (suc n) k 0 (omega (arith, le)) ∙ ap (λ (j : ℕ). replicate j 0) all
+take_padded (x ∷ old) zero k m le m_is = let none : 0 ≡ m = omega (arith, m_is) in ap (λ (j : ℕ). replicate j 0) none
+take_padded (x ∷ old) (suc n) k m le m_is = ap (λ (l : List ℕ). x ∷ l) (take_padded old n k m (omega (arith, le)) (omega (arith, m_is)))
 
 drop_padded : (old : List ℕ) (n k : ℕ) → k ≤ n - length old → drop n (old ++ replicate k 0) ≡ drop n old
 drop_padded [] n k le = drop_all n (replicate k 0) (omega (arith, le, length_zeros k)) ∙ sym (drop_all n [] (omega arith))
@@ -44,28 +44,34 @@ drop_padded (x ∷ old) zero k le =
     ap (λ (j : ℕ). (x ∷ old) ++ replicate j 0) none ∙ append-nil (x ∷ old)
 drop_padded (x ∷ old) (suc n) k le = drop_padded old n k (omega (arith, le))
 
--- written in place, once the bytes reach far enough
-pub in_place : (old grown bytes : List ℕ) (at size : ℕ) → 0 < length bytes → size ≡ max (length old) (at + length bytes) → grown ≡ take size old ++ replicate (size - length old) 0
-    → take at grown ++ (bytes ++ drop (length bytes) (drop at grown)) ≡ overwritten old at bytes
-in_place old grown [] at size some size_is is = absurd (omega (arith, some))
-in_place old grown (b ∷ bs) at size some size_is is =
-    let zeros : List ℕ = replicate (size - length old) 0 in
-    let front : take at grown ≡ take at old ++ replicate (at - length old) 0 =
-    ap (λ (l : List ℕ). take at l) (is ∙ ap (λ (l : List ℕ). l ++ zeros) (take_all size old (omega (arith, size_is))))
-    ∙ take_padded old at (size - length old) (omega (arith, size_is)) in
-    let behind : drop (length (b ∷ bs)) (drop at grown) ≡ drop (at + length (b ∷ bs)) old =
-    drop-drop (length (b ∷ bs)) at grown
-    ∙ ap (λ (l : List ℕ). drop (at + length (b ∷ bs)) l) (is ∙ ap (λ (l : List ℕ). l ++ zeros) (take_all size old (omega (arith, size_is))))
-    ∙ drop_padded old (at + length (b ∷ bs)) (size - length old) (omega (arith, size_is)) in
-    ap (λ (l : List ℕ). l ++ ((b ∷ bs) ++ drop (length (b ∷ bs)) (drop at grown))) front
-    ∙ append_assoc (take at old) (replicate (at - length old) 0) ((b ∷ bs) ++ drop (length (b ∷ bs)) (drop at grown))
-    ∙ ap (λ (l : List ℕ). take at old ++ (replicate (at - length old) 0 ++ ((b ∷ bs) ++ l))) behind
-
 size_of : (old bytes : List ℕ) (at : ℕ) (b : ℕ) → length (overwritten old at (b ∷ bytes)) ≡ max (length old) (at + length (b ∷ bytes))
 size_of old bytes at b =
     let tail : List ℕ = drop (at + length (b ∷ bytes)) old in
     let zeros : List ℕ = replicate (at - length old) 0 in
     omega (arith, length-append (take at old) (zeros ++ (b ∷ bytes ++ tail)), length-append zeros (b ∷ bytes ++ tail), length-append (b ∷ bytes) tail, length-take at old, length_zeros (at - length old), length-drop (at + length (b ∷ bytes)) old)
+
+pub length_overwritten : (old bytes : List ℕ) (at : ℕ) → 0 < length bytes → length (overwritten old at bytes) ≡ max (length old) (at + length bytes)
+length_overwritten old [] at some = absurd (omega (arith, some))
+length_overwritten old (b ∷ bytes) at some = size_of old bytes at b
+
+-- written in place, once the bytes reach far enough
+pub in_place : (old grown now bytes : List ℕ) (at k size : ℕ) → 0 < length bytes → k ≡ length bytes → now ≡ bytes → size ≡ max (length old) (at + length bytes) → grown ≡ take size old ++ replicate (size - length old) 0
+    → take at grown ++ (now ++ drop k (drop at grown)) ≡ overwritten old at bytes
+in_place old grown now [] at k size some k_is now_is size_is grown_is = absurd (omega (arith, some))
+in_place old grown now (b ∷ bs) at k size some k_is now_is size_is grown_is =
+    let zeros : List ℕ = replicate (size - length old) 0 in
+    let padded : grown ≡ old ++ zeros = grown_is ∙ ap (λ (l : List ℕ). l ++ zeros) (take_all size old (omega (arith, size_is))) in
+    let front : take at grown ≡ take at old ++ replicate (at - length old) 0 =
+    ap (λ (l : List ℕ). take at l) padded ∙ take_padded old at (size - length old) (at - length old) (omega (arith, size_is)) refl in
+    let behind : drop k (drop at grown) ≡ drop (at + length (b ∷ bs)) old =
+    drop-drop k at grown
+    ∙ ap (λ (j : ℕ). drop (at + j) grown) k_is
+    ∙ ap (λ (l : List ℕ). drop (at + length (b ∷ bs)) l) padded
+    ∙ drop_padded old (at + length (b ∷ bs)) (size - length old) (omega (arith, size_is)) in
+    ap (λ (l : List ℕ). l ++ (now ++ drop k (drop at grown))) front
+    ∙ append_assoc (take at old) (replicate (at - length old) 0) (now ++ drop k (drop at grown))
+    ∙ ap (λ (l : List ℕ). take at old ++ (replicate (at - length old) 0 ++ (l ++ drop k (drop at grown)))) now_is
+    ∙ ap (λ (l : List ℕ). take at old ++ (replicate (at - length old) 0 ++ ((b ∷ bs) ++ l))) behind
 
 pub no_shorter : (old bytes : List ℕ) (at : ℕ) → length old ≤ length (overwritten old at bytes)
 no_shorter old [] at = omega arith

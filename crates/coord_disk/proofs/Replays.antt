@@ -1,5 +1,5 @@
 -- What one more write or sync makes of a disk in memory.
-use Rattle.std.proofs.Common.{◌≡◌, ℕ, ◌+◌, ◌<◌, List, [], ◌∷◌, ◌++◌, length, take, get_or, refl, sym, ◌∙◌, ap, subst, arith}
+use Rattle.std.proofs.Common.{◌≡◌, ℕ, ◌+◌, ◌<◌, List, [], ◌∷◌, ◌++◌, length, take, drop, get_or, refl, sym, ◌∙◌, ap, subst, arith}
 use Rattle.std.specs.Prelude.{◌-◌, ◌≤◌, false, ◌&&◌, ◌||◌, nat_le, nat_lt, Vec, Some}
 use Rattle.std.specs.declared.alloc.Global.{Global}
 use Rattle.std.proofs.lemmas.List.{take_more}
@@ -8,6 +8,7 @@ use Rattle.coord_disk.specs.Model.Present.{Present, IsImage, is_within, overwrit
 use Rattle.coord_disk.specs.declared.history.Entry.{Entry}
 use Rattle.coord_disk.specs.declared.history.Entry.TheVariants.{Wrote, Synced}
 use Rattle.coord_disk.specs.declared.history.History.{History}
+use Rattle.coord_disk.proofs.Copied.{grown}
 use Rattle.coord_disk.proofs.Overwritten.{wrote_reads}
 
 pub replayed-push : (disk : Present) (entries : List Entry) (entry : Entry) → replayed disk (entries ++ entry ∷ []) ≡ after (replayed disk entries) entry
@@ -40,6 +41,32 @@ present-push old new entry first entries =
     ap (λ (l : List Entry). replayed (whole new.first) l) entries
     ∙ ap (λ (f : List ℕ). replayed (whole f) (old.entries ++ entry ∷ [])) first
     ∙ replayed-push (whole old.first) old.entries entry
+
+-- nothing more
+module _ (old new : History) (read now : List ℕ) (led : LedTo old read) (first : new.first.items ≡ old.first.items) (entries : new.entries.items ≡ old.entries.items) (synced : new.synced.items ≡ old.synced.items) (same : now ≡ read) where
+  pub same_past : past_with now (Some new) ≡ past_with read (Some old)
+  same_past =
+      let from_first : List ℕ → Past = λ f. record { first = f; entries = new.entries.items } in
+      let from_entries : List Entry → Past = λ l. record { first = old.first.items; entries = l } in
+      ap from_first first ∙ ap from_entries entries
+
+  pub same_led : LedTo new now
+  same_led = record {
+    reads = ap (λ (p : Past). (present_after p).read) same_past ∙ led.reads ∙ sym same;
+    syncs = ap (λ (p : Past). (present_after p).synced) same_past ∙ led.syncs ∙ sym synced;
+    image = subst (λ (r : List ℕ). IsImage (present_after (past_with now (Some new))) r) (sym same) (subst (λ (p : Past). IsImage (present_after p) read) (sym same_past) led.image);
+  }
+
+-- the synced bytes once they are as long as what is read, where nothing was recorded since
+pub is_ready : (old : History) (read read_now tail synced : List ℕ) (entries : List Entry) → LedTo old read → read_now ≡ read → entries ≡ old.entries.items → tail ≡ drop (length old.synced.items) read → synced ≡ old.synced.items ++ tail
+    → IsImage (record (replayed (whole old.first.items) entries) { synced = synced }) read_now
+is_ready old read read_now tail synced entries led read_is entries_is tail_is synced_is =
+    let disk = present_after (past_with read (Some old)) in
+    let rest = tail_is ∙ ap (λ (l : List ℕ). drop (length l) read) (sym led.syncs) in
+    let bytes = ap (λ (l : List ℕ). l ++ tail) led.syncs ∙ sym synced_is in
+    subst (λ (r : List ℕ). IsImage (record (replayed (whole old.first.items) entries) { synced = synced }) r) (sym read_is)
+    (subst (λ (e : List Entry). IsImage (record (replayed (whole old.first.items) e) { synced = synced }) read) (sym entries_is)
+    (subst (λ (s : List ℕ). IsImage (record disk { synced = s }) read) bytes (grown disk read tail led.image rest)))
 
 -- one more sync
 module _ (old new : History) (read : List ℕ) (led : LedTo old read) (first : new.first.items ≡ old.first.items) (entries : new.entries.items ≡ old.entries.items ++ Synced ∷ []) (synced : new.synced.items ≡ read) where
