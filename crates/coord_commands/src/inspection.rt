@@ -109,18 +109,22 @@ pub fn check_store<D: Disk, W: Write>(alloc: Global, disk: D, output: &mut W) ->
         Ok(store) => {
             store.images_give_world();
             let count = store.world().count();
+            drop(store);
             let text = format!(in alloc; "legal {count}\n")?;
             print(output, &text)?;
             Ok(true)
         }
-        Err((fault, _disk)) => match fault {
-            StoreFault::Violated(violation) => {
-                let text = format!(in alloc; "violated {violation}\n")?;
-                print(output, &text)?;
-                Ok(false)
+        Err((fault, disk)) => {
+            drop(disk);
+            match fault {
+                StoreFault::Violated(violation) => {
+                    let text = format!(in alloc; "violated {violation}\n")?;
+                    print(output, &text)?;
+                    Ok(false)
+                }
+                other => Err(Fault::Store(other)),
             }
-            other => Err(Fault::Store(other)),
-        },
+        }
     }
 }
 
