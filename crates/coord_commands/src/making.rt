@@ -1,9 +1,11 @@
 //! Making a store in a folder.
 
-ghost use Rattle.std.specs.Prelude.{◌≡◌, ◌⊎◌, true, length, None, IfErr, IfOk, IfSome, MatchResult, OnOk};
+ghost use Rattle.std.specs.Prelude.{◌≡◌, ◌≢◌, ◌⊎◌, true, length, None, Ok, Err, IfErr, IfOk, IfSome, MatchResult, OnOk};
+ghost use Rattle.std.specs.IoError.{error_kind};
 ghost use Rattle.coord_commands.specs.Ending.{Ends, IsCutShort, PrintsOne};
 ghost use Rattle.coord_commands.specs.Folders.{bytes_of, reads};
 ghost use Rattle.coord_commands.specs.Making.{IsCreatedLine, IsMade, IsOfFile, IsOfMaking, RefusesStore, begun};
+ghost use Rattle.coord_commands.specs.declared.fault.Fault.TheVariants.{OutOfMemory as NoMemory, Read as FailedRead};
 ghost use Rattle.coord_config.specs.Topology.{content};
 
 use crate::creation::create_store;
@@ -15,7 +17,8 @@ use crate::topology::topology_from;
 use coord_config::Topology;
 use coord_disk::Disk;
 use std::alloc::Global;
-use std::io::Write;
+use std::io;
+use std::io::{ErrorKind, Write};
 
 /// Makes a store on the disk of a name, which is empty, with the nodes and links of a topology
 /// file, prints how many steps it has, and answers the exit status. The topology is read and judged
@@ -56,13 +59,26 @@ fn init_at<F: Folder, W: Write>(
         (W.contents output.old) (W.contents output.new)) }
     ensures early { IfErr result (λ fault. IsOfFile fault → folder.new ≡ folder.old) }
 {
-    let Ok(reader) = folder.read(topology) else {
-        return Err(Fault::Read);
-    };
+    let reader = opened(folder.read(topology))?;
     let topology = topology_from(alloc, reader)?;
     let count = make(alloc, folder, file, &topology)?;
     let text = format!(in alloc; "created {count}\n")?;
     print(output, &text)
+}
+
+/// A text that was opened; where it was not, want of memory, or else `Read`.
+fn opened<T>(answer: io::Result<T>) -> Result<T, Fault>
+    ensures text { IfOk answer (λ text. result ≡ Ok text) }
+    ensures memory { IfErr answer (λ error. error_kind error ≡ ErrorKind.OutOfMemory →
+        result ≡ Err NoMemory) }
+    ensures other { IfErr answer (λ error. error_kind error ≢ ErrorKind.OutOfMemory →
+        result ≡ Err FailedRead) }
+    ensures fault { IfErr result (λ fault. (fault ≡ FailedRead) ⊎ (fault ≡ NoMemory)) }
+{
+    match answer {
+        Ok(text) => Ok(text),
+        Err(error) => Err(Fault::or_memory(&error, Fault::Read)),
+    }
 }
 
 /// Makes the store of a topology on the disk of a name, and answers how many steps it has.
