@@ -32,10 +32,14 @@ fn ends<S: Files<File = File> + Net + Threads + Wait + Clock + Sync + AllocGloba
     }
 }
 
-/// Whether a drill printed that a flight was not committed.
+/// Whether a drill printed that a flight was not committed. No step is refused as `Stopped` unless
+/// it was told that the disk failed.
 fn tells_want(output: &[u8]) -> bool {
     match str::from_utf8(output) {
-        Ok(text) => text.contains("commit 1 OutOfMemory\n") || text.contains("commit 2 Device\n"),
+        Ok(text) => {
+            text.contains("commit 2 Device\n")
+                || text.contains("commit 1 OutOfMemory\n") && !text.contains("no 1 Stopped\n")
+        }
         Err(_) => false,
     }
 }
