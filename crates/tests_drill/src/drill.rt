@@ -1,5 +1,6 @@
 //! Runs of the drill, through the program's words.
 
+use crate::folders::has_failed;
 use crate::program::{Ending, ended, is_ending};
 use crate::scripts::{all_bad_lines, runs, version_2};
 use std::alloc::{AllocError, Global};
@@ -21,8 +22,7 @@ fn ends<S: Files<File = File> + Net + Threads + Wait + Clock + Sync + AllocGloba
     ending: Ending<'_>,
 ) -> Result<bool, AllocError> {
     let run = ended(rt, "resetd drill", input)?;
-    let is_lacking = tells_want(run.1.as_slice())
-        || run.2.as_slice() == b"resetd: Device\n".as_slice();
+    let is_lacking = tells_want(run.1.as_slice()) || has_failed(run.2.as_slice());
     let is_it = is_ending(&run, ending);
     drop(run);
     if is_lacking {
@@ -32,10 +32,14 @@ fn ends<S: Files<File = File> + Net + Threads + Wait + Clock + Sync + AllocGloba
     }
 }
 
-/// Whether a drill printed that a flight was not committed.
+/// Whether a drill printed that a flight was not committed. No step is refused as `Stopped` unless
+/// it was told that the disk failed.
 fn tells_want(output: &[u8]) -> bool {
     match str::from_utf8(output) {
-        Ok(text) => text.contains("commit 1 OutOfMemory\n") || text.contains("commit 2 Device\n"),
+        Ok(text) => {
+            text.contains("commit 2 Device\n")
+                || text.contains("commit 1 OutOfMemory\n") && !text.contains("no 1 Stopped\n")
+        }
         Err(_) => false,
     }
 }
@@ -276,7 +280,9 @@ impl Write for Slow {
 /// and what was told.
 type Ended<'a> = (u8, &'a str, u64, &'a str);
 
-/// Whether a drill ends so where its writer has this room, and its flush may fail.
+/// Whether a drill ends so where its writer has this room, and its flush may fail. Where its ledger
+/// or its disk lacks memory there is no answer; a writer with room for 28 bytes keeps that it was
+/// told so.
 fn ends_slowly(
     alloc: Global,
     room: usize,
@@ -292,7 +298,7 @@ fn ends_slowly(
     };
     let mut errors = Vec::with_capacity(alloc, 64)?;
     let status = coord_commands::drill(alloc, &mut input, &mut output, &mut errors);
-    if status == 4 {
+    if status == 4 || tells_want(output.taken.as_slice()) || has_failed(errors.as_slice()) {
         return Err(AllocError);
     }
     let (wanted, printed, flushes, told) = expected;
@@ -310,8 +316,9 @@ fn ends_slowly(
 fn slow_writers(rt: HostRuntime) -> Result<(), Fail> {
     let alloc = rt.alloc();
     let printed = "done 1\nfinished 2\nsignal 1 1\n";
+    let cut = "done 1\nfinished 2\nsignal 1 1";
     assert!(rt; ends_slowly(alloc, 64, false, (0, printed, 1, ""))?);
-    assert!(rt; ends_slowly(alloc, 9, false, (3, "done 1\nfi", 0, "resetd: Write\n"))?);
+    assert!(rt; ends_slowly(alloc, 28, false, (3, cut, 0, "resetd: Write\n"))?);
     assert!(rt; ends_slowly(alloc, 64, true, (3, printed, 1, "resetd: Write\n"))?);
     Ok(())
 }

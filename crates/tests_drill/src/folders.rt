@@ -31,7 +31,14 @@ pub(crate) fn folder_of(alloc: Global, disk: MemDisk) -> Result<MemFolder, Alloc
     })
 }
 
-/// The first of runs in a folder in memory that ends otherwise than it is to.
+/// Whether this is told of a disk that failed. A disk in memory fails for want of memory alone, so
+/// where a run is not to end so there was none.
+pub(crate) fn has_failed(told: &[u8]) -> bool {
+    told == b"resetd: Device\n".as_slice()
+}
+
+/// The first of runs in a folder in memory that ends otherwise than it is to. Where memory runs out
+/// there is no answer.
 pub(crate) fn first_wrong(
     alloc: Global,
     folder: &mut MemFolder,
@@ -52,6 +59,7 @@ pub(crate) fn first_wrong(
         if status == Ok(4) {
             return Err(AllocError);
         }
+        let is_failing = has_failed(errors.as_slice());
         let is_right = match status {
             Ok(status) => is_ending(&(status, output, errors), *ending),
             Err(left) => {
@@ -60,6 +68,9 @@ pub(crate) fn first_wrong(
                     && left.address == "127.0.0.1:0"
             }
         };
+        if !is_right && is_failing {
+            return Err(AllocError);
+        }
         if !is_right {
             return Ok(Some(*words));
         }

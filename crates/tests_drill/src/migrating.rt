@@ -4,7 +4,7 @@ ghost use Rattle.std.specs.Prelude.{◌≤◌};
 ghost use Rattle.coord_batch.specs.Batches.{IsNumbered};
 
 use crate::commands::{PAIR, Run as FileRun, first_wrong as first_wrong_on_files, make_folder};
-use crate::folders::{Run, bytes_in, first_wrong, folder_of};
+use crate::folders::{Run, bytes_in, first_wrong, folder_of, has_failed};
 use crate::program::words_of;
 use coord_commands::run_in;
 use coord_disk::{Disk, MemDisk};
@@ -184,6 +184,9 @@ fn a_line_that_is_not_printed(rt: HostRuntime) -> Result<(), Fail> {
         &mut Closed,
         &mut errors,
     );
+    if status == Some(4) || has_failed(errors.as_slice()) {
+        return Err(AllocError.into());
+    }
     let wrong = first_wrong(alloc, &mut folder, &AGAIN)?;
     assert!(rt; status == Ok(3) && errors.as_slice() == b"resetd: Write\n".as_slice());
     assert!(rt; wrong.is_none() && bytes_in(&folder).first() == Some(&1));
@@ -259,8 +262,9 @@ fn opens_circle<D: Disk>(store: &mut Store<D>) -> Result<bool, CommitFault> {
 
 /// The disk of the circle, once it was opened.
 fn opened_circle(alloc: Global) -> Result<MemDisk, Fail> {
-    let Ok(mut store) = Store::open(alloc, MemDisk::from_bytes(alloc, CIRCLE)?) else {
-        return Err("not opened".into());
+    let mut store = match Store::open(alloc, MemDisk::from_bytes(alloc, CIRCLE)?) {
+        Ok(store) => store,
+        Err((fault, _disk)) => return Err(fault.into()),
     };
     let is_open = opens_circle(&mut store);
     let disk = store.into_disk();
