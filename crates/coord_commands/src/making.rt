@@ -56,8 +56,9 @@ fn init_at<F: Folder, W: Write>(
         (W.contents output.old) (W.contents output.new)) }
     ensures early { IfErr result (λ fault. IsOfFile fault → folder.new ≡ folder.old) }
 {
-    let Ok(reader) = folder.read(topology) else {
-        return Err(Fault::Read);
+    let reader = match folder.read(topology) {
+        Ok(reader) => reader,
+        Err(error) => return Err(Fault::or_memory(&error, Fault::Read)),
     };
     let topology = topology_from(alloc, reader)?;
     let count = make(alloc, folder, file, &topology)?;
