@@ -1,13 +1,20 @@
 -- The law of the program's words.
-use Rattle.std.specs.Prelude.{◌≡◌, true, [], ◌∷◌, codes}
+use Rattle.std.specs.Prelude.{◌≡◌, true, List, [], ◌∷◌, codes, None, Some}
 use Rattle.clap.specs.Words.{Text, takes}
-use Rattle.coord_commands.specs.Words.{resetd}
+use Rattle.coord_commands.specs.Words.{Asked, resetd, task_of}
+use Rattle.coord_commands.specs.Words as asked
 
--- `clap` takes the words of each command, whatever name the program goes by; of files those with a name from the root, and of addresses those that begin with 1
+-- `clap` takes the words, and they ask for this
+abbrev pub AreTakenAs : List Text → Asked → Type 0
+AreTakenAs words asked = (takes resetd words ≡ true) × (task_of words ≡ Some asked)
+
+-- the words of each command are taken, whatever name the program goes by; of files those with a name from the root, and of addresses those that begin with 1
 pub record CommandsAreTaken : Type 0 where
-  pub drill : (name : Text) → takes resetd (name ∷ codes "drill" ∷ []) ≡ true
-  pub init : (name file topology : Text) → takes resetd (name ∷ codes "init" ∷ (47 ∷ file) ∷ (47 ∷ topology) ∷ []) ≡ true
-  pub check : (name file : Text) → takes resetd (name ∷ codes "check" ∷ (47 ∷ file) ∷ []) ≡ true
-  pub show : (name file : Text) → takes resetd (name ∷ codes "show" ∷ (47 ∷ file) ∷ []) ≡ true
-  pub migrate : (name file : Text) → takes resetd (name ∷ codes "migrate" ∷ (47 ∷ file) ∷ []) ≡ true
-  pub serve : (name file address : Text) → takes resetd (name ∷ codes "serve" ∷ (47 ∷ file) ∷ (49 ∷ address) ∷ []) ≡ true
+  pub drill : (name : Text) → AreTakenAs (name ∷ codes "drill" ∷ []) asked.drill
+  pub init : (name file topology : Text) → AreTakenAs (name ∷ codes "init" ∷ (47 ∷ file) ∷ (47 ∷ topology) ∷ []) (asked.init (47 ∷ file) (47 ∷ topology))
+  pub check : (name file : Text) → AreTakenAs (name ∷ codes "check" ∷ (47 ∷ file) ∷ []) (asked.check (47 ∷ file))
+  pub show : (name file : Text) → AreTakenAs (name ∷ codes "show" ∷ (47 ∷ file) ∷ []) (asked.show (47 ∷ file))
+  pub migrate : (name file : Text) → AreTakenAs (name ∷ codes "migrate" ∷ (47 ∷ file) ∷ []) (asked.migrate (47 ∷ file))
+  pub serve : (name file address : Text) → AreTakenAs (name ∷ codes "serve" ∷ (47 ∷ file) ∷ (49 ∷ address) ∷ []) (asked.serve (47 ∷ file) (49 ∷ address))
+  -- `clap` takes `--` before a file, and the words then ask for nothing
+  pub behind_dashes : (name file : Text) → (takes resetd (name ∷ codes "check" ∷ codes "--" ∷ file ∷ []) ≡ true) × (task_of (name ∷ codes "check" ∷ codes "--" ∷ file ∷ []) ≡ None)

@@ -14,11 +14,9 @@ use Rattle.coord_commands.specs.Inspection.{Checks, Shows}
 use Rattle.coord_commands.specs.Making.{IsCreatedLine, IsOfMaking}
 use Rattle.coord_commands.specs.Migrating.{IsMigratedLine, IsOfMigrating}
 use Rattle.coord_commands.specs.Serving.{Serves}
-use Rattle.coord_commands.specs.Words.{resetd, task_of, word}
+use Rattle.coord_commands.specs.Words.{Asked, check, drill, init, migrate, resetd, serve, show, task_of}
 use Rattle.coord_commands.specs.declared.fault.Fault.{Fault}
 use Rattle.coord_commands.specs.declared.fault.Fault.TheVariants.{Usage, OutOfMemory}
-use Rattle.coord_commands.specs.declared.words.Task.{Task}
-use Rattle.coord_commands.specs.declared.words.Task.TheVariants.{Drill, Init, Check, Show, Migrate, Serve}
 
 -- what is known around a run: of its input what is left, its output and standard error, and by names what disks hold, and the bytes of texts
 pub record Around : Type 0 where
@@ -48,19 +46,15 @@ pub record FailsToDrill (input left : Option (List ℕ)) (status : ℕ) (old new
 abbrev pub Drills : Option (List ℕ) → Option (List ℕ) → ℕ → Streams → Streams → Type 0
 Drills input left status old new = HasDrilled input left status old new ⊎ FailsToDrill input left status old new
 
--- the task is carried out, with the words behind its name
-abbrev pub Does : Task → List Text → ℕ → Around → Around → Type 0
-Does Drill words status old new = Drills old.input new.input status old.streams new.streams
-Does Init words status old new =
-    let file = word 2 words in
-    let topology = word 3 words in
+-- what is asked for is done
+abbrev pub Does : Asked → ℕ → Around → Around → Type 0
+Does drill status old new = Drills old.input new.input status old.streams new.streams
+Does (init file topology) status old new =
     Ends (IsOfMaking (old.says topology) (reads (old.holds file)) (reads (new.holds file))) (IsCreatedLine (old.says topology) (reads (old.holds file)) (reads (new.holds file))) status old.streams new.streams
-Does Check words status old new = Checks (reads (old.holds (word 2 words))) status old.streams new.streams
-Does Show words status old new = Shows (reads (old.holds (word 2 words))) status old.streams new.streams
-Does Migrate words status old new =
-    let file = word 2 words in
-    Ends (IsOfMigrating (old.holds file) (new.holds file)) (IsMigratedLine (old.holds file) (new.holds file)) status old.streams new.streams
-Does Serve words status old new = Serves (word 3 words) (reads (old.holds (word 2 words))) (reads (new.holds (word 2 words))) status old.streams.errors new.streams.errors
+Does (check file) status old new = Checks (reads (old.holds file)) status old.streams new.streams
+Does (show file) status old new = Shows (reads (old.holds file)) status old.streams new.streams
+Does (migrate file) status old new = Ends (IsOfMigrating (old.holds file) (new.holds file)) (IsMigratedLine (old.holds file) (new.holds file)) status old.streams new.streams
+Does (serve file address) status old new = Serves address (reads (old.holds file)) (reads (new.holds file)) status old.streams.errors new.streams.errors
 
 -- the words are refused, or there is no memory to read them
 abbrev pub IsOfWords : List Text → Fault → Type 0
@@ -75,4 +69,4 @@ pub record RefusesWords (words : List Text) (status : ℕ) (old new : Around) : 
 
 -- the words are refused, or what they ask for is done
 abbrev pub Runs : List Text → ℕ → Around → Around → Type 0
-Runs words status old new = RefusesWords words status old new ⊎ ((task : Task) × (task_of words ≡ Some task) × Does task words status old new)
+Runs words status old new = RefusesWords words status old new ⊎ ((asked : Asked) × (task_of words ≡ Some asked) × Does asked status old new)

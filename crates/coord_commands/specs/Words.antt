@@ -1,32 +1,57 @@
 -- What the program's words ask for.
-use Rattle.std.specs.Prelude.{ℕ, true, slice_get, unwrap_or, List, [], ◌∷◌, codes, bytes_eq, Option, Some, None, if◌then◌else◌}
-use Rattle.clap.specs.Words.{App, Rule, Text, new_app, new_rule, with_rule, with_subcommand}
+use Rattle.std.specs.Prelude.{ℕ, ◌==◌, length, List, [], ◌∷◌, codes, bytes_eq, Option, Some, None, true, if◌then◌else◌, option_and_then, option_map}
+use Rattle.clap.specs.Words.{App, Row, Rule, Text, first_of, new_app, new_rule, subcommand_of, with_rule, with_subcommand}
 use Rattle.clap.specs.Simple.{on_top}
 use Rattle.clap.specs.declared.builder.action.ArgAction.TheVariants.{Set}
 use Rattle.coord_commands.specs.declared.words.Task.{Task}
-use Rattle.coord_commands.specs.declared.words.Task.TheVariants.{Drill, Init, Check, Show, Migrate, Serve}
+use Rattle.coord_commands.specs.declared.words.Task.TheVariants as task
 
-abbrev pub asked_alone : Text → Option Task
-asked_alone word = if bytes_eq word (codes "drill") then Some Drill else None
+-- what is asked for, with the words behind its name
+pub data Asked : Type 0 where
+  drill : Asked
+  check : Text → Asked
+  show : Text → Asked
+  migrate : Text → Asked
+  init : Text → Text → Asked
+  serve : Text → Text → Asked
 
-abbrev pub asked_of_file : Text → Option Task
-asked_of_file word =
-    if bytes_eq word (codes "check") then Some Check else (if bytes_eq word (codes "show") then Some Show else (if bytes_eq word (codes "migrate") then Some Migrate else None))
+-- what a task is
+abbrev pub asked_of : Task → Asked
+asked_of task.Drill = drill
+asked_of (task.Check file) = check file.now
+asked_of (task.Show file) = show file.now
+asked_of (task.Migrate file) = migrate file.now
+asked_of (task.Init file topology) = init file.now topology.now
+asked_of (task.Serve file address) = serve file.now address.now
 
-abbrev pub asked_of_two : Text → Option Task
-asked_of_two word = if bytes_eq word (codes "init") then Some Init else (if bytes_eq word (codes "serve") then Some Serve else None)
+-- how many words ask for it, with the program's name
+abbrev pub words_for : Asked → ℕ
+words_for drill = 2
+words_for (check file) = 3
+words_for (show file) = 3
+words_for (migrate file) = 3
+words_for (init file topology) = 4
+words_for (serve file address) = 4
 
--- What the words ask for, the first of which is the program's own name: `drill`, `check FILE`, `show FILE`,
--- `migrate FILE`, `init FILE TOPOLOGY` or `serve FILE ADDRESS`.
-abbrev pub task_of : List Text → Option Task
-task_of (name ∷ word ∷ []) = asked_alone word
-task_of (name ∷ word ∷ file ∷ []) = asked_of_file word
-task_of (name ∷ word ∷ file ∷ second ∷ []) = asked_of_two word
-task_of words = None
+-- it is asked for in so many words
+abbrev pub in_words : ℕ → Asked → Option Asked
+in_words count asked = if words_for asked == count then Some asked else None
 
--- the word at this place, counted from 0, and none is empty; the first one is the program's own name
-abbrev pub word : ℕ → List Text → Text
-word n words = unwrap_or (slice_get words n) []
+-- what a command asks for with a file and, where it has one, a second word
+abbrev pub asked_of_file : Text → Text → List Row → Option Asked
+asked_of_file name file rows =
+    if bytes_eq name (codes "check") then Some (check file)
+    else (if bytes_eq name (codes "show") then Some (show file)
+    else (if bytes_eq name (codes "migrate") then Some (migrate file)
+    else (if bytes_eq name (codes "init") then option_map (init file) (first_of (codes "topology") rows)
+    else (if bytes_eq name (codes "serve") then option_map (serve file) (first_of (codes "address") rows)
+    else None))))
+
+-- what the command of a name asks for, with the first values of its words
+abbrev pub asked_by : Text → List Row → Option Asked
+asked_by name rows =
+    if bytes_eq name (codes "drill") then Some drill
+    else option_and_then (λ file. asked_of_file name file rows) (first_of (codes "file") rows)
 
 -- a word that has to be there
 abbrev pub word_named : Text → Rule
@@ -45,3 +70,8 @@ resetd =
     (with_rule (new_app (codes "show")) (word_named (codes "file"))).top)
     (with_rule (with_rule (new_app (codes "serve")) (word_named (codes "file"))) (word_named (codes "address"))).top)
     (with_rule (new_app (codes "migrate")) (word_named (codes "file"))).top
+
+-- What the words ask for, the first of which is the program's own name: what the command that `clap` finds in them asks for,
+-- where no other word is among them, as `--`.
+abbrev pub task_of : List Text → Option Asked
+task_of words = option_and_then (in_words (length words)) (option_and_then (λ found. asked_by found.0 found.1) (subcommand_of resetd words))

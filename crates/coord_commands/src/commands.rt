@@ -13,7 +13,6 @@ use crate::making::init_in;
 use crate::migrating::migrate_in;
 use crate::running::run_in;
 use crate::serving::serve_in;
-use crate::words::word_at;
 use std::fs::File;
 use std::io::{Read, Write};
 use std::net::Net;
@@ -83,15 +82,8 @@ fn carry_out<
         }) }
 {
     match run_in(rt.alloc(), folder, words, input, output, errors) {
-        Some(status) => status,
-        None => serve_in(
-            rt,
-            folder,
-            word_at(words, 2),
-            word_at(words, 3),
-            output,
-            errors,
-        ),
+        Ok(status) => status,
+        Err(left) => serve_in(rt, folder, left.file, left.address, output, errors),
     }
 }
 

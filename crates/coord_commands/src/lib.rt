@@ -44,7 +44,7 @@ pub use inspection::{check_in, check_store, show_in, show_store};
 pub use making::init_in;
 pub use memory::{MemFolder, Named};
 pub use migrating::{migrate_in, migrate_store};
-pub use running::{drill, run_in};
+pub use running::{ToServe, drill, run_in};
 pub use serving::{serve, serve_in};
 pub use status::report;
 pub use topology::topology_from;

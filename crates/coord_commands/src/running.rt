@@ -1,9 +1,8 @@
 //! What words ask for, in a folder.
 
-ghost use Rattle.std.specs.Prelude.{◌≡◌, map, IfNone, IfSome, Some, string_bytes};
+ghost use Rattle.std.specs.Prelude.{◌≡◌, map, IfErr, IfOk, Some, string_bytes};
 ghost use Rattle.coord_commands.specs.Running.{Drills, Runs};
-ghost use Rattle.coord_commands.specs.Words.{task_of};
-ghost use Rattle.coord_commands.specs.declared.words.Task.TheVariants.{Serve};
+ghost use Rattle.coord_commands.specs.Words.{serve, task_of};
 
 use crate::fault::Fault;
 use crate::folder::Folder;
@@ -11,22 +10,29 @@ use crate::inspection::{check_in, show_in};
 use crate::making::init_in;
 use crate::migrating::migrate_in;
 use crate::status::report;
-use crate::words::{Task, read_words, word_at};
+use crate::words::{Task, read_words};
 use coord_drill::coord_drill;
 use std::alloc::Global;
 use std::io::{Read, Write};
 
-/// Carries out what the program's words ask for in a folder, and answers the exit status; None,
-/// with nothing done, where they ask for `serve`. It waits for nobody.
-pub fn run_in<F: Folder, R: Read, W: Write, E: Write>(
+/// A store that is to be served, and the address to serve it at.
+#[derive(Clone, Copy, Debug, PartialEq, Eq)]
+pub struct ToServe<'a> {
+    pub file: &'a str,
+    pub address: &'a str,
+}
+
+/// Carries out what the program's words ask for in a folder, and answers the exit status; with
+/// nothing done what is to be served, where they ask for `serve`. It waits for nobody.
+pub fn run_in<'a, F: Folder, R: Read, W: Write, E: Write>(
     alloc: Global,
     folder: &mut F,
-    words: &[String],
+    words: &'a [String],
     input: &mut R,
     output: &mut W,
     errors: &mut E,
-) -> Option<u8>
-    ensures done { IfSome result (λ status. Runs (map string_bytes words.now) status
+) -> Result<u8, ToServe<'a>>
+    ensures done { IfOk result (λ status. Runs (map string_bytes words.now) status
         (record {
           input = R.remaining input.old;
           streams = record {
@@ -45,26 +51,22 @@ pub fn run_in<F: Folder, R: Read, W: Write, E: Write>(
           holds = F.holds folder.new;
           says = F.says folder.new;
         })) }
-    ensures left { IfNone result (task_of (map string_bytes words.now) ≡ Some Serve) }
-    ensures unopened { IfNone result (folder.new ≡ folder.old) }
-    ensures unprinted { IfNone result ((input.new ≡ input.old) × (output.new ≡ output.old) ×
+    ensures left { IfErr result (λ left. task_of (map string_bytes words.now)
+        ≡ Some (serve left.file.now left.address.now)) }
+    ensures unopened { IfErr result (λ _. folder.new ≡ folder.old) }
+    ensures unprinted { IfErr result (λ _. (input.new ≡ input.old) × (output.new ≡ output.old) ×
         (errors.new ≡ errors.old)) }
 {
     match read_words(alloc, words) {
-        Ok(Task::Drill) => Some(drill(alloc, input, output, errors)),
-        Ok(Task::Init) => Some(init_in(
-            alloc,
-            folder,
-            word_at(words, 2),
-            word_at(words, 3),
-            output,
-            errors,
-        )),
-        Ok(Task::Check) => Some(check_in(alloc, folder, word_at(words, 2), output, errors)),
-        Ok(Task::Show) => Some(show_in(alloc, folder, word_at(words, 2), output, errors)),
-        Ok(Task::Migrate) => Some(migrate_in(alloc, folder, word_at(words, 2), output, errors)),
-        Ok(Task::Serve) => None,
-        Err(fault) => Some(report(Err(fault), errors)),
+        Ok(Task::Drill) => Ok(drill(alloc, input, output, errors)),
+        Ok(Task::Init { file, topology }) => {
+            Ok(init_in(alloc, folder, file, topology, output, errors))
+        }
+        Ok(Task::Check { file }) => Ok(check_in(alloc, folder, file, output, errors)),
+        Ok(Task::Show { file }) => Ok(show_in(alloc, folder, file, output, errors)),
+        Ok(Task::Migrate { file }) => Ok(migrate_in(alloc, folder, file, output, errors)),
+        Ok(Task::Serve { file, address }) => Err(ToServe { file, address }),
+        Err(fault) => Ok(report(Err(fault), errors)),
     }
 }
 

@@ -1,44 +1,57 @@
 //! The program's words.
 
-ghost use Rattle.std.specs.Prelude.{◌≡◌, ◌⊎◌, false, true, map, IfOk, IfErr, Some, None, string_bytes};
-ghost use Rattle.clap.specs.Words.{app_of, new_app, rule_of, takes, with_rule, with_subcommand};
+ghost use Rattle.std.specs.Prelude.{◌≡◌, ◌⊎◌, false, true, map, option_and_then, option_map, IfOk, IfErr, Some, None, string_bytes};
+ghost use Rattle.clap.specs.Words.{app_of, found_of, new_app, rows_of, rule_of, subcommand_rows_of, takes, with_rule, with_subcommand};
 ghost use Rattle.coord_commands.specs.declared.fault.Fault.TheVariants.{Usage, OutOfMemory};
-ghost use Rattle.coord_commands.specs.Words.{asked_alone, asked_of_file, asked_of_two, resetd, task_of, word, word_named};
+ghost use Rattle.coord_commands.specs.Words.{asked_by, asked_of, asked_of_file, in_words, resetd, task_of, word_named, words_for};
 
 use crate::fault::Fault;
 use clap::error::ErrorKind;
-use clap::{Arg, ArgAction, Command};
+use clap::{Arg, ArgAction, ArgMatches, Command};
 use std::alloc::{AllocError, Global};
 
-/// What the words ask for.
+/// What the words ask for, with the words behind its name.
 #[derive(Clone, Copy, Debug, PartialEq, Eq)]
-pub enum Task {
+pub enum Task<'a> {
     /// Read requests from standard input, and print what becomes of each.
     Drill,
     /// Check the store on a file.
-    Check,
+    Check { file: &'a str },
     /// Show the store on a file.
-    Show,
+    Show { file: &'a str },
     /// Raise the store on a file to version 2.
-    Migrate,
+    Migrate { file: &'a str },
     /// Make a store on a file, from a topology file.
-    Init,
+    Init { file: &'a str, topology: &'a str },
     /// Serve the store on a file at an address.
-    Serve,
+    Serve { file: &'a str, address: &'a str },
+}
+
+impl Task<'_> {
+    /// How many words ask for it, with the program's name.
+    fn words(&self) -> usize
+        ensures { result ≡ words_for (asked_of self.now) }
+    {
+        match self {
+            Task::Drill => 2,
+            Task::Check { .. } | Task::Show { .. } | Task::Migrate { .. } => 3,
+            Task::Init { .. } | Task::Serve { .. } => 4,
+        }
+    }
 }
 
 /// What the program's words ask for, the first of which is its own name: `drill`, `check FILE`,
 /// `show FILE`, `migrate FILE`, `init FILE TOPOLOGY` or `serve FILE ADDRESS`. All else, and what
 /// `clap` refuses, is refused: `help`, `--help`, `-h` and `--version` too.
-pub fn read_words(alloc: Global, words: &[String]) -> Result<Task, Fault>
-    ensures ok { IfOk result (λ task. task_of (map string_bytes words.now) ≡ Some task) }
+pub fn read_words<'a>(alloc: Global, words: &'a [String]) -> Result<Task<'a>, Fault>
+    ensures ok { IfOk result (λ task. task_of (map string_bytes words.now) ≡ Some (asked_of task)) }
     ensures err { IfErr result (λ fault. (fault ≡ OutOfMemory)
         ⊎ ((fault ≡ Usage) × (takes resetd (map string_bytes words.now) ≡ true →
         task_of (map string_bytes words.now) ≡ None))) }
 {
     let program = program(alloc)?;
     match program.try_get_matches_from(words) {
-        Ok(_) => task_of(words).ok_or(Fault::Usage),
+        Ok(matches) => task_in(&matches, words.len()).ok_or(Fault::Usage),
         Err(error) => match error.kind() {
             ErrorKind::OutOfMemory => Err(Fault::OutOfMemory),
             _ => Err(Fault::Usage),
@@ -100,58 +113,48 @@ fn word_named(alloc: Global, id: &str) -> Arg<'_>
     Arg::new(alloc, id).required(true).action(ArgAction::Set)
 }
 
-/// The word at a place, counted from 0. One that is not there is empty.
-pub fn word_at(words: &[String], place: usize) -> &str
-    ensures { result.now ≡ word place (map string_bytes words.now) }
+/// What the command asks for that `clap` found in so many words.
+fn task_in<'a>(matches: &ArgMatches<'a>, count: usize) -> Option<Task<'a>>
+    ensures { option_map asked_of result ≡ option_and_then (in_words count)
+        (option_and_then (λ found. asked_by found.0 found.1) (subcommand_rows_of matches.now)) }
 {
-    match words.get(place) {
-        Some(word) => word.as_str(),
-        None => "",
-    }
-}
-
-/// The task that the words are those of.
-fn task_of(words: &[String]) -> Option<Task>
-    ensures { result ≡ task_of (map string_bytes words.now) }
-{
-    match words {
-        [_, word] => alone(word),
-        [_, word, _] => of_file(word),
-        [_, word, _, _] => of_two(word),
-        _ => None,
-    }
-}
-
-/// The task of a word with nothing behind it.
-fn alone(word: &str) -> Option<Task>
-    ensures { result ≡ asked_alone word.now }
-{
-    (word == "drill").then_some(Task::Drill)
-}
-
-/// The task of a word with a file and one more word behind it.
-fn of_two(word: &str) -> Option<Task>
-    ensures { result ≡ asked_of_two word.now }
-{
-    if word == "init" {
-        Some(Task::Init)
-    } else if word == "serve" {
-        Some(Task::Serve)
+    let (name, found) = matches.subcommand()?;
+    let task = task_named(name, found)?;
+    if task.words() == count {
+        Some(task)
     } else {
         None
     }
 }
 
-/// The task of a word with a file behind it.
-fn of_file(word: &str) -> Option<Task>
-    ensures { result ≡ asked_of_file word.now }
+/// What the command of a name asks for, with the first values of its words.
+fn task_named<'a>(name: &str, matches: &ArgMatches<'a>) -> Option<Task<'a>>
+    ensures { option_map asked_of result ≡ asked_by name.now (rows_of (found_of matches.now)) }
 {
-    if word == "check" {
-        Some(Task::Check)
-    } else if word == "show" {
-        Some(Task::Show)
-    } else if word == "migrate" {
-        Some(Task::Migrate)
+    if name == "drill" {
+        return Some(Task::Drill);
+    }
+    let file = matches.get_str("file")?;
+    task_of_file(name, file, matches)
+}
+
+/// What the command of a name asks for with a file.
+fn task_of_file<'a>(name: &str, file: &'a str, matches: &ArgMatches<'a>) -> Option<Task<'a>>
+    ensures { option_map asked_of result
+        ≡ asked_of_file name.now file.now (rows_of (found_of matches.now)) }
+{
+    if name == "check" {
+        Some(Task::Check { file })
+    } else if name == "show" {
+        Some(Task::Show { file })
+    } else if name == "migrate" {
+        Some(Task::Migrate { file })
+    } else if name == "init" {
+        let topology = matches.get_str("topology")?;
+        Some(Task::Init { file, topology })
+    } else if name == "serve" {
+        let address = matches.get_str("address")?;
+        Some(Task::Serve { file, address })
     } else {
         None
     }

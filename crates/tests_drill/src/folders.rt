@@ -49,12 +49,16 @@ pub(crate) fn first_wrong(
             &mut output,
             &mut errors,
         );
-        if status == Some(4) {
+        if status == Ok(4) {
             return Err(AllocError);
         }
         let is_right = match status {
-            Some(status) => is_ending(&(status, output, errors), *ending),
-            None => *words == "resetd serve store 127.0.0.1:0",
+            Ok(status) => is_ending(&(status, output, errors), *ending),
+            Err(left) => {
+                *words == "resetd serve store 127.0.0.1:0"
+                    && left.file == "store"
+                    && left.address == "127.0.0.1:0"
+            }
         };
         if !is_right {
             return Ok(Some(*words));

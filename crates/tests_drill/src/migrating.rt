@@ -185,7 +185,7 @@ fn a_line_that_is_not_printed(rt: HostRuntime) -> Result<(), Fail> {
         &mut errors,
     );
     let wrong = first_wrong(alloc, &mut folder, &AGAIN)?;
-    assert!(rt; status == Some(3) && errors.as_slice() == b"resetd: Write\n".as_slice());
+    assert!(rt; status == Ok(3) && errors.as_slice() == b"resetd: Write\n".as_slice());
     assert!(rt; wrong.is_none() && bytes_in(&folder).first() == Some(&1));
     Ok(())
 }

@@ -1,12 +1,13 @@
 //! An engine over a device that fails a call.
 
-ghost use Rattle.std.specs.Prelude.{◌≡◌};
+ghost use Rattle.std.specs.Prelude.{◌≡◌, false, IfOk};
+ghost use Rattle.coord_store.specs.Kept.{has_stopped};
 
 use crate::scripts::{HALF, adding, adopted, created, engine};
 use coord_disk::{BlipDisk, Disk, MemDisk};
 use coord_engine::{Engine, Origin, Share};
 use coord_ledger::{Ledger, Ticket};
-use coord_store::{CommitFault, Store};
+use coord_store::{CommitFault, Store, StoreFault};
 use coord_types::{Refusal, Step};
 use std::alloc::Global;
 use std::marker::Brand;
@@ -99,20 +100,25 @@ fn refuse_unsettled<D: Disk, L: Origin, R: Wait>(
 }
 
 // A store on this device, which fails the call with this number.
-fn failing(alloc: Global, disk: MemDisk, fails: u64) -> Result<Store<BlipDisk<MemDisk>>, Fail> {
-    match Store::open(alloc, BlipDisk::new(disk, fails)) {
-        Ok(store) => Ok(store),
-        Err((fault, _disk)) => Err(fault)?,
+fn failing(alloc: Global, disk: MemDisk, fails: u64) -> Result<Store<BlipDisk<MemDisk>>, StoreFault>
+    ensures { IfOk result (λ store. has_stopped store ≡ false) }
+{
+    Store::open(alloc, BlipDisk::new(disk, fails)).map_err(|(fault, _disk)| fault)
+}
+
+// A device with a store that was just made.
+fn made(alloc: Global) -> Result<MemDisk, StoreFault> {
+    match Store::create(alloc, MemDisk::new(alloc), HALF, 1) {
+        Ok(store) => Ok(store.into_disk()),
+        Err((fault, _disk)) => Err(fault),
     }
 }
 
 // A store that was just made, on a device that fails the first call of its first commit.
-fn made(alloc: Global) -> Result<Store<BlipDisk<MemDisk>>, Fail> {
-    let disk = match Store::create(alloc, MemDisk::new(alloc), HALF, 1) {
-        Ok(store) => store.into_disk(),
-        Err((fault, _disk)) => return Err(fault)?,
-    };
-    let opened = failing(alloc, disk, u64::MAX)?.into_disk();
+fn failing_at_first(alloc: Global) -> Result<Store<BlipDisk<MemDisk>>, StoreFault>
+    ensures { IfOk result (λ store. has_stopped store ≡ false) }
+{
+    let opened = failing(alloc, made(alloc)?, u64::MAX)?.into_disk();
     let calls = opened.calls();
     failing(alloc, opened.into_inner(), calls)
 }
@@ -122,7 +128,7 @@ fn refuses_unsettled<R: Wait>(rt: &R, alloc: Global) -> Result<bool, Fail> {
         adding(1, 1, 1).ok_or("step")?,
         adding(1, 2, 2).ok_or("step")?,
     ];
-    let ledger = adopted(alloc, made(alloc)?)?;
+    let ledger = adopted(alloc, failing_at_first(alloc)?)?;
     refuse_unsettled::<_, Brand, R>(rt, alloc, Blank::new(65536), ledger, steps)
 }
 

@@ -1,13 +1,14 @@
 //! What the tests hand to an engine.
 
-ghost use Rattle.std.specs.Prelude.{◌≡◌};
+ghost use Rattle.std.specs.Prelude.{◌≡◌, false, IfOk};
+ghost use Rattle.coord_store.specs.Kept.{has_stopped};
 
 use coord_disk::Disk;
 use coord_engine::{CloseFault, Closed, Engine, Origin, Share};
 use coord_ledger::Ledger;
-use coord_store::Store;
+use coord_store::{Store, StoreFault};
 use coord_types::{Client, Command, Group, NodeId, Refusal, Step};
-use std::alloc::Global;
+use std::alloc::{AllocError, Global};
 use std::sync::ledger::Blank;
 use std::test::Fail;
 
@@ -15,14 +16,17 @@ use std::test::Fail;
 pub(crate) const HALF: u64 = 32_768;
 
 /// A ledger over a store that has not stopped.
-pub(crate) fn adopted<D: Disk>(alloc: Global, store: Store<D>) -> Result<Ledger<D>, Fail> {
-    if store.stopped() {
-        return Err("stopped")?;
-    }
-    match Ledger::adopt(alloc, store) {
-        Ok(ledger) => Ok(ledger),
-        Err((fault, _store)) => Err(fault)?,
-    }
+pub(crate) fn adopted<D: Disk>(alloc: Global, store: Store<D>) -> Result<Ledger<D>, AllocError>
+    requires { has_stopped store ≡ false }
+{
+    Ledger::adopt(alloc, store).map_err(|(fault, _store)| fault)
+}
+
+// A store that is made on this device.
+fn made<D: Disk>(alloc: Global, disk: D) -> Result<Store<D>, StoreFault>
+    ensures { IfOk result (λ store. has_stopped store ≡ false) }
+{
+    Store::create(alloc, disk, HALF, 1).map_err(|(fault, _disk)| fault)
 }
 
 fn submit_all<D: Disk>(ledger: &mut Ledger<D>, steps: &[Step]) -> Result<(), Refusal> {
@@ -32,17 +36,25 @@ fn submit_all<D: Disk>(ledger: &mut Ledger<D>, steps: &[Step]) -> Result<(), Ref
     Ok(())
 }
 
-/// A ledger over a store that is made on this device, with these steps pending.
-pub(crate) fn created<D: Disk>(alloc: Global, disk: D, steps: &[Step]) -> Result<Ledger<D>, Fail> {
-    let store = match Store::create(alloc, disk, HALF, 1) {
-        Ok(store) => store,
-        Err((fault, _disk)) => return Err(fault)?,
-    };
-    let mut ledger = adopted(alloc, store)?;
+// A ledger over a store that is made on this device.
+fn ledger_on<D: Disk>(alloc: Global, disk: D) -> Result<Ledger<D>, StoreFault> {
+    let store = made(alloc, disk)?;
+    Ok(adopted(alloc, store)?)
+}
+
+// A ledger with these steps pending.
+fn with_pending<D: Disk>(ledger: Ledger<D>, steps: &[Step]) -> Result<Ledger<D>, Refusal> {
+    let mut ledger = ledger;
     match submit_all(&mut ledger, steps) {
         Ok(()) => Ok(ledger),
-        Err(refusal) => Err(refusal)?,
+        Err(refusal) => Err(refusal),
     }
+}
+
+/// A ledger over a store that is made on this device, with these steps pending.
+pub(crate) fn created<D: Disk>(alloc: Global, disk: D, steps: &[Step]) -> Result<Ledger<D>, Fail> {
+    let ledger = ledger_on(alloc, disk)?;
+    Ok(with_pending(ledger, steps)?)
 }
 
 /// An engine over a ledger that has its store at home.

@@ -12,12 +12,11 @@ use Rattle.coord_types.specs.declared.steps.Session.{Session}
 use Rattle.coord_types.specs.declared.steps.Step.{Step}
 use Rattle.coord_types.specs.declared.steps.Step.TheVariants.{Order, Take, Clear}
 use Rattle.coord_link.specs.LaneMachine.{Lane, Tests, refused_or}
-use Rattle.coord_node.specs.Steps.{kind}
 use Rattle.coord_world.proofs.Facade.{by_test}
 use Rattle.coord_world.specs.declared.verdicts.Verdict.{Verdict}
 use Rattle.coord_world.specs.declared.verdicts.Verdict.TheVariants.{Fresh, Repeat}
 use Rattle.coord_world.specs.protocol.Acceptance.{accepts, against, against_command, against_data, against_receipt, is_exhausted, judged, lane, or_repeat}
-use Rattle.coord_world.specs.protocol.NumberedWorld.{World, state}
+use Rattle.coord_world.specs.protocol.NumberedWorld.{World}
 use Rattle.coord_ledger.specs.machine.Log.{Log, front_world, settled_world}
 use Rattle.coord_ledger.specs.machine.Submits.{is_full, unless_full, verdict}
 
@@ -52,7 +51,7 @@ against_other front settled (Clear p) = by_lane (lane front p.from p.to p.inc)
 judged_other : (front settled : World) (x : Step) → judged front settled x ≢ Err OutOfMemory
 judged_other front settled x =
     let all : Other ((is_exhausted front, Exhausted) ∷ against front settled x) = ((λ same. cc), against_other front settled x) in
-    first_other (Fresh (kind (state front) x)) ((is_exhausted front, Exhausted) ∷ against front settled x) all
+    first_other _ ((is_exhausted front, Exhausted) ∷ against front settled x) all
 
 accepts_other : (front settled : World) (x : Step) → accepts front settled x ≢ Err OutOfMemory
 accepts_other front settled (Order c n x) = by_session (get front.sessions c)

@@ -1,7 +1,43 @@
-use Rattle.std.proofs.Common.{ap, inr, map, refl, rules, string_bytes, ◌∙◌, ◌≡◌}
-use Rattle.clap.specs.Words.{app_of, takes}
-use Rattle.coord_commands.specs.Words.{resetd}
+use Rattle.std.proofs.Common.{◌≡◌, ◌⊎◌, ◌∙◌, ap, ap₂, inl, length, ℕ, inr, map, refl, rules, string_bytes, subst, sym, true, List, Option, Some, None}
+use Rattle.std.proofs.lemmas.List.{length-map}
+use Rattle.std.specs.Prelude.{IfErr, IfOk, Result, option_and_then, option_map}
+use Rattle.std.specs.Option.{ok_or}
+use Rattle.clap.specs.Words.{App, Row, Text, app_of, is_simple, subcommand_of, takes}
+use Rattle.clap.proofs.OnLiterals.{clap_on_literals}
+use Rattle.coord_commands.specs.Words.{Asked, asked_by, asked_of, in_words, resetd, task_of}
+use Rattle.coord_commands.specs.declared.fault.Fault.{Fault}
+use Rattle.coord_commands.specs.declared.fault.Fault.TheVariants.{OutOfMemory, Usage}
+use Rattle.coord_commands.specs.declared.words.Task.{Task}
 use Rattle.coord_commands.proofs.words.read_words.Goals as goal
+
+is_simple_resetd : is_simple resetd ≡ true
+unfolding clap_on_literals
+is_simple_resetd = refl
+
+-- the task is the one that is asked for, or nothing is
+ok_of : (found : Option Task) (asked : Option Asked) → option_map asked_of found ≡ asked → IfOk (ok_or found Usage) (λ task. asked ≡ Some (asked_of task))
+ok_of None asked is = tt
+ok_of (Some task) asked is = sym is
+
+err_of : (words : List Text) (found : Option Task) → option_map asked_of found ≡ task_of words
+    → IfErr (ok_or found Usage) (λ fault. (fault ≡ OutOfMemory) ⊎ ((fault ≡ Usage) × (takes resetd words ≡ true → task_of words ≡ None)))
+err_of words None is = inr (refl, λ _. sym is)
+err_of words (Some task) is = tt
+
+pub returns-in-Ok : goal.returns-in-Ok
+returns-in-Ok c =
+    let words = map (λ s. string_bytes s) c.args.words.now in
+    let program_is : app_of c.in_ok-program.program ≡ resetd = search rules in
+    let found = c.in-Ok.ensures.matches (ap is_simple program_is ∙ is_simple_resetd) in
+    let command = found.1 ∙ ap (λ (a : App). subcommand_of a words) program_is in
+    let count : length c.args.words.now ≡ length words = sym (length-map c.args.words.now (λ s. string_bytes s)) in
+    let asked : ℕ → Option (Text × List Row) → Option Asked = λ n f. option_and_then (in_words n) (option_and_then (λ (p : Text × List Row). asked_by p.0 p.1) f) in
+    let is : option_map asked_of c.task_in.result ≡ task_of words = c.task_in.ensures ∙ ap₂ asked count command in
+    record {
+      ok = subst (λ (r : Result Task Fault). IfOk r (λ task. task_of words ≡ Some (asked_of task))) (sym c.ok_or.ensures.value) (ok_of c.task_in.result (task_of words) is);
+      err = subst (λ (r : Result Task Fault). IfErr r (λ fault. (fault ≡ OutOfMemory) ⊎ ((fault ≡ Usage) × (takes resetd words ≡ true → task_of words ≡ None)))) (sym c.ok_or.ensures.value)
+          (err_of words c.task_in.result is);
+    }
 
 pub returns : goal.returns
 returns c =
