@@ -4,7 +4,7 @@ use Rattle.serde_json.specs.View.{items_of}
 use Rattle.serde_json.specs.Data.{Data}
 use Rattle.serde_json.specs.Written.{has_float, items_have_float}
 use Rattle.coord_admin.specs.Replies.{link_row, node_row, reply}
-use Rattle.coord_ledger.specs.machine.Shown as shown
+use Rattle.coord_view.specs.Shown as shown
 use Rattle.coord_admin.specs.declared.answer.Answer.TheVariants.{Shown}
 
 no_float-rows : {X : Type 0} (row : X → Data) → ((x : X) → has_float (row x) ≡ false) → (xs : List X) → items_have_float (items_of (map row xs)) ≡ false

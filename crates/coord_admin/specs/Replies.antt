@@ -12,12 +12,12 @@ use Rattle.coord_types.specs.declared.refusals.Refusal.TheVariants as refusal
 use Rattle.coord_admin.specs.declared.answer.Answer.{Answer}
 use Rattle.coord_admin.specs.declared.answer.Answer.TheVariants.{Replied, Refused, Shown, Resent, Closed, Faulted}
 use Rattle.coord_admin.specs.declared.fault.LineFault.TheVariants.{OutOfMemory}
-use Rattle.coord_ledger.specs.declared.view.NodeView.{NodeView}
-use Rattle.coord_ledger.specs.declared.view.LinkView.{LinkView}
+use Rattle.coord_view.specs.declared.view.NodeView.{NodeView}
+use Rattle.coord_view.specs.declared.view.LinkView.{LinkView}
 use Rattle.coord_admin.specs.declared.writing.ReplyLine.{ReplyLine}
 use Rattle.coord_admin.specs.declared.writing.ReplyLine.TheVariants as ready
 use Rattle.coord_admin.specs.Faults.{line_fault_name}
-use Rattle.coord_ledger.specs.machine.Shown as shown
+use Rattle.coord_view.specs.Shown as shown
 
 -- what a desk's results mean; where it had no memory, that is the line's fault
 abbrev pub refused : Refusal → Answer

@@ -4,8 +4,8 @@ ghost use Rattle.std.specs.Prelude.{◌≡◌};
 ghost use Rattle.coord_admin.specs.Stream.{is_closed};
 
 use crate::fault::LineFault;
-use coord_ledger::View;
 use coord_types::{Refusal, Reply};
+use coord_view::View;
 
 /// What a line is answered, before it is written.
 #[derive(Drop, Debug)]

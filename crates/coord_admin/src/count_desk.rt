@@ -4,8 +4,8 @@ ghost use Rattle.std.specs.Prelude.{◌≡◌};
 ghost use Rattle.coord_admin.specs.CountDesk.{answer_of, count_after};
 
 use crate::desk::Desk;
-use coord_ledger::View;
 use coord_types::{Client, Command, Kind, Refusal, Reply};
+use coord_view::View;
 use std::alloc::Global;
 use std::marker::Model;
 

@@ -8,8 +8,8 @@ ghost use Rattle.coord_admin.specs.declared.answer.Answer.{Answer};
 ghost use Rattle.coord_admin.specs.declared.answer.Answer.TheVariants as answer;
 ghost use Rattle.coord_admin.specs.Replies.{order_answer, show_answer, resend_answer};
 
-use coord_ledger::View;
 use coord_types::{Client, Command, Refusal, Reply};
+use coord_view::View;
 
 /// Whom `serve` asks. Its meaning is what it may answer to each request, and what it then is.
 pub trait Desk {

@@ -7,8 +7,8 @@ ghost use Rattle.serde_json.specs.Written.{has_float, compact_text};
 ghost use Rattle.coord_admin.specs.declared.answer.Answer.TheVariants as answer;
 ghost use Rattle.coord_admin.specs.Replies.{reply, reply_line, node_row, link_row, rows};
 
-use coord_ledger::{LinkView, NodeView, View};
 use coord_types::{Refusal, Reply};
+use coord_view::{LinkView, NodeView, View};
 use serde_json::{Value, json};
 use std::alloc::{AllocError, Global};
 

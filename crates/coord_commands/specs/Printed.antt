@@ -2,8 +2,8 @@
 use Rattle.std.specs.Prelude.{ℕ, List, ◌++◌, codes, decimal}
 use Rattle.coord_check.specs.Names.{violation_text}
 use Rattle.coord_check.specs.declared.violation.Violation.{Violation}
-use Rattle.coord_drill.specs.Printed.{view_lines}
-use Rattle.coord_ledger.specs.machine.Shown.{shown as view_of}
+use Rattle.coord_view.specs.Printed.{view_lines}
+use Rattle.coord_view.specs.Shown.{shown as view_of}
 use Rattle.coord_world.specs.protocol.NumberedWorld.{World}
 
 -- with the number of steps that a store begins with

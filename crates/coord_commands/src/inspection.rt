@@ -4,18 +4,14 @@ ghost use Rattle.std.specs.Prelude.{◌≡◌, false, true, IfErr, IfOk, OnOk};
 ghost use Rattle.coord_commands.specs.Ending.{IsCutShort, PrintsOne};
 ghost use Rattle.coord_commands.specs.Folders.{bytes_of, reads};
 ghost use Rattle.coord_commands.specs.Inspection.{Checks, IsCheckedLine, IsLegalLine, IsOfOpening, IsShown, IsViolatedLine, Shows};
-ghost use Rattle.coord_commands.specs.declared.fault.Fault.TheVariants.{OutOfMemory};
-ghost use Rattle.coord_ledger.specs.machine.Shown.{shown as view_of};
-ghost use Rattle.coord_store.specs.Kept.{has_stopped};
 
 use crate::fault::Fault;
 use crate::folder::Folder;
 use crate::lines::print;
 use crate::status::report;
 use coord_disk::Disk;
-use coord_drill::print_view;
-use coord_ledger::{Ledger, Seen, View};
 use coord_store::{Store, StoreFault};
+use coord_view::{print_view, view_of};
 use std::alloc::Global;
 use std::io::Write;
 
@@ -138,26 +134,13 @@ pub fn show_store<D: Disk, W: Write>(alloc: Global, disk: D, output: &mut W) -> 
 {
     match Store::open(alloc, disk) {
         Ok(store) => {
+            let world = store.world();
+            // All accepted steps of a store that is not being served are settled.
+            let view = view_of(alloc, world.count(), world)?;
             let mut text = String::new(alloc);
-            print_view(&mut text, &view_of(alloc, store)?)?;
+            print_view(&mut text, &view)?;
             print(output, &text)
         }
         Err((fault, _disk)) => Err(Fault::Store(fault)),
-    }
-}
-
-/// What a ledger over a store shows: the store's world, with no step that is not settled.
-fn view_of<D: Disk>(alloc: Global, store: Store<D>) -> Result<View, Fault>
-    requires { has_stopped store ≡ false }
-    ensures view { IfOk result (λ view. view ≡ view_of store.world.count store.world) }
-    ensures fault { IfErr result (λ fault. fault ≡ OutOfMemory) }
-{
-    let Ok(ledger) = Ledger::adopt(alloc, store) else {
-        return Err(Fault::OutOfMemory);
-    };
-    match ledger.show(&mut Seen::new()) {
-        Ok(view) => Ok(view),
-        // A ledger that has just begun refuses for nothing else.
-        Err(_) => Err(Fault::OutOfMemory),
     }
 }

@@ -14,10 +14,11 @@ use Rattle.coord_ledger.specs.declared.events.Answer.TheVariants.{Accepted, Begu
 use Rattle.coord_ledger.specs.machine.Answers.{next_size, verdict_on}
 use Rattle.coord_ledger.specs.machine.Log.{Log, accepted_count, front_world, pending, settled_count, settled_world, with_step}
 use Rattle.coord_ledger.specs.machine.Runs.{Answered}
-use Rattle.coord_ledger.specs.machine.Shown.{shown}
+use Rattle.coord_view.specs.Printed.{view_lines}
+use Rattle.coord_view.specs.Shown.{shown}
 use Rattle.coord_drill.specs.Asked.{asked}
 use Rattle.coord_drill.specs.Drill.{DrillState, after_asked, line_events, machine_of}
-use Rattle.coord_drill.specs.Printed.{bad_line, commit_line, count_line, fault_line, idle_line, opened_line, output_lines, pending_line, refusal_line, reply_line, settled_lines, view_lines}
+use Rattle.coord_drill.specs.Printed.{bad_line, commit_line, count_line, fault_line, idle_line, opened_line, output_lines, pending_line, refusal_line, reply_line, settled_lines}
 use Rattle.coord_drill.specs.declared.asked.Asked.{Asked}
 use Rattle.coord_drill.specs.declared.asked.Asked.TheVariants.{Submit, Refuse, Nothing, Resend, Check, Show, Hold, Flush, Crash, Version2}
 use Rattle.coord_drill.specs.declared.request.Request.{Request}

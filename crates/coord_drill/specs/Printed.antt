@@ -1,8 +1,7 @@
--- The lines that a drill prints, each ended by a line feed.
+-- The lines that a drill prints, each ended by a line feed. Those of a view are coord_view's.
 use Rattle.std.specs.Prelude.{ℕ, ◌==◌, List, ◌++◌, codes, decimal, Option, Some, None, if◌then◌else◌}
 use Rattle.std.specs.List.{flat_map}
-use Rattle.std.specs.Option.{option_map_or}
-use Rattle.coord_types.specs.Names.{kind_name, mode_name, msg_name, refusal_text}
+use Rattle.coord_types.specs.Names.{kind_name, msg_name, refusal_text}
 use Rattle.coord_types.specs.declared.messages.Msg.{Msg}
 use Rattle.coord_types.specs.declared.messages.Msg.TheVariants.{Abort}
 use Rattle.coord_types.specs.declared.steps.Reply.{Reply}
@@ -14,9 +13,6 @@ use Rattle.coord_check.specs.declared.violation.Violation.{Violation}
 use Rattle.coord_store.specs.Faults.{commit_name, commit_number}
 use Rattle.coord_store.specs.declared.faults.CommitFault.{CommitFault}
 use Rattle.coord_world.specs.protocol.Outputs.{StepOutcome}
-use Rattle.coord_ledger.specs.declared.view.LinkView.{LinkView}
-use Rattle.coord_ledger.specs.declared.view.NodeView.{NodeView}
-use Rattle.coord_ledger.specs.machine.Shown.{Shown}
 
 abbrev pub bad_line : ℕ → List ℕ
 bad_line n = codes "bad line " ++ (decimal n ++ codes "\n")
@@ -62,15 +58,3 @@ opened_line count = codes "opened " ++ (decimal count ++ codes "\n")
 abbrev pub fault_line : Option Violation → List ℕ
 fault_line None = codes "legal\n"
 fault_line (Some v) = codes "violated " ++ (violation_text v ++ codes "\n")
-
--- 0 stands for no parent
-abbrev pub node_line : NodeView → List ℕ
-node_line v =
-    codes "node " ++ (decimal v.node ++ (codes " " ++ (decimal v.group ++ (codes " " ++ (mode_name v.mode ++ (codes " "
-    ++ (decimal (option_map_or (λ u. u) v.parent 0) ++ (codes " " ++ (decimal v.epoch ++ (codes " " ++ (decimal v.confirmed ++ codes "\n")))))))))))
-
-abbrev pub link_line : LinkView → List ℕ
-link_line v = codes "link " ++ (decimal v.a ++ (codes " " ++ (decimal v.b ++ (codes " " ++ (decimal v.inc ++ codes "\n")))))
-
-abbrev pub view_lines : Shown → List ℕ
-view_lines v = codes "view " ++ (decimal v.accepted ++ (codes " " ++ (decimal v.settled ++ codes "\n"))) ++ (flat_map node_line v.nodes ++ flat_map link_line v.links)

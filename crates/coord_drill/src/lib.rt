@@ -8,13 +8,12 @@
 //!
 //! `specs/Grammar.antt` says what a line asks for and `specs/Asked.antt` what that is by the front
 //! world; `specs/Drill.antt` what becomes of a drill, a few events of the event machine for each
-//! line; `specs/Answered.antt` what is printed to it, and `specs/Printed.antt` the lines themselves.
+//! line; `specs/Answered.antt` what is printed to it, and `specs/Printed.antt` the lines themselves,
+//! but for those of a view, which are coord_view's.
 //! Memory, the device and a crash choose among the machine's answers: that is the luck of a line.
 //! `specs/Drilled.antt` says what may be printed to a whole input, for some luck at each line. The
 //! main theorem is the contract of [`coord_drill`]: what was written may be printed to all that was
 //! read. The grammar's law is that of [`spelled_is_read`]: no two requests share a line.
-//!
-//! [`print_view`] adds the lines of `show`, for other callers too.
 #![tactic(auto)]
 
 mod answers;
@@ -32,4 +31,3 @@ mod writing;
 pub use console::{MOST_READS, coord_drill};
 pub use fault::Fault;
 pub use laws::{spelled_is_read, worked_lines};
-pub use print::print_view;

@@ -1,12 +1,10 @@
 //! The lines that a drill prints.
 
 ghost use Rattle.std.specs.Prelude.{◌≡◌, ◌++◌, OnOk, string_bytes};
-ghost use Rattle.std.specs.List.{flat_map};
-ghost use Rattle.coord_drill.specs.Printed.{bad_line, commit_line, count_line, fault_line, idle_line, link_line, node_line, opened_line, output_line, pending_line, refusal_line, reply_line, view_lines};
+ghost use Rattle.coord_drill.specs.Printed.{bad_line, commit_line, count_line, fault_line, idle_line, opened_line, output_line, pending_line, refusal_line, reply_line};
 ghost use Rattle.coord_types.specs.declared.outputs.Output.TheVariants.{Receipted, Sent};
 
 use coord_check::Violation;
-use coord_ledger::{LinkView, NodeView, View};
 use coord_store::CommitFault;
 use coord_types::{DataPacket, Msg, Output, ReceiptPacket, Refusal, Reply, Version};
 use std::alloc::AllocError;
@@ -78,49 +76,6 @@ pub fn print_opened(text: &mut String, count: u64) -> Result<(), AllocError>
     ensures { OnOk result (string_bytes text.new ≡ string_bytes text.old ++ opened_line count) }
 {
     writeln!(text, "opened {count}")
-}
-
-/// Adds the lines that show a world: how many steps are accepted and settled, and its nodes and links.
-pub fn print_view(text: &mut String, view: &View) -> Result<(), AllocError>
-    ensures { OnOk result (string_bytes text.new ≡ string_bytes text.old ++ view_lines view.now) }
-{
-    let accepted = view.accepted;
-    let settled = view.settled;
-    writeln!(text, "view {accepted} {settled}")?;
-    for node in &view.nodes {
-        print_node(text, node)?;
-    }
-    for link in &view.links {
-        print_link(text, link)?;
-    }
-    Ok(())
-}
-
-fn print_node(text: &mut String, view: &NodeView) -> Result<(), AllocError>
-    ensures { OnOk result (string_bytes text.new ≡ string_bytes text.old ++ node_line view.now) }
-{
-    let node = view.node.number();
-    let group = view.group.number();
-    let mode = view.mode.name();
-    let parent = match view.parent {
-        Some(parent) => parent.number(),
-        None => 0,
-    };
-    let epoch = view.epoch;
-    let confirmed = view.confirmed;
-    writeln!(
-        text,
-        "node {node} {group} {mode} {parent} {epoch} {confirmed}"
-    )
-}
-
-fn print_link(text: &mut String, view: &LinkView) -> Result<(), AllocError>
-    ensures { OnOk result (string_bytes text.new ≡ string_bytes text.old ++ link_line view.now) }
-{
-    let a = view.a.number();
-    let b = view.b.number();
-    let inc = view.inc;
-    writeln!(text, "link {a} {b} {inc}")
 }
 
 /// Adds the line of a packet or a signal that goes out in a world of this version.

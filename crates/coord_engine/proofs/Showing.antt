@@ -5,7 +5,7 @@ use Rattle.std.proofs.lemmas.Bool.Decides.{nat_tests}
 use Rattle.coord_types.specs.declared.refusals.Refusal.{Refusal}
 use Rattle.coord_types.specs.declared.refusals.Refusal.TheVariants.{Behind, OutOfMemory, Stopped}
 use Rattle.coord_ledger.specs.machine.Log.{accepted_count, settled_count, settled_world}
-use Rattle.coord_ledger.specs.machine.Shown.{Shown, shown}
+use Rattle.coord_view.specs.Shown.{Shown, shown}
 use Rattle.coord_engine.specs.State.{GuardedState}
 use Rattle.coord_engine.specs.Threads.{RefusesShow, Shows}
 

@@ -13,7 +13,7 @@ use Rattle.coord_ledger.specs.ledger.Calls.{keeps_store, next_flight}
 use Rattle.coord_ledger.specs.ledger.State.{Claim, FlightState, LedgerState}
 use Rattle.coord_ledger.specs.machine.After.{releases_of, resent}
 use Rattle.coord_ledger.specs.machine.Log.{accepted_count, pending, settled_count, settled_world}
-use Rattle.coord_ledger.specs.machine.Shown.{Shown, shown}
+use Rattle.coord_view.specs.Shown.{Shown, shown}
 use Rattle.coord_engine.specs.Calls.{AnswersStep, engine_verdict}
 use Rattle.coord_engine.specs.Closing.{MayClose}
 use Rattle.coord_engine.specs.State.{Basis, CanHold, GuardedState}

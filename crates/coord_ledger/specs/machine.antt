@@ -1,7 +1,6 @@
 -- The event machine: what a ledger is, what it may answer to each event, and what it is after that.
 pub mod Log
 pub mod Submits
-pub mod Shown
 pub mod Machine
 pub mod Answers
 pub mod After

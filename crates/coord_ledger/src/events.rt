@@ -1,8 +1,8 @@
 //! What may happen to a ledger in one thread, and what each event is answered.
 
-use crate::view::View;
 use coord_store::CommitFault;
 use coord_types::{Refusal, Reply, Step};
+use coord_view::View;
 
 /// One call on a ledger or its flight, or a crash of the disk.
 #[derive(Clone, Copy, Debug, PartialEq, Eq)]

@@ -13,7 +13,7 @@
 //! `Ledger` is the code: `submit` accepts a step and gives a `Ticket` for its reply, `begin_flush`
 //! sends the store out with the next steps as a `Flight`, `Flight::commit` writes them, `end_flush`
 //! takes the flight back and gives the `Releases` of what it settled, and `collect` gives the reply.
-//! Contracts see `LedgerState`, `FlightState` and a `Claim` (`specs/ledger/State.antt`), and what
+//! `show` gives the settled world as coord_view's `View`. Contracts see `LedgerState`, `FlightState` and a `Claim` (`specs/ledger/State.antt`), and what
 //! each call makes of them (`specs/ledger/Calls.antt`).
 //!
 //! [`run_events`] runs a list of events in one thread, with crashes in between: the main theorem is
@@ -38,8 +38,8 @@ mod seen;
 mod settling;
 mod ticket;
 mod trace;
-mod view;
 
+pub use coord_view::{LinkView, NodeView, View};
 pub use driver::Driver;
 pub use event_driver::run_events;
 pub use events::{Answer, Event};
@@ -53,4 +53,3 @@ pub use seen::Seen;
 pub use settling::is_same_step;
 pub use ticket::{Note, Ticket};
 pub use trace::{RunFault, RunFaultKind, Trace};
-pub use view::{LinkView, NodeView, View};

@@ -6,7 +6,7 @@ use Rattle.coord_types.specs.declared.steps.Reply.{Reply}
 use Rattle.coord_types.specs.declared.steps.Step.{Step}
 use Rattle.coord_ledger.specs.declared.ticket.Note.{Note}
 use Rattle.coord_ledger.specs.ledger.State.{Claim}
-use Rattle.coord_ledger.specs.machine.Shown.{Shown}
+use Rattle.coord_view.specs.Shown.{Shown}
 use Rattle.coord_engine.specs.Calls.{RefusesTicket}
 use Rattle.coord_engine.specs.State.{Basis}
 use Rattle.coord_engine.specs.Threads.{AtSomeMoment, RefusesShow, Shows}

@@ -8,7 +8,7 @@ use Rattle.coord_types.specs.declared.steps.Step.TheVariants as step
 use Rattle.coord_ledger.specs.declared.release.Release.{Release}
 use Rattle.coord_ledger.specs.declared.ticket.Note.{Note}
 use Rattle.coord_ledger.specs.ledger.State.{Claim}
-use Rattle.coord_ledger.specs.machine.Shown as shown
+use Rattle.coord_view.specs.Shown as shown
 use Rattle.coord_engine.specs.Calls.{CollectsAs}
 use Rattle.coord_engine.specs.State.{Basis}
 use Rattle.coord_engine.specs.Threads.{AtSomeMoment, RefusesShow, SendsAgain, Shows, Submits}

@@ -8,8 +8,9 @@ ghost use Rattle.coord_server.specs.EngineDesk.{DeskAnswers, Orders, Resends};
 use coord_admin::Desk;
 use coord_disk::Disk;
 use coord_engine::{Engine, Origin, Port, Share, hand_over};
-use coord_ledger::{Seen, View};
+use coord_ledger::Seen;
 use coord_types::{Client, Command, Refusal, Reply, Step};
+use coord_view::View;
 use std::marker::Model;
 use std::sync::Wait;
 

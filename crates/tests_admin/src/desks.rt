@@ -3,8 +3,8 @@
 ghost use Rattle.std.specs.Prelude.{⊤};
 
 use coord_admin::Desk;
-use coord_ledger::{LinkView, NodeView, View};
 use coord_types::{Client, Command, Group, Mode, NodeId, Refusal, Reply};
+use coord_view::{LinkView, NodeView, View};
 use std::alloc::Global;
 
 /// Shows two linked nodes, refuses to resend, and finds no memory for an order.

@@ -10,11 +10,12 @@ ghost use Rattle.coord_drill.specs.declared.asked.Asked.TheVariants as ask;
 use super::Drill;
 use super::flying::print_released;
 use crate::fault::Fault;
-use crate::print::{print_fault, print_idle, print_refusal, print_view};
+use crate::print::{print_fault, print_idle, print_refusal};
 use coord_check::check;
 use coord_disk::MemDisk;
 use coord_ledger::{Ledger, Seen};
 use coord_types::Refusal;
+use coord_view::print_view;
 
 impl Drill {
     /// Prints that a lane is not there.

@@ -17,7 +17,7 @@ use Rattle.coord_ledger.specs.machine.After.{release_of, resent}
 use Rattle.coord_ledger.specs.machine.Consistent.{IsConsistent, IsConsistentLog}
 use Rattle.coord_ledger.specs.machine.Log.{Log, accepted_count, settled_count, settled_world}
 use Rattle.coord_ledger.specs.machine.Machine.{Machine}
-use Rattle.coord_ledger.specs.machine.Shown as view
+use Rattle.coord_view.specs.Shown as view
 use Rattle.coord_ledger.proofs.follows.FollowsFlights.{follows_not_finished}
 use Rattle.coord_ledger.proofs.follows.FollowsTickets.{follows_not_shown, follows_shown, follows_unshown, never_behind}
 use Rattle.coord_ledger.proofs.machine.Logs.{count_after}

@@ -21,7 +21,7 @@ use Rattle.coord_ledger.specs.machine.After.{after, after_finish, after_submit, 
 use Rattle.coord_ledger.specs.machine.Answers.{IsOneOf, answers, kept, kept_by, kept_with, next_size, stays_home, ticket, to_collect, to_commit, to_finish, to_submit, verdict_on, with_flight}
 use Rattle.coord_ledger.specs.machine.Log.{accepted_count, settled_count, settled_world}
 use Rattle.coord_ledger.specs.machine.Machine.{FlightOut, Machine, has_stopped}
-use Rattle.coord_ledger.specs.machine.Shown.{shown}
+use Rattle.coord_view.specs.Shown.{shown}
 use Rattle.coord_ledger.specs.promises.Headline.{IsCutShort}
 
 -- an answer that releases nothing

@@ -16,7 +16,7 @@ use Rattle.coord_ledger.specs.machine.Answers.{IsOneOf, answers, ticket, to_coll
 use Rattle.coord_ledger.specs.machine.Consistent.{IsConsistent}
 use Rattle.coord_ledger.specs.machine.Log.{Log, accepted_count, settled_count, settled_world}
 use Rattle.coord_ledger.specs.machine.Machine.{Machine}
-use Rattle.coord_ledger.specs.machine.Shown.{shown}
+use Rattle.coord_view.specs.Shown.{shown}
 use Rattle.coord_ledger.proofs.follows.Granted.{holds_at, holds_spent}
 use Rattle.coord_ledger.proofs.follows.Follows.{accepted_is, count_is, settled_is, stays, stopped_is}
 

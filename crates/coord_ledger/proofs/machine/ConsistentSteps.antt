@@ -22,7 +22,7 @@ use Rattle.coord_ledger.specs.machine.Answers.{ticket, to_collect, to_show, to_s
 use Rattle.coord_ledger.specs.machine.Consistent.{DoubtFits, FlightFits, IsConsistent, IsConsistentLog, TicketFits}
 use Rattle.coord_ledger.specs.machine.Log.{Log, accepted_count, front_world, settled_count, settled_world, with_step}
 use Rattle.coord_ledger.specs.machine.Machine.{FlightOut, Machine, has_stopped}
-use Rattle.coord_ledger.specs.machine.Shown.{shown}
+use Rattle.coord_view.specs.Shown.{shown}
 use Rattle.coord_ledger.specs.machine.Submits.{verdict}
 use Rattle.coord_ledger.specs.promises.Headline.{IsReplyOf}
 use Rattle.coord_ledger.proofs.machine.Verdicts.{verdict_accepts, verdict_repeats}

@@ -26,7 +26,7 @@ use Rattle.coord_ledger.specs.machine.Answers.{answers, kept_by, kept_with, tick
 use Rattle.coord_ledger.specs.machine.Consistent.{IsConsistent, IsConsistentLog}
 use Rattle.coord_ledger.specs.machine.Log.{Log, accepted_count, moved, pending, settled_count, settled_world, with_settled, with_step, world_after}
 use Rattle.coord_ledger.specs.machine.Machine.{FlightOut, Machine, has_stopped}
-use Rattle.coord_ledger.specs.machine.Shown.{shown}
+use Rattle.coord_view.specs.Shown.{shown}
 use Rattle.coord_ledger.specs.machine.Submits.{unless_full, verdict}
 use Rattle.coord_ledger.specs.promises.Headline.{is_crash}
 use Rattle.coord_ledger.proofs.machine.Lists.{each_one}

@@ -20,7 +20,7 @@ use Rattle.coord_ledger.specs.machine.Answers.{IsOneOf, kept, kept_by, kept_with
 use Rattle.coord_ledger.specs.machine.Consistent.{DoubtFits, IsConsistent}
 use Rattle.coord_ledger.specs.machine.Log.{accepted_count, settled_count, settled_world, world_after}
 use Rattle.coord_ledger.specs.machine.Machine.{FlightOut, Machine, has_stopped}
-use Rattle.coord_ledger.specs.machine.Shown.{shown}
+use Rattle.coord_view.specs.Shown.{shown}
 use Rattle.coord_ledger.specs.promises.Headline.{Survives}
 use Rattle.coord_ledger.proofs.machine.ConsistentFlights.{kept_more, no_doubt}
 use Rattle.coord_ledger.proofs.machine.Lists.{all_raised}

@@ -22,7 +22,7 @@ use Rattle.coord_ledger.specs.machine.Answers.{answers, kept, next_size, stays_h
 use Rattle.coord_ledger.specs.machine.Consistent.{IsConsistent}
 use Rattle.coord_ledger.specs.machine.Log.{accepted_count, settled_count, settled_world}
 use Rattle.coord_ledger.specs.machine.Machine.{FlightOut, Machine, has_stopped}
-use Rattle.coord_ledger.specs.machine.Shown.{shown}
+use Rattle.coord_view.specs.Shown.{shown}
 use Rattle.coord_ledger.proofs.machine.ConsistentFlights.{KeepsMore, all_keep_more}
 use Rattle.coord_ledger.proofs.machine.Lists.{each_one}
 

@@ -23,7 +23,7 @@ use Rattle.coord_ledger.specs.declared.release.Release.{Release}
 use Rattle.coord_ledger.specs.machine.After.{after}
 use Rattle.coord_ledger.specs.machine.Answers.{IsOneOf, answers}
 use Rattle.coord_ledger.specs.machine.Machine.{Machine, adopted}
-use Rattle.coord_ledger.specs.machine.Shown as view
+use Rattle.coord_view.specs.Shown as view
 
 -- ---- how a run is written down
 

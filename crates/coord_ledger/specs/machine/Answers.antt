@@ -17,7 +17,7 @@ use Rattle.coord_ledger.specs.declared.mark.Mark.{Mark}
 use Rattle.coord_ledger.specs.declared.mark.Mark.TheVariants.{New, Good, Torn}
 use Rattle.coord_ledger.specs.machine.Log.{Log, accepted_count, pending, settled_count, settled_world}
 use Rattle.coord_ledger.specs.machine.Machine.{FlightOut, Machine, has_stopped}
-use Rattle.coord_ledger.specs.machine.Shown.{shown}
+use Rattle.coord_view.specs.Shown.{shown}
 use Rattle.coord_ledger.specs.machine.Submits.{verdict}
 
 abbrev pub IsOneOf : {A : Type 0} → A → List A → Type 0

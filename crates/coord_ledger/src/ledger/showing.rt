@@ -1,52 +1,18 @@
 //! What is sent again, and what is shown.
 
-ghost use Rattle.std.specs.Prelude.{◌≡◌, ◌<◌, ◌≤◌, Err, is_some, false, true, map, IfOk, MatchResult, OnErr};
+ghost use Rattle.std.specs.Prelude.{◌≡◌, ◌<◌, ◌≤◌, Err, is_some, false, true, IfOk, MatchResult, OnErr};
 ghost use Rattle.coord_types.specs.declared.refusals.Refusal.TheVariants.{OutOfMemory, Stopped, Behind};
 ghost use Rattle.coord_ledger.specs.machine.After.{resent};
 ghost use Rattle.coord_ledger.specs.machine.Log.{accepted_count, settled_count, settled_world};
-ghost use Rattle.coord_ledger.specs.machine.Shown.{link_view, node_view, shown};
+ghost use Rattle.coord_view.specs.Shown.{shown};
 
 use super::Ledger;
 use crate::settling::push_all;
-use crate::view::{LinkView, NodeView};
-use crate::{Releases, Seen, View};
+use crate::{Releases, Seen};
 use coord_disk::Disk;
 use coord_types::Refusal;
-use coord_world::{LinkRow, NodeRow};
-use std::alloc::{AllocError, Global};
-
-/// The nodes as they are shown.
-fn node_views(alloc: Global, rows: &[NodeRow]) -> Result<Vec<NodeView>, AllocError>
-    ensures { IfOk result (λ views. views.items ≡ map node_view rows.now) }
-{
-    let mut views = Vec::with_capacity(alloc, rows.len())?;
-    for row in rows {
-        views.push(NodeView {
-            node: row.id,
-            group: row.group,
-            mode: row.mode,
-            parent: row.parent,
-            epoch: row.epoch,
-            confirmed: row.confirmed,
-        })?;
-    }
-    Ok(views)
-}
-
-/// The links as they are shown.
-fn link_views(alloc: Global, rows: &[LinkRow]) -> Result<Vec<LinkView>, AllocError>
-    ensures { IfOk result (λ views. views.items ≡ map link_view rows.now) }
-{
-    let mut views = Vec::with_capacity(alloc, rows.len())?;
-    for row in rows {
-        views.push(LinkView {
-            a: row.a,
-            b: row.b,
-            inc: row.forth.inc(),
-        })?;
-    }
-    Ok(views)
-}
+use coord_view::{View, view_of};
+use std::alloc::AllocError;
 
 impl<D: Disk> Ledger<D> {
     /// The packets that may have been lost, to be sent again as of step 0: those of the settled
@@ -58,20 +24,6 @@ impl<D: Disk> Ledger<D> {
         let mut rows = Vec::new(self.alloc);
         push_all(&mut rows, 0, &outputs)?;
         Ok(Releases::of(rows))
-    }
-
-    /// The settled world's rows.
-    fn view(&self) -> Result<View, AllocError>
-        ensures { IfOk result (λ view. view ≡
-            shown (accepted_count self.now.log) (settled_world self.now.log)) }
-    {
-        let parts = self.settled.parts()?;
-        Ok(View {
-            accepted: self.accepted_count(),
-            settled: self.settled.count(),
-            nodes: node_views(self.alloc, &parts.nodes)?,
-            links: link_views(self.alloc, &parts.links)?,
-        })
     }
 
     /// Shows the settled world, of which the caller must not have seen more: the first that applies
@@ -94,7 +46,7 @@ impl<D: Disk> Ledger<D> {
         if seen.count() > settled {
             return Err(Refusal::Behind { settled });
         }
-        match self.view() {
+        match view_of(self.alloc, self.accepted_count(), &self.settled) {
             Ok(view) => {
                 seen.note(settled);
                 Ok(view)

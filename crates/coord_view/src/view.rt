@@ -35,7 +35,7 @@ pub struct View {
 }
 
 impl Model for View {
-    ghost use Rattle.coord_ledger.specs.machine.Shown.{Shown};
+    ghost use Rattle.coord_view.specs.Shown.{Shown};
 
     ghost Value = { Shown };
 

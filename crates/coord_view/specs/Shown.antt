@@ -1,11 +1,11 @@
--- What is shown of a ledger.
+-- What is shown of a world.
 use Rattle.std.specs.Prelude.{ℕ, List, map}
 use Rattle.coord_world.specs.declared.rows.parts.LinkRow.{LinkRow}
 use Rattle.coord_world.specs.declared.rows.parts.NodeRow.{NodeRow}
 use Rattle.coord_world.specs.protocol.NumberedWorld.{World}
 use Rattle.coord_world.specs.protocol.Rows.{rows_of}
-use Rattle.coord_ledger.specs.declared.view.LinkView.{LinkView}
-use Rattle.coord_ledger.specs.declared.view.NodeView.{NodeView}
+use Rattle.coord_view.specs.declared.view.LinkView.{LinkView}
+use Rattle.coord_view.specs.declared.view.NodeView.{NodeView}
 
 pub record Shown : Type 0 where
   pub accepted : ℕ
