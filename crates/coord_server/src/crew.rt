@@ -143,6 +143,10 @@ fn run_in<
         (based_on D.keeps_model D.present L.base L.before) C.met callers result.callers
         (record { notes = result.own; seen = seen }) result.left }
 {
+    // Room for what the workers leave: none of their shares may be lost for want of memory.
+    let Ok(room) = Vec::with_capacity(alloc, usize::from(WORKERS)) else {
+        return not_run::<D, L, C>(alloc, own, callers, ServerFault::OutOfMemory);
+    };
     let Some(flushing) = start_flusher(scope, rt, engine, port) else {
         return not_run::<D, L, C>(alloc, own, callers, ServerFault::OutOfMemory);
     };
@@ -152,7 +156,7 @@ fn run_in<
     engine.finish(rt);
     flushing.join(rt);
     port.hang_up();
-    ran.workers = all_joined(rt, alloc, running);
+    ran.workers = all_joined(rt, room, running);
     ran
 }
 
@@ -192,13 +196,13 @@ fn start_worker<'s, 'r: 's, 'e: 's, E, D: Disk + Send, L: Origin + Send + Sync, 
         .ok()
 }
 
-/// Waits for all workers. A share for which there is no memory is lost.
+/// Waits for all workers, and puts what they had into room for all.
 fn all_joined<L: Count, R: Threads + Wait>(
     rt: &R,
-    alloc: Global,
+    room: Vec<PacketShare<L>>,
     running: Vec<JoinHandle<PacketShare<L>>>,
 ) -> Vec<PacketShare<L>> {
-    let mut workers = Vec::new(alloc);
+    let mut workers = room;
     for started in running {
         let _ = workers.push(started.join(rt));
     }

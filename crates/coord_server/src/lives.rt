@@ -79,20 +79,26 @@ pub fn serve_lives<
     )
 }
 
-/// Says where they call. Else why not.
+/// Says where they call. Else why not: there was no memory for the line where lines are printed on.
 fn print_listening<C: Callers, W: Write>(
     callers: &C,
     printer: &mut Printer<W>,
 ) -> Option<ServerFault>
-    ensures { IfSome result IsOfStart }
+    ensures start { IfSome result IsOfStart }
+    ensures write { IfSome result (λ fault. fault ≡ ServerFault.Write →
+        printer.new.is_broken ≡ true) }
+    ensures memory { IfSome result (λ fault. fault ≡ ServerFault.OutOfMemory →
+        printer.new.is_broken ≡ false) }
 {
     let Ok(address) = callers.address() else {
         return Some(ServerFault::Socket);
     };
     if printer.print_address(address) {
         None
-    } else {
+    } else if printer.is_broken() {
         Some(ServerFault::Write)
+    } else {
+        Some(ServerFault::OutOfMemory)
     }
 }
 
