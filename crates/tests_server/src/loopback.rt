@@ -1,10 +1,10 @@
 //! A server and its clients in one process.
 
+use crate::rings::created;
 use coord_check::check;
 use coord_disk::{Disk, MemDisk};
 use coord_engine::Closed;
 use coord_server::serve_store;
-use coord_store::Store;
 use coord_types::{Client, Command, NodeId, Step};
 use std::alloc::{AllocError, Global};
 use std::io;
@@ -67,12 +67,15 @@ fn ends_settled<R: Threads + Wait + Clock + Sync>(
     output: &mut Vec<u8>,
 ) -> Option<bool> {
     let fourth = reset()?;
-    let store = Store::create(alloc, MemDisk::new(alloc), 32_768, 1).ok()?;
+    let store = created(alloc)?;
     if store.stopped() {
+        drop(store);
         return None;
     }
-    let closed = serve_store(rt, alloc, store, listener, output).ok()?;
-    Some(is_settled(&closed, &fourth))
+    match serve_store(rt, alloc, store, listener, output) {
+        Ok(closed) => Some(is_settled(&closed, &fourth)),
+        Err(_) => None,
+    }
 }
 
 /// A client that has sent these bytes, and sends no more.
