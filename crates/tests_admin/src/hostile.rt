@@ -2,6 +2,7 @@
 
 use crate::lines::{WORKED_REPLIES, serve_halves, serves, worked_lines};
 use coord_admin::{CountDesk, Desk, Ended, ServeFault};
+use std::alloc::{AllocError, Global};
 use std::io;
 use std::io::{Read, Write};
 use std::test::Fail;
@@ -26,22 +27,27 @@ impl Read for OneByOne<'_> {
     }
 }
 
+/// Whether lines that come byte by byte get the replies of the worked lines.
+fn are_read(alloc: Global, lines: &[u8]) -> Result<bool, AllocError> {
+    let mut desk = CountDesk::new(alloc, 0);
+    let mut reader = OneByOne { left: lines };
+    serves(
+        alloc,
+        &mut desk,
+        &mut reader,
+        WORKED_REPLIES,
+        Ok(Ended::Input),
+    )
+}
+
+fn are_worked_lines_read(alloc: Global) -> Result<bool, AllocError> {
+    let lines = worked_lines(alloc)?;
+    are_read(alloc, &lines)
+}
+
 #[test]
 fn lines_byte_by_byte(rt: HostRuntime) -> Result<(), Fail> {
-    let lines = worked_lines(rt.alloc())?;
-    let mut desk = CountDesk::new(rt.alloc(), 0);
-    let mut reader = OneByOne {
-        left: lines.as_slice(),
-    };
-    assert!(rt;
-        serves(
-            rt.alloc(),
-            &mut desk,
-            &mut reader,
-            WORKED_REPLIES,
-            Ok(Ended::Input)
-        )?
-    );
+    assert!(rt; are_worked_lines_read(rt.alloc())?);
     Ok(())
 }
 

@@ -64,19 +64,22 @@ pub(crate) const WORKED_REPLIES: &str = "{\"kind\":\"done\",\"step\":1}
 {\"fault\":\"Unfinished\"}
 ";
 
+/// Whether these lines get these replies from a new desk.
+fn are_replied(alloc: Global, lines: &[u8], replies: &str) -> Result<bool, AllocError> {
+    let mut reader = lines;
+    let mut desk = CountDesk::new(alloc, 0);
+    serves(alloc, &mut desk, &mut reader, replies, Ok(Ended::Input))
+}
+
+/// Whether the worked lines get their replies.
+fn are_worked(alloc: Global) -> Result<bool, AllocError> {
+    let lines = worked_lines(alloc)?;
+    are_replied(alloc, &lines, WORKED_REPLIES)
+}
+
 #[test]
 fn administration_lines(rt: HostRuntime) -> Result<(), Fail> {
-    let lines = worked_lines(rt.alloc())?;
-    let mut desk = CountDesk::new(rt.alloc(), 0);
-    assert!(rt;
-        serves(
-            rt.alloc(),
-            &mut desk,
-            &mut lines.as_slice(),
-            WORKED_REPLIES,
-            Ok(Ended::Input)
-        )?
-    );
+    assert!(rt; are_worked(rt.alloc())?);
     Ok(())
 }
 
@@ -153,39 +156,63 @@ const SINGLE_LINES: [(&str, &str); 24] = [
     ),
 ];
 
+/// They stand behind a call, so that a proof about the walk over them does not carry their texts.
+fn single_replies() -> &'static [(&'static str, &'static str)] {
+    &SINGLE_LINES
+}
+
+fn with_end(alloc: Global, line: &str) -> Result<String, AllocError> {
+    Ok(format!(in alloc; "{line}\n")?)
+}
+
 /// Whether a line gets this reply.
 fn replies(alloc: Global, line: &str, reply: &str) -> Result<bool, AllocError> {
-    let mut input = String::from_str(alloc, line)?;
-    input.push('\n')?;
-    let mut expected = String::from_str(alloc, reply)?;
-    expected.push('\n')?;
-    let mut desk = CountDesk::new(alloc, 0);
-    serves(
-        alloc,
-        &mut desk,
-        &mut input.as_bytes(),
-        expected.as_str(),
-        Ok(Ended::Input),
-    )
+    let input = with_end(alloc, line)?;
+    match with_end(alloc, reply) {
+        Ok(expected) => are_replied(alloc, input.as_bytes(), &expected),
+        Err(fault) => {
+            drop(input);
+            Err(fault)
+        }
+    }
+}
+
+/// The first line that gets another reply.
+fn first_wrong(alloc: Global) -> Result<Option<&'static str>, AllocError> {
+    for (line, reply) in single_replies() {
+        if !replies(alloc, line, reply)? {
+            return Ok(Some(*line));
+        }
+    }
+    Ok(None)
 }
 
 #[test]
 fn single_lines(rt: HostRuntime) -> Result<(), Fail> {
-    for (line, reply) in SINGLE_LINES {
-        assert!(rt; replies(rt.alloc(), line, reply)?, "{line}");
-    }
+    let wrong = first_wrong(rt.alloc())?;
+    assert!(rt; wrong.is_none(), "{wrong:?}");
     Ok(())
 }
 
-#[test]
-fn deep_nesting(rt: HostRuntime) -> Result<(), Fail> {
-    let mut line = String::new(rt.alloc());
+/// Two hundred brackets, and as many that close them.
+fn nested(alloc: Global) -> Result<String, AllocError> {
+    let mut line = String::new(alloc);
     for bracket in ['[', ']'] {
         for _ in 0..200 {
             line.push(bracket)?;
         }
     }
-    assert!(rt; replies(rt.alloc(), line.as_str(), "{\"fault\":\"BadJson\"}")?);
+    Ok(line)
+}
+
+fn is_too_deep(alloc: Global) -> Result<bool, AllocError> {
+    let line = nested(alloc)?;
+    replies(alloc, &line, "{\"fault\":\"BadJson\"}")
+}
+
+#[test]
+fn deep_nesting(rt: HostRuntime) -> Result<(), Fail> {
+    assert!(rt; is_too_deep(rt.alloc())?);
     Ok(())
 }
 
@@ -207,22 +234,17 @@ fn close(rt: HostRuntime) -> Result<(), Fail> {
     Ok(())
 }
 
-/// Of a desk past its last step, and of one that shows nodes and a link.
-#[test]
-fn other_desks(rt: HostRuntime) -> Result<(), Fail> {
-    let mut full = CountDesk::new(rt.alloc(), u64::MAX);
+/// Whether a desk past its last step takes no order.
+fn is_full(alloc: Global) -> Result<bool, AllocError> {
+    let mut full = CountDesk::new(alloc, u64::MAX);
     let mut order = b"{\"op\":\"remove\",\"client\":1,\"number\":1,\"node\":1}\n".as_slice();
     let expected = "{\"name\":\"Exhausted\",\"refused\":3}\n";
-    assert!(rt;
-        serves(
-            rt.alloc(),
-            &mut full,
-            &mut order,
-            expected,
-            Ok(Ended::Input)
-        )?
-    );
-    let mut linked = OneLink::new(rt.alloc());
+    serves(alloc, &mut full, &mut order, expected, Ok(Ended::Input))
+}
+
+/// Whether one that has two nodes and a link shows them.
+fn is_shown(alloc: Global) -> Result<bool, AllocError> {
+    let mut linked = OneLink::new(alloc);
     let mut lines =
         b"{\"op\":\"show\"}\n{\"op\":\"resend\"}\n{\"op\":\"reset\",\"client\":1,\"number\":1,\"node\":1}\n".as_slice();
     let expected =
@@ -230,36 +252,36 @@ fn other_desks(rt: HostRuntime) -> Result<(), Fail> {
 {\"name\":\"Stopped\",\"refused\":1}
 {\"fault\":\"OutOfMemory\"}
 ";
-    assert!(rt;
-        serves(
-            rt.alloc(),
-            &mut linked,
-            &mut lines,
-            expected,
-            Ok(Ended::Input)
-        )?
-    );
+    serves(alloc, &mut linked, &mut lines, expected, Ok(Ended::Input))
+}
+
+/// Of a desk past its last step, and of one that shows nodes and a link.
+#[test]
+fn other_desks(rt: HostRuntime) -> Result<(), Fail> {
+    assert!(rt; is_full(rt.alloc())?);
+    assert!(rt; is_shown(rt.alloc())?);
     Ok(())
+}
+
+/// Five hundred letters, and a line feed.
+fn long_line(alloc: Global) -> Result<Vec<u8>, AllocError> {
+    let mut line = Vec::new(alloc);
+    for _ in 0..500 {
+        line.push(b'x')?;
+    }
+    line.push(b'\n')?;
+    Ok(line)
+}
+
+/// Whether one is told that it is no JSON.
+fn is_no_json(alloc: Global) -> Result<bool, AllocError> {
+    let line = long_line(alloc)?;
+    are_replied(alloc, &line, "{\"fault\":\"BadJson\"}\n")
 }
 
 /// A long line that is no JSON is told so.
 #[test]
 fn a_long_line_that_is_no_json(rt: HostRuntime) -> Result<(), Fail> {
-    let mut line = Vec::new(rt.alloc());
-    for _ in 0..500 {
-        line.push(b'x')?;
-    }
-    line.push(b'\n')?;
-    let mut desk = CountDesk::new(rt.alloc(), 0);
-    let told = "{\"fault\":\"BadJson\"}\n";
-    assert!(rt;
-        serves(
-            rt.alloc(),
-            &mut desk,
-            &mut line.as_slice(),
-            told,
-            Ok(Ended::Input)
-        )?
-    );
+    assert!(rt; is_no_json(rt.alloc())?);
     Ok(())
 }

@@ -2,9 +2,10 @@
 //! one whose disk fails from its first order on.
 
 use crate::asking::{ask, is_closed, ring_lines};
-use crate::rings::{all_signalled, runs};
+use crate::rings::{all_signalled, answered, both, goes_on, listens};
 use coord_admin::{Accepted, Patience};
 use coord_disk::{Call, Choice, CrashDisk, Disk, FailingDisk, MemDisk, Rule};
+use coord_engine::Closed;
 use coord_server::serve_callers;
 use coord_store::Store;
 use std::alloc::{AllocError, Global};
@@ -77,11 +78,18 @@ fn served<D: Disk + Send, W: Write + Send + Drop, R: Threads + Wait + Clock + Sy
     output: &mut W,
 ) -> Option<D> {
     if store.stopped() {
+        drop(store);
         return None;
     }
     let callers = Accepted::new(rt, listener, Patience::usual());
-    let ended = serve_callers(rt, alloc, store, callers, output).ok()?;
-    Some(ended.closed.store.into_disk())
+    match serve_callers(rt, alloc, store, callers, output) {
+        Ok(ended) => Some(left(ended.closed)),
+        Err(_) => None,
+    }
+}
+
+fn left<D: Disk>(closed: Closed<D>) -> D {
+    closed.store.into_disk()
 }
 
 /// Has these lines answered, waits for the kill, and has the threads end that nothing reaches any
@@ -117,34 +125,53 @@ fn created<'a, R: Clock>(
     Store::create(alloc, mortal, 32_768, 1).ok()
 }
 
+/// Serves a store until the kill while a client has these lines answered. The disk of what is left,
+/// whether the kill has come, and what was printed.
+fn joined<
+    D: Disk + Send,
+    R: Threads + Wait + Clock + Net<Stream = TcpStream, Listener = TcpListener> + Sync,
+>(
+    rt: &R,
+    alloc: Global,
+    store: Store<D>,
+    listener: &TcpListener,
+    address: SocketAddr,
+    lines: &str,
+    is_killed: &AtomicBool,
+) -> (Option<D>, io::Result<bool>, Vec<u8>) {
+    let mut output = Doomed {
+        is_killed,
+        left: 1 + PRINTED,
+        kept: Vec::new(alloc),
+    };
+    let (left, asked) = thread::join(
+        rt,
+        || served(rt, alloc, store, listener, &mut output),
+        || asks(rt, alloc, address, lines, is_killed),
+    );
+    (left, asked, output.kept)
+}
+
 /// Kills a server in the midst of a wave. What its disk keeps, and what was printed behind the
 /// address.
 fn killed<R: Threads + Wait + Clock + Net<Stream = TcpStream, Listener = TcpListener> + Sync>(
     rt: &R,
     alloc: Global,
     choice: Choice,
+    listener: &TcpListener,
+    address: SocketAddr,
+    lines: &str,
 ) -> Result<(MemDisk, Vec<u8>), Fail> {
-    let listener = TcpListener::bind(rt, "127.0.0.1:0")?;
-    let address = listener.local_addr()?;
-    let lines = ring_lines(alloc, LAST, 1)?;
     let is_killed = AtomicBool::new(false);
-    let store = created(rt, alloc, &is_killed, choice).ok_or(AllocError)?;
-    let mut output = Doomed {
-        is_killed: &is_killed,
-        left: 1 + PRINTED,
-        kept: Vec::new(alloc),
-    };
-    let (left, asked) = thread::join(
-        rt,
-        || served(rt, alloc, store, &listener, &mut output),
-        || asks(rt, alloc, address, &lines, &is_killed),
-    );
-    let listening = format!(in alloc; "listening {address}\n")?;
-    match (left, output.kept.strip_prefix(listening.as_bytes())) {
-        (Some(disk), Some(signals)) if asked? => {
-            Ok((disk.into_inner().crash(), Vec::from_slice(alloc, signals)?))
+    match created(rt, alloc, &is_killed, choice) {
+        Some(store) => {
+            let (left, asked, output) = joined(
+                rt, alloc, store, listener, address, lines, &is_killed,
+            );
+            let kept = left.map(|disk| disk.into_inner().crash());
+            both(kept, answered(alloc, address, asked, &output))
         }
-        _ => Err(Fail::from(io::Error::other("no kill"))),
+        None => Err(Fail::from(AllocError)),
     }
 }
 
@@ -159,6 +186,34 @@ fn are_some_once(nodes: &[u8]) -> bool {
     PRINTED <= nodes.len() && nodes.len() < usize::from(LAST)
 }
 
+/// What is printed where a server is killed in the midst of a wave through the ring of these lines,
+/// and a new one serves what its disk keeps.
+fn prints<R: Threads + Wait + Clock + Net<Stream = TcpStream, Listener = TcpListener> + Sync>(
+    rt: &R,
+    alloc: Global,
+    choice: Choice,
+    lines: &str,
+) -> Result<Vec<u8>, Fail> {
+    match listens(rt) {
+        Ok((listener, address)) => {
+            let left = killed(rt, alloc, choice, &listener, address, lines);
+            drop(listener);
+            let (disk, printed) = left?;
+            match Store::open(alloc, disk) {
+                Ok(store) => goes_on(rt, alloc, store, printed, LAST),
+                Err(_) => {
+                    drop(printed);
+                    Err(Fail::from(AllocError))
+                }
+            }
+        }
+        Err(fault) => {
+            drop(choice);
+            Err(Fail::from(fault))
+        }
+    }
+}
+
 /// Whether a ring whose server is killed in the midst of a wave is shown at its epoch by a new
 /// server, node by node, and both outputs together have no signal twice. The one that the kill took
 /// is in neither.
@@ -167,11 +222,24 @@ fn is_told_once<R: Threads + Wait + Clock + Net<Stream = TcpStream, Listener = T
     alloc: Global,
     choice: Choice,
 ) -> Result<bool, Fail> {
-    let (disk, mut printed) = killed(rt, alloc, choice)?;
-    let store = Store::open(alloc, disk).ok().ok_or(AllocError)?;
-    let (_, more) = runs(rt, alloc, store, "", usize::from(LAST))?;
-    printed.extend_from_slice(&more)?;
-    Ok(are_some_once(&all_signalled(alloc, &printed).ok_or(AllocError)?))
+    match ring_lines(alloc, LAST, 1) {
+        Ok(lines) => {
+            let printed = prints(rt, alloc, choice, &lines);
+            drop(lines);
+            are_printed_once(alloc, printed?)
+        }
+        Err(fault) => {
+            drop(choice);
+            Err(fault)
+        }
+    }
+}
+
+fn are_printed_once(alloc: Global, printed: Vec<u8>) -> Result<bool, Fail> {
+    match all_signalled(alloc, &printed) {
+        Some(nodes) => Ok(are_some_once(&nodes)),
+        None => Err(Fail::from(AllocError)),
+    }
 }
 
 /// What was written and not synced is lost.
@@ -192,26 +260,59 @@ const ADD: &str = "{\"op\":\"add\",\"client\":1,\"number\":1,\"node\":1,\"group\
 
 const STOPPED: &str = "{\"name\":\"Stopped\",\"refused\":1}\n";
 
+/// Has a line answered, and closes the server. What the line was told.
+fn told<R: Clock + Net<Stream = TcpStream, Listener = TcpListener>>(
+    rt: &R,
+    alloc: Global,
+    address: SocketAddr,
+) -> io::Result<String> {
+    let told = ask(rt, alloc, address, ADD);
+    match is_closed(rt, alloc, address) {
+        Ok(_) => told,
+        Err(fault) => {
+            drop(told);
+            Err(fault)
+        }
+    }
+}
+
+/// Serves a store while a client asks. Whether anything is left, and what the client was told.
+fn told_by<
+    D: Disk + Send,
+    R: Threads + Wait + Clock + Net<Stream = TcpStream, Listener = TcpListener> + Sync,
+>(
+    rt: &R,
+    alloc: Global,
+    store: Store<D>,
+    listener: &TcpListener,
+    address: SocketAddr,
+) -> (bool, io::Result<String>) {
+    let mut output = Vec::new(alloc);
+    thread::join(
+        rt,
+        || served(rt, alloc, store, listener, &mut output).is_some(),
+        || told(rt, alloc, address),
+    )
+}
+
 /// Whether an order whose step can't be written is told that the store has stopped.
 fn is_told_stopped<
     R: Threads + Wait + Clock + Net<Stream = TcpStream, Listener = TcpListener> + Sync,
 >(rt: &R, alloc: Global) -> Result<bool, Fail> {
-    let listener = TcpListener::bind(rt, "127.0.0.1:0")?;
-    let address = listener.local_addr()?;
+    let (listener, address) = listens(rt)?;
     let is_killed = AtomicBool::new(false);
-    let store = created(rt, alloc, &is_killed, Choice::Lost).ok_or(AllocError)?;
-    is_killed.store(true, Ordering::SeqCst);
-    let mut output = Vec::new(alloc);
-    let (left, told) = thread::join(
-        rt,
-        || served(rt, alloc, store, &listener, &mut output).is_some(),
-        || -> io::Result<String> {
-            let told = ask(rt, alloc, address, ADD);
-            is_closed(rt, alloc, address)?;
-            told
-        },
-    );
-    Ok(left && told?.as_str() == STOPPED)
+    match created(rt, alloc, &is_killed, Choice::Lost) {
+        Some(store) => {
+            is_killed.store(true, Ordering::SeqCst);
+            let (is_left, told) = told_by(rt, alloc, store, &listener, address);
+            drop(listener);
+            Ok(is_left && told?.as_str() == STOPPED)
+        }
+        None => {
+            drop(listener);
+            Err(Fail::from(AllocError))
+        }
+    }
 }
 
 /// What is not on the disk gets no other reply.

@@ -1,11 +1,11 @@
 //! A server that ends its lives after a few steps each, in the midst of a connection and of a wave.
 
 use crate::asking::{all_signal, ask, is_closed, ring_lines};
-use crate::rings::{all_signalled, created, is_wave};
+use crate::rings::{created, is_wave, listens, printed_nodes};
 use coord_admin::{Accepted, Patience};
 use coord_disk::MemDisk;
 use coord_engine::Closed;
-use coord_server::serve_lives;
+use coord_server::{Ended, serve_lives};
 use coord_store::Store;
 use std::alloc::{AllocError, Global};
 use std::net::{Net, SocketAddr, TcpListener, TcpStream};
@@ -72,11 +72,69 @@ fn ends_last<R: Threads + Wait + Clock + Sync>(
     output: &mut Vec<u8>,
 ) -> Option<bool> {
     if store.stopped() {
+        drop(store);
         return None;
     }
     let callers = Accepted::new(rt, listener, Patience::usual());
-    let ended = serve_lives(rt, alloc, MOST, store, callers, output).ok()?;
-    Some(ended.fault().is_none() && is_last(&ended.closed))
+    match serve_lives(rt, alloc, MOST, store, callers, output) {
+        Ok(ended) => Some(is_ended(&ended)),
+        Err(_) => None,
+    }
+}
+
+fn is_ended<C>(ended: &Ended<MemDisk, C>) -> bool {
+    ended.fault().is_none() && is_last(&ended.closed)
+}
+
+/// Serves a store over many lives while a client asks. Whether it was left so, whether all was
+/// answered, and what was printed.
+fn joined<R: Threads + Wait + Clock + Net<Stream = TcpStream, Listener = TcpListener> + Sync>(
+    rt: &R,
+    alloc: Global,
+    store: Store<MemDisk>,
+    listener: &TcpListener,
+    address: SocketAddr,
+    lines: &str,
+) -> (Option<bool>, io::Result<bool>, Vec<u8>) {
+    let mut output = Vec::new(alloc);
+    let (last, asked) = thread::join(
+        rt,
+        || ends_last(rt, alloc, store, listener, &mut output),
+        || asks(rt, alloc, address, lines),
+    );
+    (last, asked, output)
+}
+
+/// Whether it was left so, all was answered, and one wave was printed.
+fn is_one_wave(
+    alloc: Global,
+    address: SocketAddr,
+    last: Option<bool>,
+    asked: io::Result<bool>,
+    output: &[u8],
+) -> Result<bool, Fail> {
+    let is_answered = asked?;
+    let nodes = printed_nodes(alloc, address, output)?;
+    Ok(last == Some(true) && is_answered && is_wave(&nodes, LAST, 1))
+}
+
+/// Whether a store that is served while these lines are sent prints one wave.
+fn prints_once<R: Threads + Wait + Clock + Net<Stream = TcpStream, Listener = TcpListener> + Sync>(
+    rt: &R,
+    alloc: Global,
+    store: Store<MemDisk>,
+    lines: &str,
+) -> Result<bool, Fail> {
+    match listens(rt) {
+        Ok((listener, address)) => {
+            let (last, asked, output) = joined(rt, alloc, store, &listener, address, lines);
+            is_one_wave(alloc, address, last, asked, &output)
+        }
+        Err(fault) => {
+            drop(store);
+            Err(Fail::from(fault))
+        }
+    }
 }
 
 /// Whether a ring that is made and reset over many lives signals as one wave.
@@ -84,22 +142,11 @@ fn signals_once<R: Threads + Wait + Clock + Net<Stream = TcpStream, Listener = T
     rt: &R,
     alloc: Global,
 ) -> Result<bool, Fail> {
-    let listener = TcpListener::bind(rt, "127.0.0.1:0")?;
-    let address = listener.local_addr()?;
     let lines = ring_lines(alloc, LAST, 1)?;
-    let store = created(alloc).ok_or(AllocError)?;
-    let mut output = Vec::new(alloc);
-    let (last, asked) = thread::join(
-        rt,
-        || ends_last(rt, alloc, store, &listener, &mut output),
-        || asks(rt, alloc, address, &lines),
-    );
-    let listening = format!(in alloc; "listening {address}\n")?;
-    let Some(signals) = output.strip_prefix(listening.as_bytes()) else {
-        return Ok(false);
-    };
-    let nodes = all_signalled(alloc, signals).ok_or(AllocError)?;
-    Ok(last == Some(true) && asked? && is_wave(&nodes, LAST, 1))
+    match created(alloc) {
+        Some(store) => prints_once(rt, alloc, store, &lines),
+        None => Err(Fail::from(AllocError)),
+    }
 }
 
 /// No signal is lost and none comes twice, a client whose connection is cut off goes on where it was,

@@ -1,10 +1,10 @@
 //! A server and its clients in one process.
 
+use crate::rings::{behind_address, created, listens};
 use coord_check::check;
 use coord_disk::{Disk, MemDisk};
 use coord_engine::Closed;
 use coord_server::serve_store;
-use coord_store::Store;
 use coord_types::{Client, Command, NodeId, Step};
 use std::alloc::{AllocError, Global};
 use std::io;
@@ -67,12 +67,15 @@ fn ends_settled<R: Threads + Wait + Clock + Sync>(
     output: &mut Vec<u8>,
 ) -> Option<bool> {
     let fourth = reset()?;
-    let store = Store::create(alloc, MemDisk::new(alloc), 32_768, 1).ok()?;
+    let store = created(alloc)?;
     if store.stopped() {
+        drop(store);
         return None;
     }
-    let closed = serve_store(rt, alloc, store, listener, output).ok()?;
-    Some(is_settled(&closed, &fourth))
+    match serve_store(rt, alloc, store, listener, output) {
+        Ok(closed) => Some(is_settled(&closed, &fourth)),
+        Err(_) => None,
+    }
 }
 
 /// A client that has sent these bytes, and sends no more.
@@ -92,24 +95,67 @@ fn is_told(alloc: Global, mut stream: TcpStream, replies: &str) -> io::Result<bo
     Ok(io::read_to_string(alloc, &mut stream)?.as_str() == replies)
 }
 
+/// Whether a client is told its replies, and another one that the server is closed.
+fn are_told(alloc: Global, ordering: TcpStream, closing: TcpStream) -> io::Result<bool> {
+    match is_told(alloc, ordering, REPLIES) {
+        Ok(true) => is_told(alloc, closing, CLOSED),
+        told => {
+            drop(closing);
+            told
+        }
+    }
+}
+
+/// Whether a server ends settled, and prints its address first.
+fn is_listening<R: Threads + Wait + Clock + Sync>(
+    rt: &R,
+    alloc: Global,
+    listener: &TcpListener,
+    address: SocketAddr,
+) -> Result<bool, AllocError> {
+    let mut output = Vec::new(alloc);
+    let settled = ends_settled(rt, alloc, listener, &mut output);
+    let printed = behind_address(alloc, address, &output);
+    drop(output);
+    Ok(settled.ok_or(AllocError)? && printed?.is_some())
+}
+
 /// Whether two clients, one after the other, get their replies, and the address is printed first.
+fn is_served_at<R: Threads + Wait + Clock + Net<Stream = TcpStream, Listener = TcpListener> + Sync>(
+    rt: &R,
+    alloc: Global,
+    listener: &TcpListener,
+    address: SocketAddr,
+    ordering: TcpStream,
+) -> Result<bool, Fail> {
+    match client(rt, address, CLOSE) {
+        Ok(closing) => match is_listening(rt, alloc, listener, address) {
+            Ok(true) => Ok(are_told(alloc, ordering, closing)?),
+            other => {
+                drop(ordering);
+                drop(closing);
+                Ok(other?)
+            }
+        },
+        Err(fault) => {
+            drop(ordering);
+            Err(Fail::from(fault))
+        }
+    }
+}
+
 fn is_served<R: Threads + Wait + Clock + Net<Stream = TcpStream, Listener = TcpListener> + Sync>(
     rt: &R,
     alloc: Global,
 ) -> Result<bool, Fail> {
-    let listener = TcpListener::bind(rt, "127.0.0.1:0")?;
-    let address = listener.local_addr()?;
-    let ordering = client(rt, address, LINES)?;
-    let closing = client(rt, address, CLOSE)?;
-    let mut output = Vec::new(alloc);
-    let settled = ends_settled(rt, alloc, &listener, &mut output).ok_or(AllocError)?;
-    let listening = format!(in alloc; "listening {address}\n")?;
-    Ok(
-        settled
-            && output.starts_with(listening.as_bytes())
-            && is_told(alloc, ordering, REPLIES)?
-            && is_told(alloc, closing, CLOSED)?,
-    )
+    let (listener, address) = listens(rt)?;
+    let ordering = client(rt, address, LINES);
+    let served = match ordering {
+        Ok(ordering) => is_served_at(rt, alloc, &listener, address, ordering),
+        Err(fault) => Err(Fail::from(fault)),
+    };
+    drop(listener);
+    served
 }
 
 #[test]

@@ -7,9 +7,10 @@ use coord_admin::{Desk, Halves, serve};
 use coord_disk::{Disk, MemDisk};
 use coord_engine::{Closed, Engine, Origin, Share, flusher};
 use coord_ledger::{Ledger, View};
-use coord_server::{EngineDesk, LocalPort};
+use coord_server::{EngineDesk, LocalPort, Signal};
 use coord_store::Store;
 use coord_types::{Client, Command, Group, NodeId, Refusal, Reply, Step};
+use crossbeam_channel::Sender;
 use std::alloc::{AllocError, Global};
 use std::marker::Brand;
 use std::sync::Wait;
@@ -134,6 +135,45 @@ fn order() -> Option<Step> {
     Some(Step::Order(Client::new(1)?, 1, added))
 }
 
+/// Room for the share of a desk, and where an engine's signals go. There is none where memory runs
+/// out.
+fn room<L: Origin>(alloc: Global) -> Option<(Vec<Share<L>>, Sender<Signal>)> {
+    let shares = Vec::with_capacity(alloc, 1).ok()?;
+    match crossbeam_channel::unbounded(alloc) {
+        Ok((signals, _)) => Some((shares, signals)),
+        Err(_) => {
+            drop(shares);
+            None
+        }
+    }
+}
+
+/// Whether the order is carried out once in that room.
+fn is_once_in<D: Disk + Send, L: Origin + Send + Sync, R: Threads + Wait + Clock + Sync>(
+    rt: &R,
+    alloc: Global,
+    blank: Blank,
+    ledger: Ledger<D>,
+    order: &Step,
+    shares: Vec<Share<L>>,
+    signals: Sender<Signal>,
+) -> Result<bool, Refusal>
+    requires name { blank.name ≡ L.name }
+    requires parts { (blank.parts ≡ L.parts) × (L.parts ≡ 65536) }
+    requires base { ledger.log.base ≡ L.base }
+    requires before { ledger.log.trail ≡ L.before }
+    requires home { ledger.out ≡ None }
+{
+    let port = LocalPort::new(rt, Vec::new(alloc), signals);
+    let engine: Engine<D, L> = Engine::new(alloc, blank, ledger);
+    let (shares, replied) = run(rt, alloc, &engine, &port, shares);
+    let is_one = ends_with_one(engine, shares, order);
+    match replied {
+        Ok(replied) => Ok(replied && is_one),
+        Err(refusal) => Err(refusal),
+    }
+}
+
 fn order_once<D: Disk + Send, L: Origin + Send + Sync, R: Threads + Wait + Clock + Sync>(
     rt: &R,
     alloc: Global,
@@ -147,17 +187,13 @@ fn order_once<D: Disk + Send, L: Origin + Send + Sync, R: Threads + Wait + Clock
     requires before { ledger.log.trail ≡ L.before }
     requires home { ledger.out ≡ None }
 {
-    let Ok(shares) = Vec::with_capacity(alloc, 1) else {
-        return Err(Refusal::OutOfMemory);
-    };
-    let Ok((signals, _)) = crossbeam_channel::unbounded(alloc) else {
-        return Err(Refusal::OutOfMemory);
-    };
-    let port = LocalPort::new(rt, Vec::new(alloc), signals);
-    let engine: Engine<D, L> = Engine::new(alloc, blank, ledger);
-    let (shares, replied) = run(rt, alloc, &engine, &port, shares);
-    let is_one = ends_with_one(engine, shares, order);
-    replied.map(|replied| replied && is_one)
+    match room::<L>(alloc) {
+        Some((shares, signals)) => is_once_in(rt, alloc, blank, ledger, order, shares, signals),
+        None => {
+            drop(ledger);
+            Err(Refusal::OutOfMemory)
+        }
+    }
 }
 
 /// A new store behind a ledger. There is none where memory runs out.
@@ -166,6 +202,7 @@ fn ledger(alloc: Global) -> Option<Ledger<MemDisk>>
 {
     let store = Store::create(alloc, MemDisk::new(alloc), 32_768, 1).ok()?;
     if store.stopped() {
+        drop(store);
         return None;
     }
     Ledger::adopt(alloc, store).ok()

@@ -3,6 +3,7 @@
 
 use crate::asking::{all_signal, ask, is_closed, ring_lines};
 use coord_disk::MemDisk;
+use coord_engine::Closed;
 use coord_server::serve_store;
 use coord_store::Store;
 use std::alloc::{AllocError, Global};
@@ -27,10 +28,17 @@ pub(crate) fn served<W: io::Write + Send + Drop, R: Threads + Wait + Clock + Syn
     output: &mut W,
 ) -> Option<Store<MemDisk>> {
     if store.stopped() {
+        drop(store);
         return None;
     }
-    let closed = serve_store(rt, alloc, store, listener, output).ok()?;
-    Some(closed.store)
+    match serve_store(rt, alloc, store, listener, output) {
+        Ok(closed) => Some(left(closed)),
+        Err(_) => None,
+    }
+}
+
+fn left(closed: Closed<MemDisk>) -> Store<MemDisk> {
+    closed.store
 }
 
 /// Has these lines answered, waits until so many nodes have signalled, and closes the server, also
@@ -47,29 +55,140 @@ fn asks<R: Clock + Net<Stream = TcpStream, Listener = TcpListener>>(
     Ok(is_closed(rt, alloc, address)? && signalled)
 }
 
+/// A listener at a port of its own, and its address.
+pub(crate) fn listens<R: Net<Stream = TcpStream, Listener = TcpListener>>(
+    rt: &R,
+) -> io::Result<(TcpListener, SocketAddr)> {
+    let listener = TcpListener::bind(rt, "127.0.0.1:0")?;
+    match listener.local_addr() {
+        Ok(address) => Ok((listener, address)),
+        Err(fault) => {
+            drop(listener);
+            Err(fault)
+        }
+    }
+}
+
+/// What was printed behind the address, if that was printed.
+pub(crate) fn behind_address(
+    alloc: Global,
+    address: SocketAddr,
+    output: &[u8],
+) -> Result<Option<Vec<u8>>, AllocError> {
+    let listening = format!(in alloc; "listening {address}\n")?;
+    match output.strip_prefix(listening.as_bytes()) {
+        Some(signals) => Vec::from_slice(alloc, signals).map(Some),
+        None => Ok(None),
+    }
+}
+
+/// What was printed behind the address, where the client was answered.
+pub(crate) fn answered(
+    alloc: Global,
+    address: SocketAddr,
+    asked: io::Result<bool>,
+    output: &[u8],
+) -> Result<Vec<u8>, Fail> {
+    let is_asked = asked?;
+    match behind_address(alloc, address, output)? {
+        Some(signals) if is_asked => Ok(signals),
+        _ => Err(Fail::from(io::Error::other("no answer"))),
+    }
+}
+
+/// What is left and what was printed, where there is both.
+pub(crate) fn both<T: Drop>(
+    left: Option<T>,
+    printed: Result<Vec<u8>, Fail>,
+) -> Result<(T, Vec<u8>), Fail> {
+    match printed {
+        Ok(printed) => match left {
+            Some(left) => Ok((left, printed)),
+            None => {
+                drop(printed);
+                Err(Fail::from(io::Error::other("nothing left")))
+            }
+        },
+        Err(fault) => {
+            drop(left);
+            Err(fault)
+        }
+    }
+}
+
+/// Serves a store while a client asks. What is left of it, whether all was answered, and what was
+/// printed.
+fn joined<R: Threads + Wait + Clock + Net<Stream = TcpStream, Listener = TcpListener> + Sync>(
+    rt: &R,
+    alloc: Global,
+    store: Store<MemDisk>,
+    listener: &TcpListener,
+    address: SocketAddr,
+    lines: &str,
+    nodes: usize,
+) -> (Option<Store<MemDisk>>, io::Result<bool>, Vec<u8>) {
+    let mut output = Vec::new(alloc);
+    let (left, asked) = thread::join(
+        rt,
+        || served(rt, alloc, store, listener, &mut output),
+        || asks(rt, alloc, address, lines, nodes),
+    );
+    (left, asked, output)
+}
+
 /// Serves a store while a client has these lines answered, waits until so many nodes have signalled
 /// and closes the server. What is left of the store, and what was printed behind the address.
-pub(crate) fn runs<
-    R: Threads + Wait + Clock + Net<Stream = TcpStream, Listener = TcpListener> + Sync,
->(
+fn runs<R: Threads + Wait + Clock + Net<Stream = TcpStream, Listener = TcpListener> + Sync>(
     rt: &R,
     alloc: Global,
     store: Store<MemDisk>,
     lines: &str,
     nodes: usize,
 ) -> Result<(Store<MemDisk>, Vec<u8>), Fail> {
-    let listener = TcpListener::bind(rt, "127.0.0.1:0")?;
-    let address = listener.local_addr()?;
-    let mut output = Vec::new(alloc);
-    let (left, asked) = thread::join(
-        rt,
-        || served(rt, alloc, store, &listener, &mut output),
-        || asks(rt, alloc, address, lines, nodes),
-    );
-    let listening = format!(in alloc; "listening {address}\n")?;
-    match (left, output.strip_prefix(listening.as_bytes())) {
-        (Some(left), Some(signals)) if asked? => Ok((left, Vec::from_slice(alloc, signals)?)),
-        _ => Err(Fail::from(io::Error::other("no answer"))),
+    match listens(rt) {
+        Ok((listener, address)) => {
+            let (left, asked, output) = joined(rt, alloc, store, &listener, address, lines, nodes);
+            both(left, answered(alloc, address, asked, &output))
+        }
+        Err(fault) => {
+            drop(store);
+            Err(Fail::from(fault))
+        }
+    }
+}
+
+/// The same bytes and more.
+fn and_more(mut printed: Vec<u8>, more: &[u8]) -> Result<Vec<u8>, Fail> {
+    let added = printed.extend_from_slice(more);
+    match added {
+        Ok(()) => Ok(printed),
+        Err(fault) => {
+            drop(printed);
+            Err(Fail::from(fault))
+        }
+    }
+}
+
+/// Serves what is left of a store until so many nodes have signalled. What was printed before, and
+/// what is now.
+pub(crate) fn goes_on<
+    R: Threads + Wait + Clock + Net<Stream = TcpStream, Listener = TcpListener> + Sync,
+>(
+    rt: &R,
+    alloc: Global,
+    store: Store<MemDisk>,
+    printed: Vec<u8>,
+    last: u8,
+) -> Result<Vec<u8>, Fail> {
+    match runs(rt, alloc, store, "", usize::from(last)) {
+        Ok((left, more)) => {
+            drop(left);
+            and_more(printed, &more)
+        }
+        Err(fault) => {
+            drop(printed);
+            Err(fault)
+        }
     }
 }
 
@@ -89,6 +208,18 @@ pub(crate) fn all_signalled(alloc: Global, printed: &[u8]) -> Option<Vec<u8>> {
         nodes.push(signalled(line)?).ok()?;
     }
     Some(nodes)
+}
+
+/// The nodes of all lines that are printed behind the address, none where that is not printed.
+pub(crate) fn printed_nodes(
+    alloc: Global,
+    address: SocketAddr,
+    output: &[u8],
+) -> Result<Vec<u8>, AllocError> {
+    match behind_address(alloc, address, output)? {
+        Some(signals) => all_signalled(alloc, &signals).ok_or(AllocError),
+        None => Ok(Vec::new(alloc)),
+    }
 }
 
 /// Whether a node of a ring comes behind one of its neighbours, and for the first time.
@@ -111,6 +242,25 @@ pub(crate) fn is_wave(nodes: &[u8], last: u8, first: u8) -> bool {
     nodes.len() == usize::from(last) && nodes.first() == Some(&first)
 }
 
+/// What is printed where these lines are answered, and so many nodes signal before a close and the
+/// others up to the last one behind a new start.
+fn prints<R: Threads + Wait + Clock + Net<Stream = TcpStream, Listener = TcpListener> + Sync>(
+    rt: &R,
+    alloc: Global,
+    lines: &str,
+    last: u8,
+    before_close: u8,
+) -> Result<Vec<u8>, Fail> {
+    let store = created(alloc).ok_or(AllocError)?;
+    let (store, printed) = runs(rt, alloc, store, lines, usize::from(before_close))?;
+    if before_close < last {
+        goes_on(rt, alloc, store, printed, last)
+    } else {
+        drop(store);
+        Ok(printed)
+    }
+}
+
 /// Whether a ring of these nodes signals as a wave, of which so many nodes may signal before a close
 /// and the others behind a new start.
 fn signals<R: Threads + Wait + Clock + Net<Stream = TcpStream, Listener = TcpListener> + Sync>(
@@ -121,17 +271,17 @@ fn signals<R: Threads + Wait + Clock + Net<Stream = TcpStream, Listener = TcpLis
     before_close: u8,
 ) -> Result<bool, Fail> {
     let lines = ring_lines(alloc, last, first)?;
-    let store = created(alloc).ok_or(AllocError)?;
-    let (store, mut printed) = runs(rt, alloc, store, &lines, usize::from(before_close))?;
-    if before_close < last {
-        let (_, more) = runs(rt, alloc, store, "", usize::from(last))?;
-        printed.extend_from_slice(&more)?;
+    let printed = prints(rt, alloc, &lines, last, before_close);
+    drop(lines);
+    is_printed_wave(alloc, printed?, last, first)
+}
+
+/// Whether what was printed is a wave.
+fn is_printed_wave(alloc: Global, printed: Vec<u8>, last: u8, first: u8) -> Result<bool, Fail> {
+    match all_signalled(alloc, &printed) {
+        Some(nodes) => Ok(is_wave(&nodes, last, first)),
+        None => Err(Fail::from(AllocError)),
     }
-    Ok(is_wave(
-        &all_signalled(alloc, &printed).ok_or(AllocError)?,
-        last,
-        first,
-    ))
 }
 
 #[test]

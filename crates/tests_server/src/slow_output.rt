@@ -1,7 +1,9 @@
 //! An output that takes nothing for a while.
 
 use crate::asking::{all_signal, ask, is_closed, ring_lines};
-use crate::rings::{all_signalled, created, is_wave, served};
+use crate::rings::{created, is_wave, listens, printed_nodes, served};
+use coord_disk::MemDisk;
+use coord_store::Store;
 use std::alloc::{AllocError, Global};
 use std::io::Write;
 use std::net::{Net, SocketAddr, TcpListener, TcpStream};
@@ -57,15 +59,16 @@ fn asks<R: Wait + Clock + Net<Stream = TcpStream, Listener = TcpListener>>(
     Ok(shown && closed?)
 }
 
-/// Whether a client that lets the output go only behind the answer to its close gets all answers,
-/// and whether all lines are printed in their order then.
-fn is_printed_later<
-    R: Threads + Wait + Clock + Net<Stream = TcpStream, Listener = TcpListener> + Sync,
->(rt: &R, alloc: Global) -> Result<bool, Fail> {
-    let listener = TcpListener::bind(rt, "127.0.0.1:0")?;
-    let address = listener.local_addr()?;
-    let lines = ring_lines(alloc, LAST, 1)?;
-    let store = created(alloc).ok_or(AllocError)?;
+/// Serves a store to a client that lets the output go only behind the answer to its close. Whether
+/// anything is left of it, whether all was answered, and what was printed.
+fn joined<R: Threads + Wait + Clock + Net<Stream = TcpStream, Listener = TcpListener> + Sync>(
+    rt: &R,
+    alloc: Global,
+    store: Store<MemDisk>,
+    listener: &TcpListener,
+    address: SocketAddr,
+    lines: &str,
+) -> (bool, io::Result<bool>, Vec<u8>) {
     let (is_let_go, changed) = (Mutex::new(false), Condvar::new());
     let mut output = Held {
         rt,
@@ -73,17 +76,55 @@ fn is_printed_later<
         changed: &changed,
         kept: Vec::new(alloc),
     };
-    let (left, asked) = thread::join(
+    let (is_left, asked) = thread::join(
         rt,
-        || served(rt, alloc, store, &listener, &mut output),
-        || asks(rt, alloc, address, &lines, &is_let_go, &changed),
+        || served(rt, alloc, store, listener, &mut output).is_some(),
+        || asks(rt, alloc, address, lines, &is_let_go, &changed),
     );
-    let listening = format!(in alloc; "listening {address}\n")?;
-    let nodes = match output.kept.strip_prefix(listening.as_bytes()) {
-        Some(signals) => all_signalled(alloc, signals).ok_or(AllocError)?,
-        None => Vec::new(alloc),
-    };
-    Ok(left.is_some() && asked? && is_wave(&nodes, LAST, 1))
+    (is_left, asked, output.kept)
+}
+
+/// Whether all was answered, and a wave was printed.
+fn is_answered_wave(
+    alloc: Global,
+    address: SocketAddr,
+    asked: io::Result<bool>,
+    output: &[u8],
+) -> Result<bool, Fail> {
+    let is_answered = asked?;
+    let nodes = printed_nodes(alloc, address, output)?;
+    Ok(is_answered && is_wave(&nodes, LAST, 1))
+}
+
+/// Whether a store that is served while these lines are sent has all of it answered and printed.
+fn prints<R: Threads + Wait + Clock + Net<Stream = TcpStream, Listener = TcpListener> + Sync>(
+    rt: &R,
+    alloc: Global,
+    store: Store<MemDisk>,
+    lines: &str,
+) -> Result<bool, Fail> {
+    match listens(rt) {
+        Ok((listener, address)) => {
+            let (is_left, asked, output) = joined(rt, alloc, store, &listener, address, lines);
+            Ok(is_left && is_answered_wave(alloc, address, asked, &output)?)
+        }
+        Err(fault) => {
+            drop(store);
+            Err(Fail::from(fault))
+        }
+    }
+}
+
+/// Whether a client that lets the output go only behind the answer to its close gets all answers,
+/// and whether all lines are printed in their order then.
+fn is_printed_later<
+    R: Threads + Wait + Clock + Net<Stream = TcpStream, Listener = TcpListener> + Sync,
+>(rt: &R, alloc: Global) -> Result<bool, Fail> {
+    let lines = ring_lines(alloc, LAST, 1)?;
+    match created(alloc) {
+        Some(store) => prints(rt, alloc, store, &lines),
+        None => Err(Fail::from(AllocError)),
+    }
 }
 
 /// Settling, answering, `show` and the answer to a close don't wait for an output that is slow.

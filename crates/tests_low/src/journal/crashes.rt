@@ -82,15 +82,33 @@ fn is_left(act: Act, passed: u64, which: usize) -> bool {
     }
 }
 
-// Whether it is so where all calls behind some fail.
-fn fuse_leaves(alloc: Global, act: Act, passed: u64, which: usize) -> Result<bool, JournalFault> {
-    let calls = passed.saturating_add(OPENING);
-    let disk = FuseDisk::new(before(alloc, act, which)?, calls);
-    let (mut journal, _) = opened(alloc, disk)?;
+// Opens it, and lets go what it holds.
+fn journal_on<D: Disk>(alloc: Global, disk: D) -> Result<Journal<D>, JournalFault> {
+    let (journal, contents) = opened(alloc, disk)?;
+    drop(contents);
+    Ok(journal)
+}
+
+// What an act answers where all calls behind some fail, whether one of those was reached, and the device.
+fn fused(
+    alloc: Global,
+    disk: MemDisk,
+    act: Act,
+    calls: u64,
+) -> Result<(Result<(), JournalFault>, bool, MemDisk), JournalFault> {
+    let mut journal = journal_on(alloc, FuseDisk::new(disk, calls))?;
     let answer = done(&mut journal, act);
     let disk = journal.into_disk();
     let is_reached = disk.calls() > calls;
-    let found = left(alloc, disk.into_inner())?;
+    Ok((answer, is_reached, disk.into_inner()))
+}
+
+// Whether it is so where all calls behind some fail.
+fn fuse_leaves(alloc: Global, act: Act, passed: u64, which: usize) -> Result<bool, JournalFault> {
+    let calls = passed.saturating_add(OPENING);
+    let disk = before(alloc, act, which)?;
+    let (answer, is_reached, disk) = fused(alloc, disk, act, calls)?;
+    let found = left(alloc, disk)?;
     if !is_reached {
         // Only want of memory is a fault here.
         answer?;
@@ -129,21 +147,42 @@ fn has_stopped<D: Disk>(journal: &mut Journal<D>) -> bool {
         && done(journal, Act::Replace) == Err(JournalFault::Stopped)
 }
 
-// Whether it is so where one call fails, and the journal has stopped then.
-fn blip_leaves(alloc: Global, act: Act, failed: u64, which: usize) -> Result<bool, JournalFault> {
-    let call = failed.saturating_add(OPENING);
-    let disk = BlipDisk::new(before(alloc, act, which)?, call);
-    let (mut journal, _) = opened(alloc, disk)?;
-    let answer = done(&mut journal, act);
-    let is_stopped = has_stopped(&mut journal);
-    let disk = journal.into_disk();
-    let calls = disk.calls();
-    let found = left(alloc, disk.into_inner())?;
+// What an act answers, whether the journal has stopped then, and how many calls the device had.
+type Told = (Result<(), JournalFault>, bool, u64);
+
+// Whether it was told that this call failed, and the journal has stopped. Only want of memory is an error here.
+fn is_stopped_at(call: u64, told: Told) -> Result<bool, JournalFault> {
+    let (answer, is_stopped, calls) = told;
     if calls <= call || answer == Err(JournalFault::OutOfMemory) {
         answer?;
     }
     let is_answered = answer == Err(JournalFault::Device) && calls == call.saturating_add(1);
-    Ok(is_answered && is_stopped && found == want(act, is_left(act, failed, which)))
+    Ok(is_answered && is_stopped)
+}
+
+// What it is told where one call fails, and the device.
+fn blipped(
+    alloc: Global,
+    disk: MemDisk,
+    act: Act,
+    call: u64,
+) -> Result<(Told, MemDisk), JournalFault> {
+    let mut journal = journal_on(alloc, BlipDisk::new(disk, call))?;
+    let answer = done(&mut journal, act);
+    let is_stopped = has_stopped(&mut journal);
+    let disk = journal.into_disk();
+    let told = (answer, is_stopped, disk.calls());
+    Ok((told, disk.into_inner()))
+}
+
+// Whether it is so where one call fails, and the journal has stopped then.
+fn blip_leaves(alloc: Global, act: Act, failed: u64, which: usize) -> Result<bool, JournalFault> {
+    let call = failed.saturating_add(OPENING);
+    let disk = before(alloc, act, which)?;
+    let (told, disk) = blipped(alloc, disk, act, call)?;
+    let found = left(alloc, disk)?;
+    let is_stopped = is_stopped_at(call, told)?;
+    Ok(is_stopped && found == want(act, is_left(act, failed, which)))
 }
 
 // The first act, call that fails and choice for which it is not so.
@@ -167,6 +206,22 @@ fn a_call_that_fails_once_stops_the_journal(rt: HostRuntime) -> Result<(), Fail>
     Ok(())
 }
 
+// What it is told where one write writes so many bytes and fails, and the device.
+fn torn(
+    alloc: Global,
+    disk: MemDisk,
+    act: Act,
+    call: u64,
+    kept: usize,
+) -> Result<(Told, MemDisk), JournalFault> {
+    let mut journal = journal_on(alloc, TornDisk::new(disk, call, kept))?;
+    let answer = done(&mut journal, act);
+    let is_stopped = has_stopped(&mut journal);
+    let disk = journal.into_disk();
+    let told = (answer, is_stopped, disk.calls());
+    Ok((told, disk.into_inner()))
+}
+
 // Whether it is so where one write writes its first bytes and fails. Of a body or a half they are not
 // read; of a gate or a selector the first byte is the whole of it, which a crash then may leave.
 fn torn_leaves(
@@ -177,19 +232,12 @@ fn torn_leaves(
     which: usize,
 ) -> Result<bool, JournalFault> {
     let call = failed.saturating_add(OPENING);
-    let disk = TornDisk::new(before(alloc, act, which)?, call, kept);
-    let (mut journal, _) = opened(alloc, disk)?;
-    let answer = done(&mut journal, act);
-    let is_stopped = has_stopped(&mut journal);
-    let disk = journal.into_disk();
-    let calls = disk.calls();
-    let found = left(alloc, disk.into_inner())?;
-    if calls <= call || answer == Err(JournalFault::OutOfMemory) {
-        answer?;
-    }
-    let is_answered = answer == Err(JournalFault::Device) && calls == call.saturating_add(1);
+    let disk = before(alloc, act, which)?;
+    let (told, disk) = torn(alloc, disk, act, call, kept)?;
+    let found = left(alloc, disk)?;
+    let is_stopped = is_stopped_at(call, told)?;
     let reached = if failed == 2 && kept != 0 { 3 } else { failed };
-    Ok(is_answered && is_stopped && found == want(act, is_left(act, reached, which)))
+    Ok(is_stopped && found == want(act, is_left(act, reached, which)))
 }
 
 // How many bytes of a write may be there, of which a replace has six.
