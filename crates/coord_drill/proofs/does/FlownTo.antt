@@ -53,8 +53,8 @@ lands l f d new releases answer to landed =
       (
         to.marked,
         (
-          back.0 ∙ released_as g.mark,
-          back.1 ∙ (λ i. at_home (taken_back (to.is i).ledger (length (to.steps i)) g.mark g.disk)),
+          back.released ∙ released_as g.mark,
+          back.is ∙ (λ i. at_home (taken_back (to.is i).ledger (length (to.steps i)) g.mark g.disk)),
         ),
       ),
     )

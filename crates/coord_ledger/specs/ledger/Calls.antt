@@ -49,11 +49,30 @@ RefusesStep refusal (Ok (Fresh kind)) = refusal ≡ OutOfMemory
 RefusesStep refusal (Ok (Repeat reply)) = ⊥
 RefusesStep refusal (Err why) = refusal ≡ why
 
--- a step that is handed in: a fresh one is accepted, a repeat is no step
+-- a fresh step is accepted
+pub record IsAccepted {D : Type 0} (l : LedgerState D) (s : Step) (claim : Claim) (new : LedgerState D) : Type 0 where
+  pub kind : Kind
+  pub judged : ledger_verdict l s ≡ Ok (Fresh kind)
+  pub claims : claim ≡ claimed s (reply (front_world l.log) s)
+  pub now : new ≡ with_accepted l s
+
+-- a repeat is no step
+pub record IsRepeated {D : Type 0} (l : LedgerState D) (s : Step) (claim : Claim) (new : LedgerState D) : Type 0 where
+  pub kept : Reply
+  pub judged : ledger_verdict l s ≡ Ok (Repeat kept)
+  pub claims : claim ≡ claimed s kept
+  pub now : new ≡ l
+
+-- another is refused
+pub record IsRefused {D : Type 0} (l : LedgerState D) (s : Step) (refusal : Refusal) (new : LedgerState D) : Type 0 where
+  pub why : RefusesStep refusal (ledger_verdict l s)
+  pub now : new ≡ l
+
+-- a step that is handed in
 abbrev pub HandedTo : {D : Type 0} → LedgerState D → Step → Result Handed Refusal → LedgerState D → Type 0
-HandedTo l s (Ok (handed.Accepted claim)) new = (kind : Kind) × ((ledger_verdict l s ≡ Ok (Fresh kind)) × ((claim ≡ claimed s (reply (front_world l.log) s)) × (new ≡ with_accepted l s)))
-HandedTo l s (Ok (handed.Repeated claim)) new = (kept : Reply) × ((ledger_verdict l s ≡ Ok (Repeat kept)) × ((claim ≡ claimed s kept) × (new ≡ l)))
-HandedTo l s (Err refusal) new = RefusesStep refusal (ledger_verdict l s) × (new ≡ l)
+HandedTo l s (Ok (handed.Accepted claim)) new = IsAccepted l s claim new
+HandedTo l s (Ok (handed.Repeated claim)) new = IsRepeated l s claim new
+HandedTo l s (Err refusal) new = IsRefused l s refusal new
 
 -- no flight goes out of it
 abbrev pub keeps_store : {D : Type 0} → LedgerState D → Bool
