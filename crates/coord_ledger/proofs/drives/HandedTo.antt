@@ -2,46 +2,22 @@
 use Rattle.std.proofs.Common.{◌≡◌, ◌+◌, Option, Some, Ok, Err, sym, ap, ◌∙◌, subst, refl, ◌++◌, ◌∷◌, []}
 use Rattle.std.specs.Prelude.{Result, is_some}
 use Rattle.coord_types.specs.declared.refusals.Refusal.{Refusal}
-use Rattle.coord_types.specs.declared.steps.Kind.{Kind}
-use Rattle.coord_types.specs.declared.steps.Reply.{Reply}
 use Rattle.coord_types.specs.declared.steps.Step.{Step}
 use Rattle.coord_world.specs.declared.verdicts.Verdict.{Verdict}
 use Rattle.coord_world.specs.declared.verdicts.Verdict.TheVariants.{Fresh, Repeat}
-use Rattle.coord_world.specs.protocol.Next.{reply}
 use Rattle.coord_ledger.specs.declared.events.Answer.TheVariants as answer
 use Rattle.coord_ledger.specs.declared.events.Event.TheVariants.{Submit}
 use Rattle.coord_ledger.specs.declared.handed.Handed.{Handed}
 use Rattle.coord_ledger.specs.declared.handed.Handed.TheVariants.{Accepted, Repeated}
-use Rattle.coord_ledger.specs.ledger.Calls.{HandedTo, RefusesStep, claim_of, claimed, ledger_verdict, with_accepted}
+use Rattle.coord_ledger.specs.ledger.Calls.{HandedTo, RefusesStep, claimed, ledger_verdict, with_accepted}
 use Rattle.coord_ledger.specs.ledger.Driven.{Beside, answer_to, held, with_claim}
 use Rattle.coord_ledger.specs.ledger.Follows.{Follows, FollowsTo, Held, HoldsFlight}
 use Rattle.coord_ledger.specs.ledger.State.{Claim, FlightState, LedgerState}
 use Rattle.coord_ledger.specs.machine.Consistent.{IsConsistent, IsConsistentLog}
-use Rattle.coord_ledger.specs.machine.Log.{accepted_count, front_world}
+use Rattle.coord_ledger.specs.machine.Log.{accepted_count}
 use Rattle.coord_ledger.specs.machine.Machine.{Machine}
 use Rattle.coord_ledger.proofs.machine.ConsistentSteps.{reply_is}
 use Rattle.coord_ledger.proofs.follows.FollowsSteps.{follows_accepted, follows_no_room, follows_refused, follows_repeated, own_later}
-
--- ---- what a ticket tells of what was said, and the other way round
-
-module _ {D : Type 0} (l new : LedgerState D) (x : Step) where
-  pub handed_fresh : (given : Handed) (k : Kind) → HandedTo l x (Ok given) new → ledger_verdict l x ≡ Ok (Fresh k) → (claim_of given ≡ claimed x (reply (front_world l.log) x)) × (new ≡ with_accepted l x)
-  handed_fresh (Accepted t) k to judged = (to.claims, to.now)
-  handed_fresh (Repeated t) k to judged = let other = sym judged ∙ to.judged in let no : ⊥ = cc in absurd no
-
-  pub handed_repeat : (given : Handed) (kept : Reply) → HandedTo l x (Ok given) new → ledger_verdict l x ≡ Ok (Repeat kept) → (claim_of given ≡ claimed x kept) × (new ≡ l)
-  handed_repeat (Accepted t) kept to judged = let other = sym judged ∙ to.judged in let no : ⊥ = cc in absurd no
-  handed_repeat (Repeated t) kept to judged =
-      let both = sym to.judged ∙ judged in
-      let same : to.kept ≡ kept = cc in
-      (to.claims ∙ ap (claimed x) same, to.now)
-
-  pub handed_never : (given : Handed) (why : Refusal) → HandedTo l x (Ok given) new → ledger_verdict l x ≡ Err why → ⊥
-  handed_never (Accepted t) why to judged = let other = sym judged ∙ to.judged in let no : ⊥ = cc in no
-  handed_never (Repeated t) why to judged = let other = sym judged ∙ to.judged in let no : ⊥ = cc in no
-
-  pub refused_as : (e : Refusal) (v : Result Verdict Refusal) → HandedTo l x (Err e) new → ledger_verdict l x ≡ v → RefusesStep e v
-  refused_as e v to judged = subst (RefusesStep e) judged to.why
 
 -- ---- the flight and the disk stay
 

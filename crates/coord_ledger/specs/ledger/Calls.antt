@@ -21,9 +21,9 @@ use Rattle.coord_ledger.specs.declared.mark.Mark.TheVariants.{New, Good, Torn}
 use Rattle.coord_ledger.specs.declared.release.Release.{Release}
 use Rattle.coord_ledger.specs.ledger.Follows.{IsOut}
 use Rattle.coord_ledger.specs.ledger.State.{Claim, FlightState, LedgerState}
-use Rattle.coord_ledger.specs.machine.After.{releases_of}
+use Rattle.coord_ledger.specs.machine.After.{doubt_back, log_back, releases_of}
 use Rattle.coord_ledger.specs.machine.Answers.{stays_home}
-use Rattle.coord_ledger.specs.machine.Log.{Log, front_world, pending, settled_count, settled_world, with_settled, with_step, world_after}
+use Rattle.coord_ledger.specs.machine.Log.{Log, front_world, pending, settled_count, settled_world, with_step, world_after}
 use Rattle.coord_ledger.specs.machine.Submits.{verdict}
 
 -- that this step has this reply
@@ -86,11 +86,9 @@ next_flight log disk = record { first = settled_count log + 1; steps = take MAX_
 abbrev pub with_out : {D : Type 0} → LedgerState D → ℕ → LedgerState D
 with_out l n = record { log = l.log; out = Some n; doubt = l.doubt; disk = None }
 
--- a flight of n steps is back: a good one settles them, a torn one stops the ledger
+-- a flight of n steps is back
 abbrev pub taken_back : {D : Type 0} → LedgerState D → ℕ → Mark → D → LedgerState D
-taken_back l n New disk = record { log = l.log; out = None; doubt = l.doubt; disk = Some disk }
-taken_back l n Good disk = record { log = with_settled l.log n; out = None; doubt = l.doubt; disk = Some disk }
-taken_back l n Torn disk = record { log = l.log; out = None; doubt = Some n; disk = Some disk }
+taken_back l n mark disk = record { log = log_back l.log n mark; out = None; doubt = doubt_back l.doubt n mark; disk = Some disk }
 
 -- what a flight releases when it is taken back
 abbrev pub releases_in : {D : Type 0} → FlightState D → Mark → List Release
