@@ -75,10 +75,10 @@ follows_returned {D} h s f back releases is follows holds own returns gives = by
 pub ledger_images : {D : Type 0} (l : LedgerState D) (disk : D) (keeps_model : Bool) (present : D → Present) → (keeps_model ≡ true → LedgerGives present l disk) → ImagesGive keeps_model (present disk) l.log (kept_by l.log.settled None l.doubt)
 ledger_images l disk keeps_model present gives model image here = by_doubt l.doubt (gives model image here)
   where
-    by_doubt : (o : Option ℕ) → GivesSettled l.log o image → (n : ℕ) × (IsOneOf n (kept_by l.log.settled None o) × Recovered image (world_after l.log n))
-    by_doubt None given = (l.log.settled, (inl refl, given))
-    by_doubt (Some b) (inl given) = (l.log.settled, (inl refl, given))
-    by_doubt (Some b) (inr given) = (l.log.settled + b, (inr (inl refl), given))
+    by_doubt : (o : Option ℕ) → GivesSettled l.log o image → GivesOneOf l.log (kept_by l.log.settled None o) image
+    by_doubt None given = record { steps = l.log.settled; allowed = inl refl; recovered = given }
+    by_doubt (Some b) (inl given) = record { steps = l.log.settled; allowed = inl refl; recovered = given }
+    by_doubt (Some b) (inr given) = record { steps = l.log.settled + b; allowed = inr (inl refl); recovered = given }
 
 -- what bytes give of a flight's world, they give of its ledger's log
 pub flight_gives : {D : Type 0} (l : LedgerState D) (f : FlightState D) (image : List ℕ) → IsOut l f → GivesFlown f.mark f.world f.steps image → GivesOneOf l.log (kept_by l.log.settled (Some (flight_out f)) l.doubt) image

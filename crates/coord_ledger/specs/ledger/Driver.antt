@@ -65,15 +65,15 @@ IsEventFault model e OutOfMemory = wants_memory e ≡ true
 IsEventFault model e (Store fault) = (e ≡ Crash) × (model ≡ Some true → IsPassing fault)
 
 -- what an event has made of this disk is held now
-pub record HoldsTouched {D : Type 0} (keeps_model : D → Bool) (present : D → Present) (clock : D → ℕ) (left_since : D → ℕ → List ℕ → Type 0) (crashes : D → D → Type 0) (found : Machine) (touches : Bool) (e : Event) (old : D) (next : Held D) : Type 0 where
+pub record HoldsTouched {D : Type 0} (keeps_model : D → Bool) (present : D → Present) (clock : D → ℕ) (left_since : D → ℕ → List ℕ → Type 0) (crashes : D → D → Type 0) (found : Machine) (touches : Bool) (e : Event) (old : D) (now : Option D) : Type 0 where
   pub new : D
-  pub holds : disk_held next ≡ Some new
+  pub holds : now ≡ Some new
   pub touched : Touches present clock left_since crashes (keeps_model old) found touches e old new
 
 -- so with the disk that is held, where a crash inside the event finds this machine
 abbrev pub HeldTouches : {D : Type 0} → (D → Bool) → (D → Present) → (D → ℕ) → (D → ℕ → List ℕ → Type 0) → (D → D → Type 0) → Machine → Bool → Event → Held D → Held D → Type 0
 HeldTouches {D} keeps_model present clock left_since crashes found touches e h next =
-    (old : D) → disk_held h ≡ Some old → HoldsTouched keeps_model present clock left_since crashes found touches e old next
+    (old : D) → disk_held h ≡ Some old → HoldsTouched keeps_model present clock left_since crashes found touches e old (disk_held next)
 
 -- where the event was cut short this disk was given up: the one that is held, or in a crash one behind the taking of an image
 abbrev pub IsLost : {D : Type 0} → (D → Bool) → (D → Present) → (D → ℕ) → (D → ℕ → List ℕ → Type 0) → (D → D → Type 0) → Machine → Event → Held D → D → Type 0
