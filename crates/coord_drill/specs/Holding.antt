@@ -109,10 +109,8 @@ flown_answers (flown.Failed fault) b count = Begun b ∷ landed_answers (flown.F
 -- ---- texts
 
 -- a text goes on with one of these
-pub record Tells (old new : List ℕ) (P : List ℕ → Type 0) : Type 0 where
-  pub told : List ℕ
-  pub printed : new ≡ old ++ told
-  pub does : P told
+abbrev pub Tells : List ℕ → List ℕ → (List ℕ → Type 0) → Type 0
+Tells old new P = (told : List ℕ) × ((new ≡ old ++ told) × P told)
 
 -- the release that was looked at and those behind it
 abbrev pub left : Option Release → List Release → List Release

@@ -94,16 +94,24 @@ pub(crate) enum Call {
 // How many steps are out, or how many outputs a flight releases.
 fn called(driver: Driver<MemDisk>, call: Call) -> (Result<u64, Refusal>, Driver<MemDisk>) {
     match call {
-        Call::Begin => match driver.begin() {
-            (Answer::Begun(size), driver) => (Ok(size), driver),
-            (Answer::Refused(refusal), driver) => (Err(refusal), driver),
-            (_answer, driver) => (Err(Refusal::Stopped), driver),
-        },
-        Call::Finish => match driver.finish() {
-            (Ok(Some(releases)), driver) => (Ok(releases.lose_rest()), driver),
-            (Ok(None), driver) => (Err(Refusal::Stopped), driver),
-            (Err(refusal), driver) => (Err(refusal), driver),
-        },
+        Call::Begin => {
+            let (answer, driver) = driver.begin();
+            let begun = match answer {
+                Answer::Begun(size) => Ok(size),
+                Answer::Refused(refusal) => Err(refusal),
+                _ => Err(Refusal::Stopped),
+            };
+            (begun, driver)
+        }
+        Call::Finish => {
+            let (landed, driver) = driver.finish();
+            let ended = match landed {
+                Ok(Some(releases)) => Ok(releases.lose_rest()),
+                Ok(None) => Err(Refusal::Stopped),
+                Err(refusal) => Err(refusal),
+            };
+            (ended, driver)
+        }
     }
 }
 
@@ -127,9 +135,10 @@ pub(crate) fn flown(
     call: Call,
     before: &Sight,
 ) -> Result<(u64, Driver<MemDisk>), Fail> {
-    let (answer, driver) = match called(driver, call) {
-        (Ok(count), driver) => (Ok(count), driver),
-        (Err(refusal), driver) => called(as_before(driver, before, refusal)?, call),
+    let (answer, driver) = called(driver, call);
+    let (answer, driver) = match answer {
+        Ok(count) => (Ok(count), driver),
+        Err(refusal) => called(as_before(driver, before, refusal)?, call),
     };
     match answer {
         Ok(count) => Ok((count, driver)),

@@ -128,7 +128,7 @@ still : (d : Drill) (a : Asked) (old text told : List ℕ) → IsReady d → Beg
 still d a old text told ready begins other none is printed same =
     let v = driver_of d ready in
     let run = subst (λ es. IsRun v.0.ledger es [] v.0) (sym none) (begins_at d.driver v.0 v.1 begins) in
-    record { told = told; printed = is; does = carries d d v.0 v.0 a [] told v.1 v.1 ready other run tt (subst (λ s. told ≡ asked_lines s a []) (state_is d v.0 v.1) printed) (same (drill_of v.0.ledger d.holds d.has_begun)) }
+    (told, (is, carries d d v.0 v.0 a [] told v.1 v.1 ready other run tt (subst (λ s. told ≡ asked_lines s a []) (state_is d v.0 v.1) printed) (same (drill_of v.0.ledger d.holds d.has_begun))))
 
 pub tells_refusal : (d : Drill) (old text : List ℕ) (refusal : Refusal) → IsReady d → Begins d.driver → text ≡ old ++ refusal_line refusal → Tells old text (λ told. Carries d (ask.Refuse refusal) told d)
 unfolding asked_lines after_asked

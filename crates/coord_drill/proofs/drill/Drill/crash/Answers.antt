@@ -42,4 +42,4 @@ returns-clause-told c =
     (λ disk b s there consistent follows. c.in-Ok.ensures.answered b s consistent follows (ap (option_map (λ (x : MemDisk). true)) there))
     c.in-Ok.ensures.disk c.survives.ensures begun in
     let leaves = subst (λ n. drill_of w.ledger false d.has_begun ≡ after_asked (drill_of v.ledger d.holds d.has_begun) Crash (Opened n ∷ [])) (sym count) (crash_leaves v w d.holds d.has_begun left) in
-    record { told = line; printed = text; does = carries d _ v w Crash (Opened c.in-Ok.opened.0 ∷ []) line is c.put.ensures c.requires.ready (λ same. cc) run ((λ same. cc), tt) (crash_line (drill_of v.ledger d.holds d.has_begun) c.in-Ok.opened.0) leaves }
+    (line, (text, carries d _ v w Crash (Opened c.in-Ok.opened.0 ∷ []) line is c.put.ensures c.requires.ready (λ same. cc) run ((λ same. cc), tt) (crash_line (drill_of v.ledger d.holds d.has_begun) c.in-Ok.opened.0) leaves))

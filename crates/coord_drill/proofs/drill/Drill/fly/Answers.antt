@@ -38,4 +38,4 @@ returns-clause-told c =
     let r1 = c.in_ok-flown.field-0.driver in
     let is : d.driver ≡ Some v = search rules in
     let text = c.in_ok-printed.ensures.printed ∙ ap (λ (l : LedgerState MemDisk). string_bytes c.args.text.now ++ flown_lines (settled_world l.log) r0 d.tickets.items) c.ledger.ensures in
-    record { told = flown_lines (settled_world r1.ledger.log) r0 d.tickets.items; printed = text; does = flies d _ v r1 r0 is c.put.ensures refl refl c.requires.ready c.in_ok-flown.ensures.flown c.in_ok-flown.ensures.moments }
+    (flown_lines (settled_world r1.ledger.log) r0 d.tickets.items, (text, flies d _ v r1 r0 is c.put.ensures refl refl c.requires.ready c.in_ok-flown.ensures.flown c.in_ok-flown.ensures.moments))

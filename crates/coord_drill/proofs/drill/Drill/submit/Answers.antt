@@ -58,7 +58,7 @@ returns-then-self-clause-told c =
     let holds : d.holds ≡ true = search rules in
     let text : string_bytes c.print_pending.new.text ≡ string_bytes c.args.text.now ++ pending_line n = search rules in
     let all = subst (λ b. IsRun v.ledger (event.Submit c.args.step ∷ cond b [] (flight_events [])) (answer.Accepted n ∷ []) w) (sym holds) answered in
-    record { told = pending_line n; printed = text; does = carries d _ v w (Submit c.args.step) (answer.Accepted n ∷ []) (pending_line n) is refl c.requires.ready (λ same. cc) all ((λ same. cc), tt) (sym (held_line s c.args.step n holds)) (held_leaves v.ledger w.ledger d.holds d.has_begun c.args.step c.in-Ok-Accepted.ticket to holds) }
+    (pending_line n, (text, carries d _ v w (Submit c.args.step) (answer.Accepted n ∷ []) (pending_line n) is refl c.requires.ready (λ same. cc) all ((λ same. cc), tt) (sym (held_line s c.args.step n holds)) (held_leaves v.ledger w.ledger d.holds d.has_begun c.args.step c.in-Ok-Accepted.ticket to holds)))
 
 pub returns-else-self-clause-told : goal.returns-else-self-clause-told
 returns-else-self-clause-told c =
@@ -73,7 +73,7 @@ returns-else-self-clause-told c =
     let answered : IsRun v.ledger (event.Submit c.args.step ∷ []) (answer.Accepted c.in-Ok-Accepted.ticket.step ∷ []) w = subst (λ r. IsRun v.ledger (event.Submit c.args.step ∷ []) (answer_to r ∷ []) w) said run in
     let new = c.fly.new.self in
     on_ok_weaker c.fly.result
-    (λ both. record { told = both.0.told; printed = both.0.printed; does = settles d _ new v w c.args.step c.in-Ok-Accepted.ticket both.0.told is refl refl refl (search rules) c.requires.ready both.1 to answered both.0.does })
+    (λ both. (both.0.0, (both.0.1.0, settles d _ new v w c.args.step c.in-Ok-Accepted.ticket both.0.0 is refl refl refl (search rules) c.requires.ready both.1 to answered both.0.1.1)))
     (on_ok_both _ _ c.fly.result c.fly.ensures.told c.fly.ensures.ready)
 
 pub print_kept-requires : goal.print_kept-requires
@@ -100,7 +100,7 @@ returns-in_ok-print_kept-in-Ok-Repeated-clause-told c =
     let t = c.in-Ok-Repeated.ticket in
     let line = kept_line (settled_count w.ledger.log) (reply_of t) in
     let text = c.in_ok-print_kept-in-Ok-Repeated.ensures ∙ ap (λ (l : LedgerState MemDisk). string_bytes c.args.text.now ++ kept_line (settled_count l.log) (reply_of t)) c.ledger.ensures in
-    record { told = line; printed = text; does = carries d _ v w (Submit c.args.step) (answer.Repeated t.step ∷ []) line is refl c.requires.ready (λ same. cc) answered ((λ same. cc), tt) (repeated_told v.ledger w.ledger d.holds d.has_begun c.args.step t to) (repeated_leaves v.ledger w.ledger d.holds d.has_begun c.args.step t to) }
+    (line, (text, carries d _ v w (Submit c.args.step) (answer.Repeated t.step ∷ []) line is refl c.requires.ready (λ same. cc) answered ((λ same. cc), tt) (repeated_told v.ledger w.ledger d.holds d.has_begun c.args.step t to) (repeated_leaves v.ledger w.ledger d.holds d.has_begun c.args.step t to)))
 
 pub returns-in_ok-print_refusal-in-Err-clause-told : goal.returns-in_ok-print_refusal-in-Err-clause-told
 returns-in_ok-print_refusal-in-Err-clause-told c =
@@ -118,7 +118,7 @@ returns-in_ok-print_refusal-in-Err-clause-told c =
     let other : e ≢ OutOfMemory = search rules in
     let memory : answer.Refused e ≢ answer.Refused OutOfMemory = λ same. other cc in
     let text : string_bytes c.print_refusal.new.text ≡ string_bytes c.args.text.now ++ refusal_line e = search rules in
-    record { told = refusal_line e; printed = text; does = carries d _ v w (Submit c.args.step) (answer.Refused e ∷ []) (refusal_line e) is refl c.requires.ready (λ same. cc) answered (memory, tt) (sym (refused_line s c.args.step e)) (refused_leaves v.ledger w.ledger d.holds d.has_begun c.args.step e to other) }
+    (refusal_line e, (text, carries d _ v w (Submit c.args.step) (answer.Refused e ∷ []) (refusal_line e) is refl c.requires.ready (λ same. cc) answered (memory, tt) (sym (refused_line s c.args.step e)) (refused_leaves v.ledger w.ledger d.holds d.has_begun c.args.step e to other)))
 
 pub returns-in_ok-print_kept-in-Ok-Repeated-clause-ready : goal.returns-in_ok-print_kept-in-Ok-Repeated-clause-ready
 returns-in_ok-print_kept-in-Ok-Repeated-clause-ready c =
