@@ -35,10 +35,17 @@ fn choice(alloc: Global, which: usize) -> Result<Choice, Fail> {
 
 /// A device in memory with these bytes, and what its next crash leaves of it.
 pub(crate) fn device(alloc: Global, bytes: &[u8], which: usize) -> Result<MemDisk, Fail> {
-    let choice = choice(alloc, which)?;
     let mut disk = MemDisk::from_bytes(alloc, bytes)?;
-    disk.choose(choice);
-    Ok(disk)
+    match choice(alloc, which) {
+        Ok(choice) => {
+            disk.choose(choice);
+            Ok(disk)
+        }
+        Err(fail) => {
+            drop(disk);
+            Err(fail)
+        }
+    }
 }
 
 /// A ledger over the store on this device.
@@ -64,9 +71,4 @@ pub(crate) fn home<D: Disk>(ledger: Ledger<D>) -> Option<D> {
             None
         }
     }
-}
-
-/// The same, where it has to be.
-pub(crate) fn disk_of<D: Disk>(ledger: Ledger<D>) -> Result<D, Fail> {
-    Ok(home(ledger).ok_or("a flight is out")?)
 }

@@ -1,7 +1,8 @@
 //! Runs of events whose answers are known.
 
+use crate::cases::push;
 use crate::devices::{HALF, device, made};
-use crate::runs::{are, are_answered, ran};
+use crate::runs::{are_answered, are_those, ran};
 use crate::scene::Scene;
 use coord_disk::{BlipDisk, MemDisk};
 use coord_journal::format;
@@ -56,9 +57,12 @@ fn torn(alloc: Global, which: usize, answers: &str) -> Result<bool, Fail> {
         Event::Submit(scene.add(2, scene.second)),
         Event::Crash,
     ];
-    let disk = BlipDisk::new(device(alloc, made(alloc)?.bytes(), which)?, GATE);
-    let (trace, _disk) = ran(alloc, disk, &events)?;
-    are(alloc, &trace, 0, answers, true)
+    let made = made(alloc)?;
+    let device = device(alloc, made.bytes(), which);
+    drop(made);
+    let (trace, disk) = ran(alloc, BlipDisk::new(device?, GATE), &events)?;
+    drop(disk);
+    are_those(alloc, trace, 0, answers, true)
 }
 
 fn are_torn(alloc: Global) -> Result<bool, Fail> {
@@ -78,10 +82,15 @@ fn a_torn_flight_stops_the_ledger(rt: HostRuntime) -> Result<(), Fail> {
 // An order out of turn is refused for the steps of the world.
 fn is_exhausted(alloc: Global) -> Result<bool, Fail> {
     let scene = Scene::new()?;
-    let mut disk = MemDisk::new(alloc);
-    format(alloc, &mut disk, HALF, 1, &EXHAUSTED)?;
     let events = [Event::Submit(scene.reset(9, scene.first))];
-    are_answered(alloc, disk, &events, "[Refused(Exhausted)]")
+    let mut disk = MemDisk::new(alloc);
+    match format(alloc, &mut disk, HALF, 1, &EXHAUSTED) {
+        Ok(()) => are_answered(alloc, disk, &events, "[Refused(Exhausted)]"),
+        Err(fault) => {
+            drop(disk);
+            Err(fault)?
+        }
+    }
 }
 
 #[test]
@@ -90,25 +99,14 @@ fn an_exhausted_world_takes_no_step(rt: HostRuntime) -> Result<(), Fail> {
     Ok(())
 }
 
-// 1,024 steps are pending behind the first, which is settled.
-fn filling(alloc: Global, scene: &Scene) -> Result<Vec<Event>, Fail> {
-    let mut events = [
-        Event::Submit(scene.add(1, scene.first)),
-        Event::Begin,
-        Event::Commit,
-        Event::Finish,
-    ]
-    .to_vec(alloc)?;
+// 1,024 steps are pending behind the first, which is settled. They hide all but a repeat, until 256 of
+// them are settled.
+fn push_overfilling(events: &mut Vec<Event>) -> Result<(), Fail> {
+    let scene = Scene::new()?;
+    push(events, &[scene.add(1, scene.first)])?;
     for number in 2..1_026u64 {
         events.push(Event::Submit(scene.reset(number, scene.first)))?;
     }
-    Ok(events)
-}
-
-// They hide all but a repeat, until 256 of them are settled.
-fn overfilling(alloc: Global) -> Result<Vec<Event>, Fail> {
-    let scene = Scene::new()?;
-    let mut events = filling(alloc, &scene)?;
     events.extend_from_slice(&[
         Event::Submit(scene.reset(1_026, scene.first)),
         Event::Submit(scene.reset(9, scene.first)),
@@ -118,15 +116,27 @@ fn overfilling(alloc: Global) -> Result<Vec<Event>, Fail> {
         Event::Finish,
         Event::Submit(scene.reset(1_026, scene.first)),
     ])?;
-    Ok(events)
+    Ok(())
 }
 
-fn fills_up(alloc: Global) -> Result<bool, Fail> {
-    let (trace, _disk) = ran(alloc, made(alloc)?, &overfilling(alloc)?)?;
+fn is_filled_up(alloc: Global, events: &[Event]) -> Result<bool, Fail> {
+    let (trace, disk) = ran(alloc, made(alloc)?, events)?;
+    drop(disk);
+    let are_released = trace.released.len() == 256;
     let answers =
         "[Refused(PendingFull), Refused(PendingFull), Repeated(1025), Begun(256), Committed, Finished(257), \
                    Accepted(1026)]";
-    Ok(are(alloc, &trace, 1_028, answers, false)? && trace.released.len() == 256)
+    Ok(are_those(alloc, trace, 1_028, answers, false)? && are_released)
+}
+
+fn fills_up(alloc: Global) -> Result<bool, Fail> {
+    let mut events = Vec::new(alloc);
+    let is_filled_up = match push_overfilling(&mut events) {
+        Ok(()) => is_filled_up(alloc, &events),
+        Err(fail) => Err(fail),
+    };
+    drop(events);
+    is_filled_up
 }
 
 #[test]

@@ -7,10 +7,11 @@ use crate::devices::{device, home, made};
 use crate::retries::{
     Sight, begun, committed, looked_at, opened, resent, shown, submitted, taken_back,
 };
-use crate::runs::{are, ran};
+use crate::runs::{are_those, ran};
 use crate::scene::Scene;
 use coord_disk::MemDisk;
 use coord_ledger::{Event, Ledger};
+use coord_store::StoreFault;
 use coord_types::Step;
 use std::alloc::Global;
 use std::test::Fail;
@@ -18,7 +19,9 @@ use std::test::Fail;
 // Hands in a step.
 fn hand_in(ledger: &mut Ledger<MemDisk>, step: Step) -> Result<(), Fail> {
     let before = looked_at(ledger)?;
-    submitted(ledger, step, &before)
+    let submitted = submitted(ledger, step, &before);
+    drop(before);
+    submitted
 }
 
 // Hands in steps, and gives what is seen then.
@@ -52,36 +55,48 @@ fn all_settled(
 
 fn settles(ledger: &mut Ledger<MemDisk>, steps: &[Step], wanted: (u64, u64)) -> Result<bool, Fail> {
     let before = accept(ledger, steps)?;
-    all_settled(ledger, &before, wanted)
+    let settled = all_settled(ledger, &before, wanted);
+    drop(before);
+    settled
 }
 
-// How many steps are on a device.
-fn kept(alloc: Global, disk: MemDisk) -> Result<u64, Fail> {
-    let anew = opened(alloc, disk)?;
-    let count = anew.settled().count();
-    drop(anew);
-    Ok(count)
+// How many steps are on a device. None where a flight is out.
+fn kept(alloc: Global, disk: Option<MemDisk>) -> Result<Option<u64>, StoreFault> {
+    match disk {
+        Some(disk) => {
+            let anew = opened(alloc, disk)?;
+            let count = anew.settled().count();
+            drop(anew);
+            Ok(Some(count))
+        }
+        None => Ok(None),
+    }
 }
 
 // Whether it is so of the flight of a case, and the device has its steps.
-fn is_settled(alloc: Global, case: &Case, wanted: (u64, u64)) -> Result<bool, Fail> {
+fn is_settled_of(alloc: Global, case: &Case, wanted: (u64, u64)) -> Result<bool, Fail> {
     let mut ledger = opened(alloc, device(alloc, case.disk.bytes(), 0)?)?;
     let settled = settles(&mut ledger, &case.steps, wanted);
-    let disk = home(ledger);
-    let told = settled?;
-    let kept = kept(alloc, disk.ok_or("a flight is out")?)?;
-    Ok(told && kept == case.settled.saturating_add(case.steps.len() as u64))
+    let kept = kept(alloc, home(ledger));
+    let count = case.settled.saturating_add(case.steps.len() as u64);
+    Ok(settled? && kept? == Some(count))
+}
+
+fn is_settled(alloc: Global, case: Case, wanted: (u64, u64)) -> Result<bool, Fail> {
+    let is_settled = is_settled_of(alloc, &case, wanted);
+    drop(case);
+    is_settled
 }
 
 #[test]
 fn steps_are_settled_once_there_is_memory(rt: HostRuntime) -> Result<(), Fail> {
-    assert!(rt; is_settled(rt.alloc(), &small(rt.alloc())?, (1, 1))?);
+    assert!(rt; is_settled(rt.alloc(), small(rt.alloc())?, (1, 1))?);
     Ok(())
 }
 
 #[test]
 fn they_are_so_behind_a_checkpoint(rt: HostRuntime) -> Result<(), Fail> {
-    assert!(rt; is_settled(rt.alloc(), &full(rt.alloc())?, (256, 0))?);
+    assert!(rt; is_settled(rt.alloc(), full(rt.alloc())?, (256, 0))?);
     Ok(())
 }
 
@@ -97,13 +112,15 @@ fn runs_again(alloc: Global) -> Result<bool, Fail> {
         Event::Resend,
         Event::Show,
     ];
-    let (_first, disk) = ran(alloc, made(alloc)?, &events)?;
-    let (second, _disk) = ran(alloc, disk, &events)?;
+    let (first, disk) = ran(alloc, made(alloc)?, &events)?;
+    drop(first);
+    let (second, disk) = ran(alloc, disk, &events)?;
+    drop(disk);
     let answers =
         "[Collected(Reply { step: 1, kind: Done }), Resent(0), Shown(View { accepted: 1, settled: 1, \
                    nodes: [NodeView { node: Identifier { number: 1 }, group: Identifier { number: 1 }, mode: Ready, \
                    parent: None, epoch: 0, confirmed: 0 }], links: [] })]";
-    are(alloc, &second, 4, answers, false)
+    are_those(alloc, second, 4, answers, false)
 }
 
 #[test]

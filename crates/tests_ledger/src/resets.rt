@@ -1,11 +1,11 @@
 //! A reset of two linked nodes: what it releases, in order, and what is kept of it.
 
 use crate::devices::made;
-use crate::runs::{are, are_answered, ran};
+use crate::runs::{are_answered, are_those, ran};
 use crate::scene::{LINK, Scene};
 use coord_ledger::{Event, Release};
 use coord_types::{Msg, Output, ReceiptPacket};
-use std::alloc::Global;
+use std::alloc::{AllocError, Global};
 use std::test::Fail;
 
 // Two nodes are linked, and a reset of the first is settled.
@@ -57,9 +57,9 @@ fn released(scene: &Scene) -> [Release; 6] {
     ]
 }
 
-fn releases_in_order(alloc: Global) -> Result<bool, Fail> {
-    let scene = Scene::new()?;
-    let mut events = reset(&scene).to_vec(alloc)?;
+// Adds that reset, and its packet.
+fn push_taken(events: &mut Vec<Event>, scene: &Scene) -> Result<(), AllocError> {
+    events.extend_from_slice(&reset(scene))?;
     events.extend_from_slice(&[
         Event::Submit(scene.take_abort()),
         Event::Begin,
@@ -67,14 +67,41 @@ fn releases_in_order(alloc: Global) -> Result<bool, Fail> {
         Event::Finish,
         Event::Resend,
     ])?;
-    let (trace, _disk) = ran(alloc, made(alloc)?, &events)?;
+    Ok(())
+}
+
+// Adds that reset, a crash, and orders that come again.
+fn push_again(events: &mut Vec<Event>, scene: &Scene) -> Result<(), AllocError> {
+    events.extend_from_slice(&reset(scene))?;
+    events.extend_from_slice(&[
+        Event::Crash,
+        Event::Submit(scene.reset(4, scene.first)),
+        Event::Collect(0),
+        Event::Submit(scene.reset(4, scene.second)),
+        Event::Submit(scene.reset(6, scene.first)),
+    ])?;
+    Ok(())
+}
+
+fn are_released(alloc: Global, scene: &Scene, events: &[Event]) -> Result<bool, Fail> {
+    let (trace, disk) = ran(alloc, made(alloc)?, events)?;
+    drop(disk);
+    let are_released = trace.released.as_slice() == released(scene).as_slice();
     let answers =
         "[Accepted(1), Accepted(2), Accepted(3), Accepted(4), Begun(4), Committed, Finished(4), \
                    Accepted(5), Begun(1), Committed, Finished(5), Resent(3)]";
-    Ok(
-        are(alloc, &trace, 0, answers, false)?
-            && trace.released.as_slice() == released(&scene).as_slice(),
-    )
+    Ok(are_those(alloc, trace, 0, answers, false)? && are_released)
+}
+
+fn releases_in_order(alloc: Global) -> Result<bool, Fail> {
+    let scene = Scene::new()?;
+    let mut events = Vec::new(alloc);
+    let are_released = match push_taken(&mut events, &scene) {
+        Ok(()) => are_released(alloc, &scene, &events),
+        Err(fault) => Err(Fail::from(fault)),
+    };
+    drop(events);
+    are_released
 }
 
 #[test]
@@ -84,20 +111,22 @@ fn releases_come_in_order(rt: HostRuntime) -> Result<(), Fail> {
 }
 
 // The last order comes again after a crash, and then others of its number and out of turn.
-fn keeps_reply(alloc: Global) -> Result<bool, Fail> {
-    let scene = Scene::new()?;
-    let mut events = reset(&scene).to_vec(alloc)?;
-    events.extend_from_slice(&[
-        Event::Crash,
-        Event::Submit(scene.reset(4, scene.first)),
-        Event::Collect(0),
-        Event::Submit(scene.reset(4, scene.second)),
-        Event::Submit(scene.reset(6, scene.first)),
-    ])?;
+fn is_reply_kept(alloc: Global, events: &[Event]) -> Result<bool, Fail> {
     let answers =
         "[Accepted(1), Accepted(2), Accepted(3), Accepted(4), Begun(4), Committed, Finished(4), Opened(4), \
                    Repeated(4), Collected(Reply { step: 4, kind: Started }), Refused(NumberReused), Refused(OutOfTurn)]";
-    are_answered(alloc, made(alloc)?, &events, answers)
+    are_answered(alloc, made(alloc)?, events, answers)
+}
+
+fn keeps_reply(alloc: Global) -> Result<bool, Fail> {
+    let scene = Scene::new()?;
+    let mut events = Vec::new(alloc);
+    let is_kept = match push_again(&mut events, &scene) {
+        Ok(()) => is_reply_kept(alloc, &events),
+        Err(fault) => Err(Fail::from(fault)),
+    };
+    drop(events);
+    is_kept
 }
 
 #[test]

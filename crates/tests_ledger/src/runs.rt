@@ -1,6 +1,6 @@
 //! Runs of events, and what they are answered.
 
-use crate::devices::{disk_of, opened};
+use crate::devices::{home, opened};
 use coord_disk::{CrashDisk, MemDisk};
 use coord_ledger::{Answer, Event, RunFault, Trace, run_events};
 use coord_store::CommitFault;
@@ -15,13 +15,16 @@ pub(crate) fn ran<D: CrashDisk>(
     events: &[Event],
 ) -> Result<(Trace, D), Fail> {
     match run_events(alloc, opened(alloc, disk)?, events) {
-        Ok((trace, ledger)) => Ok((trace, disk_of(ledger)?)),
+        Ok((trace, ledger)) => match home(ledger) {
+            Some(disk) => Ok((trace, disk)),
+            None => {
+                drop(trace);
+                Err("a flight is out")?
+            }
+        },
         Err(fault) => {
-            let RunFault {
-                at: _,
-                trace: _trace,
-                kind,
-            } = fault;
+            let RunFault { at: _, trace, kind } = fault;
+            drop(trace);
             Err(kind)?
         }
     }
@@ -63,6 +66,19 @@ pub(crate) fn are(
     Ok(format!(in alloc; "{last:?}")?.as_str() == wanted)
 }
 
+/// The same of a trace that is let go then.
+pub(crate) fn are_those(
+    alloc: Global,
+    trace: Trace,
+    behind: usize,
+    wanted: &str,
+    may_fail: bool,
+) -> Result<bool, Fail> {
+    let are = are(alloc, &trace, behind, wanted, may_fail);
+    drop(trace);
+    are
+}
+
 /// Whether events on the store of a device in memory are answered so.
 pub(crate) fn are_answered(
     alloc: Global,
@@ -70,6 +86,7 @@ pub(crate) fn are_answered(
     events: &[Event],
     wanted: &str,
 ) -> Result<bool, Fail> {
-    let (trace, _disk) = ran(alloc, disk, events)?;
-    are(alloc, &trace, 0, wanted, false)
+    let (trace, disk) = ran(alloc, disk, events)?;
+    drop(disk);
+    are_those(alloc, trace, 0, wanted, false)
 }

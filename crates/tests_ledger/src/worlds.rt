@@ -43,15 +43,22 @@ fn take(world: &mut World, step: &Step) -> Result<(), Fail>
     ensures { Legal world.new }
 {
     let before = copied(world)?;
-    taken_from(world, &before, step)
+    let taken = taken_from(world, &before, step);
+    drop(before);
+    taken
 }
 
 fn taken(mut world: World, step: &Step) -> Result<World, Fail>
     requires { Legal world }
     ensures { IfOk result Legal }
 {
-    take(&mut world, step)?;
-    Ok(world)
+    match take(&mut world, step) {
+        Ok(()) => Ok(world),
+        Err(fail) => {
+            drop(world);
+            Err(fail)
+        }
+    }
 }
 
 // How many steps a world has taken of a reset that a neighbour answers.
@@ -63,7 +70,9 @@ fn taken_in_turn(alloc: Global) -> Result<u64, Fail> {
     let world = taken(world, &link)?;
     let world = taken(world, &scene.reset(4, scene.first))?;
     let world = taken(world, &scene.take_abort())?;
-    Ok(world.count())
+    let count = world.count();
+    drop(world);
+    Ok(count)
 }
 
 #[test]
