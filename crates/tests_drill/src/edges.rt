@@ -120,6 +120,7 @@ impl<S: Files<File = File>> Folder for Failing<'_, S> {
 
 /// A server of the store in a folder: what it is told, after how many calls its disk fails, how many
 /// signals are printed, and the exit status and the fault line.
+#[derive(Clone, Copy)]
 struct Serving {
     lines: &'static [u8],
     passes: u64,
