@@ -1,6 +1,6 @@
 -- A server of which no fault is told was closed by a line.
-use Rattle.std.proofs.Common.{◌≡◌, ℕ, zero, suc, ◌+◌, List, [], ◌∷◌, ◌++◌, All, length, Bool, true, false, Option, Some, None, inl, inr, tt, refl, sym, ap, ◌∙◌, subst, append-nil, append_assoc, arith}
-use Rattle.std.specs.Prelude.{drop, ◌==◌}
+use Rattle.std.proofs.Common.{◌≡◌, ℕ, zero, suc, ◌+◌, List, [], ◌∷◌, ◌++◌, All, length, Bool, true, false, Option, Some, None, refl, sym, ap, ◌∙◌, subst, append-nil, append_assoc, arith}
+use Rattle.std.specs.Prelude.{drop}
 use Rattle.std.proofs.lemmas.List.Elements.{All-push}
 use Rattle.coord_engine.specs.Closing.{IsSince}
 use Rattle.coord_engine.specs.Named.{IsNamed}
@@ -14,23 +14,12 @@ use Rattle.coord_world.specs.protocol.NumberedWorld.{World}
 use Rattle.coord_admin.specs.Connections.{Talk}
 use Rattle.coord_engine.specs.State.{Basis, based_on}
 use Rattle.coord_server.specs.EngineDesk.{DeskState}
-use Rattle.coord_server.specs.Ending.{AddsWorkers, BringsBack, IsOfStart, IsOneHistory, IsServedToClose, Serves, ServesLife, fault_at_end}
-use Rattle.coord_server.specs.Printed.{IsOfPrinting}
+use Rattle.coord_server.specs.Ending.{AddsWorkers, IsOneHistory, IsServedToClose, Serves, ServesLife, fault_at_end}
 use Rattle.coord_server.specs.Lives.{HasLived, HasLivedToClose, IsOver, Lives, Rests, met_any}
 use Rattle.coord_server.specs.declared.fault.ServerFault.{ServerFault}
 use Rattle.coord_server.specs.declared.fault.ServerFault.TheVariants as fault
 use Rattle.coord_server.specs.declared.left.Left.{Left}
 use Rattle.coord_server.specs.declared.left.Left.TheVariants.{Resting, Ended}
-
--- a line that was not printed is met before anyone is served
-pub printing_is_of_start : (met : ServerFault) → IsOfPrinting met → IsOfStart met
-printing_is_of_start met (inl memory) = subst IsOfStart (sym memory) tt
-printing_is_of_start met (inr write) = subst IsOfStart (sym write) tt
-
--- all shares came back, or that a thread could not be started was told
-pub brings_back : (given running missing back : ℕ) (left : Left) (is_whole : Bool) → running + missing ≡ given → back ≡ running → is_whole ≡ (missing == 0) → (is_whole ≡ false → left ≡ Ended (Some fault.OutOfMemory)) → BringsBack given back left
-brings_back given running zero back left is_whole all joined whole short = inl (omega arith)
-brings_back given running (suc n) back left is_whole all joined whole short = inr (short whole)
 
 pub going_if_none : (stopped : Bool) (served : Option ServerFault) (is_broken : Bool) → fault_at_end stopped served is_broken ≡ None → stopped ≡ false
 going_if_none false served is_broken none = refl

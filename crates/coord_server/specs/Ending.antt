@@ -57,10 +57,6 @@ module _ {D : Type 0} (b : Basis D) {V : Type 0} (met : V → List Talk → V �
   ServesLife v w desk left.Resting = IsLeft v w desk
   ServesLife v w desk (left.Ended served) = Serves v w desk served
 
--- so many of the shares that workers were to have came back: all, unless a thread could not be started, which is told
-abbrev pub BringsBack : ℕ → ℕ → Left → Type 0
-BringsBack given back left = (back ≡ given) ⊎ (left ≡ left.Ended (Some fault.OutOfMemory))
-
 -- a desk that began with nothing was served over some connections, the last of which closed it
 abbrev pub IsServedToClose : {D : Type 0} → Basis D → DeskState → Type 0
 IsServedToClose b desk = ServedToClose (DeskAnswers b) (λ (v : Unit {0}) (talks : List Talk) (w : Unit {0}). Unit {0}) tt new_desk tt desk

@@ -3,7 +3,8 @@
 ghost use Rattle.std.specs.Prelude.{◌≡◌, ◌+◌, ◌^◌, ◌<◌, ◌≤◌, [], ℕ, IfNone, IfOk, IfSome, MatchOption, Some, false, vec_capacity, vec_len};
 ghost use Rattle.std.specs.Thread.{IsSend, IsSync};
 ghost use Rattle.coord_engine.specs.State.{based_on};
-ghost use Rattle.coord_server.specs.Ending.{BringsBack, IsOfStart, ServesLife, new_desk};
+ghost use Rattle.coord_server.specs.Ending.{IsOfStart, ServesLife, new_desk};
+ghost use Rattle.coord_server.specs.Workers.{BringsBack};
 
 use crate::age::{Age, EngineAge};
 use crate::left::Left;

@@ -80,7 +80,7 @@ pub fn serve_lives<
 }
 
 /// Says where they call. Else why not.
-#[tactic(auto, using(crate::proofs::Ends::printing_is_of_start))]
+#[tactic(auto, using(crate::proofs::Starts::printing_is_of_start))]
 fn print_listening<C: Callers, W: Write>(
     callers: &C,
     printer: &mut Printer<W>,
