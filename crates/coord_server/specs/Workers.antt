@@ -2,6 +2,8 @@
 use Rattle.std.specs.Prelude.{◌≡◌, ◌⊎◌, ℕ, ◌%◌, Some}
 use Rattle.coord_types.specs.declared.packets.Packet.{Packet}
 use Rattle.coord_types.specs.declared.packets.Packet.TheVariants.{Carried, Receipted}
+use Rattle.coord_server.specs.Ending.{IsOfStart}
+use Rattle.coord_server.specs.declared.fault.ServerFault.{ServerFault}
 use Rattle.coord_server.specs.declared.fault.ServerFault.TheVariants as fault
 use Rattle.coord_server.specs.declared.left.Left.{Left}
 use Rattle.coord_server.specs.declared.left.Left.TheVariants as left
@@ -14,3 +16,7 @@ worker_of (Receipted p) = p.from % 8
 -- of so many workers' shares so many came back: all, unless a thread could not be started, which is told
 abbrev pub BringsBack : ℕ → ℕ → Left → Type 0
 BringsBack given back left = (back ≡ given) ⊎ (left ≡ left.Ended (Some fault.OutOfMemory))
+
+-- so many shares are all: the desk's and those of eight workers. Else a fault was met before anyone was served, and is told
+abbrev pub AreAll : ℕ → Left → Type 0
+AreAll shares left = (shares ≡ 9) ⊎ ((met : ServerFault) × (left ≡ left.Ended (Some met)) × IsOfStart met)

@@ -72,6 +72,7 @@ pub fn run<
         (record { notes = result.own; seen = seen }) result.left }
     ensures workers { IfNone met
         (BringsBack (vec_len packets) (vec_len result.workers) result.left) }
+    ensures told { IfSome met (λ fault. result.left ≡ Left.Ended (Some fault)) }
 {
     match met {
         None => run_threads(rt, alloc, most, engine, port, packets, own, callers),
