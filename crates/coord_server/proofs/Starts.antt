@@ -1,6 +1,7 @@
 -- What is told where the server or a life did not begin.
-use Rattle.std.proofs.Common.{◌≡◌, ℕ, zero, suc, ◌+◌, Bool, false, Option, Some, None, inl, inr, tt, sym, subst, arith}
+use Rattle.std.proofs.Common.{◌≡◌, ℕ, ◌+◌, Bool, true, false, Option, Some, None, List, [], ◌∷◌, ◌++◌, length, inl, inr, refl, sym, ap, ◌∙◌, subst, arith}
 use Rattle.std.specs.Prelude.{◌==◌, IfNone, IfSome, MatchOption}
+use Rattle.std.proofs.lemmas.Bool.Decides.{nat_tests}
 use Rattle.coord_server.specs.Ending.{IsOfStart}
 use Rattle.coord_server.specs.Printed.{IsOfPrinting}
 use Rattle.coord_server.specs.Workers.{AreAll, BringsBack}
@@ -16,8 +17,11 @@ printing_is_of_start met (inr write) = subst IsOfStart (sym write) tt
 
 -- workers that could not be started
 pub brings_back : (given running missing back : ℕ) (left : Left) (is_whole : Bool) → running + missing ≡ given → back ≡ running → is_whole ≡ (missing == 0) → (is_whole ≡ false → left ≡ Ended (Some fault.OutOfMemory)) → BringsBack given back left
-brings_back given running zero back left is_whole all joined whole short = inl (omega arith)
-brings_back given running (suc n) back left is_whole all joined whole short = inr (short whole)
+brings_back given running missing back left true all joined whole short =
+    let is : (missing == 0) ≡ true = sym whole in
+    let none : missing ≡ 0 = grind (arith, nat_tests) in
+    inl (omega arith)
+brings_back given running missing back left false all joined whole short = inr (short refl)
 
 -- a worker that was started, or one more that is missing
 pub one_more : {W : Type 0} (worker : Option W) (running later missing counted : ℕ) → MatchOption worker (later ≡ running) (λ _. later ≡ running + 1) → MatchOption worker (counted ≡ missing + 1) (λ _. counted ≡ missing) → later + counted ≡ running + missing + 1
@@ -29,3 +33,7 @@ pub are_all : (met : Option ServerFault) (given back shares : ℕ) (left : Left)
 are_all None given back shares left start (inl all) told eight one = inl (omega arith)
 are_all None given back shares left start (inr short) told eight one = inr (fault.OutOfMemory, short, tt)
 are_all (Some met) given back shares left start brought told eight one = inr (met, told, start)
+
+-- the desk's share, and behind it those of the workers
+pub counted : {X : Type 0} (own : X) (first workers shares : List X) → first ≡ own ∷ [] → shares ≡ first ++ workers → length shares ≡ length workers + 1
+counted own first workers shares one all = let long : length shares ≡ length ((own ∷ []) ++ workers) = ap length all ∙ ap (λ l. length (l ++ workers)) one in omega arith

@@ -15,8 +15,8 @@ worker_of (Receipted p) = p.from % 8
 
 -- of so many workers' shares so many came back: all, unless a thread could not be started, which is told
 abbrev pub BringsBack : ℕ → ℕ → Left → Type 0
-BringsBack given back left = (back ≡ given) ⊎ (left ≡ left.Ended (Some fault.OutOfMemory))
+BringsBack given back how = (back ≡ given) ⊎ (how ≡ left.Ended (Some fault.OutOfMemory))
 
 -- so many shares are all: the desk's and those of eight workers. Else a fault was met before anyone was served, and is told
 abbrev pub AreAll : ℕ → Left → Type 0
-AreAll shares left = (shares ≡ 9) ⊎ ((met : ServerFault) × (left ≡ left.Ended (Some met)) × IsOfStart met)
+AreAll shares how = (shares ≡ 9) ⊎ ((met : ServerFault) × (how ≡ left.Ended (Some met)) × IsOfStart met)
