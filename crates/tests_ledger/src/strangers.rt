@@ -141,7 +141,8 @@ fn are_always_strange(rt: &impl Abort, alloc: Global) -> Result<bool, Fail> {
     let (mut own, other, released) = flush_both(alloc, own, other)?;
     let stayed = stays_strange(alloc, &mut own, other, &scene);
     drop(own);
-    Ok(were_strange? && stayed? && released == 0)
+    let stayed = stayed?;
+    Ok(were_strange? && stayed && released == 0)
 }
 
 #[test]
