@@ -59,6 +59,9 @@ pub(crate) fn opened<D: Disk>(alloc: Global, disk: D) -> Result<Ledger<D>, Fail>
 pub(crate) fn disk_of<D: Disk>(ledger: Ledger<D>) -> Result<D, Fail> {
     match ledger.close() {
         Ok(store) => Ok(store.into_disk()),
-        Err(_ledger) => Err("a flight is out")?,
+        Err(ledger) => {
+            drop(ledger);
+            Err("a flight is out")?
+        }
     }
 }

@@ -37,9 +37,18 @@ pub(crate) fn flush(
     ledger: Ledger<MemDisk>,
 ) -> Result<(Ledger<MemDisk>, usize), Fail> {
     if ledger.is_out() || ledger.stopped() {
+        drop(ledger);
         return Err("a flight is out, or was torn")?;
     }
     let (trace, ledger) = led(alloc, ledger, &[Event::Begin, Event::Commit, Event::Finish])?;
-    had_memory(&trace, false)?;
-    Ok((ledger, trace.released.len()))
+    let had_memory = had_memory(&trace, false);
+    let released = trace.released.len();
+    drop(trace);
+    match had_memory {
+        Ok(()) => Ok((ledger, released)),
+        Err(fail) => {
+            drop(ledger);
+            Err(fail)
+        }
+    }
 }

@@ -35,7 +35,7 @@ fn settle(driver: Driver<MemDisk>, before: &Sight) -> Result<(u64, Driver<MemDis
     match answer {
         Ok(()) => Ok((released, driver)),
         Err(fault) => {
-            let _disk = driver.into_disk();
+            drop(driver.into_disk());
             Err(fault)?
         }
     }
@@ -48,21 +48,53 @@ fn is_all_settled(ledger: &Ledger<MemDisk>, before: &Sight, wanted: u64) -> Resu
     Ok(is_shown && *ledger.settled() == before.front && resent == wanted)
 }
 
-// Whether it is so behind a flight of these steps, which is to release and send again so many
-// outputs; and the device.
+// The driver of a ledger that has its store at home.
+fn driven(ledger: Ledger<MemDisk>) -> Result<Driver<MemDisk>, Fail> {
+    if ledger.is_out() {
+        drop(ledger);
+        return Err("a flight is out")?;
+    }
+    Ok(Driver::over(ledger))
+}
+
+// Whether it is so behind a flight that is to release and send again so many outputs; and the device.
+fn all_settled(
+    driver: Driver<MemDisk>,
+    before: &Sight,
+    wanted: (u64, u64),
+) -> Result<(bool, MemDisk), Fail> {
+    let (released, driver) = settle(driver, before)?;
+    let settled = is_all_settled(driver.ledger(), before, wanted.1);
+    let disk = driver.into_disk();
+    match settled {
+        Ok(settled) => Ok((settled && released == wanted.0, disk)),
+        Err(fail) => {
+            drop(disk);
+            Err(fail)
+        }
+    }
+}
+
+// The same of steps that are handed in first.
 fn settles(
     mut ledger: Ledger<MemDisk>,
     steps: &[Step],
     wanted: (u64, u64),
 ) -> Result<(bool, MemDisk), Fail> {
-    let before = accept(&mut ledger, steps)?;
-    if ledger.is_out() {
-        return Err("a flight is out")?;
+    match accept(&mut ledger, steps) {
+        Ok(before) => {
+            let settled = match driven(ledger) {
+                Ok(driver) => all_settled(driver, &before, wanted),
+                Err(fail) => Err(fail),
+            };
+            drop(before);
+            settled
+        }
+        Err(fail) => {
+            drop(ledger);
+            Err(fail)
+        }
     }
-    let (released, driver) = settle(Driver::over(ledger), &before)?;
-    let settled = is_all_settled(driver.ledger(), &before, wanted.1);
-    let disk = driver.into_disk();
-    Ok((settled? && released == wanted.0, disk))
 }
 
 // How many steps are on a device.

@@ -124,7 +124,7 @@ fn as_before(
     match unchanged(driver.ledger(), before, refusal) {
         Ok(()) => Ok(driver),
         Err(fail) => {
-            let _disk = driver.into_disk();
+            drop(driver.into_disk());
             Err(fail)
         }
     }
@@ -143,7 +143,7 @@ pub(crate) fn flown(
     match answer {
         Ok(count) => Ok((count, driver)),
         Err(refusal) => {
-            let _disk = driver.into_disk();
+            drop(driver.into_disk());
             Err(refusal)?
         }
     }

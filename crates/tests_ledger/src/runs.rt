@@ -22,11 +22,8 @@ pub(crate) fn led<D: CrashDisk>(
     match run_events(alloc, ledger, events) {
         Ok(led) => Ok(led),
         Err(fault) => {
-            let RunFault {
-                at: _,
-                trace: _trace,
-                kind,
-            } = fault;
+            let RunFault { at: _, trace, kind } = fault;
+            drop(trace);
             Err(kind)?
         }
     }
@@ -39,7 +36,13 @@ pub(crate) fn ran<D: CrashDisk>(
     events: &[Event],
 ) -> Result<(Trace, D), Fail> {
     let (trace, ledger) = led(alloc, opened(alloc, disk)?, events)?;
-    Ok((trace, disk_of(ledger)?))
+    match disk_of(ledger) {
+        Ok(disk) => Ok((trace, disk)),
+        Err(fail) => {
+            drop(trace);
+            Err(fail)
+        }
+    }
 }
 
 fn lacks_memory(answer: &Answer) -> bool {

@@ -75,27 +75,74 @@ fn are_strange(
     Ok(are_refused(rt, own, other)? && returns(own, other, scene)?)
 }
 
-// And once both have settled their step; and from the other one's store, opened anew.
-fn stay_strange(
+// Both, once they have settled their step, and how many outputs that released.
+fn flush_both(
     alloc: Global,
     own: Ledger<MemDisk>,
     other: Ledger<MemDisk>,
+) -> Result<(Ledger<MemDisk>, Ledger<MemDisk>, usize), Fail> {
+    match flush(alloc, own) {
+        Ok((own, by_own)) => match flush(alloc, other) {
+            Ok((other, by_other)) => Ok((own, other, by_own.saturating_add(by_other))),
+            Err(fail) => {
+                drop(own);
+                Err(fail)
+            }
+        },
+        Err(fail) => {
+            drop(other);
+            Err(fail)
+        }
+    }
+}
+
+// Whether a ticket comes back from the other one's store, opened anew.
+fn is_strange_anew(
+    alloc: Global,
+    own: &mut Ledger<MemDisk>,
+    disk: MemDisk,
     scene: &Scene,
 ) -> Result<bool, Fail> {
-    let (mut own, by_own) = flush(alloc, own)?;
-    let (other, by_other) = flush(alloc, other)?;
-    let stayed = returns(&mut own, &other, scene)?;
-    let anew = opened(alloc, disk_of(other)?)?;
-    Ok(stayed && (by_own, by_other) == (0, 0) && returns(&mut own, &anew, scene)?)
+    let anew = opened(alloc, disk)?;
+    let returned = returns(own, &anew, scene);
+    drop(anew);
+    Ok(returned?)
+}
+
+// Whether it does so from the other one too.
+fn stays_strange(
+    alloc: Global,
+    own: &mut Ledger<MemDisk>,
+    other: Ledger<MemDisk>,
+    scene: &Scene,
+) -> Result<bool, Fail> {
+    let returned = returns(own, &other, scene);
+    let disk = disk_of(other)?;
+    Ok(is_strange_anew(alloc, own, disk, scene)? && returned?)
+}
+
+// Two ledgers over empty stores.
+fn two(alloc: Global) -> Result<(Ledger<MemDisk>, Ledger<MemDisk>), Fail> {
+    let disk = made(alloc)?;
+    let own = opened(alloc, made(alloc)?)?;
+    match opened(alloc, disk) {
+        Ok(other) => Ok((own, other)),
+        Err(fail) => {
+            drop(own);
+            Err(fail)
+        }
+    }
 }
 
 fn are_always_strange(rt: &impl Abort, alloc: Global) -> Result<bool, Fail> {
     let scene = Scene::new()?;
-    let mut own = opened(alloc, made(alloc)?)?;
-    let mut other = opened(alloc, made(alloc)?)?;
-    let were_strange = are_strange(rt, &mut own, &mut other, &scene)?;
-    let stayed = stay_strange(alloc, own, other, &scene)?;
-    Ok(were_strange && stayed)
+    let (mut own, mut other) = two(alloc)?;
+    let were_strange = are_strange(rt, &mut own, &mut other, &scene);
+    let (mut own, other, released) = flush_both(alloc, own, other)?;
+    let stayed = stays_strange(alloc, &mut own, other, &scene);
+    drop(own);
+    let stayed = stayed?;
+    Ok(were_strange? && stayed && released == 0)
 }
 
 #[test]
@@ -105,11 +152,7 @@ fn a_flight_and_a_ticket_of_another_ledger_come_back(rt: HostRuntime) -> Result<
 }
 
 // Who has seen two steps is refused by a ledger of one, and who has seen none is not.
-fn shows_none_who_has_seen_more(alloc: Global) -> Result<bool, Fail> {
-    let scene = Scene::new()?;
-    let mut ledger = opened(alloc, made(alloc)?)?;
-    accept(&mut ledger, scene.add(1, scene.first))?;
-    let (ledger, _released) = flush(alloc, ledger)?;
+fn is_behind(ledger: &Ledger<MemDisk>) -> Result<bool, Refusal> {
     let mut seen = Seen::new();
     seen.note(2);
     let Err(refusal) = ledger.show(&mut seen) else {
@@ -117,6 +160,17 @@ fn shows_none_who_has_seen_more(alloc: Global) -> Result<bool, Fail> {
     };
     let view = ledger.show(&mut Seen::new())?;
     Ok(refusal == Refusal::Behind { settled: 1 } && view.settled == 1)
+}
+
+fn shows_none_who_has_seen_more(alloc: Global) -> Result<bool, Fail> {
+    let scene = Scene::new()?;
+    let mut ledger = opened(alloc, made(alloc)?)?;
+    let accepted = accept(&mut ledger, scene.add(1, scene.first));
+    let (ledger, _released) = flush(alloc, ledger)?;
+    let is_behind = is_behind(&ledger);
+    drop(ledger);
+    accepted?;
+    Ok(is_behind?)
 }
 
 #[test]
