@@ -2,6 +2,9 @@
 //! settled.
 
 ghost use Rattle.std.specs.Prelude.{◌≡◌, ◌++◌, ◌+◌, ◌≤◌, [], false, Some, IfOk, OnOk, string_bytes, IfErr};
+ghost use Rattle.coord_disk.specs.Disks.Memory.{choice_of, present_of};
+ghost use Rattle.coord_disk.specs.Model.Present.{whole};
+ghost use Rattle.coord_disk.specs.declared.choice.Choice.TheVariants.{Kept};
 ghost use Rattle.coord_store.specs.Kept.{made};
 ghost use Rattle.coord_world.specs.protocol.NumberedWorld.{no_world};
 ghost use Rattle.coord_drill.specs.Asked.{asked};
@@ -156,10 +159,7 @@ fn new_ledger(alloc: Global, version: u8) -> Result<Ledger<MemDisk>, Fault>
     ensures made { IfOk result (IsMade version) }
     ensures fault { IfErr result IsOfWork }
 {
-    let mut disk = MemDisk::new(alloc);
-    // A crash keeps what a read gives.
-    disk.choose(Choice::Kept);
-    let store = match Store::create(alloc, disk, HALF_SIZE, version) {
+    let store = match Store::create(alloc, new_disk(alloc), HALF_SIZE, version) {
         Ok(store) => store,
         Err((fault, _disk)) => return Err(fault.into()),
     };
@@ -167,6 +167,17 @@ fn new_ledger(alloc: Global, version: u8) -> Result<Ledger<MemDisk>, Fault>
         Ok(ledger) => Ok(ledger),
         Err((fault, _store)) => Err(fault.into()),
     }
+}
+
+/// A disk in memory with nothing on it, of which a crash keeps what a read gives. That it goes on so is
+/// said here alone: a store over any disk has no clause on what a crash of that disk chooses.
+fn new_disk(alloc: Global) -> MemDisk
+    ensures empty { present_of result ≡ whole [] }
+    ensures choice { choice_of result ≡ Kept }
+{
+    let mut disk = MemDisk::new(alloc);
+    disk.choose(Choice::Kept);
+    disk
 }
 
 /// Puts a driver in the place of another, whose disk is given up.

@@ -2,6 +2,7 @@
 
 ghost use Rattle.std.specs.Prelude.{◌≡◌, OnOk, string_bytes, IfErr};
 ghost use Rattle.coord_drill.specs.Drilled.{IsOfWork};
+ghost use Rattle.coord_drill.specs.Faults.{reopen_fault};
 ghost use Rattle.coord_drill.specs.Holding.{IsReady, Tells};
 ghost use Rattle.coord_drill.specs.Moments.{Carries};
 ghost use Rattle.coord_drill.specs.declared.asked.Asked.TheVariants.{Crash};
@@ -39,7 +40,8 @@ impl Drill {
 
 /// How a crash that was not answered is told.
 fn told_as(kind: RunFaultKind) -> Fault
-    ensures { IsOfWork result }
+    ensures told { result ≡ reopen_fault kind }
+    ensures fault { IsOfWork result }
 {
     match kind {
         RunFaultKind::OutOfMemory => Fault::OutOfMemory,
