@@ -205,15 +205,11 @@ fn locked<S: Files<File = File> + AllocGlobal>(rt: &S, folder: &str) -> Result<F
     Ok(disk?)
 }
 
-/// The order that starts a reset.
-fn reset() -> Option<Step> {
-    let reset = Command::Reset(NodeId::new(1)?);
-    Some(Step::Order(Client::new(1)?, 1, reset))
-}
-
 /// Commits the order that starts a reset to the store in a folder, and says whether it could be.
 fn start_reset<S: Files<File = File> + AllocGlobal + Abort>(rt: &S, folder: &str) -> bool {
-    let steps = [reset().expect(rt, "no step")];
+    let client = Client::new(1).expect(rt, "no client");
+    let node = NodeId::new(1).expect(rt, "no node");
+    let steps = [Step::Order(client, 1, Command::Reset(node))];
     let file = format!(in rt.alloc(); "{folder}/store").expect(rt, "no memory");
     let disk = FileDisk::open(rt, &file).expect(rt, "no disk");
     drop(file);

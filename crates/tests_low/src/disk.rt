@@ -168,9 +168,15 @@ fn tears(alloc: Global) -> Result<bool, AllocError> {
     let failed = disk.write_at(0, &[2, 3, 4]) == Err(DiskFault);
     let second = written(&mut disk, 2, &[5]);
     let counted = disk.calls() == 3;
-    let is_torn = holds(disk.into_inner(), &[2, 3, 5]);
+    let disk = disk.into_inner();
+    let is_torn = disk.bytes() == [2, 3, 5].as_slice();
+    let lacks_memory = holds(disk, &[1, 0, 5]);
     first?;
     second?;
+    if lacks_memory {
+        // The write that was to be torn found none, and wrote nothing.
+        return Err(AllocError);
+    }
     Ok(failed && counted && is_torn)
 }
 

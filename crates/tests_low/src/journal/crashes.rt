@@ -249,7 +249,12 @@ fn torn_leaves(
     let found = left(alloc, disk)?;
     let is_stopped = is_stopped_at(call, told)?;
     let reached = if failed == 2 && kept != 0 { 3 } else { failed };
-    Ok(is_stopped && found == want(act, is_left(act, reached, which)))
+    let is_found = found == want(act, is_left(act, reached, which));
+    if !is_found && found == want(act, is_left(act, failed, which)) {
+        // The write that was to be torn found no memory, and wrote nothing.
+        return Err(JournalFault::OutOfMemory);
+    }
+    Ok(is_stopped && is_found)
 }
 
 // How many bytes of a write may be there, of which a replace has six.
