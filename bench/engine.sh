@@ -15,7 +15,7 @@ trap 'rm -rf "$scratch"' EXIT
 crate=$scratch/crates/engine_bench
 mkdir -p "$crate/src" "$crate/proofs/parts/time_part"
 cp "$here/HANDLES" "$scratch"
-for name in coord_disk coord_journal coord_types coord_link coord_node coord_tables coord_world coord_check coord_batch coord_codec coord_store coord_ledger coord_engine; do
+for name in coord_disk coord_journal coord_types coord_link coord_node coord_tables coord_world coord_check coord_batch coord_codec coord_store coord_view coord_ledger coord_engine; do
   cp -r "$here/crates/$name" "$scratch/crates/$name"
   grep "^$name:" "$here/crates.txt" >> "$scratch/crates.txt"
 done

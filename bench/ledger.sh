@@ -14,7 +14,7 @@ trap 'rm -rf "$scratch"' EXIT
 
 crate=$scratch/crates/ledger_bench
 mkdir -p "$crate/src"
-for name in coord_disk coord_journal coord_types coord_link coord_node coord_tables coord_world coord_check coord_batch coord_codec coord_store coord_ledger; do
+for name in coord_disk coord_journal coord_types coord_link coord_node coord_tables coord_world coord_check coord_batch coord_codec coord_store coord_view coord_ledger; do
   tar -C "$here/crates" --exclude="$name/out/incremental" -cf - "$name" | tar -C "$scratch/crates" -xf -
   grep "^$name:" "$here/crates.txt" >> "$scratch/crates.txt"
 done

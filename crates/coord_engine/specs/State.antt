@@ -1,12 +1,11 @@
 -- The value under an engine's lock as contracts see it, what a lock can hold, and what becomes of it.
 use Rattle.std.specs.Prelude.{◌≡◌, ℕ, ◌+◌, ◌≤◌, Bool, true, false, List, None, is_none, is_some, length, take, IfSome}
 use Rattle.coord_disk.specs.Model.Present.{Present}
-use Rattle.coord_types.specs.declared.limits.TheConstants.{MAX_BATCH_STEPS}
 use Rattle.coord_types.specs.declared.steps.Step.{Step}
 use Rattle.coord_world.specs.protocol.NumberedWorld.{World}
 use Rattle.coord_ledger.specs.ledger.Calls.{LedgerGives}
 use Rattle.coord_ledger.specs.ledger.State.{LedgerState}
-use Rattle.coord_ledger.specs.machine.Consistent.{IsConsistentLog}
+use Rattle.coord_ledger.specs.machine.Consistent.{FitsOut, IsConsistentLog}
 
 pub record GuardedState (D : Type 0) : Type 0 where
   pub ledger : LedgerState D
@@ -43,7 +42,7 @@ pub record CanHold {D : Type 0} (b : Basis D) (g : GuardedState D) : Type 0 wher
   pub log : IsConsistentLog g.ledger.log
   pub grown : HasGrown b g
   pub shares : g.given ≤ most_shares
-  pub out : IfSome g.ledger.out (λ size. (1 ≤ size) × (size ≤ MAX_BATCH_STEPS) × (g.ledger.log.settled + size ≤ length g.ledger.log.trail))
+  pub out : IfSome g.ledger.out (FitsOut g.ledger.log)
   pub home : is_some g.ledger.out ≡ is_none g.ledger.disk
   pub doubt : IfSome g.ledger.doubt (λ size. (1 ≤ size) × (g.ledger.log.settled + size ≤ length g.ledger.log.trail) × (g.ledger.out ≡ None))
   pub images : IfSome g.ledger.disk (λ disk. b.keeps_model disk ≡ true → LedgerGives b.present g.ledger disk)

@@ -129,8 +129,8 @@ impl<D: Disk> Flight<D> {
         }
     }
 
-    /// Gives the disk back, and loses what it carried: its ledger stays without its store.
-    pub fn into_disk(self) -> D
+    // Gives the disk back, and loses what it carried: its ledger stays without its store.
+    pub(crate) fn into_disk(self) -> D
         ensures { result ≡ self.disk }
     {
         let Flight {

@@ -5,7 +5,7 @@ use coord_admin::{Accepted, CountDesk, Duplex, Patience, TimedStream, serve_conn
 use std::alloc::Global;
 use std::io::{Read, Write};
 use std::net::{Net, Shutdown, SocketAddr, TcpListener, TcpStream};
-use std::test::Fail;
+use std::process::Abort;
 use std::thread::Threads;
 use std::time::{Clock, Duration, Instant};
 use std::{io, thread};
@@ -15,143 +15,80 @@ const CLOSE: &[u8] = b"{\"op\":\"close\"}\n{\"op\":\"show\"}\n";
 const CLOSED: &str = "{\"kind\":\"closed\"}\n";
 
 /// Sends bytes one by one, and then says that there are no more.
-fn send_slowly(stream: TcpStream, bytes: Vec<u8>) -> io::Result<()> {
-    let mut stream = stream;
+fn send_slowly(stream: &mut TcpStream, bytes: &[u8]) -> io::Result<()> {
     stream.set_nodelay(true)?;
-    for byte in bytes.iter() {
+    for byte in bytes {
         stream.write_all(&[*byte])?;
     }
     stream.shutdown(Shutdown::Write)
 }
 
 /// A listener at a port of its own, and its address.
-fn listens<R: Net<Stream = TcpStream, Listener = TcpListener>>(
+fn listens<R: Net<Stream = TcpStream, Listener = TcpListener> + Abort>(
     rt: &R,
-) -> io::Result<(TcpListener, SocketAddr)> {
-    let listener = TcpListener::bind(rt, "127.0.0.1:0")?;
-    match listener.local_addr() {
-        Ok(address) => Ok((listener, address)),
-        Err(fault) => {
-            drop(listener);
-            Err(fault)
-        }
-    }
+) -> (TcpListener, SocketAddr) {
+    let listener = TcpListener::bind(rt, "127.0.0.1:0").expect(rt, "no listener");
+    let address = listener.local_addr().expect(rt, "no address");
+    (listener, address)
 }
 
 /// A client that has sent its close.
-fn closes<R: Net<Stream = TcpStream, Listener = TcpListener>>(
+fn closes<R: Net<Stream = TcpStream, Listener = TcpListener> + Abort>(
     rt: &R,
     address: SocketAddr,
-) -> io::Result<TcpStream> {
-    let mut stream = TcpStream::connect(rt, address)?;
-    match stream.write_all(CLOSE) {
-        Ok(()) => Ok(stream),
-        Err(fault) => {
-            drop(stream);
-            Err(fault)
-        }
-    }
+) -> TcpStream {
+    let mut stream = TcpStream::connect(rt, address).expect(rt, "no connection");
+    stream.write_all(CLOSE).expect(rt, "no close");
+    stream
 }
 
 /// Whether this is all that a client is told.
-fn is_told(alloc: Global, mut stream: TcpStream, replies: &str) -> io::Result<bool> {
-    Ok(io::read_to_string(alloc, &mut stream)?.as_str() == replies)
+fn is_told<R: Abort>(rt: &R, alloc: Global, mut stream: TcpStream, replies: &str) -> bool {
+    let told = io::read_to_string(alloc, &mut stream);
+    drop(stream);
+    is_text(told.expect(rt, "no replies"), replies)
+}
+
+fn is_text(text: String, wanted: &str) -> bool {
+    text.as_str() == wanted
 }
 
 /// Serves clients until one of them closes the desk.
-fn serves<R: Clock>(
-    rt: &R,
-    alloc: Global,
-    listener: &TcpListener,
-    patience: Patience,
-) -> io::Result<()> {
+fn serves<R: Clock + Abort>(rt: &R, alloc: Global, listener: &TcpListener, patience: Patience) {
     let mut callers = Accepted::new(rt, listener, patience);
     let mut desk = CountDesk::new(alloc, 0);
-    serve_connections(alloc, &mut callers, &mut desk)
-}
-
-/// Serves clients while one sends lines byte by byte. Whether it could.
-fn is_sent<R: Threads + Clock>(
-    rt: &R,
-    alloc: Global,
-    listener: &TcpListener,
-    sender: TcpStream,
-    lines: Vec<u8>,
-) -> Result<bool, Fail> {
-    let client = thread::spawn(rt, move || send_slowly(sender, lines).is_ok())?;
-    let served = serves(rt, alloc, listener, Patience::usual());
-    let is_sent = client.join(rt);
-    served?;
-    Ok(is_sent)
-}
-
-/// The same with the worked lines over this stream.
-fn is_sent_over<R: Threads + Clock>(
-    rt: &R,
-    alloc: Global,
-    listener: &TcpListener,
-    slow: &TcpStream,
-) -> Result<bool, Fail> {
-    let lines = worked_lines(alloc)?;
-    match slow.try_clone() {
-        Ok(sender) => is_sent(rt, alloc, listener, sender, lines),
-        Err(fault) => {
-            drop(lines);
-            Err(Fail::from(fault))
-        }
-    }
-}
-
-/// Whether one client is told its replies, and the other that the desk is closed.
-fn are_told(alloc: Global, slow: TcpStream, closing: TcpStream) -> io::Result<bool> {
-    match is_told(alloc, slow, WORKED_REPLIES) {
-        Ok(true) => is_told(alloc, closing, CLOSED),
-        told => {
-            drop(closing);
-            told
-        }
-    }
-}
-
-fn are_served<R: Net<Stream = TcpStream, Listener = TcpListener> + Threads + Clock>(
-    rt: &R,
-    alloc: Global,
-    listener: &TcpListener,
-    address: SocketAddr,
-) -> Result<bool, Fail> {
-    let slow = TcpStream::connect(rt, address)?;
-    match closes(rt, address) {
-        Ok(closing) => match is_sent_over(rt, alloc, listener, &slow) {
-            Ok(true) => Ok(are_told(alloc, slow, closing)?),
-            other => {
-                drop(slow);
-                drop(closing);
-                other
-            }
-        },
-        Err(fault) => {
-            drop(slow);
-            Err(Fail::from(fault))
-        }
-    }
+    let served = serve_connections(alloc, &mut callers, &mut desk);
+    drop(callers);
+    drop(desk);
+    served.expect(rt, "no close");
 }
 
 /// Whether a client that sends byte by byte gets its replies, and then one that closes the desk its
 /// own.
-fn is_served<R: Net<Stream = TcpStream, Listener = TcpListener> + Threads + Clock>(
+fn is_served<R: Net<Stream = TcpStream, Listener = TcpListener> + Threads + Clock + Abort + Sync>(
     rt: &R,
     alloc: Global,
-) -> Result<bool, Fail> {
-    let (listener, address) = listens(rt)?;
-    let served = are_served(rt, alloc, &listener, address);
+) -> bool {
+    let lines = worked_lines(alloc).expect(rt, "no memory");
+    let (listener, address) = listens(rt);
+    let slow = TcpStream::connect(rt, address).expect(rt, "no connection");
+    let mut sender = slow.try_clone().expect(rt, "no sender");
+    let closing = closes(rt, address);
+    let (is_sent, ()) = thread::join(
+        rt,
+        || send_slowly(&mut sender, &lines).is_ok(),
+        || serves(rt, alloc, &listener, Patience::usual()),
+    );
+    drop(sender);
     drop(listener);
-    served
+    drop(lines);
+    let is_told_all = is_told(rt, alloc, slow, WORKED_REPLIES);
+    is_told(rt, alloc, closing, CLOSED) && is_told_all && is_sent
 }
 
 #[test]
-fn lines_over_loopback(rt: HostRuntime) -> Result<(), Fail> {
-    assert!(rt; is_served(&rt, rt.alloc())?);
-    Ok(())
+fn lines_over_loopback(rt: HostRuntime) {
+    assert!(rt; is_served(&rt, rt.alloc()));
 }
 
 /// A client that holds its connection.
@@ -206,90 +143,43 @@ fn patience(holder: Holder) -> Patience {
     patience
 }
 
-/// How long since the start it takes until the desk is closed.
-fn closes_after<R: Clock>(
-    rt: &R,
-    alloc: Global,
-    listener: &TcpListener,
-    patience: Patience,
-    start: Instant,
-) -> io::Result<Duration> {
-    serves(rt, alloc, listener, patience)?;
-    start.elapsed(rt)
-}
-
-/// Whether the desk is closed soon behind a client that holds its connection.
-fn is_closed_soon<R: Threads + Clock + Sync>(
+/// Whether a client that holds its connection is cut off, so that the next one is served soon.
+fn is_cut_off<R: Net<Stream = TcpStream, Listener = TcpListener> + Threads + Clock + Sync + Abort>(
     rt: &R,
     alloc: Global,
     holder: Holder,
-    listener: &TcpListener,
-    mut holding: TcpStream,
-    start: Instant,
-) -> io::Result<bool> {
+) -> bool {
+    let start = Instant::now(rt).expect(rt, "no time");
+    let (listener, address) = listens(rt);
+    let mut holding = TcpStream::connect(rt, address).expect(rt, "no connection");
+    let closing = closes(rt, address);
     let (took, _) = thread::join(
         rt,
-        || closes_after(rt, alloc, listener, patience(holder), start),
+        || {
+            serves(rt, alloc, &listener, patience(holder));
+            start.elapsed(rt)
+        },
         || hold(rt, holder, &mut holding).is_ok(),
     );
+    let is_soon = took.expect(rt, "no time") < Duration::from_secs(8);
     drop(holding);
-    Ok(took? < Duration::from_secs(8))
-}
-
-/// The same, and the next client is told so.
-fn is_next_served<R: Net<Stream = TcpStream, Listener = TcpListener> + Threads + Clock + Sync>(
-    rt: &R,
-    alloc: Global,
-    holder: Holder,
-    listener: &TcpListener,
-    address: SocketAddr,
-    start: Instant,
-) -> io::Result<bool> {
-    let holding = TcpStream::connect(rt, address)?;
-    match closes(rt, address) {
-        Ok(closing) => match is_closed_soon(rt, alloc, holder, listener, holding, start) {
-            Ok(true) => is_told(alloc, closing, CLOSED),
-            other => {
-                drop(closing);
-                other
-            }
-        },
-        Err(fault) => {
-            drop(holding);
-            Err(fault)
-        }
-    }
-}
-
-/// Whether a client that holds its connection is cut off, so that the next one is served soon.
-fn is_cut_off<R: Net<Stream = TcpStream, Listener = TcpListener> + Threads + Clock + Sync>(
-    rt: &R,
-    alloc: Global,
-    holder: Holder,
-) -> io::Result<bool> {
-    let start = Instant::now(rt)?;
-    let (listener, address) = listens(rt)?;
-    let is_cut_off = is_next_served(rt, alloc, holder, &listener, address, start);
     drop(listener);
-    is_cut_off
+    is_told(rt, alloc, closing, CLOSED) && is_soon
 }
 
 #[test]
-fn a_client_that_says_nothing(rt: HostRuntime) -> Result<(), Fail> {
-    assert!(rt; is_cut_off(&rt, rt.alloc(), Holder::Silent)?);
-    Ok(())
+fn a_client_that_says_nothing(rt: HostRuntime) {
+    assert!(rt; is_cut_off(&rt, rt.alloc(), Holder::Silent));
 }
 
 #[test]
-fn a_line_that_trickles(rt: HostRuntime) -> Result<(), Fail> {
-    assert!(rt; is_cut_off(&rt, rt.alloc(), Holder::Trickles)?);
-    Ok(())
+fn a_line_that_trickles(rt: HostRuntime) {
+    assert!(rt; is_cut_off(&rt, rt.alloc(), Holder::Trickles));
 }
 
 #[test]
-fn a_connection_that_lasts(rt: HostRuntime) -> Result<(), Fail> {
-    assert!(rt; is_cut_off(&rt, rt.alloc(), Holder::Asks)?);
-    Ok(())
+fn a_connection_that_lasts(rt: HostRuntime) {
+    assert!(rt; is_cut_off(&rt, rt.alloc(), Holder::Asks));
 }
 
 /// Whether this text, sent again and again, is refused at last.
@@ -302,111 +192,65 @@ fn is_refused<L: Duplex>(line: &mut L, text: &[u8]) -> bool {
     false
 }
 
-/// Whether a long text is refused soon.
-fn is_refused_soon<R: Clock, L: Duplex>(rt: &R, alloc: Global, line: &mut L) -> Result<bool, Fail> {
-    let text = vec![in alloc; b' '; 1_048_576]?;
-    let start = Instant::now(rt);
-    let is_refused = is_refused(line, &text);
-    drop(text);
-    Ok(is_refused && start?.elapsed(rt)? < Duration::from_secs(8))
-}
-
-/// Whether it is so over this stream, where a reply has a short time in all.
-fn is_given_up_over<R: Clock>(rt: &R, alloc: Global, stream: TcpStream) -> Result<bool, Fail> {
+/// Whether a reply is given up soon that its client takes no byte of, where it has a short time in all.
+fn is_given_up<R: Net<Stream = TcpStream, Listener = TcpListener> + Clock + Abort>(
+    rt: &R,
+    alloc: Global,
+) -> bool {
+    let text = vec![in alloc; b' '; 1_048_576].expect(rt, "no memory");
     let mut patience = Patience::usual();
     patience.reply = Duration::from_millis(100);
-    let mut line = TimedStream::new(rt, stream, patience)?;
-    let is_given_up = is_refused_soon(rt, alloc, &mut line);
-    drop(line);
-    is_given_up
-}
-
-/// Whether it is so to a client that reads nothing.
-fn is_given_up_to<R: Net<Stream = TcpStream, Listener = TcpListener> + Clock>(
-    rt: &R,
-    alloc: Global,
-    listener: &TcpListener,
-    address: SocketAddr,
-) -> Result<bool, Fail> {
-    let client = TcpStream::connect(rt, address)?;
-    let is_given_up = match listener.accept() {
-        Ok((stream, _)) => is_given_up_over(rt, alloc, stream),
-        Err(fault) => Err(Fail::from(fault)),
-    };
+    let (listener, address) = listens(rt);
+    let client = TcpStream::connect(rt, address).expect(rt, "no connection");
+    let (stream, _) = listener.accept().expect(rt, "nobody");
+    let mut line = TimedStream::new(rt, stream, patience).expect(rt, "no time");
+    let start = Instant::now(rt).expect(rt, "no time");
+    let is_refused = is_refused(&mut line, &text);
     drop(client);
-    is_given_up
-}
-
-/// Whether a reply is given up soon that its client takes no byte of.
-fn is_given_up<R: Net<Stream = TcpStream, Listener = TcpListener> + Clock>(
-    rt: &R,
-    alloc: Global,
-) -> Result<bool, Fail> {
-    let (listener, address) = listens(rt)?;
-    let is_given_up = is_given_up_to(rt, alloc, &listener, address);
+    drop(line);
     drop(listener);
-    is_given_up
+    drop(text);
+    is_refused && start.elapsed(rt).expect(rt, "no time") < Duration::from_secs(8)
 }
 
 #[test]
-fn replies_that_are_not_read(rt: HostRuntime) -> Result<(), Fail> {
-    assert!(rt; is_given_up(&rt, rt.alloc())?);
-    Ok(())
+fn replies_that_are_not_read(rt: HostRuntime) {
+    assert!(rt; is_given_up(&rt, rt.alloc()));
 }
 
-/// A thousand lines that ask for the desk's count.
-fn many_shows(alloc: Global) -> io::Result<Vec<u8>> {
-    let mut lines = Vec::new(alloc);
-    for _ in 0..1_000 {
-        lines.extend_from_slice(SHOW)?;
-    }
-    Ok(lines)
-}
-
-/// Sends a close and these bytes behind it.
-fn sends(stream: &mut TcpStream, lines: &[u8]) -> io::Result<()> {
-    stream.write_all(CLOSE)?;
-    stream.write_all(lines)?;
-    stream.shutdown(Shutdown::Write)
-}
-
-/// Sends a close and many bytes behind it, and reads only then. Whether it reads the answer alone.
-fn reads_its_answer<R: Net<Stream = TcpStream, Listener = TcpListener>>(
+/// Sends a close and a thousand lines behind it, and reads only then. Whether it reads the answer
+/// alone.
+fn reads_its_answer<R: Net<Stream = TcpStream, Listener = TcpListener> + Abort>(
     rt: &R,
     alloc: Global,
     address: SocketAddr,
-) -> io::Result<bool> {
-    let mut stream = TcpStream::connect(rt, address)?;
-    let sent = match many_shows(alloc) {
-        Ok(lines) => sends(&mut stream, &lines),
-        Err(fault) => Err(fault),
-    };
-    match sent {
-        Ok(()) => is_told(alloc, stream, CLOSED),
-        Err(fault) => {
-            drop(stream);
-            Err(fault)
-        }
-    }
+) -> bool {
+    let mut stream = closes(rt, address);
+    let lines = SHOW.repeat(alloc, 1_000).expect(rt, "no memory");
+    stream
+        .write_all(&lines)
+        .expect(rt, "lines that are not taken");
+    drop(lines);
+    stream.shutdown(Shutdown::Write).expect(rt, "no end");
+    is_told(rt, alloc, stream, CLOSED)
 }
 
 /// Whether a client that has sent more behind its close still reads the answer.
-fn is_answered<R: Net<Stream = TcpStream, Listener = TcpListener> + Threads + Clock + Sync>(
+fn is_answered<R: Net<Stream = TcpStream, Listener = TcpListener> + Threads + Clock + Sync + Abort>(
     rt: &R,
     alloc: Global,
-) -> io::Result<bool> {
-    let (listener, address) = listens(rt)?;
-    let (served, answered) = thread::join(
+) -> bool {
+    let (listener, address) = listens(rt);
+    let ((), is_answered) = thread::join(
         rt,
-        || serves(rt, alloc, &listener, Patience::usual()).is_ok(),
+        || serves(rt, alloc, &listener, Patience::usual()),
         || reads_its_answer(rt, alloc, address),
     );
     drop(listener);
-    Ok(served && answered?)
+    is_answered
 }
 
 #[test]
-fn a_close_with_more_behind_it(rt: HostRuntime) -> Result<(), Fail> {
-    assert!(rt; is_answered(&rt, rt.alloc())?);
-    Ok(())
+fn a_close_with_more_behind_it(rt: HostRuntime) {
+    assert!(rt; is_answered(&rt, rt.alloc()));
 }

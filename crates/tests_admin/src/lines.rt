@@ -17,10 +17,13 @@ pub(crate) fn serves<R: Read, D: Desk>(
 ) -> Result<bool, AllocError> {
     let mut output = Vec::new(alloc);
     let outcome = serve_halves(alloc, reader, &mut output, desk);
+    let is_so = outcome == end && output.as_slice() == replies.as_bytes();
+    drop(output);
     if outcome == Err(ServeFault::OutOfMemory) {
-        return Err(AllocError);
+        Err(AllocError)
+    } else {
+        Ok(is_so)
     }
-    Ok(outcome == end && output.as_slice() == replies.as_bytes())
 }
 
 /// Serves a reader and a writer as one connection.
@@ -36,9 +39,8 @@ pub(crate) fn serve_halves<R: Read, W: Write, D: Desk>(
 
 const RESET: &str = "{\"op\":\"reset\",\"client\":1,\"number\":1,\"node\":1}";
 
-/// The same line with 512 bytes, with 513, and what else a line may be; the last has no line feed.
-pub(crate) fn worked_lines(alloc: Global) -> Result<Vec<u8>, AllocError> {
-    let mut lines = Vec::new(alloc);
+/// Adds the same line with 512 bytes, with 513, and what else a line may be; the last has no line feed.
+fn push_worked(lines: &mut Vec<u8>) -> Result<(), AllocError> {
     for len in [512, 513] {
         lines.extend_from_slice(RESET.as_bytes())?;
         for _ in RESET.len()..len {
@@ -46,12 +48,23 @@ pub(crate) fn worked_lines(alloc: Global) -> Result<Vec<u8>, AllocError> {
         }
         lines.push(b'\n')?;
     }
-    lines.extend_from_slice(&[0xff, b'\n'])?;
-    lines.extend_from_slice(b"{\n{\"op\":\"fly\"}\n")?;
+    lines.extend_from_slice(b"\xff\n{\n{\"op\":\"fly\"}\n")?;
     lines.extend_from_slice(
         b"{\"op\":\"reset\",\"client\":17,\"number\":1,\"node\":1}\n{\"op\":\"show\"}\n{\"op\":\"show\"}",
     )?;
-    Ok(lines)
+    Ok(())
+}
+
+/// These lines.
+pub(crate) fn worked_lines(alloc: Global) -> Result<Vec<u8>, AllocError> {
+    let mut lines = Vec::new(alloc);
+    match push_worked(&mut lines) {
+        Ok(()) => Ok(lines),
+        Err(fault) => {
+            drop(lines);
+            Err(fault)
+        }
+    }
 }
 
 pub(crate) const WORKED_REPLIES: &str = "{\"kind\":\"done\",\"step\":1}
@@ -194,19 +207,19 @@ fn single_lines(rt: HostRuntime) -> Result<(), Fail> {
     Ok(())
 }
 
-/// Two hundred brackets, and as many that close them.
-fn nested(alloc: Global) -> Result<String, AllocError> {
-    let mut line = String::new(alloc);
+/// Adds two hundred brackets, and as many that close them.
+fn push_nested(line: &mut String) -> Result<(), AllocError> {
     for bracket in ['[', ']'] {
         for _ in 0..200 {
             line.push(bracket)?;
         }
     }
-    Ok(line)
+    Ok(())
 }
 
 fn is_too_deep(alloc: Global) -> Result<bool, AllocError> {
-    let line = nested(alloc)?;
+    let mut line = String::new(alloc);
+    push_nested(&mut line)?;
     replies(alloc, &line, "{\"fault\":\"BadJson\"}")
 }
 
@@ -263,20 +276,10 @@ fn other_desks(rt: HostRuntime) -> Result<(), Fail> {
     Ok(())
 }
 
-/// Five hundred letters, and a line feed.
-fn long_line(alloc: Global) -> Result<Vec<u8>, AllocError> {
-    let mut line = Vec::new(alloc);
-    for _ in 0..500 {
-        line.push(b'x')?;
-    }
-    line.push(b'\n')?;
-    Ok(line)
-}
-
-/// Whether one is told that it is no JSON.
+/// Whether five hundred letters are told that they are no JSON.
 fn is_no_json(alloc: Global) -> Result<bool, AllocError> {
-    let line = long_line(alloc)?;
-    are_replied(alloc, &line, "{\"fault\":\"BadJson\"}\n")
+    let line = "x".repeat(alloc, 500)?;
+    replies(alloc, &line, "{\"fault\":\"BadJson\"}")
 }
 
 /// A long line that is no JSON is told so.

@@ -2,8 +2,11 @@
 
 use crate::program::{Ending, ends};
 use coord_commands::{Fault, report};
+use std::alloc::AllocError;
+use std::env::Env;
 use std::fs::File;
 use std::net::Net;
+use std::process::Abort;
 use std::rt::Files;
 use std::sync::Wait;
 use std::test::Fail;
@@ -15,18 +18,52 @@ use std::{env, fs, io};
 pub(crate) type Run = (&'static str, Ending<'static>);
 
 /// A folder of its own for the files of a test.
-pub(crate) fn make_folder(rt: &HostRuntime, name: &str) -> io::Result<String> {
-    let folder = format!(in rt.alloc(); "{}/resetd_{name}", env::temp_dir(rt)?.as_str())?;
+pub(crate) fn make_folder<R: Files<File = File> + Env + AllocGlobal>(
+    rt: &R,
+    name: &str,
+) -> io::Result<String> {
+    let parent = env::temp_dir(rt)?;
+    let folder = format!(in rt.alloc(); "{}/resetd_{name}", parent.as_str());
+    drop(parent);
+    let folder = folder?;
     let _ = fs::remove_dir_all(rt, &folder);
-    fs::create_dir(rt, &folder)?;
-    Ok(folder)
+    let made = fs::create_dir(rt, &folder);
+    match made {
+        Ok(()) => Ok(folder),
+        Err(fault) => {
+            drop(folder);
+            Err(fault)
+        }
+    }
 }
 
-/// Carries runs out, one after the other, on files in a folder, which is removed then, and tells
-/// the first that ends otherwise.
-pub(crate) fn first_wrong<
+/// Whether a run of the program with these words, in which `@` stands for a folder, ends so.
+pub(crate) fn ends_in<S: Files<File = File> + Net + Threads + Wait + Clock + Sync + AllocGlobal>(
+    rt: &S,
+    folder: &str,
+    words: &str,
+    ending: Ending<'_>,
+) -> Result<bool, AllocError> {
+    let given = words.replace(rt.alloc(), "@", folder)?;
+    let is_so = ends(rt, &given, &mut b"".as_slice(), ending);
+    drop(given);
+    is_so
+}
+
+/// Carries runs out, one after the other, on files in a folder. The first that ends otherwise.
+pub(crate) fn first_wrong_in<
     S: Files<File = File> + Net + Threads + Wait + Clock + Sync + AllocGlobal,
->(
+>(rt: &S, folder: &str, runs: &[Run]) -> Result<Option<&'static str>, AllocError> {
+    for (words, ending) in runs {
+        if !ends_in(rt, folder, words, *ending)? {
+            return Ok(Some(*words));
+        }
+    }
+    Ok(None)
+}
+
+/// The same once these files were written there. Then the folder is removed.
+fn first_wrong_over<S: Files<File = File> + Net + Threads + Wait + Clock + Sync + AllocGlobal>(
     rt: &S,
     folder: &str,
     files: &[(&str, &[u8])],
@@ -35,15 +72,24 @@ pub(crate) fn first_wrong<
     for (file, bytes) in files {
         fs::write(rt, format!(in rt.alloc(); "{folder}/{file}")?, *bytes)?;
     }
-    let mut wrong = None;
-    for (words, ending) in runs {
-        let given = words.replace(rt.alloc(), "@", folder)?;
-        if !ends(rt, &given, &mut b"".as_slice(), *ending)? {
-            wrong = wrong.or(Some(*words));
-        }
-    }
+    let wrong = first_wrong_in(rt, folder, runs)?;
     fs::remove_dir_all(rt, folder)?;
     Ok(wrong)
+}
+
+/// The same in a folder of this name.
+pub(crate) fn first_wrong<
+    S: Files<File = File> + Net + Threads + Wait + Clock + Sync + AllocGlobal + Env,
+>(rt: &S, name: &str, files: &[(&str, &[u8])], runs: &[Run]) -> Result<Option<&'static str>, Fail> {
+    let folder = make_folder(rt, name)?;
+    let wrong = first_wrong_over(rt, &folder, files, runs);
+    drop(folder);
+    wrong
+}
+
+/// Nothing is wrong.
+pub(crate) fn assert_none<R: Abort>(rt: &R, wrong: Option<&str>) {
+    assert!(rt; wrong.is_none(), "{wrong:?}");
 }
 
 /// Two nodes of one group and their link.
@@ -58,6 +104,12 @@ group = 1\n\
 a = 1\n\
 b = 2\n";
 
+/// What is shown of its store.
+pub(crate) const SHOWN_PAIR: &str = "view 3 3\n\
+node 1 1 ready 0 0 0\n\
+node 2 1 ready 0 0 0\n\
+link 1 2 3\n";
+
 /// The second node has the first one's number.
 const REPEATED_NODE: &[u8] = b"[[node]]\n\
 id = 1\n\
@@ -68,17 +120,7 @@ group = 1\n";
 
 const TOPOLOGY_RUNS: [Run; 10] = [
     ("resetd init @/store @/pair", (0, "created 3\n", "")),
-    (
-        "resetd show @/store",
-        (
-            0,
-            "view 3 3\n\
-             node 1 1 ready 0 0 0\n\
-             node 2 1 ready 0 0 0\n\
-             link 1 2 3\n",
-            "",
-        ),
-    ),
+    ("resetd show @/store", (0, SHOWN_PAIR, "")),
     ("resetd check @/store", (0, "legal 3\n", "")),
     ("resetd init @/store @/pair", (1, "", "resetd: NotEmpty\n")),
     ("resetd check @/store", (0, "legal 3\n", "")),
@@ -99,9 +141,7 @@ fn topology_file(rt: HostRuntime) -> Result<(), Fail> {
         ("repeated", REPEATED_NODE),
         ("nothing", b"".as_slice()),
     ];
-    let folder = make_folder(&rt, "topology")?;
-    let wrong = first_wrong(&rt, &folder, &files, &TOPOLOGY_RUNS)?;
-    assert!(rt; wrong.is_none(), "{wrong:?}");
+    assert_none(&rt, first_wrong(&rt, "topology", &files, &TOPOLOGY_RUNS)?);
     Ok(())
 }
 
@@ -159,9 +199,7 @@ fn order_of_faults(rt: HostRuntime) -> Result<(), Fail> {
         ("toml", b"half =".as_slice()),
         ("bytes", b"half = 32768 # \xff".as_slice()),
     ];
-    let folder = make_folder(&rt, "faults")?;
-    let wrong = first_wrong(&rt, &folder, &files, &FAULT_RUNS)?;
-    assert!(rt; wrong.is_none(), "{wrong:?}");
+    assert_none(&rt, first_wrong(&rt, "faults", &files, &FAULT_RUNS)?);
     Ok(())
 }
 
@@ -191,9 +229,7 @@ fn violated_store(rt: HostRuntime) -> Result<(), Fail> {
         ("store", VIOLATED),
         ("cut", &VIOLATED[..VIOLATED.len() - 1]),
     ];
-    let folder = make_folder(&rt, "violated")?;
-    let wrong = first_wrong(&rt, &folder, &files, &VIOLATED_RUNS)?;
-    assert!(rt; wrong.is_none(), "{wrong:?}");
+    assert_none(&rt, first_wrong(&rt, "violated", &files, &VIOLATED_RUNS)?);
     Ok(())
 }
 

@@ -25,11 +25,7 @@ fn ends<S: Files<File = File> + Net + Threads + Wait + Clock + Sync + AllocGloba
     let is_lacking = tells_want(run.1.as_slice()) || has_failed(run.2.as_slice());
     let is_it = is_ending(&run, ending);
     drop(run);
-    if is_lacking {
-        Err(AllocError)
-    } else {
-        Ok(is_it)
-    }
+    if is_lacking { Err(AllocError) } else { is_it }
 }
 
 /// Whether a drill printed that a flight was not committed. No step is refused as `Stopped` unless
@@ -85,24 +81,26 @@ fn bytes_that_are_no_text(rt: HostRuntime) -> Result<(), Fail> {
     Ok(())
 }
 
-/// A line of at most 512 bytes is read, and a longer one is bad, be it a comment or not.
-#[test]
-fn the_limit_of_a_line(rt: HostRuntime) -> Result<(), Fail> {
-    let mut input = Vec::new(rt.alloc());
+/// Adds lines around the limit: comments, and orders whose number has zeros before it.
+fn push_long_lines(input: &mut Vec<u8>) -> Result<(), AllocError> {
     for len in [512, 513, 1500] {
         input.push(b'#')?;
-        for _ in 1..len {
-            input.push(b'a')?;
-        }
+        input.resize(input.len() + len - 1, b'a')?;
         input.push(b'\n')?;
     }
     for len in [512, 513] {
         input.extend_from_slice(b"add ")?;
-        for _ in 7..len {
-            input.push(b'0')?;
-        }
+        input.resize(input.len() + len - 7, b'0')?;
         input.extend_from_slice(b"1 1\n")?;
     }
+    Ok(())
+}
+
+/// A line of at most 512 bytes is read, and a longer one is bad, be it a comment or not.
+#[test]
+fn the_limit_of_a_line(rt: HostRuntime) -> Result<(), Fail> {
+    let mut input = Vec::new(rt.alloc());
+    push_long_lines(&mut input)?;
     let expected = "bad line 2\nbad line 3\ndone 1\nbad line 5\n";
     assert!(rt; prints(&rt, input.as_slice(), expected)?);
     Ok(())
@@ -323,16 +321,16 @@ fn slow_writers(rt: HostRuntime) -> Result<(), Fail> {
     Ok(())
 }
 
-/// A script that holds so many resets of one node, and what is printed to it up to there.
-fn held_resets(alloc: Global, count: u16) -> Result<(String, String), AllocError> {
-    let mut script = String::from_str(alloc, "add 1 1\nhold\n")?;
-    let mut printed = String::from_str(alloc, "done 1\n")?;
+/// Adds that so many resets of one node are held, and what is printed to that.
+fn push_held(script: &mut String, printed: &mut String, count: u16) -> Result<(), AllocError> {
+    script.push_str("add 1 1\nhold\n")?;
+    printed.push_str("done 1\n")?;
     for held in 0..count {
         let step = u32::from(held) + 2;
         script.push_str("reset 1\n")?;
-        writeln!(&mut printed, "pending {step}")?;
+        writeln!(printed, "pending {step}")?;
     }
-    Ok((script, printed))
+    Ok(())
 }
 
 /// Adds what a flush prints of the resets behind step `settled` up to step `last`.
@@ -344,35 +342,34 @@ fn push_settled(printed: &mut String, settled: u16, last: u16) -> Result<(), All
     writeln!(printed, "settled {last}")
 }
 
-/// Whether a flight takes 256 steps and the next one the rest.
-fn flies_in_full_batches<S: Files<File = File> + Net + Threads + Wait + Clock + Sync + AllocGlobal>(
-    rt: &S,
-) -> Result<bool, AllocError> {
-    let (mut script, mut printed) = held_resets(rt.alloc(), 257)?;
+/// A flight takes 256 steps, and the next one the rest.
+fn push_flights(script: &mut String, printed: &mut String) -> Result<(), AllocError> {
+    push_held(script, printed, 257)?;
     script.push_str("flush\nflush\n")?;
-    push_settled(&mut printed, 1, 257)?;
-    push_settled(&mut printed, 257, 258)?;
-    prints(rt, script.as_bytes(), &printed)
-}
-
-/// Whether no more than 1,024 steps are held.
-fn holds_no_more<S: Files<File = File> + Net + Threads + Wait + Clock + Sync + AllocGlobal>(
-    rt: &S,
-) -> Result<bool, AllocError> {
-    let (mut script, mut printed) = held_resets(rt.alloc(), 1_024)?;
-    script.push_str("reset 1\n")?;
-    printed.push_str("no 20 PendingFull\n")?;
-    prints(rt, script.as_bytes(), &printed)
+    push_settled(printed, 1, 257)?;
+    push_settled(printed, 257, 258)
 }
 
 #[test]
 fn full_batches(rt: HostRuntime) -> Result<(), Fail> {
-    assert!(rt; flies_in_full_batches(&rt)?);
+    let (mut script, mut printed) = (String::new(rt.alloc()), String::new(rt.alloc()));
+    push_flights(&mut script, &mut printed)?;
+    assert!(rt; prints(&rt, script.as_bytes(), &printed)?);
+    Ok(())
+}
+
+/// No more than 1,024 steps are held.
+fn push_too_many(script: &mut String, printed: &mut String) -> Result<(), AllocError> {
+    push_held(script, printed, 1_024)?;
+    script.push_str("reset 1\n")?;
+    printed.push_str("no 20 PendingFull\n")?;
     Ok(())
 }
 
 #[test]
 fn pending_full(rt: HostRuntime) -> Result<(), Fail> {
-    assert!(rt; holds_no_more(&rt)?);
+    let (mut script, mut printed) = (String::new(rt.alloc()), String::new(rt.alloc()));
+    push_too_many(&mut script, &mut printed)?;
+    assert!(rt; prints(&rt, script.as_bytes(), &printed)?);
     Ok(())
 }

@@ -2,8 +2,8 @@
 
 ghost use Rattle.std.specs.Prelude.{None};
 
-use crate::commands::{PAIR, make_folder};
-use crate::program::{ended, ends};
+use crate::commands::{PAIR, Run, SHOWN_PAIR, assert_none, ends_in, first_wrong_in, make_folder};
+use crate::program::{Ending, ends};
 use crate::serving::announced;
 use coord_commands::{Folder, serve_in};
 use coord_disk::{DiskFault, FileDisk, FuseDisk};
@@ -13,6 +13,7 @@ use std::alloc::AllocError;
 use std::fs::File;
 use std::io::Write;
 use std::net::{Net, SocketAddr, TcpListener, TcpStream};
+use std::process::Abort;
 use std::rt::Files;
 use std::sync::Wait;
 use std::test::Fail;
@@ -74,15 +75,14 @@ impl<R: Net<Stream = TcpStream, Listener = TcpListener>> Write for Watcher<'_, R
     }
 }
 
-/// The file of a store of two linked nodes.
+/// The file of a store of two linked nodes. Whether it could be made.
 fn make_pair<S: Files<File = File> + Net + Threads + Wait + Clock + Sync + AllocGlobal>(
     rt: &S,
     folder: &str,
-) -> Result<(), Fail> {
+) -> Result<bool, Fail> {
     fs::write(rt, format!(in rt.alloc(); "{folder}/pair")?, PAIR)?;
-    let init = format!(in rt.alloc(); "resetd init {folder}/store {folder}/pair")?;
-    ended(rt, &init, &mut b"".as_slice())?;
-    Ok(())
+    let made = (0, "created 3\n", "");
+    Ok(ends_in(rt, folder, "resetd init @/store @/pair", made)?)
 }
 
 /// The files of the system, of which the disks fail after so many calls.
@@ -118,33 +118,45 @@ impl<S: Files<File = File>> Folder for Failing<'_, S> {
     }
 }
 
-/// Serves a file whose disk fails after so many calls: the exit status, the fault line and how many
-/// signals were printed, and whether it was at this address. Where memory runs out there is no
-/// answer.
-fn served<
+/// A server of the store in a folder: what it is told, after how many calls its disk fails, how many
+/// signals are printed, and the exit status and the fault line.
+struct Serving {
+    lines: &'static [u8],
+    passes: u64,
+    signals: u64,
+    ending: (u8, &'static str),
+}
+
+/// Whether it is so, at an address that is given. Then the folder is removed.
+fn is_served<
     S: Files<File = File>
         + Net<Stream = TcpStream, Listener = TcpListener>
         + Threads
         + Wait
         + Clock
         + Sync
-        + AllocGlobal,
->(
-    rt: &S,
-    file: &str,
-    address: SocketAddr,
-    passes: u64,
-    mut watcher: Watcher<'_, S>,
-) -> Result<(u8, Vec<u8>, u64, bool), Fail> {
-    let mut folder = Failing { rt, passes };
-    let mut errors = Vec::with_capacity(rt.alloc(), 64)?;
-    let place = format!(in rt.alloc(); "{address}")?;
-    let status = serve_in(rt, &mut folder, file, &place, &mut watcher, &mut errors);
-    if status == 4 {
-        return Err(AllocError.into());
-    }
-    let is_there = watcher.address == Some(address);
-    Ok((status, errors, watcher.signals, is_there))
+        + AllocGlobal
+        + Abort,
+>(rt: &S, folder: &str, serving: &Serving) -> bool {
+    let file = format!(in rt.alloc(); "{folder}/store").expect(rt, "no memory");
+    let address = free_address(rt).expect(rt, "no address");
+    let place = format!(in rt.alloc(); "{address}").expect(rt, "no memory");
+    let mut errors = Vec::with_capacity(rt.alloc(), 64).expect(rt, "no memory");
+    let mut files = Failing {
+        rt,
+        passes: serving.passes,
+    };
+    let mut watcher = Watcher::new(rt, serving.lines, serving.signals);
+    let status = serve_in(rt, &mut files, &file, &place, &mut watcher, &mut errors);
+    fs::remove_dir_all(rt, folder).expect(rt, "no folder");
+    drop(file);
+    drop(place);
+    drop(files);
+    let is_there = watcher.address == Some(address) && watcher.signals == serving.signals;
+    drop(watcher);
+    let is_told = errors.as_slice() == serving.ending.1.as_bytes();
+    drop(errors);
+    is_there && is_told && status == serving.ending.0
 }
 
 /// An address of this host that nobody listens at.
@@ -157,13 +169,14 @@ fn free_address<S: Net<Stream = TcpStream, Listener = TcpListener>>(
 #[test]
 fn a_given_address(rt: HostRuntime) -> Result<(), Fail> {
     let folder = make_folder(&rt, "address")?;
-    make_pair(&rt, &folder)?;
-    let file = format!(in rt.alloc(); "{folder}/store")?;
-    let address = free_address(&rt)?;
-    let watcher = Watcher::new(&rt, CLOSE, 0);
-    let (status, errors, _, is_there) = served(&rt, &file, address, u64::MAX, watcher)?;
-    fs::remove_dir_all(&rt, &folder)?;
-    assert!(rt; status == 0 && errors.is_empty() && is_there);
+    assert!(rt; make_pair(&rt, &folder)?);
+    let serving = Serving {
+        lines: CLOSE,
+        passes: u64::MAX,
+        signals: 0,
+        ending: (0, ""),
+    };
+    assert!(rt; is_served(&rt, &folder, &serving));
     Ok(())
 }
 
@@ -172,91 +185,140 @@ fn a_given_address(rt: HostRuntime) -> Result<(), Fail> {
 #[test]
 fn a_failing_device(rt: HostRuntime) -> Result<(), Fail> {
     let folder = make_folder(&rt, "device")?;
-    make_pair(&rt, &folder)?;
-    let file = format!(in rt.alloc(); "{folder}/store")?;
-    let address = free_address(&rt)?;
-    let watcher = Watcher::new(&rt, ORDER, 0);
-    let (status, errors, _, has_begun) = served(&rt, &file, address, 4, watcher)?;
-    fs::remove_dir_all(&rt, &folder)?;
-    assert!(rt; has_begun && status == 3 && errors.as_slice() == b"resetd: Device\n".as_slice());
+    assert!(rt; make_pair(&rt, &folder)?);
+    let serving = Serving {
+        lines: ORDER,
+        passes: 4,
+        signals: 0,
+        ending: (3, "resetd: Device\n"),
+    };
+    assert!(rt; is_served(&rt, &folder, &serving));
     Ok(())
 }
 
-/// Commits the order that starts a reset to the store on a file, and says whether it could be.
-fn start_reset<S: Files<File = File> + AllocGlobal>(rt: &S, file: &str) -> Result<bool, Fail> {
-    let (Some(node), Some(client)) = (NodeId::new(1), Client::new(1)) else {
-        return Ok(false);
-    };
-    let Ok(disk) = FileDisk::open(rt, file) else {
-        return Ok(false);
-    };
-    let Ok(mut store) = Store::open(rt.alloc(), disk) else {
-        return Ok(false);
-    };
-    let steps = [Step::Order(client, 1, Command::Reset(node))];
-    if !store.takes(&steps)? {
-        return Ok(false);
-    }
-    Ok(store.commit(&steps).is_ok())
+/// The disk of the store in a folder, which is locked then.
+fn locked<S: Files<File = File> + AllocGlobal>(rt: &S, folder: &str) -> Result<FileDisk, Fail> {
+    let file = format!(in rt.alloc(); "{folder}/store")?;
+    let disk = FileDisk::open(rt, &file);
+    drop(file);
+    Ok(disk?)
+}
+
+/// The order that starts a reset.
+fn reset() -> Option<Step> {
+    let reset = Command::Reset(NodeId::new(1)?);
+    Some(Step::Order(Client::new(1)?, 1, reset))
+}
+
+/// Commits the order that starts a reset to the store in a folder, and says whether it could be.
+fn start_reset<S: Files<File = File> + AllocGlobal + Abort>(rt: &S, folder: &str) -> bool {
+    let steps = [reset().expect(rt, "no step")];
+    let disk = locked(rt, folder).ok().expect(rt, "no disk");
+    let mut store = Store::open(rt.alloc(), disk).ok().expect(rt, "no store");
+    let is_fresh = store.takes(&steps) == Ok(true);
+    assert!(rt; is_fresh);
+    let is_committed = store.commit(&steps).is_ok();
+    drop(store);
+    is_committed
 }
 
 /// A reset has begun in the store, and its first packet has not come: the wave goes on.
 #[test]
 fn a_store_inside_a_wave(rt: HostRuntime) -> Result<(), Fail> {
     let folder = make_folder(&rt, "wave")?;
-    make_pair(&rt, &folder)?;
-    let file = format!(in rt.alloc(); "{folder}/store")?;
-    let has_begun = start_reset(&rt, &file)?;
-    let address = free_address(&rt)?;
-    let watcher = Watcher::new(&rt, b"", 2);
-    let (status, errors, signals, _) = served(&rt, &file, address, u64::MAX, watcher)?;
-    fs::remove_dir_all(&rt, &folder)?;
-    assert!(rt; has_begun && status == 0 && errors.is_empty() && signals == 2);
+    assert!(rt; make_pair(&rt, &folder)? && start_reset(&rt, &folder));
+    let serving = Serving {
+        lines: b"",
+        passes: u64::MAX,
+        signals: 2,
+        ending: (0, ""),
+    };
+    assert!(rt; is_served(&rt, &folder, &serving));
     Ok(())
 }
+
+/// Whether a server of a file at this address ends so.
+fn is_refused<S: Files<File = File> + Net + Threads + Wait + Clock + Sync + AllocGlobal>(
+    rt: &S,
+    file: &str,
+    address: SocketAddr,
+    ending: Ending<'_>,
+) -> Result<bool, AllocError> {
+    let words = format!(in rt.alloc(); "resetd serve {file} {address}")?;
+    let is_so = ends(rt, &words, &mut b"".as_slice(), ending);
+    drop(words);
+    is_so
+}
+
+/// Whether servers at an address that is taken are told of the file first, then of the socket.
+fn are_refused<S: Files<File = File> + Net + Threads + Wait + Clock + Sync + AllocGlobal>(
+    rt: &S,
+    folder: &str,
+    address: SocketAddr,
+) -> Result<bool, AllocError> {
+    let store = format!(in rt.alloc(); "{folder}/store")?;
+    let pair = format!(in rt.alloc(); "{folder}/pair")?;
+    let socket = is_refused(rt, &store, address, (3, "", "resetd: Socket\n"));
+    let file = is_refused(rt, &pair, address, (1, "", "resetd: NoMagic\n"));
+    drop(store);
+    drop(pair);
+    Ok(socket? && file?)
+}
+
+/// Whether they are at an address of this host that somebody listens at.
+fn are_refused_where_taken<
+    S: Files<File = File>
+        + Net<Stream = TcpStream, Listener = TcpListener>
+        + Threads
+        + Wait
+        + Clock
+        + Sync
+        + AllocGlobal,
+>(rt: &S, folder: &str) -> Result<bool, Fail> {
+    let listener = TcpListener::bind(rt, "127.0.0.1:0")?;
+    let are_refused = match listener.local_addr() {
+        Ok(address) => are_refused(rt, folder, address).ok(),
+        Err(_) => None,
+    };
+    drop(listener);
+    Ok(are_refused.ok_or(AllocError)?)
+}
+
+/// A bad word is told before all, and no file is made then.
+const BAD_ADDRESS: Run = ("resetd serve @/new localhost:1", (2, "", "resetd: Usage\n"));
 
 /// What is told of an address that is taken: a bad word before all, then the file, then the socket.
 #[test]
 fn order_of_address_file_and_socket(rt: HostRuntime) -> Result<(), Fail> {
     let folder = make_folder(&rt, "order")?;
-    make_pair(&rt, &folder)?;
-    let listener = TcpListener::bind(&rt, "127.0.0.1:0")?;
-    let taken = listener.local_addr()?;
-    let good = format!(in rt.alloc(); "resetd serve {folder}/store {taken}")?;
-    let bad = format!(in rt.alloc(); "resetd serve {folder}/pair {taken}")?;
-    let word = format!(in rt.alloc(); "resetd serve {folder}/new localhost:1")?;
+    assert!(rt; make_pair(&rt, &folder)? && are_refused_where_taken(&rt, &folder)?);
+    assert_none(&rt, first_wrong_in(&rt, &folder, &[BAD_ADDRESS])?);
     let made = format!(in rt.alloc(); "{folder}/new")?;
-    let mut none = b"".as_slice();
-    let socket = ends(&rt, &good, &mut none, (3, "", "resetd: Socket\n"))?;
-    let file = ends(&rt, &bad, &mut none, (1, "", "resetd: NoMagic\n"))?;
-    let usage = ends(&rt, &word, &mut none, (2, "", "resetd: Usage\n"))?;
-    let is_unmade = File::open(&rt, &made).is_err();
+    assert!(rt; File::open(&rt, &made).is_err());
     fs::remove_dir_all(&rt, &folder)?;
-    assert!(rt; socket && file && usage && is_unmade);
     Ok(())
 }
 
 /// While a file is locked it may be looked at, but not made, raised or served.
+const LOCKED_RUNS: [Run; 5] = [
+    ("resetd check @/store", (0, "legal 3\n", "")),
+    ("resetd show @/store", (0, SHOWN_PAIR, "")),
+    ("resetd init @/store @/pair", (3, "", "resetd: Device\n")),
+    ("resetd migrate @/store", (3, "", "resetd: Device\n")),
+    (
+        "resetd serve @/store 127.0.0.1:0",
+        (3, "", "resetd: Device\n"),
+    ),
+];
+
 #[test]
 fn a_locked_file(rt: HostRuntime) -> Result<(), Fail> {
     let folder = make_folder(&rt, "locked")?;
-    make_pair(&rt, &folder)?;
-    let file = format!(in rt.alloc(); "{folder}/store")?;
-    let lock = FileDisk::open(&rt, &file);
-    let check = format!(in rt.alloc(); "resetd check {folder}/store")?;
-    let show = format!(in rt.alloc(); "resetd show {folder}/store")?;
-    let init = format!(in rt.alloc(); "resetd init {folder}/store {folder}/pair")?;
-    let migrate = format!(in rt.alloc(); "resetd migrate {folder}/store")?;
-    let serve = format!(in rt.alloc(); "resetd serve {folder}/store 127.0.0.1:0")?;
-    let mut none = b"".as_slice();
-    let is_locked = lock.is_ok();
-    let checked = ends(&rt, &check, &mut none, (0, "legal 3\n", ""))?;
-    let shown = ended(&rt, &show, &mut none)?.0 == 0;
-    let remade = ends(&rt, &init, &mut none, (3, "", "resetd: Device\n"))?;
-    let raised = ends(&rt, &migrate, &mut none, (3, "", "resetd: Device\n"))?;
-    let served = ends(&rt, &serve, &mut none, (3, "", "resetd: Device\n"))?;
+    assert!(rt; make_pair(&rt, &folder)?);
+    let lock = locked(&rt, &folder)?;
+    let wrong = first_wrong_in(&rt, &folder, &LOCKED_RUNS);
     drop(lock);
     fs::remove_dir_all(&rt, &folder)?;
-    assert!(rt; is_locked && checked && shown && remade && raised && served);
+    assert_none(&rt, wrong?);
     Ok(())
 }

@@ -1,7 +1,7 @@
 //! Runs of the commands on disks in memory.
 
-use crate::commands::PAIR;
-use crate::program::{Ending, is_ending, words_of};
+use crate::commands::{PAIR, SHOWN_PAIR, assert_none};
+use crate::program::{Ending, is_ending, streams, words_of};
 use coord_commands::{MemFolder, Named, run_in};
 use coord_disk::MemDisk;
 use std::alloc::{AllocError, Global};
@@ -37,6 +37,49 @@ pub(crate) fn has_failed(told: &[u8]) -> bool {
     told == b"resetd: Device\n".as_slice()
 }
 
+/// Whether a run in a folder in memory ends so; a server that is to be served ends with 0. Where memory
+/// runs out there is no answer.
+fn ends(
+    alloc: Global,
+    folder: &mut MemFolder,
+    words: &str,
+    ending: Ending<'_>,
+) -> Result<bool, AllocError> {
+    let given = words_of(alloc, words)?;
+    let (mut output, mut errors) = streams(alloc)?;
+    let status = run_in(
+        alloc,
+        folder,
+        given.as_slice(),
+        &mut b"".as_slice(),
+        &mut output,
+        &mut errors,
+    );
+    let status = match status {
+        Ok(status) => status,
+        Err(left) => is_left(words, left.file, left.address),
+    };
+    drop(given);
+    let is_failing = has_failed(errors.as_slice());
+    let run = (status, output, errors);
+    let is_so = is_ending(&run, ending);
+    drop(run);
+    match is_so {
+        Ok(false) if is_failing => Err(AllocError),
+        is_so => is_so,
+    }
+}
+
+/// 0 where these words leave this file to be served at this address, and else no status.
+fn is_left(words: &str, file: &str, address: &str) -> u8 {
+    let is_store = file == "store" && address == "127.0.0.1:0";
+    if is_store && words == "resetd serve store 127.0.0.1:0" {
+        0
+    } else {
+        u8::MAX
+    }
+}
+
 /// The first of runs in a folder in memory that ends otherwise than it is to. Where memory runs out
 /// there is no answer.
 pub(crate) fn first_wrong(
@@ -45,33 +88,7 @@ pub(crate) fn first_wrong(
     runs: &[Run],
 ) -> Result<Option<&'static str>, AllocError> {
     for (words, ending) in runs {
-        let given = words_of(alloc, words)?;
-        let mut output = Vec::with_capacity(alloc, 65_536)?;
-        let mut errors = Vec::with_capacity(alloc, 64)?;
-        let status = run_in(
-            alloc,
-            folder,
-            given.as_slice(),
-            &mut b"".as_slice(),
-            &mut output,
-            &mut errors,
-        );
-        if status == Ok(4) {
-            return Err(AllocError);
-        }
-        let is_failing = has_failed(errors.as_slice());
-        let is_right = match status {
-            Ok(status) => is_ending(&(status, output, errors), *ending),
-            Err(left) => {
-                *words == "resetd serve store 127.0.0.1:0"
-                    && left.file == "store"
-                    && left.address == "127.0.0.1:0"
-            }
-        };
-        if !is_right && is_failing {
-            return Err(AllocError);
-        }
-        if !is_right {
+        if !ends(alloc, folder, words, *ending)? {
             return Ok(Some(*words));
         }
     }
@@ -95,8 +112,7 @@ const RUNS: [Run; 10] = [
 #[test]
 fn commands_on_disks_in_memory(rt: HostRuntime) -> Result<(), Fail> {
     let mut folder = folder_of(rt.alloc(), MemDisk::new(rt.alloc()))?;
-    let wrong = first_wrong(rt.alloc(), &mut folder, &RUNS)?;
-    assert!(rt; wrong.is_none(), "{wrong:?}");
+    assert_none(&rt, first_wrong(rt.alloc(), &mut folder, &RUNS)?);
     Ok(())
 }
 
@@ -106,17 +122,7 @@ const PAIR_RUNS: [Run; 6] = [
     ("resetd check store", (0, "legal 3\n", "")),
     ("resetd init store pair", (1, "", "resetd: NotEmpty\n")),
     ("resetd check store", (0, "legal 3\n", "")),
-    (
-        "resetd show store",
-        (
-            0,
-            "view 3 3\n\
-             node 1 1 ready 0 0 0\n\
-             node 2 1 ready 0 0 0\n\
-             link 1 2 3\n",
-            "",
-        ),
-    ),
+    ("resetd show store", (0, SHOWN_PAIR, "")),
     ("resetd migrate store", (0, "migrated 3\n", "")),
 ];
 
@@ -132,8 +138,7 @@ pub(crate) fn bytes_in(folder: &MemFolder) -> &[u8] {
 #[test]
 fn a_refused_store_stays(rt: HostRuntime) -> Result<(), Fail> {
     let mut folder = folder_of(rt.alloc(), MemDisk::new(rt.alloc()))?;
-    let wrong = first_wrong(rt.alloc(), &mut folder, &PAIR_RUNS)?;
-    let version = bytes_in(&folder).get(17);
-    assert!(rt; wrong.is_none() && version == Some(&2), "{wrong:?}");
+    assert_none(&rt, first_wrong(rt.alloc(), &mut folder, &PAIR_RUNS)?);
+    assert!(rt; bytes_in(&folder).get(17) == Some(&2));
     Ok(())
 }

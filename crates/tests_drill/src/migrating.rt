@@ -3,10 +3,10 @@
 ghost use Rattle.std.specs.Prelude.{◌≤◌};
 ghost use Rattle.coord_batch.specs.Batches.{IsNumbered};
 
-use crate::commands::{PAIR, Run as FileRun, first_wrong as first_wrong_on_files, make_folder};
+use crate::commands::{PAIR, Run as FileRun, assert_none, first_wrong as first_wrong_on_files};
 use crate::folders::{Run, bytes_in, first_wrong, folder_of, has_failed};
 use crate::program::words_of;
-use coord_commands::run_in;
+use coord_commands::{MemFolder, run_in};
 use coord_disk::{Disk, MemDisk};
 use coord_store::{CommitFault, Store};
 use coord_types::{Client, Command, DataPacket, Group, Msg, NodeId, ReceiptPacket, Step};
@@ -85,17 +85,28 @@ fn stored(alloc: Global, has_ended: bool) -> Result<MemDisk, Fail> {
     let Ok(mut store) = Store::create(alloc, MemDisk::new(alloc), 32_768, 1) else {
         return Err(AllocError.into());
     };
-    let is_started = starts(&mut store);
-    let is_ended = if has_ended {
-        ends(&mut store)
-    } else {
-        Ok(true)
-    };
-    let disk = store.into_disk();
-    if is_started? && is_ended? {
-        Ok(disk)
-    } else {
-        Err("not fresh")?
+    let are_fresh = starts_and_ends(&mut store, has_ended);
+    with_fresh(store.into_disk(), are_fresh)
+}
+
+/// The same, with the steps that let it end or without.
+fn starts_and_ends<D: Disk>(store: &mut Store<D>, has_ended: bool) -> Result<bool, CommitFault> {
+    let is_started = starts(store)?;
+    Ok(is_started && (!has_ended || ends(store)?))
+}
+
+/// The disk behind steps that were all fresh.
+fn with_fresh(disk: MemDisk, are_fresh: Result<bool, CommitFault>) -> Result<MemDisk, Fail> {
+    match are_fresh {
+        Ok(true) => Ok(disk),
+        Ok(false) => {
+            drop(disk);
+            Err("not fresh")?
+        }
+        Err(fault) => {
+            drop(disk);
+            Err(fault)?
+        }
     }
 }
 
@@ -124,11 +135,10 @@ const AGAIN: [Run; 1] = [("resetd migrate store", (0, "migrated 8\n", ""))];
 fn a_quiet_store_is_migrated(rt: HostRuntime) -> Result<(), Fail> {
     let alloc = rt.alloc();
     let mut folder = folder_of(alloc, stored(alloc, true)?)?;
-    let wrong = first_wrong(alloc, &mut folder, &MIGRATIONS)?;
+    assert_none(&rt, first_wrong(alloc, &mut folder, &MIGRATIONS)?);
     let first = bytes_in(&folder).to_vec(alloc)?;
-    let later = first_wrong(alloc, &mut folder, &AGAIN)?;
-    let stays = bytes_in(&folder) == first.as_slice();
-    assert!(rt; wrong.is_none() && later.is_none() && stays, "{wrong:?}");
+    assert_none(&rt, first_wrong(alloc, &mut folder, &AGAIN)?);
+    assert!(rt; bytes_in(&folder) == first.as_slice());
     // Its content is in the second half now, and in version 2.
     assert!(rt; first.first() == Some(&1) && first.get(17 + 32_768) == Some(&2));
     Ok(())
@@ -145,11 +155,8 @@ fn a_store_in_a_reset_is_not(rt: HostRuntime) -> Result<(), Fail> {
     let disk = stored(alloc, false)?;
     let before = disk.bytes().to_vec(alloc)?;
     let mut folder = folder_of(alloc, disk)?;
-    let wrong = first_wrong(alloc, &mut folder, &REFUSED)?;
-    assert!(rt;
-        wrong.is_none() && bytes_in(&folder) == before.as_slice(),
-        "{wrong:?}"
-    );
+    assert_none(&rt, first_wrong(alloc, &mut folder, &REFUSED)?);
+    assert!(rt; bytes_in(&folder) == before.as_slice());
     Ok(())
 }
 
@@ -167,29 +174,35 @@ impl Write for Closed {
     }
 }
 
+/// Migrates the store in a folder with an output that takes nothing. Whether that is told. Where memory
+/// runs out there is no answer.
+fn is_told_unprinted(alloc: Global, folder: &mut MemFolder) -> Result<bool, AllocError> {
+    let words = words_of(alloc, "resetd migrate store")?;
+    let mut errors = Vec::with_capacity(alloc, 64)?;
+    let status = run_in(
+        alloc,
+        folder,
+        words.as_slice(),
+        &mut b"".as_slice(),
+        &mut Closed,
+        &mut errors,
+    );
+    let is_told = errors.as_slice() == b"resetd: Write\n".as_slice();
+    if status == Ok(4) || has_failed(errors.as_slice()) {
+        Err(AllocError)
+    } else {
+        Ok(status == Ok(3) && is_told)
+    }
+}
+
 /// The store is raised though the line can't be printed.
 #[test]
 fn a_line_that_is_not_printed(rt: HostRuntime) -> Result<(), Fail> {
     let alloc = rt.alloc();
     let mut folder = folder_of(alloc, stored(alloc, true)?)?;
-    let words = words_of(alloc, "resetd migrate store")?;
-    let mut errors = Vec::with_capacity(alloc, 64)?;
-    let mut input = b"".as_slice();
-    let words = words.as_slice();
-    let status = run_in(
-        alloc,
-        &mut folder,
-        words,
-        &mut input,
-        &mut Closed,
-        &mut errors,
-    );
-    if status == Some(4) || has_failed(errors.as_slice()) {
-        return Err(AllocError.into());
-    }
-    let wrong = first_wrong(alloc, &mut folder, &AGAIN)?;
-    assert!(rt; status == Ok(3) && errors.as_slice() == b"resetd: Write\n".as_slice());
-    assert!(rt; wrong.is_none() && bytes_in(&folder).first() == Some(&1));
+    assert!(rt; is_told_unprinted(alloc, &mut folder)?);
+    assert_none(&rt, first_wrong(alloc, &mut folder, &AGAIN)?);
+    assert!(rt; bytes_in(&folder).first() == Some(&1));
     Ok(())
 }
 
@@ -220,9 +233,7 @@ fn files_are_migrated(rt: HostRuntime) -> Result<(), Fail> {
         ("busy", busy.bytes()),
         ("old", old.bytes()),
     ];
-    let folder = make_folder(&rt, "migrated")?;
-    let wrong = first_wrong_on_files(&rt, &folder, &files, &FILES)?;
-    assert!(rt; wrong.is_none(), "{wrong:?}");
+    assert_none(&rt, first_wrong_on_files(&rt, "migrated", &files, &FILES)?);
     Ok(())
 }
 
@@ -266,13 +277,8 @@ fn opened_circle(alloc: Global) -> Result<MemDisk, Fail> {
         Ok(store) => store,
         Err((fault, _disk)) => return Err(fault.into()),
     };
-    let is_open = opens_circle(&mut store);
-    let disk = store.into_disk();
-    if is_open? {
-        Ok(disk)
-    } else {
-        Err("not fresh")?
-    }
+    let are_fresh = opens_circle(&mut store);
+    with_fresh(store.into_disk(), are_fresh)
 }
 
 const CLOSED_CIRCLE: [Run; 2] = [
@@ -289,12 +295,9 @@ const OPENED_CIRCLE: [Run; 2] = [
 fn a_circle_of_parents_is_opened_first(rt: HostRuntime) -> Result<(), Fail> {
     let alloc = rt.alloc();
     let mut closed = folder_of(alloc, MemDisk::from_bytes(alloc, CIRCLE)?)?;
-    let refused = first_wrong(alloc, &mut closed, &CLOSED_CIRCLE)?;
+    assert_none(&rt, first_wrong(alloc, &mut closed, &CLOSED_CIRCLE)?);
+    drop(closed);
     let mut opened = folder_of(alloc, opened_circle(alloc)?)?;
-    let raised = first_wrong(alloc, &mut opened, &OPENED_CIRCLE)?;
-    assert!(rt;
-        refused.is_none() && raised.is_none(),
-        "{refused:?} {raised:?}"
-    );
+    assert_none(&rt, first_wrong(alloc, &mut opened, &OPENED_CIRCLE)?);
     Ok(())
 }

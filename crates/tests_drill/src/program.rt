@@ -25,21 +25,23 @@ pub(crate) fn words_of(alloc: Global, text: &str) -> Result<Vec<String>, AllocEr
 /// What a run of the program ended with: its exit status, what it printed, and its fault line.
 pub(crate) type Ended = (u8, Vec<u8>, Vec<u8>);
 
-/// What a run of the program with these words, over a reader, ended with. Where memory runs out
-/// there is no answer.
+/// What a run of the program with these words, over a reader, ended with.
 pub(crate) fn ended<
     S: Files<File = File> + Net + Threads + Wait + Clock + Sync + AllocGlobal,
     R: Read,
 >(rt: &S, words: &str, input: &mut R) -> Result<Ended, AllocError> {
     let given = words_of(rt.alloc(), words)?;
-    // Room for all that is printed, so that no write is refused.
-    let mut output = Vec::with_capacity(rt.alloc(), 65_536)?;
-    let mut errors = Vec::with_capacity(rt.alloc(), 64)?;
+    let (mut output, mut errors) = streams(rt.alloc())?;
     let status = run(rt, given.as_slice(), input, &mut output, &mut errors);
-    if status == 4 {
-        return Err(AllocError);
-    }
+    drop(given);
     Ok((status, output, errors))
+}
+
+/// Room for all that is printed and told, so that no write is refused.
+pub(crate) fn streams(alloc: Global) -> Result<(Vec<u8>, Vec<u8>), AllocError> {
+    let output = Vec::with_capacity(alloc, 65_536)?;
+    let errors = Vec::with_capacity(alloc, 64)?;
+    Ok((output, errors))
 }
 
 /// Whether a run of the program with these words, over a reader, ends so. Where memory runs out
@@ -48,13 +50,21 @@ pub(crate) fn ends<
     S: Files<File = File> + Net + Threads + Wait + Clock + Sync + AllocGlobal,
     R: Read,
 >(rt: &S, words: &str, input: &mut R, ending: Ending<'_>) -> Result<bool, AllocError> {
-    Ok(is_ending(&ended(rt, words, input)?, ending))
+    let run = ended(rt, words, input)?;
+    let is_so = is_ending(&run, ending);
+    drop(run);
+    is_so
 }
 
-/// Whether it ended so.
-pub(crate) fn is_ending(run: &Ended, ending: Ending<'_>) -> bool {
+/// Whether it ended so, unless it was for want of memory.
+pub(crate) fn is_ending(run: &Ended, ending: Ending<'_>) -> Result<bool, AllocError> {
+    if run.0 == 4 {
+        return Err(AllocError);
+    }
     let (expected, printed, faults) = ending;
-    run.0 == expected
-        && run.1.as_slice() == printed.as_bytes()
-        && run.2.as_slice() == faults.as_bytes()
+    Ok(
+        run.0 == expected
+            && run.1.as_slice() == printed.as_bytes()
+            && run.2.as_slice() == faults.as_bytes(),
+    )
 }

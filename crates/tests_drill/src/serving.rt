@@ -1,15 +1,15 @@
 //! Runs of `serve` on a file that `init` made.
 
-use crate::commands::{PAIR, make_folder};
+use crate::commands::{PAIR, ends_in, make_folder};
 use crate::program::{ended, words_of};
 use coord_commands::run;
-use std::alloc::AllocError;
+use std::env::Env;
 use std::fs::File;
 use std::io::{ErrorKind, Write};
 use std::net::{Net, SocketAddr, TcpListener, TcpStream};
+use std::process::Abort;
 use std::rt::Files;
 use std::sync::Wait;
-use std::test::Fail;
 use std::thread::Threads;
 use std::time::Clock;
 use std::{fs, io, str};
@@ -83,8 +83,7 @@ pub(crate) fn announced(line: &[u8]) -> Option<SocketAddr> {
     address.strip_suffix('\n')?.parse().ok()
 }
 
-/// Whether a server with these words has this conversation. Where memory runs out there is no
-/// answer.
+/// Whether a server with these words has this conversation.
 fn is_held<
     S: Files<File = File>
         + Net<Stream = TcpStream, Listener = TcpListener>
@@ -92,9 +91,10 @@ fn is_held<
         + Wait
         + Clock
         + Sync
-        + AllocGlobal,
->(rt: &S, words: &str, told: Conversation) -> Result<bool, Fail> {
-    let given = words_of(rt.alloc(), words)?;
+        + AllocGlobal
+        + Abort,
+>(rt: &S, words: &str, told: Conversation) -> bool {
+    let given = words_of(rt.alloc(), words).expect(rt, "no memory");
     let mut caller = Caller {
         rt,
         told,
@@ -103,31 +103,13 @@ fn is_held<
     let mut errors = Vec::new(rt.alloc());
     let mut input = b"".as_slice();
     let status = run(rt, given.as_slice(), &mut input, &mut caller, &mut errors);
-    if status == 4 {
-        return Err(AllocError.into());
-    }
-    let Some(mut stream) = caller.stream else {
-        return Ok(false);
-    };
-    let replies = io::read_to_string(rt.alloc(), &mut stream)?;
+    let mut stream = caller.stream.expect(rt, "no connection");
+    let replies = io::read_to_string(rt.alloc(), &mut stream).expect(rt, "no replies");
     let (expected, faults) = told.ending;
-    Ok(
-        status == expected
-            && errors.as_slice() == faults.as_bytes()
-            && replies.as_str() == told.replies,
-    )
+    status == expected && errors.as_slice() == faults.as_bytes() && replies.as_str() == told.replies
 }
 
-/// How many steps a store is shown to have, where all that were accepted are settled.
-fn shown<S: Files<File = File> + Net + Threads + Wait + Clock + Sync + AllocGlobal>(
-    rt: &S,
-    words: &str,
-) -> Result<Option<u64>, AllocError> {
-    let (_, output, _) = ended(rt, words, &mut b"".as_slice())?;
-    Ok(settled_in(output.as_slice()))
-}
-
-/// The number of steps in what `show` prints, where both are the same.
+/// The number of steps in what `show` prints, where all that were accepted are settled.
 fn settled_in(printed: &[u8]) -> Option<u64> {
     let text = str::from_utf8(printed).ok()?;
     let (line, _) = text.strip_prefix("view ")?.split_once('\n')?;
@@ -138,8 +120,21 @@ fn settled_in(printed: &[u8]) -> Option<u64> {
     settled.parse().ok()
 }
 
-/// Serves a new store with the nodes and links of a topology, and how many steps it is shown to
-/// have then; none where the conversation was another one.
+/// How many steps the store in a folder is shown to have.
+fn shown<S: Files<File = File> + Net + Threads + Wait + Clock + Sync + AllocGlobal + Abort>(
+    rt: &S,
+    folder: &str,
+) -> Option<u64> {
+    let words = format!(in rt.alloc(); "resetd show {folder}/store").expect(rt, "no memory");
+    let run = ended(rt, &words, &mut b"".as_slice()).expect(rt, "no memory");
+    drop(words);
+    let steps = settled_in(run.1.as_slice());
+    drop(run);
+    steps
+}
+
+/// Serves a new store with the nodes and links of a topology, in a folder of this name, which is
+/// removed then. How many steps the store is shown to have behind that conversation.
 fn steps_after<
     S: Files<File = File>
         + Net<Stream = TcpStream, Listener = TcpListener>
@@ -147,34 +142,34 @@ fn steps_after<
         + Wait
         + Clock
         + Sync
-        + AllocGlobal,
->(rt: &S, folder: &str, topology: &[u8], told: Conversation) -> Result<Option<u64>, Fail> {
-    fs::write(rt, format!(in rt.alloc(); "{folder}/topology")?, topology)?;
-    let init = format!(in rt.alloc(); "resetd init {folder}/store {folder}/topology")?;
-    let (made, _, _) = ended(rt, &init, &mut b"".as_slice())?;
-    let serve = format!(in rt.alloc(); "resetd serve {folder}/store 127.0.0.1:0")?;
-    if made != 0 || !is_held(rt, &serve, told)? {
-        return Ok(None);
-    }
-    let show = format!(in rt.alloc(); "resetd show {folder}/store")?;
-    Ok(shown(rt, &show)?)
+        + AllocGlobal
+        + Env
+        + Abort,
+>(rt: &S, name: &str, topology: &[u8], made: &str, told: Conversation) -> Option<u64> {
+    let folder = make_folder(rt, name).expect(rt, "no folder");
+    let file = format!(in rt.alloc(); "{folder}/topology").expect(rt, "no memory");
+    fs::write(rt, file, topology).expect(rt, "no topology");
+    let is_made = ends_in(rt, &folder, "resetd init @/store @/topology", (0, made, ""));
+    assert!(rt; is_made == Ok(true));
+    let serve = format!(in rt.alloc(); "resetd serve {folder}/store 127.0.0.1:0");
+    let serve = serve.expect(rt, "no memory");
+    assert!(rt; is_held(rt, &serve, told));
+    drop(serve);
+    let steps = shown(rt, &folder);
+    fs::remove_dir_all(rt, &folder).expect(rt, "no folder");
+    drop(folder);
+    steps
 }
 
 #[test]
-fn a_file_is_served(rt: HostRuntime) -> Result<(), Fail> {
-    let folder = make_folder(&rt, "served")?;
-    let steps = steps_after(&rt, &folder, PAIR, LINKED)?;
-    fs::remove_dir_all(&rt, &folder)?;
+fn a_file_is_served(rt: HostRuntime) {
+    let steps = steps_after(&rt, "served", PAIR, "created 3\n", LINKED);
     assert!(rt; steps >= Some(4), "{steps:?}");
-    Ok(())
 }
 
 /// A signal that can't be printed is told after the close, and its step stays.
 #[test]
-fn an_output_that_nobody_reads(rt: HostRuntime) -> Result<(), Fail> {
-    let folder = make_folder(&rt, "unread")?;
-    let steps = steps_after(&rt, &folder, LONE, UNREAD)?;
-    fs::remove_dir_all(&rt, &folder)?;
+fn an_output_that_nobody_reads(rt: HostRuntime) {
+    let steps = steps_after(&rt, "unread", LONE, "created 1\n", UNREAD);
     assert!(rt; steps == Some(2), "{steps:?}");
-    Ok(())
 }

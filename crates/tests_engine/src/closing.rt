@@ -8,6 +8,7 @@ use coord_engine::{Engine, Origin, Share};
 use coord_ledger::Ledger;
 use std::alloc::{AllocError, Global};
 use std::marker::Brand;
+use std::process::Abort;
 use std::sync::Wait;
 use std::sync::ledger::Blank;
 use std::test::Fail;
@@ -31,7 +32,7 @@ fn all_shares<D: Disk, L: Origin, R: Wait>(
 }
 
 // Whether all shares are given and no more, and the engine closes with them and not without one.
-fn gives_all<D: Disk, L: Origin, R: Wait>(
+fn gives_all<D: Disk, L: Origin, R: Wait + Abort>(
     rt: &R,
     alloc: Global,
     blank: Blank,
@@ -42,9 +43,7 @@ fn gives_all<D: Disk, L: Origin, R: Wait>(
     requires base { ledger.log.base ≡ L.base }
     requires before { ledger.log.trail ≡ L.before }
 {
-    let Some(engine) = engine::<D, L>(alloc, blank, ledger) else {
-        return Ok(false);
-    };
+    let engine: Engine<D, L> = engine(rt, alloc, blank, ledger);
     match all_shares(rt, alloc, &engine) {
         Ok(shares) => {
             let are_all = shares.len() == MOST && engine.share(rt).is_none();
@@ -57,7 +56,7 @@ fn gives_all<D: Disk, L: Origin, R: Wait>(
     }
 }
 
-fn gives_all_shares<R: Wait>(rt: &R, alloc: Global) -> Result<bool, Fail> {
+fn gives_all_shares<R: Wait + Abort>(rt: &R, alloc: Global) -> Result<bool, Fail> {
     let ledger = created(alloc, MemDisk::new(alloc), &[])?;
     Ok(gives_all::<MemDisk, Brand, R>(rt, alloc, Blank::new(65536), ledger)?)
 }

@@ -11,6 +11,7 @@ use coord_store::{CommitFault, Store, StoreFault};
 use coord_types::{Refusal, Step};
 use std::alloc::Global;
 use std::marker::Brand;
+use std::process::Abort;
 use std::sync::Wait;
 use std::sync::ledger::Blank;
 use std::test::Fail;
@@ -78,7 +79,7 @@ fn is_not_answered<D: Disk, L: Origin, R: Wait>(
     Ok(is_stopped(rt, engine, share, steps[1])? && refused)
 }
 
-fn refuse_unsettled<D: Disk, L: Origin, R: Wait>(
+fn refuse_unsettled<D: Disk, L: Origin, R: Wait + Abort>(
     rt: &R,
     alloc: Global,
     blank: Blank,
@@ -90,13 +91,12 @@ fn refuse_unsettled<D: Disk, L: Origin, R: Wait>(
     requires base { ledger.log.base ≡ L.base }
     requires before { ledger.log.trail ≡ L.before }
 {
-    let Some(engine) = engine::<D, L>(alloc, blank, ledger) else {
-        return Ok(false);
-    };
-    match engine.share(rt) {
-        Some(mut share) => is_not_answered(rt, &engine, &mut share, steps),
-        None => Ok(false),
-    }
+    let engine: Engine<D, L> = engine(rt, alloc, blank, ledger);
+    let mut share = engine.share(rt).expect(rt, "no share");
+    let is_not_answered = is_not_answered(rt, &engine, &mut share, steps);
+    drop(share);
+    drop(engine);
+    is_not_answered
 }
 
 // A store on this device, which fails the call with this number.
@@ -123,7 +123,7 @@ fn failing_at_first(alloc: Global) -> Result<Store<BlipDisk<MemDisk>>, StoreFaul
     failing(alloc, opened.into_inner(), calls)
 }
 
-fn refuses_unsettled<R: Wait>(rt: &R, alloc: Global) -> Result<bool, Fail> {
+fn refuses_unsettled<R: Wait + Abort>(rt: &R, alloc: Global) -> Result<bool, Fail> {
     let steps = [
         adding(1, 1, 1).ok_or("step")?,
         adding(1, 2, 2).ok_or("step")?,

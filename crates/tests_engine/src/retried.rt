@@ -11,6 +11,7 @@ use coord_store::CommitFault;
 use coord_types::{Refusal, Step};
 use std::alloc::{AllocError, Global};
 use std::marker::Brand;
+use std::process::Abort;
 use std::sync::Wait;
 use std::sync::ledger::Blank;
 use std::test::Fail;
@@ -99,7 +100,15 @@ fn accepts_no_more<D: Disk, L: Origin, R: Wait>(
     }
 }
 
-fn settle_one<D: Disk, L: Origin, R: Wait>(
+fn settles_and_ends<D: Disk, L: Origin, R: Wait>(
+    rt: &R,
+    engine: &Engine<D, L>,
+    steps: [Step; 2],
+) -> Result<bool, Fail> {
+    Ok(settles(rt, engine, steps[0])? && accepts_no_more(rt, engine, steps[1])?)
+}
+
+fn settle_one<D: Disk, L: Origin, R: Wait + Abort>(
     rt: &R,
     alloc: Global,
     blank: Blank,
@@ -111,15 +120,13 @@ fn settle_one<D: Disk, L: Origin, R: Wait>(
     requires base { ledger.log.base ≡ L.base }
     requires before { ledger.log.trail ≡ L.before }
 {
-    match engine::<D, L>(alloc, blank, ledger) {
-        Some(engine) => {
-            Ok(settles(rt, &engine, steps[0])? && accepts_no_more(rt, &engine, steps[1])?)
-        }
-        None => Ok(false),
-    }
+    let engine: Engine<D, L> = engine(rt, alloc, blank, ledger);
+    let is_settled = settles_and_ends(rt, &engine, steps);
+    drop(engine);
+    is_settled
 }
 
-fn settles_one<R: Wait>(rt: &R, alloc: Global) -> Result<bool, Fail> {
+fn settles_one<R: Wait + Abort>(rt: &R, alloc: Global) -> Result<bool, Fail> {
     let steps = [
         adding(1, 1, 1).ok_or("step")?,
         adding(1, 2, 2).ok_or("step")?,

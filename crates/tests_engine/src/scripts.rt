@@ -9,6 +9,7 @@ use coord_ledger::Ledger;
 use coord_store::{Store, StoreFault};
 use coord_types::{Client, Command, Group, NodeId, Refusal, Step};
 use std::alloc::{AllocError, Global};
+use std::process::Abort;
 use std::sync::ledger::Blank;
 use std::test::Fail;
 
@@ -59,21 +60,19 @@ pub(crate) fn created<D: Disk>(alloc: Global, disk: D, steps: &[Step]) -> Result
 }
 
 /// An engine over a ledger that has its store at home.
-pub(crate) fn engine<D: Disk, L: Origin>(
+pub(crate) fn engine<D: Disk, L: Origin, R: Abort>(
+    rt: &R,
     alloc: Global,
     blank: Blank,
     ledger: Ledger<D>,
-) -> Option<Engine<D, L>>
+) -> Engine<D, L>
     requires name { blank.name ≡ L.name }
     requires parts { (blank.parts ≡ L.parts) × (L.parts ≡ 65536) }
     requires base { ledger.log.base ≡ L.base }
     requires before { ledger.log.trail ≡ L.before }
 {
-    if ledger.is_out() {
-        drop(ledger);
-        return None;
-    }
-    Some(Engine::new(alloc, blank, ledger))
+    assert!(rt; !ledger.is_out());
+    Engine::new(alloc, blank, ledger)
 }
 
 fn closed_by<D: Disk, L: Origin>(

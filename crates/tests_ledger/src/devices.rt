@@ -56,17 +56,9 @@ pub(crate) fn opened<D: Disk>(alloc: Global, disk: D) -> Result<Ledger<D>, Fail>
 }
 
 /// The device of a ledger, where its store is at home.
-pub(crate) fn home<D: Disk>(ledger: Ledger<D>) -> Option<D> {
-    match ledger.close() {
-        Ok(store) => Some(store.into_disk()),
-        Err(ledger) => {
-            drop(ledger);
-            None
-        }
-    }
-}
-
-/// The same, where it has to be.
 pub(crate) fn disk_of<D: Disk>(ledger: Ledger<D>) -> Result<D, Fail> {
-    Ok(home(ledger).ok_or("a flight is out")?)
+    match ledger.close() {
+        Ok(store) => Ok(store.into_disk()),
+        Err(_ledger) => Err("a flight is out")?,
+    }
 }

@@ -1,8 +1,11 @@
-//! Flights, and how they are spent.
+//! Flights, and how they come home.
 
+use crate::runs::{had_memory, led};
 use coord_disk::MemDisk;
-use coord_ledger::{Flight, Ledger};
+use coord_ledger::{Event, Flight, Ledger};
 use coord_types::Refusal;
+use std::alloc::Global;
+use std::process::Abort;
 use std::test::Fail;
 
 /// The flight with the next steps.
@@ -14,25 +17,29 @@ pub(crate) fn out(ledger: &mut Ledger<MemDisk>) -> Result<Flight<MemDisk>, Refus
     }
 }
 
-/// Takes a flight back. Gives how many outputs it releases.
+/// Takes a flight back that was not committed. It takes no memory, so its own ledger doesn't refuse
+/// it; the test ends where it does. Gives how many outputs it releases.
 pub(crate) fn take_back(
-    ledger: &mut Ledger<MemDisk>,
+    rt: &impl Abort,
+    own: &mut Ledger<MemDisk>,
     flight: Flight<MemDisk>,
-) -> Result<u64, Refusal> {
-    match ledger.end_flush(flight) {
-        Ok(releases) => Ok(releases.lose_rest()),
-        Err((refusal, flight)) => {
-            let _disk = flight.into_disk();
-            Err(refusal)
-        }
+) -> u64 {
+    match own.end_flush(flight) {
+        Ok(releases) => releases.lose_rest(),
+        Err((refusal, _flight)) => panic!(rt; "its own ledger refuses a flight: {refusal:?}"),
     }
 }
 
-/// Settles the next steps. Gives how many outputs they release.
-pub(crate) fn flush(ledger: &mut Ledger<MemDisk>) -> Result<u64, Fail> {
-    let mut flight = out(ledger)?;
-    let committed = flight.commit();
-    let released = take_back(ledger, flight)?;
-    committed?;
-    Ok(released)
+/// Settles the next steps of a ledger that has its store at home. Gives the ledger, and how many
+/// outputs they release.
+pub(crate) fn flush(
+    alloc: Global,
+    ledger: Ledger<MemDisk>,
+) -> Result<(Ledger<MemDisk>, usize), Fail> {
+    if ledger.is_out() || ledger.stopped() {
+        return Err("a flight is out, or was torn")?;
+    }
+    let (trace, ledger) = led(alloc, ledger, &[Event::Begin, Event::Commit, Event::Finish])?;
+    had_memory(&trace, false)?;
+    Ok((ledger, trace.released.len()))
 }

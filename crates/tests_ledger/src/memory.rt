@@ -3,14 +3,12 @@
 //! tests see the answers alone.
 
 use crate::cases::{Case, full, small};
-use crate::devices::{device, home, made};
-use crate::retries::{
-    Sight, begun, committed, looked_at, opened, resent, shown, submitted, taken_back,
-};
+use crate::devices::{device, made};
+use crate::retries::{Call, Sight, committed, flown, looked_at, opened, resent, shown, submitted};
 use crate::runs::{are, ran};
 use crate::scene::Scene;
 use coord_disk::MemDisk;
-use coord_ledger::{Event, Ledger};
+use coord_ledger::{Driver, Event, Ledger};
 use coord_types::Step;
 use std::alloc::Global;
 use std::test::Fail;
@@ -30,29 +28,41 @@ fn accept(ledger: &mut Ledger<MemDisk>, steps: &[Step]) -> Result<Sight, Fail> {
 }
 
 // Settles the next steps. Gives how many outputs they release.
-fn settle(ledger: &mut Ledger<MemDisk>, before: &Sight) -> Result<u64, Fail> {
-    let mut flight = begun(ledger, before)?;
-    let answer = committed(&mut flight);
-    let released = taken_back(ledger, flight, before)?.lose_rest();
-    answer?;
-    Ok(released)
+fn settle(driver: Driver<MemDisk>, before: &Sight) -> Result<(u64, Driver<MemDisk>), Fail> {
+    let (_size, mut driver) = flown(driver, Call::Begin, before)?;
+    let answer = committed(&mut driver);
+    let (released, driver) = flown(driver, Call::Finish, before)?;
+    match answer {
+        Ok(()) => Ok((released, driver)),
+        Err(fault) => {
+            let _disk = driver.into_disk();
+            Err(fault)?
+        }
+    }
 }
 
-// Whether all steps are settled, and shown so, and how many outputs they release and are sent again.
-fn all_settled(
-    ledger: &mut Ledger<MemDisk>,
-    before: &Sight,
-    wanted: (u64, u64),
-) -> Result<bool, Fail> {
-    let released = settle(ledger, before)?;
+// Whether all steps are settled, and shown so, and how many outputs are sent again.
+fn is_all_settled(ledger: &Ledger<MemDisk>, before: &Sight, wanted: u64) -> Result<bool, Fail> {
     let resent = resent(ledger)?;
     let is_shown = shown(ledger)?.settled == before.front.count();
-    Ok(is_shown && *ledger.settled() == before.front && (released, resent) == wanted)
+    Ok(is_shown && *ledger.settled() == before.front && resent == wanted)
 }
 
-fn settles(ledger: &mut Ledger<MemDisk>, steps: &[Step], wanted: (u64, u64)) -> Result<bool, Fail> {
-    let before = accept(ledger, steps)?;
-    all_settled(ledger, &before, wanted)
+// Whether it is so behind a flight of these steps, which is to release and send again so many
+// outputs; and the device.
+fn settles(
+    mut ledger: Ledger<MemDisk>,
+    steps: &[Step],
+    wanted: (u64, u64),
+) -> Result<(bool, MemDisk), Fail> {
+    let before = accept(&mut ledger, steps)?;
+    if ledger.is_out() {
+        return Err("a flight is out")?;
+    }
+    let (released, driver) = settle(Driver::over(ledger), &before)?;
+    let settled = is_all_settled(driver.ledger(), &before, wanted.1);
+    let disk = driver.into_disk();
+    Ok((settled? && released == wanted.0, disk))
 }
 
 // How many steps are on a device.
@@ -65,11 +75,9 @@ fn kept(alloc: Global, disk: MemDisk) -> Result<u64, Fail> {
 
 // Whether it is so of the flight of a case, and the device has its steps.
 fn is_settled(alloc: Global, case: &Case, wanted: (u64, u64)) -> Result<bool, Fail> {
-    let mut ledger = opened(alloc, device(alloc, case.disk.bytes(), 0)?)?;
-    let settled = settles(&mut ledger, &case.steps, wanted);
-    let disk = home(ledger);
-    let told = settled?;
-    let kept = kept(alloc, disk.ok_or("a flight is out")?)?;
+    let ledger = opened(alloc, device(alloc, case.disk.bytes(), 0)?)?;
+    let (told, disk) = settles(ledger, &case.steps, wanted)?;
+    let kept = kept(alloc, disk)?;
     Ok(told && kept == case.settled.saturating_add(case.steps.len() as u64))
 }
 

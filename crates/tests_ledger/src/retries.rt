@@ -4,9 +4,8 @@
 ghost use Rattle.coord_store.specs.Kept.{has_stopped};
 ghost use Rattle.std.specs.Prelude.{◌≡◌, false};
 
-use crate::flights::out;
 use coord_disk::MemDisk;
-use coord_ledger::{Flight, Ledger, Releases, Seen, View};
+use coord_ledger::{Answer, Driver, Ledger, Seen, View};
 use coord_store::{CommitFault, Store, StoreFault};
 use coord_types::{Refusal, Step};
 use coord_world::World;
@@ -85,48 +84,83 @@ pub(crate) fn submitted(
     Ok(())
 }
 
-pub(crate) fn begun(ledger: &mut Ledger<MemDisk>, before: &Sight) -> Result<Flight<MemDisk>, Fail> {
-    match out(ledger) {
-        Ok(flight) => Ok(flight),
-        Err(refusal) => {
-            unchanged(ledger, before, refusal)?;
-            Ok(out(ledger)?)
+/// What moves a flight, and may lack memory.
+#[derive(Clone, Copy)]
+pub(crate) enum Call {
+    Begin,
+    Finish,
+}
+
+// How many steps are out, or how many outputs a flight releases.
+fn called(driver: Driver<MemDisk>, call: Call) -> (Result<u64, Refusal>, Driver<MemDisk>) {
+    match call {
+        Call::Begin => {
+            let (answer, driver) = driver.begin();
+            let begun = match answer {
+                Answer::Begun(size) => Ok(size),
+                Answer::Refused(refusal) => Err(refusal),
+                _ => Err(Refusal::Stopped),
+            };
+            (begun, driver)
+        }
+        Call::Finish => {
+            let (landed, driver) = driver.finish();
+            let ended = match landed {
+                Ok(Some(releases)) => Ok(releases.lose_rest()),
+                Ok(None) => Err(Refusal::Stopped),
+                Err(refusal) => Err(refusal),
+            };
+            (ended, driver)
         }
     }
 }
 
-pub(crate) fn committed(flight: &mut Flight<MemDisk>) -> Result<(), CommitFault> {
-    match flight.commit() {
-        Err(CommitFault::OutOfMemory) => flight.commit(),
-        answer => answer,
+// The driver, where a call only lacked memory, and left its ledger as it was.
+fn as_before(
+    driver: Driver<MemDisk>,
+    before: &Sight,
+    refusal: Refusal,
+) -> Result<Driver<MemDisk>, Fail> {
+    match unchanged(driver.ledger(), before, refusal) {
+        Ok(()) => Ok(driver),
+        Err(fail) => {
+            let _disk = driver.into_disk();
+            Err(fail)
+        }
     }
 }
 
-// Takes a flight back once more.
-fn ended(ledger: &mut Ledger<MemDisk>, flight: Flight<MemDisk>) -> Result<Releases, Fail> {
-    match ledger.end_flush(flight) {
-        Ok(releases) => Ok(releases),
-        Err((refusal, flight)) => {
-            let _disk = flight.into_disk();
+pub(crate) fn flown(
+    driver: Driver<MemDisk>,
+    call: Call,
+    before: &Sight,
+) -> Result<(u64, Driver<MemDisk>), Fail> {
+    let (answer, driver) = called(driver, call);
+    let (answer, driver) = match answer {
+        Ok(count) => (Ok(count), driver),
+        Err(refusal) => called(as_before(driver, before, refusal)?, call),
+    };
+    match answer {
+        Ok(count) => Ok((count, driver)),
+        Err(refusal) => {
+            let _disk = driver.into_disk();
             Err(refusal)?
         }
     }
 }
 
-pub(crate) fn taken_back(
-    ledger: &mut Ledger<MemDisk>,
-    flight: Flight<MemDisk>,
-    before: &Sight,
-) -> Result<Releases, Fail> {
-    match ledger.end_flush(flight) {
-        Ok(releases) => Ok(releases),
-        Err((refusal, flight)) => match unchanged(ledger, before, refusal) {
-            Ok(()) => ended(ledger, flight),
-            Err(fail) => {
-                let _disk = flight.into_disk();
-                Err(fail)
-            }
-        },
+// Whether the flight that is out was committed.
+fn tried(driver: &mut Driver<MemDisk>) -> Result<(), CommitFault> {
+    match driver.commit() {
+        Answer::Failed(fault) => Err(fault),
+        _answer => Ok(()),
+    }
+}
+
+pub(crate) fn committed(driver: &mut Driver<MemDisk>) -> Result<(), CommitFault> {
+    match tried(driver) {
+        Err(CommitFault::OutOfMemory) => tried(driver),
+        answer => answer,
     }
 }
 

@@ -1,21 +1,26 @@
 //! Runs of events, and what they are answered.
 
+ghost use Rattle.std.specs.Prelude.{◌≡◌, None};
+
 use crate::devices::{disk_of, opened};
 use coord_disk::{CrashDisk, MemDisk};
-use coord_ledger::{Answer, Event, RunFault, Trace, run_events};
+use coord_ledger::{Answer, Event, Ledger, RunFault, Trace, run_events};
 use coord_store::CommitFault;
 use coord_types::Refusal;
 use std::alloc::Global;
 use std::test::Fail;
 
-/// Runs events on the store of a device. Gives what came of them, and the device.
-pub(crate) fn ran<D: CrashDisk>(
+/// Runs events on a ledger. Gives what came of them, and the ledger.
+pub(crate) fn led<D: CrashDisk>(
     alloc: Global,
-    disk: D,
+    ledger: Ledger<D>,
     events: &[Event],
-) -> Result<(Trace, D), Fail> {
-    match run_events(alloc, opened(alloc, disk)?, events) {
-        Ok((trace, ledger)) => Ok((trace, disk_of(ledger)?)),
+) -> Result<(Trace, Ledger<D>), Fail>
+    requires home { ledger.out ≡ None }
+    requires going { ledger.doubt ≡ None }
+{
+    match run_events(alloc, ledger, events) {
+        Ok(led) => Ok(led),
         Err(fault) => {
             let RunFault {
                 at: _,
@@ -25,6 +30,16 @@ pub(crate) fn ran<D: CrashDisk>(
             Err(kind)?
         }
     }
+}
+
+/// Runs events on the store of a device. Gives what came of them, and the device.
+pub(crate) fn ran<D: CrashDisk>(
+    alloc: Global,
+    disk: D,
+    events: &[Event],
+) -> Result<(Trace, D), Fail> {
+    let (trace, ledger) = led(alloc, opened(alloc, disk)?, events)?;
+    Ok((trace, disk_of(ledger)?))
 }
 
 fn lacks_memory(answer: &Answer) -> bool {

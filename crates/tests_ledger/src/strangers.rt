@@ -1,13 +1,14 @@
 //! Two ledgers over stores of their own: a flight and a ticket of one are handed to the other, and
 //! who has seen more than a ledger has is shown nothing of it.
 
-use crate::devices::{home, made, opened};
+use crate::devices::{disk_of, made, opened};
 use crate::flights::{flush, out, take_back};
 use crate::scene::Scene;
 use coord_disk::MemDisk;
 use coord_ledger::{Ledger, Seen};
 use coord_types::{Refusal, Step};
 use std::alloc::Global;
+use std::process::Abort;
 use std::test::Fail;
 
 // Hands in a step.
@@ -17,26 +18,34 @@ fn accept(ledger: &mut Ledger<MemDisk>, step: Step) -> Result<(), Refusal> {
 }
 
 // Whether a ledger's flight is refused by the other one. It comes back, and its own ledger takes it.
-fn is_refused(own: &mut Ledger<MemDisk>, other: &mut Ledger<MemDisk>) -> Result<bool, Refusal> {
+fn is_refused(
+    rt: &impl Abort,
+    own: &mut Ledger<MemDisk>,
+    other: &mut Ledger<MemDisk>,
+) -> Result<bool, Refusal> {
     match other.end_flush(out(own)?) {
         Ok(releases) => {
             releases.lose_rest();
             Ok(false)
         }
         Err((refusal, flight)) => {
-            take_back(own, flight)?;
+            take_back(rt, own, flight);
             Ok(refusal == Refusal::Stranger)
         }
     }
 }
 
 // Whether it is so while the other one's store is at home, and while that has a flight out.
-fn are_refused(own: &mut Ledger<MemDisk>, other: &mut Ledger<MemDisk>) -> Result<bool, Refusal> {
-    let at_home = is_refused(own, other)?;
+fn are_refused(
+    rt: &impl Abort,
+    own: &mut Ledger<MemDisk>,
+    other: &mut Ledger<MemDisk>,
+) -> Result<bool, Refusal> {
+    let at_home = is_refused(rt, own, other)?;
     let flight = out(other)?;
-    let away = is_refused(own, other);
-    let taken = take_back(other, flight);
-    Ok(at_home && away? && taken? == 0)
+    let away = is_refused(rt, own, other);
+    let released = take_back(rt, other, flight);
+    Ok(at_home && away? && released == 0)
 }
 
 // Whether a ticket of a ledger for its first step comes back from the other one.
@@ -56,65 +65,51 @@ fn returns(
 
 // Whether both are so of ledgers with one pending step each.
 fn are_strange(
+    rt: &impl Abort,
     own: &mut Ledger<MemDisk>,
     other: &mut Ledger<MemDisk>,
     scene: &Scene,
 ) -> Result<bool, Refusal> {
     accept(own, scene.add(1, scene.first))?;
     accept(other, scene.add(1, scene.second))?;
-    Ok(are_refused(own, other)? && returns(own, other, scene)?)
+    Ok(are_refused(rt, own, other)? && returns(own, other, scene)?)
 }
 
-// And once both have settled their step.
+// And once both have settled their step; and from the other one's store, opened anew.
 fn stay_strange(
-    own: &mut Ledger<MemDisk>,
-    other: &mut Ledger<MemDisk>,
-    scene: &Scene,
-) -> Result<bool, Fail> {
-    let were_strange = are_strange(own, other, scene)?;
-    let released = (flush(own)?, flush(other)?);
-    Ok(were_strange && released == (0, 0) && returns(own, other, scene)?)
-}
-
-// And from the other one's store, opened anew.
-fn is_strange_anew(
     alloc: Global,
-    own: &mut Ledger<MemDisk>,
-    disk: MemDisk,
+    own: Ledger<MemDisk>,
+    other: Ledger<MemDisk>,
     scene: &Scene,
 ) -> Result<bool, Fail> {
-    let anew = opened(alloc, disk)?;
-    let returned = returns(own, &anew, scene);
-    drop(anew);
-    Ok(returned?)
+    let (mut own, by_own) = flush(alloc, own)?;
+    let (other, by_other) = flush(alloc, other)?;
+    let stayed = returns(&mut own, &other, scene)?;
+    let anew = opened(alloc, disk_of(other)?)?;
+    Ok(stayed && (by_own, by_other) == (0, 0) && returns(&mut own, &anew, scene)?)
 }
 
-fn is_strange_to(alloc: Global, own: &mut Ledger<MemDisk>, scene: &Scene) -> Result<bool, Fail> {
-    let mut other = opened(alloc, made(alloc)?)?;
-    let stayed = stay_strange(own, &mut other, scene);
-    let disk = home(other);
-    let stayed = stayed?;
-    Ok(is_strange_anew(alloc, own, disk.ok_or("a flight is out")?, scene)? && stayed)
-}
-
-fn is_always_strange(alloc: Global) -> Result<bool, Fail> {
+fn are_always_strange(rt: &impl Abort, alloc: Global) -> Result<bool, Fail> {
     let scene = Scene::new()?;
     let mut own = opened(alloc, made(alloc)?)?;
-    let is_strange = is_strange_to(alloc, &mut own, &scene);
-    drop(own);
-    is_strange
+    let mut other = opened(alloc, made(alloc)?)?;
+    let were_strange = are_strange(rt, &mut own, &mut other, &scene)?;
+    let stayed = stay_strange(alloc, own, other, &scene)?;
+    Ok(were_strange && stayed)
 }
 
 #[test]
 fn a_flight_and_a_ticket_of_another_ledger_come_back(rt: HostRuntime) -> Result<(), Fail> {
-    assert!(rt; is_always_strange(rt.alloc())?);
+    assert!(rt; are_always_strange(&rt, rt.alloc())?);
     Ok(())
 }
 
 // Who has seen two steps is refused by a ledger of one, and who has seen none is not.
-fn is_behind(ledger: &mut Ledger<MemDisk>, step: Step) -> Result<bool, Fail> {
-    accept(ledger, step)?;
-    flush(ledger)?;
+fn shows_none_who_has_seen_more(alloc: Global) -> Result<bool, Fail> {
+    let scene = Scene::new()?;
+    let mut ledger = opened(alloc, made(alloc)?)?;
+    accept(&mut ledger, scene.add(1, scene.first))?;
+    let (ledger, _released) = flush(alloc, ledger)?;
     let mut seen = Seen::new();
     seen.note(2);
     let Err(refusal) = ledger.show(&mut seen) else {
@@ -122,14 +117,6 @@ fn is_behind(ledger: &mut Ledger<MemDisk>, step: Step) -> Result<bool, Fail> {
     };
     let view = ledger.show(&mut Seen::new())?;
     Ok(refusal == Refusal::Behind { settled: 1 } && view.settled == 1)
-}
-
-fn shows_none_who_has_seen_more(alloc: Global) -> Result<bool, Fail> {
-    let scene = Scene::new()?;
-    let mut ledger = opened(alloc, made(alloc)?)?;
-    let is_behind = is_behind(&mut ledger, scene.add(1, scene.first));
-    drop(ledger);
-    is_behind
 }
 
 #[test]

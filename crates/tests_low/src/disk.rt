@@ -12,10 +12,28 @@ use std::test::Fail;
 
 // Whether a crash by this choice leaves these bytes of three synced ones and, behind a gap of two places, two that are not.
 fn leaves(alloc: Global, choice: Choice, want: &[u8]) -> Result<bool, AllocError> {
-    let mut disk = MemDisk::from_bytes(alloc, &[1, 2, 3])?;
-    written(&mut disk, 5, &[9, 8])?;
+    match MemDisk::from_bytes(alloc, &[1, 2, 3]) {
+        Ok(disk) => leaves_of(disk, choice, want),
+        Err(fault) => {
+            drop(choice);
+            Err(fault)
+        }
+    }
+}
+
+fn leaves_of(mut disk: MemDisk, choice: Choice, want: &[u8]) -> Result<bool, AllocError> {
+    let answer = written(&mut disk, 5, &[9, 8]);
     disk.choose(choice);
-    Ok(disk.crash().bytes() == want)
+    let is_left = holds(disk.crash(), want);
+    answer?;
+    Ok(is_left)
+}
+
+/// Whether a disk has these bytes.
+pub(crate) fn holds(disk: MemDisk, bytes: &[u8]) -> bool {
+    let holds = disk.bytes() == bytes;
+    drop(disk);
+    holds
 }
 
 // Writes to a disk in memory, which fails for want of memory alone.
@@ -71,7 +89,7 @@ fn outlives(alloc: Global) -> Result<bool, AllocError> {
     let read = disk.bytes() == [1, 5, 3, 4].as_slice();
     let disk = disk.crash();
     let once = disk.bytes() == [1, 7, 3, 4].as_slice();
-    let twice = disk.crash().bytes() == [1, 7, 3, 4].as_slice();
+    let twice = holds(disk.crash(), &[1, 7, 3, 4]);
     first?;
     second?;
     Ok(read && once && twice)
@@ -87,8 +105,9 @@ fn a_synced_write_outlives_a_crash(rt: HostRuntime) -> Result<(), Fail> {
 fn reads(alloc: Global) -> Result<bool, AllocError> {
     let mut disk = MemDisk::from_bytes(alloc, &[1, 2, 3])?;
     let mut buf = [0u8; 2];
-    let is_read = disk.read(1, &mut buf).is_ok();
-    Ok(is_read && disk.len() == Ok(3) && buf == [2, 3])
+    let is_read = disk.read(1, &mut buf).is_ok() && disk.len() == Ok(3);
+    drop(disk);
+    Ok(is_read && buf == [2, 3])
 }
 
 #[test]
@@ -107,7 +126,7 @@ fn fuse_blows(alloc: Global) -> Result<bool, AllocError> {
         && disk.len() == Err(DiskFault)
         && disk.read(0, &mut []) == Err(DiskFault);
     let counted = disk.calls() == 6;
-    let is_empty = disk.crash().into_inner().bytes().is_empty();
+    let is_empty = holds(disk.crash().into_inner(), &[]);
     first?;
     Ok(passed && failed && counted && is_empty)
 }
@@ -127,7 +146,7 @@ fn blip_fails(alloc: Global) -> Result<bool, AllocError> {
     let last = disk.sync();
     let passed = disk.len() == Ok(2) && disk.read(0, &mut []) == Ok(());
     let counted = disk.calls() == 6;
-    let is_left = disk.crash().into_inner().bytes() == [1, 3].as_slice();
+    let is_left = holds(disk.crash().into_inner(), &[1, 3]);
     first?;
     second?;
     if last.is_err() {
@@ -149,7 +168,7 @@ fn tears(alloc: Global) -> Result<bool, AllocError> {
     let failed = disk.write_at(0, &[2, 3, 4]) == Err(DiskFault);
     let second = written(&mut disk, 2, &[5]);
     let counted = disk.calls() == 3;
-    let is_torn = disk.into_inner().bytes() == [2, 3, 5].as_slice();
+    let is_torn = holds(disk.into_inner(), &[2, 3, 5]);
     first?;
     second?;
     Ok(failed && counted && is_torn)
@@ -184,7 +203,7 @@ fn waits(
     let came_early = entered.load(Ordering::SeqCst);
     let passed = disk.sync();
     let came = entered.load(Ordering::SeqCst);
-    let synced = disk.crash().into_inner().bytes() == [1].as_slice();
+    let synced = holds(disk.crash().into_inner(), &[1]);
     written?;
     if is_open {
         // Only want of memory is a fault here.

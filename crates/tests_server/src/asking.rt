@@ -1,10 +1,10 @@
-//! Clients that ask a server, each over a connection of its own.
+//! Clients that ask a server, each over a connection of its own. What goes wrong ends the test.
 
-use std::alloc::Global;
+use std::alloc::{AllocError, Global};
 use std::fmt::Write as _;
 use std::io::Write;
 use std::net::{Net, Shutdown, SocketAddr, TcpListener, TcpStream};
-use std::test::Fail;
+use std::process::Abort;
 use std::time::{Clock, Duration};
 use std::{io, thread};
 
@@ -16,7 +16,7 @@ const PATIENCE_SECONDS: u64 = 10;
 
 const SHOW: &str = "{\"op\":\"show\"}\n";
 
-const CLOSE: &str = "{\"op\":\"close\"}\n";
+pub(crate) const CLOSE: &str = "{\"op\":\"close\"}\n";
 
 const CLOSED: &str = "{\"kind\":\"closed\"}\n";
 
@@ -24,65 +24,102 @@ const CLOSED: &str = "{\"kind\":\"closed\"}\n";
 const SIGNALLED: &str = ",1,\"ready\",0,1,0]";
 
 /// The replies to these lines.
-pub(crate) fn ask<R: Net<Stream = TcpStream, Listener = TcpListener>>(
+pub(crate) fn ask<R: Net<Stream = TcpStream, Listener = TcpListener> + Abort>(
     rt: &R,
     alloc: Global,
     address: SocketAddr,
     lines: &str,
-) -> io::Result<String> {
-    let mut stream = TcpStream::connect(rt, address)?;
-    stream.set_read_timeout(Some(Duration::from_secs(PATIENCE_SECONDS)))?;
-    stream.write_all(lines.as_bytes())?;
-    stream.shutdown(Shutdown::Write)?;
-    io::read_to_string(alloc, &mut stream)
+) -> String {
+    let mut stream = TcpStream::connect(rt, address).expect(rt, "no connection");
+    let patience = Some(Duration::from_secs(PATIENCE_SECONDS));
+    stream.set_read_timeout(patience).expect(rt, "no patience");
+    stream
+        .write_all(lines.as_bytes())
+        .expect(rt, "lines that are not taken");
+    stream.shutdown(Shutdown::Write).expect(rt, "no end");
+    told(rt, alloc, stream)
+}
+
+/// All that a client is told.
+pub(crate) fn told<R: Abort>(rt: &R, alloc: Global, mut stream: TcpStream) -> String {
+    let told = io::read_to_string(alloc, &mut stream);
+    drop(stream);
+    told.expect(rt, "no replies")
+}
+
+/// How many nodes are shown to have signalled.
+fn signalled(shown: String) -> usize {
+    shown.as_str().matches(SIGNALLED).count()
+}
+
+/// Whether a text is this one.
+pub(crate) fn is_text(text: String, wanted: &str) -> bool {
+    text.as_str() == wanted
 }
 
 /// Asks until at least so many nodes have signalled. Whether they have.
-pub(crate) fn all_signal<R: Clock + Net<Stream = TcpStream, Listener = TcpListener>>(
+pub(crate) fn all_signal<R: Clock + Net<Stream = TcpStream, Listener = TcpListener> + Abort>(
     rt: &R,
     alloc: Global,
     address: SocketAddr,
     nodes: usize,
-) -> io::Result<bool> {
+) -> bool {
     for _ in 0..LOOKS {
-        let shown = ask(rt, alloc, address, SHOW)?;
-        if shown.as_str().matches(SIGNALLED).count() >= nodes {
-            return Ok(true);
+        if signalled(ask(rt, alloc, address, SHOW)) >= nodes {
+            return true;
         }
         thread::sleep(rt, Duration::from_millis(1));
     }
-    Ok(false)
+    false
 }
 
-/// Closes the server. Whether that is answered.
-pub(crate) fn is_closed<R: Net<Stream = TcpStream, Listener = TcpListener>>(
+/// Closes the server, and is answered so.
+pub(crate) fn close<R: Net<Stream = TcpStream, Listener = TcpListener> + Abort>(
     rt: &R,
     alloc: Global,
     address: SocketAddr,
-) -> io::Result<bool> {
-    Ok(ask(rt, alloc, address, CLOSE)?.as_str() == CLOSED)
+) {
+    assert!(rt; is_text(ask(rt, alloc, address, CLOSE), CLOSED));
 }
 
-/// The lines that make a ring of the nodes up to this one, and reset one of them.
-pub(crate) fn ring_lines(alloc: Global, last: u8, first: u8) -> Result<String, Fail> {
-    let mut lines = String::new(alloc);
+/// Has these lines answered, waits until so many nodes have signalled, and closes the server.
+pub(crate) fn asks<R: Clock + Net<Stream = TcpStream, Listener = TcpListener> + Abort>(
+    rt: &R,
+    alloc: Global,
+    address: SocketAddr,
+    lines: &str,
+    nodes: u8,
+) {
+    drop(ask(rt, alloc, address, lines));
+    assert!(rt; all_signal(rt, alloc, address, usize::from(nodes)));
+    close(rt, alloc, address);
+}
+
+/// Writes the lines that make a ring of the nodes up to this one, and reset one of them.
+fn write_ring(lines: &mut String, last: u8, first: u8) -> Result<(), AllocError> {
     for node in 1..=last {
-        write!(
+        writeln!(
             lines,
-            "{{\"op\":\"add\",\"client\":16,\"number\":{node},\"node\":{node},\"group\":1}}\n"
+            "{{\"op\":\"add\",\"client\":16,\"number\":{node},\"node\":{node},\"group\":1}}"
         )?;
     }
     for node in 1..=last {
         let number = u64::from(last) + u64::from(node);
         let next = node % last + 1;
-        write!(
+        writeln!(
             lines,
-            "{{\"op\":\"join\",\"client\":16,\"number\":{number},\"a\":{node},\"b\":{next}}}\n"
+            "{{\"op\":\"join\",\"client\":16,\"number\":{number},\"a\":{node},\"b\":{next}}}"
         )?;
     }
-    write!(
+    writeln!(
         lines,
-        "{{\"op\":\"reset\",\"client\":1,\"number\":1,\"node\":{first}}}\n"
-    )?;
-    Ok(lines)
+        "{{\"op\":\"reset\",\"client\":1,\"number\":1,\"node\":{first}}}"
+    )
+}
+
+/// The lines that make a ring of the nodes up to this one, and reset one of them.
+pub(crate) fn ring_lines<R: Abort>(rt: &R, alloc: Global, last: u8, first: u8) -> String {
+    let mut lines = String::new(alloc);
+    write_ring(&mut lines, last, first).expect(rt, "no memory");
+    lines
 }

@@ -1,19 +1,19 @@
 //! A server that is killed in the midst of a wave, and started again from what its disk keeps; and
 //! one whose disk fails from its first order on.
 
-use crate::asking::{ask, is_closed, ring_lines};
-use crate::rings::{all_signalled, answered, both, goes_on, listens};
+use crate::asking::{CLOSE, ask, close, is_text, ring_lines};
+use crate::rings::{goes_on, listens, printed_nodes};
 use coord_admin::{Accepted, Patience};
 use coord_disk::{Call, Choice, CrashDisk, Disk, FailingDisk, MemDisk, Rule};
 use coord_engine::Closed;
 use coord_server::serve_callers;
 use coord_store::Store;
-use std::alloc::{AllocError, Global};
+use std::alloc::Global;
 use std::io::{ErrorKind, Write};
 use std::net::{Net, SocketAddr, TcpListener, TcpStream};
+use std::process::Abort;
 use std::sync::Wait;
 use std::sync::atomic::{AtomicBool, Ordering};
-use std::test::Fail;
 use std::thread::Threads;
 use std::time::{Clock, Duration};
 use std::{io, thread};
@@ -70,22 +70,17 @@ impl Write for Doomed<'_> {
 }
 
 /// Serves a store until it is closed. The disk of what is left.
-fn served<D: Disk + Send, W: Write + Send + Drop, R: Threads + Wait + Clock + Sync>(
+fn served<D: Disk + Send, W: Write + Send + Drop, R: Threads + Wait + Clock + Sync + Abort>(
     rt: &R,
     alloc: Global,
     store: Store<D>,
     listener: &TcpListener,
     output: &mut W,
-) -> Option<D> {
-    if store.stopped() {
-        drop(store);
-        return None;
-    }
+) -> D {
+    assert!(rt; !store.stopped());
     let callers = Accepted::new(rt, listener, Patience::usual());
-    match serve_callers(rt, alloc, store, callers, output) {
-        Ok(ended) => Some(left(ended.closed)),
-        Err(_) => None,
-    }
+    let ended = serve_callers(rt, alloc, store, callers, output).expect(rt, "no end");
+    left(ended.closed)
 }
 
 fn left<D: Disk>(closed: Closed<D>) -> D {
@@ -93,231 +88,139 @@ fn left<D: Disk>(closed: Closed<D>) -> D {
 }
 
 /// Has these lines answered, waits for the kill, and has the threads end that nothing reaches any
-/// more. Whether it has come.
-fn asks<R: Clock + Net<Stream = TcpStream, Listener = TcpListener>>(
+/// more.
+fn asks<R: Clock + Net<Stream = TcpStream, Listener = TcpListener> + Abort>(
     rt: &R,
     alloc: Global,
     address: SocketAddr,
     lines: &str,
     is_killed: &AtomicBool,
-) -> io::Result<bool> {
-    let asked = ask(rt, alloc, address, lines).is_ok();
+) {
+    drop(ask(rt, alloc, address, lines));
     for _ in 0..LOOKS {
-        if !asked || is_killed.load(Ordering::SeqCst) {
+        if is_killed.load(Ordering::SeqCst) {
             break;
         }
         thread::sleep(rt, Duration::from_millis(1));
     }
-    let closed = is_closed(rt, alloc, address)?;
-    Ok(asked && closed && is_killed.load(Ordering::SeqCst))
+    close(rt, alloc, address);
+    assert!(rt; is_killed.load(Ordering::SeqCst));
 }
 
 /// A new store over a disk that may be killed, and of which the kill leaves what was chosen.
-fn created<'a, R: Clock>(
+fn created<'a, R: Clock + Abort>(
     rt: &'a R,
     alloc: Global,
     is_killed: &'a AtomicBool,
     choice: Choice,
-) -> Option<Store<FailingDisk<MemDisk, Mortal<'a, R>>>> {
+) -> Store<FailingDisk<MemDisk, Mortal<'a, R>>> {
     let mut disk = MemDisk::new(alloc);
     disk.choose(choice);
     let mortal = FailingDisk::over(disk, Mortal { rt, is_killed });
-    Store::create(alloc, mortal, 32_768, 1).ok()
+    Store::create(alloc, mortal, 32_768, 1)
+        .ok()
+        .expect(rt, "no store")
 }
 
-/// Serves a store until the kill while a client has these lines answered. The disk of what is left,
-/// whether the kill has come, and what was printed.
-fn joined<
-    D: Disk + Send,
-    R: Threads + Wait + Clock + Net<Stream = TcpStream, Listener = TcpListener> + Sync,
->(
-    rt: &R,
-    alloc: Global,
-    store: Store<D>,
-    listener: &TcpListener,
-    address: SocketAddr,
-    lines: &str,
-    is_killed: &AtomicBool,
-) -> (Option<D>, io::Result<bool>, Vec<u8>) {
+/// Kills a server in the midst of a wave. What its disk keeps, and the nodes whose signals were
+/// printed.
+fn killed<
+    R: Threads + Wait + Clock + Net<Stream = TcpStream, Listener = TcpListener> + Sync + Abort,
+>(rt: &R, alloc: Global, choice: Choice, lines: &str) -> (MemDisk, Vec<u8>) {
+    let is_killed = AtomicBool::new(false);
+    let store = created(rt, alloc, &is_killed, choice);
+    let (listener, address) = listens(rt);
     let mut output = Doomed {
-        is_killed,
+        is_killed: &is_killed,
         left: 1 + PRINTED,
         kept: Vec::new(alloc),
     };
-    let (left, asked) = thread::join(
+    let (left, ()) = thread::join(
         rt,
-        || served(rt, alloc, store, listener, &mut output),
-        || asks(rt, alloc, address, lines, is_killed),
+        || served(rt, alloc, store, &listener, &mut output),
+        || asks(rt, alloc, address, lines, &is_killed),
     );
-    (left, asked, output.kept)
-}
-
-/// Kills a server in the midst of a wave. What its disk keeps, and what was printed behind the
-/// address.
-fn killed<R: Threads + Wait + Clock + Net<Stream = TcpStream, Listener = TcpListener> + Sync>(
-    rt: &R,
-    alloc: Global,
-    choice: Choice,
-    listener: &TcpListener,
-    address: SocketAddr,
-    lines: &str,
-) -> Result<(MemDisk, Vec<u8>), Fail> {
-    let is_killed = AtomicBool::new(false);
-    match created(rt, alloc, &is_killed, choice) {
-        Some(store) => {
-            let (left, asked, output) = joined(
-                rt, alloc, store, listener, address, lines, &is_killed,
-            );
-            let kept = left.map(|disk| disk.into_inner().crash());
-            both(kept, answered(alloc, address, asked, &output))
-        }
-        None => Err(Fail::from(AllocError)),
-    }
+    drop(listener);
+    let nodes = printed_nodes(rt, alloc, address, &output.kept);
+    drop(output);
+    (left.into_inner().crash(), nodes)
 }
 
 /// Whether these are those printed before the kill and maybe others, none of them twice, and not
 /// all.
-fn are_some_once(nodes: &[u8]) -> bool {
+fn are_some_once(nodes: Vec<u8>) -> bool {
+    is_each_once(&nodes) && PRINTED <= nodes.len() && nodes.len() < usize::from(LAST)
+}
+
+fn is_each_once(nodes: &[u8]) -> bool {
     for i in 0..nodes.len() {
         if nodes[..i].contains(&nodes[i]) {
             return false;
         }
     }
-    PRINTED <= nodes.len() && nodes.len() < usize::from(LAST)
-}
-
-/// What is printed where a server is killed in the midst of a wave through the ring of these lines,
-/// and a new one serves what its disk keeps.
-fn prints<R: Threads + Wait + Clock + Net<Stream = TcpStream, Listener = TcpListener> + Sync>(
-    rt: &R,
-    alloc: Global,
-    choice: Choice,
-    lines: &str,
-) -> Result<Vec<u8>, Fail> {
-    match listens(rt) {
-        Ok((listener, address)) => {
-            let left = killed(rt, alloc, choice, &listener, address, lines);
-            drop(listener);
-            let (disk, printed) = left?;
-            match Store::open(alloc, disk) {
-                Ok(store) => goes_on(rt, alloc, store, printed, LAST),
-                Err(_) => {
-                    drop(printed);
-                    Err(Fail::from(AllocError))
-                }
-            }
-        }
-        Err(fault) => {
-            drop(choice);
-            Err(Fail::from(fault))
-        }
-    }
+    true
 }
 
 /// Whether a ring whose server is killed in the midst of a wave is shown at its epoch by a new
 /// server, node by node, and both outputs together have no signal twice. The one that the kill took
 /// is in neither.
-fn is_told_once<R: Threads + Wait + Clock + Net<Stream = TcpStream, Listener = TcpListener> + Sync>(
-    rt: &R,
-    alloc: Global,
-    choice: Choice,
-) -> Result<bool, Fail> {
-    match ring_lines(alloc, LAST, 1) {
-        Ok(lines) => {
-            let printed = prints(rt, alloc, choice, &lines);
-            drop(lines);
-            are_printed_once(alloc, printed?)
-        }
-        Err(fault) => {
-            drop(choice);
-            Err(fault)
-        }
-    }
-}
-
-fn are_printed_once(alloc: Global, printed: Vec<u8>) -> Result<bool, Fail> {
-    match all_signalled(alloc, &printed) {
-        Some(nodes) => Ok(are_some_once(&nodes)),
-        None => Err(Fail::from(AllocError)),
-    }
+fn is_told_once<
+    R: Threads + Wait + Clock + Net<Stream = TcpStream, Listener = TcpListener> + Sync + Abort,
+>(rt: &R, alloc: Global, choice: Choice) -> bool {
+    let lines = ring_lines(rt, alloc, LAST, 1);
+    let (disk, nodes) = killed(rt, alloc, choice, &lines);
+    drop(lines);
+    let store = Store::open(alloc, disk).ok().expect(rt, "no store");
+    are_some_once(goes_on(rt, alloc, store, nodes, LAST))
 }
 
 /// What was written and not synced is lost.
 #[test]
-fn a_kill_that_loses(rt: HostRuntime) -> Result<(), Fail> {
-    assert!(rt; is_told_once(&rt, rt.alloc(), Choice::Lost)?);
-    Ok(())
+fn a_kill_that_loses(rt: HostRuntime) {
+    assert!(rt; is_told_once(&rt, rt.alloc(), Choice::Lost));
 }
 
 /// All that was written is kept, the steps of the flight too whose sync failed.
 #[test]
-fn a_kill_that_keeps(rt: HostRuntime) -> Result<(), Fail> {
-    assert!(rt; is_told_once(&rt, rt.alloc(), Choice::Kept)?);
-    Ok(())
+fn a_kill_that_keeps(rt: HostRuntime) {
+    assert!(rt; is_told_once(&rt, rt.alloc(), Choice::Kept));
 }
 
 const ADD: &str = "{\"op\":\"add\",\"client\":1,\"number\":1,\"node\":1,\"group\":1}\n";
 
 const STOPPED: &str = "{\"name\":\"Stopped\",\"refused\":1}\n";
 
-/// Has a line answered, and closes the server. What the line was told.
-fn told<R: Clock + Net<Stream = TcpStream, Listener = TcpListener>>(
+/// Has a line answered, which is told that the store has stopped, and closes the server.
+fn is_told_stopped<R: Net<Stream = TcpStream, Listener = TcpListener> + Abort>(
     rt: &R,
     alloc: Global,
     address: SocketAddr,
-) -> io::Result<String> {
-    let told = ask(rt, alloc, address, ADD);
-    match is_closed(rt, alloc, address) {
-        Ok(_) => told,
-        Err(fault) => {
-            drop(told);
-            Err(fault)
-        }
-    }
+) {
+    assert!(rt; is_text(ask(rt, alloc, address, ADD), STOPPED));
+    drop(ask(rt, alloc, address, CLOSE));
 }
 
-/// Serves a store while a client asks. Whether anything is left, and what the client was told.
-fn told_by<
-    D: Disk + Send,
-    R: Threads + Wait + Clock + Net<Stream = TcpStream, Listener = TcpListener> + Sync,
->(
-    rt: &R,
-    alloc: Global,
-    store: Store<D>,
-    listener: &TcpListener,
-    address: SocketAddr,
-) -> (bool, io::Result<String>) {
-    let mut output = Vec::new(alloc);
-    thread::join(
-        rt,
-        || served(rt, alloc, store, listener, &mut output).is_some(),
-        || told(rt, alloc, address),
-    )
-}
-
-/// Whether an order whose step can't be written is told that the store has stopped.
-fn is_told_stopped<
-    R: Threads + Wait + Clock + Net<Stream = TcpStream, Listener = TcpListener> + Sync,
->(rt: &R, alloc: Global) -> Result<bool, Fail> {
-    let (listener, address) = listens(rt)?;
+/// An order whose step can't be written is told that the store has stopped.
+fn stops<
+    R: Threads + Wait + Clock + Net<Stream = TcpStream, Listener = TcpListener> + Sync + Abort,
+>(rt: &R, alloc: Global) {
     let is_killed = AtomicBool::new(false);
-    match created(rt, alloc, &is_killed, Choice::Lost) {
-        Some(store) => {
-            is_killed.store(true, Ordering::SeqCst);
-            let (is_left, told) = told_by(rt, alloc, store, &listener, address);
-            drop(listener);
-            Ok(is_left && told?.as_str() == STOPPED)
-        }
-        None => {
-            drop(listener);
-            Err(Fail::from(AllocError))
-        }
-    }
+    let store = created(rt, alloc, &is_killed, Choice::Lost);
+    is_killed.store(true, Ordering::SeqCst);
+    let (listener, address) = listens(rt);
+    let mut output = Vec::new(alloc);
+    let (left, ()) = thread::join(
+        rt,
+        || served(rt, alloc, store, &listener, &mut output),
+        || is_told_stopped(rt, alloc, address),
+    );
+    drop(left);
+    drop(listener);
+    drop(output);
 }
 
 /// What is not on the disk gets no other reply.
 #[test]
-fn an_order_that_is_not_written(rt: HostRuntime) -> Result<(), Fail> {
-    assert!(rt; is_told_stopped(&rt, rt.alloc())?);
-    Ok(())
+fn an_order_that_is_not_written(rt: HostRuntime) {
+    stops(&rt, rt.alloc());
 }

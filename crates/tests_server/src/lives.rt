@@ -1,19 +1,19 @@
 //! A server that ends its lives after a few steps each, in the midst of a connection and of a wave.
 
-use crate::asking::{all_signal, ask, is_closed, ring_lines};
-use crate::rings::{created, is_wave, listens, printed_nodes};
+use crate::asking::{ask, asks, ring_lines};
+use crate::rings::{are_wave, created, listens, printed_nodes};
 use coord_admin::{Accepted, Patience};
 use coord_disk::MemDisk;
 use coord_engine::Closed;
-use coord_server::{Ended, serve_lives};
+use coord_server::serve_lives;
 use coord_store::Store;
-use std::alloc::{AllocError, Global};
+use std::alloc::Global;
 use std::net::{Net, SocketAddr, TcpListener, TcpStream};
+use std::process::Abort;
 use std::sync::Wait;
-use std::test::Fail;
+use std::thread;
 use std::thread::Threads;
 use std::time::Clock;
-use std::{io, thread};
 
 /// After how many steps a life ends here.
 const MOST: usize = 40;
@@ -27,34 +27,36 @@ const TRIES: u64 = 16;
 /// What the last of the lines is answered, the first time and again.
 const STARTED: &str = "\"kind\":\"started\"";
 
+fn has_started(replies: String) -> bool {
+    replies.as_str().contains(STARTED)
+}
+
 /// Sends the lines until the last of them has its reply. Whether it came, and a connection was cut
 /// off before.
-fn starts<R: Net<Stream = TcpStream, Listener = TcpListener>>(
+fn starts<R: Net<Stream = TcpStream, Listener = TcpListener> + Abort>(
     rt: &R,
     alloc: Global,
     address: SocketAddr,
     lines: &str,
-) -> io::Result<bool> {
+) -> bool {
     for tried in 0..TRIES {
-        if ask(rt, alloc, address, lines)?.as_str().contains(STARTED) {
-            return Ok(tried > 0);
+        if has_started(ask(rt, alloc, address, lines)) {
+            return tried > 0;
         }
     }
-    Ok(false)
+    false
 }
 
 /// Has these lines answered over some connections, waits until all nodes have signalled, and closes
-/// the server, also where they have not: nothing else would end it. Whether they have.
-fn asks<R: Clock + Net<Stream = TcpStream, Listener = TcpListener>>(
+/// the server.
+fn starts_and_asks<R: Clock + Net<Stream = TcpStream, Listener = TcpListener> + Abort>(
     rt: &R,
     alloc: Global,
     address: SocketAddr,
     lines: &str,
-) -> io::Result<bool> {
-    let started = matches!(starts(rt, alloc, address, lines), Ok(true));
-    let signalled = started
-        && matches!(all_signal(rt, alloc, address, usize::from(LAST)), Ok(true));
-    Ok(is_closed(rt, alloc, address)? && signalled)
+) {
+    assert!(rt; starts(rt, alloc, address, lines));
+    asks(rt, alloc, address, "", LAST);
 }
 
 /// Whether the last life began behind others, and all that was accepted in them is settled.
@@ -64,95 +66,44 @@ fn is_last(closed: &Closed<MemDisk>) -> bool {
 }
 
 /// Serves a store, and whether it was left so.
-fn ends_last<R: Threads + Wait + Clock + Sync>(
+fn ends_last<R: Threads + Wait + Clock + Sync + Abort>(
     rt: &R,
     alloc: Global,
     store: Store<MemDisk>,
     listener: &TcpListener,
     output: &mut Vec<u8>,
-) -> Option<bool> {
-    if store.stopped() {
-        drop(store);
-        return None;
-    }
+) -> bool {
+    assert!(rt; !store.stopped());
     let callers = Accepted::new(rt, listener, Patience::usual());
-    match serve_lives(rt, alloc, MOST, store, callers, output) {
-        Ok(ended) => Some(is_ended(&ended)),
-        Err(_) => None,
-    }
-}
-
-fn is_ended<C>(ended: &Ended<MemDisk, C>) -> bool {
-    ended.fault().is_none() && is_last(&ended.closed)
-}
-
-/// Serves a store over many lives while a client asks. Whether it was left so, whether all was
-/// answered, and what was printed.
-fn joined<R: Threads + Wait + Clock + Net<Stream = TcpStream, Listener = TcpListener> + Sync>(
-    rt: &R,
-    alloc: Global,
-    store: Store<MemDisk>,
-    listener: &TcpListener,
-    address: SocketAddr,
-    lines: &str,
-) -> (Option<bool>, io::Result<bool>, Vec<u8>) {
-    let mut output = Vec::new(alloc);
-    let (last, asked) = thread::join(
-        rt,
-        || ends_last(rt, alloc, store, listener, &mut output),
-        || asks(rt, alloc, address, lines),
-    );
-    (last, asked, output)
-}
-
-/// Whether it was left so, all was answered, and one wave was printed.
-fn is_one_wave(
-    alloc: Global,
-    address: SocketAddr,
-    last: Option<bool>,
-    asked: io::Result<bool>,
-    output: &[u8],
-) -> Result<bool, Fail> {
-    let is_answered = asked?;
-    let nodes = printed_nodes(alloc, address, output)?;
-    Ok(last == Some(true) && is_answered && is_wave(&nodes, LAST, 1))
-}
-
-/// Whether a store that is served while these lines are sent prints one wave.
-fn prints_once<R: Threads + Wait + Clock + Net<Stream = TcpStream, Listener = TcpListener> + Sync>(
-    rt: &R,
-    alloc: Global,
-    store: Store<MemDisk>,
-    lines: &str,
-) -> Result<bool, Fail> {
-    match listens(rt) {
-        Ok((listener, address)) => {
-            let (last, asked, output) = joined(rt, alloc, store, &listener, address, lines);
-            is_one_wave(alloc, address, last, asked, &output)
-        }
-        Err(fault) => {
-            drop(store);
-            Err(Fail::from(fault))
-        }
-    }
+    let ended = serve_lives(rt, alloc, MOST, store, callers, output).expect(rt, "no end");
+    let is_left = ended.fault().is_none() && is_last(&ended.closed);
+    drop(ended);
+    is_left
 }
 
 /// Whether a ring that is made and reset over many lives signals as one wave.
-fn signals_once<R: Threads + Wait + Clock + Net<Stream = TcpStream, Listener = TcpListener> + Sync>(
-    rt: &R,
-    alloc: Global,
-) -> Result<bool, Fail> {
-    let lines = ring_lines(alloc, LAST, 1)?;
-    match created(alloc) {
-        Some(store) => prints_once(rt, alloc, store, &lines),
-        None => Err(Fail::from(AllocError)),
-    }
+fn signals_once<
+    R: Threads + Wait + Clock + Net<Stream = TcpStream, Listener = TcpListener> + Sync + Abort,
+>(rt: &R, alloc: Global) -> bool {
+    let lines = ring_lines(rt, alloc, LAST, 1);
+    let store = created(rt, alloc);
+    let (listener, address) = listens(rt);
+    let mut output = Vec::new(alloc);
+    let (is_left, ()) = thread::join(
+        rt,
+        || ends_last(rt, alloc, store, &listener, &mut output),
+        || starts_and_asks(rt, alloc, address, &lines),
+    );
+    drop(listener);
+    drop(lines);
+    let nodes = printed_nodes(rt, alloc, address, &output);
+    drop(output);
+    are_wave(nodes, LAST, 1) && is_left
 }
 
 /// No signal is lost and none comes twice, a client whose connection is cut off goes on where it was,
 /// and the steps are counted on.
 #[test]
-fn a_wave_over_many_lives(rt: HostRuntime) -> Result<(), Fail> {
-    assert!(rt; signals_once(&rt, rt.alloc())?);
-    Ok(())
+fn a_wave_over_many_lives(rt: HostRuntime) {
+    assert!(rt; signals_once(&rt, rt.alloc()));
 }

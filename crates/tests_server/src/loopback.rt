@@ -1,17 +1,17 @@
 //! A server and its clients in one process.
 
+use crate::asking::{is_text, told};
 use crate::rings::{behind_address, created, listens};
 use coord_check::check;
-use coord_disk::{Disk, MemDisk};
+use coord_disk::Disk;
 use coord_engine::Closed;
 use coord_server::serve_store;
 use coord_types::{Client, Command, NodeId, Step};
-use std::alloc::{AllocError, Global};
-use std::io;
+use std::alloc::Global;
 use std::io::Write;
 use std::net::{Net, Shutdown, SocketAddr, TcpListener, TcpStream};
+use std::process::Abort;
 use std::sync::Wait;
-use std::test::Fail;
 use std::thread::Threads;
 use std::time::Clock;
 
@@ -59,107 +59,53 @@ fn is_settled<D: Disk>(closed: &Closed<D>, fourth: &Step) -> bool {
         && world.count() == closed.settled
 }
 
-/// Serves a new store, and whether it ends settled. There is no answer where memory runs out.
-fn ends_settled<R: Threads + Wait + Clock + Sync>(
+/// Serves a new store, and whether it ends settled.
+fn ends_settled<R: Threads + Wait + Clock + Sync + Abort>(
     rt: &R,
     alloc: Global,
     listener: &TcpListener,
     output: &mut Vec<u8>,
-) -> Option<bool> {
-    let fourth = reset()?;
-    let store = created(alloc)?;
-    if store.stopped() {
-        drop(store);
-        return None;
-    }
-    match serve_store(rt, alloc, store, listener, output) {
-        Ok(closed) => Some(is_settled(&closed, &fourth)),
-        Err(_) => None,
-    }
+) -> bool {
+    let fourth = reset().expect(rt, "no step");
+    let store = created(rt, alloc);
+    assert!(rt; !store.stopped());
+    let closed = serve_store(rt, alloc, store, listener, output).expect(rt, "no close");
+    let is_settled = is_settled(&closed, &fourth);
+    drop(closed);
+    is_settled
 }
 
 /// A client that has sent these bytes, and sends no more.
-fn client<R: Net<Stream = TcpStream, Listener = TcpListener>>(
+fn client<R: Net<Stream = TcpStream, Listener = TcpListener> + Abort>(
     rt: &R,
     address: SocketAddr,
     bytes: &[u8],
-) -> io::Result<TcpStream> {
-    let mut stream = TcpStream::connect(rt, address)?;
-    stream.write_all(bytes)?;
-    stream.shutdown(Shutdown::Write)?;
-    Ok(stream)
-}
-
-/// Whether this is all that a client is told. There is no answer where memory runs out.
-fn is_told(alloc: Global, mut stream: TcpStream, replies: &str) -> io::Result<bool> {
-    Ok(io::read_to_string(alloc, &mut stream)?.as_str() == replies)
-}
-
-/// Whether a client is told its replies, and another one that the server is closed.
-fn are_told(alloc: Global, ordering: TcpStream, closing: TcpStream) -> io::Result<bool> {
-    match is_told(alloc, ordering, REPLIES) {
-        Ok(true) => is_told(alloc, closing, CLOSED),
-        told => {
-            drop(closing);
-            told
-        }
-    }
-}
-
-/// Whether a server ends settled, and prints its address first.
-fn is_listening<R: Threads + Wait + Clock + Sync>(
-    rt: &R,
-    alloc: Global,
-    listener: &TcpListener,
-    address: SocketAddr,
-) -> Result<bool, AllocError> {
-    let mut output = Vec::new(alloc);
-    let settled = ends_settled(rt, alloc, listener, &mut output);
-    let printed = behind_address(alloc, address, &output);
-    drop(output);
-    Ok(settled.ok_or(AllocError)? && printed?.is_some())
+) -> TcpStream {
+    let mut stream = TcpStream::connect(rt, address).expect(rt, "no connection");
+    stream
+        .write_all(bytes)
+        .expect(rt, "lines that are not taken");
+    stream.shutdown(Shutdown::Write).expect(rt, "no end");
+    stream
 }
 
 /// Whether two clients, one after the other, get their replies, and the address is printed first.
-fn is_served_at<R: Threads + Wait + Clock + Net<Stream = TcpStream, Listener = TcpListener> + Sync>(
-    rt: &R,
-    alloc: Global,
-    listener: &TcpListener,
-    address: SocketAddr,
-    ordering: TcpStream,
-) -> Result<bool, Fail> {
-    match client(rt, address, CLOSE) {
-        Ok(closing) => match is_listening(rt, alloc, listener, address) {
-            Ok(true) => Ok(are_told(alloc, ordering, closing)?),
-            other => {
-                drop(ordering);
-                drop(closing);
-                Ok(other?)
-            }
-        },
-        Err(fault) => {
-            drop(ordering);
-            Err(Fail::from(fault))
-        }
-    }
-}
-
-fn is_served<R: Threads + Wait + Clock + Net<Stream = TcpStream, Listener = TcpListener> + Sync>(
-    rt: &R,
-    alloc: Global,
-) -> Result<bool, Fail> {
-    let (listener, address) = listens(rt)?;
+fn is_served<
+    R: Threads + Wait + Clock + Net<Stream = TcpStream, Listener = TcpListener> + Sync + Abort,
+>(rt: &R, alloc: Global) -> bool {
+    let (listener, address) = listens(rt);
     let ordering = client(rt, address, LINES);
-    let served = match ordering {
-        Ok(ordering) => is_served_at(rt, alloc, &listener, address, ordering),
-        Err(fault) => Err(Fail::from(fault)),
-    };
+    let closing = client(rt, address, CLOSE);
+    let mut output = Vec::new(alloc);
+    let is_settled = ends_settled(rt, alloc, &listener, &mut output);
     drop(listener);
-    served
+    behind_address(rt, alloc, address, &output);
+    drop(output);
+    let is_done = is_text(told(rt, alloc, ordering), REPLIES);
+    is_text(told(rt, alloc, closing), CLOSED) && is_done && is_settled
 }
 
 #[test]
-fn lines_over_loopback(rt: HostRuntime) -> Result<(), Fail> {
-    assert!(rt; is_served(&rt, rt.alloc())?);
-    Ok(())
+fn lines_over_loopback(rt: HostRuntime) {
+    assert!(rt; is_served(&rt, rt.alloc()));
 }

@@ -1,195 +1,96 @@
 //! Rings that are reset through a server: each node signals once, with its epoch, the reset one
 //! first and every other behind one of its neighbours.
 
-use crate::asking::{all_signal, ask, is_closed, ring_lines};
+use crate::asking::{asks, ring_lines};
 use coord_disk::MemDisk;
 use coord_engine::Closed;
 use coord_server::serve_store;
 use coord_store::Store;
-use std::alloc::{AllocError, Global};
+use std::alloc::Global;
 use std::net::{Net, SocketAddr, TcpListener, TcpStream};
+use std::process::Abort;
 use std::sync::Wait;
-use std::test::Fail;
 use std::thread::Threads;
 use std::time::Clock;
 use std::{io, thread};
 
-/// A new store. There is none where memory runs out.
-pub(crate) fn created(alloc: Global) -> Option<Store<MemDisk>> {
-    Store::create(alloc, MemDisk::new(alloc), 32_768, 1).ok()
+/// A new store.
+pub(crate) fn created<R: Abort>(rt: &R, alloc: Global) -> Store<MemDisk> {
+    Store::create(alloc, MemDisk::new(alloc), 32_768, 1)
+        .ok()
+        .expect(rt, "no store")
 }
 
 /// Serves a store to its close. What is left of it.
-pub(crate) fn served<W: io::Write + Send + Drop, R: Threads + Wait + Clock + Sync>(
+pub(crate) fn served<W: io::Write + Send + Drop, R: Threads + Wait + Clock + Sync + Abort>(
     rt: &R,
     alloc: Global,
     store: Store<MemDisk>,
     listener: &TcpListener,
     output: &mut W,
-) -> Option<Store<MemDisk>> {
-    if store.stopped() {
-        drop(store);
-        return None;
-    }
-    match serve_store(rt, alloc, store, listener, output) {
-        Ok(closed) => Some(left(closed)),
-        Err(_) => None,
-    }
+) -> Store<MemDisk> {
+    assert!(rt; !store.stopped());
+    left(serve_store(rt, alloc, store, listener, output).expect(rt, "no close"))
 }
 
 fn left(closed: Closed<MemDisk>) -> Store<MemDisk> {
     closed.store
 }
 
-/// Has these lines answered, waits until so many nodes have signalled, and closes the server, also
-/// where they have not: nothing else would end it. Whether they have.
-fn asks<R: Clock + Net<Stream = TcpStream, Listener = TcpListener>>(
-    rt: &R,
-    alloc: Global,
-    address: SocketAddr,
-    lines: &str,
-    nodes: usize,
-) -> io::Result<bool> {
-    let asked = ask(rt, alloc, address, lines).is_ok();
-    let signalled = asked && matches!(all_signal(rt, alloc, address, nodes), Ok(true));
-    Ok(is_closed(rt, alloc, address)? && signalled)
-}
-
 /// A listener at a port of its own, and its address.
-pub(crate) fn listens<R: Net<Stream = TcpStream, Listener = TcpListener>>(
+pub(crate) fn listens<R: Net<Stream = TcpStream, Listener = TcpListener> + Abort>(
     rt: &R,
-) -> io::Result<(TcpListener, SocketAddr)> {
-    let listener = TcpListener::bind(rt, "127.0.0.1:0")?;
-    match listener.local_addr() {
-        Ok(address) => Ok((listener, address)),
-        Err(fault) => {
-            drop(listener);
-            Err(fault)
-        }
-    }
-}
-
-/// What was printed behind the address, if that was printed.
-pub(crate) fn behind_address(
-    alloc: Global,
-    address: SocketAddr,
-    output: &[u8],
-) -> Result<Option<Vec<u8>>, AllocError> {
-    let listening = format!(in alloc; "listening {address}\n")?;
-    match output.strip_prefix(listening.as_bytes()) {
-        Some(signals) => Vec::from_slice(alloc, signals).map(Some),
-        None => Ok(None),
-    }
-}
-
-/// What was printed behind the address, where the client was answered.
-pub(crate) fn answered(
-    alloc: Global,
-    address: SocketAddr,
-    asked: io::Result<bool>,
-    output: &[u8],
-) -> Result<Vec<u8>, Fail> {
-    let is_asked = asked?;
-    match behind_address(alloc, address, output)? {
-        Some(signals) if is_asked => Ok(signals),
-        _ => Err(Fail::from(io::Error::other("no answer"))),
-    }
-}
-
-/// What is left and what was printed, where there is both.
-pub(crate) fn both<T: Drop>(
-    left: Option<T>,
-    printed: Result<Vec<u8>, Fail>,
-) -> Result<(T, Vec<u8>), Fail> {
-    match printed {
-        Ok(printed) => match left {
-            Some(left) => Ok((left, printed)),
-            None => {
-                drop(printed);
-                Err(Fail::from(io::Error::other("nothing left")))
-            }
-        },
-        Err(fault) => {
-            drop(left);
-            Err(fault)
-        }
-    }
-}
-
-/// Serves a store while a client asks. What is left of it, whether all was answered, and what was
-/// printed.
-fn joined<R: Threads + Wait + Clock + Net<Stream = TcpStream, Listener = TcpListener> + Sync>(
-    rt: &R,
-    alloc: Global,
-    store: Store<MemDisk>,
-    listener: &TcpListener,
-    address: SocketAddr,
-    lines: &str,
-    nodes: usize,
-) -> (Option<Store<MemDisk>>, io::Result<bool>, Vec<u8>) {
-    let mut output = Vec::new(alloc);
-    let (left, asked) = thread::join(
-        rt,
-        || served(rt, alloc, store, listener, &mut output),
-        || asks(rt, alloc, address, lines, nodes),
-    );
-    (left, asked, output)
+) -> (TcpListener, SocketAddr) {
+    let listener = TcpListener::bind(rt, "127.0.0.1:0").expect(rt, "no listener");
+    let address = listener.local_addr().expect(rt, "no address");
+    (listener, address)
 }
 
 /// Serves a store while a client has these lines answered, waits until so many nodes have signalled
-/// and closes the server. What is left of the store, and what was printed behind the address.
-fn runs<R: Threads + Wait + Clock + Net<Stream = TcpStream, Listener = TcpListener> + Sync>(
+/// and closes the server. What is left of the store, and the nodes whose signals were printed.
+fn runs<R: Threads + Wait + Clock + Net<Stream = TcpStream, Listener = TcpListener> + Sync + Abort>(
     rt: &R,
     alloc: Global,
     store: Store<MemDisk>,
     lines: &str,
-    nodes: usize,
-) -> Result<(Store<MemDisk>, Vec<u8>), Fail> {
-    match listens(rt) {
-        Ok((listener, address)) => {
-            let (left, asked, output) = joined(rt, alloc, store, &listener, address, lines, nodes);
-            both(left, answered(alloc, address, asked, &output))
-        }
-        Err(fault) => {
-            drop(store);
-            Err(Fail::from(fault))
-        }
-    }
+    nodes: u8,
+) -> (Store<MemDisk>, Vec<u8>) {
+    let (listener, address) = listens(rt);
+    let mut output = Vec::new(alloc);
+    let (left, ()) = thread::join(
+        rt,
+        || served(rt, alloc, store, &listener, &mut output),
+        || asks(rt, alloc, address, lines, nodes),
+    );
+    drop(listener);
+    let nodes = printed_nodes(rt, alloc, address, &output);
+    drop(output);
+    (left, nodes)
 }
 
-/// The same bytes and more.
-fn and_more(mut printed: Vec<u8>, more: &[u8]) -> Result<Vec<u8>, Fail> {
-    let added = printed.extend_from_slice(more);
-    match added {
-        Ok(()) => Ok(printed),
-        Err(fault) => {
-            drop(printed);
-            Err(Fail::from(fault))
-        }
-    }
-}
-
-/// Serves what is left of a store until so many nodes have signalled. What was printed before, and
-/// what is now.
+/// Serves what is left of a store until so many nodes have signalled. Those that had before, and
+/// those whose signals are printed now.
 pub(crate) fn goes_on<
-    R: Threads + Wait + Clock + Net<Stream = TcpStream, Listener = TcpListener> + Sync,
->(
+    R: Threads + Wait + Clock + Net<Stream = TcpStream, Listener = TcpListener> + Sync + Abort,
+>(rt: &R, alloc: Global, store: Store<MemDisk>, mut nodes: Vec<u8>, last: u8) -> Vec<u8> {
+    let (left, more) = runs(rt, alloc, store, "", last);
+    drop(left);
+    nodes.extend_from_slice(&more).expect(rt, "no memory");
+    drop(more);
+    nodes
+}
+
+/// What was printed behind the address.
+pub(crate) fn behind_address<'a, R: Abort>(
     rt: &R,
     alloc: Global,
-    store: Store<MemDisk>,
-    printed: Vec<u8>,
-    last: u8,
-) -> Result<Vec<u8>, Fail> {
-    match runs(rt, alloc, store, "", usize::from(last)) {
-        Ok((left, more)) => {
-            drop(left);
-            and_more(printed, &more)
-        }
-        Err(fault) => {
-            drop(printed);
-            Err(fault)
-        }
-    }
+    address: SocketAddr,
+    output: &'a [u8],
+) -> &'a [u8] {
+    let listening = format!(in alloc; "listening {address}\n").expect(rt, "no memory");
+    let signals = output.strip_prefix(listening.as_bytes());
+    drop(listening);
+    signals.expect(rt, "no address")
 }
 
 /// The node of a line that tells its first signal.
@@ -201,25 +102,20 @@ fn signalled(line: &str) -> Option<u8> {
     node.parse().ok()
 }
 
-/// The nodes of all lines that are printed, if each tells a first signal.
-pub(crate) fn all_signalled(alloc: Global, printed: &[u8]) -> Option<Vec<u8>> {
-    let mut nodes = Vec::new(alloc);
-    for line in str::from_utf8(printed).ok()?.lines() {
-        nodes.push(signalled(line)?).ok()?;
-    }
-    Some(nodes)
-}
-
-/// The nodes of all lines that are printed behind the address, none where that is not printed.
-pub(crate) fn printed_nodes(
+/// The nodes of all lines that are printed behind the address, each of which tells a first signal.
+pub(crate) fn printed_nodes<R: Abort>(
+    rt: &R,
     alloc: Global,
     address: SocketAddr,
     output: &[u8],
-) -> Result<Vec<u8>, AllocError> {
-    match behind_address(alloc, address, output)? {
-        Some(signals) => all_signalled(alloc, &signals).ok_or(AllocError),
-        None => Ok(Vec::new(alloc)),
+) -> Vec<u8> {
+    let signals = str::from_utf8(behind_address(rt, alloc, address, output)).expect(rt, "no text");
+    let mut nodes = Vec::new(alloc);
+    for line in signals.lines() {
+        let node = signalled(line).expect(rt, "no first signal");
+        nodes.push(node).expect(rt, "no memory");
     }
+    nodes
 }
 
 /// Whether a node of a ring comes behind one of its neighbours, and for the first time.
@@ -233,7 +129,11 @@ fn follows(before: &[u8], node: u8, last: u8) -> bool {
 }
 
 /// Whether this is a wave through a ring that was reset at this node.
-pub(crate) fn is_wave(nodes: &[u8], last: u8, first: u8) -> bool {
+pub(crate) fn are_wave(nodes: Vec<u8>, last: u8, first: u8) -> bool {
+    is_wave(&nodes, last, first)
+}
+
+fn is_wave(nodes: &[u8], last: u8, first: u8) -> bool {
     for i in 1..nodes.len() {
         if !follows(&nodes[..i], nodes[i], last) {
             return false;
@@ -242,64 +142,41 @@ pub(crate) fn is_wave(nodes: &[u8], last: u8, first: u8) -> bool {
     nodes.len() == usize::from(last) && nodes.first() == Some(&first)
 }
 
-/// What is printed where these lines are answered, and so many nodes signal before a close and the
-/// others up to the last one behind a new start.
-fn prints<R: Threads + Wait + Clock + Net<Stream = TcpStream, Listener = TcpListener> + Sync>(
-    rt: &R,
-    alloc: Global,
-    lines: &str,
-    last: u8,
-    before_close: u8,
-) -> Result<Vec<u8>, Fail> {
-    let store = created(alloc).ok_or(AllocError)?;
-    let (store, printed) = runs(rt, alloc, store, lines, usize::from(before_close))?;
-    if before_close < last {
-        goes_on(rt, alloc, store, printed, last)
-    } else {
-        drop(store);
-        Ok(printed)
-    }
-}
-
-/// Whether a ring of these nodes signals as a wave, of which so many nodes may signal before a close
-/// and the others behind a new start.
-fn signals<R: Threads + Wait + Clock + Net<Stream = TcpStream, Listener = TcpListener> + Sync>(
-    rt: &R,
-    alloc: Global,
-    last: u8,
-    first: u8,
-    before_close: u8,
-) -> Result<bool, Fail> {
-    let lines = ring_lines(alloc, last, first)?;
-    let printed = prints(rt, alloc, &lines, last, before_close);
+/// Whether a ring of these nodes that is reset at one of them signals as a wave.
+fn signals<
+    R: Threads + Wait + Clock + Net<Stream = TcpStream, Listener = TcpListener> + Sync + Abort,
+>(rt: &R, alloc: Global, last: u8, first: u8) -> bool {
+    let lines = ring_lines(rt, alloc, last, first);
+    let (left, nodes) = runs(rt, alloc, created(rt, alloc), &lines, last);
+    drop(left);
     drop(lines);
-    is_printed_wave(alloc, printed?, last, first)
-}
-
-/// Whether what was printed is a wave.
-fn is_printed_wave(alloc: Global, printed: Vec<u8>, last: u8, first: u8) -> Result<bool, Fail> {
-    match all_signalled(alloc, &printed) {
-        Some(nodes) => Ok(is_wave(&nodes, last, first)),
-        None => Err(Fail::from(AllocError)),
-    }
+    are_wave(nodes, last, first)
 }
 
 #[test]
-fn a_ring_of_8(rt: HostRuntime) -> Result<(), Fail> {
-    assert!(rt; signals(&rt, rt.alloc(), 8, 3, 8)?);
-    Ok(())
+fn a_ring_of_8(rt: HostRuntime) {
+    assert!(rt; signals(&rt, rt.alloc(), 8, 3));
 }
 
 /// The greatest ring, with the node 64.
 #[test]
-fn a_ring_of_64(rt: HostRuntime) -> Result<(), Fail> {
-    assert!(rt; signals(&rt, rt.alloc(), 64, 64, 64)?);
-    Ok(())
+fn a_ring_of_64(rt: HostRuntime) {
+    assert!(rt; signals(&rt, rt.alloc(), 64, 64));
+}
+
+/// Whether a ring of which a node has signalled before a close, and the others behind a new start,
+/// signals as a wave.
+fn signals_over_a_close<
+    R: Threads + Wait + Clock + Net<Stream = TcpStream, Listener = TcpListener> + Sync + Abort,
+>(rt: &R, alloc: Global) -> bool {
+    let lines = ring_lines(rt, alloc, 64, 1);
+    let (store, nodes) = runs(rt, alloc, created(rt, alloc), &lines, 1);
+    drop(lines);
+    are_wave(goes_on(rt, alloc, store, nodes, 64), 64, 1)
 }
 
 /// A close in the midst of a wave, and a new start: both outputs together have each signal once.
 #[test]
-fn a_wave_over_a_close(rt: HostRuntime) -> Result<(), Fail> {
-    assert!(rt; signals(&rt, rt.alloc(), 64, 1, 1)?);
-    Ok(())
+fn a_wave_over_a_close(rt: HostRuntime) {
+    assert!(rt; signals_over_a_close(&rt, rt.alloc()));
 }

@@ -60,14 +60,20 @@ fn told(alloc: Global, bytes: &[u8]) -> Result<Result<u64, StoreFault>, StoreFau
 fn is_created(alloc: Global, version: u8) -> Result<bool, StoreFault>
     requires { (1 ≤ version) × (version ≤ 2) }
 {
-    Ok(created(alloc, version)?.into_disk().bytes() == created_in(version).as_slice())
+    let disk = created(alloc, version)?.into_disk();
+    let is_created = disk.bytes() == created_in(version).as_slice();
+    drop(disk);
+    Ok(is_created)
 }
 
 // Whether a commit leaves these.
 fn is_committed(alloc: Global, version: u8) -> Result<bool, Fail>
     requires { (1 ≤ version) × (version ≤ 2) }
 {
-    Ok(begun(alloc, version)?.bytes() == committed_in(version).as_slice())
+    let disk = begun(alloc, version)?;
+    let is_committed = disk.bytes() == committed_in(version).as_slice();
+    drop(disk);
+    Ok(is_committed)
 }
 
 #[test]
@@ -215,13 +221,16 @@ fn cut_and_changed_devices_are_told(rt: HostRuntime) -> Result<(), Fail> {
 // Whether a snapshot that is not legal is refused.
 fn is_violated(alloc: Global) -> Result<bool, Fail> {
     let mut disk = MemDisk::new(alloc);
-    format(alloc, &mut disk, HALF, 1, &VIOLATED)?;
+    let formatted = format(alloc, &mut disk, HALF, 1, &VIOLATED);
+    let told = told(alloc, disk.bytes());
+    drop(disk);
+    formatted?;
     let violation = Violation {
         a: NodeId::new(1).unwrap(),
         b: NodeId::new(2).unwrap(),
         letter: Letter::B,
     };
-    Ok(told(alloc, disk.bytes())? == Err(StoreFault::Violated(violation)))
+    Ok(told? == Err(StoreFault::Violated(violation)))
 }
 
 #[test]

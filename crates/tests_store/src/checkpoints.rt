@@ -34,7 +34,13 @@ fn reset(alloc: Global, disk: MemDisk, first: u64, count: u64) -> Result<(bool, 
     let mut store = opened(alloc, disk)?;
     let are_fresh = commits_each(&mut store, first, count);
     let disk = store.into_disk();
-    Ok((are_fresh?, disk))
+    match are_fresh {
+        Ok(are_fresh) => Ok((are_fresh, disk)),
+        Err(fault) => {
+            drop(disk);
+            Err(fault)?
+        }
+    }
 }
 
 // Whether each row of resets leaves its half selected, and the store holds all steps in the end.
@@ -46,7 +52,10 @@ fn fills_both_halves(alloc: Global) -> Result<bool, Fail> {
         are_turned = are_turned && are_fresh && after.bytes().first() == Some(half);
         disk = after;
     }
-    Ok(is_reset(&opened(alloc, disk)?) && are_turned)
+    let store = opened(alloc, disk)?;
+    let is_reset = is_reset(&store);
+    drop(store);
+    Ok(is_reset && are_turned)
 }
 
 // All steps are there: one node, which every other one reset.
@@ -62,7 +71,12 @@ fn is_reset(store: &Store<MemDisk>) -> bool {
 fn room(alloc: Global) -> Result<u64, Fail> {
     let disk = created(alloc, 1)?.into_disk();
     match open(alloc, disk) {
-        Ok((journal, _contents)) => Ok(journal.room()),
+        Ok((journal, contents)) => {
+            let room = journal.room();
+            drop(journal);
+            drop(contents);
+            Ok(room)
+        }
         Err((fault, _disk)) => Err(fault)?,
     }
 }

@@ -3,7 +3,7 @@
 
 ghost use Rattle.std.specs.Prelude.{◌≤◌};
 
-use crate::scripts::{adding, choice, commits, count_on, created, opened, resets, told_on};
+use crate::scripts::{adding, choice, commits, commits_resets, count_on, created, opened, told_on};
 use coord_disk::{BlipDisk, CrashDisk, Disk, FuseDisk, MemDisk, TornDisk};
 use coord_store::{CommitFault, Store, StoreFault};
 use std::alloc::Global;
@@ -23,7 +23,7 @@ fn run<D: Disk>(alloc: Global, store: &mut Store<D>) -> Result<bool, CommitFault
         return Ok(false);
     }
     for batch in 0..12u64 {
-        if !commits(store, &resets(alloc, 2 + 256 * batch, 256)?)? {
+        if !commits_resets(alloc, store, 2 + 256 * batch)? {
             return Ok(false);
         }
     }

@@ -147,7 +147,10 @@ fn spelled(alloc: Global, shape: Shape) -> Result<Vec<u8>, AllocError> {
 // Whether these bytes spell a legal world of version 2.
 fn is_legal(alloc: Global, bytes: &[u8]) -> Result<bool, Fail> {
     let world = read_world(alloc, 2, bytes)?;
-    Ok(check(&world).is_none() && write_world(alloc, &world)?.as_slice() == bytes)
+    let is_legal = check(&world).is_none();
+    let written = write_world(alloc, &world);
+    drop(world);
+    Ok(is_legal && written?.as_slice() == bytes)
 }
 
 // A device with a store of this version over them.
@@ -156,8 +159,13 @@ fn formatted(alloc: Global, version: u8, bytes: &[u8]) -> Result<MemDisk, Fail> 
         return Err("too long")?;
     }
     let mut disk = MemDisk::new(alloc);
-    format(alloc, &mut disk, HALF, version, bytes)?;
-    Ok(disk)
+    match format(alloc, &mut disk, HALF, version, bytes) {
+        Ok(()) => Ok(disk),
+        Err(fault) => {
+            drop(disk);
+            Err(fault)?
+        }
+    }
 }
 
 // Whether a store opens on them.
@@ -176,12 +184,12 @@ fn the_longest_legal_world(rt: HostRuntime) -> Result<(), Fail> {
     Ok(())
 }
 
-// The spelling of the world on a device.
-fn spelled_on(alloc: Global, disk: MemDisk) -> Result<Vec<u8>, Fail> {
+// Whether the world on a device is spelled so.
+fn is_spelled_on(alloc: Global, disk: MemDisk, wanted: &[u8]) -> Result<bool, Fail> {
     let store = opened(alloc, disk)?;
     let spelling = write_world(alloc, store.world());
     drop(store);
-    Ok(spelling?)
+    Ok(spelling?.as_slice() == wanted)
 }
 
 // Whether a store of version 1 over these bytes is raised to one whose world is spelled so in version 2.
@@ -189,8 +197,13 @@ fn is_raised(alloc: Global, bytes: &[u8], wanted: &[u8]) -> Result<bool, Fail> {
     let mut store = opened(alloc, formatted(alloc, 1, bytes)?)?;
     let answer = store.migrate();
     let disk = store.into_disk();
-    answer?;
-    Ok(spelled_on(alloc, disk)?.as_slice() == wanted)
+    match answer {
+        Ok(()) => is_spelled_on(alloc, disk, wanted),
+        Err(fault) => {
+            drop(disk);
+            Err(fault)?
+        }
+    }
 }
 
 #[test]

@@ -3,7 +3,9 @@
 ghost use Rattle.std.specs.Prelude.{◌≤◌, IfSome};
 ghost use Rattle.coord_batch.specs.Batches.{IsNumbered};
 
-use crate::scripts::{begun, commits, created, opened, order, resets, resetting, told_on};
+use crate::scripts::{
+    begun, commits, commits_resets, created, opened, order, resetting, told_on, with_fresh,
+};
 use coord_disk::{BlipDisk, Disk, MemDisk};
 use coord_store::{CommitFault, Store, StoreFault};
 use coord_types::{Command, Group, Kind, Mode, NodeId, Output, Reply, Step};
@@ -15,10 +17,12 @@ use std::test::Fail;
 // as it was then.
 fn raises(store: &mut Store<MemDisk>) -> Result<bool, StoreFault> {
     let before = store.world().copy()?;
-    match store.migrate() {
+    let first = store.migrate();
+    let is_same = *store.world() == before;
+    drop(before);
+    match first {
         Ok(()) => Ok(true),
         Err(StoreFault::OutOfMemory) => {
-            let is_same = *store.world() == before;
             store.migrate()?;
             Ok(is_same)
         }
@@ -51,12 +55,7 @@ fn making(number: u8) -> Step
 fn ring(alloc: Global) -> Result<MemDisk, Fail> {
     let mut store = created(alloc, 1)?;
     let are_fresh = make_ring(&mut store);
-    let disk = store.into_disk();
-    if are_fresh? {
-        Ok(disk)
-    } else {
-        Err("not fresh")?
-    }
+    with_fresh(store.into_disk(), are_fresh)
 }
 
 fn make_ring(store: &mut Store<MemDisk>) -> Result<bool, CommitFault> {
@@ -93,8 +92,15 @@ fn furthest(world: &World) -> u64 {
 // Commits what is due for all that is on the way, and gives the greatest distance of a node meanwhile.
 fn go_round(store: &mut Store<MemDisk>) -> Result<u64, CommitFault> {
     let outputs = store.world().resend()?;
+    let greatest = go_on(store, &outputs);
+    drop(outputs);
+    greatest
+}
+
+// The same for these outputs.
+fn go_on(store: &mut Store<MemDisk>, outputs: &[Output]) -> Result<u64, CommitFault> {
     let mut greatest = 0;
-    for output in &outputs {
+    for output in outputs {
         if let Some(step) = due(output) {
             let _ = commits(store, &[step])?;
             greatest = furthest(store.world()).max(greatest);
@@ -142,9 +148,16 @@ fn goes_on(alloc: Global) -> Result<bool, Fail> {
     let is_raised = raises(&mut store);
     let is_answered = is_answered(store.world());
     let greatest = reset_ring(&mut store);
-    let disk = store.into_disk();
-    let are_reset = are_reset(opened(alloc, disk)?.world());
-    Ok(is_raised? && is_answered && greatest? == 4 && are_reset)
+    let are_reset = are_reset_on(alloc, store.into_disk());
+    Ok(is_raised? && is_answered && greatest? == 4 && are_reset?)
+}
+
+// Whether they are in the store on a device.
+fn are_reset_on(alloc: Global, disk: MemDisk) -> Result<bool, StoreFault> {
+    let store = opened(alloc, disk)?;
+    let are_reset = are_reset(store.world());
+    drop(store);
+    Ok(are_reset)
 }
 
 #[test]
@@ -155,7 +168,7 @@ fn a_reset_goes_round_a_raised_ring(rt: HostRuntime) -> Result<(), Fail> {
 
 fn reset_often(alloc: Global, store: &mut Store<MemDisk>) -> Result<bool, CommitFault> {
     for batch in 0..12u64 {
-        if !commits(store, &resets(alloc, 2 + 256 * batch, 256)?)? {
+        if !commits_resets(alloc, store, 2 + 256 * batch)? {
             return Ok(false);
         }
     }
@@ -169,15 +182,16 @@ fn fills_its_half(alloc: Global) -> Result<bool, Fail> {
     let are_fresh = reset_often(alloc, &mut store);
     let disk = store.into_disk();
     let is_written = disk.bytes().first() == Some(&0) && disk.bytes().get(17) == Some(&2);
-    Ok(is_raised? && are_fresh? && is_written && told_on(alloc, disk)? == (2, 3_073))
+    let told = told_on(alloc, disk);
+    Ok(is_raised? && are_fresh? && is_written && told? == (2, 3_073))
 }
 
 // Whether a store without steps is raised.
 fn is_raised_empty(alloc: Global) -> Result<bool, Fail> {
     let mut store = created(alloc, 1)?;
     let is_raised = raises(&mut store);
-    let disk = store.into_disk();
-    Ok(is_raised? && told_on(alloc, disk)? == (2, 0))
+    let told = told_on(alloc, store.into_disk());
+    Ok(is_raised? && told? == (2, 0))
 }
 
 #[test]
@@ -200,7 +214,9 @@ fn is_stopped(alloc: Global) -> Result<bool, Fail> {
     let torn = commits(&mut store, &[resetting(2)]);
     let answer = store.migrate();
     let is_refused = is_commit_stopped(&mut store);
-    let calls = store.into_disk().calls();
+    let disk = store.into_disk();
+    let calls = disk.calls();
+    drop(disk);
     match torn {
         Err(CommitFault::Device) => {
             Ok(answer == Err(StoreFault::Stopped) && calls == 4 && is_refused?)

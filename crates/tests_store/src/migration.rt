@@ -24,11 +24,12 @@ fn is_migrated(alloc: Global) -> Result<bool, Fail> {
     let first = store.migrate();
     let second = store.migrate();
     let disk = store.into_disk();
-    first?;
-    second?;
     let is_turned = disk.bytes().first() == Some(&1);
     let is_written = disk.bytes().get(SECOND_HALF..) == Some(RAISED.as_slice());
-    Ok(is_turned && is_written && told_on(alloc, disk)? == (2, 1))
+    let told = told_on(alloc, disk);
+    first?;
+    second?;
+    Ok(is_turned && is_written && told? == (2, 1))
 }
 
 // Whether it is refused where the node was reset and awaits another one.
@@ -41,9 +42,9 @@ fn is_refused_in_a_reset(alloc: Global) -> Result<bool, Fail> {
     let mut store = opened(alloc, begun(alloc, 1)?)?;
     let are_fresh = commits(&mut store, &[add, join, reset]);
     let answer = store.migrate();
-    let disk = store.into_disk();
+    let told = told_on(alloc, store.into_disk());
     let is_refused = answer == Err(StoreFault::NotQuiet(one));
-    Ok(are_fresh? && is_refused && told_on(alloc, disk)? == (1, 4))
+    Ok(are_fresh? && is_refused && told? == (1, 4))
 }
 
 #[test]

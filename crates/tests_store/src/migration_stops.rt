@@ -1,13 +1,13 @@
 //! What a device that stops or fails once leaves of a migration, in each half: a store of the one
 //! version or the other, with all of its steps.
 
-use crate::scripts::{adding, choice, commits, created, opened, order, told_on};
+use crate::scripts::{adding, choice, commits, created, opened, order, told_on, with_fresh};
 use coord_codec::write_world;
 use coord_disk::{BlipDisk, CrashDisk, FailingDisk, FuseDisk, MemDisk, Rule};
-use coord_journal::{MAX_SNAPSHOT, open};
+use coord_journal::{JournalFault, MAX_SNAPSHOT, open};
 use coord_store::{CommitFault, Store, StoreFault};
 use coord_types::{Command, DataPacket, Group, Msg, NodeId, ReceiptPacket, Step};
-use std::alloc::Global;
+use std::alloc::{AllocError, Global};
 use std::test::Fail;
 
 /// How many calls of the device an opening takes, and a migration.
@@ -66,30 +66,40 @@ fn reset_two(store: &mut Store<MemDisk>) -> Result<bool, CommitFault> {
 fn reset_of_two(alloc: Global) -> Result<MemDisk, Fail> {
     let mut store = created(alloc, 1)?;
     let are_fresh = reset_two(&mut store);
-    let disk = store.into_disk();
-    if are_fresh? {
-        Ok(disk)
-    } else {
-        Err("not fresh")?
-    }
+    with_fresh(store.into_disk(), are_fresh)
 }
 
 // The same with its world as the snapshot of the second half.
 fn turned(alloc: Global, bytes: &[u8]) -> Result<MemDisk, Fail> {
     let store = opened(alloc, MemDisk::from_bytes(alloc, bytes)?)?;
-    let snapshot = write_world(alloc, store.world())?;
+    let snapshot = write_world(alloc, store.world());
     drop(store);
-    if snapshot.len() > MAX_SNAPSHOT {
-        return Err("too long")?;
-    }
-    match open(alloc, MemDisk::from_bytes(alloc, bytes)?) {
-        Ok((mut journal, _contents)) => {
-            let answer = journal.replace(1, &snapshot);
-            let disk = journal.into_disk();
-            answer?;
-            Ok(disk)
+    let snapshot = snapshot?;
+    let disk = replaced(alloc, MemDisk::from_bytes(alloc, bytes), &snapshot);
+    drop(snapshot);
+    Ok(disk?)
+}
+
+// A device once its journal has this snapshot.
+fn replaced(
+    alloc: Global,
+    disk: Result<MemDisk, AllocError>,
+    snapshot: &[u8],
+) -> Result<MemDisk, JournalFault> {
+    let (mut journal, contents) = open(alloc, disk?).map_err(|(fault, _disk)| fault)?;
+    drop(contents);
+    let answer = if snapshot.len() > MAX_SNAPSHOT {
+        Err(JournalFault::BadRecord)
+    } else {
+        journal.replace(1, snapshot)
+    };
+    let disk = journal.into_disk();
+    match answer {
+        Ok(()) => Ok(disk),
+        Err(fault) => {
+            drop(disk);
+            Err(fault)
         }
-        Err((fault, _disk)) => Err(fault)?,
     }
 }
 

@@ -36,13 +36,15 @@ pub(crate) fn opened<D: Disk>(alloc: Global, disk: D) -> Result<Store<D>, StoreF
 
 /// How many steps the store on a device holds.
 pub(crate) fn count_on<D: Disk>(alloc: Global, disk: D) -> Result<u64, StoreFault> {
-    Ok(opened(alloc, disk)?.world().count())
+    Ok(told_on(alloc, disk)?.1)
 }
 
 /// The version of the store on a device, and how many steps it holds.
 pub(crate) fn told_on<D: Disk>(alloc: Global, disk: D) -> Result<(u8, u64), StoreFault> {
     let store = opened(alloc, disk)?;
-    Ok((store.world().version().number(), store.world().count()))
+    let told = (store.world().version().number(), store.world().count());
+    drop(store);
+    Ok(told)
 }
 
 /// A device with a store of this version in which node 1 was added.
@@ -51,11 +53,24 @@ pub(crate) fn begun(alloc: Global, version: u8) -> Result<MemDisk, Fail>
 {
     let mut store = created(alloc, version)?;
     let is_fresh = commits(&mut store, &[adding()]);
-    let disk = store.into_disk();
-    if is_fresh? {
-        Ok(disk)
-    } else {
-        Err("not fresh")?
+    with_fresh(store.into_disk(), is_fresh)
+}
+
+/// The device behind steps that were all fresh.
+pub(crate) fn with_fresh(
+    disk: MemDisk,
+    are_fresh: Result<bool, CommitFault>,
+) -> Result<MemDisk, Fail> {
+    match are_fresh {
+        Ok(true) => Ok(disk),
+        Ok(false) => {
+            drop(disk);
+            Err("not fresh")?
+        }
+        Err(fault) => {
+            drop(disk);
+            Err(fault)?
+        }
     }
 }
 
@@ -84,7 +99,7 @@ pub(crate) fn order(number: u64, command: &Command) -> Step
 }
 
 /// So many resets of it, by orders numbered from this one on.
-pub(crate) fn resets(alloc: Global, first: u64, count: usize) -> Result<Vec<Step>, AllocError>
+fn resets(alloc: Global, first: u64, count: usize) -> Result<Vec<Step>, AllocError>
     requires first { 1 ≤ first }
     requires few { first + count < 2 ^ 64 }
     ensures numbered { IfOk result (λ steps. AllByRecursion IsNumbered steps.items) }
@@ -116,6 +131,21 @@ fn orders(
         steps.push(order(first + i as u64, command))?;
     }
     Ok(steps)
+}
+
+/// Commits 256 resets of it, numbered from this one on, and says whether they are fresh.
+pub(crate) fn commits_resets<D: Disk>(
+    alloc: Global,
+    store: &mut Store<D>,
+    first: u64,
+) -> Result<bool, CommitFault>
+    requires first { 1 ≤ first }
+    requires few { first + 256 < 2 ^ 64 }
+{
+    let steps = resets(alloc, first, 256)?;
+    let are_fresh = commits(store, &steps);
+    drop(steps);
+    are_fresh
 }
 
 /// Commits steps, and says whether they are fresh.

@@ -5,7 +5,7 @@ ghost use Rattle.std.specs.Prelude.{◌≤◌};
 ghost use Rattle.coord_world.specs.protocol.Legal.{Legal};
 
 use coord_check::{Letter, Violation, check};
-use coord_codec::read_world;
+use coord_codec::{CodecFault, read_world};
 use coord_types::{Client, Command, DataPacket, Group, Msg, NodeId, Step, Version};
 use coord_world::{Verdict, World};
 use std::alloc::{AllocError, Global};
@@ -78,9 +78,8 @@ fn a_reset_has_no_fault(rt: HostRuntime) -> Result<(), Fail> {
     Ok(())
 }
 
-/// The bytes of a text of hexadecimal digits, two for each byte, and spaces between them.
-fn bytes_of(alloc: Global, text: &str) -> Result<Vec<u8>, AllocError> {
-    let mut bytes = Vec::new(alloc);
+/// Adds the bytes of a text of hexadecimal digits, two for each byte, and spaces between them.
+fn push_bytes(bytes: &mut Vec<u8>, text: &str) -> Result<(), AllocError> {
     let mut high = None;
     for symbol in text.as_bytes() {
         let digit = match *symbol {
@@ -96,13 +95,26 @@ fn bytes_of(alloc: Global, text: &str) -> Result<Vec<u8>, AllocError> {
             }
         }
     }
-    Ok(bytes)
+    Ok(())
+}
+
+/// What the checker says of a world that is read.
+fn fault_in(world: Result<World, CodecFault>) -> Result<Option<Violation>, CodecFault> {
+    let world = world?;
+    let fault = check(&world);
+    drop(world);
+    Ok(fault)
 }
 
 /// What the checker says of the world of this version with these bytes.
 fn fault_of(alloc: Global, version: u8, world: &str) -> Result<Option<Violation>, Fail> {
-    let bytes = bytes_of(alloc, world)?;
-    Ok(check(&read_world(alloc, version, bytes.as_slice())?))
+    let mut bytes = Vec::new(alloc);
+    let pushed = push_bytes(&mut bytes, world);
+    let world = read_world(alloc, version, bytes.as_slice());
+    drop(bytes);
+    let fault = fault_in(world);
+    pushed?;
+    Ok(fault?)
 }
 
 /// Whether it is this line.

@@ -137,7 +137,11 @@ fn is_of_one_length(
 // Whether these bytes spell a world, and it is written as these bytes.
 fn spells_world(alloc: Global, version: u8, bytes: &[u8]) -> Result<bool, AllocError> {
     match read_world(alloc, version, bytes) {
-        Ok(world) => Ok(write_world(alloc, &world)?.as_slice() == bytes),
+        Ok(world) => {
+            let written = write_world(alloc, &world);
+            drop(world);
+            Ok(written?.as_slice() == bytes)
+        }
         Err(fault) if fault.kind == FaultKind::OutOfMemory => Err(AllocError),
         Err(_) => Ok(false),
     }

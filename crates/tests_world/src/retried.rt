@@ -22,12 +22,21 @@ fn taken(world: &mut World, step: &Step) -> Result<Outcome, Fail>
     ensures { Legal world.new }
 {
     let before = copied(world)?;
-    let Ok(Verdict::Fresh(_)) = world.judge(&before, step) else {
+    let outcome = taken_from(world, &before, step);
+    drop(before);
+    outcome
+}
+
+fn taken_from(world: &mut World, before: &World, step: &Step) -> Result<Outcome, Fail>
+    requires { Legal world.old }
+    ensures { Legal world.new }
+{
+    let Ok(Verdict::Fresh(_)) = world.judge(before, step) else {
         return Err("refused, or a repeat")?;
     };
     match world.apply(step) {
         Ok(outcome) => Ok(outcome),
-        Err(_) => taken_then(world, &before, step),
+        Err(_) => taken_then(world, before, step),
     }
 }
 
@@ -75,7 +84,9 @@ fn retries(alloc: Global) -> Result<bool, Fail> {
     let (node, other) = (NodeId::new(1).ok_or("node")?, NodeId::new(2).ok_or("node")?);
     let group = Group::new(1).ok_or("group")?;
     let mut world = World::empty(alloc, Version::new(1).unwrap());
-    takes_all(&mut world, orders(node, other, group).as_slice())
+    let takes_all = takes_all(&mut world, orders(node, other, group).as_slice());
+    drop(world);
+    takes_all
 }
 
 #[test]

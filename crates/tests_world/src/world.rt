@@ -81,12 +81,17 @@ fn gives(world: &mut World, step: &Step, kind: Kind, outputs: &[Output]) -> Resu
         return Ok(false);
     };
     let outcome = world.apply(step)?;
-    Ok(outcome.reply.kind == kind && outcome.outputs.as_slice() == outputs)
+    let is_so = outcome.reply.kind == kind && outcome.outputs.as_slice() == outputs;
+    drop(outcome);
+    Ok(is_so)
 }
 
 /// Whether the world sends these again.
 fn sends_again(world: &World, outputs: &[Output]) -> Result<bool, AllocError> {
-    Ok(world.resend()?.as_slice() == outputs)
+    let sent = world.resend()?;
+    let is_so = sent.as_slice() == outputs;
+    drop(sent);
+    Ok(is_so)
 }
 
 /// Two nodes are added and linked, and a reset is asked for at the first.
@@ -204,9 +209,19 @@ fn is_same_at_first(copy: &mut World, world: &World) -> Result<bool, AllocError>
     Ok(was_same && *copy != *world)
 }
 
+/// A copy of such a world.
+fn asked_and_copied(alloc: Global) -> Result<World, AllocError>
+    ensures { IfOk result Legal }
+{
+    let world = asked(alloc)?;
+    let copy = world.copy();
+    drop(world);
+    copy
+}
+
 /// Whether it is so of a copy of such a world.
 fn has_copy(alloc: Global, world: &World) -> Result<bool, AllocError> {
-    let mut copy = asked(alloc)?.copy()?;
+    let mut copy = asked_and_copied(alloc)?;
     let was_same = is_same_at_first(&mut copy, world);
     drop(copy);
     was_same
@@ -225,7 +240,10 @@ fn is_copied(alloc: Global) -> Result<bool, AllocError> {
 /// Whether the nodes, lanes and orders of a world come back from its rows.
 fn is_put_together(alloc: Global) -> Result<bool, Fail> {
     let parts = asked(alloc)?.parts()?;
-    Ok(is_asked(&World::assemble(alloc, parts)?))
+    let world = World::assemble(alloc, parts)?;
+    let is_asked = is_asked(&world);
+    drop(world);
+    Ok(is_asked)
 }
 
 #[test]
@@ -245,6 +263,7 @@ fn is_exhausted(alloc: Global) -> Result<bool, Fail> {
     };
     let world = World::assemble(alloc, parts)?;
     let verdict = world.judge(&world, &order(1, Command::Add(id(1), group())));
+    drop(world);
     Ok(verdict == Err(Refusal::Exhausted))
 }
 
@@ -309,7 +328,9 @@ fn is_raised(world: &World) -> Result<bool, AllocError>
         return Ok(false);
     }
     let raised = world.raised()?;
-    Ok(raised.version().number() == 2 && raised.count() == world.count())
+    let is_second = raised.version().number() == 2 && raised.count() == world.count();
+    drop(raised);
+    Ok(is_second)
 }
 
 fn is_empty_world_raised(alloc: Global) -> Result<bool, AllocError> {
@@ -321,7 +342,10 @@ fn is_empty_world_raised(alloc: Global) -> Result<bool, AllocError> {
 
 /// Whether the node that was asked for a reset is told as busy.
 fn is_told_as_busy(alloc: Global) -> Result<bool, AllocError> {
-    Ok(asked(alloc)?.first_busy() == Some(id(1)))
+    let world = asked(alloc)?;
+    let is_busy = world.first_busy() == Some(id(1));
+    drop(world);
+    Ok(is_busy)
 }
 
 #[test]

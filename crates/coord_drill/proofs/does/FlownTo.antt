@@ -43,21 +43,24 @@ use Rattle.coord_drill.proofs.does.Settled.{collected_are, fold_version, granted
 -- ---- out and back
 
 -- by the mark that a commit leaves
-lands : (l : LedgerState MemDisk) (f : FlightState MemDisk) (d new : Driven MemDisk) (releases : List Release) (answer : Answer) → CommitsTo l f answer d → ((g : FlightState MemDisk) → d.flight ≡ Some g → LandsTo d.ledger g (Ok (Some releases)) new) →
-    (disk : MemDisk) × (mark : Mark) × (IsMarked answer mark × ((releases ≡ releases_in f mark) × (new ≡ at_home (taken_back l (length f.steps) mark disk))))
+record Landed (l : LedgerState MemDisk) (f : FlightState MemDisk) (releases : List Release) (answer : Answer) (new : Driven MemDisk) : Type 0 where
+  disk : MemDisk
+  mark : Mark
+  marked : IsMarked answer mark
+  released : releases ≡ releases_in f mark
+  is : new ≡ at_home (taken_back l (length f.steps) mark disk)
+
+lands : (l : LedgerState MemDisk) (f : FlightState MemDisk) (d new : Driven MemDisk) (releases : List Release) (answer : Answer) → CommitsTo l f answer d → ((g : FlightState MemDisk) → d.flight ≡ Some g → LandsTo d.ledger g (Ok (Some releases)) new) → Landed l f releases answer new
 lands l f d new releases answer to landed =
     let g = to.flown in
-    let back = landed g (ap (λ (v : Driven MemDisk). v.flight) to.is) in (
-      g.disk,
-      g.mark,
-      (
-        to.marked,
-        (
-          back.0 ∙ released_as g.mark,
-          back.1 ∙ (λ i. at_home (taken_back (to.is i).ledger (length (to.steps i)) g.mark g.disk)),
-        ),
-      ),
-    )
+    let back = landed g (ap (λ (v : Driven MemDisk). v.flight) to.is) in
+    record {
+      disk = g.disk;
+      mark = g.mark;
+      marked = to.marked;
+      released = back.released ∙ released_as g.mark;
+      is = back.is ∙ (λ i. at_home (taken_back (to.is i).ledger (length (to.steps i)) g.mark g.disk));
+    }
   where
     released_as : (mark : Mark) → releases_in to.flown mark ≡ releases_in f mark
     released_as New = refl
@@ -67,12 +70,12 @@ lands l f d new releases answer to landed =
 pub lands_settled : (l : LedgerState MemDisk) (f : FlightState MemDisk) (d new : Driven MemDisk) (releases : List Release) → CommitsTo l f Committed d → ((g : FlightState MemDisk) → d.flight ≡ Some g → LandsTo d.ledger g (Ok (Some releases)) new) → LandsAs l f (flown.Settled releases) new
 lands_settled l f d new releases to landed =
     let all = lands l f d new releases Committed to landed in
-    record { disk = all.0; mark = all.1; told = (all.2.0, all.2.1.0 ∙ ap (releases_in f) all.2.0); is = all.2.1.1 }
+    record { disk = all.disk; mark = all.mark; told = (all.marked, all.released ∙ ap (releases_in f) all.marked); is = all.is }
 
 pub lands_failed : (l : LedgerState MemDisk) (f : FlightState MemDisk) (d new : Driven MemDisk) (releases : List Release) (fault : CommitFault) → CommitsTo l f (Failed fault) d → ((g : FlightState MemDisk) → d.flight ≡ Some g → LandsTo d.ledger g (Ok (Some releases)) new) → LandsAs l f (flown.Failed fault) new
 lands_failed l f d new releases fault to landed =
     let all = lands l f d new releases (Failed fault) to landed in
-    record { disk = all.0; mark = all.1; told = all.2.0; is = all.2.1.1 }
+    record { disk = all.disk; mark = all.mark; told = all.marked; is = all.is }
 
 -- a flight of the next steps is out and back
 came_to : (l : LedgerState MemDisk) → length (take MAX_BATCH_STEPS (pending l.log)) ≡ next_size l.log

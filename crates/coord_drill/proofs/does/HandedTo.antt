@@ -48,7 +48,7 @@ accepted_held l new claims x t held to =
     let trail = l.log.trail in
     let w = settled_world l.log in
     let p = pending l.log in
-    let front : t ≡ claimed x (reply (fold w p) x) = to.1.1.0 ∙ ap (λ v. claimed x (reply v x)) (sym (fold-take_drop n trail l.log.base)) in
+    let front : t ≡ claimed x (reply (fold w p) x) = to.claims ∙ ap (λ v. claimed x (reply v x)) (sym (fold-take_drop n trail l.log.base)) in
     let is : IsHeld (with_accepted l x) (claims ++ t ∷ []) = record {
       home = held.home;
       here = held.here;
@@ -58,11 +58,11 @@ accepted_held l new claims x t held to =
           ∙ ap (claims_of w) (sym (drop-append-le n trail (x ∷ []) held.within))
           ∙ ap (λ ss. claims_of (fold l.log.base ss) (drop n (trail ++ x ∷ []))) (sym (take-append-le n trail (x ∷ []) held.within));
     } in
-    subst (λ m. IsHeld m (claims ++ t ∷ [])) (sym to.1.1.1) is
+    subst (λ m. IsHeld m (claims ++ t ∷ [])) (sym to.now) is
 
 pub repeated_granted : (l new : LedgerState MemDisk) (x : Step) (t : Claim) → HandedTo l x (Ok (Repeated t)) new → IsGranted new.log t
 repeated_granted l new x t to =
-    subst (λ (m : LedgerState MemDisk). IsGranted m.log t) (sym to.1.1.1) (subst (IsGranted l.log) (sym to.1.1.0) (granted_repeat (is_some l.doubt) l.log x to.0 to.1.0))
+    subst (λ (m : LedgerState MemDisk). IsGranted m.log t) (sym to.now) (subst (IsGranted l.log) (sym to.claims) (granted_repeat (is_some l.doubt) l.log x to.kept to.judged))
 
 -- ---- what is printed, and what becomes of the drill
 
@@ -71,25 +71,25 @@ module _ (l new : LedgerState MemDisk) (holds begun : Bool) (x : Step) where
   s = drill_of l holds begun
 
   pub refused_leaves : (e : Refusal) → HandedTo l x (Err e) new → e ≢ OutOfMemory → drill_of new holds begun ≡ after_asked s (Submit x) (Refused e ∷ [])
-  refused_leaves e to other = ap (λ m. drill_of m holds begun) to.1 ∙ sym (refused_after s x e (refused_said e (ledger_verdict l x) to.0 other))
+  refused_leaves e to other = ap (λ m. drill_of m holds begun) to.now ∙ sym (refused_after s x e (refused_said e (ledger_verdict l x) to.why other))
 
   pub repeated_told : (t : Claim) → HandedTo l x (Ok (Repeated t)) new → kept_line (settled_count new.log) (reply_of t) ≡ asked_lines s (Submit x) (answer.Repeated t.step ∷ [])
-  repeated_told t to = (λ i. kept_line (settled_count (to.1.1.1 i).log) (reply_of (to.1.1.0 i))) ∙ sym (repeat_lines s x to.0 t.step to.1.0)
+  repeated_told t to = (λ i. kept_line (settled_count (to.now i).log) (reply_of (to.claims i))) ∙ sym (repeat_lines s x to.kept t.step to.judged)
 
   pub repeated_leaves : (t : Claim) → HandedTo l x (Ok (Repeated t)) new → drill_of new holds begun ≡ after_asked s (Submit x) (answer.Repeated t.step ∷ [])
-  repeated_leaves t to = ap (λ m. drill_of m holds begun) to.1.1.1 ∙ sym (repeat_after s x to.0 t.step to.1.0)
+  repeated_leaves t to = ap (λ m. drill_of m holds begun) to.now ∙ sym (repeat_after s x to.kept t.step to.judged)
 
   pub held_leaves : (t : Claim) → HandedTo l x (Ok (Accepted t)) new → holds ≡ true → drill_of new holds true ≡ after_asked s (Submit x) (answer.Accepted t.step ∷ [])
-  held_leaves t to is = ap (λ m. drill_of m holds true) to.1.1.1 ∙ sym (held_after s x to.0 t.step to.1.0 is)
+  held_leaves t to is = ap (λ m. drill_of m holds true) to.now ∙ sym (held_after s x to.kind t.step to.judged is)
 
   module _ (t : Claim) (to : HandedTo l x (Ok (Accepted t)) new) (given : List Answer) (free : holds ≡ false) where
     pub flown_told : flight_lines new.log given ≡ asked_lines s (Submit x) (answer.Accepted t.step ∷ given)
-    flown_told = ap (λ (m : LedgerState MemDisk). flight_lines m.log given) to.1.1.1 ∙ sym (flown_line s x t.step given free)
+    flown_told = ap (λ (m : LedgerState MemDisk). flight_lines m.log given) to.now ∙ sym (flown_line s x t.step given free)
 
     -- the machine has given the ticket of the step before it
     pub flown_leaves : (after : DrillState) → ((tickets : List (Option Reply)) → after ≡ seen_as (run (record (machine_of (drill_of new holds true)) { tickets = tickets }) (flight_events given) given) holds true) → after ≡ after_asked s (Submit x) (answer.Accepted t.step ∷ given)
     flown_leaves after goes_on =
-        let tickets : List (Option Reply) = Some (record { step = t.step; kind = to.0 }) ∷ [] in
+        let tickets : List (Option Reply) = Some (record { step = t.step; kind = to.kind }) ∷ [] in
         goes_on tickets
-        ∙ ap (λ m. seen_as (run (record (machine_of (drill_of m holds true)) { tickets = tickets }) (flight_events given) given) holds true) to.1.1.1
-        ∙ sym (flown_after s x to.0 t.step given to.1.0 free)
+        ∙ ap (λ m. seen_as (run (record (machine_of (drill_of m holds true)) { tickets = tickets }) (flight_events given) given) holds true) to.now
+        ∙ sym (flown_after s x to.kind t.step given to.judged free)

@@ -34,8 +34,14 @@ abbrev HaveMemory : List Answer → Type 0
 HaveMemory given = AllByRecursion (λ answer. answer ≢ Refused OutOfMemory) given
 
 -- answers that these events may have, by the answers
-abbrev May : Machine → (List Answer → List Event) → Type 0
-May m events = (given : List Answer) × (Answered m (events given) given × HaveMemory given)
+record May (m : Machine) (events : List Answer → List Event) : Type 0 where
+  given : List Answer
+  answered : Answered m (events given) given
+  with_memory : HaveMemory given
+
+-- to no event there is none
+none : (s : DrillState) → May (machine_of s) (λ given. [])
+none s = record { given = []; answered = tt; with_memory = tt }
 
 -- a flight stays home, or goes out and is committed
 may_fly : (s : DrillState) (tickets : List (Option Reply)) → May (record (machine_of s) { tickets = tickets }) flight_events
@@ -45,15 +51,18 @@ may_fly s tickets = by_home (stays_home (is_some s.doubt) false s.log) refl
     m = record (machine_of s) { tickets = tickets }
 
     by_home : (home : Bool) → stays_home (is_some s.doubt) false s.log ≡ home → May m flight_events
-    by_home true is = (Nothing ∷ [], ((subst (λ b. IsOneOf Nothing (cond b (Nothing ∷ []) (Begun (next_size s.log) ∷ Refused OutOfMemory ∷ []))) (sym is) (inl refl), tt), ((λ same. cc), tt)))
+    by_home true is = record {
+      given = Nothing ∷ [];
+      answered = (subst (λ b. IsOneOf Nothing (cond b (Nothing ∷ []) (Begun (next_size s.log) ∷ Refused OutOfMemory ∷ []))) (sym is) (inl refl), tt);
+      with_memory = ((λ same. cc), tt);
+    }
     by_home false is =
-        let b = next_size s.log in (
-          Begun b ∷ Committed ∷ Finished (settled_count s.log + b) ∷ [],
-          (
-            (subst (λ h. IsOneOf (Begun b) (cond h (Nothing ∷ []) (Begun b ∷ Refused OutOfMemory ∷ []))) (sym is) (inl refl), (inl refl, (inl refl, tt))),
-            ((λ same. cc), ((λ same. cc), ((λ same. cc), tt))),
-          ),
-        )
+        let b = next_size s.log in
+        record {
+          given = Begun b ∷ Committed ∷ Finished (settled_count s.log + b) ∷ [];
+          answered = (subst (λ h. IsOneOf (Begun b) (cond h (Nothing ∷ []) (Begun b ∷ Refused OutOfMemory ∷ []))) (sym is) (inl refl), (inl refl, (inl refl, tt)));
+          with_memory = ((λ same. cc), ((λ same. cc), ((λ same. cc), tt)));
+        }
 
 module _ (s : DrillState) (x : Step) where
   -- what the machine may answer to the step and to the events behind it, by what it says to the step
@@ -64,19 +73,23 @@ module _ (s : DrillState) (x : Step) where
   may_step : (holds : Bool) (v : Result Verdict Refusal) → verdict_on (machine_of s) x ≡ v → May (machine_of s) (step_events holds x)
   may_step true (Ok (Fresh k)) is =
       let n = accepted_count s.log + 1 in
-      (Accepted n ∷ [], (may_say (Ok (Fresh k)) (Accepted n) is (inl refl) [] [] tt, ((λ same. cc), tt)))
+      record { given = Accepted n ∷ []; answered = may_say (Ok (Fresh k)) (Accepted n) is (inl refl) [] [] tt; with_memory = ((λ same. cc), tt) }
   may_step false (Ok (Fresh k)) is =
       let n = accepted_count s.log + 1 in
       let t : DrillState = record s { log = with_step s.log x } in
       let rest = may_fly t (Some (record { step = n; kind = k }) ∷ []) in
-      (Accepted n ∷ rest.0, (may_say (Ok (Fresh k)) (Accepted n) is (inl refl) (flight_events rest.0) rest.0 rest.1.0, ((λ same. cc), rest.1.1)))
-  may_step holds (Ok (Repeat r)) is = (Repeated r.step ∷ [], (may_say (Ok (Repeat r)) (Repeated r.step) is (inl refl) [] [] tt, ((λ same. cc), tt)))
+      record {
+        given = Accepted n ∷ rest.given;
+        answered = may_say (Ok (Fresh k)) (Accepted n) is (inl refl) (flight_events rest.given) rest.given rest.answered;
+        with_memory = ((λ same. cc), rest.with_memory);
+      }
+  may_step holds (Ok (Repeat r)) is = record { given = Repeated r.step ∷ []; answered = may_say (Ok (Repeat r)) (Repeated r.step) is (inl refl) [] [] tt; with_memory = ((λ same. cc), tt) }
   may_step holds (Err e) is =
       let other : Refused e ≢ Refused OutOfMemory = λ same. let memory : e ≡ OutOfMemory = cc in never_memory (is_some s.doubt) s.log x (is ∙ ap (λ w. Err w) memory) in
-      (Refused e ∷ [], (may_say (Err e) (Refused e) is (inl refl) [] [] tt, (other, tt)))
+      record { given = Refused e ∷ []; answered = may_say (Err e) (Refused e) is (inl refl) [] [] tt; with_memory = (other, tt) }
 
 may_crash : (s : DrillState) → May (machine_of s) (λ given. event.Crash ∷ [])
-may_crash s = (Opened (s.log.base.count + s.log.settled) ∷ [], ((by_doubt s.doubt, tt), ((λ same. cc), tt)))
+may_crash s = record { given = Opened (s.log.base.count + s.log.settled) ∷ []; answered = (by_doubt s.doubt, tt); with_memory = ((λ same. cc), tt) }
   where
     by_doubt : (o : Option ℕ) → IsOneOf (Opened (s.log.base.count + s.log.settled)) (map (λ n. Opened (s.log.base.count + n)) (kept_by s.log.settled None o))
     by_doubt None = inl refl
@@ -86,13 +99,13 @@ may_line : (s : DrillState) (a : Asked) → May (machine_of s) (line_events s.ho
 may_line s (ask.Submit x) = may_step s x s.holds (verdict_on (machine_of s) x) refl
 may_line s ask.Flush = may_fly s []
 may_line s ask.Crash = may_crash s
-may_line s (ask.Refuse e) = ([], (tt, tt))
-may_line s ask.Nothing = ([], (tt, tt))
-may_line s ask.Resend = ([], (tt, tt))
-may_line s ask.Check = ([], (tt, tt))
-may_line s ask.Show = ([], (tt, tt))
-may_line s ask.Hold = ([], (tt, tt))
-may_line s ask.Version2 = ([], (tt, tt))
+may_line s (ask.Refuse e) = none s
+may_line s ask.Nothing = none s
+may_line s ask.Resend = none s
+may_line s ask.Check = none s
+may_line s ask.Show = none s
+may_line s ask.Hold = none s
+may_line s ask.Version2 = none s
 
 -- ---- lines
 
@@ -104,7 +117,7 @@ responds_somehow s n None = (bad_line n, s, (refl, refl))
 responds_somehow s n (Some r) =
     let a = asked (front_world s.log) r in
     let may = may_line s a in
-    (asked_lines s a may.0, after_asked s a may.0, (may.0, record { answered = may.1.0; with_memory = may.1.1; printed = refl; goes_on = refl }))
+    (asked_lines s a may.given, after_asked s a may.given, (may.given, record { answered = may.answered; with_memory = may.with_memory; printed = refl; goes_on = refl }))
 
 pub line_somehow : (s : DrillState) (n : ℕ) (line : Line) → Somehow (LineResponds s n line)
 line_somehow s n None = responds_somehow s n None

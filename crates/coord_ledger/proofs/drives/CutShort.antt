@@ -31,13 +31,15 @@ record Silent (s : Machine) (e : Event) : Type 0 where
   silent : (after s e answer).released ≡ s.released
 
 -- to a step with this verdict
-abbrev SilentSubmit : Machine → Step → Result Verdict Refusal → Type 0
-SilentSubmit s x v = (a : Answer) × (IsOneOf a (to_submit (accepted_count s.log + 1) v) × ((after_submit s x v a).released ≡ s.released))
+record SilentSubmit (s : Machine) (x : Step) (v : Result Verdict Refusal) : Type 0 where
+  answer : Answer
+  allowed : IsOneOf answer (to_submit (accepted_count s.log + 1) v)
+  silent : (after_submit s x v answer).released ≡ s.released
 
 silent_submit : (s : Machine) (x : Step) (v : Result Verdict Refusal) → SilentSubmit s x v
-silent_submit s x (Ok (Fresh k)) = (Refused OutOfMemory, (inr (inl refl), refl))
-silent_submit s x (Ok (Repeat r)) = (Repeated r.step, (inl refl, refl))
-silent_submit s x (Err e) = (Refused e, (inl refl, refl))
+silent_submit s x (Ok (Fresh k)) = record { answer = Refused OutOfMemory; allowed = inr (inl refl); silent = refl }
+silent_submit s x (Ok (Repeat r)) = record { answer = Repeated r.step; allowed = inl refl; silent = refl }
+silent_submit s x (Err e) = record { answer = Refused e; allowed = inl refl; silent = refl }
 
 silent_commit : (s : Machine) (f : Option FlightOut) → s.flight ≡ f → Silent s Commit
 silent_commit s None out = record { answer = NoFlight; allowed = subst (λ o. IsOneOf NoFlight (with_flight o (λ f. to_commit f.mark))) (sym out) (inl refl); silent = refl }
@@ -97,7 +99,7 @@ silent_crash s f o is = by_flight f o is
     by_flight (Some f) o is = by_mark f.size f.mark is
 
 silent : (s : Machine) (e : Event) → Silent s e
-silent s (Submit x) = let one = silent_submit s x (verdict_on s x) in record { answer = one.0; allowed = one.1.0; silent = one.1.1 }
+silent s (Submit x) = let one = silent_submit s x (verdict_on s x) in record { answer = one.answer; allowed = one.allowed; silent = one.silent }
 silent s Begin =
     by_test (stays_home (has_stopped s) (is_some s.flight) s.log) (λ b. ((a : Answer) → IsOneOf a (cond b (Nothing ∷ []) (Begun (next_size s.log) ∷ Refused OutOfMemory ∷ [])) → IsOneOf a (answers s Begin)) → Silent s Begin)
     (λ _ on. record { answer = Nothing; allowed = on Nothing (inl refl); silent = refl })

@@ -77,11 +77,11 @@ module _ {D : Type 0} (present : D → Present) (clock : D → ℕ) (left_since 
         answered = more.0;
         consistent = subst IsConsistent (sym more.1) consistent;
         follows = subst (Follows new) (sym more.1) to.follows;
-        disk = moved.0;
-        holds = moved.1.0;
-        moments = moments_on present clock left_since crashes on (started start) events given e a first drives.disk moved.0 drives.moments
-            (subst (λ b. Touches present clock left_since crashes b (found_by_crash s e a) (touches_disk e a) e drives.disk moved.0) same moved.1.1)
-            (survives (after s e a) consistent to.follows moved.0 moved.1.0);
+        disk = moved.new;
+        holds = moved.holds;
+        moments = moments_on present clock left_since crashes on (started start) events given e a first drives.disk moved.new drives.moments
+            (subst (λ b. Touches present clock left_since crashes b (found_by_crash s e a) (touches_disk e a) e drives.disk moved.new) same moved.touched)
+            (survives (after s e a) consistent to.follows moved.new moved.holds);
       }
 
   -- what the loop of a run keeps before the event at this index

@@ -142,7 +142,7 @@ module _ {D : Type 0} (present : D → Present) (clock : D → ℕ) (left_since 
         }
 
     pub held_untouched : (s : Machine) (touches : Bool) (e : Event) (h new : Held D) → is_crash e ≡ false → disk_held new ≡ disk_held h → HeldSurvives keeps_model present h s → HeldTouches keeps_model present clock left_since crashes s touches e h new
-    held_untouched s touches e h new other same survives old holds = (old, (same ∙ holds, untouched s touches e old old other refl (survives old holds)))
+    held_untouched s touches e h new other same survives old holds = record { new = old; holds = same ∙ holds; touched = untouched s touches e old old other refl (survives old holds) }
 
     -- so it is in each event but a commit and a crash
     pub met_aside : (s : Machine) (e what : Event) (a : Answer) (h new : Held D) → e ≡ what → is_crash what ≡ false → found_by_crash s what a ≡ s → disk_held new ≡ disk_held h → HeldSurvives keeps_model present h s →
@@ -159,16 +159,15 @@ module _ {D : Type 0} (present : D → Present) (clock : D → ℕ) (left_since 
       -- at each moment of it a crash left only what has P
       leaves : (found : Machine) (P : List ℕ → Type 0) → (keeps_model f.disk ≡ true → LeavesOnly clock left_since f.disk g.disk P) → ((bytes : List ℕ) → P bytes → Survives found bytes) → HeldTouches keeps_model present clock left_since crashes found true Commit h new
       leaves found P moments each old there =
-          let same : f.disk ≡ old = cc (its_disk, there) in (
-            g.disk,
-            (
-              now,
-              record {
-                untouched = λ no. let never : ⊥ = cc in absurd never;
-                inside = λ on. subst (λ d. LeavesOnly clock left_since d g.disk (Survives found)) same (weaker clock left_since f.disk g.disk P (Survives found) (moments (ap keeps_model same ∙ on)) each);
-              },
-            ),
-          )
+          let same : f.disk ≡ old = cc (its_disk, there) in
+          record {
+            new = g.disk;
+            holds = now;
+            touched = record {
+              untouched = λ no. let never : ⊥ = cc in absurd never;
+              inside = λ on. subst (λ d. LeavesOnly clock left_since d g.disk (Survives found)) same (weaker clock left_since f.disk g.disk P (Survives found) (moments (ap keeps_model same ∙ on)) each);
+            };
+          }
 
       -- the flight was left as it was
       alone : g ≡ f → HeldTouches keeps_model present clock left_since crashes s false Commit h new
@@ -238,13 +237,11 @@ module _ {D : Type 0} (present : D → Present) (clock : D → ℕ) (left_since 
         (reopens_more (IsImage (present d)) (Survives s) d new (moments (ap keeps_model same ∙ on)) (λ bytes here. survives d held (ap keeps_model same ∙ on) bytes here))
 
     pub crash_touches : (l : LedgerState D) (new : Held D) → IsReopened keeps_model present clock left_since crashes d l → disk_held new ≡ l.disk → HeldTouches keeps_model present clock left_since crashes s true Crash h new
-    crash_touches l new opened at_home old there = (
-      opened.disk,
-      (
-        at_home ∙ ap (λ (m : LedgerState D). m.disk) opened.is,
-        record { untouched = λ no. let never : ⊥ = cc in absurd never; inside = λ on. survives_each old opened.disk there opened.moments on },
-      ),
-    )
+    crash_touches l new opened at_home old there = record {
+      new = opened.disk;
+      holds = at_home ∙ ap (λ (m : LedgerState D). m.disk) opened.is;
+      touched = record { untouched = λ no. let never : ⊥ = cc in absurd never; inside = λ on. survives_each old opened.disk there opened.moments on };
+    }
 
     pub crash_lost : (lost : D) → (keeps_model d ≡ true → Reopens present clock left_since crashes (IsImage (present d)) d lost) → IsLost keeps_model present clock left_since crashes s Crash h lost
     crash_lost lost moments old there = inr (refl, λ on. survives_each old lost there moments on)

@@ -76,7 +76,11 @@ home_images {D} l s keeps_model present is back images model image here =
     subst (λ o. ImagesGive keeps_model present back.held.ledger.log (kept_by back.held.ledger.log.settled o back.held.ledger.doubt)) (sym (ap (option_map flight_out) back.home))
     (subst (λ (m : LedgerState D). ImagesGive keeps_model present m.log (kept_by m.log.settled None m.doubt)) back.ledger images) in
     let one = images_follow back.held t keeps_model present back.follows of_held model image here in
-    (one.0, (subst (IsOneOf one.0) (finish_keeps_kept s is) one.1.0, subst (Recovered image) (same_worlds s s.flight one.0) one.1.1))
+    record {
+      steps = one.steps;
+      allowed = subst (IsOneOf one.steps) (finish_keeps_kept s is) one.allowed;
+      recovered = subst (Recovered image) (same_worlds s s.flight one.steps) one.recovered;
+    }
 
 -- the disk stays as it is
 home_disk : {D : Type 0} (l : LedgerState D) (f : Option (FlightState D)) → (brought_home l f).disk ≡ disk_with l.disk f

@@ -57,7 +57,7 @@ crash_on model (inr other) = let none : ⊥ = cc in absurd none
 
 pub crash_fault : (model : Option Bool) (b : Bool) (present : Present) (log : Log) (counts : List ℕ) (k : RunFaultKind) → model ≡ Some b → ImagesGive b present log counts → IsReopenFault b present k → IsEventFault model Crash k
 crash_fault model b present log counts OutOfMemory is images cause = refl
-crash_fault model b present log counts (Store fault) is images cause = (refl, λ on. let keeps = some_is b (sym is ∙ on) in cause keeps (λ image here. let one = images keeps image here in (world_after log one.0, one.1.1)))
+crash_fault model b present log counts (Store fault) is images cause = (refl, λ on. let keeps = some_is b (sym is ∙ on) in cause keeps (λ image here. let one = images keeps image here in (world_after log one.steps, one.recovered)))
 
 -- a ledger that was made anew follows it
 pub follows_reopened : {D : Type 0} (s : Machine) (keeps_model : D → Bool) (present : D → Present) (clock : D → ℕ) (left_since : D → ℕ → List ℕ → Type 0) (crashes : D → D → Type 0) (before : D) (l : LedgerState D) (released : List Release) → IsConsistent s → released ≡ s.released → ImagesGive (keeps_model before) (present before) s.log (kept s) → keeps_model before ≡ true → IsReopened keeps_model present clock left_since crashes before l →
@@ -65,13 +65,13 @@ pub follows_reopened : {D : Type 0} (s : Machine) (keeps_model : D → Bool) (pr
 follows_reopened {D} s keeps_model present clock left_since crashes before l released is given images keeps opened =
     let from = opened.from keeps in
     subst (λ (m : LedgerState D). FollowsTo s Crash (Opened (settled_world m.log).count) (record { ledger = m; flight = None; claims = []; seen = 0; released = released })) (sym opened.is)
-    (follows_crash s released (keeps_model before) (present before) from.0 opened.world opened.disk is given images keeps from.1.0 from.1.1)
+    (follows_crash s released (keeps_model before) (present before) from.image opened.world opened.disk is given images keeps from.allowed from.recovered)
 
 -- and is over a world that the crash may leave
 pub left_by_crash : {D : Type 0} (d : Driven D) (keeps_model : D → Bool) (present : D → Present) (clock : D → ℕ) (left_since : D → ℕ → List ℕ → Type 0) (crashes : D → D → Type 0) (before : D) (l : LedgerState D) → keeps_model before ≡ true →
     ImagesGive (keeps_model before) (present before) d.ledger.log (kept_by d.ledger.log.settled (option_map flight_out d.flight) d.ledger.doubt) → IsReopened keeps_model present clock left_since crashes before l → IsLeftByCrash d (at_home l)
 left_by_crash {D} d keeps_model present clock left_since crashes before l keeps images opened =
     let from = opened.from keeps in
-    let one = images keeps from.0 from.1.0 in
-    let world = recovered_is_one from.0 opened.world (world_after d.ledger.log one.0) from.1.1 one.1.1 in
-    (one.0, (one.1.0, (opened.disk, ap at_home opened.is ∙ ap (λ w. at_home (ledger_over w opened.disk)) world)))
+    let one = images keeps from.image from.allowed in
+    let world = recovered_is_one from.image opened.world (world_after d.ledger.log one.steps) from.recovered one.recovered in
+    record { steps = one.steps; allowed = one.allowed; disk = opened.disk; is = ap at_home opened.is ∙ ap (λ w. at_home (ledger_over w opened.disk)) world }

@@ -2,46 +2,22 @@
 use Rattle.std.proofs.Common.{◌≡◌, ◌+◌, Option, Some, Ok, Err, sym, ap, ◌∙◌, subst, refl, ◌++◌, ◌∷◌, []}
 use Rattle.std.specs.Prelude.{Result, is_some}
 use Rattle.coord_types.specs.declared.refusals.Refusal.{Refusal}
-use Rattle.coord_types.specs.declared.steps.Kind.{Kind}
-use Rattle.coord_types.specs.declared.steps.Reply.{Reply}
 use Rattle.coord_types.specs.declared.steps.Step.{Step}
 use Rattle.coord_world.specs.declared.verdicts.Verdict.{Verdict}
 use Rattle.coord_world.specs.declared.verdicts.Verdict.TheVariants.{Fresh, Repeat}
-use Rattle.coord_world.specs.protocol.Next.{reply}
 use Rattle.coord_ledger.specs.declared.events.Answer.TheVariants as answer
 use Rattle.coord_ledger.specs.declared.events.Event.TheVariants.{Submit}
 use Rattle.coord_ledger.specs.declared.handed.Handed.{Handed}
 use Rattle.coord_ledger.specs.declared.handed.Handed.TheVariants.{Accepted, Repeated}
-use Rattle.coord_ledger.specs.ledger.Calls.{HandedTo, RefusesStep, claim_of, claimed, ledger_verdict, with_accepted}
+use Rattle.coord_ledger.specs.ledger.Calls.{HandedTo, RefusesStep, claimed, ledger_verdict, with_accepted}
 use Rattle.coord_ledger.specs.ledger.Driven.{Beside, answer_to, held, with_claim}
 use Rattle.coord_ledger.specs.ledger.Follows.{Follows, FollowsTo, Held, HoldsFlight}
 use Rattle.coord_ledger.specs.ledger.State.{Claim, FlightState, LedgerState}
 use Rattle.coord_ledger.specs.machine.Consistent.{IsConsistent, IsConsistentLog}
-use Rattle.coord_ledger.specs.machine.Log.{accepted_count, front_world}
+use Rattle.coord_ledger.specs.machine.Log.{accepted_count}
 use Rattle.coord_ledger.specs.machine.Machine.{Machine}
 use Rattle.coord_ledger.proofs.machine.ConsistentSteps.{reply_is}
 use Rattle.coord_ledger.proofs.follows.FollowsSteps.{follows_accepted, follows_no_room, follows_refused, follows_repeated, own_later}
-
--- ---- what a ticket tells of what was said, and the other way round
-
-module _ {D : Type 0} (l new : LedgerState D) (x : Step) where
-  pub handed_fresh : (given : Handed) (k : Kind) → HandedTo l x (Ok given) new → ledger_verdict l x ≡ Ok (Fresh k) → (claim_of given ≡ claimed x (reply (front_world l.log) x)) × (new ≡ with_accepted l x)
-  handed_fresh (Accepted t) k to judged = to.1.1
-  handed_fresh (Repeated t) k to judged = let other = sym judged ∙ to.1.0 in let no : ⊥ = cc in absurd no
-
-  pub handed_repeat : (given : Handed) (kept : Reply) → HandedTo l x (Ok given) new → ledger_verdict l x ≡ Ok (Repeat kept) → (claim_of given ≡ claimed x kept) × (new ≡ l)
-  handed_repeat (Accepted t) kept to judged = let other = sym judged ∙ to.1.0 in let no : ⊥ = cc in absurd no
-  handed_repeat (Repeated t) kept to judged =
-      let both = sym to.1.0 ∙ judged in
-      let same : to.0 ≡ kept = cc in
-      (to.1.1.0 ∙ ap (claimed x) same, to.1.1.1)
-
-  pub handed_never : (given : Handed) (why : Refusal) → HandedTo l x (Ok given) new → ledger_verdict l x ≡ Err why → ⊥
-  handed_never (Accepted t) why to judged = let other = sym judged ∙ to.1.0 in let no : ⊥ = cc in no
-  handed_never (Repeated t) why to judged = let other = sym judged ∙ to.1.0 in let no : ⊥ = cc in no
-
-  pub refused_as : (e : Refusal) (v : Result Verdict Refusal) → HandedTo l x (Err e) new → ledger_verdict l x ≡ v → RefusesStep e v
-  refused_as e v to judged = subst (RefusesStep e) judged to.0
 
 -- ---- the flight and the disk stay
 
@@ -51,12 +27,12 @@ pub record Submitted {D : Type 0} (l new : LedgerState D) (f : Option (FlightSta
 
 pub submitted : {D : Type 0} (l new : LedgerState D) (f : Option (FlightState D)) (x : Step) (r : Result Handed Refusal) → IsConsistentLog l.log → HoldsFlight l f → HandedTo l x r new → Submitted l new f
 submitted {D} l new f x (Ok (Accepted t)) is own to =
-    let now = to.1.1.1 in
+    let now = to.now in
     record { own = subst (λ n. HoldsFlight n f) (sym now) (own_later l x f is own); disk = ap (λ (n : LedgerState D). n.disk) now }
 submitted {D} l new f x (Ok (Repeated t)) is own to =
-    let now = to.1.1.1 in
+    let now = to.now in
     record { own = subst (λ n. HoldsFlight n f) (sym now) own; disk = ap (λ (n : LedgerState D). n.disk) now }
-submitted {D} l new f x (Err e) is own to = record { own = subst (λ n. HoldsFlight n f) (sym to.1) own; disk = ap (λ (n : LedgerState D). n.disk) to.1 }
+submitted {D} l new f x (Err e) is own to = record { own = subst (λ n. HoldsFlight n f) (sym to.now) own; disk = ap (λ (n : LedgerState D). n.disk) to.now }
 
 -- ---- it is an event of the machine
 
@@ -64,17 +40,17 @@ pub follows_handed : {D : Type 0} (l new : LedgerState D) (f : Option (FlightSta
     FollowsTo s (Submit x) (answer_to r) (held (record { ledger = new; flight = f }) (with_claim b r))
 follows_handed {D} l new f b s x (Ok (Accepted t)) is follows to =
     let log = l.log in
-    let claim : Claim = record { step = accepted_count log + 1; what = x; kind = to.0 } in
-    let one : t ≡ claim = to.1.1.0 ∙ ap (claimed x) (reply_is (is_some l.doubt) log x to.0 to.1.0) in
-    subst (λ m. FollowsTo {D = D} s (Submit x) (answer.Accepted t.step) (held (record { ledger = m; flight = f }) (record { claims = b.claims ++ Some t ∷ []; seen = b.seen; released = b.released }))) (sym to.1.1.1)
+    let claim : Claim = record { step = accepted_count log + 1; what = x; kind = to.kind } in
+    let one : t ≡ claim = to.claims ∙ ap (claimed x) (reply_is (is_some l.doubt) log x to.kind to.judged) in
+    subst (λ m. FollowsTo {D = D} s (Submit x) (answer.Accepted t.step) (held (record { ledger = m; flight = f }) (record { claims = b.claims ++ Some t ∷ []; seen = b.seen; released = b.released }))) (sym to.now)
     (subst (λ (c : Claim). FollowsTo {D = D} s (Submit x) (answer.Accepted c.step) (held (record { ledger = with_accepted l x; flight = f }) (record { claims = b.claims ++ Some c ∷ []; seen = b.seen; released = b.released }))) (sym one)
-    (follows_accepted (held (record { ledger = l; flight = f }) b) s is follows x to.0 to.1.0))
+    (follows_accepted (held (record { ledger = l; flight = f }) b) s is follows x to.kind to.judged))
 follows_handed {D} l new f b s x (Ok (Repeated t)) is follows to =
-    subst (λ m. FollowsTo {D = D} s (Submit x) (answer.Repeated t.step) (held (record { ledger = m; flight = f }) (record { claims = b.claims ++ Some t ∷ []; seen = b.seen; released = b.released }))) (sym to.1.1.1)
-    (subst (λ (c : Claim). FollowsTo {D = D} s (Submit x) (answer.Repeated c.step) (held (record { ledger = l; flight = f }) (record { claims = b.claims ++ Some c ∷ []; seen = b.seen; released = b.released }))) (sym to.1.1.0)
-    (follows_repeated (held (record { ledger = l; flight = f }) b) s is follows x to.0 to.1.0))
+    subst (λ m. FollowsTo {D = D} s (Submit x) (answer.Repeated t.step) (held (record { ledger = m; flight = f }) (record { claims = b.claims ++ Some t ∷ []; seen = b.seen; released = b.released }))) (sym to.now)
+    (subst (λ (c : Claim). FollowsTo {D = D} s (Submit x) (answer.Repeated c.step) (held (record { ledger = l; flight = f }) (record { claims = b.claims ++ Some c ∷ []; seen = b.seen; released = b.released }))) (sym to.claims)
+    (follows_repeated (held (record { ledger = l; flight = f }) b) s is follows x to.kept to.judged))
 follows_handed {D} l new f b s x (Err e) is follows to =
-    subst (λ m. FollowsTo {D = D} s (Submit x) (answer.Refused e) (held (record { ledger = m; flight = f }) b)) (sym to.1) (by_verdict (ledger_verdict l x) refl to.0)
+    subst (λ m. FollowsTo {D = D} s (Submit x) (answer.Refused e) (held (record { ledger = m; flight = f }) b)) (sym to.now) (by_verdict (ledger_verdict l x) refl to.why)
   where
     h : Held D
     h = held (record { ledger = l; flight = f }) b

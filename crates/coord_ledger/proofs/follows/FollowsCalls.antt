@@ -17,7 +17,7 @@ use Rattle.coord_ledger.specs.ledger.Calls.{FlightGives, GivesFlown, GivesSettle
 use Rattle.coord_ledger.specs.ledger.Follows.{Follows, FollowsTo, GivesOneOf, Held, ImagesGive, IsOut, flight_out}
 use Rattle.coord_ledger.specs.ledger.State.{FlightState, LedgerState, ledger_over}
 use Rattle.coord_ledger.specs.machine.After.{releases_of, settling_releases}
-use Rattle.coord_ledger.specs.machine.Answers.{IsOneOf, kept, kept_by}
+use Rattle.coord_ledger.specs.machine.Answers.{kept, kept_by}
 use Rattle.coord_ledger.specs.machine.Consistent.{IsConsistent}
 use Rattle.coord_ledger.specs.machine.Log.{pending, settled_count, world_after}
 use Rattle.coord_ledger.specs.machine.Machine.{Machine}
@@ -75,10 +75,10 @@ follows_returned {D} h s f back releases is follows holds own returns gives = by
 pub ledger_images : {D : Type 0} (l : LedgerState D) (disk : D) (keeps_model : Bool) (present : D → Present) → (keeps_model ≡ true → LedgerGives present l disk) → ImagesGive keeps_model (present disk) l.log (kept_by l.log.settled None l.doubt)
 ledger_images l disk keeps_model present gives model image here = by_doubt l.doubt (gives model image here)
   where
-    by_doubt : (o : Option ℕ) → GivesSettled l.log o image → (n : ℕ) × (IsOneOf n (kept_by l.log.settled None o) × Recovered image (world_after l.log n))
-    by_doubt None given = (l.log.settled, (inl refl, given))
-    by_doubt (Some b) (inl given) = (l.log.settled, (inl refl, given))
-    by_doubt (Some b) (inr given) = (l.log.settled + b, (inr (inl refl), given))
+    by_doubt : (o : Option ℕ) → GivesSettled l.log o image → GivesOneOf l.log (kept_by l.log.settled None o) image
+    by_doubt None given = record { steps = l.log.settled; allowed = inl refl; recovered = given }
+    by_doubt (Some b) (inl given) = record { steps = l.log.settled; allowed = inl refl; recovered = given }
+    by_doubt (Some b) (inr given) = record { steps = l.log.settled + b; allowed = inr (inl refl); recovered = given }
 
 -- what bytes give of a flight's world, they give of its ledger's log
 pub flight_gives : {D : Type 0} (l : LedgerState D) (f : FlightState D) (image : List ℕ) → IsOut l f → GivesFlown f.mark f.world f.steps image → GivesOneOf l.log (kept_by l.log.settled (Some (flight_out f)) l.doubt) image
@@ -88,10 +88,10 @@ flight_gives l f image own gives = by_mark f.mark gives
     all = (λ i. fold (own.world i) (own.steps i)) ∙ sym (world-add l.log l.log.settled (length f.steps))
 
     by_mark : (m : Mark) → GivesFlown m f.world f.steps image → GivesOneOf l.log (kept_by l.log.settled (Some (record { size = length f.steps; mark = m })) l.doubt) image
-    by_mark New given = (l.log.settled, (inl refl, subst (Recovered image) own.world given))
-    by_mark Good given = (l.log.settled + length f.steps, (inl refl, subst (Recovered image) all given))
-    by_mark Torn (inl given) = (l.log.settled, (inl refl, subst (Recovered image) own.world given))
-    by_mark Torn (inr given) = (l.log.settled + length f.steps, (inr (inl refl), subst (Recovered image) all given))
+    by_mark New given = record { steps = l.log.settled; allowed = inl refl; recovered = subst (Recovered image) own.world given }
+    by_mark Good given = record { steps = l.log.settled + length f.steps; allowed = inl refl; recovered = subst (Recovered image) all given }
+    by_mark Torn (inl given) = record { steps = l.log.settled; allowed = inl refl; recovered = subst (Recovered image) own.world given }
+    by_mark Torn (inr given) = record { steps = l.log.settled + length f.steps; allowed = inr (inl refl); recovered = subst (Recovered image) all given }
 
 -- of the disk of a flight that is out
 pub flight_images : {D : Type 0} (l : LedgerState D) (f : FlightState D) (keeps_model : Bool) (present : D → Present) → IsOut l f → (keeps_model ≡ true → FlightGives present f) → ImagesGive keeps_model (present f.disk) l.log (kept_by l.log.settled (Some (flight_out f)) l.doubt)
@@ -104,4 +104,4 @@ pub follows_crash : {D : Type 0} (s : Machine) (released : List Release) (keeps_
     FollowsTo s Crash (Opened w.count) (record { ledger = ledger_over w disk; flight = None; claims = []; seen = 0; released = released })
 follows_crash s released keeps_model present image w disk is given images model here recovered =
     let one = images model image here in
-    follows_opened s released one.0 w disk is given one.1.0 (recovered_is_one image w (world_after s.log one.0) recovered one.1.1)
+    follows_opened s released one.steps w disk is given one.allowed (recovered_is_one image w (world_after s.log one.steps) recovered one.recovered)

@@ -87,16 +87,15 @@ pub given_follows : {D : Type 0} (h : Held D) (s : Machine) (image : List ℕ) �
     GivesOneOf h.ledger.log (kept_by h.ledger.log.settled (option_map flight_out h.flight) h.ledger.doubt) image → GivesOneOf s.log (kept s) image
 given_follows h s image follows given =
     let by = follows.by in
-    let n = given.0 in
+    let n = given.steps in
     let settled : h.ledger.log.settled ≡ s.log.settled - by = ap (λ (g : Log). g.settled) follows.log in
     let same : kept_by h.ledger.log.settled (option_map flight_out h.flight) h.ledger.doubt ≡ kept_by (s.log.settled - by) s.flight s.doubt = λ i. kept_by (settled i) (follows.flight i) (follows.doubt i) in
-    let there : by + (s.log.settled - by) ≡ s.log.settled = omega (arith, follows.within) in (
-      by + n,
-      (
-        subst (λ d. IsOneOf (by + n) (kept_by d s.flight s.doubt)) there (kept_on by (s.log.settled - by) n s.flight s.doubt (subst (IsOneOf n) same given.1.0)),
-        subst (Recovered image) (ap (λ g. world_after g n) follows.log ∙ sym (world-add s.log by n)) given.1.1,
-      ),
-    )
+    let there : by + (s.log.settled - by) ≡ s.log.settled = omega (arith, follows.within) in
+    record {
+      steps = by + n;
+      allowed = subst (λ d. IsOneOf (by + n) (kept_by d s.flight s.doubt)) there (kept_on by (s.log.settled - by) n s.flight s.doubt (subst (IsOneOf n) same given.allowed));
+      recovered = subst (Recovered image) (ap (λ g. world_after g n) follows.log ∙ sym (world-add s.log by n)) given.recovered;
+    }
 
 -- so do the images of a disk
 pub images_follow : {D : Type 0} (h : Held D) (s : Machine) (keeps_model : Bool) (present : Present) → Follows h s →

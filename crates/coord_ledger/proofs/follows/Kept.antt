@@ -44,7 +44,10 @@ numbered (s ∷ steps) settled w fresh = (numbered_one w settled s fresh.0, numb
 
 -- no step of a flight goes away
 away_with : (log : Log) (s : Step) (out : ℕ) → IsAway log out None → IsAway (with_step log s) out None
-away_with log s out away = record { some = away.some; most = away.most; within = omega (arith, away.within, length-append log.trail (s ∷ [])); going = refl }
+away_with log s out away = record {
+  fits = record { some = away.fits.some; most = away.fits.most; within = omega (arith, away.fits.within, length-append log.trail (s ∷ [])) };
+  going = refl;
+}
 
 -- the next steps are not too many
 length_next : (xs : List Step) → length (take MAX_BATCH_STEPS xs) ≤ MAX_BATCH_STEPS
@@ -127,7 +130,7 @@ module _ {D : Type 0} where
         given_is = is.given_is;
         front_is = is.front_is;
         settled_is = is.settled_is;
-        doubt_within = (flight.some, omega (arith, is.away.within, size));
+        doubt_within = (flight.some, omega (arith, is.away.fits.within, size));
         home = record { world_is = flight.world_is ∙ at; torn_is = flight.torn_is ∙ ap Some flown };
         away = tt;
       }
@@ -137,7 +140,7 @@ module _ {D : Type 0} where
       → IsFlight steps world next Good kept → world ≡ settled_world log → out ≡ length steps → steps ≡ take (length steps) (pending log) → left ≡ drop (length steps) given → later ≡ fold world steps
       → IsLedger (with_settled log (length steps)) kinds left front later any doubt (Some kept)
   back_good log kinds given left front settled later out any doubt kept steps world next is flight at size same rest led =
-      let within : log.settled + length steps ≤ length log.trail = omega (arith, is.away.within, size) in
+      let within : log.settled + length steps ≤ length log.trail = omega (arith, is.away.fits.within, size) in
       let flown : fold world steps ≡ settled_world (with_settled log (length steps)) = ap (λ w. fold w steps) at ∙ ap (fold (settled_world log)) same ∙ sym (world-add log log.settled (length steps)) in
       let none = is.away.going in
       record {

@@ -33,7 +33,7 @@ all_begin s is =
     let f : FlightOut = record { size = next_size s.log; mark = New } in
     let rest : length (pending s.log) ≡ length s.log.trail - s.log.settled = length-drop s.log.settled s.log.trail in
     let some : 1 ≤ length (pending s.log) = grind (arith, nat_tests, free) in
-    (stays_flight s (Some f) is (grind (arith, some), grind (arith, some), grind (arith, some, rest, is.log.within)) (going s.log f s.doubt (grind (arith, nat_tests, free))), (is, tt)))
+    (stays_flight s (Some f) is (record { some = grind (arith, some); most = grind (arith, some); within = grind (arith, some, rest, is.log.within) }) (going s.log f s.doubt (grind (arith, nat_tests, free))), (is, tt)))
   where
     going : (log : Log) (f : FlightOut) (o : Option ℕ) → is_some o ≡ false → DoubtFits log (Some f) o
     going log f None none = tt
@@ -95,8 +95,8 @@ all_finish s (Some f) is out = by_mark f.mark refl
 
     by_mark : (m : Mark) → f.mark ≡ m → AllByRecursion (λ a. IsConsistent (after s Finish a)) (to_finish (settled_count s.log) f.size m)
     by_mark New e = (back New e (stays_flight s None is tt (subst (DoubtFits s.log None) (sym none) tt)), tt)
-    by_mark Good e = (back Good e (stays_settled s f.size is fits.2 none), (is, tt))
-    by_mark Torn e = (back Torn e (stays_torn s f.size is fits.2), tt)
+    by_mark Good e = (back Good e (stays_settled s f.size is fits.within none), (is, tt))
+    by_mark Torn e = (back Torn e (stays_torn s f.size is fits.within), tt)
 
 -- ---- crashes
 
@@ -115,7 +115,7 @@ all_keep_more s (Some f) o within fits doubt = by_mark f.mark
     none = record { more = 0; is = omega arith; within = omega (arith, within) }
 
     all : KeepsMore s (s.log.settled + f.size)
-    all = record { more = f.size; is = refl; within = fits.2 }
+    all = record { more = f.size; is = refl; within = fits.within }
 
     by_mark : (m : Mark) → AllByRecursion (KeepsMore s) (kept_with s.log.settled f.size m)
     by_mark New = (none, tt)

@@ -57,7 +57,7 @@ stays_ticket s r is fits =
 -- a longer trail
 flight_later : (log new : Log) (f : Option FlightOut) → new.settled ≡ log.settled → length log.trail ≤ length new.trail → FlightFits log f → FlightFits new f
 flight_later log new None same le fits = tt
-flight_later log new (Some f) same le fits = (fits.0, fits.1, omega (arith, fits.2, le, same))
+flight_later log new (Some f) same le fits = record { some = fits.some; most = fits.most; within = omega (arith, fits.within, le, same) }
 
 doubt_later : (log new : Log) (f : Option FlightOut) (o : Option ℕ) → new.settled ≡ log.settled → length log.trail ≤ length new.trail → DoubtFits log f o → DoubtFits new f o
 doubt_later log new f None same le fits = tt

@@ -60,7 +60,7 @@ finish_keeps_kept s is = finish_keeps s s.flight refl is.doubt
 
 -- the headline for one image, from what the store says of it
 pub given_survives : (s : Machine) (image : List ℕ) → IsConsistent s → GivesOneOf s.log (kept s) image → Survives s image
-given_survives s image is given = record { steps = given.0; allowed = given.1.0; recovered = given.1.1; safe = kept_is_safe s given.0 is given.1.0 }
+given_survives s image is given = record { steps = given.steps; allowed = given.allowed; recovered = given.recovered; safe = kept_is_safe s given.steps is given.allowed }
 
 -- and for all images of a disk
 pub prefix_from_images : PrefixFromImages

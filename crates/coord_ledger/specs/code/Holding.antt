@@ -16,7 +16,7 @@ use Rattle.coord_ledger.specs.declared.mark.Mark.{Mark}
 use Rattle.coord_ledger.specs.declared.mark.Mark.TheVariants.{New, Good, Torn}
 use Rattle.coord_ledger.specs.declared.release.Release.{Release}
 use Rattle.coord_ledger.specs.machine.After.{release_of}
-use Rattle.coord_ledger.specs.machine.Consistent.{IsConsistentLog}
+use Rattle.coord_ledger.specs.machine.Consistent.{FitsOut, IsConsistentLog}
 use Rattle.coord_ledger.specs.machine.Log.{Log, front_world, pending, settled_world, world_after}
 
 -- the kinds of the replies to these steps
@@ -35,6 +35,13 @@ listed (v ∷ vs) = v.items ∷ listed vs
 abbrev pub released_from : ℕ → List (List Output) → List Release
 released_from n [] = []
 released_from n (given ∷ others) = map (release_of n) given ++ released_from (n + 1) others
+
+-- the first of these were added to a list, and the others are lost
+pub record AddsSome (all old new : List Release) : Type 0 where
+  pub added : List Release
+  pub lost : List Release
+  pub all_are : all ≡ added ++ lost
+  pub now : new ≡ old ++ added
 
 -- ---- a ledger
 
@@ -59,9 +66,7 @@ pub record IsHome {D : Type 0} (log : Log) (doubt : Option ℕ) (kept : Kept D) 
 
 -- while it is away, so many of the next steps are out, and the ledger goes on
 pub record IsAway (log : Log) (out : ℕ) (doubt : Option ℕ) : Type 0 where
-  pub some : 1 ≤ out
-  pub most : out ≤ MAX_BATCH_STEPS
-  pub within : log.settled + out ≤ length log.trail
+  pub fits : FitsOut log out
   pub going : doubt ≡ None
 
 pub record IsLedger {D : Type 0} (log : Log) (kinds : List Kind) (given : List (List Output)) (front settled : World) (out : ℕ) (doubt : Option ℕ) (store : Option (Kept D)) : Type 0 where

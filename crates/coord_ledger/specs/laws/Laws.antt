@@ -1,7 +1,7 @@
 -- The laws of the event machine.
-use Rattle.std.specs.Prelude.{◌≡◌, ℕ, ◌+◌, ◌≤◌, Bool, false, true, List, [], ◌∷◌, ◌++◌, length, take, Result, Err, if◌then◌else◌}
+use Rattle.std.specs.Prelude.{◌≡◌, ℕ, ◌+◌, ◌≤◌, Bool, false, List, [], ◌∷◌, ◌++◌, length, take, Result, Err, if◌then◌else◌}
 use Rattle.std.specs.List.{AllByRecursion}
-use Rattle.coord_disk.specs.Model.Present.{Present, IsImage}
+use Rattle.coord_disk.specs.Model.Present.{Present}
 use Rattle.coord_link.specs.LaneMachine.{refused_or}
 use Rattle.coord_node.specs.Steps.{kind}
 use Rattle.coord_types.specs.Table.{get}
@@ -9,7 +9,6 @@ use Rattle.coord_types.specs.declared.refusals.Refusal.{Refusal}
 use Rattle.coord_types.specs.declared.refusals.Refusal.TheVariants.{Exhausted, PendingFull, Stopped}
 use Rattle.coord_types.specs.declared.steps.Step.{Step}
 use Rattle.coord_types.specs.declared.steps.Step.TheVariants.{Order, Take, Clear}
-use Rattle.coord_store.specs.Recovered.{Recovered}
 use Rattle.coord_world.specs.declared.verdicts.Verdict.{Verdict}
 use Rattle.coord_world.specs.declared.verdicts.Verdict.TheVariants.{Fresh}
 use Rattle.coord_world.specs.laws.Trails.{IsSound}
@@ -18,6 +17,7 @@ use Rattle.coord_world.specs.protocol.NumberedWorld.{World, state}
 use Rattle.coord_world.specs.protocol.Ranges.{StepInRange}
 use Rattle.coord_ledger.specs.declared.events.Answer.{Answer}
 use Rattle.coord_ledger.specs.declared.events.Event.{Event}
+use Rattle.coord_ledger.specs.ledger.Follows.{ImagesGive}
 use Rattle.coord_ledger.specs.machine.After.{after, finished}
 use Rattle.coord_ledger.specs.machine.Answers.{IsOneOf, answers, kept}
 use Rattle.coord_ledger.specs.machine.Consistent.{EventInRange, IsConsistent, IsConsistentLog}
@@ -96,6 +96,4 @@ FinishKeepsKept = (s : Machine) → IsConsistent s → kept (finished s s.flight
 
 -- where each image of a disk gives the world after steps that a crash may keep, the crash prefix holds
 abbrev pub PrefixFromImages : Type 0
-PrefixFromImages = (s : Machine) (keeps_model : Bool) (present : Present) → IsConsistent s →
-    (keeps_model ≡ true → (image : List ℕ) → IsImage present image → (n : ℕ) × (IsOneOf n (kept s) × Recovered image (world_after s.log n))) →
-    CrashPrefix s keeps_model present
+PrefixFromImages = (s : Machine) (keeps_model : Bool) (present : Present) → IsConsistent s → ImagesGive keeps_model present s.log (kept s) → CrashPrefix s keeps_model present

@@ -21,9 +21,9 @@ use Rattle.coord_ledger.specs.declared.mark.Mark.TheVariants.{New, Good, Torn}
 use Rattle.coord_ledger.specs.declared.release.Release.{Release}
 use Rattle.coord_ledger.specs.ledger.Follows.{IsOut}
 use Rattle.coord_ledger.specs.ledger.State.{Claim, FlightState, LedgerState}
-use Rattle.coord_ledger.specs.machine.After.{releases_of}
+use Rattle.coord_ledger.specs.machine.After.{doubt_back, log_back, releases_of}
 use Rattle.coord_ledger.specs.machine.Answers.{stays_home}
-use Rattle.coord_ledger.specs.machine.Log.{Log, front_world, pending, settled_count, settled_world, with_settled, with_step, world_after}
+use Rattle.coord_ledger.specs.machine.Log.{Log, front_world, pending, settled_count, settled_world, with_step, world_after}
 use Rattle.coord_ledger.specs.machine.Submits.{verdict}
 
 -- that this step has this reply
@@ -49,11 +49,30 @@ RefusesStep refusal (Ok (Fresh kind)) = refusal ≡ OutOfMemory
 RefusesStep refusal (Ok (Repeat reply)) = ⊥
 RefusesStep refusal (Err why) = refusal ≡ why
 
--- a step that is handed in: a fresh one is accepted, a repeat is no step
+-- a fresh step is accepted
+pub record IsAccepted {D : Type 0} (l : LedgerState D) (s : Step) (claim : Claim) (new : LedgerState D) : Type 0 where
+  pub kind : Kind
+  pub judged : ledger_verdict l s ≡ Ok (Fresh kind)
+  pub claims : claim ≡ claimed s (reply (front_world l.log) s)
+  pub now : new ≡ with_accepted l s
+
+-- a repeat is no step
+pub record IsRepeated {D : Type 0} (l : LedgerState D) (s : Step) (claim : Claim) (new : LedgerState D) : Type 0 where
+  pub kept : Reply
+  pub judged : ledger_verdict l s ≡ Ok (Repeat kept)
+  pub claims : claim ≡ claimed s kept
+  pub now : new ≡ l
+
+-- another is refused
+pub record IsRefused {D : Type 0} (l : LedgerState D) (s : Step) (refusal : Refusal) (new : LedgerState D) : Type 0 where
+  pub why : RefusesStep refusal (ledger_verdict l s)
+  pub now : new ≡ l
+
+-- a step that is handed in
 abbrev pub HandedTo : {D : Type 0} → LedgerState D → Step → Result Handed Refusal → LedgerState D → Type 0
-HandedTo l s (Ok (handed.Accepted claim)) new = (kind : Kind) × ((ledger_verdict l s ≡ Ok (Fresh kind)) × ((claim ≡ claimed s (reply (front_world l.log) s)) × (new ≡ with_accepted l s)))
-HandedTo l s (Ok (handed.Repeated claim)) new = (kept : Reply) × ((ledger_verdict l s ≡ Ok (Repeat kept)) × ((claim ≡ claimed s kept) × (new ≡ l)))
-HandedTo l s (Err refusal) new = RefusesStep refusal (ledger_verdict l s) × (new ≡ l)
+HandedTo l s (Ok (handed.Accepted claim)) new = IsAccepted l s claim new
+HandedTo l s (Ok (handed.Repeated claim)) new = IsRepeated l s claim new
+HandedTo l s (Err refusal) new = IsRefused l s refusal new
 
 -- no flight goes out of it
 abbrev pub keeps_store : {D : Type 0} → LedgerState D → Bool
@@ -67,11 +86,9 @@ next_flight log disk = record { first = settled_count log + 1; steps = take MAX_
 abbrev pub with_out : {D : Type 0} → LedgerState D → ℕ → LedgerState D
 with_out l n = record { log = l.log; out = Some n; doubt = l.doubt; disk = None }
 
--- a flight of n steps is back: a good one settles them, a torn one stops the ledger
+-- a flight of n steps is back
 abbrev pub taken_back : {D : Type 0} → LedgerState D → ℕ → Mark → D → LedgerState D
-taken_back l n New disk = record { log = l.log; out = None; doubt = l.doubt; disk = Some disk }
-taken_back l n Good disk = record { log = with_settled l.log n; out = None; doubt = l.doubt; disk = Some disk }
-taken_back l n Torn disk = record { log = l.log; out = None; doubt = Some n; disk = Some disk }
+taken_back l n mark disk = record { log = log_back l.log n mark; out = None; doubt = doubt_back l.doubt n mark; disk = Some disk }
 
 -- what a flight releases when it is taken back
 abbrev pub releases_in : {D : Type 0} → FlightState D → Mark → List Release

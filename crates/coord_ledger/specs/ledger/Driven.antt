@@ -62,10 +62,17 @@ with_claim b (Err refusal) = b
 
 -- ---- flights
 
+-- the next flight is out, with the disk
+pub record GoesOut {D : Type 0} (l : LedgerState D) (d : Driven D) : Type 0 where
+  pub goes : keeps_store l ≡ false
+  pub disk : D
+  pub home : l.disk ≡ Some disk
+  pub is : d ≡ record { ledger = with_out l (length (next_flight l.log disk).steps); flight = Some (next_flight l.log disk) }
+
 -- a flight goes out, where the store is at home
 abbrev pub SendsOut : {D : Type 0} → LedgerState D → Answer → Driven D → Type 0
 SendsOut l answer.Nothing d = (keeps_store l ≡ true) × (d ≡ at_home l)
-SendsOut {D} l (answer.Begun n) d = (keeps_store l ≡ false) × ((disk : D) × ((l.disk ≡ Some disk) × (d ≡ record { ledger = with_out l (length (next_flight l.log disk).steps); flight = Some (next_flight l.log disk) })))
+SendsOut l (answer.Begun n) d = GoesOut l d
 SendsOut l (answer.Refused why) d = (why ≡ refusal.OutOfMemory) × (d ≡ at_home l)
 SendsOut l answer d = ⊥
 
@@ -95,10 +102,15 @@ FinishesTo s b (Ok None) d = FollowsTo s Finish answer.NoFlight (held d b)
 FinishesTo s b (Ok (Some releases)) d = FollowsTo s Finish (answer.Finished (settled_count d.ledger.log)) (held d (with_releases b releases))
 FinishesTo s b (Err refusal) d = FollowsTo s Finish (answer.Refused refusal) (held d b)
 
+-- it is back, and these were its releases
+pub record Lands {D : Type 0} (l : LedgerState D) (f : FlightState D) (releases : List Release) (d : Driven D) : Type 0 where
+  pub released : releases ≡ releases_in f f.mark
+  pub is : d ≡ at_home (taken_back l (length f.steps) f.mark f.disk)
+
 -- a flight that is out comes back
 abbrev pub LandsTo : {D : Type 0} → LedgerState D → FlightState D → Result (Option (List Release)) Refusal → Driven D → Type 0
 LandsTo l f (Ok None) d = ⊥
-LandsTo l f (Ok (Some releases)) d = (releases ≡ releases_in f f.mark) × (d ≡ at_home (taken_back l (length f.steps) f.mark f.disk))
+LandsTo l f (Ok (Some releases)) d = Lands l f releases d
 LandsTo l f (Err why) d = why ≡ refusal.OutOfMemory
 
 -- ---- crashes
@@ -108,5 +120,8 @@ abbrev pub after_crash : Beside → Beside
 after_crash b = record { claims = []; seen = 0; released = b.released }
 
 -- made anew over a world that a crash may leave
-abbrev pub IsLeftByCrash : {D : Type 0} → Driven D → Driven D → Type 0
-IsLeftByCrash {D} d new = (n : ℕ) × (IsOneOf n (kept_by d.ledger.log.settled (option_map flight_out d.flight) d.ledger.doubt) × ((disk : D) × (new ≡ at_home (ledger_over (world_after d.ledger.log n) disk))))
+pub record IsLeftByCrash {D : Type 0} (d new : Driven D) : Type 0 where
+  pub steps : ℕ
+  pub allowed : IsOneOf steps (kept_by d.ledger.log.settled (option_map flight_out d.flight) d.ledger.doubt)
+  pub disk : D
+  pub is : new ≡ at_home (ledger_over (world_after d.ledger.log steps) disk)

@@ -39,13 +39,19 @@ brought_home l (Some f) = taken_back l (length f.steps) f.mark f.disk
 abbrev pub IsPromised : Option Bool → Event → Type 0
 IsPromised model e = (model ≡ Some true) ⊎ (is_crash e ≡ false)
 
+-- one of a disk's images gives this world
+pub record AnImageGives (present : Present) (world : World) : Type 0 where
+  pub image : List ℕ
+  pub allowed : IsImage present image
+  pub recovered : Recovered image world
+
 -- a ledger that was made anew after a crash of this disk, of the world that one of its images gives
 pub record IsReopened {D : Type 0} (keeps_model : D → Bool) (present : D → Present) (clock : D → ℕ) (left_since : D → ℕ → List ℕ → Type 0) (crashes : D → D → Type 0) (before : D) (l : LedgerState D) : Type 0 where
   pub world : World
   pub disk : D
   pub is : l ≡ ledger_over world disk
   pub same_model : keeps_model disk ≡ keeps_model before
-  pub from : keeps_model before ≡ true → (image : List ℕ) × (IsImage (present before) image × Recovered image world)
+  pub from : keeps_model before ≡ true → AnImageGives (present before) world
   pub moments : keeps_model before ≡ true → Reopens present clock left_since crashes (IsImage (present before)) before disk
 
 -- why none was: where each image gives a world, for want of memory or a failure of the device alone
@@ -58,10 +64,16 @@ abbrev pub IsEventFault : Option Bool → Event → RunFaultKind → Type 0
 IsEventFault model e OutOfMemory = wants_memory e ≡ true
 IsEventFault model e (Store fault) = (e ≡ Crash) × (model ≡ Some true → IsPassing fault)
 
--- what an event has made of the disk that is held, where a crash inside it finds this machine
+-- what an event has made of this disk is held now
+pub record HoldsTouched {D : Type 0} (keeps_model : D → Bool) (present : D → Present) (clock : D → ℕ) (left_since : D → ℕ → List ℕ → Type 0) (crashes : D → D → Type 0) (found : Machine) (touches : Bool) (e : Event) (old : D) (now : Option D) : Type 0 where
+  pub new : D
+  pub holds : now ≡ Some new
+  pub touched : Touches present clock left_since crashes (keeps_model old) found touches e old new
+
+-- so with the disk that is held, where a crash inside the event finds this machine
 abbrev pub HeldTouches : {D : Type 0} → (D → Bool) → (D → Present) → (D → ℕ) → (D → ℕ → List ℕ → Type 0) → (D → D → Type 0) → Machine → Bool → Event → Held D → Held D → Type 0
 HeldTouches {D} keeps_model present clock left_since crashes found touches e h next =
-    (old : D) → disk_held h ≡ Some old → (new : D) × ((disk_held next ≡ Some new) × Touches present clock left_since crashes (keeps_model old) found touches e old new)
+    (old : D) → disk_held h ≡ Some old → HoldsTouched keeps_model present clock left_since crashes found touches e old (disk_held next)
 
 -- where the event was cut short this disk was given up: the one that is held, or in a crash one behind the taking of an image
 abbrev pub IsLost : {D : Type 0} → (D → Bool) → (D → Present) → (D → ℕ) → (D → ℕ → List ℕ → Type 0) → (D → D → Type 0) → Machine → Event → Held D → D → Type 0

@@ -17,8 +17,10 @@ use Rattle.coord_ledger.specs.machine.Log.{Log, moved, pending, settled_count, s
 use Rattle.coord_ledger.specs.machine.Machine.{FlightOut, Machine}
 
 -- these bytes give the log's world after one of these numbers of steps
-abbrev pub GivesOneOf : Log → List ℕ → List ℕ → Type 0
-GivesOneOf log counts bytes = (n : ℕ) × (IsOneOf n counts × Recovered bytes (world_after log n))
+pub record GivesOneOf (log : Log) (counts bytes : List ℕ) : Type 0 where
+  pub steps : ℕ
+  pub allowed : IsOneOf steps counts
+  pub recovered : Recovered bytes (world_after log steps)
 
 -- so does each image of a disk
 abbrev pub ImagesGive : Bool → Present → Log → List ℕ → Type 0

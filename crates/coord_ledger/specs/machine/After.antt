@@ -51,11 +51,26 @@ abbrev pub marked : Mark → Option FlightOut → Option FlightOut
 marked mark None = None
 marked mark (Some f) = Some (record { size = f.size; mark = mark })
 
--- a flight of b steps is back: one that was committed settles and releases, a torn one stops the ledger
+-- a flight of b steps is back: one that was committed settles its steps
+abbrev pub log_back : Log → ℕ → Mark → Log
+log_back log b New = log
+log_back log b Good = with_settled log b
+log_back log b Torn = log
+
+-- a torn one stops the ledger
+abbrev pub doubt_back : Option ℕ → ℕ → Mark → Option ℕ
+doubt_back doubt b New = doubt
+doubt_back doubt b Good = doubt
+doubt_back doubt b Torn = Some b
+
+-- and what is settled is released
+abbrev pub released_back : List Release → Log → ℕ → Mark → List Release
+released_back released log b New = released
+released_back released log b Good = released ++ settling_releases log b
+released_back released log b Torn = released
+
 abbrev pub after_finish : Machine → ℕ → Mark → Machine
-after_finish s b New = record s { flight = None }
-after_finish s b Good = record s { log = with_settled s.log b; flight = None; released = s.released ++ settling_releases s.log b }
-after_finish s b Torn = record s { flight = None; doubt = Some b }
+after_finish s b mark = record s { log = log_back s.log b mark; flight = None; doubt = doubt_back s.doubt b mark; released = released_back s.released s.log b mark }
 
 abbrev pub finished : Machine → Option FlightOut → Machine
 finished s None = s

@@ -25,10 +25,16 @@ pub record IsConsistentLog (log : Log) : Type 0 where
   pub few : length (pending log) ≤ MAX_PENDING
   pub fresh : AllFresh (settled_world log) (settled_world log) (pending log)
 
--- a flight has some of the pending steps, and not too many
+-- so many of the pending steps may be out, in one flight
+pub record FitsOut (log : Log) (size : ℕ) : Type 0 where
+  pub some : 1 ≤ size
+  pub most : size ≤ MAX_BATCH_STEPS
+  pub within : log.settled + size ≤ length log.trail
+
+-- so with those of a flight
 abbrev pub FlightFits : Log → Option FlightOut → Type 0
 FlightFits log None = Unit {0}
-FlightFits log (Some f) = (1 ≤ f.size) × (f.size ≤ MAX_BATCH_STEPS) × (log.settled + f.size ≤ length log.trail)
+FlightFits log (Some f) = FitsOut log f.size
 
 -- the steps in doubt are pending, and no flight is out then
 abbrev pub DoubtFits : Log → Option FlightOut → Option ℕ → Type 0

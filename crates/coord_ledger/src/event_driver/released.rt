@@ -1,7 +1,7 @@
 //! What a run has released.
 
-ghost use Rattle.std.specs.Prelude.{◌≡◌, ◌++◌, List, length, IfOk, OnErr};
-ghost use Rattle.coord_ledger.specs.declared.release.Release.{Release as Row};
+ghost use Rattle.std.specs.Prelude.{◌≡◌, ◌++◌, length, IfOk, OnErr};
+ghost use Rattle.coord_ledger.specs.code.Holding.{AddsSome};
 
 use crate::{Release, Releases, Ticket};
 use coord_types::Output;
@@ -12,9 +12,7 @@ use std::alloc::AllocError;
 pub fn push_releases(released: &mut Vec<Release>, mut releases: Releases) -> Result<u64, AllocError>
     ensures count { IfOk result (λ n. n ≡ length releases) }
     ensures all { IfOk result (λ _. released.new.items ≡ released.old.items ++ releases) }
-    ensures some { OnErr result ((more : List Row) ×
-        ((rest : List Row) × ((releases ≡ more ++ rest) ×
-        (released.new.items ≡ released.old.items ++ more)))) }
+    ensures some { OnErr result (AddsSome releases released.old.items released.new.items) }
 {
     let before = released.len();
     while let Some(release) = releases.next() {

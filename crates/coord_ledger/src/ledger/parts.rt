@@ -1,9 +1,8 @@
 //! The ledger's trail, and the ledger taken apart.
 
 ghost use Rattle.std.specs.Prelude.{◌≡◌, ◌+◌, ◌≤◌, is_none, is_some, length, None, Some, IfErr, IfOk, IfSome};
-ghost use Rattle.coord_types.specs.declared.limits.TheConstants.{MAX_BATCH_STEPS};
 ghost use Rattle.coord_store.specs.Kept.{has_stopped};
-ghost use Rattle.coord_ledger.specs.machine.Consistent.{IsConsistentLog};
+ghost use Rattle.coord_ledger.specs.machine.Consistent.{FitsOut, IsConsistentLog};
 ghost use Rattle.coord_ledger.specs.machine.Log.{pending, settled_count, settled_world};
 
 use super::Ledger;
@@ -74,8 +73,7 @@ impl<D: Disk> Ledger<D> {
     /// stopped has it back.
     pub fn log_is_consistent(&self)
         ensures log { IsConsistentLog self.now.log }
-        ensures out { IfSome self.now.out (λ size. (1 ≤ size) × (size ≤ MAX_BATCH_STEPS) ×
-            (self.now.log.settled + size ≤ length self.now.log.trail)) }
+        ensures out { IfSome self.now.out (FitsOut self.now.log) }
         ensures doubted { IfSome self.now.doubt (λ size. (1 ≤ size) ×
             (self.now.log.settled + size ≤ length self.now.log.trail)) }
         ensures stopped { IfSome self.now.doubt (λ _. self.now.out ≡ None) }

@@ -9,9 +9,9 @@ use coord_ledger::{Ledger, Note, Seen, Ticket};
 use coord_types::{Kind, Reply, Step};
 use std::alloc::Global;
 use std::marker::Brand;
+use std::process::Abort;
 use std::sync::Wait;
 use std::sync::ledger::Blank;
-use std::test::Fail;
 use std::thread;
 use std::thread::Threads;
 
@@ -22,7 +22,7 @@ const RESETS: u64 = 100;
 const STEPS: usize = 202;
 
 // Resets a node again and again, as the client with its number, and brings back the tickets.
-fn call<D: Disk, L: Origin, R: Wait>(
+fn call<D: Disk, L: Origin, R: Wait + Abort>(
     rt: &R,
     alloc: Global,
     engine: &Engine<D, L>,
@@ -32,28 +32,22 @@ fn call<D: Disk, L: Origin, R: Wait>(
     let mut share = share;
     let mut tickets = Vec::new(alloc);
     for number in 2..RESETS + 2 {
-        let Some(step) = resetting(who, number, who) else {
-            break;
-        };
-        if tickets.reserve(1).is_err() {
-            break;
-        }
-        if let Ok(ticket) = engine.submit(rt, step, &mut share) {
-            tickets.push_reserved(ticket);
-        }
+        let step = resetting(who, number, who).expect(rt, "no step");
+        tickets.reserve(1).expect(rt, "no memory");
+        let ticket = engine.submit(rt, step, &mut share).expect(rt, "no ticket");
+        tickets.push_reserved(ticket);
     }
     (share, tickets)
 }
 
 // Whether what is pending is settled by a few flights.
-fn is_flushed<D: Disk, L: Origin, R: Wait>(rt: &R, engine: &Engine<D, L>) -> bool {
+fn is_flushed<D: Disk, L: Origin, R: Wait + Abort>(rt: &R, engine: &Engine<D, L>) -> bool {
     for _ in 0..8 {
-        match engine.flush_once(rt) {
-            Ok(Some(releases)) => {
+        match engine.flush_once(rt).expect(rt, "no flight") {
+            Some(releases) => {
                 releases.lose_rest();
             }
-            Ok(None) => return true,
-            Err(_) => return false,
+            None => return true,
         }
     }
     false
@@ -77,23 +71,16 @@ fn is_finished<D: Disk, L: Origin, R: Wait>(rt: &R, engine: &Engine<D, L>, ticke
     }
 }
 
-// Whether there is a ticket of each reset, and all are. Where not all steps are settled no ticket is
-// collected, since the call would wait.
+// Whether there is a ticket of each reset, and all are. All steps are settled, so that none waits.
 fn are_finished<D: Disk, L: Origin, R: Wait>(
     rt: &R,
     engine: &Engine<D, L>,
     tickets: Vec<Ticket>,
-    are_settled: bool,
 ) -> bool {
     let mut left = tickets;
     let mut all = left.len() == RESETS as usize;
     while let Some(ticket) = left.pop() {
-        if are_settled {
-            all = is_finished(rt, engine, ticket) && all;
-        } else {
-            ticket.forget();
-            all = false;
-        }
+        all = is_finished(rt, engine, ticket) && all;
     }
     left.destroy_empty();
     all
@@ -122,16 +109,8 @@ fn nothing_is_sent_again<D: Disk, L: Origin, R: Wait>(rt: &R, engine: &Engine<D,
     }
 }
 
-// Both shares.
-fn pair<L: Origin>(alloc: Global, one: Share<L>, two: Share<L>) -> Vec<Share<L>> {
-    let mut shares = Vec::new(alloc);
-    let _ = shares.push(one);
-    let _ = shares.push(two);
-    shares
-}
-
 // The shares of two callers, and whether all that they submitted is settled and collected.
-fn two_callers<D: Disk + Send, L: Origin + Send + Sync, R: Threads + Wait + Sync>(
+fn two_callers<D: Disk + Send, L: Origin + Send + Sync, R: Threads + Wait + Sync + Abort>(
     rt: &R,
     alloc: Global,
     engine: &Engine<D, L>,
@@ -143,11 +122,12 @@ fn two_callers<D: Disk + Send, L: Origin + Send + Sync, R: Threads + Wait + Sync
         move || call(rt, alloc, engine, one, 1),
         move || call(rt, alloc, engine, two, 2),
     );
-    let settled = is_flushed(rt, engine) && is_shown(rt, engine);
-    let first = are_finished(rt, engine, first, settled);
-    let second = are_finished(rt, engine, second, settled);
+    assert!(rt; is_flushed(rt, engine) && is_shown(rt, engine));
+    let first = are_finished(rt, engine, first);
+    let second = are_finished(rt, engine, second);
     let shown = is_shown(rt, engine) && nothing_is_sent_again(rt, engine);
-    (pair(alloc, one, two), first && second && shown)
+    let shares = Vec::from_array(alloc, [one, two]).expect(rt, "no memory");
+    (shares, first && second && shown)
 }
 
 // Whether the step stands at this place.
@@ -184,17 +164,23 @@ fn all_notes<L: Origin>(alloc: Global, shares: &[Share<L>]) -> Vec<Note> {
 }
 
 // Whether the engine closes with the shares, over a history of just their notes.
-fn closes<D: Disk, L: Origin>(alloc: Global, engine: Engine<D, L>, shares: Vec<Share<L>>) -> bool
+fn closes<D: Disk, L: Origin, R: Abort>(
+    rt: &R,
+    alloc: Global,
+    engine: Engine<D, L>,
+    shares: Vec<Share<L>>,
+) -> bool
     requires { L.parts ≡ 65536 }
 {
     let notes = all_notes(alloc, &shares);
-    match closed(engine, shares) {
-        Some(closed) => is_history(&closed, &notes),
-        None => false,
-    }
+    let closed = closed(engine, shares).expect(rt, "no close");
+    let is_history = is_history(&closed, &notes);
+    drop(closed);
+    drop(notes);
+    is_history
 }
 
-fn make_one_history<D: Disk + Send, L: Origin + Send + Sync, R: Threads + Wait + Sync>(
+fn make_one_history<D: Disk + Send, L: Origin + Send + Sync, R: Threads + Wait + Sync + Abort>(
     rt: &R,
     alloc: Global,
     blank: Blank,
@@ -205,31 +191,25 @@ fn make_one_history<D: Disk + Send, L: Origin + Send + Sync, R: Threads + Wait +
     requires base { ledger.log.base ≡ L.base }
     requires before { ledger.log.trail ≡ L.before }
 {
-    let Some(engine) = engine::<D, L>(alloc, blank, ledger) else {
-        return false;
-    };
-    match (engine.share(rt), engine.share(rt)) {
-        (Some(one), Some(two)) => {
-            let (shares, collected) = two_callers(rt, alloc, &engine, one, two);
-            closes(alloc, engine, shares) && collected
-        }
-        _ => false,
-    }
+    let engine: Engine<D, L> = engine(rt, alloc, blank, ledger);
+    let one = engine.share(rt).expect(rt, "no share");
+    let two = engine.share(rt).expect(rt, "no share");
+    let (shares, collected) = two_callers(rt, alloc, &engine, one, two);
+    closes(rt, alloc, engine, shares) && collected
 }
 
 // Two callers of an engine over a device in memory, to which two nodes were added.
-fn callers_make_one_history<R: Threads + Wait + Sync>(rt: &R, alloc: Global) -> Result<bool, Fail> {
+fn callers_make_one_history<R: Threads + Wait + Sync + Abort>(rt: &R, alloc: Global) -> bool {
     let adds = [
-        adding(1, 1, 1).ok_or("step")?,
-        adding(2, 1, 2).ok_or("step")?,
+        adding(1, 1, 1).expect(rt, "no step"),
+        adding(2, 1, 2).expect(rt, "no step"),
     ];
-    let ledger = created(alloc, MemDisk::new(alloc), &adds)?;
+    let ledger = created(alloc, MemDisk::new(alloc), &adds).expect(rt, "no ledger");
     let blank = Blank::new(65536);
-    Ok(make_one_history::<MemDisk, Brand, R>(rt, alloc, blank, ledger))
+    make_one_history::<MemDisk, Brand, R>(rt, alloc, blank, ledger)
 }
 
 #[test]
-fn two_callers_make_one_history(rt: HostRuntime) -> Result<(), Fail> {
-    assert!(rt; callers_make_one_history(&rt, rt.alloc())?);
-    Ok(())
+fn two_callers_make_one_history(rt: HostRuntime) {
+    assert!(rt; callers_make_one_history(&rt, rt.alloc()));
 }

@@ -7,12 +7,12 @@ use crate::scripts::{adding, created, engine};
 use coord_disk::{Disk, GateDisk, MemDisk};
 use coord_engine::{Engine, Origin, Share};
 use coord_ledger::Ledger;
-use std::alloc::{AllocError, Global};
+use std::alloc::Global;
 use std::marker::Brand;
+use std::process::Abort;
 use std::sync::atomic::{AtomicBool, Ordering};
 use std::sync::ledger::Blank;
 use std::sync::{Arc, Wait};
-use std::test::Fail;
 use std::thread;
 use std::thread::Threads;
 
@@ -88,7 +88,7 @@ fn is_accepted_in_sync<D: Disk + Send, L: Origin + Send + Sync, R: Threads + Wai
     pending && flushed && accepted
 }
 
-fn accept_in_sync<D: Disk + Send, L: Origin + Send + Sync, R: Threads + Wait + Sync>(
+fn accept_in_sync<D: Disk + Send, L: Origin + Send + Sync, R: Threads + Wait + Sync + Abort>(
     rt: &R,
     alloc: Global,
     blank: Blank,
@@ -101,41 +101,35 @@ fn accept_in_sync<D: Disk + Send, L: Origin + Send + Sync, R: Threads + Wait + S
     requires base { ledger.log.base ≡ L.base }
     requires before { ledger.log.trail ≡ L.before }
 {
-    let Some(engine) = engine::<D, L>(alloc, blank, ledger) else {
-        return false;
-    };
-    match (engine.share(rt), engine.share(rt)) {
-        (Some(mine), Some(other)) => {
-            is_accepted_in_sync(rt, &engine, mine, other, entered, answered)
-        }
-        _ => false,
-    }
-}
-
-// A device in memory whose syncs wait at a gate with these flags.
-fn gated(
-    alloc: Global,
-    entered: &Arc<AtomicBool>,
-    answered: &Arc<AtomicBool>,
-) -> Result<GateDisk<MemDisk>, AllocError> {
-    let entered = Arc::try_clone(entered)?;
-    let answered = Arc::try_clone(answered)?;
-    Ok(GateDisk::new(MemDisk::new(alloc), entered, answered))
+    let engine: Engine<D, L> = engine(rt, alloc, blank, ledger);
+    let mine = engine.share(rt).expect(rt, "no share");
+    let other = engine.share(rt).expect(rt, "no share");
+    let is_accepted = is_accepted_in_sync(rt, &engine, mine, other, entered, answered);
+    drop(engine);
+    is_accepted
 }
 
 // Steps of another thread while a sync of a flight stands at the gate.
-fn accepts_in_sync<R: Threads + Wait + Sync>(rt: &R, alloc: Global) -> Result<bool, Fail> {
-    let entered = Arc::new(alloc, AtomicBool::new(false))?;
-    let answered = Arc::new(alloc, AtomicBool::new(true))?;
-    let ledger = created(alloc, gated(alloc, &entered, &answered)?, &[])?;
+fn accepts_in_sync<R: Threads + Wait + Sync + Abort>(rt: &R, alloc: Global) -> bool {
+    let entered = Arc::new(alloc, AtomicBool::new(false)).expect(rt, "no memory");
+    let answered = Arc::new(alloc, AtomicBool::new(true)).expect(rt, "no memory");
+    // A device in memory whose syncs wait at a gate with these flags.
+    let gate = GateDisk::new(
+        MemDisk::new(alloc),
+        Arc::try_clone(&entered).expect(rt, "no memory"),
+        Arc::try_clone(&answered).expect(rt, "no memory"),
+    );
+    let ledger = created(alloc, gate, &[]).expect(rt, "no ledger");
     entered.store(false, Ordering::SeqCst);
     answered.store(false, Ordering::SeqCst);
     let blank = Blank::new(65536);
-    Ok(accept_in_sync::<_, Brand, R>(rt, alloc, blank, ledger, &entered, &answered))
+    let is_so = accept_in_sync::<_, Brand, R>(rt, alloc, blank, ledger, &entered, &answered);
+    drop(entered);
+    drop(answered);
+    is_so
 }
 
 #[test]
-fn steps_are_accepted_inside_a_sync(rt: HostRuntime) -> Result<(), Fail> {
-    assert!(rt; accepts_in_sync(&rt, rt.alloc())?);
-    Ok(())
+fn steps_are_accepted_inside_a_sync(rt: HostRuntime) {
+    assert!(rt; accepts_in_sync(&rt, rt.alloc()));
 }

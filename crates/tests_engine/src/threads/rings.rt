@@ -15,9 +15,9 @@ use coord_types::{Packet, Step};
 use crossbeam_channel::{Receiver, Sender};
 use std::alloc::Global;
 use std::marker::Brand;
+use std::process::Abort;
 use std::sync::Wait;
 use std::sync::ledger::Blank;
-use std::test::Fail;
 use std::thread;
 use std::thread::{JoinHandle, Scope, Threads};
 use std::time::{Clock, Duration};
@@ -29,15 +29,15 @@ pub(super) const NODES: u8 = 8;
 pub(super) const LOOKS: u64 = 20_000;
 
 // The ends of a channel for each node.
-fn channels(alloc: Global) -> Option<(Vec<Sender<Packet>>, Vec<Receiver<Packet>>)> {
+fn channels<R: Abort>(rt: &R, alloc: Global) -> (Vec<Sender<Packet>>, Vec<Receiver<Packet>>) {
     let mut to = Vec::new(alloc);
     let mut from = Vec::new(alloc);
     for _ in 0..NODES {
-        let (sender, receiver) = crossbeam_channel::unbounded(alloc).ok()?;
-        to.push(sender).ok()?;
-        from.push(receiver).ok()?;
+        let (sender, receiver) = crossbeam_channel::unbounded(alloc).expect(rt, "no memory");
+        to.push(sender).expect(rt, "no memory");
+        from.push(receiver).expect(rt, "no memory");
     }
-    Some((to, from))
+    (to, from)
 }
 
 // Sends again what may have been lost.
@@ -69,41 +69,27 @@ fn all_signal<D: Disk, L: Origin, R: Wait + Clock>(
     false
 }
 
-// The share of a caller whose step was accepted.
-fn submitted<D: Disk, L: Origin, R: Wait>(
-    rt: &R,
-    engine: &Engine<D, L>,
-    step: Step,
-) -> Option<Share<L>> {
-    let mut share = engine.share(rt)?;
-    match engine.submit(rt, step, &mut share) {
-        Ok(ticket) => {
-            ticket.forget();
-            Some(share)
-        }
-        Err(_) => None,
-    }
-}
-
 // The share of a caller whose reset was accepted. Where that is wanted, no more steps may be pending
 // when its first packets come.
-fn begun<D: Disk, L: Origin, R: Wait + Clock>(
+fn begun<D: Disk, L: Origin, R: Wait + Clock + Abort>(
     rt: &R,
     engine: &Engine<D, L>,
     ring: &Ring<&R>,
     reset: Step,
     manner: Manner,
-) -> Option<Share<L>> {
-    let mut share = submitted(rt, engine, reset)?;
-    if manner == Manner::Full && !is_met_full(rt, engine, ring, &mut share) {
-        return None;
+) -> Share<L> {
+    let mut share = engine.share(rt).expect(rt, "no share");
+    let ticket = engine.submit(rt, reset, &mut share);
+    ticket.expect(rt, "no ticket").forget();
+    if manner == Manner::Full {
+        assert!(rt; is_met_full(rt, engine, ring, &mut share));
     }
-    Some(share)
+    share
 }
 
 // Resets a node, with a flusher and a worker on each channel, until all nodes have signalled. All
-// shares, and whether they have. Where something was missing, so is a share.
-fn run<D: Disk + Send, L: Origin + Send + Sync, R: Threads + Wait + Clock + Sync>(
+// shares, and whether they have.
+fn run<D: Disk + Send, L: Origin + Send + Sync, R: Threads + Wait + Clock + Sync + Abort>(
     rt: &R,
     alloc: Global,
     engine: &Engine<D, L>,
@@ -120,35 +106,29 @@ fn run<D: Disk + Send, L: Origin + Send + Sync, R: Threads + Wait + Clock + Sync
         {
             let mut running = Vec::new(alloc);
             for packets in channels {
-                if let Some(share) = engine.share(rt) {
-                    if let Ok(started) = scope.spawn(move || worker(
-                        rt, alloc, engine, packets, share,
-                    )) {
-                        let _ = running.push(started);
-                    }
-                }
+                let share = engine.share(rt).expect(rt, "no share");
+                let started = scope
+                    .spawn(move || worker(rt, alloc, engine, packets, share))
+                    .ok()
+                    .expect(rt, "no thread");
+                running.push(started).expect(rt, "no memory");
             }
             let own = begun(rt, engine, ring, reset, manner);
             let flushing = start_flusher(scope, rt, engine, ring);
             let signalled = all_signal(rt, engine, ring, manner);
             engine.finish(rt);
-            if let Some(flushing) = flushing {
-                flushing.join(rt);
-            }
+            flushing.join(rt);
             ring.hang_up();
             let mut shares = Vec::new(alloc);
             for started in running {
-                let _ = shares.push(started.join(rt));
+                shares.push(started.join(rt)).expect(rt, "no memory");
             }
-            if let Some(own) = own {
-                let _ = shares.push(own);
-            }
+            shares.push(own).expect(rt, "no memory");
             (shares, signalled)
         },
     )
 }
 
-// Starts a flusher, unless no thread can be had.
 fn start_flusher<
     's,
     'r: 's,
@@ -158,24 +138,20 @@ fn start_flusher<
     D: Disk + Send,
     L: Origin + Send + Sync,
     P: Port + Sync,
-    R: Wait + Clock + Sync,
->(
-    scope: &Scope<'s, E>,
-    rt: &'r R,
-    engine: &'e Engine<D, L>,
-    port: &'p P,
-) -> Option<JoinHandle<()>> {
-    scope.spawn(move || flusher(rt, engine, port)).ok()
+    R: Wait + Clock + Sync + Abort,
+>(scope: &Scope<'s, E>, rt: &'r R, engine: &'e Engine<D, L>, port: &'p P) -> JoinHandle<()> {
+    scope
+        .spawn(move || flusher(rt, engine, port))
+        .ok()
+        .expect(rt, "no thread")
 }
 
 // Whether each node of a ring signals once, and its engine closes with all shares over a legal store.
-fn reset_ring<D: Disk + Send, L: Origin + Send + Sync, R: Threads + Wait + Clock + Sync>(
+fn reset_ring<D: Disk + Send, L: Origin + Send + Sync, R: Threads + Wait + Clock + Sync + Abort>(
     rt: &R,
     alloc: Global,
     blank: Blank,
     ledger: Ledger<D>,
-    channels: (Vec<Sender<Packet>>, Vec<Receiver<Packet>>),
-    reset: Step,
     manner: Manner,
 ) -> bool
     requires name { blank.name ≡ L.name }
@@ -183,49 +159,43 @@ fn reset_ring<D: Disk + Send, L: Origin + Send + Sync, R: Threads + Wait + Clock
     requires base { ledger.log.base ≡ L.base }
     requires before { ledger.log.trail ≡ L.before }
 {
-    let Some(engine) = engine::<D, L>(alloc, blank, ledger) else {
-        return false;
-    };
-    let (to, from) = channels;
+    let engine: Engine<D, L> = engine(rt, alloc, blank, ledger);
+    let reset = resetting(1, 3, 1).expect(rt, "no step");
+    let (to, from) = channels(rt, alloc);
     let ring = Ring::new(rt, alloc, to, manner);
     let (shares, signalled) = run(rt, alloc, &engine, &ring, from, reset, manner);
-    match closed(engine, shares) {
-        Some(closed) => {
-            let each_once = ring.has_each_once(NODES, 1);
-            signalled && each_once && check(closed.store.world()).is_none()
-        }
-        None => false,
-    }
+    let closed = closed(engine, shares).expect(rt, "no close");
+    let is_legal = check(closed.store.world()).is_none();
+    drop(closed);
+    let each_once = ring.has_each_once(NODES, 1);
+    drop(ring);
+    signalled && each_once && is_legal
 }
 
 // One reset of a ring over a device in memory.
-fn all_nodes_signal<R: Threads + Wait + Clock + Sync>(
+fn all_nodes_signal<R: Threads + Wait + Clock + Sync + Abort>(
     rt: &R,
     alloc: Global,
     manner: Manner,
-) -> Result<bool, Fail> {
-    let reset = resetting(1, 3, 1).ok_or("step")?;
-    let steps = ring_steps(alloc, NODES).ok_or("memory")?;
-    let channels = channels(alloc).ok_or("memory")?;
-    let ledger = created(alloc, MemDisk::new(alloc), &steps)?;
+) -> bool {
+    let steps = ring_steps(alloc, NODES).expect(rt, "no memory");
+    let ledger = created(alloc, MemDisk::new(alloc), &steps).expect(rt, "no ledger");
+    drop(steps);
     let blank = Blank::new(65536);
-    Ok(reset_ring::<MemDisk, Brand, R>(rt, alloc, blank, ledger, channels, reset, manner))
+    reset_ring::<MemDisk, Brand, R>(rt, alloc, blank, ledger, manner)
 }
 
 #[test]
-fn all_nodes_of_a_ring_signal(rt: HostRuntime) -> Result<(), Fail> {
-    assert!(rt; all_nodes_signal(&rt, rt.alloc(), Manner::Faithful)?);
-    Ok(())
+fn all_nodes_of_a_ring_signal(rt: HostRuntime) {
+    assert!(rt; all_nodes_signal(&rt, rt.alloc(), Manner::Faithful));
 }
 
 #[test]
-fn all_nodes_of_a_lossy_ring_signal(rt: HostRuntime) -> Result<(), Fail> {
-    assert!(rt; all_nodes_signal(&rt, rt.alloc(), Manner::Lossy)?);
-    Ok(())
+fn all_nodes_of_a_lossy_ring_signal(rt: HostRuntime) {
+    assert!(rt; all_nodes_signal(&rt, rt.alloc(), Manner::Lossy));
 }
 
 #[test]
-fn all_nodes_of_a_full_ring_signal(rt: HostRuntime) -> Result<(), Fail> {
-    assert!(rt; all_nodes_signal(&rt, rt.alloc(), Manner::Full)?);
-    Ok(())
+fn all_nodes_of_a_full_ring_signal(rt: HostRuntime) {
+    assert!(rt; all_nodes_signal(&rt, rt.alloc(), Manner::Full));
 }

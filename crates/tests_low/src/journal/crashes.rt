@@ -40,13 +40,22 @@ fn done<D: Disk>(journal: &mut Journal<D>, act: Act) -> Result<(), JournalFault>
 
 // The device before the act: version 1 in the first half, or version 2 in the second.
 fn before(alloc: Global, act: Act, which: usize) -> Result<MemDisk, JournalFault> {
-    let (mut journal, _contents) = opened(alloc, MemDisk::from_bytes(alloc, &CREATED)?)?;
-    if let Act::ReplaceAgain = act {
-        journal.replace(2, &[])?;
-    }
+    let mut journal = journal_on(alloc, MemDisk::from_bytes(alloc, &CREATED)?)?;
+    let replaced = match act {
+        Act::ReplaceAgain => journal.replace(2, &[]),
+        _ => Ok(()),
+    };
     let mut disk = journal.into_disk();
-    disk.choose(choice(alloc, which)?);
-    Ok(disk)
+    match replaced.and(choice(alloc, which)) {
+        Ok(choice) => {
+            disk.choose(choice);
+            Ok(disk)
+        }
+        Err(fault) => {
+            drop(disk);
+            Err(fault)
+        }
+    }
 }
 
 // The version and the number of batches once the act is done, or while it is not.
@@ -61,8 +70,11 @@ fn want(act: Act, is_done: bool) -> (u8, usize) {
 
 // Those that are read once the disk has crashed.
 fn left(alloc: Global, disk: MemDisk) -> Result<(u8, usize), JournalFault> {
-    let (_journal, contents) = opened(alloc, disk.crash())?;
-    Ok((contents.version, contents.batches.len()))
+    let (journal, contents) = opened(alloc, disk.crash())?;
+    let found = (contents.version, contents.batches.len());
+    drop(contents);
+    drop(journal);
+    Ok(found)
 }
 
 /// How many calls of the device an opening takes.

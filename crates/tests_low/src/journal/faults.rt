@@ -40,7 +40,11 @@ fn fuse_refuses(alloc: Global, call: u64) -> Result<bool, JournalFault> {
     let disk = FuseDisk::new(MemDisk::from_bytes(alloc, &COMMITTED)?, call);
     match open(alloc, disk) {
         Ok(_) => Ok(false),
-        Err((fault, disk)) => is_device(fault, disk.calls(), call),
+        Err((fault, disk)) => {
+            let calls = disk.calls();
+            drop(disk);
+            is_device(fault, calls, call)
+        }
     }
 }
 

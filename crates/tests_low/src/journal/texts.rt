@@ -1,6 +1,7 @@
 //! What is written and read.
 
 use super::{BODY, COMMITTED, CREATED, opened};
+use crate::disk::holds;
 use coord_disk::{Disk, FuseDisk, MemDisk};
 use coord_journal::{Contents, Journal, JournalFault, format, laws};
 use std::alloc::Global;
@@ -9,9 +10,11 @@ use std::test::Fail;
 // Whether a format writes the bytes above, in three calls of the device.
 fn makes(alloc: Global) -> Result<bool, JournalFault> {
     let mut disk = FuseDisk::new(MemDisk::new(alloc), u64::MAX);
-    format(alloc, &mut disk, 32_768, 1, &[0; 11])?;
+    let made = format(alloc, &mut disk, 32_768, 1, &[0; 11]);
     let calls = disk.calls();
-    Ok(calls == 3 && disk.into_inner().bytes() == CREATED.as_slice())
+    let is_created = holds(disk.into_inner(), &CREATED);
+    made?;
+    Ok(calls == 3 && is_created)
 }
 
 // Whether those bytes are read so.
@@ -39,19 +42,26 @@ fn adds(alloc: Global) -> Result<bool, JournalFault> {
     let added = has_room(&mut journal);
     let disk = journal.into_disk();
     let calls = disk.calls();
-    let is_committed = disk.into_inner().bytes() == COMMITTED.as_slice();
+    let is_committed = holds(disk.into_inner(), &COMMITTED);
     Ok(added? && was_created && calls == 7 && is_committed)
+}
+
+// Whether there is one batch, with that body.
+fn is_body(contents: &Contents) -> bool {
+    let first = match contents.batches.first() {
+        Some(body) => body.as_slice() == BODY.as_slice(),
+        None => false,
+    };
+    first && contents.batches.len() == 1
 }
 
 // Whether the batch is read, and an opening writes nothing.
 fn reads(alloc: Global) -> Result<bool, JournalFault> {
     let (journal, contents) = opened(alloc, MemDisk::from_bytes(alloc, &COMMITTED)?)?;
-    let kept = journal.into_disk().bytes() == COMMITTED.as_slice();
-    let first = match contents.batches.first() {
-        Some(body) => body.as_slice() == BODY.as_slice(),
-        None => false,
-    };
-    Ok(kept && first && contents.batches.len() == 1)
+    let kept = holds(journal.into_disk(), &COMMITTED);
+    let is_read = is_body(&contents);
+    drop(contents);
+    Ok(kept && is_read)
 }
 
 #[test]
@@ -70,7 +80,8 @@ fn refuses(
     why: JournalFault,
 ) -> Result<bool, JournalFault> {
     let mut disk = MemDisk::from_bytes(alloc, bytes)?;
-    Ok(format(alloc, &mut disk, half_size, 1, &[]) == Err(why) && disk.bytes() == bytes)
+    let is_refused = format(alloc, &mut disk, half_size, 1, &[]) == Err(why);
+    Ok(holds(disk, bytes) && is_refused)
 }
 
 // Whether a device that is not empty, and halves of a wrong size, are refused and left.
@@ -78,7 +89,10 @@ fn refuses_to_format(alloc: Global) -> Result<bool, JournalFault> {
     let not_empty = refuses(alloc, &CREATED, 32_767, JournalFault::NotEmpty)?;
     let too_small = refuses(alloc, &[], 32_767, JournalFault::HalfSize)?;
     let too_large = refuses(alloc, &[], 16_777_217, JournalFault::HalfSize)?;
-    format(alloc, &mut MemDisk::new(alloc), 16_777_216, 1, &[])?;
+    let mut disk = MemDisk::new(alloc);
+    let largest = format(alloc, &mut disk, 16_777_216, 1, &[]);
+    drop(disk);
+    largest?;
     Ok(not_empty && too_small && too_large)
 }
 
@@ -91,7 +105,12 @@ fn a_device_that_cannot_be_formatted_is_left(rt: HostRuntime) -> Result<(), Fail
 // How many batches these bytes hold, or why they are no journal. A disk in memory fails for want of memory alone, and that is an error here.
 fn batches_of(alloc: Global, bytes: &[u8]) -> Result<Result<usize, JournalFault>, JournalFault> {
     match opened(alloc, MemDisk::from_bytes(alloc, bytes)?) {
-        Ok((_journal, contents)) => Ok(Ok(contents.batches.len())),
+        Ok((journal, contents)) => {
+            let count = contents.batches.len();
+            drop(contents);
+            drop(journal);
+            Ok(Ok(count))
+        }
         Err(fault @ (JournalFault::OutOfMemory | JournalFault::Device)) => Err(fault),
         Err(fault) => Ok(Err(fault)),
     }

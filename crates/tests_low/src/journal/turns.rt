@@ -91,15 +91,26 @@ fn is_read(contents: &Contents, found: (u8, usize)) -> bool {
 // The device after a stay, unless that goes otherwise.
 fn left(alloc: Global, disk: MemDisk, stay: Stay<'_>) -> Result<Option<MemDisk>, JournalFault> {
     let (mut journal, contents) = opened(alloc, disk)?;
-    if !is_read(&contents, stay.0) {
-        return Ok(None);
+    let is_read = is_read(&contents, stay.0);
+    drop(contents);
+    let takes_all = takes_all(&mut journal, stay.1);
+    let disk = journal.into_disk();
+    if is_read && takes_all == Ok(true) {
+        return Ok(Some(disk));
     }
-    for turn in stay.1 {
-        if !takes(&mut journal, *turn)? {
-            return Ok(None);
+    drop(disk);
+    takes_all?;
+    Ok(None)
+}
+
+// Does these things, one after the other.
+fn takes_all(journal: &mut Journal<MemDisk>, turns: &[Turn]) -> Result<bool, JournalFault> {
+    for turn in turns {
+        if !takes(journal, *turn)? {
+            return Ok(false);
         }
     }
-    Ok(Some(journal.into_disk()))
+    Ok(true)
 }
 
 // Whether a new journal goes through these stays.
@@ -122,9 +133,14 @@ fn a_half_is_filled(rt: HostRuntime) -> Result<(), Fail> {
 
 // Whether a replace leaves all that was written but the selector, and writes the second half behind zeros.
 fn moves(alloc: Global) -> Result<bool, JournalFault> {
-    let (mut journal, _contents) = opened(alloc, MemDisk::from_bytes(alloc, &COMMITTED)?)?;
-    journal.replace(1, &[0; 11])?;
-    Ok(is_moved(journal.into_disk().bytes()))
+    let (mut journal, contents) = opened(alloc, MemDisk::from_bytes(alloc, &COMMITTED)?)?;
+    drop(contents);
+    let replaced = journal.replace(1, &[0; 11]);
+    let disk = journal.into_disk();
+    let is_moved = is_moved(disk.bytes());
+    drop(disk);
+    replaced?;
+    Ok(is_moved)
 }
 
 fn is_moved(bytes: &[u8]) -> bool {

@@ -141,6 +141,7 @@ fn is_spelling(
     match read_batch(alloc, version.number(), bytes) {
         Ok(batch) => {
             let is_read = batch.first == first && batch.steps.as_slice() == steps;
+            drop(batch);
             Ok(is_read && are_written(alloc, version, bytes, first, steps)?)
         }
         Err(fault) if fault.kind == FaultKind::OutOfMemory => Err(AllocError),
@@ -173,10 +174,9 @@ fn distant(place: u8) -> Step {
     )
 }
 
-// A batch of 256 steps of the longest form: Confirms, and in version 2 Aborts.
-fn full(alloc: Global, version: Version) -> Result<Vec<Step>, AllocError> {
+// Adds a batch of 256 steps of the longest form: Confirms, and in version 2 Aborts.
+fn push_full(steps: &mut Vec<Step>, version: Version) -> Result<(), AllocError> {
     let is_first = version.number() == 1;
-    let mut steps = Vec::new(alloc);
     for place in 0..=255 {
         let step = if is_first {
             confirm(place)
@@ -185,13 +185,16 @@ fn full(alloc: Global, version: Version) -> Result<Vec<Step>, AllocError> {
         };
         steps.extend_from_slice(&[step])?;
     }
-    Ok(steps)
+    Ok(())
 }
 
 // Whether the full batch is written with so many bytes, and read from them.
 fn is_full_batch_spelled(alloc: Global, version: Version, size: usize) -> Result<bool, AllocError> {
-    let steps = full(alloc, version)?;
-    let is_spelled = is_spelled_in(alloc, version, &steps, size);
+    let mut steps = Vec::new(alloc);
+    let is_spelled = match push_full(&mut steps, version) {
+        Ok(()) => is_spelled_in(alloc, version, &steps, size),
+        Err(fault) => Err(fault),
+    };
     drop(steps);
     is_spelled
 }

@@ -63,7 +63,11 @@ fn is_the_world(world: &World, sent: Msg) -> bool {
 // Whether the bytes are read as that world.
 fn is_read(alloc: Global) -> Result<bool, AllocError> {
     match read_world(alloc, 1, &WORLD) {
-        Ok(world) => Ok(is_the_world(&world, Msg::Ack)),
+        Ok(world) => {
+            let is_it = is_the_world(&world, Msg::Ack);
+            drop(world);
+            Ok(is_it)
+        }
         Err(fault) if fault.kind == FaultKind::OutOfMemory => Err(AllocError),
         Err(_) => Ok(false),
     }

@@ -129,7 +129,7 @@ returns-in_ok-print_kept-in-Ok-Repeated-clause-ready c =
     let held = held_is d v is c.requires.ready in
     let to = subst (λ r. HandedTo v.ledger c.args.step r w.ledger) (c.in-Ok-Repeated.is ∙ ap Ok c.in-Ok-Repeated.field-0-is) c.submit-handed.ensures.handed in
     let kept : c.reserve.new.self.items ≡ d.tickets.items = search rules in
-    (c.submit-handed.ensures.flight ∙ home_is d v is c.requires.ready, subst (λ cs. IsHeld w.ledger cs) (sym kept) (subst (λ (l : LedgerState MemDisk). IsHeld l d.tickets.items) (sym to.1.1.1) held))
+    (c.submit-handed.ensures.flight ∙ home_is d v is c.requires.ready, subst (λ cs. IsHeld w.ledger cs) (sym kept) (subst (λ (l : LedgerState MemDisk). IsHeld l d.tickets.items) (sym to.now) held))
 
 pub returns-in_ok-print_refusal-in-Err-clause-ready : goal.returns-in_ok-print_refusal-in-Err-clause-ready
 returns-in_ok-print_refusal-in-Err-clause-ready c =
@@ -140,4 +140,4 @@ returns-in_ok-print_refusal-in-Err-clause-ready c =
     let held = held_is d v is c.requires.ready in
     let to = subst (λ r. HandedTo v.ledger c.args.step r w.ledger) c.in-Err.is c.submit-handed.ensures.handed in
     let kept : c.reserve.new.self.items ≡ d.tickets.items = search rules in
-    (c.submit-handed.ensures.flight ∙ home_is d v is c.requires.ready, subst (λ cs. IsHeld w.ledger cs) (sym kept) (subst (λ (l : LedgerState MemDisk). IsHeld l d.tickets.items) (sym to.1) held))
+    (c.submit-handed.ensures.flight ∙ home_is d v is c.requires.ready, subst (λ cs. IsHeld w.ledger cs) (sym kept) (subst (λ (l : LedgerState MemDisk). IsHeld l d.tickets.items) (sym to.now) held))

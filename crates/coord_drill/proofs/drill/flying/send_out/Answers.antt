@@ -20,7 +20,7 @@ returns-clause-flown c =
     elim c.match-begun.branch [
       | in-Begun w ↦
           let sent = subst (λ a. SendsOut l a out) w.in-Begun.is (c.begin-begun.ensures.sent c.requires.home) in
-          rw w.result-is (if_ok_more w.land.result (λ r landed. flown_to l sent.1.0 r.flown r.driver (landed_as l sent.1.0 out sent.1.1.1 r.flown r.driver landed)) w.land.ensures.landed)
+          rw w.result-is (if_ok_more w.land.result (λ r landed. flown_to l sent.disk r.flown r.driver (landed_as l sent.disk out sent.is r.flown r.driver landed)) w.land.ensures.landed)
       | in-Nothing w ↦
           let sent = subst (λ a. SendsOut l a out) w.in-Nothing.is (c.begin-begun.ensures.sent c.requires.home) in
           rw w.result-is (ap (λ (d : Driven MemDisk). d.ledger) sent.1)
@@ -34,7 +34,7 @@ returns-clause-home c =
     elim c.match-begun.branch [
       | in-Begun w ↦
           let sent = subst (λ a. SendsOut l a out) w.in-Begun.is (c.begin-begun.ensures.sent c.requires.home) in
-          rw w.result-is (if_ok_more w.land.result (λ r landed. landed_home (with_out l (length (next_flight l.log sent.1.0).steps)) (next_flight l.log sent.1.0) r.flown r.driver (landed_as l sent.1.0 out sent.1.1.1 r.flown r.driver landed)) w.land.ensures.landed)
+          rw w.result-is (if_ok_more w.land.result (λ r landed. landed_home (with_out l (length (next_flight l.log sent.disk).steps)) (next_flight l.log sent.disk) r.flown r.driver (landed_as l sent.disk out sent.is r.flown r.driver landed)) w.land.ensures.landed)
       | in-Nothing w ↦
           let sent = subst (λ a. SendsOut l a out) w.in-Nothing.is (c.begin-begun.ensures.sent c.requires.home) in
           rw w.result-is (ap (λ (d : Driven MemDisk). d.flight) sent.1)
@@ -51,13 +51,13 @@ returns-clause-moments c =
     elim c.match-begun.branch [
       | in-Begun w ↦
           let sent = subst (λ a. SendsOut l a out) w.in-Begun.is (c.begin-begun.ensures.sent c.requires.home) in
-          let drives = c.begins.ensures sent.1.0 sent.1.1.0 in
+          let drives = c.begins.ensures sent.disk sent.home in
           let allowed = (c.begin-begun.ensures.answered nothing_beside (started l) drives.consistent drives.follows).allowed in
           let size = begun_size (started l) w.in-Begun.field-0 (subst (λ a. IsOneOf a (to_begin (started l))) w.in-Begun.is allowed) in
           let begun = subst (λ a. GoesOnTo v (Begin ∷ []) (a ∷ []) out) w.in-Begun.is goes in
           rw w.result-is
           (if_ok_more w.land.result
-          (λ r landed. flown_by (with_out l (length (next_flight l.log sent.1.0).steps)) (next_flight l.log sent.1.0) v out r.driver r.flown (next_size l.log) (settled_count r.driver.ledger.log) (landed_as l sent.1.0 out sent.1.1.1 r.flown r.driver landed.0) (subst (λ b. GoesOnTo v (Begin ∷ []) (Begun b ∷ []) out) size begun) landed.1)
+          (λ r landed. flown_by (with_out l (length (next_flight l.log sent.disk).steps)) (next_flight l.log sent.disk) v out r.driver r.flown (next_size l.log) (settled_count r.driver.ledger.log) (landed_as l sent.disk out sent.is r.flown r.driver landed.0) (subst (λ b. GoesOnTo v (Begin ∷ []) (Begun b ∷ []) out) size begun) landed.1)
           (if_ok_both _ _ w.land.result w.land.ensures.landed w.land.ensures.moments))
       | in-Nothing w ↦ rw w.result-is (subst (λ a. GoesOnTo v (Begin ∷ []) (a ∷ []) out) w.in-Nothing.is goes)
       | in_default w ↦ rw w.result-is tt

@@ -18,7 +18,7 @@ invariant_of-result-2 g c =
     elim c.match-begin_flush.branch [
       | in-Ok-Some w ↦
           let departs = begun_some c.self.inside.ledger c.begin_flush.new.self c.begin_flush.result c.begin_flush.ensures.nothing c.begin_flush.ensures.begun w.in-Ok-Some.flight (w.in-Ok-Some.is ∙ ap Ok w.in-Ok-Some.field-0-is) in
-          subst (λ (p : Answer × Option (FlightState g.row.D.Denot)). HoldsFlight c.begin_flush.new.self p.1) (sym w.answer-is) (departs_own c.self.inside.ledger c.begin_flush.new.self w.in-Ok-Some.flight departs.1)
+          subst (λ (p : Answer × Option (FlightState g.row.D.Denot)). HoldsFlight c.begin_flush.new.self p.1) (sym w.answer-is) (departs_own c.self.inside.ledger c.begin_flush.new.self w.in-Ok-Some.flight departs)
       | in-Ok-None w ↦
           let stays = begun_none c.self.inside.ledger c.begin_flush.new.self c.begin_flush.result c.begin_flush.ensures.nothing c.begin_flush.ensures.begun (w.in-Ok-None.is ∙ ap Ok w.in-Ok-None.field-0-is) in
           subst (λ (p : Answer × Option (FlightState g.row.D.Denot)). HoldsFlight c.begin_flush.new.self p.1) (sym w.answer-is) (ap (λ (l : LedgerState g.row.D.Denot). l.out) stays.1 ∙ home)
@@ -38,7 +38,7 @@ returns-clause-answered g c b s is follows =
           let size : w.len.result ≡ length w.in-Ok-Some.flight.steps = many ∙ ap (λ (f : FlightState g.row.D.Denot). length f.steps) w.flight.view_is in
           subst To (sym w.answer-is)
           (subst (λ n. To (Begun n, Some w.in-Ok-Some.flight)) (sym size)
-          (follows_next _ s w.in-Ok-Some.flight c.begin_flush.new.self is empty departs.0 departs.1.0 departs.1.2))
+          (follows_next _ s w.in-Ok-Some.flight c.begin_flush.new.self is empty departs.goes departs.is departs.now))
       | in-Ok-None w ↦
           let stays = begun_none c.self.inside.ledger c.begin_flush.new.self c.begin_flush.result c.begin_flush.ensures.nothing c.begin_flush.ensures.begun (w.in-Ok-None.is ∙ ap Ok w.in-Ok-None.field-0-is) in
           subst To (sym w.answer-is)
@@ -62,7 +62,7 @@ returns-clause-sent g c none =
           let size : w.len.result ≡ length w.in-Ok-Some.flight.steps = many ∙ ap (λ (f : FlightState g.row.D.Denot). length f.steps) w.flight.view_is in
           subst To (sym w.answer-is)
           (subst (λ n. To (Begun n, Some w.in-Ok-Some.flight)) (sym size)
-          (departs.0, (w.in-Ok-Some.flight.disk, (departs.1.1, begun_to c.self.inside.ledger c.begin_flush.new.self w.in-Ok-Some.flight departs.1))))
+          (record { goes = departs.goes; disk = w.in-Ok-Some.flight.disk; home = departs.home; is = begun_to c.self.inside.ledger c.begin_flush.new.self w.in-Ok-Some.flight departs }))
       | in-Ok-None w ↦
           let stays = begun_none c.self.inside.ledger c.begin_flush.new.self c.begin_flush.result c.begin_flush.ensures.nothing c.begin_flush.ensures.begun (w.in-Ok-None.is ∙ ap Ok w.in-Ok-None.field-0-is) in
           subst To (sym w.answer-is) (stays.0, ap at_home stays.1)

@@ -37,7 +37,7 @@ returns-in-Ok-adopt-clause-opened g c = record {
   disk = c.in-Ok.store.disk;
   is = c.in-Ok-adopt.ensures.adopted;
   same_model = c.in-Ok.ensures.model ∙ c.crash.ensures.model;
-  from = λ on. ((g.D.Disk.present c.crash.result).read, (c.crash.ensures.image on, c.in-Ok.ensures.world (c.crash.ensures.model ∙ on)));
+  from = λ on. record { image = (g.D.Disk.present c.crash.result).read; allowed = c.crash.ensures.image on; recovered = c.in-Ok.ensures.world (c.crash.ensures.model ∙ on) };
   moments = λ on. record {
     taken = c.crash.result;
     crash = c.crash.ensures.crashes;

@@ -22,8 +22,8 @@ returns-then-is_err-clause-answered g c s is follows =
     let some = err_gives c.push_releases.result failed c.push_releases.ensures.some in
     let items = c.self.inside.released.items in
     let to = subst (λ r. FinishesTo s b r c.finish-landed.result.1) (c.in-Ok-Some.is ∙ ap Ok c.in-Ok-Some.field-0-is) (c.finish-landed.ensures.answered b s is inside) in
-    let ends = ap (λ l. items ++ l) some.1.1.0 ∙ sym (append_assoc items some.0 some.1.0) ∙ ap (λ l. l ++ some.1.0) (sym some.1.1.1) in
-    cut_within _ _ s Finish _ c.push_releases.new.released.items some.0 some.1.0 inside to some.1.1.1 ends
+    let ends = ap (λ l. items ++ l) some.all_are ∙ sym (append_assoc items some.added some.lost) ∙ ap (λ l. l ++ some.lost) (sym some.now) in
+    cut_within _ _ s Finish _ c.push_releases.new.released.items some.added some.lost inside to some.now ends
 
 pub returns-clause-answered : goal.returns-clause-answered
 returns-clause-answered g c s is follows =

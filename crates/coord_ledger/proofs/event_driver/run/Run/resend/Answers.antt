@@ -27,5 +27,5 @@ returns-in_err-count-in-Ok-clause-cut g c s is follows =
     let some = c.in_err-count-in-Ok.ensures.some in
     let items = c.self.inside.released.items in
     let to = follows_resent _ s is inside (items ++ c.in-Ok.releases) (ap (λ l. items ++ l) given) in
-    let ends = ap (λ l. items ++ l) some.1.1.0 ∙ sym (append_assoc items some.0 some.1.0) ∙ ap (λ l. l ++ some.1.0) (sym some.1.1.1) in
-    on_err c.from_residual.result (cut_within _ _ s Resend _ c.push_releases.new.released.items some.0 some.1.0 inside to some.1.1.1 ends)
+    let ends = ap (λ l. items ++ l) some.all_are ∙ sym (append_assoc items some.added some.lost) ∙ ap (λ l. l ++ some.lost) (sym some.now) in
+    on_err c.from_residual.result (cut_within _ _ s Resend _ c.push_releases.new.released.items some.added some.lost inside to some.now ends)
