@@ -1,7 +1,9 @@
 -- The lines that a server prints, and what prints them.
-use Rattle.std.specs.Prelude.{ℕ, Bool, false, List, ◌++◌, codes, decimal}
+use Rattle.std.specs.Prelude.{◌≡◌, ◌⊎◌, ℕ, Bool, false, List, ◌++◌, codes, decimal}
 use Rattle.std.specs.Net.Text.{socket_text}
 use Rattle.std.specs.declared.net.socket_addr.SocketAddr.{SocketAddr}
+use Rattle.coord_server.specs.declared.fault.ServerFault.{ServerFault}
+use Rattle.coord_server.specs.declared.fault.ServerFault.TheVariants as fault
 
 -- the server listens at this address
 abbrev pub listening_line : SocketAddr → List ℕ
@@ -19,3 +21,7 @@ pub record PrinterState (W : Type 0) : Type 0 where
 -- nothing was printed to it yet
 abbrev pub new_printer : {W : Type 0} → W → PrinterState W
 new_printer output = record { output = output; is_broken = false }
+
+-- what is told of a line that was not printed
+abbrev pub IsOfPrinting : ServerFault → Type 0
+IsOfPrinting met = (met ≡ fault.OutOfMemory) ⊎ (met ≡ fault.Write)

@@ -1,20 +1,21 @@
 //! The threads of one life of a server, while connections are served.
 
-ghost use Rattle.std.specs.Prelude.{◌≡◌, [], ℕ, IfSome, false};
+ghost use Rattle.std.specs.Prelude.{◌≡◌, ◌+◌, ◌^◌, ◌<◌, ◌≤◌, [], ℕ, IfNone, IfOk, IfSome, MatchOption, Some, false, vec_capacity, vec_len};
 ghost use Rattle.std.specs.Thread.{IsSend, IsSync};
 ghost use Rattle.coord_engine.specs.State.{based_on};
 ghost use Rattle.coord_server.specs.Ending.{IsOfStart, ServesLife, new_desk};
+ghost use Rattle.coord_server.specs.Workers.{BringsBack};
 
 use crate::age::{Age, EngineAge};
 use crate::left::Left;
 use crate::resting::LifeCallers;
-use crate::{EngineDesk, LocalPort, ServerFault, WORKERS};
+use crate::{EngineDesk, LocalPort, ServerFault};
 use coord_admin::{Callers, Desk, serve_connections};
 use coord_disk::Disk;
 use coord_engine::{Engine, Origin, PacketShare, Port, Share, flusher, packet_worker};
 use coord_types::Packet;
 use crossbeam_channel::Receiver;
-use std::alloc::Global;
+use std::alloc::{AllocError, Global};
 use std::sync::Wait;
 use std::sync::ledger::Ledger as Count;
 use std::thread;
@@ -30,6 +31,20 @@ pub struct Ran<L: Count, C> {
     pub workers: Vec<PacketShare<L>>,
     pub callers: C,
     pub left: Left,
+}
+
+/// Room for the workers' threads, and for what they leave.
+#[derive(Drop)]
+struct Room<L: Count> {
+    threads: Vec<JoinHandle<PacketShare<L>>>,
+    shares: Vec<PacketShare<L>>,
+}
+
+/// The workers that run, and how many could not be started.
+#[derive(Drop)]
+struct Started<L: Count> {
+    running: Vec<JoinHandle<PacketShare<L>>>,
+    missing: usize,
 }
 
 /// Runs a flusher and a worker on each channel, while those who call are served until the life is
@@ -52,9 +67,12 @@ pub fn run<
 ) -> Ran<L, C>
     requires own { own ≡ [] }
     requires met { IfSome met IsOfStart }
-    ensures { (seen : ℕ) × ServesLife
+    ensures served { (seen : ℕ) × ServesLife
         (based_on D.keeps_model D.present L.base L.before) C.met callers result.callers
         (record { notes = result.own; seen = seen }) result.left }
+    ensures workers { IfNone met
+        (BringsBack (vec_len packets) (vec_len result.workers) result.left) }
+    ensures told { IfSome met (λ fault. result.left ≡ Left.Ended (Some fault)) }
 {
     match met {
         None => run_threads(rt, alloc, most, engine, port, packets, own, callers),
@@ -71,9 +89,11 @@ fn not_run<D: Disk, L: Origin, C: Callers>(
 ) -> Ran<L, C>
     requires own { own ≡ [] }
     requires fault { IsOfStart fault }
-    ensures { (seen : ℕ) × ServesLife
+    ensures served { (seen : ℕ) × ServesLife
         (based_on D.keeps_model D.present L.base L.before) C.met callers result.callers
         (record { notes = result.own; seen = seen }) result.left }
+    ensures left { result.left ≡ Left.Ended (Some fault) }
+    ensures workers { vec_len result.workers ≡ 0 }
 {
     Ran {
         own,
@@ -99,18 +119,20 @@ fn run_threads<
     callers: C,
 ) -> Ran<L, C>
     requires { own ≡ [] }
-    ensures { (seen : ℕ) × ServesLife
+    ensures served { (seen : ℕ) × ServesLife
         (based_on D.keeps_model D.present L.base L.before) C.met callers result.callers
         (record { notes = result.own; seen = seen }) result.left }
+    ensures workers { BringsBack (vec_len packets) (vec_len result.workers) result.left }
 {
     thread::scope(
         thread::scope_env(),
         rt,
         |scope| -> Ran<L, C>
             requires { IsSend D.row × IsSend L.row × IsSync L.row × IsSync R.row × (own ≡ []) }
-            ensures { (seen : ℕ) × ServesLife
+            ensures served { (seen : ℕ) × ServesLife
                 (based_on D.keeps_model D.present L.base L.before) C.met callers result.callers
                 (record { notes = result.own; seen = seen }) result.left }
+            ensures workers { BringsBack (vec_len packets) (vec_len result.workers) result.left }
         { run_in(scope, rt, alloc, most, engine, port, packets, own, callers) },
     )
 }
@@ -139,44 +161,88 @@ fn run_in<
     callers: C,
 ) -> Ran<L, C>
     requires { own ≡ [] }
-    ensures { (seen : ℕ) × ServesLife
+    ensures served { (seen : ℕ) × ServesLife
         (based_on D.keeps_model D.present L.base L.before) C.met callers result.callers
         (record { notes = result.own; seen = seen }) result.left }
+    ensures workers { BringsBack (vec_len packets) (vec_len result.workers) result.left }
 {
-    // Room for what the workers leave: none of their shares may be lost for want of memory.
-    let Ok(room) = Vec::with_capacity(alloc, usize::from(WORKERS)) else {
+    // Room for the threads and for what they leave: no share may be lost for want of memory.
+    let Ok(room) = room_for(alloc, packets.len()) else {
         return not_run::<D, L, C>(alloc, own, callers, ServerFault::OutOfMemory);
     };
     let Some(flushing) = start_flusher(scope, rt, engine, port) else {
         return not_run::<D, L, C>(alloc, own, callers, ServerFault::OutOfMemory);
     };
-    let running = start_workers(scope, rt, alloc, engine, packets);
-    let is_whole = running.len() == usize::from(WORKERS);
+    let Room { threads, shares } = room;
+    let started = start_workers(scope, rt, alloc, engine, packets, threads);
+    let is_whole = started.missing == 0;
     let mut ran = serve_if(is_whole, &*rt, alloc, most, &*engine, &*port, own, callers);
     engine.finish(rt);
     flushing.join(rt);
     port.hang_up();
-    ran.workers = all_joined(rt, room, running);
+    ran.workers = all_joined(rt, shares, started.running);
     ran
 }
 
-/// Starts a worker on each channel with a share of its own; where no thread can be had, fewer.
+/// Room for so many threads, and for what they leave.
+fn room_for<L: Count>(alloc: Global, most: usize) -> Result<Room<L>, AllocError>
+    ensures threads { IfOk result (λ room.
+        (vec_len room.threads ≡ 0) × (most ≤ vec_capacity room.threads)) }
+    ensures shares { IfOk result (λ room.
+        (vec_len room.shares ≡ 0) × (most ≤ vec_capacity room.shares)) }
+{
+    let threads = Vec::with_capacity(alloc, most)?;
+    let shares = Vec::with_capacity(alloc, most)?;
+    Ok(Room { threads, shares })
+}
+
+/// Starts a worker on each channel with a share of its own, in room for all. One whose thread could not
+/// be started, or for which there was no share, is missing.
 fn start_workers<'s, 'r: 's, 'e: 's, E, D: Disk + Send, L: Origin + Send + Sync, R: Wait + Sync>(
     scope: &Scope<'s, E>,
     rt: &'r R,
     alloc: Global,
     engine: &'e Engine<D, L>,
     packets: Vec<Receiver<Packet>>,
-) -> Vec<JoinHandle<PacketShare<L>>> {
-    let mut running = Vec::new(alloc);
-    for packets in packets {
-        if let Some(share) = engine.share(rt) {
-            if let Some(started) = start_worker(scope, rt, alloc, engine, packets, share) {
-                let _ = running.push(started);
-            }
-        }
+    room: Vec<JoinHandle<PacketShare<L>>>,
+) -> Started<L>
+    requires { (vec_len room ≡ 0) × (vec_len packets ≤ vec_capacity room) }
+    ensures { vec_len result.running + result.missing ≡ vec_len packets }
+{
+    let mut started = Started {
+        running: room,
+        missing: 0,
+    };
+    for inbox in packets {
+        let worker = match engine.share(rt) {
+            Some(share) => start_worker(scope, rt, alloc, engine, inbox, share),
+            None => None,
+        };
+        note_start(&mut started, worker);
     }
-    running
+    started
+}
+
+/// Keeps a worker that was started, and counts one that was not.
+fn note_start<L: Count>(started: &mut Started<L>, worker: Option<JoinHandle<PacketShare<L>>>)
+    requires room { vec_len started.old.running < vec_capacity started.old.running }
+    requires count { started.old.missing + 1 < 2 ^ 64 }
+    ensures running { MatchOption worker
+        (vec_len started.new.running ≡ vec_len started.old.running)
+        (λ _. vec_len started.new.running ≡ vec_len started.old.running + 1) }
+    ensures missing { MatchOption worker
+        (started.new.missing ≡ started.old.missing + 1)
+        (λ _. started.new.missing ≡ started.old.missing) }
+    ensures room { vec_capacity started.old.running ≤ vec_capacity started.new.running }
+{
+    match worker {
+        Some(worker) => {
+            let Ok(()) = started.running.push(worker) else {
+                unreachable!()
+            };
+        }
+        None => started.missing += 1,
+    }
 }
 
 /// Starts a worker, unless no thread can be had.
@@ -201,12 +267,17 @@ fn all_joined<L: Count, R: Threads + Wait>(
     rt: &R,
     room: Vec<PacketShare<L>>,
     running: Vec<JoinHandle<PacketShare<L>>>,
-) -> Vec<PacketShare<L>> {
-    let mut workers = room;
-    for started in running {
-        let _ = workers.push(started.join(rt));
+) -> Vec<PacketShare<L>>
+    requires { (vec_len room ≡ 0) × (vec_len running ≤ vec_capacity room) }
+    ensures { vec_len result ≡ vec_len running }
+{
+    let mut shares = room;
+    for worker in running {
+        let Ok(()) = shares.push(worker.join(rt)) else {
+            unreachable!()
+        };
     }
-    workers
+    shares
 }
 
 /// Starts a flusher, unless no thread can be had.
@@ -241,9 +312,10 @@ fn serve_if<'a, D: Disk, L: Origin, C: Callers, R: Wait>(
     callers: C,
 ) -> Ran<L, C>
     requires { own ≡ [] }
-    ensures { (seen : ℕ) × ServesLife
+    ensures served { (seen : ℕ) × ServesLife
         (based_on D.keeps_model D.present L.base L.before) C.met callers result.callers
         (record { notes = result.own; seen = seen }) result.left }
+    ensures short { is_whole ≡ false → result.left ≡ Left.Ended (Some ServerFault.OutOfMemory) }
 {
     if is_whole {
         serve_over(rt, alloc, most, engine, port, own, callers)

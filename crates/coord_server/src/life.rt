@@ -1,6 +1,6 @@
 //! One life of a server: an engine with its threads, from a store to what is left of it.
 
-ghost use Rattle.std.specs.Prelude.{◌≡◌, [], ◌∷◌, false, length, IfOk, IfSome, None};
+ghost use Rattle.std.specs.Prelude.{◌≡◌, [], ◌∷◌, ◌++◌, false, length, IfOk, IfSome, None, vec_len};
 ghost use Rattle.coord_engine.specs.State.{based_on};
 ghost use Rattle.coord_engine.specs.declared.closed.CloseFault.{CloseFault};
 ghost use Rattle.coord_store.specs.Kept.{has_stopped};
@@ -8,6 +8,7 @@ ghost use Rattle.coord_engine.specs.Closing.{IsSince};
 ghost use Rattle.coord_engine.specs.Threads.{AtSomeMoment, Closes};
 ghost use Rattle.coord_server.specs.Ending.{AddsWorkers, IsOfStart, IsOneHistory, ServesLife};
 ghost use Rattle.coord_server.specs.EngineDesk.{DeskState};
+ghost use Rattle.coord_server.specs.Workers.{AreAll};
 
 use crate::crew::{Ran, run};
 use crate::left::Left;
@@ -108,14 +109,12 @@ fn serve_ledger<
     } = ran;
     let first = with_own(room, own)?;
     let shares = with_workers(first, workers)?;
-    match close(engine, shares) {
-        Ok(closed) => Ok(Life {
-            closed,
-            callers,
-            left,
-        }),
-        Err(fault) => Err(not_closed(left, fault)),
-    }
+    let closed = close(engine, shares, left)?;
+    Ok(Life {
+        closed,
+        callers,
+        left,
+    })
 }
 
 /// A share is missing where a thread could not be started, and that is told first.
@@ -141,7 +140,8 @@ fn with_workers<L: Origin>(
     first: Vec<Share<L>>,
     workers: Vec<PacketShare<L>>,
 ) -> Result<Vec<Share<L>>, AllocError>
-    ensures { IfOk result (λ all. AddsWorkers first.items all.items) }
+    ensures added { IfOk result (λ all. AddsWorkers first.items all.items) }
+    ensures every { IfOk result (λ all. all.items ≡ first.items ++ workers.items) }
 {
     let mut shares = first;
     for worker in workers {
@@ -154,8 +154,10 @@ fn with_workers<L: Origin>(
 fn close<D: Disk, L: Origin>(
     engine: Engine<D, L>,
     shares: Vec<Share<L>>,
-) -> Result<Closed<D>, CloseFault>
-    requires { L.parts ≡ 65536 }
+    left: Left,
+) -> Result<Closed<D>, ServerFault>
+    requires parts { L.parts ≡ 65536 }
+    requires all { AreAll (vec_len shares) left }
     ensures since { IfOk result (λ closed.
         IsSince L.base L.before shares.items closed.base closed.trail.items) }
     ensures closed { IfOk result (λ closed.
@@ -164,7 +166,7 @@ fn close<D: Disk, L: Origin>(
 {
     match engine.close(shares) {
         Ok(closed) => Ok(closed),
-        Err((fault, _engine, _shares)) => Err(fault),
+        Err((fault, _engine, _shares)) => Err(not_closed(left, fault)),
     }
 }
 

@@ -1,6 +1,6 @@
 //! The lives of a server, one after the other.
 
-ghost use Rattle.std.specs.Prelude.{◌≡◌, ◌+◌, false, true, length, IfErr, IfOk, IfSome};
+ghost use Rattle.std.specs.Prelude.{◌≡◌, ◌+◌, false, true, length, IfErr, IfNone, IfOk, IfSome, Some};
 ghost use Rattle.std.specs.Thread.{IsSend, IsSync};
 ghost use Rattle.coord_engine.specs.State.{based_on};
 ghost use Rattle.coord_store.specs.Kept.{has_stopped};
@@ -79,27 +79,20 @@ pub fn serve_lives<
     )
 }
 
-/// Says where they call. Else why not: there was no memory for the line where lines are printed on.
+/// Says where they call. Else why not.
+#[tactic(auto, using(crate::proofs::Starts::printing_is_of_start))]
 fn print_listening<C: Callers, W: Write>(
     callers: &C,
     printer: &mut Printer<W>,
 ) -> Option<ServerFault>
     ensures start { IfSome result IsOfStart }
-    ensures write { IfSome result (λ fault. fault ≡ ServerFault.Write →
-        printer.new.is_broken ≡ true) }
-    ensures memory { IfSome result (λ fault. fault ≡ ServerFault.OutOfMemory →
-        printer.new.is_broken ≡ false) }
+    ensures write { result ≡ Some ServerFault.Write → printer.new.is_broken ≡ true }
+    ensures none { IfNone result (printer.new.is_broken ≡ false) }
 {
     let Ok(address) = callers.address() else {
         return Some(ServerFault::Socket);
     };
-    if printer.print_address(address) {
-        None
-    } else if printer.is_broken() {
-        Some(ServerFault::Write)
-    } else {
-        Some(ServerFault::OutOfMemory)
-    }
+    printer.print_address(address).err()
 }
 
 /// Lives while a thread of a scope prints, which ends behind the last signal.

@@ -1,12 +1,15 @@
 //! What a server prints.
 
-ghost use Rattle.std.specs.Prelude.{◌≡◌, false, true};
+ghost use Rattle.std.specs.Prelude.{◌≡◌, ◌≢◌, Err, IfErr, IsErr, IsOk, OnErr, OnOk, false, true};
 ghost use Rattle.std.specs.Io.KnownBytes.{Appends};
-ghost use Rattle.coord_server.specs.Printed.{listening_line, new_printer, signal_line};
+ghost use Rattle.std.specs.IoError.{error_kind};
+ghost use Rattle.coord_server.specs.Printed.{IsOfPrinting, listening_line, new_printer, signal_line};
 
+use crate::ServerFault;
 use coord_types::NodeId;
 use std::alloc::Global;
-use std::io::Write;
+use std::io;
+use std::io::{ErrorKind, Write};
 use std::marker::Model;
 use std::net::SocketAddr;
 
@@ -58,40 +61,70 @@ impl<W: Write> Printer<W> {
     {
         let node = node.number();
         match format!(in self.alloc; "signal {node} {epoch}\n") {
-            Ok(line) => self.print(&line),
+            Ok(line) => self.print(&line).is_ok(),
             Err(_) => false,
         }
     }
 
-    /// Says at which address the server listens. Whether it was written; where it was not, and lines
-    /// are printed on, nothing of it was.
-    pub fn print_address(&mut self, address: SocketAddr) -> bool
-        ensures written { result ≡ true →
-            Appends (W.contents self.old.output) (W.contents self.new.output)
-            (listening_line address) }
-        ensures whole { result ≡ true → self.new.is_broken ≡ false }
-        ensures broken { self.old.is_broken ≡ true → (result ≡ false) × (self.new ≡ self.old) }
-        ensures failed { result ≡ false → self.new.is_broken ≡ false → self.new ≡ self.old }
+    /// Says at which address the server listens. Where it does not, why: the output failed, or there
+    /// was no memory for the line. Where lines are printed on then, nothing of it was.
+    pub fn print_address(&mut self, address: SocketAddr) -> Result<(), ServerFault>
+        ensures written { OnOk result (Appends (W.contents self.old.output)
+            (W.contents self.new.output) (listening_line address)) }
+        ensures whole { OnOk result (self.new.is_broken ≡ false) }
+        ensures broken { self.old.is_broken ≡ true → IsErr result × (self.new ≡ self.old) }
+        ensures failed { OnErr result (self.new.is_broken ≡ false → self.new ≡ self.old) }
+        ensures fault { IfErr result IsOfPrinting }
+        ensures write { result ≡ Err ServerFault.Write → self.new.is_broken ≡ true }
     {
         match format!(in self.alloc; "listening {address}\n") {
             Ok(line) => self.print(&line),
-            Err(_) => false,
+            Err(_) => Err(ServerFault::OutOfMemory),
         }
     }
 
     /// Writes a line and flushes it.
-    fn print(&mut self, line: &str) -> bool
-        ensures written { result ≡ true →
-            Appends (W.contents self.old.output) (W.contents self.new.output) line.now }
-        ensures whole { result ≡ true → self.new.is_broken ≡ false }
-        ensures broken { self.old.is_broken ≡ true → (result ≡ false) × (self.new ≡ self.old) }
-        ensures failed { result ≡ false → self.new.is_broken ≡ true }
+    fn print(&mut self, line: &str) -> Result<(), ServerFault>
+        ensures written { OnOk result (Appends (W.contents self.old.output)
+            (W.contents self.new.output) line.now) }
+        ensures whole { OnOk result (self.new.is_broken ≡ false) }
+        ensures broken { self.old.is_broken ≡ true → (result ≡ Err ServerFault.Write) × (self.new ≡ self.old) }
+        ensures failed { OnErr result (self.new.is_broken ≡ true) }
+        ensures fault { IfErr result IsOfPrinting }
     {
         if self.is_broken {
-            return false;
+            return Err(ServerFault::Write);
         }
-        let written = self.output.write_all(line.as_bytes()).is_ok() && self.output.flush().is_ok();
-        self.is_broken = !written;
+        let written = write_line(&mut self.output, line);
+        self.is_broken = written.is_err();
         written
+    }
+}
+
+/// Writes a line and flushes it.
+fn write_line<W: Write>(output: &mut W, line: &str) -> Result<(), ServerFault>
+    ensures written { OnOk result (Appends (W.contents output.old) (W.contents output.new)
+        line.now) }
+    ensures fault { IfErr result IsOfPrinting }
+{
+    told(output.write_all(line.as_bytes()))?;
+    told(output.flush())
+}
+
+/// What is told of an output: want of memory, or else that it failed.
+fn told(answer: io::Result<()>) -> Result<(), ServerFault>
+    ensures ok { OnOk answer (IsOk result) }
+    ensures memory { IfErr answer (λ error. error_kind error ≡ ErrorKind.OutOfMemory →
+        result ≡ Err ServerFault.OutOfMemory) }
+    ensures other { IfErr answer (λ error. error_kind error ≢ ErrorKind.OutOfMemory →
+        result ≡ Err ServerFault.Write) }
+    ensures fault { IfErr result IsOfPrinting }
+{
+    match answer {
+        Ok(()) => Ok(()),
+        Err(error) => match error.kind() {
+            ErrorKind::OutOfMemory => Err(ServerFault::OutOfMemory),
+            _ => Err(ServerFault::Write),
+        },
     }
 }

@@ -120,6 +120,7 @@ impl<S: Files<File = File>> Folder for Failing<'_, S> {
 
 /// A server of the store in a folder: what it is told, after how many calls its disk fails, how many
 /// signals are printed, and the exit status and the fault line.
+#[derive(Clone, Copy)]
 struct Serving {
     lines: &'static [u8],
     passes: u64,
@@ -213,7 +214,9 @@ fn reset() -> Option<Step> {
 /// Commits the order that starts a reset to the store in a folder, and says whether it could be.
 fn start_reset<S: Files<File = File> + AllocGlobal + Abort>(rt: &S, folder: &str) -> bool {
     let steps = [reset().expect(rt, "no step")];
-    let disk = locked(rt, folder).ok().expect(rt, "no disk");
+    let file = format!(in rt.alloc(); "{folder}/store").expect(rt, "no memory");
+    let disk = FileDisk::open(rt, &file).expect(rt, "no disk");
+    drop(file);
     let mut store = Store::open(rt.alloc(), disk).ok().expect(rt, "no store");
     let is_fresh = store.takes(&steps) == Ok(true);
     assert!(rt; is_fresh);

@@ -59,6 +59,17 @@ pub(crate) fn created<D: Disk>(alloc: Global, disk: D, steps: &[Step]) -> Result
     Ok(with_pending(ledger, steps)?)
 }
 
+/// The same where nothing may be missing.
+pub(crate) fn made_with<D: Disk, R: Abort>(
+    rt: &R,
+    alloc: Global,
+    disk: D,
+    steps: &[Step],
+) -> Ledger<D> {
+    let ledger = ledger_on(alloc, disk).expect(rt, "no store");
+    with_pending(ledger, steps).expect(rt, "no step")
+}
+
 /// An engine over a ledger that has its store at home.
 pub(crate) fn engine<D: Disk, L: Origin, R: Abort>(
     rt: &R,

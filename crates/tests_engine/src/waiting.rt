@@ -20,20 +20,19 @@ fn keeps_the_later(alloc: Global) -> Result<bool, Fail> {
     let one = NodeId::new(1).ok_or("node")?;
     let two = NodeId::new(2).ok_or("node")?;
     let mut waiting = Waiting::new(alloc);
-    for packet in [data(one, two, 1), data(two, one, 1), data(one, two, 2)] {
-        if waiting.put(packet).is_err() {
-            return Err(AllocError)?;
-        }
-    }
+    let are_put = waiting.put(data(one, two, 1)).is_ok()
+        && waiting.put(data(two, one, 1)).is_ok()
+        && waiting.put(data(one, two, 2)).is_ok();
     let first = waiting.first();
     waiting.drop_first();
     let second = waiting.first();
     waiting.drop_first();
-    Ok(
-        first == Some(data(one, two, 2))
-            && second == Some(data(two, one, 1))
-            && waiting.first().is_none(),
-    )
+    let is_empty = waiting.first().is_none();
+    drop(waiting);
+    if !are_put {
+        return Err(AllocError)?;
+    }
+    Ok(first == Some(data(one, two, 2)) && second == Some(data(two, one, 1)) && is_empty)
 }
 
 #[test]

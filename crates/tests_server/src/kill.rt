@@ -2,11 +2,10 @@
 //! one whose disk fails from its first order on.
 
 use crate::asking::{CLOSE, ask, close, is_text, ring_lines};
-use crate::rings::{goes_on, listens, printed_nodes};
+use crate::rings::{goes_on, left, listens, printed_nodes};
 use coord_admin::{Accepted, Patience};
 use coord_disk::{Call, Choice, CrashDisk, Disk, FailingDisk, MemDisk, Rule};
-use coord_engine::Closed;
-use coord_server::serve_callers;
+use coord_server::{Ended, serve_callers};
 use coord_store::Store;
 use std::alloc::Global;
 use std::io::{ErrorKind, Write};
@@ -80,11 +79,14 @@ fn served<D: Disk + Send, W: Write + Send + Drop, R: Threads + Wait + Clock + Sy
     assert!(rt; !store.stopped());
     let callers = Accepted::new(rt, listener, Patience::usual());
     let ended = serve_callers(rt, alloc, store, callers, output).expect(rt, "no end");
-    left(ended.closed)
-}
-
-fn left<D: Disk>(closed: Closed<D>) -> D {
-    closed.store.into_disk()
+    let Ended {
+        closed,
+        callers,
+        served: _,
+        is_broken: _,
+    } = ended;
+    drop(callers);
+    left(closed).into_disk()
 }
 
 /// Has these lines answered, waits for the kill, and has the threads end that nothing reaches any

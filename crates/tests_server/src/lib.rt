@@ -16,4 +16,6 @@ mod printing;
 #[cfg(test)]
 mod rings;
 #[cfg(test)]
+mod short_of_memory;
+#[cfg(test)]
 mod slow_output;

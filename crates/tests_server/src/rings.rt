@@ -2,7 +2,7 @@
 //! first and every other behind one of its neighbours.
 
 use crate::asking::{asks, ring_lines};
-use coord_disk::MemDisk;
+use coord_disk::{Disk, MemDisk};
 use coord_engine::Closed;
 use coord_server::serve_store;
 use coord_store::Store;
@@ -33,8 +33,17 @@ pub(crate) fn served<W: io::Write + Send + Drop, R: Threads + Wait + Clock + Syn
     left(serve_store(rt, alloc, store, listener, output).expect(rt, "no close"))
 }
 
-fn left(closed: Closed<MemDisk>) -> Store<MemDisk> {
-    closed.store
+/// The store of what is left of an engine.
+pub(crate) fn left<D: Disk>(closed: Closed<D>) -> Store<D> {
+    let Closed {
+        store,
+        base,
+        trail,
+        settled: _,
+    } = closed;
+    drop(base);
+    drop(trail);
+    store
 }
 
 /// A listener at a port of its own, and its address.

@@ -2,7 +2,7 @@
 
 ghost use Rattle.std.specs.Prelude.{◌≡◌};
 
-use crate::scripts::{adding, closed, created, engine, resetting};
+use crate::scripts::{adding, closed, engine, made_with, resetting};
 use coord_disk::{Disk, MemDisk};
 use coord_engine::{Closed, Engine, Origin, Share};
 use coord_ledger::{Ledger, Note, Seen, Ticket};
@@ -204,7 +204,7 @@ fn callers_make_one_history<R: Threads + Wait + Sync + Abort>(rt: &R, alloc: Glo
         adding(1, 1, 1).expect(rt, "no step"),
         adding(2, 1, 2).expect(rt, "no step"),
     ];
-    let ledger = created(alloc, MemDisk::new(alloc), &adds).expect(rt, "no ledger");
+    let ledger = made_with(rt, alloc, MemDisk::new(alloc), &adds);
     let blank = Blank::new(65536);
     make_one_history::<MemDisk, Brand, R>(rt, alloc, blank, ledger)
 }

@@ -3,7 +3,7 @@
 ghost use Rattle.std.specs.Prelude.{◌≡◌};
 
 use super::full::{MOST, is_filled};
-use crate::scripts::{adding, created, engine};
+use crate::scripts::{adding, engine, made_with};
 use coord_disk::{Disk, GateDisk, MemDisk};
 use coord_engine::{Engine, Origin, Share};
 use coord_ledger::Ledger;
@@ -119,7 +119,7 @@ fn accepts_in_sync<R: Threads + Wait + Sync + Abort>(rt: &R, alloc: Global) -> b
         Arc::try_clone(&entered).expect(rt, "no memory"),
         Arc::try_clone(&answered).expect(rt, "no memory"),
     );
-    let ledger = created(alloc, gate, &[]).expect(rt, "no ledger");
+    let ledger = made_with(rt, alloc, gate, &[]);
     entered.store(false, Ordering::SeqCst);
     answered.store(false, Ordering::SeqCst);
     let blank = Blank::new(65536);

@@ -6,7 +6,7 @@ ghost use Rattle.std.specs.Thread.{IsSend, IsSync};
 
 use super::full::is_met_full;
 use super::ports::{Manner, Ring};
-use crate::scripts::{closed, created, engine, resetting, ring_steps};
+use crate::scripts::{closed, engine, made_with, resetting, ring_steps};
 use coord_check::check;
 use coord_disk::{Disk, MemDisk};
 use coord_engine::{Engine, Origin, Port, Share, flusher, hand_over, worker};
@@ -179,7 +179,7 @@ fn all_nodes_signal<R: Threads + Wait + Clock + Sync + Abort>(
     manner: Manner,
 ) -> bool {
     let steps = ring_steps(alloc, NODES).expect(rt, "no memory");
-    let ledger = created(alloc, MemDisk::new(alloc), &steps).expect(rt, "no ledger");
+    let ledger = made_with(rt, alloc, MemDisk::new(alloc), &steps);
     drop(steps);
     let blank = Blank::new(65536);
     reset_ring::<MemDisk, Brand, R>(rt, alloc, blank, ledger, manner)

@@ -1,9 +1,10 @@
+use Rattle.std.proofs.Common.{◌≡◌, ◌++◌}
+use Rattle.std.specs.Vec.Iter.{into_iter_items}
 use Rattle.coord_server.specs.Ending.{AddsWorkers}
 use Rattle.coord_server.proofs.life.with_workers.Given as goal
 
--- so far
+-- so far, and with those that are left all
 abbrev pub invariant-loop-worker : goal.invariant-loop-worker
 invariant-loop-worker g l =
-    (goal.iterator-loop-worker g).can_next l.worker-iterator
-    × (goal.iterator-loop-worker g).is_finite l.worker-iterator
-    × AddsWorkers l.fn.first.items l.shares.items
+    AddsWorkers l.fn.first.items l.shares.items
+    × (l.shares.items ++ into_iter_items l.worker-iterator ≡ l.fn.first.items ++ l.fn.workers.items)
