@@ -17,7 +17,7 @@ use Rattle.coord_world.specs.protocol.Next.{fold}
 use Rattle.coord_world.specs.protocol.NumberedWorld.{World}
 use Rattle.coord_world.specs.protocol.Rows.{rows_of}
 use Rattle.coord_world.specs.protocol.Ranges.{InRange}
-use Rattle.coord_store.specs.Kept.{GivesEither, Holds, IsKept, IsOnlyWorld}
+use Rattle.coord_store.specs.Kept.{GivesEither, Holds, ImagesGive, IsKept, IsOnlyWorld, Kept}
 use Rattle.coord_store.specs.Recovered.{AllFresh, Gives, IsBody, Recovered, Takes}
 use Rattle.coord_store.proofs.Replaying.{replays-push}
 
@@ -94,6 +94,11 @@ module _ {D : Type 0} (present : D → Present) (keeps_model : D → Bool) where
   pub begun : (clock : D → ℕ) (left_since : D → ℕ → List ℕ → Type 0) (journal : Journal D) (w : World) → Holds present journal w → ((image : List ℕ) → left_since (disk_of journal) (clock (disk_of journal)) image → IsImage (present (disk_of journal)) image)
       → LeavesOnly clock left_since (disk_of journal) (disk_of journal) (IsOnlyWorld w)
   begun clock left_since journal w holds now = started clock left_since (disk_of journal) (IsOnlyWorld w) (λ image left. image_gives journal w holds image (now image left))
+
+  -- the same of a store of which no commit was torn
+  pub stays : (clock : D → ℕ) (left_since : D → ℕ → List ℕ → Type 0) (s : Kept D) → ImagesGive present s → s.torn ≡ None → ((image : List ℕ) → left_since s.disk (clock s.disk) image → IsImage (present s.disk) image) → LeavesOnly clock left_since s.disk s.disk (IsOnlyWorld s.world)
+  stays clock left_since s images none now =
+      started clock left_since s.disk (IsOnlyWorld s.world) (λ image left. ⊎_elim (λ gives. gives) (λ torn. let no : ⊥ = cc (none, torn.1) in absurd no) (images image (now image left)))
 
   -- a store that goes on
   pub kept_on : (journal : Journal D) (w : World) (torn : Option World) → torn ≡ None → Legal w → has_stopped journal ≡ false → (keeps_model (disk_of journal) ≡ true → Holds present journal w) → IsKept present keeps_model journal w torn

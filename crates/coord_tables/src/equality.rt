@@ -38,16 +38,34 @@ impl Same for Session {
 
 impl Same for Node {
     fn is_same(&self, other: &Node) -> bool {
-        self.version() == other.version()
-            && self.group() == other.group()
-            && self.mode() == other.mode()
-            && self.parent() == other.parent()
-            && self.pend() == other.pend()
-            && self.neighbours() == other.neighbours()
-            && self.epoch() == other.epoch()
-            && self.confirmed() == other.confirmed()
-            && self.distance() == other.distance()
+        is_same_member(self, other) && is_same_stand(self, other) && is_same_history(self, other)
     }
+}
+
+/// Whether two nodes are of one version and one group, and have the same neighbours.
+fn is_same_member(a: &Node, b: &Node) -> bool
+    ensures { IsTrue result ↔ ((a.now.version ≡ b.now.version) × (a.now.group ≡ b.now.group) ×
+        (a.now.neighbours ≡ b.now.neighbours)) }
+{
+    a.version() == b.version() && a.group() == b.group() && a.neighbours() == b.neighbours()
+}
+
+/// Whether two nodes stand at the same place of a reset.
+fn is_same_stand(a: &Node, b: &Node) -> bool
+    ensures { IsTrue result ↔ ((a.now.mode ≡ b.now.mode) × (a.now.parent ≡ b.now.parent) ×
+        (a.now.pend ≡ b.now.pend) × (a.now.distance ≡ b.now.distance)) }
+{
+    a.mode() == b.mode()
+        && a.parent() == b.parent()
+        && a.pend() == b.pend()
+        && a.distance() == b.distance()
+}
+
+/// Whether two nodes have been through the same resets.
+fn is_same_history(a: &Node, b: &Node) -> bool
+    ensures { IsTrue result ↔ ((a.now.epoch ≡ b.now.epoch) × (a.now.confirmed ≡ b.now.confirmed)) }
+{
+    a.epoch() == b.epoch() && a.confirmed() == b.confirmed()
 }
 
 impl Same for Lane {

@@ -5,11 +5,14 @@ ghost use Rattle.coord_disk.specs.Model.Moments.{LeavesOnly};
 ghost use Rattle.coord_store.specs.Kept.{GivesEither, IsOnlyWorld, has_stopped};
 ghost use Rattle.coord_store.specs.Migrating.{RefusesMigration, failures_in, risen};
 ghost use Rattle.coord_store.specs.declared.faults.StoreFault.TheVariants.{OutOfMemory, Device, Stopped};
+ghost use Rattle.coord_world.specs.protocol.Legal.{Legal};
 
 use super::Store;
 use crate::writing::put_in_place;
 use crate::{CommitFault, StoreFault};
 use coord_disk::Disk;
+use coord_world::World;
+use std::mem::replace;
 
 impl<D: Disk> Store<D> {
     /// Raises a store of version 1 to version 2. Its world stays as it is, and each distance is 0. Each
@@ -46,27 +49,56 @@ impl<D: Disk> Store<D> {
             D.clock self.new.disk ≤ D.clock self.old.disk + 4 }
         ensures model { D.keeps_model self.new.disk ≡ D.keeps_model self.old.disk }
     {
-        if self.torn.is_some() {
+        self.images_give_world();
+        if self.stopped() {
             return Err(StoreFault::Stopped);
         }
-        self.world.ranges();
-        if self.world.version().number() == 2 {
+        let world = self.world();
+        world.ranges();
+        if world.version().number() == 2 {
             return Ok(());
         }
-        if let Some(node) = self.world.first_busy() {
+        if let Some(node) = world.first_busy() {
             return Err(StoreFault::NotQuiet(node));
         }
-        let next = self.world.raised()?;
+        let next = world.raised()?;
+        self.put(next)
+    }
+
+    // Puts another world in place of all that is stored.
+    fn put(&mut self, next: World) -> Result<(), StoreFault>
+        requires legal { Legal next }
+        requires going { has_stopped self.old ≡ false }
+        ensures any_moment { D.keeps_model self.old.disk ≡ true
+            → LeavesOnly D.clock D.left_since self.old.disk self.new.disk
+            (GivesEither self.old.world next) }
+        ensures any_moment_refused { D.keeps_model self.old.disk ≡ true
+            → IfErr result (λ fault. fault ≢ Device →
+            LeavesOnly D.clock D.left_since self.old.disk self.new.disk
+            (IsOnlyWorld self.old.world)) }
+        ensures world { OnOk result (self.new.world ≡ next) }
+        ensures going { OnOk result (self.new.torn ≡ None) }
+        ensures torn { IsErrOf result StoreFault.Device → self.new.torn ≡ Some next }
+        ensures same_world { IfErr result (λ fault. self.new.world ≡ self.old.world) }
+        ensures unchanged { IfErr result (λ fault. fault ≢ Device → self.new ≡ self.old) }
+        ensures fault { IfErr result (λ fault. (fault ≡ OutOfMemory) ⊎ (fault ≡ Device)) }
+        ensures failures { D.failures self.new.disk ≡
+            D.failures self.old.disk + failures_in result }
+        ensures calls { D.keeps_model self.old.disk ≡ true →
+            D.clock self.new.disk ≤ D.clock self.old.disk + 4 }
+        ensures model { D.keeps_model self.new.disk ≡ D.keeps_model self.old.disk }
+    {
         match put_in_place(self.alloc, &mut self.journal, &next) {
             Ok(()) => {
-                self.world = next;
+                drop(replace(&mut self.world, next));
                 Ok(())
             }
             Err(fault) => {
                 if fault == CommitFault::Device {
-                    self.torn = Some(next);
+                    drop(self.torn.replace(next));
                     return Err(StoreFault::Device);
                 }
+                drop(next);
                 Err(StoreFault::OutOfMemory)
             }
         }

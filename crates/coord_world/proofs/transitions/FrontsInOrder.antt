@@ -1,7 +1,8 @@
 -- The new fronts of lanes are those at some keys in ascending order, where the lanes at all other keys have none.
 use Rattle.std.proofs.Common.{◌≡◌, ℕ, Bool, true, false, ◌&&◌, ◌||◌, List, [], ◌∷◌, ◌++◌, Option, Some, None, cond, eqb, refl, sym, ap, ◌∙◌, subst, arith, append_assoc}
 use Rattle.std.specs.List.{AllByRecursion}
-use Rattle.std.specs.Ordering.{eq_by_cmp, is_eq, is_lt, ordering_reverse}
+use Rattle.std.specs.Ordering.{eq_by_cmp, is_eq, is_lt, nat_cmp, ordering_reverse, ordering_then}
+use Rattle.std.specs.declared.cmp.Ordering.{Ordering}
 use Rattle.std.specs.declared.cmp.Ordering.TheVariants.{Less, Equal, Greater}
 use Rattle.std.specs.FinMap.Entries.{below_all, find, is_sorted}
 use Rattle.std.proofs.lemmas.Bool.Decides.{nat_tests}
@@ -26,8 +27,16 @@ abbrev pub among : ℕ × ℕ → List (ℕ × ℕ) → Bool
 among q [] = false
 among q (k ∷ ks) = (eqb q.0 k.0 && eqb q.1 k.1) || among q ks
 
+same_number : (m n : ℕ) → is_eq (nat_cmp m n) ≡ eqb m n
+same_number m n = grind (arith, nat_tests)
+
+then_equal : (r s : Ordering) → is_eq (ordering_then r s) ≡ (is_eq r && is_eq s)
+then_equal Less s = refl
+then_equal Equal s = refl
+then_equal Greater s = refl
+
 same_key : (p q : ℕ × ℕ) → eq_by_cmp pair_cmp p q ≡ (eqb p.0 q.0 && eqb p.1 q.1)
-same_key p q = grind (arith, nat_tests)
+same_key p q = then_equal (nat_cmp p.0 q.0) (nat_cmp p.1 q.1) ∙ (λ i. same_number p.0 q.0 i && same_number p.1 q.1 i)
 
 turned : (p q : ℕ × ℕ) → pair_cmp p q ≡ Less → pair_cmp q p ≡ Greater
 turned p q less = pair_cmp_total.antisymm q p ∙ ap ordering_reverse less
