@@ -1,12 +1,13 @@
 -- When a flight starts. One that starts while packets of the last one are still on their way back as
 -- steps, or while callers that the last one answered are about to come again, goes out less full than
 -- it could. So those are counted, and waited for a little.
-use Rattle.std.specs.Prelude.{ℕ, ◌+◌, ◌-◌, ◌^◌, Bool, true, false, ◌&&◌, ◌||◌, not, nat_eq, nat_le, is_some, length, min, take}
+use Rattle.std.specs.Prelude.{ℕ, ◌+◌, Bool, true, false, ◌&&◌, ◌||◌, not, if◌then◌else◌, nat_eq, nat_le, is_some, length, take}
 use Rattle.std.specs.List.{count_by}
 use Rattle.coord_types.specs.declared.limits.TheConstants.{MAX_BATCH_STEPS}
 use Rattle.coord_types.specs.declared.steps.Step.{Step}
 use Rattle.coord_types.specs.declared.steps.Step.TheVariants.{Order, Take, Clear}
 use Rattle.coord_ledger.specs.machine.Log.{pending}
+use Rattle.coord_engine.specs.declared.guarded.pacing.TheConstants.{MOST_AWAITED}
 use Rattle.coord_engine.specs.State.{GuardedState}
 
 -- how many steps are accepted and not settled
@@ -51,6 +52,10 @@ is_order (Clear receipt) = false
 abbrev pub leaving_orders : {D : Type 0} → GuardedState D → ℕ
 leaving_orders g = count_by is_order (take MAX_BATCH_STEPS (pending g.ledger.log))
 
+-- of so many steps that are likely to come, how many are waited for: all, or none where that many fill a flight well without
+abbrev pub worth_awaiting : ℕ → ℕ
+worth_awaiting n = if nat_le n MOST_AWAITED then n else 0
+
 -- Who was answered is likely to come again, beside those whose steps are pending already. A caller that is alone is never waited for, since its own step is the one that is awaited.
 abbrev pub with_callers_awaited : {D : Type 0} → GuardedState D → GuardedState D
-with_callers_awaited g = with_awaited g (min (g.awaited + pending_count g) (2 ^ 64 - 1))
+with_callers_awaited g = with_awaited g (worth_awaiting (g.awaited + pending_count g))

@@ -199,9 +199,9 @@ pub fn hand_over<D: Disk, L: Origin, P: Port, R: Wait>(
 }
 
 /// Flushes what is accepted, and hands what was released to the port (`flush_all`). Before a flight
-/// it lets the callers that the last one answered come again, for a sixteenth of the time that that
-/// one took at most, and the packets that it released come back as steps, for some milliseconds at
-/// most.
+/// it lets the callers that the last one answered come again, where they are few, for a sixteenth of
+/// the time that that one took at most, and the packets that it released come back as steps, for
+/// some milliseconds at most.
 ///
 /// It ends after a fault of the device, and after `Engine::finish` once nothing is pending. Where it
 /// finds no memory it tries again.

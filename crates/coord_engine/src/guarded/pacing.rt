@@ -17,6 +17,11 @@ use crate::Origin;
 use coord_disk::Disk;
 use coord_types::{MAX_BATCH_STEPS, Step};
 
+/// The most steps that a flight waits for. Where more are likely to come it waits for none: a flight
+/// of that many callers is well filled without (some 50 of 64 are in each), and over a fast disk
+/// the wait costs more than the few that are missing.
+const MOST_AWAITED: u64 = 32;
+
 /// How many of these steps are orders.
 fn count_orders(steps: &[Step]) -> usize
     ensures { result ≡ count_by is_order steps.now }
@@ -72,11 +77,12 @@ impl<D: Disk, L: Origin> Guarded<D, L> {
     }
 
     /// The flight is back: the callers whose orders left with it may come again, beside those whose
-    /// steps are pending.
+    /// steps are pending. Where they are many they are not waited for.
     pub fn await_callers(&mut self)
         ensures { self.new ≡ with_callers_awaited self.old }
     {
-        self.awaited = self.awaited.saturating_add(self.pending() as u64);
+        let steps = self.awaited.saturating_add(self.pending() as u64);
+        self.awaited = if steps <= MOST_AWAITED { steps } else { 0 };
     }
 
     /// Callers were waited for long enough.
