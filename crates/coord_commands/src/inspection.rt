@@ -1,9 +1,10 @@
 //! Looking at the store on a disk.
 
-ghost use Rattle.std.specs.Prelude.{◌≡◌, false, true, IfErr, IfOk, OnOk};
+ghost use Rattle.std.specs.Prelude.{◌≡◌, false, true, IfErr, IfOk, OnOk, string_bytes};
 ghost use Rattle.coord_commands.specs.Ending.{IsCutShort, PrintsOne};
 ghost use Rattle.coord_commands.specs.Folders.{bytes_of, reads};
 ghost use Rattle.coord_commands.specs.Inspection.{Checks, IsCheckedLine, IsLegalLine, IsOfOpening, IsShown, IsViolatedLine, Shows};
+ghost use Rattle.coord_commands.specs.Printed.{shown};
 
 use crate::fault::Fault;
 use crate::folder::Folder;
@@ -12,7 +13,8 @@ use crate::status::report;
 use coord_disk::Disk;
 use coord_store::{Store, StoreFault};
 use coord_view::{print_view, view_of};
-use std::alloc::Global;
+use coord_world::World;
+use std::alloc::{AllocError, Global};
 use std::io::Write;
 
 /// Prints whether the store on the disk of a name is legal, and how many steps it has, or else the
@@ -134,13 +136,25 @@ pub fn show_store<D: Disk, W: Write>(alloc: Global, disk: D, output: &mut W) -> 
 {
     match Store::open(alloc, disk) {
         Ok(store) => {
-            let world = store.world();
-            // All accepted steps of a store that is not being served are settled.
-            let view = view_of(alloc, world.count(), world)?;
-            let mut text = String::new(alloc);
-            print_view(&mut text, &view)?;
+            let made = shown_text(alloc, store.world());
+            drop(store);
+            let text = made?;
             print(output, &text)
         }
-        Err((fault, _disk)) => Err(Fault::Store(fault)),
+        Err((fault, disk)) => {
+            drop(disk);
+            Err(Fault::Store(fault))
+        }
     }
+}
+
+/// The lines that show the world of a store.
+fn shown_text(alloc: Global, world: &World) -> Result<String, AllocError>
+    ensures { IfOk result (λ text. string_bytes text ≡ shown world.now) }
+{
+    // All accepted steps of a store that is not being served are settled.
+    let view = view_of(alloc, world.count(), world)?;
+    let mut text = String::new(alloc);
+    print_view(&mut text, &view)?;
+    Ok(text)
 }

@@ -61,7 +61,9 @@ fn init_at<F: Folder, W: Write>(
         Err(error) => return Err(Fault::or_memory(&error, Fault::Read)),
     };
     let topology = topology_from(alloc, reader)?;
-    let count = make(alloc, folder, file, &topology)?;
+    let made = make(alloc, folder, file, &topology);
+    drop(topology);
+    let count = made?;
     let text = format!(in alloc; "created {count}\n")?;
     print(output, &text)
 }

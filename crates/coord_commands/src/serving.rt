@@ -75,10 +75,19 @@ fn serve_at<S: Net + Threads + Wait + Clock + Sync + AllocGlobal, F: Folder, W: 
 {
     let disk = folder.open(file)?;
     let store = opened(rt.alloc(), disk)?;
-    let listener = bound(rt, address)?;
-    let closed = serve_store(rt, rt.alloc(), store, &listener, output)?;
-    folder.close(file, left(closed));
-    Ok(())
+    match bound(rt, address) {
+        Ok(listener) => {
+            let served = serve_store(rt, rt.alloc(), store, &listener, output);
+            drop(listener);
+            let closed = served?;
+            folder.close(file, left(closed));
+            Ok(())
+        }
+        Err(fault) => {
+            drop(store);
+            Err(fault)
+        }
+    }
 }
 
 /// The store on a disk.

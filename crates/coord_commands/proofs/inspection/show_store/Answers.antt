@@ -4,14 +4,14 @@ use Rattle.coord_commands.proofs.Endings.{cut_last, printed_last}
 use Rattle.coord_commands.proofs.Opening.{if_keeps}
 use Rattle.coord_commands.proofs.inspection.show_store.Goals as goal
 
-pub returns-in_ok-print_view-in-Ok-clause-shown : goal.returns-in_ok-print_view-in-Ok-clause-shown
-returns-in_ok-print_view-in-Ok-clause-shown g c =
+pub returns-in_ok-text-in-Ok-clause-shown : goal.returns-in_ok-text-in-Ok-clause-shown
+returns-in_ok-text-in-Ok-clause-shown g c =
     let w = c.in-Ok.store.world in
     let text : c.deref.result.now ≡ shown w = search rules in
     printed_last _ c.print.result _ _ c.deref.result.now (record { world = w; given = if_keeps _ _ _ c.in-Ok.ensures.world; told = text }) c.print.ensures.ok
 
-pub returns-in_ok-print_view-in-Ok-clause-cut : goal.returns-in_ok-print_view-in-Ok-clause-cut
-returns-in_ok-print_view-in-Ok-clause-cut g c =
+pub returns-in_ok-text-in-Ok-clause-cut : goal.returns-in_ok-text-in-Ok-clause-cut
+returns-in_ok-text-in-Ok-clause-cut g c =
     let w = c.in-Ok.store.world in
     let text : c.deref.result.now ≡ shown w = search rules in
     cut_last _ c.print.result _ _ c.deref.result.now (record { world = w; given = if_keeps _ _ _ c.in-Ok.ensures.world; told = text }) c.print.ensures.err c.print.ensures.fault

@@ -22,10 +22,10 @@ pub returns-in_err-count-clause-fault : goal.returns-in_err-count-clause-fault
 returns-in_err-count-clause-fault g c =
     let file = g.F.Folder.says c.args.folder.now c.args.topology.now in
     let before = reads (g.F.Folder.holds c.args.folder.now c.args.file.now) in
-    let after = reads (g.F.Folder.holds c.make.new.folder c.args.file.now) in
+    let after = reads (g.F.Folder.holds c.make-made.new.folder c.args.file.now) in
     let topology = c.in_ok-topology.topology in
     let fault = c.in_err-count.field-0.0 in
-    let is : RefusesStore before after (content topology) fault = subst (λ r. IfErr r (RefusesStore before after (content topology))) c.in_err-count.was c.make.ensures.fault in
+    let is : RefusesStore before after (content topology) fault = subst (λ r. IfErr r (RefusesStore before after (content topology))) c.in_err-count.was c.make-made.ensures.fault in
     let returned : c.from_residual-in_err-count.result ≡ Err fault = search rules in
     subst (λ r. IfErr r (IsOfMaking file before after)) (sym returned)
     (refused_store file _ before after c.topology_from.result topology fault c.in-Ok.ensures c.in_ok-topology.was c.topology_from.ensures.ok is)
