@@ -9,7 +9,8 @@ ghost use Rattle.coord_store.specs.Kept.{made};
 ghost use Rattle.coord_world.specs.protocol.NumberedWorld.{no_world};
 ghost use Rattle.coord_drill.specs.Asked.{asked};
 ghost use Rattle.coord_drill.specs.Drill.{drill_over};
-ghost use Rattle.coord_drill.specs.Drilled.{IsOfWork, asked_by};
+ghost use Rattle.coord_drill.specs.Drilled.{asked_by};
+ghost use Rattle.coord_drill.specs.Faults.{IsOfDisk, MayEnd};
 ghost use Rattle.coord_drill.specs.Holding.{HasDisk, IsMade, IsReady, Tells, front_of, state_of};
 ghost use Rattle.coord_drill.specs.Moments.{Begins, Carries};
 ghost use Rattle.coord_drill.specs.declared.asked.Asked.TheVariants as ask;
@@ -50,7 +51,7 @@ impl Drill {
         ensures ready { IfOk result IsReady }
         ensures disk { IfOk result (λ drill. HasDisk drill (made HALF_SIZE 1)) }
         ensures state { IfOk result (λ drill. state_of drill ≡ drill_over (no_world 1)) }
-        ensures fault { IfErr result IsOfWork }
+        ensures fault { IfErr result IsOfDisk }
     {
         Ok(Drill {
             alloc,
@@ -79,7 +80,7 @@ impl Drill {
         ensures ready { OnOk result (IsReady self.new) }
         ensures told { OnOk result (Tells (string_bytes text.old) (string_bytes text.new) (λ told.
             Carries self.old (asked (front_of self.old) request.now) told self.new)) }
-        ensures fault { IfErr result IsOfWork }
+        ensures fault { IfErr result (MayEnd (asked (front_of self.old) request.now)) }
     {
         let wanted = wanted_by(self.driver().ledger().front(), request);
         match wanted {
@@ -128,7 +129,7 @@ impl Drill {
         ensures ready { OnOk result (IsReady self.new) }
         ensures disk { OnOk result (HasDisk self.new (made HALF_SIZE 2)) }
         ensures told { OnOk result (Carries self.old ask.Version2 [] self.new) }
-        ensures fault { IfErr result IsOfWork }
+        ensures fault { IfErr result IsOfDisk }
     {
         let driver = Driver::over(new_ledger(self.alloc, 2)?);
         put(&mut self.driver, driver);
@@ -157,7 +158,7 @@ impl Drill {
 fn new_ledger(alloc: Global, version: u8) -> Result<Ledger<MemDisk>, Fault>
     requires { (1 ≤ version) × (version ≤ 2) }
     ensures made { IfOk result (IsMade version) }
-    ensures fault { IfErr result IsOfWork }
+    ensures fault { IfErr result IsOfDisk }
 {
     let store = match Store::create(alloc, new_disk(alloc), HALF_SIZE, version) {
         Ok(store) => store,

@@ -42,10 +42,6 @@ keeps disk = true
 abbrev since : MemDisk → ℕ → List ℕ → Type 0
 since disk = LeftSince (past_of disk)
 
-pub if_ok_more : {A E : Type 0} {P Q : A → Type 0} (r : Result A E) → ((a : A) → P a → Q a) → IfOk r P → IfOk r Q
-if_ok_more (Ok a) more p = more a p
-if_ok_more (Err e) more p = tt
-
 pub if_ok_both : {A E : Type 0} (P Q : A → Type 0) (r : Result A E) → IfOk r P → IfOk r Q → IfOk r (λ a. P a × Q a)
 if_ok_both P Q (Ok a) p q = (p, q)
 if_ok_both P Q (Err e) p q = tt

@@ -4,7 +4,7 @@ ghost use Rattle.std.specs.Prelude.{◌≡◌, ◌++◌, OnOk, string_bytes, IfE
 ghost use Rattle.coord_ledger.specs.ledger.State.{IsGranted, reply_of};
 ghost use Rattle.coord_ledger.specs.machine.Log.{settled_count};
 ghost use Rattle.coord_drill.specs.Answered.{kept_line};
-ghost use Rattle.coord_drill.specs.Drilled.{IsOfWork};
+ghost use Rattle.coord_drill.specs.Faults.{IsOfMemory};
 ghost use Rattle.coord_drill.specs.Holding.{IsReady, Tells};
 ghost use Rattle.coord_drill.specs.Moments.{Carries};
 ghost use Rattle.coord_drill.specs.declared.asked.Asked.TheVariants.{Submit};
@@ -24,7 +24,7 @@ impl Drill {
         ensures ready { OnOk result (IsReady self.new) }
         ensures told { OnOk result (Tells (string_bytes text.old) (string_bytes text.new) (λ told.
             Carries self.old (Submit step) told self.new)) }
-        ensures fault { IfErr result IsOfWork }
+        ensures fault { IfErr result IsOfMemory }
     {
         self.driver();
         let Some(driver) = &mut self.driver else {
