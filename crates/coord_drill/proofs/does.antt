@@ -8,3 +8,4 @@ pub mod Verdicts
 pub mod LineResponds
 pub mod Moments
 pub mod Flushes
+pub mod Submits

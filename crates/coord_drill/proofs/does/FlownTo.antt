@@ -93,14 +93,12 @@ is_back l was out is r new landed =
 
 pub flown_to : (l : LedgerState MemDisk) (r : Flown) (new : Driven MemDisk) → IsBack l r new → FlownTo l r new
 flown_to l flown.Nothing new back = absurd back.told
-flown_to l (flown.Settled rs) new back = back
-flown_to l (flown.Failed fault) new back = back
+flown_to l r new back = back
 
 -- and no flight is out
 pub flown_home : (l : LedgerState MemDisk) (r : Flown) (new : Driven MemDisk) → FlownTo l r new → new.flight ≡ None
 flown_home l flown.Nothing new to = ap (λ (d : Driven MemDisk). d.flight) to
-flown_home l (flown.Settled rs) new to = ap (λ (d : Driven MemDisk). d.flight) to.is
-flown_home l (flown.Failed fault) new to = ap (λ (d : Driven MemDisk). d.flight) to.is
+flown_home l r new to = ap (λ (d : Driven MemDisk). d.flight) to.is
 
 -- ---- its events
 
@@ -139,16 +137,12 @@ module _ (l : LedgerState MemDisk) (new : Driven MemDisk) (claims : List Claim) 
   failed_held : (fault : CommitFault) → FlownTo l (flown.Failed fault) new → IsHeld new.ledger claims
   failed_held commit.Device back = subst (λ m. IsHeld m claims) (sym (marked (flown.Failed commit.Device) Torn back back.told)) (record { home = refl; here = (back.disk, refl); within = held.within; tickets = held.tickets })
   failed_held commit.OutOfMemory back = subst (λ m. IsHeld m claims) (sym (marked (flown.Failed commit.OutOfMemory) New back back.told)) (record { home = refl; here = (back.disk, refl); within = held.within; tickets = held.tickets })
-  failed_held commit.Full back = absurd back.told
-  failed_held commit.Stopped back = absurd back.told
-  failed_held commit.Again back = absurd back.told
+  failed_held fault back = absurd back.told
 
   failed_leaves : (holds begun : Bool) (fault : CommitFault) (count : ℕ) → FlownTo l (flown.Failed fault) new → Leaves l (flown_answers (flown.Failed fault) b count) new.ledger holds begun
   failed_leaves holds begun commit.Device count back tickets = ap (λ m. drill_of m holds begun) (marked (flown.Failed commit.Device) Torn back back.told)
   failed_leaves holds begun commit.OutOfMemory count back tickets = ap (λ m. drill_of m holds begun) (marked (flown.Failed commit.OutOfMemory) New back back.told)
-  failed_leaves holds begun commit.Full count back tickets = absurd back.told
-  failed_leaves holds begun commit.Stopped count back tickets = absurd back.told
-  failed_leaves holds begun commit.Again count back tickets = absurd back.told
+  failed_leaves holds begun fault count back tickets = absurd back.told
 
   -- of a flight that is settled
   module _ (rs : List Release) (to : FlownTo l (flown.Settled rs) new) where

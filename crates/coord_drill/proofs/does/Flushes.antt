@@ -1,4 +1,4 @@
--- Lines that send a flight out: a flush, and a step that is settled at once.
+-- A flush.
 use Rattle.std.proofs.Common.{◌≡◌, ℕ, true, false, cond, List, [], ◌∷◌, ◌++◌, Option, Some, Ok, sym, ap, ◌∙◌, subst}
 use Rattle.coord_disk.specs.declared.memory.MemDisk.{MemDisk}
 use Rattle.coord_types.specs.declared.steps.Reply.{Reply}
@@ -42,21 +42,3 @@ flushes d new told ready later begins flown =
     let run = goes_to d.driver new.driver v.0 w.0 (flight_events flown.given) flown.given v.1 w.1 flown.moments v.0.ledger [] [] (begins_at d.driver v.0 v.1 begins) in
     carries d new v.0 w.0 Flush flown.given line v.1 w.1 ready (λ same. cc) run flown.with_memory (subst (λ s. line ≡ asked_lines s Flush flown.given) s (flush_line d new told flown))
     (sym (state_is new w.0 w.1) ∙ flushed d new told flown ∙ ap (λ s. after_asked s Flush flown.given) s)
-
--- a step that was accepted, by the drill that then holds its ticket
-pub settles : (d mid new : Drill) (v w : Driven MemDisk) (x : Step) (t : Claim) (told : List ℕ) → d.driver ≡ Some v → mid.driver ≡ Some w → mid.holds ≡ d.holds → mid.has_begun ≡ true → d.holds ≡ false → IsReady d → IsReady new → HandedTo v.ledger x (Ok (Accepted t)) w.ledger →
-    IsRun v.ledger (event.Submit x ∷ []) (answer.Accepted t.step ∷ []) w → Flies mid told new → Carries d (Submit x) told new
-settles d mid new v w x t told is there holds begun free ready later to handed flown =
-    let u = driver_of new later in
-    let all = goes_to mid.driver new.driver w u.0 (flight_events flown.given) flown.given there u.1 flown.moments v.ledger (event.Submit x ∷ []) (answer.Accepted t.step ∷ []) handed in
-    let mid_is : state_of mid ≡ drill_of w.ledger d.holds true = state_is mid w there ∙ (λ i. drill_of w.ledger (holds i) (begun i)) in
-    carries d new v u.0 (Submit x) (answer.Accepted t.step ∷ flown.given) told is u.1 ready (λ same. cc)
-    (subst (λ b. IsRun v.ledger (event.Submit x ∷ cond b [] (flight_events flown.given)) (answer.Accepted t.step ∷ flown.given) u.0) (sym free) all) ((λ same. cc), flown.with_memory)
-    (flown.printed ∙ ap (λ (s : DrillState). flight_lines s.log flown.given) mid_is ∙ flown_told v.ledger w.ledger d.holds d.has_begun x t to flown.given free)
-    (sym (state_is new u.0 u.1) ∙ flown_leaves v.ledger w.ledger d.holds d.has_begun x t to flown.given free (state_of new) (λ tickets. flown.goes_on tickets ∙ seen tickets mid_is))
-  where
-    run_of : DrillState → List (Option Reply) → Machine
-    run_of s tickets = run (record (machine_of s) { tickets = tickets }) (flight_events flown.given) flown.given
-
-    seen : (tickets : List (Option Reply)) → state_of mid ≡ drill_of w.ledger d.holds true → seen_as (run_of (state_of mid) tickets) mid.holds mid.has_begun ≡ seen_as (run_of (drill_of w.ledger d.holds true) tickets) d.holds true
-    seen tickets mid_is = λ i. seen_as (run_of (mid_is i) tickets) (holds i) (begun i)

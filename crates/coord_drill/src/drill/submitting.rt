@@ -6,14 +6,14 @@ ghost use Rattle.coord_ledger.specs.machine.Log.{settled_count};
 ghost use Rattle.coord_drill.specs.Answered.{kept_line};
 ghost use Rattle.coord_drill.specs.Faults.{IsOfMemory};
 ghost use Rattle.coord_drill.specs.Holding.{IsReady, Tells};
-ghost use Rattle.coord_drill.specs.Moments.{Carries};
+ghost use Rattle.coord_drill.specs.Moments.{Carries, Hands};
 ghost use Rattle.coord_drill.specs.declared.asked.Asked.TheVariants.{Submit};
 
 use super::Drill;
 use crate::fault::Fault;
 use crate::print::{print_pending, print_refusal, print_reply};
 use coord_disk::MemDisk;
-use coord_ledger::{Handed, Ledger, Ticket};
+use coord_ledger::{Driver, Handed, Ledger, Ticket};
 use coord_types::{Refusal, Step};
 use std::alloc::AllocError;
 
@@ -31,11 +31,7 @@ impl Drill {
             unreachable!()
         };
         self.tickets.reserve(1)?;
-        driver.survives();
-        let handed = driver.submit(step);
-        driver.survives();
-        step.within_ranges();
-        match handed {
+        match hand_in(driver, step) {
             Ok(Handed::Accepted(ticket)) => {
                 let number = ticket.step();
                 self.tickets.push_back_reserved(ticket);
@@ -50,6 +46,17 @@ impl Drill {
             Err(refusal) => Ok(print_refusal(text, refusal)?),
         }
     }
+}
+
+/// Hands a step in to a driver.
+fn hand_in(driver: &mut Driver<MemDisk>, step: Step) -> Result<Handed, Refusal>
+    ensures { Hands driver.old step result driver.new }
+{
+    driver.survives();
+    let handed = driver.submit(step);
+    driver.survives();
+    step.within_ranges();
+    handed
 }
 
 /// Prints the reply that is kept for a repeat, once its step is settled.
