@@ -8,4 +8,3 @@ pub mod Verdicts
 pub mod LineResponds
 pub mod Moments
 pub mod Flushes
-pub mod Submits

@@ -1,26 +1,14 @@
 -- A flush.
-use Rattle.std.proofs.Common.{◌≡◌, ℕ, true, false, cond, List, [], ◌∷◌, ◌++◌, Option, Some, Ok, sym, ap, ◌∙◌, subst}
-use Rattle.coord_disk.specs.declared.memory.MemDisk.{MemDisk}
-use Rattle.coord_types.specs.declared.steps.Reply.{Reply}
-use Rattle.coord_types.specs.declared.steps.Step.{Step}
-use Rattle.coord_ledger.specs.declared.events.Answer.TheVariants as answer
-use Rattle.coord_ledger.specs.declared.events.Event.TheVariants as event
-use Rattle.coord_ledger.specs.declared.handed.Handed.TheVariants.{Accepted}
-use Rattle.coord_ledger.specs.ledger.Calls.{HandedTo}
-use Rattle.coord_ledger.specs.ledger.Driven.{Driven}
-use Rattle.coord_ledger.specs.ledger.State.{Claim}
+use Rattle.std.proofs.Common.{◌≡◌, List, ℕ, [], ◌++◌, sym, ap, ◌∙◌, subst}
 use Rattle.coord_ledger.specs.machine.Log.{settled_world}
-use Rattle.coord_ledger.specs.machine.Machine.{Machine}
-use Rattle.coord_ledger.specs.machine.Runs.{run}
 use Rattle.coord_drill.specs.Answered.{asked_lines, flight_lines}
-use Rattle.coord_drill.specs.Drill.{DrillState, after_asked, flight_events, machine_of, seen_as}
-use Rattle.coord_drill.specs.Holding.{IsReady, drill_of, state_of}
-use Rattle.coord_drill.specs.Moments.{Begins, Carries, Flies, IsRun}
+use Rattle.coord_drill.specs.Drill.{DrillState, after_asked, flight_events}
+use Rattle.coord_drill.specs.Holding.{IsReady, state_of}
+use Rattle.coord_drill.specs.Moments.{Begins, Carries, Flies}
 use Rattle.coord_drill.specs.Printed.{count_line}
-use Rattle.coord_drill.specs.declared.asked.Asked.TheVariants.{Flush, Submit}
+use Rattle.coord_drill.specs.declared.asked.Asked.TheVariants.{Flush}
 use Rattle.coord_drill.specs.declared.drill.Drill.{Drill}
 use Rattle.coord_drill.proofs.does.Does.{driver_of, state_is}
-use Rattle.coord_drill.proofs.does.HandedTo.{flown_leaves, flown_told}
 use Rattle.coord_drill.proofs.does.Moments.{begins_at, carries, goes_to}
 
 flushed : (d new : Drill) (told : List ℕ) (flown : Flies d told new) → state_of new ≡ after_asked (state_of d) Flush flown.given

@@ -7,9 +7,8 @@ use Rattle.coord_ledger.specs.machine.Log.{settled_count}
 use Rattle.coord_drill.specs.Answered.{kept_line}
 use Rattle.coord_drill.specs.Moments.{Hands}
 use Rattle.coord_drill.specs.Printed.{pending_line, refusal_line}
-use Rattle.coord_drill.proofs.does.HandedTo.{repeated_granted}
+use Rattle.coord_drill.proofs.does.HandedTo.{accepted_ready, carries_flight, carries_pending, carries_refusal, carries_repeat, kept_ready, repeated_granted}
 use Rattle.coord_drill.proofs.does.Moments.{on_ok_both}
-use Rattle.coord_drill.proofs.does.Submits.{accepted_ready, carries_pending, carries_refusal, carries_repeat, kept_ready, settles}
 use Rattle.coord_drill.proofs.drill.Drill.submit.Goals as goal
 
 pub returns-then-self-clause-ready : goal.returns-then-self-clause-ready
@@ -41,7 +40,7 @@ returns-else-self-clause-told c =
     let w = c.hand_in.new.driver in
     let hands = subst (λ r. Hands v c.args.step r w) (c.in-Ok-Accepted.is ∙ ap Ok c.in-Ok-Accepted.field-0-is) c.hand_in.ensures in
     on_ok_weaker c.fly.result
-    (λ both. (both.0.0, (both.0.1.0, settles c.args.self.now _ c.fly.new.self v w c.args.step c.in-Ok-Accepted.ticket both.0.0 (search rules) refl refl refl (search rules) c.requires.ready both.1 c.driver.ensures.begins hands both.0.1.1)))
+    (λ both. (both.0.0, (both.0.1.0, carries_flight c.args.self.now v w c.args.step (search rules) c.requires.ready c.fly.new.self c.driver.ensures.begins _ c.in-Ok-Accepted.ticket both.0.0 refl refl refl (search rules) both.1 hands both.0.1.1)))
     (on_ok_both _ _ c.fly.result c.fly.ensures.told c.fly.ensures.ready)
 
 pub print_kept-requires : goal.print_kept-requires
