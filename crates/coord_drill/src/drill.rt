@@ -1,7 +1,7 @@
 //! A drill: the driver of a ledger over a disk in memory, and a ticket for each step that is not
 //! settled.
 
-ghost use Rattle.std.specs.Prelude.{◌≡◌, ◌++◌, ◌+◌, ◌≤◌, [], false, Some, IfOk, OnOk, string_bytes, IfErr};
+ghost use Rattle.std.specs.Prelude.{◌≡◌, ◌++◌, ◌+◌, ◌≤◌, [], false, None, Some, IfOk, OnOk, string_bytes, IfErr};
 ghost use Rattle.coord_disk.specs.Disks.Memory.{choice_of, present_of};
 ghost use Rattle.coord_disk.specs.Model.Present.{whole};
 ghost use Rattle.coord_disk.specs.declared.choice.Choice.TheVariants.{Kept};
@@ -26,7 +26,7 @@ use crate::reading::parse;
 use crate::request::Request;
 use coord_disk::{Choice, MemDisk};
 use coord_ledger::{Driver, Ledger, Ticket};
-use coord_store::Store;
+use coord_store::{Store, StoreFault};
 use std::alloc::Global;
 use std::collections::VecDeque;
 
@@ -160,13 +160,22 @@ fn new_ledger(alloc: Global, version: u8) -> Result<Ledger<MemDisk>, Fault>
     ensures made { IfOk result (IsMade version) }
     ensures fault { IfErr result IsOfDisk }
 {
-    let store = match Store::create(alloc, new_disk(alloc), HALF_SIZE, version) {
-        Ok(store) => store,
-        Err((fault, _disk)) => return Err(fault.into()),
-    };
-    match Ledger::adopt(alloc, store) {
+    match Ledger::adopt(alloc, new_store(alloc, version)?) {
         Ok(ledger) => Ok(ledger),
         Err((fault, _store)) => Err(fault.into()),
+    }
+}
+
+/// An empty store of this version, on a new disk in memory.
+fn new_store(alloc: Global, version: u8) -> Result<Store<MemDisk>, StoreFault>
+    requires { (1 ≤ version) × (version ≤ 2) }
+    ensures world { IfOk result (λ store. store.world ≡ no_world version) }
+    ensures going { IfOk result (λ store. store.torn ≡ None) }
+    ensures bytes { IfOk result (λ store. present_of store.disk ≡ made HALF_SIZE version) }
+{
+    match Store::create(alloc, new_disk(alloc), HALF_SIZE, version) {
+        Ok(store) => Ok(store),
+        Err((fault, _disk)) => Err(fault),
     }
 }
 
