@@ -40,6 +40,7 @@ use Rattle.coord_drill.specs.declared.drill.flying.Flown.TheVariants as flown
 use Rattle.coord_drill.proofs.does.Does.{held_is, state_is}
 use Rattle.coord_drill.proofs.does.Moments.{goes_on, goes_then}
 use Rattle.coord_drill.proofs.does.Settled.{collected_are, fold_version, granted_from, waiting_are}
+use Rattle.coord_drill.proofs.does.Verdicts.{no_refusal}
 
 -- ---- out and back
 
@@ -211,9 +212,9 @@ module _ (l : LedgerState MemDisk) (new : Driven MemDisk) (claims : List Claim) 
   flown_leaves holds begun (flown.Failed fault) count to tickets = failed_leaves l new claims held holds begun fault count to tickets
 
 pub flown_memory : (r : Flown) (b count : ℕ) → AllByRecursion (λ answer. answer ≢ Refused OutOfMemory) (flown_answers r b count)
-flown_memory flown.Nothing b count = ((λ same. cc), tt)
-flown_memory (flown.Settled rs) b count = ((λ same. cc), ((λ same. cc), ((λ same. cc), tt)))
-flown_memory (flown.Failed fault) b count = ((λ same. cc), ((λ same. cc), ((λ same. cc), tt)))
+flown_memory flown.Nothing b count = (no_refusal _ refl, tt)
+flown_memory (flown.Settled rs) b count = (no_refusal _ refl, (no_refusal _ refl, (no_refusal _ refl, tt)))
+flown_memory (flown.Failed fault) b count = (no_refusal _ refl, (no_refusal _ refl, (no_refusal _ refl, tt)))
 
 -- a drill that sent a flight out and took it back
 pub flies : (d new : Drill) (v w : Driven MemDisk) (r : Flown) → d.driver ≡ Some v → new.driver ≡ Some w → new.holds ≡ d.holds → new.has_begun ≡ d.has_begun → IsReady d → FlownTo v.ledger r w →

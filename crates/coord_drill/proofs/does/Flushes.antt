@@ -28,5 +28,5 @@ flushes d new told ready later begins flown =
     let s = state_is d v.0 v.1 in
     let line = told ++ count_line (settled_world (state_of new).log).count in
     let run = goes_to d.driver new.driver v.0 w.0 (flight_events flown.given) flown.given v.1 w.1 flown.moments v.0.ledger [] [] (begins_at d.driver v.0 v.1 begins) in
-    carries d new v.0 w.0 Flush flown.given line v.1 w.1 ready (λ same. cc) run flown.with_memory (subst (λ s. line ≡ asked_lines s Flush flown.given) s (flush_line d new told flown))
+    carries d new v.0 w.0 Flush flown.given line v.1 w.1 ready refl run flown.with_memory (subst (λ s. line ≡ asked_lines s Flush flown.given) s (flush_line d new told flown))
     (sym (state_is new w.0 w.1) ∙ flushed d new told flown ∙ ap (λ s. after_asked s Flush flown.given) s)

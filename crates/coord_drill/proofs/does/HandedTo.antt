@@ -30,6 +30,7 @@ use Rattle.coord_drill.specs.declared.asked.Asked.TheVariants.{Submit}
 use Rattle.coord_drill.specs.declared.drill.Drill.{Drill}
 use Rattle.coord_drill.proofs.does.Does.{driver_of, flown_after, flown_line, held_after, held_is, held_line, home_is, refused_after, refused_line, repeat_after, repeat_lines, state_is}
 use Rattle.coord_drill.proofs.does.Moments.{begins_at, carries, goes_to}
+use Rattle.coord_drill.proofs.does.Verdicts.{no_refusal, other_refusal}
 
 -- ---- what a ledger answers
 
@@ -91,21 +92,21 @@ module _ (d : Drill) (v w : Driven MemDisk) (x : Step) (is : d.driver ≡ Some v
       carries_pending t hands begun held =
           let to = hands.handed in
           let all = subst (λ b. IsRun v.ledger (event.Submit x ∷ cond b [] (flight_events [])) (answer.Accepted t.step ∷ []) w) (sym held) (hands.moments v.ledger [] [] (begins_at d.driver v is begins)) in
-          carries d new v w (Submit x) (answer.Accepted t.step ∷ []) (pending_line t.step) is now ready (λ same. cc) all ((λ same. cc), tt) (sym (held_line s x t.step held))
+          carries d new v w (Submit x) (answer.Accepted t.step ∷ []) (pending_line t.step) is now ready refl all (no_refusal _ refl, tt) (sym (held_line s x t.step held))
           ((λ i. drill_of (to.now i) (holds i) (begun i)) ∙ sym (held_after s x to.kind t.step to.judged held))
 
       pub carries_repeat : (t : Claim) → Hands v x (Ok (Repeated t)) w → new.has_begun ≡ d.has_begun → Carries d (Submit x) (kept_line (settled_count w.ledger.log) (reply_of t)) new
       carries_repeat t hands begun =
           let to = hands.handed in
           let line = kept_line (settled_count w.ledger.log) (reply_of t) in
-          carries d new v w (Submit x) (answer.Repeated t.step ∷ []) line is now ready (λ same. cc) (hands.moments v.ledger [] [] (begins_at d.driver v is begins)) ((λ same. cc), tt)
+          carries d new v w (Submit x) (answer.Repeated t.step ∷ []) line is now ready refl (hands.moments v.ledger [] [] (begins_at d.driver v is begins)) (no_refusal _ refl, tt)
           ((λ i. kept_line (settled_count (to.now i).log) (reply_of (to.claims i))) ∙ sym (repeat_lines s x to.kept t.step to.judged))
           ((λ i. drill_of (to.now i) (holds i) (begun i)) ∙ sym (repeat_after s x to.kept t.step to.judged))
 
       pub carries_refusal : (e : Refusal) → Hands v x (Err e) w → new.has_begun ≡ d.has_begun → e ≢ OutOfMemory → Carries d (Submit x) (refusal_line e) new
       carries_refusal e hands begun other =
           let to = hands.handed in
-          carries d new v w (Submit x) (answer.Refused e ∷ []) (refusal_line e) is now ready (λ same. cc) (hands.moments v.ledger [] [] (begins_at d.driver v is begins)) ((λ same. other cc), tt) (sym (refused_line s x e))
+          carries d new v w (Submit x) (answer.Refused e ∷ []) (refusal_line e) is now ready refl (hands.moments v.ledger [] [] (begins_at d.driver v is begins)) (other_refusal e other, tt) (sym (refused_line s x e))
           ((λ i. drill_of (to.now i) (holds i) (begun i)) ∙ sym (refused_after s x e (refused_said e (ledger_verdict v.ledger x) to.why other)))
 
     -- a step that is settled at once, by the drill that holds its ticket: the machine has given that before its flight
@@ -117,8 +118,8 @@ module _ (d : Drill) (v w : Driven MemDisk) (x : Step) (is : d.driver ≡ Some v
         let tickets : List (Option Reply) = Some (record { step = t.step; kind = to.kind }) ∷ [] in
         let mid_is : state_of mid ≡ drill_of (with_accepted v.ledger x) d.holds true = state_is mid w there ∙ (λ i. drill_of (to.now i) (holds i) (begun i)) in
         let all = goes_to mid.driver new.driver w u.0 (flight_events given) given there u.1 flown.moments v.ledger (event.Submit x ∷ []) (answer.Accepted t.step ∷ []) (hands.moments v.ledger [] [] (begins_at d.driver v is begins)) in
-        carries d new v u.0 (Submit x) (answer.Accepted t.step ∷ given) told is u.1 ready (λ same. cc)
-        (subst (λ b. IsRun v.ledger (event.Submit x ∷ cond b [] (flight_events given)) (answer.Accepted t.step ∷ given) u.0) (sym free) all) ((λ same. cc), flown.with_memory)
+        carries d new v u.0 (Submit x) (answer.Accepted t.step ∷ given) told is u.1 ready refl
+        (subst (λ b. IsRun v.ledger (event.Submit x ∷ cond b [] (flight_events given)) (answer.Accepted t.step ∷ given) u.0) (sym free) all) (no_refusal _ refl, flown.with_memory)
         (flown.printed ∙ ap (λ (r : DrillState). flight_lines r.log given) mid_is ∙ sym (flown_line s x t.step given free))
         (sym (state_is new u.0 u.1) ∙ flown.goes_on tickets ∙ (λ i. seen_as (run (record (machine_of (mid_is i)) { tickets = tickets }) (flight_events given) given) (holds i) (begun i))
         ∙ sym (flown_after s x to.kind t.step given to.judged free))

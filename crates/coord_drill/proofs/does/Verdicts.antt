@@ -1,4 +1,4 @@
--- A ledger never says to a step that memory lacks.
+-- A ledger never says to a step that memory lacks, and which answers do not tell so.
 use Rattle.std.proofs.Common.{◌≡◌, ◌≢◌, Bool, true, false, cond, [], ◌∷◌, Option, Some, None, Result, Ok, Err, refl, sym, ap, ◌∙◌}
 use Rattle.std.proofs.lemmas.Bool.{false≢true}
 use Rattle.std.specs.List.{AllByRecursion}
@@ -18,6 +18,8 @@ use Rattle.coord_world.specs.declared.verdicts.Verdict.{Verdict}
 use Rattle.coord_world.specs.declared.verdicts.Verdict.TheVariants.{Fresh, Repeat}
 use Rattle.coord_world.specs.protocol.Acceptance.{accepts, against, against_command, against_data, against_receipt, is_exhausted, judged, lane, or_repeat}
 use Rattle.coord_world.specs.protocol.NumberedWorld.{World}
+use Rattle.coord_ledger.specs.declared.events.Answer.{Answer}
+use Rattle.coord_ledger.specs.declared.events.Answer.TheVariants.{Refused}
 use Rattle.coord_ledger.specs.machine.Log.{Log, front_world, settled_world}
 use Rattle.coord_ledger.specs.machine.Submits.{is_full, unless_full, verdict}
 
@@ -84,3 +86,21 @@ verdict_other false log x = full_other (is_full log) _ (accepts_other (front_wor
 
 pub never_memory : (stopped : Bool) (log : Log) (x : Step) → verdict stopped log x ≢ Err OutOfMemory
 never_memory stopped log x same = false≢true (sym (verdict_other stopped log x) ∙ ap lacks same)
+
+-- ---- answers
+
+abbrev is_refused : Answer → Bool
+is_refused (Refused e) = true
+is_refused other = false
+
+-- an answer that is no refusal tells of no want of memory
+pub no_refusal : (a : Answer) → is_refused a ≡ false → a ≢ Refused OutOfMemory
+no_refusal a other same = false≢true (sym other ∙ ap is_refused same)
+
+abbrev refusal_in : Answer → Refusal
+refusal_in (Refused e) = e
+refusal_in other = OutOfMemory
+
+-- nor does a refusal for another reason
+pub other_refusal : (e : Refusal) → e ≢ OutOfMemory → Refused e ≢ Refused OutOfMemory
+other_refusal e other same = other (ap refusal_in same)
