@@ -95,8 +95,7 @@ landed_answers (flown.Failed fault) count = Failed fault ∷ Finished count ∷ 
 -- so with its departure, for so many steps
 abbrev pub flown_answers : Flown → ℕ → ℕ → List Answer
 flown_answers flown.Nothing b count = Nothing ∷ []
-flown_answers (flown.Settled releases) b count = Begun b ∷ landed_answers (flown.Settled releases) count
-flown_answers (flown.Failed fault) b count = Begun b ∷ landed_answers (flown.Failed fault) count
+flown_answers r b count = Begun b ∷ landed_answers r count
 
 -- ---- texts
 
@@ -138,12 +137,10 @@ flown_lines w (flown.Failed fault) claims = commit_line fault
 
 -- the claims that are left
 abbrev pub left_by : World → Flown → List Claim → List Claim
-left_by w flown.Nothing claims = claims
 left_by w (flown.Settled releases) claims = waiting w.count claims
-left_by w (flown.Failed fault) claims = claims
+left_by w r claims = claims
 
 -- all are granted, where any is collected
 abbrev pub AreGranted : Log → Flown → List Claim → Type 0
-AreGranted log flown.Nothing claims = Unit {0}
 AreGranted log (flown.Settled releases) claims = AllByRecursion (IsGranted log) claims
-AreGranted log (flown.Failed fault) claims = Unit {0}
+AreGranted log r claims = Unit {0}

@@ -117,8 +117,7 @@ begun_size m b one = by_home (stays_home (has_stopped m) (is_some m.flight) m.lo
 -- the departure of a flight, and then its commit and its return
 pub flown_by : (l : LedgerState MemDisk) (v out new : Driven MemDisk) (r : Flown) (b count : ℕ) → IsBack l r new → GoesOnTo v (Begin ∷ []) (Begun b ∷ []) out → GoesOnTo out landing_events (landed_answers r count) new → GoesBy v (flown_answers r b count) new
 flown_by l v out new flown.Nothing b count back begun landed = absurd back.told
-flown_by l v out new (flown.Settled rs) b count back begun landed = goes_then v out new (Begin ∷ []) landing_events (Begun b ∷ []) (landed_answers (flown.Settled rs) count) begun landed
-flown_by l v out new (flown.Failed fault) b count back begun landed = goes_then v out new (Begin ∷ []) landing_events (Begun b ∷ []) (landed_answers (flown.Failed fault) count) begun landed
+flown_by l v out new r b count back begun landed = goes_then v out new (Begin ∷ []) landing_events (Begun b ∷ []) (landed_answers r count) begun landed
 
 -- ---- what is printed
 
@@ -192,9 +191,8 @@ module _ (l : LedgerState MemDisk) (new : Driven MemDisk) (claims : List Claim) 
 
 module _ (l : LedgerState MemDisk) (new : Driven MemDisk) (claims : List Claim) (held : IsHeld l claims) where
   pub flown_granted : (r : Flown) → FlownTo l r new → AreGranted new.ledger.log r claims
-  flown_granted flown.Nothing to = tt
   flown_granted (flown.Settled rs) to = settled_granted l new claims held rs to
-  flown_granted (flown.Failed fault) to = tt
+  flown_granted r to = tt
 
   pub flown_held : (r : Flown) (rest : List Claim) → FlownTo l r new → rest ≡ left_by (settled_world new.ledger.log) r claims → IsHeld new.ledger rest
   flown_held flown.Nothing rest to is = subst (λ cs. IsHeld new.ledger cs) (sym is) (subst (λ m. IsHeld m claims) (sym (ap (λ (d : Driven MemDisk). d.ledger) to)) held)
@@ -202,9 +200,8 @@ module _ (l : LedgerState MemDisk) (new : Driven MemDisk) (claims : List Claim) 
   flown_held (flown.Failed fault) rest to is = subst (λ cs. IsHeld new.ledger cs) (sym is) (failed_held l new claims held fault to)
 
   pub flown_told : (r : Flown) (count : ℕ) → FlownTo l r new → flown_lines (settled_world new.ledger.log) r claims ≡ flight_lines l.log (flown_answers r (next_size l.log) count)
-  flown_told flown.Nothing count to = refl
   flown_told (flown.Settled rs) count to = settled_told l new claims held rs to
-  flown_told (flown.Failed fault) count to = refl
+  flown_told r count to = refl
 
   pub flown_leaves : (holds begun : Bool) (r : Flown) (count : ℕ) → FlownTo l r new → Leaves l (flown_answers r (next_size l.log) count) new.ledger holds begun
   flown_leaves holds begun flown.Nothing count to tickets = ap (λ (d : Driven MemDisk). drill_of d.ledger holds begun) to
@@ -213,8 +210,7 @@ module _ (l : LedgerState MemDisk) (new : Driven MemDisk) (claims : List Claim) 
 
 pub flown_memory : (r : Flown) (b count : ℕ) → AllByRecursion (λ answer. answer ≢ Refused OutOfMemory) (flown_answers r b count)
 flown_memory flown.Nothing b count = (no_refusal _ refl, tt)
-flown_memory (flown.Settled rs) b count = (no_refusal _ refl, (no_refusal _ refl, (no_refusal _ refl, tt)))
-flown_memory (flown.Failed fault) b count = (no_refusal _ refl, (no_refusal _ refl, (no_refusal _ refl, tt)))
+flown_memory r b count = (no_refusal _ refl, (no_refusal _ refl, (no_refusal _ refl, tt)))
 
 -- a drill that sent a flight out and took it back
 pub flies : (d new : Drill) (v w : Driven MemDisk) (r : Flown) → d.driver ≡ Some v → new.driver ≡ Some w → new.holds ≡ d.holds → new.has_begun ≡ d.has_begun → IsReady d → FlownTo v.ledger r w →
