@@ -1,5 +1,5 @@
 -- A flush.
-use Rattle.std.proofs.Common.{◌≡◌, List, ℕ, [], ◌++◌, sym, ap, ◌∙◌, subst}
+use Rattle.std.proofs.Common.{◌≡◌, List, ℕ, [], ◌++◌, refl, sym, ap, ◌∙◌, subst}
 use Rattle.coord_ledger.specs.machine.Log.{settled_world}
 use Rattle.coord_drill.specs.Answered.{asked_lines, flight_lines}
 use Rattle.coord_drill.specs.Drill.{DrillState, after_asked, flight_events}

@@ -1,5 +1,5 @@
 -- What a step that is handed in makes of a drill: its tickets, and what is printed.
-use Rattle.std.proofs.Common.{◌≡◌, ◌≢◌, true, false, cond, List, Option, Some, [], ◌∷◌, ◌++◌, drop, Result, Ok, Err, refl, sym, ap, ◌∙◌, subst, arith}
+use Rattle.std.proofs.Common.{◌≡◌, ◌≢◌, ℕ, true, false, cond, List, Option, Some, [], ◌∷◌, ◌++◌, drop, Result, Ok, Err, refl, sym, ap, ◌∙◌, subst, arith}
 use Rattle.std.proofs.lemmas.List.{drop-append-le, length-append, take-append-le}
 use Rattle.std.specs.Prelude.{is_some}
 use Rattle.coord_disk.specs.declared.memory.MemDisk.{MemDisk}

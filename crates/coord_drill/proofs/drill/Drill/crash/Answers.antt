@@ -1,4 +1,4 @@
-use Rattle.std.proofs.Common.{◌≡◌, ◌++◌, [], ◌∷◌, Some, false, true, sym, ap, ◌∙◌, subst, rules, string_bytes}
+use Rattle.std.proofs.Common.{◌≡◌, ◌++◌, [], ◌∷◌, Some, false, true, refl, sym, ap, ◌∙◌, subst, rules, string_bytes}
 use Rattle.std.specs.Option.{option_map}
 use Rattle.coord_disk.specs.declared.memory.MemDisk.{MemDisk}
 use Rattle.coord_ledger.specs.declared.events.Answer.TheVariants.{Opened}
