@@ -6,8 +6,6 @@ pub use Rattle.coord_lines.specs.Written.{WritesFirstPart}
 use Rattle.coord_world.specs.protocol.NumberedWorld.{no_world}
 use Rattle.coord_drill.specs.declared.request.Request.{Request}
 use Rattle.coord_drill.specs.declared.request.Request.TheVariants.{Version2}
-use Rattle.coord_drill.specs.declared.fault.Fault.{Fault}
-use Rattle.coord_drill.specs.declared.fault.Fault.TheVariants.{Read, TooManyReads}
 use Rattle.coord_drill.specs.Answered.{Responds}
 use Rattle.coord_drill.specs.Drill.{DrillState, drill_over, version_of}
 use Rattle.coord_drill.specs.Format.{◌>>=◌}
@@ -58,9 +56,3 @@ Prints s n (l ∷ ls) text = PrintsOn (LineResponds s n l) (λ t rest. Prints t 
 -- a drill may print this to its input; it begins in version 1
 abbrev pub IsDrilled : List ℕ → List ℕ → Type 0
 IsDrilled input text = Prints (drill_over (no_world 1)) 1 (lines_of input) text
-
--- what is not of reading may end the printing of a line
-abbrev pub IsOfWork : Fault → Type 0
-IsOfWork Read = ⊥
-IsOfWork TooManyReads = ⊥
-IsOfWork fault = Unit {0}

@@ -1,11 +1,43 @@
--- How faults are told.
-use Rattle.std.specs.Prelude.{◌≡◌, ◌⊎◌, ℕ, Result, Ok, IsErr, MatchResult}
+-- Which faults may come, and how they are told.
+use Rattle.std.specs.Prelude.{◌≡◌, ◌≢◌, ◌⊎◌, ℕ, Bool, true, false, Result, Ok, IsErr, MatchResult}
 use Rattle.coord_store.specs.declared.faults.StoreFault.{StoreFault}
 use Rattle.coord_store.specs.declared.faults.StoreFault.TheVariants as store
 use Rattle.coord_ledger.specs.declared.trace.RunFaultKind.{RunFaultKind}
 use Rattle.coord_ledger.specs.declared.trace.RunFaultKind.TheVariants as of_run
+use Rattle.coord_drill.specs.declared.asked.Asked.{Asked}
+use Rattle.coord_drill.specs.declared.asked.Asked.TheVariants.{Crash, Version2}
 use Rattle.coord_drill.specs.declared.fault.Fault.{Fault}
-use Rattle.coord_drill.specs.declared.fault.Fault.TheVariants.{Device, OutOfMemory}
+use Rattle.coord_drill.specs.declared.fault.Fault.TheVariants.{Device, OutOfMemory, Read, TooManyReads, Write}
+
+-- want of memory
+abbrev pub IsOfMemory : Fault → Type 0
+IsOfMemory fault = fault ≡ OutOfMemory
+
+-- or a failure of the drill's own disk
+abbrev pub IsOfDisk : Fault → Type 0
+IsOfDisk fault = IsOfMemory fault ⊎ (fault ≡ Device)
+
+-- or one of the writer
+abbrev pub IsOfWriting : Fault → Type 0
+IsOfWriting fault = IsOfMemory fault ⊎ (fault ≡ Write)
+
+-- any but those of the reader
+abbrev pub IsOfWork : Fault → Type 0
+IsOfWork fault = (fault ≢ Read) × (fault ≢ TooManyReads)
+
+-- what is asked may make a disk, or open one again
+abbrev pub opens_disk : Asked → Bool
+opens_disk Crash = true
+opens_disk Version2 = true
+opens_disk asked = false
+
+-- only then a failure of the disk may end it
+abbrev pub MayEndBy : Bool → Fault → Type 0
+MayEndBy true fault = IsOfDisk fault
+MayEndBy false fault = IsOfMemory fault
+
+abbrev pub MayEnd : Asked → Fault → Type 0
+MayEnd a fault = MayEndBy (opens_disk a) fault
 
 -- a store that is refused on the drill's own disk was so for want of memory, or else the disk failed
 abbrev pub store_fault : StoreFault → Fault

@@ -9,7 +9,6 @@ use Rattle.coord_store.specs.Kept.{made}
 use Rattle.coord_types.specs.declared.steps.Step.{Step}
 use Rattle.coord_world.specs.protocol.Next.{next, reply}
 use Rattle.coord_world.specs.protocol.NumberedWorld.{World, no_world}
-use Rattle.coord_world.specs.protocol.Outputs.{outs}
 use Rattle.coord_ledger.specs.declared.events.Answer.{Answer}
 use Rattle.coord_ledger.specs.declared.events.Answer.TheVariants.{Begun, Committed, Failed, Finished, Nothing}
 use Rattle.coord_ledger.specs.declared.mark.Mark.{Mark}
@@ -17,8 +16,8 @@ use Rattle.coord_ledger.specs.declared.mark.Mark.TheVariants.{Good}
 use Rattle.coord_ledger.specs.declared.release.Release.{Release}
 use Rattle.coord_ledger.specs.ledger.Calls.{claimed, taken_back, with_out}
 use Rattle.coord_ledger.specs.ledger.Driven.{Driven, IsMarked, at_home}
-use Rattle.coord_ledger.specs.ledger.State.{Claim, FlightState, IsGranted, LedgerState, ledger_over, reply_of}
-use Rattle.coord_ledger.specs.machine.After.{releases_of, settling_releases}
+use Rattle.coord_ledger.specs.ledger.State.{Claim, IsGranted, LedgerState, ledger_over, reply_of}
+use Rattle.coord_ledger.specs.machine.After.{settling_releases}
 use Rattle.coord_ledger.specs.machine.Answers.{next_size}
 use Rattle.coord_ledger.specs.machine.Log.{Log, front_world, log_over, pending, settled_world}
 use Rattle.coord_drill.specs.Drill.{DrillState}
@@ -75,24 +74,17 @@ IsTold flown.Nothing all mark = ⊥
 IsTold (flown.Settled releases) all mark = (mark ≡ Good) × (releases ≡ all)
 IsTold (flown.Failed fault) all mark = IsMarked (Failed fault) mark
 
--- a new flight is committed and comes back
-pub record LandsAs (l : LedgerState MemDisk) (f : FlightState MemDisk) (r : Flown) (d : Driven MemDisk) : Type 0 where
+-- a new flight of n steps, which release all of these, is committed and comes back
+pub record LandsAs (l : LedgerState MemDisk) (n : ℕ) (all : List Release) (r : Flown) (d : Driven MemDisk) : Type 0 where
   pub disk : MemDisk
   pub mark : Mark
-  pub told : IsTold r (releases_of (outs f.world f.steps)) mark
-  pub is : d ≡ at_home (taken_back l (length f.steps) mark disk)
+  pub told : IsTold r all mark
+  pub is : d ≡ at_home (taken_back l n mark disk)
 
--- a flight of the next steps went out and is back
-pub record IsBack (l : LedgerState MemDisk) (r : Flown) (new : LedgerState MemDisk) : Type 0 where
-  pub disk : MemDisk
-  pub mark : Mark
-  pub told : IsTold r (settling_releases l.log (next_size l.log)) mark
-  pub is : new ≡ taken_back (with_out l (next_size l.log)) (next_size l.log) mark disk
-
--- so if one may go out
-abbrev pub FlownTo : LedgerState MemDisk → Flown → LedgerState MemDisk → Type 0
-FlownTo l flown.Nothing new = new ≡ l
-FlownTo l r new = IsBack l r new
+-- the next steps go out in one, if they may
+abbrev pub FlownTo : LedgerState MemDisk → Flown → Driven MemDisk → Type 0
+FlownTo l flown.Nothing d = d ≡ at_home l
+FlownTo l r d = LandsAs (with_out l (next_size l.log)) (next_size l.log) (settling_releases l.log (next_size l.log)) r d
 
 -- what the commit of a flight and its return were answered, where so many steps are settled then
 abbrev pub landed_answers : Flown → ℕ → List Answer
@@ -103,8 +95,7 @@ landed_answers (flown.Failed fault) count = Failed fault ∷ Finished count ∷ 
 -- so with its departure, for so many steps
 abbrev pub flown_answers : Flown → ℕ → ℕ → List Answer
 flown_answers flown.Nothing b count = Nothing ∷ []
-flown_answers (flown.Settled releases) b count = Begun b ∷ landed_answers (flown.Settled releases) count
-flown_answers (flown.Failed fault) b count = Begun b ∷ landed_answers (flown.Failed fault) count
+flown_answers r b count = Begun b ∷ landed_answers r count
 
 -- ---- texts
 
@@ -146,12 +137,10 @@ flown_lines w (flown.Failed fault) claims = commit_line fault
 
 -- the claims that are left
 abbrev pub left_by : World → Flown → List Claim → List Claim
-left_by w flown.Nothing claims = claims
 left_by w (flown.Settled releases) claims = waiting w.count claims
-left_by w (flown.Failed fault) claims = claims
+left_by w r claims = claims
 
 -- all are granted, where any is collected
 abbrev pub AreGranted : Log → Flown → List Claim → Type 0
-AreGranted log flown.Nothing claims = Unit {0}
 AreGranted log (flown.Settled releases) claims = AllByRecursion (IsGranted log) claims
-AreGranted log (flown.Failed fault) claims = Unit {0}
+AreGranted log r claims = Unit {0}

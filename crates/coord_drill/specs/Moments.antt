@@ -6,17 +6,22 @@
 -- line to the disk that is then held. So at each moment of the line, whatever the disk may hold gives the world after a
 -- prefix of the accepted steps, a legal one, with each step that was settled, and those are the steps whose replies,
 -- packets and signals are printed.
-use Rattle.std.specs.Prelude.{◌≡◌, ◌≢◌, ℕ, List, [], ◌++◌, true, Option, Some, None}
+use Rattle.std.specs.Prelude.{◌≡◌, ◌≢◌, ℕ, List, [], ◌∷◌, ◌++◌, true, Option, Some, None, Result}
 use Rattle.std.specs.List.{AllByRecursion}
 use Rattle.coord_disk.specs.Disks.History.{LeftSince}
 use Rattle.coord_disk.specs.Disks.Memory.{CrashesByChoice, clock_of, past_of, present_of}
 use Rattle.coord_disk.specs.declared.memory.MemDisk.{MemDisk}
+use Rattle.coord_types.specs.declared.refusals.Refusal.{Refusal}
 use Rattle.coord_types.specs.declared.refusals.Refusal.TheVariants.{OutOfMemory}
 use Rattle.coord_types.specs.declared.steps.Reply.{Reply}
+use Rattle.coord_types.specs.declared.steps.Step.{Step}
 use Rattle.coord_ledger.specs.declared.events.Answer.{Answer}
 use Rattle.coord_ledger.specs.declared.events.Answer.TheVariants.{Refused}
 use Rattle.coord_ledger.specs.declared.events.Event.{Event}
-use Rattle.coord_ledger.specs.ledger.Driven.{Beside, Driven, held}
+use Rattle.coord_ledger.specs.declared.events.Event.TheVariants.{Submit}
+use Rattle.coord_ledger.specs.declared.handed.Handed.{Handed}
+use Rattle.coord_ledger.specs.ledger.Calls.{HandedTo}
+use Rattle.coord_ledger.specs.ledger.Driven.{Beside, Driven, answer_to, held}
 use Rattle.coord_ledger.specs.ledger.Driver.{Drives}
 use Rattle.coord_ledger.specs.ledger.State.{LedgerState}
 use Rattle.coord_ledger.specs.machine.Runs.{run}
@@ -44,6 +49,12 @@ GoesOnTo d events given new = (l : LedgerState MemDisk) (es : List Event) (gs : 
 -- by the events of a flight
 abbrev pub GoesBy : Driven MemDisk → List Answer → Driven MemDisk → Type 0
 GoesBy d given new = GoesOnTo d (flight_events given) given new
+
+-- a driver is handed a step, and runs go on by that
+pub record Hands (d : Driven MemDisk) (x : Step) (answer : Result Handed Refusal) (new : Driven MemDisk) : Type 0 where
+  pub handed : HandedTo d.ledger x answer new.ledger
+  pub flight : new.flight ≡ d.flight
+  pub moments : GoesOnTo d (Submit x ∷ []) (answer_to answer ∷ []) new
 
 -- so with what a drill holds
 abbrev pub GoesOn : Option (Driven MemDisk) → List Event → List Answer → Option (Driven MemDisk) → Type 0

@@ -4,8 +4,7 @@ ghost use Rattle.std.specs.Prelude.{◌≡◌, ◌≢◌, Ok, Err, IfOk, IfErr, 
 ghost use Rattle.std.specs.Io.{ReadsAtMost, WritesAtMost};
 ghost use Rattle.std.specs.Io.KnownBytes.{ReadConsumes, WriteAppends};
 ghost use Rattle.std.specs.IoError.{error_kind};
-ghost use Rattle.coord_drill.specs.Drilled.{IsOfWork};
-ghost use Rattle.coord_drill.specs.Faults.{TellsOfWrite};
+ghost use Rattle.coord_drill.specs.Faults.{IsOfWriting, TellsOfWrite};
 
 use crate::fault::Fault;
 use crate::writing::fault_of;
@@ -33,7 +32,7 @@ fn taken(answer: io::Result<usize>) -> Result<usize, Fault>
     ensures other { IfErr answer (λ error. error_kind error ≢ ErrorKind.Interrupted →
         error_kind error ≢ ErrorKind.OutOfMemory → result ≡ Err Fault.Write) }
     ensures bytes { TellsOfWrite answer result }
-    ensures fault { IfErr result IsOfWork }
+    ensures fault { IfErr result IsOfWriting }
 {
     match answer {
         Ok(0) => Err(Fault::Write),
@@ -61,7 +60,7 @@ pub fn read_once<R: Read>(reader: &mut R, buf: &mut [u8]) -> Result<usize, Fault
 pub fn write_once<W: Write>(writer: &mut W, text: &[u8]) -> Result<usize, Fault>
     ensures bound { WritesAtMost result text.now }
     ensures bytes { WriteAppends (W.contents writer.old) (W.contents writer.new) result text.now }
-    ensures fault { IfErr result IsOfWork }
+    ensures fault { IfErr result IsOfWriting }
 {
     taken(writer.write(text))
 }

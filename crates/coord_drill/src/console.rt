@@ -5,7 +5,8 @@ ghost use Rattle.std.specs.Io.KnownBytes.{Appends, Consumes, IsAtEnd};
 ghost use Rattle.coord_lines.specs.Lines.{lines_on};
 ghost use Rattle.coord_world.specs.protocol.NumberedWorld.{no_world};
 ghost use Rattle.coord_drill.specs.Drill.{drill_over};
-ghost use Rattle.coord_drill.specs.Drilled.{IsDrilled, IsOfWork, Prints, WritesFirstPart};
+ghost use Rattle.coord_drill.specs.Drilled.{IsDrilled, Prints, WritesFirstPart};
+ghost use Rattle.coord_drill.specs.Faults.{IsOfDisk, IsOfWork};
 ghost use Rattle.coord_drill.specs.Holding.{IsReady, state_of};
 ghost use Rattle.coord_drill.specs.declared.fault.Fault.TheVariants.{TooManyReads};
 
@@ -65,7 +66,7 @@ impl Console {
         ensures drill { IfOk result (λ console. state_of console.drill ≡ drill_over (no_world 1)) }
         ensures line { IfOk result (λ console. console.line ≡ Some []) }
         ensures number { IfOk result (λ console. console.number ≡ 0) }
-        ensures fault { IfErr result IsOfWork }
+        ensures fault { IfErr result IsOfDisk }
     {
         Ok(Console {
             drill: Drill::new(alloc)?,

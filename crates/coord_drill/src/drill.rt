@@ -1,7 +1,7 @@
 //! A drill: the driver of a ledger over a disk in memory, and a ticket for each step that is not
 //! settled.
 
-ghost use Rattle.std.specs.Prelude.{◌≡◌, ◌++◌, ◌+◌, ◌≤◌, [], false, Some, IfOk, OnOk, string_bytes, IfErr};
+ghost use Rattle.std.specs.Prelude.{◌≡◌, ◌++◌, ◌+◌, ◌≤◌, [], false, None, Some, IfOk, OnOk, string_bytes, IfErr};
 ghost use Rattle.coord_disk.specs.Disks.Memory.{choice_of, present_of};
 ghost use Rattle.coord_disk.specs.Model.Present.{whole};
 ghost use Rattle.coord_disk.specs.declared.choice.Choice.TheVariants.{Kept};
@@ -9,7 +9,8 @@ ghost use Rattle.coord_store.specs.Kept.{made};
 ghost use Rattle.coord_world.specs.protocol.NumberedWorld.{no_world};
 ghost use Rattle.coord_drill.specs.Asked.{asked};
 ghost use Rattle.coord_drill.specs.Drill.{drill_over};
-ghost use Rattle.coord_drill.specs.Drilled.{IsOfWork, asked_by};
+ghost use Rattle.coord_drill.specs.Drilled.{asked_by};
+ghost use Rattle.coord_drill.specs.Faults.{IsOfDisk, MayEnd};
 ghost use Rattle.coord_drill.specs.Holding.{HasDisk, IsMade, IsReady, Tells, front_of, state_of};
 ghost use Rattle.coord_drill.specs.Moments.{Begins, Carries};
 ghost use Rattle.coord_drill.specs.declared.asked.Asked.TheVariants as ask;
@@ -25,7 +26,7 @@ use crate::reading::parse;
 use crate::request::Request;
 use coord_disk::{Choice, MemDisk};
 use coord_ledger::{Driver, Ledger, Ticket};
-use coord_store::Store;
+use coord_store::{Store, StoreFault};
 use std::alloc::Global;
 use std::collections::VecDeque;
 
@@ -50,7 +51,7 @@ impl Drill {
         ensures ready { IfOk result IsReady }
         ensures disk { IfOk result (λ drill. HasDisk drill (made HALF_SIZE 1)) }
         ensures state { IfOk result (λ drill. state_of drill ≡ drill_over (no_world 1)) }
-        ensures fault { IfErr result IsOfWork }
+        ensures fault { IfErr result IsOfDisk }
     {
         Ok(Drill {
             alloc,
@@ -79,7 +80,7 @@ impl Drill {
         ensures ready { OnOk result (IsReady self.new) }
         ensures told { OnOk result (Tells (string_bytes text.old) (string_bytes text.new) (λ told.
             Carries self.old (asked (front_of self.old) request.now) told self.new)) }
-        ensures fault { IfErr result IsOfWork }
+        ensures fault { IfErr result (MayEnd (asked (front_of self.old) request.now)) }
     {
         let wanted = wanted_by(self.driver().ledger().front(), request);
         match wanted {
@@ -128,7 +129,7 @@ impl Drill {
         ensures ready { OnOk result (IsReady self.new) }
         ensures disk { OnOk result (HasDisk self.new (made HALF_SIZE 2)) }
         ensures told { OnOk result (Carries self.old ask.Version2 [] self.new) }
-        ensures fault { IfErr result IsOfWork }
+        ensures fault { IfErr result IsOfDisk }
     {
         let driver = Driver::over(new_ledger(self.alloc, 2)?);
         put(&mut self.driver, driver);
@@ -157,15 +158,24 @@ impl Drill {
 fn new_ledger(alloc: Global, version: u8) -> Result<Ledger<MemDisk>, Fault>
     requires { (1 ≤ version) × (version ≤ 2) }
     ensures made { IfOk result (IsMade version) }
-    ensures fault { IfErr result IsOfWork }
+    ensures fault { IfErr result IsOfDisk }
 {
-    let store = match Store::create(alloc, new_disk(alloc), HALF_SIZE, version) {
-        Ok(store) => store,
-        Err((fault, _disk)) => return Err(fault.into()),
-    };
-    match Ledger::adopt(alloc, store) {
+    match Ledger::adopt(alloc, new_store(alloc, version)?) {
         Ok(ledger) => Ok(ledger),
         Err((fault, _store)) => Err(fault.into()),
+    }
+}
+
+/// An empty store of this version, on a new disk in memory.
+fn new_store(alloc: Global, version: u8) -> Result<Store<MemDisk>, StoreFault>
+    requires { (1 ≤ version) × (version ≤ 2) }
+    ensures world { IfOk result (λ store. store.world ≡ no_world version) }
+    ensures going { IfOk result (λ store. store.torn ≡ None) }
+    ensures bytes { IfOk result (λ store. present_of store.disk ≡ made HALF_SIZE version) }
+{
+    match Store::create(alloc, new_disk(alloc), HALF_SIZE, version) {
+        Ok(store) => Ok(store),
+        Err((fault, _disk)) => Err(fault),
     }
 }
 

@@ -3,7 +3,8 @@
 ghost use Rattle.std.specs.Prelude.{◌≡◌, ◌≢◌, OnOk, OnErr, IfErr};
 ghost use Rattle.std.specs.Io.KnownBytes.{Appends};
 ghost use Rattle.std.specs.IoError.{error_kind};
-ghost use Rattle.coord_drill.specs.Drilled.{IsOfWork, WritesFirstPart};
+ghost use Rattle.coord_drill.specs.Drilled.{WritesFirstPart};
+ghost use Rattle.coord_drill.specs.Faults.{IsOfWriting};
 
 use crate::answers::write_once;
 use crate::fault::Fault;
@@ -17,7 +18,7 @@ pub fn write_text<W: Write>(writer: &mut W, text: &[u8]) -> Result<(), Fault>
     ensures ok { OnOk result (Appends (W.contents writer.old) (W.contents writer.new) text.now) }
     ensures err { OnErr result (WritesFirstPart (W.contents writer.old)
         (W.contents writer.new) text.now) }
-    ensures fault { IfErr result IsOfWork }
+    ensures fault { IfErr result IsOfWriting }
 {
     let mut rest = text;
     for _ in 0..MOST_WRITES {

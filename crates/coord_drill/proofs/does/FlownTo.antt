@@ -7,6 +7,7 @@ use Rattle.std.specs.Prelude.{is_some}
 use Rattle.coord_disk.specs.declared.memory.MemDisk.{MemDisk}
 use Rattle.coord_types.specs.declared.refusals.Refusal.TheVariants.{OutOfMemory}
 use Rattle.coord_types.specs.declared.steps.Reply.{Reply}
+use Rattle.coord_types.specs.declared.steps.Step.{Step}
 use Rattle.coord_store.specs.declared.faults.CommitFault.{CommitFault}
 use Rattle.coord_store.specs.declared.faults.CommitFault.TheVariants as commit
 use Rattle.coord_world.specs.protocol.Next.{fold}
@@ -22,7 +23,7 @@ use Rattle.coord_ledger.specs.declared.release.Release.{Release}
 use Rattle.coord_ledger.specs.ledger.Calls.{next_flight, releases_in, taken_back, with_out}
 use Rattle.coord_ledger.specs.ledger.Driven.{CommitsTo, Driven, IsMarked, LandsTo, at_home}
 use Rattle.coord_ledger.specs.ledger.State.{Claim, FlightState, IsGranted, LedgerState}
-use Rattle.coord_ledger.specs.machine.After.{releases_of}
+use Rattle.coord_ledger.specs.machine.After.{releases_of, settling_releases}
 use Rattle.coord_types.specs.declared.limits.TheConstants.{MAX_BATCH_STEPS}
 use Rattle.coord_ledger.specs.machine.Answers.{IsOneOf, next_size, stays_home, to_begin}
 use Rattle.coord_ledger.specs.machine.Log.{Log, pending, settled_count, settled_world, with_settled}
@@ -30,7 +31,7 @@ use Rattle.coord_ledger.specs.machine.Machine.{Machine, has_stopped}
 use Rattle.coord_ledger.specs.machine.Runs.{run}
 use Rattle.coord_drill.specs.Answered.{flight_lines}
 use Rattle.coord_drill.specs.Drill.{DrillState, flight_events, landing_events, machine_of, seen_as}
-use Rattle.coord_drill.specs.Holding.{AreGranted, FlownTo, IsBack, IsHeld, IsReady, LandsAs, claims_of, collected_lines, drill_of, flown_answers, flown_lines, landed_answers, left_by, waiting}
+use Rattle.coord_drill.specs.Holding.{AreGranted, FlownTo, IsHeld, IsReady, LandsAs, claims_of, collected_lines, drill_of, flown_answers, flown_lines, landed_answers, left_by, waiting}
 use Rattle.coord_drill.specs.Moments.{Flies, GoesBy, GoesOnTo}
 use Rattle.coord_drill.specs.Printed.{settled_lines}
 use Rattle.coord_drill.specs.declared.drill.Drill.{Drill}
@@ -39,6 +40,7 @@ use Rattle.coord_drill.specs.declared.drill.flying.Flown.TheVariants as flown
 use Rattle.coord_drill.proofs.does.Does.{held_is, state_is}
 use Rattle.coord_drill.proofs.does.Moments.{goes_on, goes_then}
 use Rattle.coord_drill.proofs.does.Settled.{collected_are, fold_version, granted_from, waiting_are}
+use Rattle.coord_drill.proofs.does.Verdicts.{no_refusal}
 
 -- ---- out and back
 
@@ -67,42 +69,37 @@ lands l f d new releases answer to landed =
     released_as Good = λ i. releases_of (outs (to.world i) (to.steps i))
     released_as Torn = refl
 
-pub lands_settled : (l : LedgerState MemDisk) (f : FlightState MemDisk) (d new : Driven MemDisk) (releases : List Release) → CommitsTo l f Committed d → ((g : FlightState MemDisk) → d.flight ≡ Some g → LandsTo d.ledger g (Ok (Some releases)) new) → LandsAs l f (flown.Settled releases) new
+pub lands_settled : (l : LedgerState MemDisk) (f : FlightState MemDisk) (d new : Driven MemDisk) (releases : List Release) → CommitsTo l f Committed d → ((g : FlightState MemDisk) → d.flight ≡ Some g → LandsTo d.ledger g (Ok (Some releases)) new) → LandsAs l (length f.steps) (releases_of (outs f.world f.steps)) (flown.Settled releases) new
 lands_settled l f d new releases to landed =
     let all = lands l f d new releases Committed to landed in
     record { disk = all.disk; mark = all.mark; told = (all.marked, all.released ∙ ap (releases_in f) all.marked); is = all.is }
 
-pub lands_failed : (l : LedgerState MemDisk) (f : FlightState MemDisk) (d new : Driven MemDisk) (releases : List Release) (fault : CommitFault) → CommitsTo l f (Failed fault) d → ((g : FlightState MemDisk) → d.flight ≡ Some g → LandsTo d.ledger g (Ok (Some releases)) new) → LandsAs l f (flown.Failed fault) new
+pub lands_failed : (l : LedgerState MemDisk) (f : FlightState MemDisk) (d new : Driven MemDisk) (releases : List Release) (fault : CommitFault) → CommitsTo l f (Failed fault) d → ((g : FlightState MemDisk) → d.flight ≡ Some g → LandsTo d.ledger g (Ok (Some releases)) new) → LandsAs l (length f.steps) (releases_of (outs f.world f.steps)) (flown.Failed fault) new
 lands_failed l f d new releases fault to landed =
     let all = lands l f d new releases (Failed fault) to landed in
     record { disk = all.disk; mark = all.mark; told = all.marked; is = all.is }
 
 -- a flight of the next steps is out and back
-came_to : (l : LedgerState MemDisk) → length (take MAX_BATCH_STEPS (pending l.log)) ≡ next_size l.log
-came_to l = length-take MAX_BATCH_STEPS (pending l.log)
+abbrev pub IsBack : LedgerState MemDisk → Flown → Driven MemDisk → Type 0
+IsBack l r d = LandsAs (with_out l (next_size l.log)) (next_size l.log) (settling_releases l.log (next_size l.log)) r d
 
-back_as : (l : LedgerState MemDisk) (new : Driven MemDisk) (disk was : MemDisk) (mark : Mark) → new ≡ at_home (taken_back (with_out l (length (next_flight l.log was).steps)) (length (next_flight l.log was).steps) mark disk) → new.ledger ≡ taken_back (with_out l (next_size l.log)) (next_size l.log) mark disk
-back_as l new disk was mark is = ap (λ (d : Driven MemDisk). d.ledger) is ∙ ap (λ n. taken_back (with_out l n) n mark disk) (came_to l)
+pub is_back : (l : LedgerState MemDisk) (was : MemDisk) (out : Driven MemDisk) → out ≡ record { ledger = with_out l (length (next_flight l.log was).steps); flight = Some (next_flight l.log was) } → (r : Flown) (new : Driven MemDisk) →
+    ((f : FlightState MemDisk) → out.flight ≡ Some f → f.mark ≡ New → LandsAs out.ledger (length f.steps) (releases_of (outs f.world f.steps)) r new) → IsBack l r new
+is_back l was out is r new landed =
+    let steps = take MAX_BATCH_STEPS (pending l.log) in
+    let all : List Step → List Release = λ ss. releases_of (outs (settled_world l.log) ss) in
+    let came = subst (λ (m : LedgerState MemDisk). LandsAs m (length steps) (all steps) r new) (ap (λ (d : Driven MemDisk). d.ledger) is) (landed (next_flight l.log was) (ap (λ (d : Driven MemDisk). d.flight) is) refl) in
+    let released = subst (λ rs. LandsAs (with_out l (length steps)) (length steps) rs r new) (ap all (sym (take_min MAX_BATCH_STEPS (pending l.log)))) came in
+    subst (λ n. LandsAs (with_out l n) n (settling_releases l.log (next_size l.log)) r new) (length-take MAX_BATCH_STEPS (pending l.log)) released
 
-pub flown_to : (l : LedgerState MemDisk) (was : MemDisk) (r : Flown) (new : Driven MemDisk) → LandsAs (with_out l (length (next_flight l.log was).steps)) (next_flight l.log was) r new → FlownTo l r new.ledger
-flown_to l was flown.Nothing new to = absurd to.told
-flown_to l was (flown.Settled rs) new to = record {
-  disk = to.disk;
-  mark = to.mark;
-  told = (to.told.0, to.told.1 ∙ ap (λ ss. releases_of (outs (settled_world l.log) ss)) (sym (take_min MAX_BATCH_STEPS (pending l.log))));
-  is = back_as l new to.disk was to.mark to.is;
-}
-flown_to l was (flown.Failed fault) new to = record { disk = to.disk; mark = to.mark; told = to.told; is = back_as l new to.disk was to.mark to.is }
-
--- by the flight that went out
-pub landed_as : (l : LedgerState MemDisk) (was : MemDisk) (out : Driven MemDisk) → out ≡ record { ledger = with_out l (length (next_flight l.log was).steps); flight = Some (next_flight l.log was) } → (r : Flown) (new : Driven MemDisk) →
-    ((f : FlightState MemDisk) → out.flight ≡ Some f → f.mark ≡ New → LandsAs out.ledger f r new) → LandsAs (with_out l (length (next_flight l.log was).steps)) (next_flight l.log was) r new
-landed_as l was out is r new landed =
-    subst (λ (m : LedgerState MemDisk). LandsAs m (next_flight l.log was) r new) (ap (λ (d : Driven MemDisk). d.ledger) is) (landed (next_flight l.log was) (ap (λ (d : Driven MemDisk). d.flight) is) refl)
+pub flown_to : (l : LedgerState MemDisk) (r : Flown) (new : Driven MemDisk) → IsBack l r new → FlownTo l r new
+flown_to l flown.Nothing new back = absurd back.told
+flown_to l r new back = back
 
 -- and no flight is out
-pub landed_home : (l : LedgerState MemDisk) (f : FlightState MemDisk) (r : Flown) (new : Driven MemDisk) → LandsAs l f r new → new.flight ≡ None
-landed_home l f r new to = ap (λ (d : Driven MemDisk). d.flight) to.is
+pub flown_home : (l : LedgerState MemDisk) (r : Flown) (new : Driven MemDisk) → FlownTo l r new → new.flight ≡ None
+flown_home l flown.Nothing new to = ap (λ (d : Driven MemDisk). d.flight) to
+flown_home l r new to = ap (λ (d : Driven MemDisk). d.flight) to.is
 
 -- ---- its events
 
@@ -118,10 +115,9 @@ begun_size m b one = by_home (stays_home (has_stopped m) (is_some m.flight) m.lo
     by_home false (inr (inr never)) = absurd never
 
 -- the departure of a flight, and then its commit and its return
-pub flown_by : (l : LedgerState MemDisk) (f : FlightState MemDisk) (v out new : Driven MemDisk) (r : Flown) (b count : ℕ) → LandsAs l f r new → GoesOnTo v (Begin ∷ []) (Begun b ∷ []) out → GoesOnTo out landing_events (landed_answers r count) new → GoesBy v (flown_answers r b count) new
-flown_by l f v out new flown.Nothing b count to begun landed = absurd to.told
-flown_by l f v out new (flown.Settled rs) b count to begun landed = goes_then v out new (Begin ∷ []) landing_events (Begun b ∷ []) (landed_answers (flown.Settled rs) count) begun landed
-flown_by l f v out new (flown.Failed fault) b count to begun landed = goes_then v out new (Begin ∷ []) landing_events (Begun b ∷ []) (landed_answers (flown.Failed fault) count) begun landed
+pub flown_by : (l : LedgerState MemDisk) (v out new : Driven MemDisk) (r : Flown) (b count : ℕ) → IsBack l r new → GoesOnTo v (Begin ∷ []) (Begun b ∷ []) out → GoesOnTo out landing_events (landed_answers r count) new → GoesBy v (flown_answers r b count) new
+flown_by l v out new flown.Nothing b count back begun landed = absurd back.told
+flown_by l v out new r b count back begun landed = goes_then v out new (Begin ∷ []) landing_events (Begun b ∷ []) (landed_answers r count) begun landed
 
 -- ---- what is printed
 
@@ -129,58 +125,54 @@ flown_by l f v out new (flown.Failed fault) b count to begun landed = goes_then 
 abbrev pub Leaves : LedgerState MemDisk → List Answer → LedgerState MemDisk → Bool → Bool → Type 0
 Leaves l given new holds begun = (tickets : List (Option Reply)) → drill_of new holds begun ≡ seen_as (run (record (machine_of (drill_of l holds begun)) { tickets = tickets }) (flight_events given) given) holds begun
 
-module _ (l new : LedgerState MemDisk) (claims : List Claim) (held : IsHeld l claims) where
+module _ (l : LedgerState MemDisk) (new : Driven MemDisk) (claims : List Claim) (held : IsHeld l claims) where
   abbrev b : ℕ
   b = next_size l.log
 
   -- the ledger with such a mark
-  marked : (r : Flown) (mark : Mark) (back : IsBack l r new) → back.mark ≡ mark → new ≡ taken_back (with_out l b) b mark back.disk
-  marked r mark back same = back.is ∙ ap (λ m. taken_back (with_out l b) b m back.disk) same
+  marked : (r : Flown) (mark : Mark) (back : IsBack l r new) → back.mark ≡ mark → new.ledger ≡ taken_back (with_out l b) b mark back.disk
+  marked r mark back same = ap (λ (d : Driven MemDisk). d.ledger) back.is ∙ ap (λ m. taken_back (with_out l b) b m back.disk) same
 
   -- of a flight that was not committed
-  failed_held : (fault : CommitFault) → FlownTo l (flown.Failed fault) new → IsHeld new claims
+  failed_held : (fault : CommitFault) → FlownTo l (flown.Failed fault) new → IsHeld new.ledger claims
   failed_held commit.Device back = subst (λ m. IsHeld m claims) (sym (marked (flown.Failed commit.Device) Torn back back.told)) (record { home = refl; here = (back.disk, refl); within = held.within; tickets = held.tickets })
   failed_held commit.OutOfMemory back = subst (λ m. IsHeld m claims) (sym (marked (flown.Failed commit.OutOfMemory) New back back.told)) (record { home = refl; here = (back.disk, refl); within = held.within; tickets = held.tickets })
-  failed_held commit.Full back = absurd back.told
-  failed_held commit.Stopped back = absurd back.told
-  failed_held commit.Again back = absurd back.told
+  failed_held fault back = absurd back.told
 
-  failed_leaves : (holds begun : Bool) (fault : CommitFault) (count : ℕ) → FlownTo l (flown.Failed fault) new → Leaves l (flown_answers (flown.Failed fault) b count) new holds begun
+  failed_leaves : (holds begun : Bool) (fault : CommitFault) (count : ℕ) → FlownTo l (flown.Failed fault) new → Leaves l (flown_answers (flown.Failed fault) b count) new.ledger holds begun
   failed_leaves holds begun commit.Device count back tickets = ap (λ m. drill_of m holds begun) (marked (flown.Failed commit.Device) Torn back back.told)
   failed_leaves holds begun commit.OutOfMemory count back tickets = ap (λ m. drill_of m holds begun) (marked (flown.Failed commit.OutOfMemory) New back back.told)
-  failed_leaves holds begun commit.Full count back tickets = absurd back.told
-  failed_leaves holds begun commit.Stopped count back tickets = absurd back.told
-  failed_leaves holds begun commit.Again count back tickets = absurd back.told
+  failed_leaves holds begun fault count back tickets = absurd back.told
 
   -- of a flight that is settled
   module _ (rs : List Release) (to : FlownTo l (flown.Settled rs) new) where
-    pub settled_is : new ≡ taken_back (with_out l b) b Good to.disk
+    pub settled_is : new.ledger ≡ taken_back (with_out l b) b Good to.disk
     settled_is = marked (flown.Settled rs) Good to to.told.0
 
-    log_is : new.log ≡ with_settled l.log b
+    log_is : new.ledger.log ≡ with_settled l.log b
     log_is = ap (λ (m : LedgerState MemDisk). m.log) settled_is
 
-    pub settled_granted : AllByRecursion (IsGranted new.log) claims
+    pub settled_granted : AllByRecursion (IsGranted new.ledger.log) claims
     settled_granted =
-        subst (λ cs. AllByRecursion (IsGranted new.log) cs) (sym held.tickets)
+        subst (λ cs. AllByRecursion (IsGranted new.ledger.log) cs) (sym held.tickets)
         (subst (λ g. AllByRecursion (IsGranted g) (claims_of (settled_world l.log) (pending l.log))) (sym log_is)
         (granted_from (with_settled l.log (next_size l.log)) (take l.log.settled l.log.trail) (drop l.log.settled l.log.trail) (sym (take-append-drop l.log.settled l.log.trail))))
 
-    settles : settled_world new.log ≡ fold (settled_world l.log) (take (next_size l.log) (pending l.log))
+    settles : settled_world new.ledger.log ≡ fold (settled_world l.log) (take (next_size l.log) (pending l.log))
     settles = ap settled_world log_is ∙ world-add l.log l.log.settled (next_size l.log)
 
-    same : (settled_world new.log).version ≡ (settled_world l.log).version
+    same : (settled_world new.ledger.log).version ≡ (settled_world l.log).version
     same = ap (λ (v : World). v.version) settles ∙ fold_version (settled_world l.log) (take (next_size l.log) (pending l.log))
 
-    pub settled_told : collected_lines (settled_world new.log).version (settled_world new.log).count claims rs ≡ settled_lines (settled_world l.log).version (outs (settled_world l.log) (take (next_size l.log) (pending l.log)))
+    pub settled_told : collected_lines (settled_world new.ledger.log).version (settled_world new.ledger.log).count claims rs ≡ settled_lines (settled_world l.log).version (outs (settled_world l.log) (take (next_size l.log) (pending l.log)))
     settled_told =
-        ap (λ n. collected_lines n (settled_world new.log).count claims rs) same
+        ap (λ n. collected_lines n (settled_world new.ledger.log).count claims rs) same
         ∙ ap (λ (v : World). collected_lines (settled_world l.log).version v.count claims rs) settles
         ∙ ap (λ cs. collected_lines (settled_world l.log).version (fold (settled_world l.log) (take (next_size l.log) (pending l.log))).count cs rs) held.tickets
         ∙ ap (λ given. collected_lines (settled_world l.log).version (fold (settled_world l.log) (take (next_size l.log) (pending l.log))).count (claims_of (settled_world l.log) (pending l.log)) given) to.told.1
         ∙ collected_are (settled_world l.log).version (settled_world l.log) (next_size l.log) (pending l.log)
 
-    pub settled_held : (rest : List Claim) → rest ≡ waiting (settled_world new.log).count claims → IsHeld new rest
+    pub settled_held : (rest : List Claim) → rest ≡ waiting (settled_world new.ledger.log).count claims → IsHeld new.ledger rest
     settled_held rest is = record {
       home = ap (λ (m : LedgerState MemDisk). m.out) settled_is;
       here = (to.disk, ap (λ (m : LedgerState MemDisk). m.disk) settled_is);
@@ -192,39 +184,36 @@ module _ (l new : LedgerState MemDisk) (claims : List Claim) (held : IsHeld l cl
           ∙ ap (λ cs. waiting (fold (settled_world l.log) (take (next_size l.log) (pending l.log))).count cs) held.tickets
           ∙ waiting_are (settled_world l.log) (next_size l.log) (pending l.log)
           ∙ ap (λ v. claims_of v (drop (next_size l.log) (pending l.log))) (sym settles)
-          ∙ ap (claims_of (settled_world new.log)) (drop-drop (next_size l.log) l.log.settled l.log.trail ∙ ap pending (sym log_is));
+          ∙ ap (claims_of (settled_world new.ledger.log)) (drop-drop (next_size l.log) l.log.settled l.log.trail ∙ ap pending (sym log_is));
     }
 
 -- ---- whatever became of it
 
-module _ (l new : LedgerState MemDisk) (claims : List Claim) (held : IsHeld l claims) where
-  pub flown_granted : (r : Flown) → FlownTo l r new → AreGranted new.log r claims
-  flown_granted flown.Nothing to = tt
+module _ (l : LedgerState MemDisk) (new : Driven MemDisk) (claims : List Claim) (held : IsHeld l claims) where
+  pub flown_granted : (r : Flown) → FlownTo l r new → AreGranted new.ledger.log r claims
   flown_granted (flown.Settled rs) to = settled_granted l new claims held rs to
-  flown_granted (flown.Failed fault) to = tt
+  flown_granted r to = tt
 
-  pub flown_held : (r : Flown) (rest : List Claim) → FlownTo l r new → rest ≡ left_by (settled_world new.log) r claims → IsHeld new rest
-  flown_held flown.Nothing rest to is = subst (λ cs. IsHeld new cs) (sym is) (subst (λ m. IsHeld m claims) (sym to) held)
+  pub flown_held : (r : Flown) (rest : List Claim) → FlownTo l r new → rest ≡ left_by (settled_world new.ledger.log) r claims → IsHeld new.ledger rest
+  flown_held flown.Nothing rest to is = subst (λ cs. IsHeld new.ledger cs) (sym is) (subst (λ m. IsHeld m claims) (sym (ap (λ (d : Driven MemDisk). d.ledger) to)) held)
   flown_held (flown.Settled rs) rest to is = settled_held l new claims held rs to rest is
-  flown_held (flown.Failed fault) rest to is = subst (λ cs. IsHeld new cs) (sym is) (failed_held l new claims held fault to)
+  flown_held (flown.Failed fault) rest to is = subst (λ cs. IsHeld new.ledger cs) (sym is) (failed_held l new claims held fault to)
 
-  pub flown_told : (r : Flown) (count : ℕ) → FlownTo l r new → flown_lines (settled_world new.log) r claims ≡ flight_lines l.log (flown_answers r (next_size l.log) count)
-  flown_told flown.Nothing count to = refl
+  pub flown_told : (r : Flown) (count : ℕ) → FlownTo l r new → flown_lines (settled_world new.ledger.log) r claims ≡ flight_lines l.log (flown_answers r (next_size l.log) count)
   flown_told (flown.Settled rs) count to = settled_told l new claims held rs to
-  flown_told (flown.Failed fault) count to = refl
+  flown_told r count to = refl
 
-  pub flown_leaves : (holds begun : Bool) (r : Flown) (count : ℕ) → FlownTo l r new → Leaves l (flown_answers r (next_size l.log) count) new holds begun
-  flown_leaves holds begun flown.Nothing count to tickets = ap (λ m. drill_of m holds begun) to
+  pub flown_leaves : (holds begun : Bool) (r : Flown) (count : ℕ) → FlownTo l r new → Leaves l (flown_answers r (next_size l.log) count) new.ledger holds begun
+  flown_leaves holds begun flown.Nothing count to tickets = ap (λ (d : Driven MemDisk). drill_of d.ledger holds begun) to
   flown_leaves holds begun (flown.Settled rs) count to tickets = ap (λ m. drill_of m holds begun) (settled_is l new claims held rs to)
   flown_leaves holds begun (flown.Failed fault) count to tickets = failed_leaves l new claims held holds begun fault count to tickets
 
 pub flown_memory : (r : Flown) (b count : ℕ) → AllByRecursion (λ answer. answer ≢ Refused OutOfMemory) (flown_answers r b count)
-flown_memory flown.Nothing b count = ((λ same. cc), tt)
-flown_memory (flown.Settled rs) b count = ((λ same. cc), ((λ same. cc), ((λ same. cc), tt)))
-flown_memory (flown.Failed fault) b count = ((λ same. cc), ((λ same. cc), ((λ same. cc), tt)))
+flown_memory flown.Nothing b count = (no_refusal _ refl, tt)
+flown_memory r b count = (no_refusal _ refl, (no_refusal _ refl, (no_refusal _ refl, tt)))
 
 -- a drill that sent a flight out and took it back
-pub flies : (d new : Drill) (v w : Driven MemDisk) (r : Flown) → d.driver ≡ Some v → new.driver ≡ Some w → new.holds ≡ d.holds → new.has_begun ≡ d.has_begun → IsReady d → FlownTo v.ledger r w.ledger →
+pub flies : (d new : Drill) (v w : Driven MemDisk) (r : Flown) → d.driver ≡ Some v → new.driver ≡ Some w → new.holds ≡ d.holds → new.has_begun ≡ d.has_begun → IsReady d → FlownTo v.ledger r w →
     GoesBy v (flown_answers r (next_size v.ledger.log) (settled_count w.ledger.log)) w → Flies d (flown_lines (settled_world w.ledger.log) r d.tickets.items) new
 flies d new v w r is now holds begun ready to by =
     let held = held_is d v is ready in
@@ -234,9 +223,9 @@ flies d new v w r is now holds begun ready to by =
     record {
       given = given;
       with_memory = flown_memory r (next_size v.ledger.log) (settled_count w.ledger.log);
-      printed = subst (λ (s : DrillState). told ≡ flight_lines s.log given) (sym seen) (flown_told v.ledger w.ledger d.tickets.items held r (settled_count w.ledger.log) to);
+      printed = subst (λ (s : DrillState). told ≡ flight_lines s.log given) (sym seen) (flown_told v.ledger w d.tickets.items held r (settled_count w.ledger.log) to);
       goes_on = λ tickets.
-          state_is new w now ∙ (λ i. drill_of w.ledger (holds i) (begun i)) ∙ flown_leaves v.ledger w.ledger d.tickets.items held d.holds d.has_begun r (settled_count w.ledger.log) to tickets
+          state_is new w now ∙ (λ i. drill_of w.ledger (holds i) (begun i)) ∙ flown_leaves v.ledger w d.tickets.items held d.holds d.has_begun r (settled_count w.ledger.log) to tickets
           ∙ ap (λ (s : DrillState). seen_as (run (record (machine_of s) { tickets = tickets }) (flight_events given) given) d.holds d.has_begun) (sym seen);
       moments = goes_on d.driver new.driver v w (flight_events given) given is now by;
     }

@@ -1,5 +1,5 @@
--- What a step that is handed in makes of a ledger, what is printed of it, and the tickets then.
-use Rattle.std.proofs.Common.{◌≡◌, ◌≢◌, Bool, true, false, List, Option, Some, [], ◌∷◌, ◌++◌, drop, Result, Ok, Err, refl, sym, ap, ◌∙◌, subst, arith}
+-- What a step that is handed in makes of a drill: its tickets, and what is printed.
+use Rattle.std.proofs.Common.{◌≡◌, ◌≢◌, ℕ, true, false, cond, List, Option, Some, [], ◌∷◌, ◌++◌, drop, Result, Ok, Err, refl, sym, ap, ◌∙◌, subst, arith}
 use Rattle.std.proofs.lemmas.List.{drop-append-le, length-append, take-append-le}
 use Rattle.std.specs.Prelude.{is_some}
 use Rattle.coord_disk.specs.declared.memory.MemDisk.{MemDisk}
@@ -13,19 +13,24 @@ use Rattle.coord_world.specs.declared.verdicts.Verdict.TheVariants.{Fresh, Repea
 use Rattle.coord_world.specs.protocol.Next.{fold, next, reply}
 use Rattle.coord_world.specs.protocol.NumberedWorld.{World}
 use Rattle.coord_ledger.proofs.follows.Granted.{granted_repeat}
-use Rattle.coord_ledger.specs.declared.events.Answer.{Answer}
-use Rattle.coord_ledger.specs.declared.events.Answer.TheVariants.{Refused}
 use Rattle.coord_ledger.specs.declared.events.Answer.TheVariants as answer
+use Rattle.coord_ledger.specs.declared.events.Event.TheVariants as event
 use Rattle.coord_ledger.specs.declared.handed.Handed.TheVariants.{Accepted, Repeated}
 use Rattle.coord_ledger.specs.ledger.Calls.{HandedTo, RefusesStep, claimed, ledger_verdict, with_accepted}
+use Rattle.coord_ledger.specs.ledger.Driven.{Driven}
 use Rattle.coord_ledger.specs.ledger.State.{Claim, IsGranted, LedgerState, reply_of}
 use Rattle.coord_ledger.specs.machine.Log.{pending, settled_count, settled_world}
 use Rattle.coord_ledger.specs.machine.Runs.{run}
-use Rattle.coord_drill.specs.Answered.{asked_lines, flight_lines, kept_line}
-use Rattle.coord_drill.specs.Drill.{DrillState, after_asked, flight_events, machine_of, seen_as}
-use Rattle.coord_drill.specs.Holding.{IsHeld, claims_of, drill_of}
+use Rattle.coord_drill.specs.Answered.{flight_lines, kept_line}
+use Rattle.coord_drill.specs.Drill.{DrillState, flight_events, machine_of, seen_as}
+use Rattle.coord_drill.specs.Holding.{IsHeld, IsReady, IsReadyWith, claims_of, drill_of, state_of}
+use Rattle.coord_drill.specs.Moments.{Begins, Carries, Flies, Hands, IsRun}
+use Rattle.coord_drill.specs.Printed.{pending_line, refusal_line}
 use Rattle.coord_drill.specs.declared.asked.Asked.TheVariants.{Submit}
-use Rattle.coord_drill.proofs.does.Does.{flown_after, flown_line, held_after, refused_after, repeat_after, repeat_lines}
+use Rattle.coord_drill.specs.declared.drill.Drill.{Drill}
+use Rattle.coord_drill.proofs.does.Does.{driver_of, flown_after, flown_line, held_after, held_is, held_line, home_is, refused_after, refused_line, repeat_after, repeat_lines, state_is}
+use Rattle.coord_drill.proofs.does.Moments.{begins_at, carries, goes_to}
+use Rattle.coord_drill.proofs.does.Verdicts.{no_refusal, other_refusal}
 
 -- ---- what a ledger answers
 
@@ -64,32 +69,57 @@ pub repeated_granted : (l new : LedgerState MemDisk) (x : Step) (t : Claim) → 
 repeated_granted l new x t to =
     subst (λ (m : LedgerState MemDisk). IsGranted m.log t) (sym to.now) (subst (IsGranted l.log) (sym to.claims) (granted_repeat (is_some l.doubt) l.log x to.kept to.judged))
 
--- ---- what is printed, and what becomes of the drill
+-- ---- the drill then, and what is printed
 
-module _ (l new : LedgerState MemDisk) (holds begun : Bool) (x : Step) where
-  abbrev s : DrillState
-  s = drill_of l holds begun
+module _ (d : Drill) (v w : Driven MemDisk) (x : Step) (is : d.driver ≡ Some v) (ready : IsReady d) where
+  -- the ticket of an accepted step joins the others
+  pub accepted_ready : (t : Claim) (tickets : List Claim) → Hands v x (Ok (Accepted t)) w → tickets ≡ d.tickets.items ++ t ∷ [] → IsReadyWith (Some w) tickets
+  accepted_ready t tickets hands pushed =
+      (hands.flight ∙ home_is d v is ready, subst (λ cs. IsHeld w.ledger cs) (sym pushed) (accepted_held v.ledger w.ledger d.tickets.items x t (held_is d v is ready) hands.handed))
 
-  pub refused_leaves : (e : Refusal) → HandedTo l x (Err e) new → e ≢ OutOfMemory → drill_of new holds begun ≡ after_asked s (Submit x) (Refused e ∷ [])
-  refused_leaves e to other = ap (λ m. drill_of m holds begun) to.now ∙ sym (refused_after s x e (refused_said e (ledger_verdict l x) to.why other))
+  -- else the ledger is as it was
+  pub kept_ready : (tickets : List Claim) → w.flight ≡ v.flight → w.ledger ≡ v.ledger → tickets ≡ d.tickets.items → IsReadyWith (Some w) tickets
+  kept_ready tickets flight same kept =
+      (flight ∙ home_is d v is ready, subst (λ cs. IsHeld w.ledger cs) (sym kept) (subst (λ (l : LedgerState MemDisk). IsHeld l d.tickets.items) (sym same) (held_is d v is ready)))
 
-  pub repeated_told : (t : Claim) → HandedTo l x (Ok (Repeated t)) new → kept_line (settled_count new.log) (reply_of t) ≡ asked_lines s (Submit x) (answer.Repeated t.step ∷ [])
-  repeated_told t to = (λ i. kept_line (settled_count (to.now i).log) (reply_of (to.claims i))) ∙ sym (repeat_lines s x to.kept t.step to.judged)
+  module _ (new : Drill) (begins : Begins d.driver) where
+    abbrev s : DrillState
+    s = drill_of v.ledger d.holds d.has_begun
 
-  pub repeated_leaves : (t : Claim) → HandedTo l x (Ok (Repeated t)) new → drill_of new holds begun ≡ after_asked s (Submit x) (answer.Repeated t.step ∷ [])
-  repeated_leaves t to = ap (λ m. drill_of m holds begun) to.now ∙ sym (repeat_after s x to.kept t.step to.judged)
+    -- a step that is held, a repeat, and a step that is refused
+    module _ (now : new.driver ≡ Some w) (holds : new.holds ≡ d.holds) where
+      pub carries_pending : (t : Claim) → Hands v x (Ok (Accepted t)) w → new.has_begun ≡ true → d.holds ≡ true → Carries d (Submit x) (pending_line t.step) new
+      carries_pending t hands begun held =
+          let to = hands.handed in
+          let all = subst (λ b. IsRun v.ledger (event.Submit x ∷ cond b [] (flight_events [])) (answer.Accepted t.step ∷ []) w) (sym held) (hands.moments v.ledger [] [] (begins_at d.driver v is begins)) in
+          carries d new v w (Submit x) (answer.Accepted t.step ∷ []) (pending_line t.step) is now ready refl all (no_refusal _ refl, tt) (sym (held_line s x t.step held))
+          ((λ i. drill_of (to.now i) (holds i) (begun i)) ∙ sym (held_after s x to.kind t.step to.judged held))
 
-  pub held_leaves : (t : Claim) → HandedTo l x (Ok (Accepted t)) new → holds ≡ true → drill_of new holds true ≡ after_asked s (Submit x) (answer.Accepted t.step ∷ [])
-  held_leaves t to is = ap (λ m. drill_of m holds true) to.now ∙ sym (held_after s x to.kind t.step to.judged is)
+      pub carries_repeat : (t : Claim) → Hands v x (Ok (Repeated t)) w → new.has_begun ≡ d.has_begun → Carries d (Submit x) (kept_line (settled_count w.ledger.log) (reply_of t)) new
+      carries_repeat t hands begun =
+          let to = hands.handed in
+          let line = kept_line (settled_count w.ledger.log) (reply_of t) in
+          carries d new v w (Submit x) (answer.Repeated t.step ∷ []) line is now ready refl (hands.moments v.ledger [] [] (begins_at d.driver v is begins)) (no_refusal _ refl, tt)
+          ((λ i. kept_line (settled_count (to.now i).log) (reply_of (to.claims i))) ∙ sym (repeat_lines s x to.kept t.step to.judged))
+          ((λ i. drill_of (to.now i) (holds i) (begun i)) ∙ sym (repeat_after s x to.kept t.step to.judged))
 
-  module _ (t : Claim) (to : HandedTo l x (Ok (Accepted t)) new) (given : List Answer) (free : holds ≡ false) where
-    pub flown_told : flight_lines new.log given ≡ asked_lines s (Submit x) (answer.Accepted t.step ∷ given)
-    flown_told = ap (λ (m : LedgerState MemDisk). flight_lines m.log given) to.now ∙ sym (flown_line s x t.step given free)
+      pub carries_refusal : (e : Refusal) → Hands v x (Err e) w → new.has_begun ≡ d.has_begun → e ≢ OutOfMemory → Carries d (Submit x) (refusal_line e) new
+      carries_refusal e hands begun other =
+          let to = hands.handed in
+          carries d new v w (Submit x) (answer.Refused e ∷ []) (refusal_line e) is now ready refl (hands.moments v.ledger [] [] (begins_at d.driver v is begins)) (other_refusal e other, tt) (sym (refused_line s x e))
+          ((λ i. drill_of (to.now i) (holds i) (begun i)) ∙ sym (refused_after s x e (refused_said e (ledger_verdict v.ledger x) to.why other)))
 
-    -- the machine has given the ticket of the step before it
-    pub flown_leaves : (after : DrillState) → ((tickets : List (Option Reply)) → after ≡ seen_as (run (record (machine_of (drill_of new holds true)) { tickets = tickets }) (flight_events given) given) holds true) → after ≡ after_asked s (Submit x) (answer.Accepted t.step ∷ given)
-    flown_leaves after goes_on =
+    -- a step that is settled at once, by the drill that holds its ticket: the machine has given that before its flight
+    pub carries_flight : (mid : Drill) (t : Claim) (told : List ℕ) → mid.driver ≡ Some w → mid.holds ≡ d.holds → mid.has_begun ≡ true → d.holds ≡ false → IsReady new → Hands v x (Ok (Accepted t)) w → Flies mid told new → Carries d (Submit x) told new
+    carries_flight mid t told there holds begun free later hands flown =
+        let to = hands.handed in
+        let u = driver_of new later in
+        let given = flown.given in
         let tickets : List (Option Reply) = Some (record { step = t.step; kind = to.kind }) ∷ [] in
-        goes_on tickets
-        ∙ ap (λ m. seen_as (run (record (machine_of (drill_of m holds true)) { tickets = tickets }) (flight_events given) given) holds true) to.now
-        ∙ sym (flown_after s x to.kind t.step given to.judged free)
+        let mid_is : state_of mid ≡ drill_of (with_accepted v.ledger x) d.holds true = state_is mid w there ∙ (λ i. drill_of (to.now i) (holds i) (begun i)) in
+        let all = goes_to mid.driver new.driver w u.0 (flight_events given) given there u.1 flown.moments v.ledger (event.Submit x ∷ []) (answer.Accepted t.step ∷ []) (hands.moments v.ledger [] [] (begins_at d.driver v is begins)) in
+        carries d new v u.0 (Submit x) (answer.Accepted t.step ∷ given) told is u.1 ready refl
+        (subst (λ b. IsRun v.ledger (event.Submit x ∷ cond b [] (flight_events given)) (answer.Accepted t.step ∷ given) u.0) (sym free) all) (no_refusal _ refl, flown.with_memory)
+        (flown.printed ∙ ap (λ (r : DrillState). flight_lines r.log given) mid_is ∙ sym (flown_line s x t.step given free))
+        (sym (state_is new u.0 u.1) ∙ flown.goes_on tickets ∙ (λ i. seen_as (run (record (machine_of (mid_is i)) { tickets = tickets }) (flight_events given) given) (holds i) (begun i))
+        ∙ sym (flown_after s x to.kind t.step given to.judged free))

@@ -26,7 +26,7 @@ use Rattle.coord_drill.specs.Printed.{bad_line}
 use Rattle.coord_drill.specs.declared.asked.Asked.{Asked}
 use Rattle.coord_drill.specs.declared.asked.Asked.TheVariants as ask
 use Rattle.coord_drill.specs.declared.request.Request.{Request}
-use Rattle.coord_drill.proofs.does.Verdicts.{never_memory}
+use Rattle.coord_drill.proofs.does.Verdicts.{never_memory, no_refusal, other_refusal}
 
 -- ---- answers
 
@@ -54,14 +54,14 @@ may_fly s tickets = by_home (stays_home (is_some s.doubt) false s.log) refl
     by_home true is = record {
       given = Nothing ∷ [];
       answered = (subst (λ b. IsOneOf Nothing (cond b (Nothing ∷ []) (Begun (next_size s.log) ∷ Refused OutOfMemory ∷ []))) (sym is) (inl refl), tt);
-      with_memory = ((λ same. cc), tt);
+      with_memory = (no_refusal _ refl, tt);
     }
     by_home false is =
         let b = next_size s.log in
         record {
           given = Begun b ∷ Committed ∷ Finished (settled_count s.log + b) ∷ [];
           answered = (subst (λ h. IsOneOf (Begun b) (cond h (Nothing ∷ []) (Begun b ∷ Refused OutOfMemory ∷ []))) (sym is) (inl refl), (inl refl, (inl refl, tt)));
-          with_memory = ((λ same. cc), ((λ same. cc), ((λ same. cc), tt)));
+          with_memory = (no_refusal _ refl, (no_refusal _ refl, (no_refusal _ refl, tt)));
         }
 
 module _ (s : DrillState) (x : Step) where
@@ -73,7 +73,7 @@ module _ (s : DrillState) (x : Step) where
   may_step : (holds : Bool) (v : Result Verdict Refusal) → verdict_on (machine_of s) x ≡ v → May (machine_of s) (step_events holds x)
   may_step true (Ok (Fresh k)) is =
       let n = accepted_count s.log + 1 in
-      record { given = Accepted n ∷ []; answered = may_say (Ok (Fresh k)) (Accepted n) is (inl refl) [] [] tt; with_memory = ((λ same. cc), tt) }
+      record { given = Accepted n ∷ []; answered = may_say (Ok (Fresh k)) (Accepted n) is (inl refl) [] [] tt; with_memory = (no_refusal _ refl, tt) }
   may_step false (Ok (Fresh k)) is =
       let n = accepted_count s.log + 1 in
       let t : DrillState = record s { log = with_step s.log x } in
@@ -81,15 +81,15 @@ module _ (s : DrillState) (x : Step) where
       record {
         given = Accepted n ∷ rest.given;
         answered = may_say (Ok (Fresh k)) (Accepted n) is (inl refl) (flight_events rest.given) rest.given rest.answered;
-        with_memory = ((λ same. cc), rest.with_memory);
+        with_memory = (no_refusal _ refl, rest.with_memory);
       }
-  may_step holds (Ok (Repeat r)) is = record { given = Repeated r.step ∷ []; answered = may_say (Ok (Repeat r)) (Repeated r.step) is (inl refl) [] [] tt; with_memory = ((λ same. cc), tt) }
+  may_step holds (Ok (Repeat r)) is = record { given = Repeated r.step ∷ []; answered = may_say (Ok (Repeat r)) (Repeated r.step) is (inl refl) [] [] tt; with_memory = (no_refusal _ refl, tt) }
   may_step holds (Err e) is =
-      let other : Refused e ≢ Refused OutOfMemory = λ same. let memory : e ≡ OutOfMemory = cc in never_memory (is_some s.doubt) s.log x (is ∙ ap (λ w. Err w) memory) in
+      let other = other_refusal e (λ memory. never_memory (is_some s.doubt) s.log x (is ∙ ap (λ w. Err w) memory)) in
       record { given = Refused e ∷ []; answered = may_say (Err e) (Refused e) is (inl refl) [] [] tt; with_memory = (other, tt) }
 
 may_crash : (s : DrillState) → May (machine_of s) (λ given. event.Crash ∷ [])
-may_crash s = record { given = Opened (s.log.base.count + s.log.settled) ∷ []; answered = (by_doubt s.doubt, tt); with_memory = ((λ same. cc), tt) }
+may_crash s = record { given = Opened (s.log.base.count + s.log.settled) ∷ []; answered = (by_doubt s.doubt, tt); with_memory = (no_refusal _ refl, tt) }
   where
     by_doubt : (o : Option ℕ) → IsOneOf (Opened (s.log.base.count + s.log.settled)) (map (λ n. Opened (s.log.base.count + n)) (kept_by s.log.settled None o))
     by_doubt None = inl refl

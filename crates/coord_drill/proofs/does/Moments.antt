@@ -1,5 +1,6 @@
 -- A run of the driver's events goes on, over a disk in memory.
 use Rattle.std.proofs.Common.{◌≡◌, ◌≢◌, ℕ, Bool, true, false, List, [], ◌∷◌, ◌++◌, Option, Some, Result, Ok, Err, IfOk, refl, sym, ◌∙◌, subst, append_assoc}
+use Rattle.std.proofs.lemmas.Bool.{false≢true}
 use Rattle.std.specs.List.{AllByRecursion}
 use Rattle.std.specs.Prelude.{OnOk}
 use Rattle.coord_disk.specs.Disks.History.{LeftSince}
@@ -41,10 +42,6 @@ keeps disk = true
 
 abbrev since : MemDisk → ℕ → List ℕ → Type 0
 since disk = LeftSince (past_of disk)
-
-pub if_ok_more : {A E : Type 0} {P Q : A → Type 0} (r : Result A E) → ((a : A) → P a → Q a) → IfOk r P → IfOk r Q
-if_ok_more (Ok a) more p = more a p
-if_ok_more (Err e) more p = tt
 
 pub if_ok_both : {A E : Type 0} (P Q : A → Type 0) (r : Result A E) → IfOk r P → IfOk r Q → IfOk r (λ a. P a × Q a)
 if_ok_both P Q (Ok a) p q = (p, q)
@@ -98,10 +95,14 @@ begins_at o v is begins = subst Begins is begins
 
 -- ---- lines
 
+abbrev pub is_version : Asked → Bool
+is_version Version2 = true
+is_version other = false
+
 -- text, state and disk of a line go by the same answers
 module _ (d new : Drill) (v w : Driven MemDisk) (a : Asked) (given : List Answer) (told : List ℕ) (is : d.driver ≡ Some v) (now : new.driver ≡ Some w) where
   -- where it is a run of events
-  pub carries : IsReady d → a ≢ Version2 → IsRun v.ledger (line_events d.holds a given) given w → AllByRecursion (λ x. x ≢ Refused OutOfMemory) given →
+  pub carries : IsReady d → is_version a ≡ false → IsRun v.ledger (line_events d.holds a given) given w → AllByRecursion (λ x. x ≢ Refused OutOfMemory) given →
       told ≡ asked_lines (drill_of v.ledger d.holds d.has_begun) a given → drill_of w.ledger new.holds new.has_begun ≡ after_asked (drill_of v.ledger d.holds d.has_begun) a given → Carries d a told new
   carries ready other run memory printed on =
       let here = (held_is d v is ready).here in
@@ -116,15 +117,15 @@ module _ (d new : Drill) (v w : Driven MemDisk) (a : Asked) (given : List Answer
         moments = moved (by_asked a other run);
       }
     where
-      by_asked : (b : Asked) → b ≢ Version2 → IsRun v.ledger (line_events d.holds b given) given w → Moves b (line_events d.holds b given) given v w
-      by_asked Version2 other run = absurd (other refl)
+      by_asked : (b : Asked) → is_version b ≡ false → IsRun v.ledger (line_events d.holds b given) given w → Moves b (line_events d.holds b given) given v w
+      by_asked Version2 other run = absurd (false≢true (sym other))
       by_asked b other run = run
 
       moved : Moves a (line_events d.holds a given) given v w → MovesFrom a (line_events d.holds a given) given d.driver new.driver
       moved to = subst (λ o. MovesFrom a (line_events d.holds a given) given o new.driver) (sym is) (subst (λ p. MovesFrom a (line_events d.holds a given) given (Some v) p) (sym now) to)
 
 -- a line that is no event leaves the drill as it is
-still : (d : Drill) (a : Asked) (old text told : List ℕ) → IsReady d → Begins d.driver → a ≢ Version2 → line_events d.holds a [] ≡ [] → text ≡ old ++ told → told ≡ asked_lines (state_of d) a [] → ((s : DrillState) → s ≡ after_asked s a []) → Tells old text (λ told. Carries d a told d)
+still : (d : Drill) (a : Asked) (old text told : List ℕ) → IsReady d → Begins d.driver → is_version a ≡ false → line_events d.holds a [] ≡ [] → text ≡ old ++ told → told ≡ asked_lines (state_of d) a [] → ((s : DrillState) → s ≡ after_asked s a []) → Tells old text (λ told. Carries d a told d)
 still d a old text told ready begins other none is printed same =
     let v = driver_of d ready in
     let run = subst (λ es. IsRun v.0.ledger es [] v.0) (sym none) (begins_at d.driver v.0 v.1 begins) in
@@ -132,30 +133,30 @@ still d a old text told ready begins other none is printed same =
 
 pub tells_refusal : (d : Drill) (old text : List ℕ) (refusal : Refusal) → IsReady d → Begins d.driver → text ≡ old ++ refusal_line refusal → Tells old text (λ told. Carries d (ask.Refuse refusal) told d)
 unfolding asked_lines after_asked
-tells_refusal d old text refusal ready begins is = still d (ask.Refuse refusal) old text _ ready begins (λ same. cc) refl is refl (λ s. refl)
+tells_refusal d old text refusal ready begins is = still d (ask.Refuse refusal) old text _ ready begins refl refl is refl (λ s. refl)
 
 pub tells_idle : (d : Drill) (old text : List ℕ) → IsReady d → Begins d.driver → text ≡ old ++ idle_line → Tells old text (λ told. Carries d ask.Nothing told d)
 unfolding asked_lines after_asked
-tells_idle d old text ready begins is = still d ask.Nothing old text _ ready begins (λ same. cc) refl is refl (λ s. refl)
+tells_idle d old text ready begins is = still d ask.Nothing old text _ ready begins refl refl is refl (λ s. refl)
 
 pub tells_check : (d : Drill) (old text : List ℕ) → IsReady d → Begins d.driver → text ≡ old ++ fault_line (first (faults (front_world (state_of d).log))) → Tells old text (λ told. Carries d ask.Check told d)
 unfolding asked_lines after_asked
-tells_check d old text ready begins is = still d ask.Check old text _ ready begins (λ same. cc) refl is refl (λ s. refl)
+tells_check d old text ready begins is = still d ask.Check old text _ ready begins refl refl is refl (λ s. refl)
 
 pub tells_resent : (d : Drill) (old text : List ℕ) → IsReady d → Begins d.driver → text ≡ old ++ output_lines (settled_world (state_of d).log).version (again (settled_world (state_of d).log)) → Tells old text (λ told. Carries d ask.Resend told d)
 unfolding asked_lines after_asked
-tells_resent d old text ready begins is = still d ask.Resend old text _ ready begins (λ same. cc) refl is refl (λ s. refl)
+tells_resent d old text ready begins is = still d ask.Resend old text _ ready begins refl refl is refl (λ s. refl)
 
 pub tells_show : (d : Drill) (old text : List ℕ) → IsReady d → Begins d.driver → text ≡ old ++ shown_lines (state_of d).log (state_of d).doubt → Tells old text (λ told. Carries d ask.Show told d)
 unfolding asked_lines after_asked
-tells_show d old text ready begins is = still d ask.Show old text _ ready begins (λ same. cc) refl is refl (λ s. refl)
+tells_show d old text ready begins is = still d ask.Show old text _ ready begins refl refl is refl (λ s. refl)
 
 -- from now on it holds
 pub carries_hold : (d new : Drill) → IsReady d → Begins d.driver → new.driver ≡ d.driver → new.holds ≡ true → new.has_begun ≡ d.has_begun → Carries d ask.Hold [] new
 unfolding asked_lines after_asked
 carries_hold d new ready begins same holds begun =
     let v = driver_of d ready in
-    carries d new v.0 v.0 ask.Hold [] [] v.1 (same ∙ v.1) ready (λ same. cc) (begins_at d.driver v.0 v.1 begins) tt refl (λ i. drill_of v.0.ledger (holds i) (begun i))
+    carries d new v.0 v.0 ask.Hold [] [] v.1 (same ∙ v.1) ready refl (begins_at d.driver v.0 v.1 begins) tt refl (λ i. drill_of v.0.ledger (holds i) (begun i))
 
 -- a new disk is not one of the run's
 pub carries_made : (d new : Drill) (v w : Driven MemDisk) → d.driver ≡ Some v → new.driver ≡ Some w → new.holds ≡ d.holds → new.has_begun ≡ d.has_begun → IsMade 2 w.ledger → Carries d ask.Version2 [] new

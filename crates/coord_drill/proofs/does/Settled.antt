@@ -1,6 +1,7 @@
 -- What a flight settles: of each step the reply and the releases, in order, and the tickets behind.
 use Rattle.std.proofs.Common.{◌≡◌, ℕ, zero, suc, ◌+◌, ◌≤◌, ◌==◌, true, cond, List, [], ◌∷◌, ◌++◌, map, length, take, drop, Some, refl, sym, ap, ◌∙◌, subst, append-nil, append_assoc, arith, inl}
 use Rattle.std.proofs.lemmas.Bool.Decides.{nat_tests}
+use Rattle.std.proofs.lemmas.List.{length-take}
 use Rattle.std.proofs.Math.Seq.{take-append_seam}
 use Rattle.std.specs.List.{AllByRecursion}
 use Rattle.std.specs.Prelude.{nat_le, slice_get}
@@ -123,14 +124,9 @@ granted_from log before (s ∷ after) is =
       subst (λ w. AllByRecursion (IsGranted log) (claims_of w after)) one (granted_from log (before ++ s ∷ []) after (is ∙ sym (append_assoc before (s ∷ []) after))),
     )
 
-short : {A : Type 0} (n : ℕ) (xs : List A) → length (take n xs) ≤ n
-short zero xs = omega arith
-short (suc n) [] = omega arith
-short (suc n) (x ∷ xs) = omega (arith, short n xs)
-
 -- what is granted may be collected once its step is settled
 pub collectable : (log : Log) (claim : Claim) → IsGranted log claim → claim.step ≤ (settled_world log).count → IsCollectable log claim
-collectable log claim granted le = record { settled = omega (arith, le, fold_counts log.base (take log.settled log.trail), short log.settled log.trail); granted = granted }
+collectable log claim granted le = record { settled = omega (arith, le, fold_counts log.base (take log.settled log.trail), length-take log.settled log.trail); granted = granted }
 
 -- the release that is looked at first
 pub looked_at : (rs : List Release) → left (slice_get rs 0) (drop 1 rs) ≡ rs

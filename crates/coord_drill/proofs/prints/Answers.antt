@@ -1,5 +1,6 @@
 -- What one read and one write did, by what is told of their answers.
 use Rattle.std.proofs.Common.{◌≡◌, inl, inr, ℕ, ◌≤◌, List, [], length, take, Option, Some, None, Result, Ok, Err, sym, ◌∙◌, subst, append-nil, arith}
+use Rattle.std.proofs.KnownBytes.{Appends-kept, Appends-nil}
 use Rattle.std.specs.Prelude.{MatchResult}
 use Rattle.std.specs.Io.{ReadsAtMost, WritesAtMost}
 use Rattle.std.specs.Io.KnownBytes.{Appends, Keeps, ReadConsumes, WriteAppends}
@@ -12,18 +13,13 @@ kept None b p = tt
 kept (Some x) None p = absurd p
 kept (Some x) (Some y) p = p ∙ append-nil x
 
-nothing : (a b : Option (List ℕ)) → Keeps a b → Appends a b []
-nothing None b p = tt
-nothing (Some x) None p = absurd p
-nothing (Some x) (Some y) p = p ∙ sym (append-nil x)
-
 pub write_told : {E : Type 0} (answer : Result ℕ E) (told : Result ℕ Fault) (a b : Option (List ℕ)) (text : List ℕ) → TellsOfWrite answer told → WriteAppends a b answer text → WriteAppends a b told text
 write_told (Ok n) (Ok m) a b text (inl is) wrote = let same : n ≡ m = cc in subst (λ (k : ℕ). Appends a b (take k text)) same wrote
 write_told (Ok n) (Ok m) a b text (inr none) wrote = absurd (cc none.0)
 write_told (Ok n) (Err fault) a b text (inl is) wrote = let none : n ≡ 0 = cc in kept a b (subst (λ (k : ℕ). Appends a b (take k text)) none wrote)
 write_told (Ok n) (Err fault) a b text (inr none) wrote = absurd (cc none)
 write_told (Err e) (Ok m) a b text (inl is) wrote = absurd (cc is)
-write_told (Err e) (Ok m) a b text (inr none) wrote = subst (λ (k : ℕ). Appends a b (take k text)) (sym none.1) (nothing a b wrote)
+write_told (Err e) (Ok m) a b text (inr none) wrote = subst (λ (k : ℕ). Appends a b (take k text)) (sym none.1) (Appends-kept a a b [] (Appends-nil a) wrote)
 write_told (Err e) (Err fault) a b text told wrote = wrote
 
 pub write_within : {E : Type 0} (answer : Result ℕ E) (told : Result ℕ Fault) (text : List ℕ) → TellsOfWrite answer told → WritesAtMost answer text → WritesAtMost told text

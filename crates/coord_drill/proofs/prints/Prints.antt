@@ -1,13 +1,13 @@
 -- What may be printed where a piece of the input is taken.
-use Rattle.std.proofs.Common.{refl, ◌≡◌, ℕ, ◌+◌, List, [], ◌∷◌, ◌++◌, Option, Some, None, sym, ap, ◌∙◌, subst, append-nil, take, Result, Ok, Err, OnOk, OnErr, IfErr, IfSome}
+use Rattle.std.proofs.Common.{refl, ◌≡◌, ℕ, ◌+◌, List, [], ◌∷◌, ◌++◌, Option, Some, None, sym, ap, ◌∙◌, subst, append-nil, take, Result, Ok, Err, OnOk, OnErr, IfErr, IfSome, inl, inr, Bool, true, false}
 use Rattle.std.specs.Io.KnownBytes.{Appends, Consumes, IsAtEnd}
 use Rattle.std.proofs.KnownBytes.{Appends-trans, Consumes-trans, Consumes-whole}
 use Rattle.coord_lines.specs.Lines.{Line, extended, lines_on, before_line_feed, behind_line_feed, IsWithin}
 use Rattle.coord_lines.proofs.LinesOn.{lines_on-ended, lines_on-unended, extended-nothing}
 use Rattle.coord_drill.specs.declared.fault.Fault.{Fault}
-use Rattle.coord_drill.specs.declared.fault.Fault.TheVariants.{TooManyReads}
 use Rattle.coord_drill.specs.Drill.{DrillState}
-use Rattle.coord_drill.specs.Drilled.{LineResponds, Prints, IsOfWork, WritesFirstPart}
+use Rattle.coord_drill.specs.Drilled.{LineResponds, Prints, WritesFirstPart}
+use Rattle.coord_drill.specs.Faults.{IsOfDisk, IsOfWork, IsOfWriting, MayEndBy}
 use Rattle.coord_drill.proofs.prints.FirstParts.{first_part-longer, first_part-none}
 use Rattle.coord_drill.proofs.does.LineResponds.{line_somehow}
 
@@ -64,28 +64,28 @@ Consumes-none a b c seen bytes count first second e =
     let none : take count bytes ≡ [] = rw e refl in
     subst (Consumes a c) (ap (λ l. seen ++ l) none ∙ append-nil seen) (Consumes-trans a b c seen (take count bytes) first second)
 
--- what may end the printing of a line is not that there were too many reads
-pub not_of_reading : (fault : Fault) → IsOfWork fault → fault ≡ TooManyReads → ⊥
-not_of_reading fault work e = subst IsOfWork e work
+-- what is known of a fault, and of what was written before it
+pub IfErr-with : {Q : Fault → Type 0} (r : Result (Unit {0}) Fault) (P : Type 0) (K : Fault → Type 0) → OnErr r P → IfErr r K → ((fault : Fault) → K fault → P → Q fault) → IfErr r Q
+IfErr-with (Ok x) P K part kind make = tt
+IfErr-with (Err fault) P K part kind make = make fault kind part
 
-pub IfErr-of_work : {P : Type 0} {Q : Fault → Type 0} (r : Result (Unit {0}) Fault) → OnErr r P → IfErr r IsOfWork → ((fault : Fault) → IsOfWork fault → P → Q fault) → IfErr r Q
-IfErr-of_work (Ok x) part kind make = tt
-IfErr-of_work (Err fault) part kind make = make fault kind part
+-- work on the disk is work, and so is writing
+pub disk_is_work : (fault : Fault) → IsOfDisk fault → IsOfWork fault
+disk_is_work fault (inl memory) = ((λ same. cc), (λ same. cc))
+disk_is_work fault (inr device) = ((λ same. cc), (λ same. cc))
+
+pub writing_is_work : (fault : Fault) → IsOfWriting fault → IsOfWork fault
+writing_is_work fault (inl memory) = ((λ same. cc), (λ same. cc))
+writing_is_work fault (inr write) = ((λ same. cc), (λ same. cc))
+
+-- what is asked ends as work on the disk does, at most
+pub ends_as_disk : (opens : Bool) (fault : Fault) → MayEndBy opens fault → IsOfDisk fault
+ends_as_disk true fault of = of
+ends_as_disk false fault memory = inl memory
 
 -- what may be printed to a piece, of which a first part was written
 pub piece_part : (s : DrillState) (n : ℕ) (line : Line) (piece text : List ℕ) (a b : Option (List ℕ)) → Prints s n (lines_on line piece) text → WritesFirstPart a b text → (text : List ℕ) × Prints s n (lines_on line piece) text × WritesFirstPart a b text
 piece_part s n line piece text a b prints part = (text, prints, part)
-
--- the same of what failed in a piece of the input
-pub IfErr-of_piece : {Q : Fault → Type 0} (r : Result (Unit {0}) Fault) (a b : Option (List ℕ)) (s : DrillState) (n : ℕ) (line : Line) (piece : List ℕ) → OnErr r ((text : List ℕ) × Prints s n (lines_on line piece) text × WritesFirstPart a b text) → IfErr r IsOfWork
-    → ((fault : Fault) → IsOfWork fault → ((text : List ℕ) × Prints s n (lines_on line piece) text × WritesFirstPart a b text) → Q fault) → IfErr r Q
-IfErr-of_piece (Ok x) a b s n line piece part kind make = tt
-IfErr-of_piece (Err fault) a b s n line piece part kind make = make fault kind part
-
--- and where nothing is known but the fault
-pub IfErr-by_work : {Q : Fault → Type 0} {T : Type 0} (r : Result T Fault) → IfErr r IsOfWork → ((fault : Fault) → IsOfWork fault → Q fault) → IfErr r Q
-IfErr-by_work (Ok x) kind make = tt
-IfErr-by_work (Err fault) kind make = make fault kind
 
 -- What was put into an empty list for a piece of the input. `Piece` are the texts that may be printed to it; `Whole` those to it and
 -- what comes behind it, and `Rest` those that may still be printed then.

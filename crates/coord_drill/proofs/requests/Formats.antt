@@ -2,6 +2,7 @@
 use Rattle.std.proofs.Common.{◌≡◌, Bool, true, false, cond, not, ◌&&◌, List, [], ◌∷◌, ◌++◌, length, Option, Some, None, refl, sym, ap, ◌∙◌, subst, append_assoc, arith}
 use Rattle.std.specs.Prelude.{bytes_eq}
 use Rattle.std.specs.List.{All, position_or_len, join_with_byte}
+use Rattle.std.proofs.lemmas.Option.{none-some}
 use Rattle.std.proofs.lemmas.List.Splits.{slice_split_at, slice_split_none}
 use Rattle.std.proofs.lemmas.List.Sums.{fails_before_first}
 use Rattle.std.proofs.lemmas.Slice.Eq.{bytes_eq-Decides}
@@ -43,13 +44,13 @@ pub record IsFormat {A : Type 0} (f : Format A) : Type 0 where
 -- a field, where each word that is spelled is read so and holds no space
 module _ {A : Type 0} (word_of : A → Option Word) (of_word : Word → Option A) (h : (x : A) (w : Word) → word_of x ≡ Some w → (of_word w ≡ Some x) × IsPlain w) where
   field_again : (x : A) (ws rest : List Word) (o : Option Word) → word_of x ≡ o → (o >>= λ w. Some (w ∷ [])) ≡ Some ws → read_word of_word (ws ++ rest) ≡ Some (x, rest)
-  field_again x ws rest None e f = absurd cc
+  field_again x ws rest None e f = absurd (none-some ws f)
   field_again x ws rest (Some w) e f =
       let same : w ∷ [] ≡ ws = cc in
       subst (λ v. read_word of_word (v ++ rest) ≡ Some (x, rest)) same (ap (λ o. o >>= λ y. Some (y, rest)) (h x w e).0)
 
   field_plain : (x : A) (ws : List Word) (o : Option Word) → word_of x ≡ o → (o >>= λ w. Some (w ∷ [])) ≡ Some ws → ArePlain ws
-  field_plain x ws None e f = absurd cc
+  field_plain x ws None e f = absurd (none-some ws f)
   field_plain x ws (Some w) e f = let same : w ∷ [] ≡ ws = cc in subst ArePlain same ((h x w e).1, tt)
 
   pub field_format : IsFormat (field word_of of_word)
@@ -65,8 +66,8 @@ nothing_format = record {
 -- one after the other
 module _ {A B : Type 0} (f : Format A) (g : Format B) (first : IsFormat f) (second : IsFormat g) where
   and_again : (p : A × B) (ws rest : List Word) (o : Option (List Word)) (u : Option (List Word)) → f.spell p.0 ≡ o → g.spell p.1 ≡ u → (o >>= λ us. u >>= λ vs. Some (us ++ vs)) ≡ Some ws → (f & g).read (ws ++ rest) ≡ Some (p, rest)
-  and_again p ws rest None u e1 e2 e = absurd cc
-  and_again p ws rest (Some us) None e1 e2 e = absurd cc
+  and_again p ws rest None u e1 e2 e = absurd (none-some ws e)
+  and_again p ws rest (Some us) None e1 e2 e = absurd (none-some ws e)
   and_again p ws rest (Some us) (Some vs) e1 e2 e =
       let same : us ++ vs ≡ ws = cc in
       subst (λ v. (f & g).read (v ++ rest) ≡ Some (p, rest)) same (
@@ -76,8 +77,8 @@ module _ {A B : Type 0} (f : Format A) (g : Format B) (first : IsFormat f) (seco
       )
 
   and_plain : (p : A × B) (ws : List Word) (o : Option (List Word)) (u : Option (List Word)) → f.spell p.0 ≡ o → g.spell p.1 ≡ u → (o >>= λ us. u >>= λ vs. Some (us ++ vs)) ≡ Some ws → ArePlain ws
-  and_plain p ws None u e1 e2 e = absurd cc
-  and_plain p ws (Some us) None e1 e2 e = absurd cc
+  and_plain p ws None u e1 e2 e = absurd (none-some ws e)
+  and_plain p ws (Some us) None e1 e2 e = absurd (none-some ws e)
   and_plain p ws (Some us) (Some vs) e1 e2 e = let same : us ++ vs ≡ ws = cc in subst ArePlain same (ArePlain-append us vs (first.plain p.0 us e1) (second.plain p.1 vs e2))
 
   pub and_format : IsFormat (f & g)
@@ -86,11 +87,11 @@ module _ {A B : Type 0} (f : Format A) (g : Format B) (first : IsFormat f) (seco
 -- a value by its parts, where it is made of the parts that it gives
 module _ {A B : Type 0} (make : A → B) (parts : B → Option A) (f : Format A) (format : IsFormat f) (h : (y : B) (x : A) → parts y ≡ Some x → make x ≡ y) where
   made_again : (y : B) (ws rest : List Word) (o : Option A) → parts y ≡ o → (o >>= f.spell) ≡ Some ws → (made make parts f).read (ws ++ rest) ≡ Some (y, rest)
-  made_again y ws rest None e1 e = absurd cc
+  made_again y ws rest None e1 e = absurd (none-some ws e)
   made_again y ws rest (Some x) e1 e = ap (λ r. r >>= λ z. Some (make z.0, z.1)) (format.again x ws rest e) ∙ ap (λ z. Some (z, rest)) (h y x e1)
 
   made_plain : (y : B) (ws : List Word) (o : Option A) → parts y ≡ o → (o >>= f.spell) ≡ Some ws → ArePlain ws
-  made_plain y ws None e1 e = absurd cc
+  made_plain y ws None e1 e = absurd (none-some ws e)
   made_plain y ws (Some x) e1 e = format.plain x ws e
 
   pub made_format : IsFormat (made make parts f)
@@ -161,7 +162,7 @@ module _ {A : Type 0} where
   }
 
   pub found_by : (rows : List (Row A)) → IsTable rows → (x : A) (ws rest : List Word) → spell_by rows x ≡ Some ws → Found A rows x ws rest
-  found_by [] table x ws rest e = absurd cc
+  found_by [] table x ws rest e = absurd (none-some ws e)
   found_by (r ∷ rs) table x ws rest e = by (λ f. found_by rs table.3 x ws rest f) (r.fields.spell x) refl e
     where
       by : (spell_by rs x ≡ Some ws → Found A rs x ws rest) → (o : Option (List Word)) → r.fields.spell x ≡ o → or_else (o >>= λ vs. Some (r.verb ∷ vs)) (spell_by rs x) ≡ Some ws → Found A (r ∷ rs) x ws rest

@@ -1,6 +1,7 @@
 -- What is spelled of a request is read so: the rows of the table of requests.
 use Rattle.std.proofs.Common.{◌≡◌, ℕ, not, ◌&&◌, List, [], ◌∷◌, map, Some, None, refl, ap, ◌∙◌}
 use Rattle.std.specs.Prelude.{bytes_eq}
+use Rattle.std.proofs.lemmas.Option.{none-some}
 use Rattle.coord_types.specs.declared.messages.Msg.{Msg}
 use Rattle.coord_types.specs.declared.messages.Msg.TheVariants.{Abort, Ack, Ready}
 use Rattle.coord_types.specs.declared.steps.Command.{Command}
@@ -15,7 +16,7 @@ use Rattle.coord_drill.proofs.requests.SpelledCommands.{commands_table}
 -- of the parts that the table gives of a request, that request is made
 next_parts : (y : Request) (x : Command) → (elim y [ Next c ↦ Some c | _ ↦ None ]) ≡ Some x → Next x ≡ y
 next_parts (Next c) x e = made_of Next c x e
-next_parts _ x e = absurd cc
+next_parts _ x e = absurd (none-some x e)
 
 -- these rows keep their verbs
 next_row-is_other : (r : Row Command) (rows : List (Row Command)) → is_other (next_row r) (map next_row rows) ≡ is_other r rows
@@ -29,7 +30,7 @@ next_table (r ∷ rs) h = (by_parts _ _ next_parts h.0, h.1, next_row-is_other r
 
 order_parts : (y : Request) (x : ℕ × (ℕ × Command)) → (elim y [ Order c n o ↦ Some (c, (n, o)) | _ ↦ None ]) ≡ Some x → Order x.0 x.1.0 x.1.1 ≡ y
 order_parts (Order c n o) x e = made_of (λ p. Order p.0 p.1.0 p.1.1) (c, (n, o)) x e
-order_parts _ x e = absurd cc
+order_parts _ x e = absurd (none-some x e)
 
 order_format : IsFormat order_fields
 unfolding order_fields
@@ -37,23 +38,23 @@ order_format = by_parts _ _ order_parts (both client_format (both number_format 
 
 take_parts : (y : Request) (x : ℕ × ℕ) → (elim y [ Take u v ↦ Some (u, v) | _ ↦ None ]) ≡ Some x → Take x.0 x.1 ≡ y
 take_parts (Take u v) x e = made_of (λ p. Take p.0 p.1) (u, v) x e
-take_parts _ x e = absurd cc
+take_parts _ x e = absurd (none-some x e)
 
 clear_parts : (y : Request) (x : ℕ × ℕ) → (elim y [ Clear u v ↦ Some (u, v) | _ ↦ None ]) ≡ Some x → Clear x.0 x.1 ≡ y
 clear_parts (Clear u v) x e = made_of (λ p. Clear p.0 p.1) (u, v) x e
-clear_parts _ x e = absurd cc
+clear_parts _ x e = absurd (none-some x e)
 
 abort_parts : (y : Msg) (x : ℕ) → (elim y [ Abort k ↦ Some k | _ ↦ None ]) ≡ Some x → Abort x ≡ y
 abort_parts (Abort k) x e = made_of Abort k x e
-abort_parts _ x e = absurd cc
+abort_parts _ x e = absurd (none-some x e)
 
 ack_parts : (y : Msg) (x : Unit {0}) → (elim y [ Ack ↦ Some tt | _ ↦ None ]) ≡ Some x → Ack ≡ y
 ack_parts Ack x e = refl
-ack_parts _ x e = absurd cc
+ack_parts _ x e = absurd (none-some x e)
 
 ready_parts : (y : Msg) (x : Unit {0}) → (elim y [ Ready ↦ Some tt | _ ↦ None ]) ≡ Some x → Ready ≡ y
 ready_parts Ready x e = refl
-ready_parts _ x e = absurd cc
+ready_parts _ x e = absurd (none-some x e)
 
 -- the names of messages differ, and each row is read as it is spelled
 messages_table : (version : ℕ) → IsTable (messages version)
@@ -69,7 +70,7 @@ data_parts : (y : Request) (x : ℕ × (ℕ × (ℕ × (ℕ × Msg)))) → (elim
     → Data (record { from = x.0; to = x.1.0; inc = x.1.1.0; number = x.1.1.1.0; msg = x.1.1.1.1 }) ≡ y
 data_parts (Data d) x e =
     made_of (λ p. Data (record { from = p.0; to = p.1.0; inc = p.1.1.0; number = p.1.1.1.0; msg = p.1.1.1.1 })) (d.from, (d.to, (d.inc, (d.number, d.msg)))) x e
-data_parts _ x e = absurd cc
+data_parts _ x e = absurd (none-some x e)
 
 data_format : (version : ℕ) → IsFormat (data_fields version)
 unfolding data_fields
@@ -78,7 +79,7 @@ data_format version = by_parts _ _ data_parts (both node_format (both node_forma
 receipt_parts : (y : Request) (x : ℕ × (ℕ × (ℕ × ℕ))) → (elim y [ Receipt r ↦ Some (r.from, (r.to, (r.inc, r.number))) | _ ↦ None ]) ≡ Some x
     → Receipt (record { from = x.0; to = x.1.0; inc = x.1.1.0; number = x.1.1.1 }) ≡ y
 receipt_parts (Receipt r) x e = made_of (λ p. Receipt (record { from = p.0; to = p.1.0; inc = p.1.1.0; number = p.1.1.1 })) (r.from, (r.to, (r.inc, r.number))) x e
-receipt_parts _ x e = absurd cc
+receipt_parts _ x e = absurd (none-some x e)
 
 receipt_format : IsFormat receipt_fields
 unfolding receipt_fields
@@ -86,31 +87,31 @@ receipt_format = by_parts _ _ receipt_parts (both node_format (both node_format 
 
 resend_parts : (y : Request) (x : Unit {0}) → (elim y [ Resend ↦ Some tt | _ ↦ None ]) ≡ Some x → Resend ≡ y
 resend_parts Resend x e = refl
-resend_parts _ x e = absurd cc
+resend_parts _ x e = absurd (none-some x e)
 
 check_parts : (y : Request) (x : Unit {0}) → (elim y [ Check ↦ Some tt | _ ↦ None ]) ≡ Some x → Check ≡ y
 check_parts Check x e = refl
-check_parts _ x e = absurd cc
+check_parts _ x e = absurd (none-some x e)
 
 show_parts : (y : Request) (x : Unit {0}) → (elim y [ Show ↦ Some tt | _ ↦ None ]) ≡ Some x → Show ≡ y
 show_parts Show x e = refl
-show_parts _ x e = absurd cc
+show_parts _ x e = absurd (none-some x e)
 
 hold_parts : (y : Request) (x : Unit {0}) → (elim y [ Hold ↦ Some tt | _ ↦ None ]) ≡ Some x → Hold ≡ y
 hold_parts Hold x e = refl
-hold_parts _ x e = absurd cc
+hold_parts _ x e = absurd (none-some x e)
 
 flush_parts : (y : Request) (x : Unit {0}) → (elim y [ Flush ↦ Some tt | _ ↦ None ]) ≡ Some x → Flush ≡ y
 flush_parts Flush x e = refl
-flush_parts _ x e = absurd cc
+flush_parts _ x e = absurd (none-some x e)
 
 crash_parts : (y : Request) (x : Unit {0}) → (elim y [ Crash ↦ Some tt | _ ↦ None ]) ≡ Some x → Crash ≡ y
 crash_parts Crash x e = refl
-crash_parts _ x e = absurd cc
+crash_parts _ x e = absurd (none-some x e)
 
 version_parts : (y : Request) (x : Unit {0}) → (elim y [ Version2 ↦ Some tt | _ ↦ None ]) ≡ Some x → Version2 ≡ y
 version_parts Version2 x e = refl
-version_parts _ x e = absurd cc
+version_parts _ x e = absurd (none-some x e)
 
 version_format : IsFormat version_fields
 unfolding version_fields

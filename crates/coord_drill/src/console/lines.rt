@@ -6,7 +6,8 @@ ghost use Rattle.std.specs.Io.KnownBytes.{Appends};
 ghost use Rattle.coord_lines.specs.Lines.{lines_on, IsWithin};
 ghost use Rattle.coord_drill.specs.Answered.{Responds};
 ghost use Rattle.coord_drill.specs.Drill.{DrillState};
-ghost use Rattle.coord_drill.specs.Drilled.{asked_by, is_skipped, IsOfWork, LineResponds, Prints, WritesFirstPart};
+ghost use Rattle.coord_drill.specs.Drilled.{asked_by, is_skipped, LineResponds, Prints, WritesFirstPart};
+ghost use Rattle.coord_drill.specs.Faults.{IsOfDisk, IsOfWork};
 ghost use Rattle.coord_drill.specs.Holding.{IsReady, Tells, state_of};
 
 use super::Console;
@@ -73,7 +74,7 @@ impl Console {
         ensures told { OnOk result (LineResponds (state_of self.old.drill)
             (self.old.number + 1) self.old.line (string_bytes self.new.text)
             (state_of self.new.drill)) }
-        ensures fault { IfErr result IsOfWork }
+        ensures fault { IfErr result IsOfDisk }
         ensures number { OnOk result (self.new.number ≡ self.old.number + 1) }
         ensures line { OnOk result (self.new.line ≡ Some []) }
         ensures within { IsWithin self.old.line }
@@ -103,7 +104,7 @@ fn respond(
         (λ told. Responds (state_of drill.old) number
         (option_and_then (asked_by (state_of drill.old)) (option_copied line.entry)) told
         (state_of drill.new))) }
-    ensures fault { IfErr result IsOfWork }
+    ensures fault { IfErr result IsOfDisk }
 {
     let request = match line {
         Some(line) => drill.read(line),

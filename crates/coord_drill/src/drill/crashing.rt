@@ -1,8 +1,7 @@
 //! The disk crashes, and is opened again.
 
 ghost use Rattle.std.specs.Prelude.{◌≡◌, OnOk, string_bytes, IfErr};
-ghost use Rattle.coord_drill.specs.Drilled.{IsOfWork};
-ghost use Rattle.coord_drill.specs.Faults.{reopen_fault};
+ghost use Rattle.coord_drill.specs.Faults.{IsOfDisk, reopen_fault};
 ghost use Rattle.coord_drill.specs.Holding.{IsReady, Tells};
 ghost use Rattle.coord_drill.specs.Moments.{Carries};
 ghost use Rattle.coord_drill.specs.declared.asked.Asked.TheVariants.{Crash};
@@ -19,7 +18,7 @@ impl Drill {
         ensures ready { OnOk result (IsReady self.new) }
         ensures told { OnOk result (Tells (string_bytes text.old) (string_bytes text.new) (λ told.
             Carries self.old Crash told self.new)) }
-        ensures fault { IfErr result IsOfWork }
+        ensures fault { IfErr result IsOfDisk }
     {
         self.driver();
         let Some(driver) = self.driver.take() else {
@@ -41,7 +40,7 @@ impl Drill {
 /// How a crash that was not answered is told.
 fn told_as(kind: RunFaultKind) -> Fault
     ensures told { result ≡ reopen_fault kind }
-    ensures fault { IsOfWork result }
+    ensures fault { IsOfDisk result }
 {
     match kind {
         RunFaultKind::OutOfMemory => Fault::OutOfMemory,

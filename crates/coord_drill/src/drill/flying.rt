@@ -3,16 +3,18 @@
 ghost use Rattle.std.specs.Prelude.{◌≡◌, ◌≤◌, ◌∷◌, ◌++◌, ℕ, List, [], None, Ok, Some, OnOk, IfOk, IfSome, IfNone, length, string_bytes, IfErr};
 ghost use Rattle.std.specs.List.{AllByRecursion};
 ghost use Rattle.coord_disk.specs.declared.memory.MemDisk.{MemDisk as Disk};
+ghost use Rattle.coord_world.specs.protocol.Outputs.{outs};
 ghost use Rattle.coord_ledger.specs.declared.events.Answer.TheVariants.{Finished};
 ghost use Rattle.coord_ledger.specs.declared.events.Event.TheVariants.{Finish};
 ghost use Rattle.coord_ledger.specs.declared.mark.Mark.TheVariants.{New};
 ghost use Rattle.coord_ledger.specs.declared.release.Release.{Release as Row};
 ghost use Rattle.coord_ledger.specs.ledger.Driven.{LandsTo};
 ghost use Rattle.coord_ledger.specs.ledger.State.{FlightState, IsGranted, reply_of};
+ghost use Rattle.coord_ledger.specs.machine.After.{releases_of};
 ghost use Rattle.coord_ledger.specs.machine.Answers.{next_size};
 ghost use Rattle.coord_ledger.specs.machine.Log.{settled_count, settled_world};
 ghost use Rattle.coord_drill.specs.Drill.{landing_events};
-ghost use Rattle.coord_drill.specs.Drilled.{IsOfWork};
+ghost use Rattle.coord_drill.specs.Faults.{IsOfMemory};
 ghost use Rattle.coord_drill.specs.Holding.{AreGranted, FlownTo, IsReady, LandsAs, Tells, behind, collected_lines, flown_answers, flown_lines, landed_answers, left, left_by, released_lines, waiting};
 ghost use Rattle.coord_drill.specs.Moments.{Carries, Flies, GoesBy, GoesOnTo};
 ghost use Rattle.coord_drill.specs.declared.asked.Asked.TheVariants.{Flush};
@@ -51,7 +53,7 @@ impl Drill {
         ensures ready { OnOk result (IsReady self.new) }
         ensures told { OnOk result (Tells (string_bytes text.old) (string_bytes text.new) (λ told.
             Carries self.old Flush told self.new)) }
-        ensures fault { IfErr result IsOfWork }
+        ensures fault { IfErr result IsOfMemory }
     {
         self.driver();
         self.fly(text)?;
@@ -65,7 +67,7 @@ impl Drill {
         ensures ready { OnOk result (IsReady self.new) }
         ensures told { OnOk result (Tells (string_bytes text.old) (string_bytes text.new) (λ told.
             Flies self.old told self.new)) }
-        ensures fault { IfErr result IsOfWork }
+        ensures fault { IfErr result IsOfMemory }
     {
         let Some(driver) = self.driver.take() else {
             unreachable!()
@@ -100,12 +102,11 @@ fn print_flown(
 /// Sends the next steps out, commits them, and takes the flight back.
 fn send_out(driver: Driver<MemDisk>) -> Result<Landing, Fault>
     requires home { driver.flight ≡ None }
-    ensures flown { IfOk result (λ r. FlownTo driver.ledger r.flown r.driver.ledger) }
-    ensures home { IfOk result (λ r. r.driver.flight ≡ None) }
+    ensures flown { IfOk result (λ r. FlownTo driver.ledger r.flown r.driver) }
     ensures moments { IfOk result (λ r. GoesBy driver
         (flown_answers r.flown (next_size driver.ledger.log) (settled_count r.driver.ledger.log))
         r.driver) }
-    ensures fault { IfErr result IsOfWork }
+    ensures fault { IfErr result IsOfMemory }
 {
     driver.begins();
     driver.survives();
@@ -124,10 +125,11 @@ fn send_out(driver: Driver<MemDisk>) -> Result<Landing, Fault>
 /// Commits the flight that is out, and takes it back.
 fn land(driver: Driver<MemDisk>) -> Result<Landing, Fault>
     ensures landed { IfOk result (λ r. (f : FlightState Disk) → driver.flight ≡ Some f →
-        f.mark ≡ New → LandsAs driver.ledger f r.flown r.driver) }
+        f.mark ≡ New → LandsAs driver.ledger (length f.steps)
+        (releases_of (outs f.world f.steps)) r.flown r.driver) }
     ensures moments { IfOk result (λ r. GoesOnTo driver landing_events
         (landed_answers r.flown (settled_count r.driver.ledger.log)) r.driver) }
-    ensures fault { IfErr result IsOfWork }
+    ensures fault { IfErr result IsOfMemory }
 {
     let mut driver = driver;
     let answer = driver.commit();
@@ -158,7 +160,7 @@ fn take_back(driver: Driver<MemDisk>) -> Result<(Releases, Driver<MemDisk>), Fau
         LandsTo driver.ledger f (Ok (Some r.0)) r.1) }
     ensures moments { IfOk result (λ r. GoesOnTo driver (Finish ∷ [])
         (Finished (settled_count r.1.ledger.log) ∷ []) r.1) }
-    ensures fault { IfErr result IsOfWork }
+    ensures fault { IfErr result IsOfMemory }
 {
     driver.survives();
     let (landed, driver) = driver.finish();

@@ -4,16 +4,16 @@ ghost use Rattle.std.specs.Prelude.{◌≡◌, ◌++◌, OnOk, string_bytes, IfE
 ghost use Rattle.coord_ledger.specs.ledger.State.{IsGranted, reply_of};
 ghost use Rattle.coord_ledger.specs.machine.Log.{settled_count};
 ghost use Rattle.coord_drill.specs.Answered.{kept_line};
-ghost use Rattle.coord_drill.specs.Drilled.{IsOfWork};
+ghost use Rattle.coord_drill.specs.Faults.{IsOfMemory};
 ghost use Rattle.coord_drill.specs.Holding.{IsReady, Tells};
-ghost use Rattle.coord_drill.specs.Moments.{Carries};
+ghost use Rattle.coord_drill.specs.Moments.{Carries, Hands};
 ghost use Rattle.coord_drill.specs.declared.asked.Asked.TheVariants.{Submit};
 
 use super::Drill;
 use crate::fault::Fault;
 use crate::print::{print_pending, print_refusal, print_reply};
 use coord_disk::MemDisk;
-use coord_ledger::{Handed, Ledger, Ticket};
+use coord_ledger::{Driver, Handed, Ledger, Ticket};
 use coord_types::{Refusal, Step};
 use std::alloc::AllocError;
 
@@ -24,18 +24,14 @@ impl Drill {
         ensures ready { OnOk result (IsReady self.new) }
         ensures told { OnOk result (Tells (string_bytes text.old) (string_bytes text.new) (λ told.
             Carries self.old (Submit step) told self.new)) }
-        ensures fault { IfErr result IsOfWork }
+        ensures fault { IfErr result IsOfMemory }
     {
         self.driver();
         let Some(driver) = &mut self.driver else {
             unreachable!()
         };
         self.tickets.reserve(1)?;
-        driver.survives();
-        let handed = driver.submit(step);
-        driver.survives();
-        step.within_ranges();
-        match handed {
+        match hand_in(driver, step) {
             Ok(Handed::Accepted(ticket)) => {
                 let number = ticket.step();
                 self.tickets.push_back_reserved(ticket);
@@ -50,6 +46,17 @@ impl Drill {
             Err(refusal) => Ok(print_refusal(text, refusal)?),
         }
     }
+}
+
+/// Hands a step in to a driver.
+fn hand_in(driver: &mut Driver<MemDisk>, step: Step) -> Result<Handed, Refusal>
+    ensures { Hands driver.old step result driver.new }
+{
+    driver.survives();
+    let handed = driver.submit(step);
+    driver.survives();
+    step.within_ranges();
+    handed
 }
 
 /// Prints the reply that is kept for a repeat, once its step is settled.

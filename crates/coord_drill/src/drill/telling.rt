@@ -2,7 +2,7 @@
 
 ghost use Rattle.std.specs.Prelude.{◌≡◌, ◌++◌, OnOk, string_bytes, IfErr};
 ghost use Rattle.coord_drill.specs.Answered.{shown_lines};
-ghost use Rattle.coord_drill.specs.Drilled.{IsOfWork};
+ghost use Rattle.coord_drill.specs.Faults.{IsOfMemory};
 ghost use Rattle.coord_drill.specs.Holding.{IsReady, Tells};
 ghost use Rattle.coord_drill.specs.Moments.{Carries};
 ghost use Rattle.coord_drill.specs.declared.asked.Asked.TheVariants as ask;
@@ -24,7 +24,7 @@ impl Drill {
         requires ready { IsReady self.now }
         ensures told { OnOk result (Tells (string_bytes text.old) (string_bytes text.new) (λ told.
             Carries self.now (ask.Refuse refusal) told self.now)) }
-        ensures fault { IfErr result IsOfWork }
+        ensures fault { IfErr result IsOfMemory }
     {
         self.driver();
         print_refusal(text, refusal)?;
@@ -37,7 +37,7 @@ impl Drill {
         requires ready { IsReady self.now }
         ensures told { OnOk result (Tells (string_bytes text.old) (string_bytes text.new) (λ told.
             Carries self.now ask.Nothing told self.now)) }
-        ensures fault { IfErr result IsOfWork }
+        ensures fault { IfErr result IsOfMemory }
     {
         self.driver();
         print_idle(text)?;
@@ -50,7 +50,7 @@ impl Drill {
         requires ready { IsReady self.now }
         ensures told { OnOk result (Tells (string_bytes text.old) (string_bytes text.new) (λ told.
             Carries self.now ask.Resend told self.now)) }
-        ensures fault { IfErr result IsOfWork }
+        ensures fault { IfErr result IsOfMemory }
     {
         let ledger = self.driver().ledger();
         let mut releases = ledger.resend()?;
@@ -69,7 +69,7 @@ impl Drill {
         requires ready { IsReady self.now }
         ensures told { OnOk result (Tells (string_bytes text.old) (string_bytes text.new) (λ told.
             Carries self.now ask.Check told self.now)) }
-        ensures fault { IfErr result IsOfWork }
+        ensures fault { IfErr result IsOfMemory }
     {
         let ledger = self.driver().ledger();
         print_fault(text, check(ledger.front()))?;
@@ -82,7 +82,7 @@ impl Drill {
         requires ready { IsReady self.now }
         ensures told { OnOk result (Tells (string_bytes text.old) (string_bytes text.new) (λ told.
             Carries self.now ask.Show told self.now)) }
-        ensures fault { IfErr result IsOfWork }
+        ensures fault { IfErr result IsOfMemory }
     {
         let ledger = self.driver().ledger();
         print_shown(ledger, text)
@@ -93,7 +93,7 @@ impl Drill {
 fn print_shown(ledger: &Ledger<MemDisk>, text: &mut String) -> Result<(), Fault>
     ensures printed { OnOk result (string_bytes text.new ≡
         string_bytes text.old ++ shown_lines ledger.now.log ledger.now.doubt) }
-    ensures fault { IfErr result IsOfWork }
+    ensures fault { IfErr result IsOfMemory }
 {
     match ledger.show(&mut Seen::new()) {
         Ok(view) => print_view(text, &view)?,

@@ -1,9 +1,11 @@
 use Rattle.std.proofs.Common.{◌++◌, ◌+◌, [], rules}
+use Rattle.std.proofs.lemmas.Result.{IfErr-weaker}
 use Rattle.coord_lines.specs.Lines.{lines_on}
 use Rattle.coord_drill.specs.Drilled.{Prints}
+use Rattle.coord_drill.specs.Faults.{IsOfWork, IsOfWriting}
 use Rattle.coord_drill.specs.Holding.{state_of}
 use Rattle.coord_drill.proofs.does.LineResponds.{prints_somehow}
-use Rattle.coord_drill.proofs.prints.Prints.{prints-so_far, put_cut, put_failed, put_printed}
+use Rattle.coord_drill.proofs.prints.Prints.{prints-so_far, put_cut, put_failed, put_printed, writing_is_work}
 use Rattle.coord_drill.proofs.console.Console.answer.Goals as goal
 
 pub returns-in_err-write_text-clause-failed : goal.returns-in_err-write_text-clause-failed
@@ -36,3 +38,6 @@ returns-clause-failed g c =
     (λ more. Prints (state_of old.drill) (old.number + 1) (lines_on old.line (piece ++ more))) (λ more. Prints (state_of new.drill) (new.number + 1) (lines_on new.line more))
     (prints-so_far (state_of old.drill) (old.number + 1) old.line piece) (prints_somehow (state_of new.drill) (new.number + 1) (lines_on new.line []))
     (rw c.new-text.ensures.items at c.take-taken.ensures.printed) (rw c.new-text.ensures.items at c.take-taken.ensures.failed) _ _ (rw c.deref.ensures.value at c.in_ok-write_text.ensures.ok)
+
+pub returns-in_err-write_text-clause-fault : goal.returns-in_err-write_text-clause-fault
+returns-in_err-write_text-clause-fault g c = IfErr-weaker c.from_residual.result IsOfWriting IsOfWork writing_is_work (search rules)

@@ -1,12 +1,13 @@
-use Rattle.std.proofs.Common.{◌++◌, ◌+◌, [], take, arith, rules, sym, subst, append_assoc, length-append, length-take-le}
+use Rattle.std.proofs.Common.{ℕ, List, ◌++◌, ◌+◌, [], take, arith, rules, sym, subst, append_assoc, length-append, length-take-le}
 use Rattle.std.proofs.KnownBytes.{Appends-nil, Appends-trans, Consumes-nil, Consumes-trans, Consumes-kept}
 use Rattle.std.specs.Io.KnownBytes.{IsAtEnd}
 use Rattle.coord_lines.specs.Lines.{lines_on}
-use Rattle.coord_drill.specs.Drilled.{Prints}
+use Rattle.coord_drill.specs.Drilled.{Prints, WritesFirstPart}
+use Rattle.coord_drill.specs.Faults.{IsOfWork}
 use Rattle.coord_drill.specs.Holding.{state_of}
 use Rattle.coord_drill.proofs.prints.FirstParts.{first_part-after, first_part-whole}
 use Rattle.coord_drill.proofs.does.LineResponds.{prints_somehow}
-use Rattle.coord_drill.proofs.prints.Prints.{prints-so_far, prints-whole, Consumes-none, not_of_reading, IfErr-of_piece, IfErr-of_work}
+use Rattle.coord_drill.proofs.prints.Prints.{prints-so_far, prints-whole, Consumes-none, IfErr-with}
 use Rattle.coord_drill.proofs.console.Console.run.Goals as goal
 
 pub loop-init : goal.loop-init
@@ -61,12 +62,12 @@ returns-then-count-eq0-clause-failed g c =
     let first = c.args.self.now in
     let seen = inv.2.0 in
     let consumed = Consumes-none _ _ _ seen c.read_once.new.buf c.in-Ok.count inv.2.1 c.in-Ok.ensures.bytes.0 c.if-count-eq0.true in
-    IfErr-of_work c.finish.result c.finish.ensures.failed c.finish.ensures.fault
+    IfErr-with c.finish.result _ IsOfWork c.finish.ensures.failed c.finish.ensures.fault
     (λ fault kind part. (
       seen,
       consumed,
       (inv.2.3.0 ++ part.0, prints-so_far (state_of first.drill) 1 first.line seen _ (inv.2.3.2 [] part.0 part.1), first_part-after _ _ _ inv.2.3.0 part.0 inv.2.3.1 part.2),
-      λ e. absurd (not_of_reading fault kind e),
+      λ e. absurd (kind.1 e),
     ))
 
 pub returns-in_err-answer-clause-failed : goal.returns-in_err-answer-clause-failed
@@ -77,12 +78,12 @@ returns-in_err-answer-clause-failed g c =
     let came = take c.in-Ok.count c.read_once.new.buf in
     let consumed = Consumes-trans _ _ _ seen came inv.2.1 c.in-Ok.ensures.bytes.0 in
     let now = c.loop.self in
-    IfErr-of_piece c.from_residual.result _ _ (state_of now.drill) (now.number + 1) now.line came (search rules) (search rules)
+    IfErr-with c.from_residual.result ((text : List ℕ) × Prints (state_of now.drill) (now.number + 1) (lines_on now.line came) text × WritesFirstPart (g.W.Write.contents c.loop.writer) (g.W.Write.contents c.answer.new.writer) text) IsOfWork (search rules) (search rules)
     (λ fault kind part. (
       seen ++ came,
       consumed,
       (inv.2.3.0 ++ part.0, inv.2.3.2 came part.0 part.1, first_part-after _ _ _ inv.2.3.0 part.0 inv.2.3.1 part.2),
-      λ e. absurd (not_of_reading fault kind e),
+      λ e. absurd (kind.1 e),
     ))
 
 pub loop-preserved : goal.loop-preserved

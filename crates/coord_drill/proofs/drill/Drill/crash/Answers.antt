@@ -1,4 +1,4 @@
-use Rattle.std.proofs.Common.{◌≡◌, ◌++◌, [], ◌∷◌, Some, false, true, sym, ap, ◌∙◌, subst, rules, string_bytes}
+use Rattle.std.proofs.Common.{◌≡◌, ◌++◌, [], ◌∷◌, Some, false, true, refl, sym, ap, ◌∙◌, subst, rules, string_bytes}
 use Rattle.std.specs.Option.{option_map}
 use Rattle.coord_disk.specs.declared.memory.MemDisk.{MemDisk}
 use Rattle.coord_ledger.specs.declared.events.Answer.TheVariants.{Opened}
@@ -11,6 +11,7 @@ use Rattle.coord_drill.specs.declared.asked.Asked.TheVariants.{Crash}
 use Rattle.coord_drill.proofs.does.ReopenedTo.{crash_held, crash_leaves, has_model, home_left, opened_count}
 use Rattle.coord_drill.proofs.does.Does.{crash_line, held_is, home_is}
 use Rattle.coord_drill.proofs.does.Moments.{begins_at, carries, run_on}
+use Rattle.coord_drill.proofs.does.Verdicts.{no_refusal}
 use Rattle.coord_drill.proofs.drill.Drill.crash.Goals as goal
 
 pub returns-clause-ready : goal.returns-clause-ready
@@ -42,4 +43,4 @@ returns-clause-told c =
     (λ disk b s there consistent follows. c.in-Ok.ensures.answered b s consistent follows (ap (option_map (λ (x : MemDisk). true)) there))
     c.in-Ok.ensures.disk c.survives.ensures begun in
     let leaves = subst (λ n. drill_of w.ledger false d.has_begun ≡ after_asked (drill_of v.ledger d.holds d.has_begun) Crash (Opened n ∷ [])) (sym count) (crash_leaves v w d.holds d.has_begun left) in
-    (line, (text, carries d _ v w Crash (Opened c.in-Ok.opened.0 ∷ []) line is c.put.ensures c.requires.ready (λ same. cc) run ((λ same. cc), tt) (crash_line (drill_of v.ledger d.holds d.has_begun) c.in-Ok.opened.0) leaves))
+    (line, (text, carries d _ v w Crash (Opened c.in-Ok.opened.0 ∷ []) line is c.put.ensures c.requires.ready refl run (no_refusal _ refl, tt) (crash_line (drill_of v.ledger d.holds d.has_begun) c.in-Ok.opened.0) leaves))

@@ -4,7 +4,7 @@ use Rattle.coord_ledger.specs.ledger.State.{LedgerState}
 use Rattle.coord_ledger.specs.machine.Log.{settled_world}
 use Rattle.coord_drill.specs.Holding.{AreGranted, IsReadyWith, flown_lines, left_by}
 use Rattle.coord_drill.proofs.does.Does.{held_is, home_is}
-use Rattle.coord_drill.proofs.does.FlownTo.{flies, flown_granted, flown_held}
+use Rattle.coord_drill.proofs.does.FlownTo.{flies, flown_granted, flown_held, flown_home}
 use Rattle.coord_drill.proofs.drill.Drill.fly.Goals as goal
 
 pub send_out-requires : goal.send_out-requires
@@ -17,7 +17,7 @@ print_flown-printed-requires c =
     let r0 = c.in_ok-flown.field-0.flown in
     let r1 = c.in_ok-flown.field-0.driver in
     let is : d.driver ≡ Some v = search rules in
-    record { granted = subst (λ (l : LedgerState MemDisk). AreGranted l.log r0 d.tickets.items) (sym c.ledger.ensures) (flown_granted v.ledger r1.ledger d.tickets.items (held_is d v is c.requires.ready) r0 c.in_ok-flown.ensures.flown) }
+    record { granted = subst (λ (l : LedgerState MemDisk). AreGranted l.log r0 d.tickets.items) (sym c.ledger.ensures) (flown_granted v.ledger r1 d.tickets.items (held_is d v is c.requires.ready) r0 c.in_ok-flown.ensures.flown) }
 
 pub returns-clause-ready : goal.returns-clause-ready
 returns-clause-ready c =
@@ -28,7 +28,7 @@ returns-clause-ready c =
     let is : d.driver ≡ Some v = search rules in
     let rest = c.in_ok-printed.ensures.left ∙ ap (λ (l : LedgerState MemDisk). left_by (settled_world l.log) r0 d.tickets.items) c.ledger.ensures in
     subst (λ o. IsReadyWith o c.print_flown-printed.new.tickets.items) (sym c.put.ensures)
-    (c.in_ok-flown.ensures.home, flown_held v.ledger r1.ledger d.tickets.items (held_is d v is c.requires.ready) r0 c.print_flown-printed.new.tickets.items c.in_ok-flown.ensures.flown rest)
+    (flown_home v.ledger r0 r1 c.in_ok-flown.ensures.flown, flown_held v.ledger r1 d.tickets.items (held_is d v is c.requires.ready) r0 c.print_flown-printed.new.tickets.items c.in_ok-flown.ensures.flown rest)
 
 pub returns-clause-told : goal.returns-clause-told
 returns-clause-told c =

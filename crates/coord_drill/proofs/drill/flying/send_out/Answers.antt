@@ -1,15 +1,14 @@
-use Rattle.std.proofs.Common.{[], ◌∷◌, length, refl, ap, subst}
-use Rattle.coord_disk.specs.declared.memory.MemDisk.{MemDisk}
+use Rattle.std.proofs.Common.{[], ◌∷◌, refl, subst}
+use Rattle.std.proofs.lemmas.Result.{IfOk-weaker}
 use Rattle.coord_ledger.specs.declared.events.Answer.TheVariants.{Begun}
 use Rattle.coord_ledger.specs.declared.events.Event.TheVariants.{Begin}
-use Rattle.coord_ledger.specs.ledger.Calls.{next_flight, with_out}
-use Rattle.coord_ledger.specs.ledger.Driven.{Driven, SendsOut, nothing_beside}
+use Rattle.coord_ledger.specs.ledger.Driven.{SendsOut, nothing_beside}
 use Rattle.coord_ledger.specs.ledger.State.{started}
 use Rattle.coord_ledger.specs.machine.Answers.{IsOneOf, next_size, to_begin}
 use Rattle.coord_ledger.specs.machine.Log.{settled_count}
 use Rattle.coord_drill.specs.Moments.{GoesOnTo}
-use Rattle.coord_drill.proofs.does.FlownTo.{begun_size, flown_by, flown_to, landed_as, landed_home}
-use Rattle.coord_drill.proofs.does.Moments.{if_ok_both, if_ok_more, run_aside}
+use Rattle.coord_drill.proofs.does.FlownTo.{begun_size, flown_by, flown_to, is_back}
+use Rattle.coord_drill.proofs.does.Moments.{if_ok_both, run_aside}
 use Rattle.coord_drill.proofs.drill.flying.send_out.Goals as goal
 use Rattle.coord_drill.proofs.drill.flying.send_out.Goals.{in-Begun, in-Nothing, in_default}
 
@@ -20,24 +19,10 @@ returns-clause-flown c =
     elim c.match-begun.branch [
       | in-Begun w ↦
           let sent = subst (λ a. SendsOut l a out) w.in-Begun.is (c.begin-begun.ensures.sent c.requires.home) in
-          rw w.result-is (if_ok_more w.land.result (λ r landed. flown_to l sent.disk r.flown r.driver (landed_as l sent.disk out sent.is r.flown r.driver landed)) w.land.ensures.landed)
+          rw w.result-is (IfOk-weaker w.land.result _ _ (λ r landed. flown_to l r.flown r.driver (is_back l sent.disk out sent.is r.flown r.driver landed)) w.land.ensures.landed)
       | in-Nothing w ↦
           let sent = subst (λ a. SendsOut l a out) w.in-Nothing.is (c.begin-begun.ensures.sent c.requires.home) in
-          rw w.result-is (ap (λ (d : Driven MemDisk). d.ledger) sent.1)
-      | in_default w ↦ rw w.result-is tt
-    ]
-
-pub returns-clause-home : goal.returns-clause-home
-returns-clause-home c =
-    let l = c.args.driver.ledger in
-    let out = c.begin-begun.result.1 in
-    elim c.match-begun.branch [
-      | in-Begun w ↦
-          let sent = subst (λ a. SendsOut l a out) w.in-Begun.is (c.begin-begun.ensures.sent c.requires.home) in
-          rw w.result-is (if_ok_more w.land.result (λ r landed. landed_home (with_out l (length (next_flight l.log sent.disk).steps)) (next_flight l.log sent.disk) r.flown r.driver (landed_as l sent.disk out sent.is r.flown r.driver landed)) w.land.ensures.landed)
-      | in-Nothing w ↦
-          let sent = subst (λ a. SendsOut l a out) w.in-Nothing.is (c.begin-begun.ensures.sent c.requires.home) in
-          rw w.result-is (ap (λ (d : Driven MemDisk). d.flight) sent.1)
+          rw w.result-is sent.1
       | in_default w ↦ rw w.result-is tt
     ]
 
@@ -56,8 +41,8 @@ returns-clause-moments c =
           let size = begun_size (started l) w.in-Begun.field-0 (subst (λ a. IsOneOf a (to_begin (started l))) w.in-Begun.is allowed) in
           let begun = subst (λ a. GoesOnTo v (Begin ∷ []) (a ∷ []) out) w.in-Begun.is goes in
           rw w.result-is
-          (if_ok_more w.land.result
-          (λ r landed. flown_by (with_out l (length (next_flight l.log sent.disk).steps)) (next_flight l.log sent.disk) v out r.driver r.flown (next_size l.log) (settled_count r.driver.ledger.log) (landed_as l sent.disk out sent.is r.flown r.driver landed.0) (subst (λ b. GoesOnTo v (Begin ∷ []) (Begun b ∷ []) out) size begun) landed.1)
+          (IfOk-weaker w.land.result _ _
+          (λ r landed. flown_by l v out r.driver r.flown (next_size l.log) (settled_count r.driver.ledger.log) (is_back l sent.disk out sent.is r.flown r.driver landed.0) (subst (λ b. GoesOnTo v (Begin ∷ []) (Begun b ∷ []) out) size begun) landed.1)
           (if_ok_both _ _ w.land.result w.land.ensures.landed w.land.ensures.moments))
       | in-Nothing w ↦ rw w.result-is (subst (λ a. GoesOnTo v (Begin ∷ []) (a ∷ []) out) w.in-Nothing.is goes)
       | in_default w ↦ rw w.result-is tt
