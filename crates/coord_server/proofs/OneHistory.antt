@@ -16,7 +16,7 @@ use Rattle.coord_ledger.specs.declared.ticket.Note.{Note}
 use Rattle.coord_admin.specs.Connections.{Talk}
 use Rattle.coord_engine.specs.State.{Basis, based_on}
 use Rattle.coord_server.specs.Ending.{IsOneHistory}
-use Rattle.coord_server.specs.Lives.{AreOneHistory, ClosedLivesAreOne, HasLived, HasLivedToClose, LifeSteps, Lives, LivesAreOne, Rests, all_given, all_steps, met_any, steps_of}
+use Rattle.coord_server.specs.Lives.{AreOneHistory, ClosedLivesAreOne, EndsOneHistory, HasLived, HasLivedToClose, LifeSteps, Lives, LivesAreOne, Rests, all_given, all_steps, met_any, steps_of}
 use Rattle.coord_server.specs.declared.fault.ServerFault.{ServerFault}
 
 -- ---- one life
@@ -156,6 +156,10 @@ module _ {D : Type 0} (keeps_model : D → Bool) (present : D → Present) {V : 
   pub lives_are_one : LivesAreOne keeps_model present met
   lives_are_one began v w served store base trail settled lived =
       one_history began lived.1 (steps_of keeps_model present met lived.0 began v lived.1 lived.2 lived.3) store base trail settled (lives_go_on lived.0 began lived.1 v lived.2 lived.3) (tells (based_on keeps_model present lived.1 []) lived.4.0.notes store base trail settled lived.4.2)
+
+  -- so is what they leave
+  pub ends : (began : World) (v w : V) (served : Option ServerFault) (store : Kept D) (base : World) (trail : List Step) (settled : ℕ) → HasLived keeps_model present met began v w served store base trail settled → EndsOneHistory began store base trail settled
+  ends began v w served store base trail settled lived = (steps_of keeps_model present met lived.0 began v lived.1 lived.2 lived.3, lives_are_one began v w served store base trail settled lived)
 
 pub closed_lives_are_one : {D : Type 0} (keeps_model : D → Bool) (present : D → Present) → ClosedLivesAreOne keeps_model present
 closed_lives_are_one {D} keeps_model present began store base trail settled lived =

@@ -6,7 +6,7 @@ ghost use Rattle.coord_engine.specs.State.{based_on};
 ghost use Rattle.coord_store.specs.Kept.{has_stopped};
 ghost use Rattle.coord_server.specs.declared.left.Left.TheVariants as LeftAs;
 ghost use Rattle.coord_server.specs.Ending.{IsOfStart};
-ghost use Rattle.coord_server.specs.Lives.{HasLived, IsOver};
+ghost use Rattle.coord_server.specs.Lives.{EndsOneHistory, HasLived, IsOver};
 
 use crate::left::Left;
 use crate::life::{Life, serve_life};
@@ -52,9 +52,12 @@ pub fn serve_lives<
     output: W,
 ) -> Result<Ended<D, C>, ServerFault>
     requires { has_stopped store ≡ false }
-    ensures { IfOk result (λ ended.
+    ensures lives { IfOk result (λ ended.
         HasLived D.keeps_model D.present C.met store.world callers ended.callers ended.served
         ended.closed.store ended.closed.base ended.closed.trail.items ended.closed.settled) }
+    ensures whole { IfOk result (λ ended.
+        EndsOneHistory store.world ended.closed.store ended.closed.base ended.closed.trail.items
+        ended.closed.settled) }
 {
     let (told, signals) = crossbeam_channel::unbounded(alloc)?;
     let port = LocalPort::new(rt, Vec::new(alloc), told);

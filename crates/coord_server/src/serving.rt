@@ -2,7 +2,7 @@
 
 ghost use Rattle.std.specs.Prelude.{◌≡◌, false, IfOk};
 ghost use Rattle.coord_store.specs.Kept.{has_stopped};
-ghost use Rattle.coord_server.specs.Lives.{HasLived, HasLivedToClose};
+ghost use Rattle.coord_server.specs.Lives.{EndsOneHistory, HasLived, HasLivedToClose};
 
 use crate::lives::serve_lives;
 use crate::{Ended, ServerFault};
@@ -38,6 +38,8 @@ pub fn serve_store<
     ensures lives { IfOk result (λ closed.
         HasLivedToClose D.keeps_model D.present store.world closed.store closed.base
         closed.trail.items closed.settled) }
+    ensures whole { IfOk result (λ closed.
+        EndsOneHistory store.world closed.store closed.base closed.trail.items closed.settled) }
 {
     let callers = Accepted::new(rt, listener, Patience::usual());
     let ended = serve_callers(rt, alloc, store, callers, output)?;
@@ -59,6 +61,9 @@ pub fn serve_callers<
     ensures lives { IfOk result (λ ended.
         HasLived D.keeps_model D.present C.met store.world callers ended.callers ended.served
         ended.closed.store ended.closed.base ended.closed.trail.items ended.closed.settled) }
+    ensures whole { IfOk result (λ ended.
+        EndsOneHistory store.world ended.closed.store ended.closed.base ended.closed.trail.items
+        ended.closed.settled) }
 {
     serve_lives(rt, alloc, LIFE_STEPS, store, callers, output)
 }
