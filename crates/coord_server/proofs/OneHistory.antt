@@ -59,7 +59,7 @@ leaves_all world store base trail settled t all =
 -- ---- lives one behind the other
 
 -- each begins with the world after the steps of those before it, over which its own are a trail; behind them is this world
-GoOn : World → List LifeSteps → World → Type 0
+abbrev GoOn : World → List LifeSteps → World → Type 0
 GoOn w [] next = next ≡ w
 GoOn w (l ∷ ls) next = (l.base ≡ w) × IsTrail w l.trail × GoOn (fold w l.trail) ls next
 
