@@ -38,12 +38,11 @@ named_of shares count before trail none named =
     let same : count + 0 ≡ count = omega arith in
     subst (λ n. IsNamed shares n trail) same at
 
-pub one_history : {D : Type 0} (b : Basis D) (own : List Note) (first shares : List (List Note)) (store : Kept D) (base : World) (trail : List Step) (settled : ℕ) → b.before ≡ [] → first ≡ own ∷ [] → AddsWorkers first shares → IsSince b.base b.before shares base trail → AtSomeMoment b (Closes {D = D} store base trail settled shares) → IsOneHistory b own store base trail settled
-one_history {D} b own first shares store base trail settled none is_first added since closed =
-    let are : shares ≡ own ∷ added.0 = added.1 ∙ ap (λ l. l ++ added.0) is_first in
+one_history : {D : Type 0} (b : Basis D) (own : List Note) (shares : List (List Note)) (store : Kept D) (base : World) (trail : List Step) (settled : ℕ) → b.before ≡ [] → AddsWorkers (own ∷ []) shares → IsSince b.base b.before shares base trail → AtSomeMoment b (Closes {D = D} store base trail settled shares) → IsOneHistory b own store base trail settled
+one_history {D} b own shares store base trail settled none added since closed =
     let named : IsNamed shares b.base.count trail = named_of shares b.base.count b.before trail none since.named in
     let here : IsNamed shares base.count trail = subst (λ (w : World). IsNamed shares w.count trail) (sym since.same_base) named in
-    record { workers = added.0; of_packets = added.2; same_base = since.same_base; named = subst (λ l. IsNamed l base.count trail) are here; closed = subst (λ l. AtSomeMoment b (Closes {D = D} store base trail settled l)) are closed }
+    record { workers = added.0; of_packets = added.2; same_base = since.same_base; named = subst (λ l. IsNamed l base.count trail) added.1 here; closed = subst (λ l. AtSomeMoment b (Closes {D = D} store base trail settled l)) added.1 closed }
 
 module _ {D : Type 0} (b : Basis D) {V : Type 0} (met : V → List Talk → V → Type 0) where
   closed_if_none : (stopped : Bool) (served : Option ServerFault) (is_broken : Bool) (v w : V) (desk : DeskState) → fault_at_end stopped served is_broken ≡ None → Serves b met v w desk served → IsServedToClose b desk
@@ -56,9 +55,16 @@ module _ {D : Type 0} (b : Basis D) {V : Type 0} (met : V → List Talk → V �
   pub serves_with : (v w u : V) (desk : DeskState) (left : Left) (notes : List Note) → ServesLife b met v w desk left → notes ≡ desk.notes → u ≡ w → (seen : ℕ) × ServesLife b met v u (record { notes = notes; seen = seen }) left
   serves_with v w u desk left notes s same same_w = (desk.seen, subst (λ x. ServesLife b met v x (record { notes = notes; seen = desk.seen }) left) (sym same_w) (subst (λ n. ServesLife b met v w (record { notes = n; seen = desk.seen }) left) (sym same) s))
 
-  -- how the desk went on, and what its share is to what is left
-  pub left_with : (v w : V) (left : Left) (own : List Note) (store : Kept D) (base : World) (trail : List Step) (settled : ℕ) → (seen : ℕ) × ServesLife b met v w (record { notes = own; seen = seen }) left → IsOneHistory b own store base trail settled → (desk : DeskState) × ServesLife b met v w desk left × IsOneHistory b desk.notes store base trail settled
-  left_with v w left own store base trail settled s history = (record { notes = own; seen = s.0 }, s.1, history)
+  -- one life: how the desk went on, and what is left of the engine, which was taken apart with all shares
+  pub lived : (v u w : V) (ran left : Left) (own : List Note) (shares : List (List Note)) (store : Kept D) (base : World) (trail : List Step) (settled : ℕ) → b.before ≡ []
+      → (seen : ℕ) × ServesLife b met v u (record { notes = own; seen = seen }) ran
+      → AddsWorkers (own ∷ []) shares → IsSince b.base b.before shares base trail → AtSomeMoment b (Closes {D = D} store base trail settled shares)
+      → w ≡ u → left ≡ ran → (desk : DeskState) × ServesLife b met v w desk left × IsOneHistory b desk.notes store base trail settled
+  lived v u w ran left own shares store base trail settled none s added since closed same_w same = (
+    record { notes = own; seen = s.0 },
+    subst (λ (x : V). ServesLife b met v x (record { notes = own; seen = s.0 }) left) (sym same_w) (subst (λ (l : Left). ServesLife b met v u (record { notes = own; seen = s.0 }) l) (sym same) s.1),
+    one_history b own shares store base trail settled none added since closed,
+  )
 
 -- ---- lives
 

@@ -35,5 +35,5 @@ are_all None given back shares left start (inr short) told eight one = inr (faul
 are_all (Some met) given back shares left start brought told eight one = inr (met, told, start)
 
 -- the desk's share, and behind it those of the workers
-pub counted : {X : Type 0} (own : X) (first workers shares : List X) → first ≡ own ∷ [] → shares ≡ first ++ workers → length shares ≡ length workers + 1
-counted own first workers shares one all = let long : length shares ≡ length ((own ∷ []) ++ workers) = ap length all ∙ ap (λ l. length (l ++ workers)) one in omega arith
+pub counted : {X : Type 0} (own : X) (workers shares : List X) → shares ≡ (own ∷ []) ++ workers → length shares ≡ length workers + 1
+counted own workers shares all = let long : length shares ≡ length ((own ∷ []) ++ workers) = ap length all in omega arith

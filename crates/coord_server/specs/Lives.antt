@@ -1,9 +1,13 @@
 -- The lives of a server, one after the other: each is one history of its own over the store that the one before left.
-use Rattle.std.specs.Prelude.{◌≡◌, ℕ, zero, suc, ◌+◌, List, [], Bool, false, Option, Some, length}
+use Rattle.std.specs.List.{range_with_len}
+use Rattle.std.specs.Prelude.{◌≡◌, ℕ, zero, suc, ◌+◌, ◌-◌, ◌≤◌, List, [], ◌∷◌, ◌++◌, Bool, false, Option, Some, flat_map, length, map, take}
 use Rattle.coord_disk.specs.Model.Present.{Present}
 use Rattle.coord_types.specs.declared.steps.Step.{Step}
 use Rattle.coord_store.specs.Kept.{Kept, has_stopped}
+use Rattle.coord_world.specs.laws.Trails.{IsTrail}
+use Rattle.coord_world.specs.protocol.Next.{fold}
 use Rattle.coord_world.specs.protocol.NumberedWorld.{World}
+use Rattle.coord_world.specs.protocol.Outputs.{StepOutcome, outs}
 use Rattle.coord_admin.specs.Connections.{Talk}
 use Rattle.coord_engine.specs.State.{Basis, based_on}
 use Rattle.coord_server.specs.EngineDesk.{DeskState}
@@ -57,3 +61,52 @@ abbrev pub HasLivedToClose : {D : Type 0} → (D → Bool) → (D → Present) �
 HasLivedToClose {D} keeps_model present began store base trail settled =
     (n : ℕ) × (world : World) × Lives keeps_model present met_any n began tt world tt
     × ((desk : DeskState) × IsServedToClose (based_on keeps_model present world []) desk × IsOneHistory (based_on keeps_model present world []) desk.notes store base trail settled)
+
+-- ---- all lives are one history
+
+-- what a life did: the world that it began with, and the steps that it accepted
+pub record LifeSteps : Type 0 where
+  pub base : World
+  pub trail : List Step
+
+-- the steps of all these lives, those of each behind those of the life before
+abbrev pub all_steps : List LifeSteps → List Step
+all_steps lives = flat_map (λ l. l.trail) lives
+
+-- what their steps give out, each life's over the world that it began with
+abbrev pub all_given : List LifeSteps → List StepOutcome
+all_given lives = flat_map (λ l. outs l.base l.trail) lives
+
+-- Lives from the world of a first store, of which the last one left this store and told this count of settled steps, are one history. Their steps are one trail from that world, and each life began with the world after the steps of those before it. What they gave out is what that one trail gives out, and each step has a number of its own: so none, and no signal of one, stands in two lives. The store has the world after all steps that are settled, which are the first ones.
+pub record AreOneHistory {D : Type 0} (began : World) (lives : List LifeSteps) (store : Kept D) (settled : ℕ) : Type 0 where
+  pub trail : IsTrail began (all_steps lives)
+  pub follow : (before rest : List LifeSteps) (life : LifeSteps) → lives ≡ before ++ life ∷ rest → life.base ≡ fold began (all_steps before)
+  pub given : all_given lives ≡ outs began (all_steps lives)
+  pub numbered : map (λ o. o.reply.step) (all_given lives) ≡ range_with_len (began.count + 1) (length (all_steps lives))
+  pub least : began.count ≤ settled
+  pub most : settled ≤ began.count + length (all_steps lives)
+  pub world : store.world ≡ fold began (take (settled - began.count) (all_steps lives))
+
+module _ {D : Type 0} (keeps_model : D → Bool) (present : D → Present) {V : Type 0} (met : V → List Talk → V → Type 0) where
+  -- what each of these lives did, the first one first
+  abbrev pub steps_of : (n : ℕ) (began : World) (v : V) (next : World) (w : V) → Lives keeps_model present met n began v next w → List LifeSteps
+  steps_of zero began v next w lives = []
+  steps_of (suc n) began v next w lives = steps_of n began v lives.0 lives.1 lives.2 ++ record { base = lives.3.base; trail = lives.3.trail } ∷ []
+
+  -- lives that rest, and the one behind them that left this, are one history
+  abbrev pub LivesAreOne : Type 0
+  LivesAreOne =
+      (began : World) (v w : V) (served : Option ServerFault) (store : Kept D) (base : World) (trail : List Step) (settled : ℕ)
+      → (lived : HasLived keeps_model present met began v w served store base trail settled)
+      → AreOneHistory began (steps_of lived.0 began v lived.1 lived.2 lived.3 ++ record { base = base; trail = trail } ∷ []) store settled
+
+-- the same where a line has closed the last one
+abbrev pub ClosedLivesAreOne : {D : Type 0} → (D → Bool) → (D → Present) → Type 0
+ClosedLivesAreOne {D} keeps_model present =
+    (began : World) (store : Kept D) (base : World) (trail : List Step) (settled : ℕ)
+    → (lived : HasLivedToClose keeps_model present began store base trail settled)
+    → AreOneHistory began (steps_of keeps_model present met_any lived.0 began tt lived.1 tt lived.2 ++ record { base = base; trail = trail } ∷ []) store settled
+
+-- this is what lives, all of them one history, have left
+abbrev pub EndsOneHistory : {D : Type 0} → World → Kept D → World → List Step → ℕ → Type 0
+EndsOneHistory began store base trail settled = (earlier : List LifeSteps) × AreOneHistory began (earlier ++ record { base = base; trail = trail } ∷ []) store settled

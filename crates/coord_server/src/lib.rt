@@ -17,6 +17,7 @@ mod crew;
 mod desk;
 mod ended;
 mod fault;
+pub mod laws;
 mod left;
 mod life;
 mod lives;

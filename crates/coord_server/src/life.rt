@@ -1,6 +1,6 @@
 //! One life of a server: an engine with its threads, from a store to what is left of it.
 
-ghost use Rattle.std.specs.Prelude.{◌≡◌, [], ◌∷◌, ◌++◌, false, length, IfOk, IfSome, None, vec_len};
+ghost use Rattle.std.specs.Prelude.{◌≡◌, [], ◌∷◌, ◌++◌, false, length, IfErr, IfOk, IfSome, None, vec_len};
 ghost use Rattle.coord_engine.specs.State.{based_on};
 ghost use Rattle.coord_engine.specs.declared.closed.CloseFault.{CloseFault};
 ghost use Rattle.coord_store.specs.Kept.{has_stopped};
@@ -92,14 +92,101 @@ fn serve_ledger<
         (based_on D.keeps_model D.present L.base L.before) desk.notes life.closed.store
         life.closed.base life.closed.trail.items life.closed.settled) }
 {
-    let (to, packets) = channels(alloc)?;
-    // Room for all shares: none of them may be lost for want of memory.
-    let room = Vec::with_capacity(alloc, usize::from(WORKERS) + 1)?;
     let engine: Engine<D, L> = Engine::new(alloc, blank, ledger);
-    let Some(own) = engine.share(rt) else {
-        return Err(ServerFault::OutOfMemory);
-    };
-    port.connect(to);
+    match begin(rt, alloc, &engine, port) {
+        Ok(begun) => live_and_close(rt, alloc, most, engine, begun, callers, port, met),
+        Err(fault) => {
+            drop(engine);
+            drop(callers);
+            Err(fault)
+        }
+    }
+}
+
+/// What a life begins with.
+#[derive(Drop)]
+struct Begun<L: Origin> {
+    /// The desk's share.
+    own: Share<L>,
+    /// Room for all shares: none of them may be lost for want of memory.
+    room: Vec<Share<L>>,
+    /// What the workers receive.
+    packets: Vec<Receiver<Packet>>,
+}
+
+/// Makes room for all shares and a channel for each worker, and gives out the desk's share.
+fn begin<D: Disk, L: Origin, R: Wait>(
+    rt: &R,
+    alloc: Global,
+    engine: &Engine<D, L>,
+    port: &LocalPort<&R>,
+) -> Result<Begun<L>, ServerFault>
+    ensures own { IfOk result (λ begun. begun.own ≡ []) }
+    ensures room { IfOk result (λ begun. begun.room.items ≡ []) }
+    ensures packets { IfOk result (λ begun. length begun.packets.items ≡ 8) }
+    ensures fault { IfErr result (λ fault. fault ≡ ServerFault.OutOfMemory) }
+{
+    let (room, packets) = connect(alloc, port)?;
+    match engine.share(rt) {
+        Some(own) => Ok(Begun { own, room, packets }),
+        None => {
+            drop(room);
+            drop(packets);
+            Err(ServerFault::OutOfMemory)
+        }
+    }
+}
+
+/// Room for all shares, and what the workers receive of that which the port carries from now on.
+fn connect<L: Origin, R: Wait>(
+    alloc: Global,
+    port: &LocalPort<&R>,
+) -> Result<(Vec<Share<L>>, Vec<Receiver<Packet>>), AllocError>
+    ensures room { IfOk result (λ made. made.0.items ≡ []) }
+    ensures packets { IfOk result (λ made. length made.1.items ≡ 8) }
+{
+    let room = Vec::with_capacity(alloc, usize::from(WORKERS) + 1)?;
+    match channels(alloc) {
+        Ok((to, packets)) => {
+            port.connect(to);
+            Ok((room, packets))
+        }
+        Err(fault) => {
+            drop(room);
+            Err(fault)
+        }
+    }
+}
+
+/// Runs the threads of a life, and takes its engine apart.
+fn live_and_close<
+    D: Disk + Send,
+    L: Origin + Send + Sync,
+    C: Callers + Drop,
+    R: Threads + Wait + Clock + Sync,
+>(
+    rt: &R,
+    alloc: Global,
+    most: usize,
+    engine: Engine<D, L>,
+    begun: Begun<L>,
+    callers: C,
+    port: &LocalPort<&R>,
+    met: Option<ServerFault>,
+) -> Result<Life<D, C>, ServerFault>
+    requires parts { L.parts ≡ 65536 }
+    requires before { L.before ≡ [] }
+    requires own { begun.own ≡ [] }
+    requires room { begun.room.items ≡ [] }
+    requires packets { length begun.packets.items ≡ 8 }
+    requires met { IfSome met IsOfStart }
+    ensures { IfOk result (λ life. (desk : DeskState) ×
+        ServesLife (based_on D.keeps_model D.present L.base L.before) C.met callers life.callers
+        desk life.left × IsOneHistory
+        (based_on D.keeps_model D.present L.base L.before) desk.notes life.closed.store
+        life.closed.base life.closed.trail.items life.closed.settled) }
+{
+    let Begun { own, room, packets } = begun;
     let ran = run(rt, alloc, most, &engine, port, packets, own, callers, met);
     let Ran {
         own,
@@ -107,14 +194,42 @@ fn serve_ledger<
         callers,
         left,
     } = ran;
-    let first = with_own(room, own)?;
-    let shares = with_workers(first, workers)?;
-    let closed = close(engine, shares, left)?;
-    Ok(Life {
-        closed,
-        callers,
-        left,
-    })
+    match all_shares(room, own, workers) {
+        Ok(shares) => closed_life(engine, shares, callers, left),
+        Err(_) => {
+            drop(engine);
+            drop(callers);
+            Err(ServerFault::OutOfMemory)
+        }
+    }
+}
+
+/// What is left of a life, once its engine is taken apart with all shares.
+fn closed_life<D: Disk, L: Origin, C: Drop>(
+    engine: Engine<D, L>,
+    shares: Vec<Share<L>>,
+    callers: C,
+    left: Left,
+) -> Result<Life<D, C>, ServerFault>
+    requires parts { L.parts ≡ 65536 }
+    requires all { AreAll (vec_len shares) left }
+    ensures { IfOk result (λ life.
+        IsSince L.base L.before shares.items life.closed.base life.closed.trail.items ×
+        AtSomeMoment (based_on D.keeps_model D.present L.base L.before)
+        (Closes life.closed.store life.closed.base life.closed.trail.items life.closed.settled
+        shares.items) × (life.callers ≡ callers) × (life.left ≡ left)) }
+{
+    match close(engine, shares, left) {
+        Ok(closed) => Ok(Life {
+            closed,
+            callers,
+            left,
+        }),
+        Err(fault) => {
+            drop(callers);
+            Err(fault)
+        }
+    }
 }
 
 /// A share is missing where a thread could not be started, and that is told first.
@@ -122,6 +237,25 @@ fn not_closed(left: Left, fault: CloseFault) -> ServerFault {
     match left {
         Left::Ended(Some(met)) => met,
         _ => ServerFault::NotClosed(fault),
+    }
+}
+
+/// The desk's share, and behind it those of the workers.
+fn all_shares<L: Origin>(
+    room: Vec<Share<L>>,
+    own: Share<L>,
+    workers: Vec<PacketShare<L>>,
+) -> Result<Vec<Share<L>>, AllocError>
+    requires { room.items ≡ [] }
+    ensures added { IfOk result (λ all. AddsWorkers (own ∷ []) all.items) }
+    ensures every { IfOk result (λ all. all.items ≡ (own ∷ []) ++ workers.items) }
+{
+    match with_own(room, own) {
+        Ok(first) => with_workers(first, workers),
+        Err(fault) => {
+            drop(workers);
+            Err(fault)
+        }
     }
 }
 

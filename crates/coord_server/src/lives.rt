@@ -6,7 +6,7 @@ ghost use Rattle.coord_engine.specs.State.{based_on};
 ghost use Rattle.coord_store.specs.Kept.{has_stopped};
 ghost use Rattle.coord_server.specs.declared.left.Left.TheVariants as LeftAs;
 ghost use Rattle.coord_server.specs.Ending.{IsOfStart};
-ghost use Rattle.coord_server.specs.Lives.{HasLived, IsOver};
+ghost use Rattle.coord_server.specs.Lives.{EndsOneHistory, HasLived, IsOver};
 
 use crate::left::Left;
 use crate::life::{Life, serve_life};
@@ -52,12 +52,48 @@ pub fn serve_lives<
     output: W,
 ) -> Result<Ended<D, C>, ServerFault>
     requires { has_stopped store ≡ false }
+    ensures lives { IfOk result (λ ended.
+        HasLived D.keeps_model D.present C.met store.world callers ended.callers ended.served
+        ended.closed.store ended.closed.base ended.closed.trail.items ended.closed.settled) }
+    ensures whole { IfOk result (λ ended.
+        EndsOneHistory store.world ended.closed.store ended.closed.base ended.closed.trail.items
+        ended.closed.settled) }
+{
+    match crossbeam_channel::unbounded(alloc) {
+        Ok((told, signals)) => {
+            let port = LocalPort::new(rt, Vec::new(alloc), told);
+            serve_and_print(rt, alloc, most, store, callers, port, signals, output)
+        }
+        Err(_) => {
+            drop(store);
+            drop(callers);
+            drop(output);
+            Err(ServerFault::OutOfMemory)
+        }
+    }
+}
+
+/// Prints where they call, and lives in a scope with what prints the port's signals.
+fn serve_and_print<
+    D: Disk + Send,
+    C: Callers + Drop,
+    W: Write + Send + Drop,
+    R: Threads + Wait + Clock + Sync,
+>(
+    rt: &R,
+    alloc: Global,
+    most: usize,
+    store: Store<D>,
+    callers: C,
+    port: LocalPort<&R>,
+    signals: Receiver<Signal>,
+    output: W,
+) -> Result<Ended<D, C>, ServerFault>
+    requires { has_stopped store ≡ false }
     ensures { IfOk result (λ ended.
         HasLived D.keeps_model D.present C.met store.world callers ended.callers ended.served
         ended.closed.store ended.closed.base ended.closed.trail.items ended.closed.settled) }
 {
-    let (told, signals) = crossbeam_channel::unbounded(alloc)?;
-    let port = LocalPort::new(rt, Vec::new(alloc), told);
     let mut printer = Printer::new(alloc, output);
     let met = print_listening(&callers, &mut printer);
     let port = &port;

@@ -1,8 +1,9 @@
 //! A store that is served until a line closes it.
 
-ghost use Rattle.std.specs.Prelude.{◌≡◌, false, IfOk};
+ghost use Rattle.std.specs.Prelude.{◌≡◌, false, IfErr, IfOk, None, Some};
 ghost use Rattle.coord_store.specs.Kept.{has_stopped};
-ghost use Rattle.coord_server.specs.Lives.{HasLived, HasLivedToClose};
+ghost use Rattle.coord_server.specs.Ending.{fault_at_end};
+ghost use Rattle.coord_server.specs.Lives.{EndsOneHistory, HasLived, HasLivedToClose};
 
 use crate::lives::serve_lives;
 use crate::{Ended, ServerFault};
@@ -25,7 +26,6 @@ pub const LIFE_STEPS: usize = 262_144;
 /// Serves a store to the connections of a listener, one after the other, until a line closes it,
 /// and gives back what is left of the engine of its last life. It is `serve_callers` over these
 /// connections, with the usual patience.
-#[tactic(auto, using(crate::proofs::Ends::going_if_none))]
 pub fn serve_store<
     D: Disk + Send,
     S: Read + Write + OpenStream + Drop,
@@ -38,12 +38,35 @@ pub fn serve_store<
     ensures lives { IfOk result (λ closed.
         HasLivedToClose D.keeps_model D.present store.world closed.store closed.base
         closed.trail.items closed.settled) }
+    ensures whole { IfOk result (λ closed.
+        EndsOneHistory store.world closed.store closed.base closed.trail.items closed.settled) }
 {
     let callers = Accepted::new(rt, listener, Patience::usual());
     let ended = serve_callers(rt, alloc, store, callers, output)?;
-    match ended.fault() {
-        None => Ok(ended.closed),
-        Some(fault) => Err(fault),
+    closed_of(ended)
+}
+
+/// What is left, unless there is a fault to be told.
+fn closed_of<D: Disk, C: Drop>(ended: Ended<D, C>) -> Result<Closed<D>, ServerFault>
+    ensures closed { IfOk result (λ closed. (closed ≡ ended.closed) ×
+        (fault_at_end (has_stopped ended.closed.store) ended.served ended.is_broken ≡ None)) }
+    ensures fault { IfErr result (λ fault.
+        fault_at_end (has_stopped ended.closed.store) ended.served ended.is_broken ≡ Some fault) }
+{
+    let fault = ended.fault();
+    let Ended {
+        closed,
+        callers,
+        served: _,
+        is_broken: _,
+    } = ended;
+    drop(callers);
+    match fault {
+        None => Ok(closed),
+        Some(fault) => {
+            drop(closed);
+            Err(fault)
+        }
     }
 }
 
@@ -59,6 +82,9 @@ pub fn serve_callers<
     ensures lives { IfOk result (λ ended.
         HasLived D.keeps_model D.present C.met store.world callers ended.callers ended.served
         ended.closed.store ended.closed.base ended.closed.trail.items ended.closed.settled) }
+    ensures whole { IfOk result (λ ended.
+        EndsOneHistory store.world ended.closed.store ended.closed.base ended.closed.trail.items
+        ended.closed.settled) }
 {
     serve_lives(rt, alloc, LIFE_STEPS, store, callers, output)
 }
