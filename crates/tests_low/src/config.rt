@@ -1,5 +1,6 @@
 //! The file of the format's page, and an answer of each kind, as they come out when the call runs.
 
+use crate::disk::is_text;
 use coord_config::{ConfigFault, Topology, read_topology};
 use std::alloc::{AllocError, Global};
 use std::test::Fail;
@@ -33,7 +34,10 @@ fn is_of_file(topology: &Topology) -> bool {
 /// says nothing of the text.
 fn fault_of(alloc: Global, text: &str) -> Result<u8, ConfigFault> {
     match read_topology(alloc, text) {
-        Ok(_) => Ok(0),
+        Ok(topology) => {
+            drop(topology);
+            Ok(0)
+        }
         Err(ConfigFault::OutOfMemory) => Err(ConfigFault::OutOfMemory),
         Err(fault) => Ok(fault.number()),
     }
@@ -41,7 +45,10 @@ fn fault_of(alloc: Global, text: &str) -> Result<u8, ConfigFault> {
 
 /// Whether the file is read.
 fn is_read(alloc: Global) -> Result<bool, ConfigFault> {
-    Ok(is_of_file(&read_topology(alloc, FILE)?))
+    let topology = read_topology(alloc, FILE)?;
+    let is_of_file = is_of_file(&topology);
+    drop(topology);
+    Ok(is_of_file)
 }
 
 #[test]
@@ -103,7 +110,9 @@ fn texts_are_answered(rt: HostRuntime) -> Result<(), Fail> {
 /// Whether so many spaces are answered with this number.
 fn are_spaces(alloc: Global, count: usize, number: u8) -> Result<bool, Fail> {
     let text = " ".repeat(alloc, count)?;
-    Ok(fault_of(alloc, &text)? == number)
+    let fault = fault_of(alloc, &text);
+    drop(text);
+    Ok(fault? == number)
 }
 
 /// Whether 65,536 of them are read, and one more is not.
@@ -120,7 +129,7 @@ fn long_texts_are_no_toml(rt: HostRuntime) -> Result<(), Fail> {
 /// Whether faults are printed by their names.
 fn are_printed(alloc: Global) -> Result<bool, AllocError> {
     let text = format!(in alloc; "{} {}", ConfigFault::BadKey, ConfigFault::OutOfMemory)?;
-    Ok(text.as_str() == "BadKey OutOfMemory")
+    Ok(is_text(text, "BadKey OutOfMemory"))
 }
 
 #[test]

@@ -36,6 +36,13 @@ pub(crate) fn holds(disk: MemDisk, bytes: &[u8]) -> bool {
     holds
 }
 
+/// Whether a text is this one.
+pub(crate) fn is_text(text: String, wanted: &str) -> bool {
+    let is_wanted = text.as_str() == wanted;
+    drop(text);
+    is_wanted
+}
+
 // Writes to a disk in memory, which fails for want of memory alone.
 fn written<D: Disk>(disk: &mut D, at: u64, bytes: &[u8]) -> Result<(), AllocError>
     requires { at + length bytes.now < 2 ^ 64 }
@@ -116,15 +123,25 @@ fn a_read_gives_what_was_written(rt: HostRuntime) -> Result<(), Fail> {
     Ok(())
 }
 
+// Whether each call of a disk fails.
+fn fails_each<D: Disk>(disk: &mut D) -> bool {
+    let (wrote, synced) = (disk.write_at(0, &[2]), disk.sync());
+    let (length, read) = (disk.len(), disk.read(0, &mut []));
+    let fault = Err(DiskFault);
+    (wrote, synced, read) == (fault, fault, fault) && length == Err(DiskFault)
+}
+
+// Whether a disk has this length, and is read.
+fn is_read<D: Disk>(disk: &mut D, length: u64) -> bool {
+    (disk.len(), disk.read(0, &mut [])) == (Ok(length), Ok(()))
+}
+
 // Whether two calls pass, and each one after them fails and changes nothing.
 fn fuse_blows(alloc: Global) -> Result<bool, AllocError> {
     let mut disk = FuseDisk::new(MemDisk::new(alloc), 2);
     let first = written(&mut disk, 0, &[1]);
     let passed = disk.len() == Ok(1);
-    let failed = disk.write_at(0, &[2]) == Err(DiskFault)
-        && disk.sync() == Err(DiskFault)
-        && disk.len() == Err(DiskFault)
-        && disk.read(0, &mut []) == Err(DiskFault);
+    let failed = fails_each(&mut disk);
     let counted = disk.calls() == 6;
     let is_empty = holds(disk.crash().into_inner(), &[]);
     first?;
@@ -144,7 +161,7 @@ fn blip_fails(alloc: Global) -> Result<bool, AllocError> {
     let failed = disk.write_at(0, &[2]) == Err(DiskFault);
     let second = written(&mut disk, 1, &[3]);
     let last = disk.sync();
-    let passed = disk.len() == Ok(2) && disk.read(0, &mut []) == Ok(());
+    let passed = is_read(&mut disk, 2);
     let counted = disk.calls() == 6;
     let is_left = holds(disk.crash().into_inner(), &[1, 3]);
     first?;
@@ -193,8 +210,13 @@ fn gated(
     answered: &Arc<AtomicBool>,
 ) -> Result<GateDisk<MemDisk>, AllocError> {
     let entered = Arc::try_clone(entered)?;
-    let answered = Arc::try_clone(answered)?;
-    Ok(GateDisk::new(MemDisk::new(alloc), entered, answered))
+    match Arc::try_clone(answered) {
+        Ok(answered) => Ok(GateDisk::new(MemDisk::new(alloc), entered, answered)),
+        Err(fault) => {
+            drop(entered);
+            Err(fault)
+        }
+    }
 }
 
 // Whether a sync says that it came, passes where the gate is open, and else fails and changes nothing.
@@ -220,9 +242,14 @@ fn waits(
 
 fn waits_at_a_gate(alloc: Global, is_open: bool) -> Result<bool, Fail> {
     let entered = Arc::new(alloc, AtomicBool::new(false))?;
-    let answered = Arc::new(alloc, AtomicBool::new(is_open))?;
-    let waits = waits(alloc, &entered, &answered, is_open);
+    let waits = waits_at(alloc, &entered, is_open);
     drop(entered);
+    waits
+}
+
+fn waits_at(alloc: Global, entered: &Arc<AtomicBool>, is_open: bool) -> Result<bool, Fail> {
+    let answered = Arc::new(alloc, AtomicBool::new(is_open))?;
+    let waits = waits(alloc, entered, &answered, is_open);
     drop(answered);
     waits
 }
@@ -235,7 +262,7 @@ fn a_sync_waits_at_a_gate(rt: HostRuntime) -> Result<(), Fail> {
 
 // Whether a fault is printed so.
 fn is_printed(alloc: Global) -> Result<bool, AllocError> {
-    Ok(format!(in alloc; "{DiskFault}")?.as_str() == "the device failed")
+    Ok(is_text(format!(in alloc; "{DiskFault}")?, "the device failed"))
 }
 
 #[test]

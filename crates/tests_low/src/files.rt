@@ -14,8 +14,16 @@ use std::{env, fs, io};
 // of memory alone.
 fn over(alloc: Global, file: MemFile) -> Result<RawDisk<MemFile>, AllocError> {
     let mut file = file;
-    file.choose(Choice::Filled([7].to_vec(alloc)?));
-    RawDisk::over(file).map_err(|_| AllocError)
+    match [7].to_vec(alloc) {
+        Ok(filler) => {
+            file.choose(Choice::Filled(filler));
+            RawDisk::over(file).map_err(|_| AllocError)
+        }
+        Err(fault) => {
+            drop(file);
+            Err(fault)
+        }
+    }
 }
 
 // Writes and syncs.
@@ -232,12 +240,27 @@ fn is_a_disk(rt: &HostRuntime, path: &str) -> Result<bool, Fail> {
     Ok(held? && shared?)
 }
 
+// Where the file is.
+fn path_in(rt: &HostRuntime) -> Result<String, Fail> {
+    let folder = env::temp_dir(rt)?;
+    let path = format!(in rt.alloc(); "{}/resetd_file_disk", folder.as_str());
+    drop(folder);
+    Ok(path?)
+}
+
+// Whether it is so of a new file, which is taken away again.
+fn is_a_disk_once(rt: &HostRuntime, path: &str) -> Result<bool, Fail> {
+    let _ = fs::remove_file(rt, path);
+    let is_a_disk = is_a_disk(rt, path)?;
+    fs::remove_file(rt, path)?;
+    Ok(is_a_disk)
+}
+
 #[test]
 fn a_file_is_a_disk(rt: HostRuntime) -> Result<(), Fail> {
-    let path = format!(in rt.alloc(); "{}/resetd_file_disk", env::temp_dir(&rt)?.as_str())?;
-    let _ = fs::remove_file(&rt, &path);
-    let is_a_disk = is_a_disk(&rt, &path)?;
-    fs::remove_file(&rt, &path)?;
-    assert!(rt; is_a_disk);
+    let path = path_in(&rt)?;
+    let is_a_disk = is_a_disk_once(&rt, &path);
+    drop(path);
+    assert!(rt; is_a_disk?);
     Ok(())
 }

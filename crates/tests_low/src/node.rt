@@ -1,6 +1,6 @@
 //! Tests of coord_node: runs of one node, at the values that the reset rules give.
 
-use coord_node::{Node, NodeFields, NodeSet};
+use coord_node::{Deed, Node, NodeFields, NodeSet};
 use coord_types::{Group, Mode, Msg, NodeId, Version};
 use std::alloc::{AllocError, Global};
 use std::test::Fail;
@@ -67,13 +67,15 @@ fn goes(
         Heard(Msg::Ready) => node.on_ready(alloc, other)?,
         Lost => node.lost(alloc, other)?,
     };
-    let (mode, parent, epoch, distance) = after;
-    let is_after = node.mode() == mode
-        && node.parent() == parent
-        && node.epoch() == epoch
-        && node.distance() == distance;
-    let is_finished = deed.finished == (node.epoch() > before);
-    Ok(is_after && is_finished && deed.sends.as_slice() == sends)
+    let found = (node.mode(), node.parent(), node.epoch(), node.distance());
+    Ok(is_deed(deed, sends, found.2 > before) && found == after)
+}
+
+/// Whether these are sent, and a reset is finished where it is to be.
+fn is_deed(deed: Deed, sends: &[(NodeId, Msg)], is_finished: bool) -> bool {
+    let is_so = deed.finished == is_finished && deed.sends.as_slice() == sends;
+    drop(deed);
+    is_so
 }
 
 /// Whether a new node is Ready.
@@ -112,12 +114,9 @@ fn is_restored(alloc: Global) -> Result<bool, AllocError> {
         confirmed: 5,
         distance: 9,
     });
-    let is_restored = node.version() == version
-        && node.group() == group
-        && node.mode() == Mode::Abort
-        && node.parent() == Some(two)
-        && node.pend() == awaited
-        && node.neighbours() == awaited.with(two)
+    let state = (node.version(), node.group(), node.mode(), node.parent());
+    let is_restored = state == (version, group, Mode::Abort, Some(two))
+        && (node.pend(), node.neighbours()) == (awaited, awaited.with(two))
         && (node.epoch(), node.confirmed(), node.distance()) == (7, 5, 9);
     let after = (Mode::Converge, Some(two), 7, 9);
     Ok(

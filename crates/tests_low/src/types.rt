@@ -1,5 +1,6 @@
 //! Tests of coord_types: the ends of the ranges, the printed texts, and sets of nodes.
 
+use crate::disk::is_text;
 use coord_types::{Client, Group, Kind, Mode, Msg, NodeId, NodeSet, Refusal};
 use std::alloc::{AllocError, Global};
 use std::test::Fail;
@@ -77,7 +78,7 @@ fn are_printed(alloc: Global) -> Result<bool, AllocError> {
         Msg::Ready,
         Kind::Started
     )?;
-    Ok(text.as_str() == PRINTED)
+    Ok(is_text(text, PRINTED))
 }
 
 #[test]

@@ -1,6 +1,6 @@
 //! What a crash leaves inside an append and a replace, and what a device that fails once leaves.
 
-use super::{BODY, CREATED, opened};
+use super::{body, created, opened};
 use coord_disk::{BlipDisk, Choice, CrashDisk, Disk, FuseDisk, MemDisk, TornDisk};
 use coord_journal::{Journal, JournalFault};
 use std::alloc::Global;
@@ -30,17 +30,25 @@ enum Act {
 
 const ACTS: [Act; 3] = [Act::Append, Act::Replace, Act::ReplaceAgain];
 
+fn appended<D: Disk>(journal: &mut Journal<D>) -> Result<(), JournalFault> {
+    let body = body();
+    if journal.fits(body.len()) {
+        journal.append(&body)
+    } else {
+        Ok(())
+    }
+}
+
 fn done<D: Disk>(journal: &mut Journal<D>, act: Act) -> Result<(), JournalFault> {
     match act {
-        Act::Append if journal.fits(BODY.len()) => journal.append(&BODY),
-        Act::Append => Ok(()),
+        Act::Append => appended(journal),
         Act::Replace | Act::ReplaceAgain => journal.replace(3, &[]),
     }
 }
 
 // The device before the act: version 1 in the first half, or version 2 in the second.
 fn before(alloc: Global, act: Act, which: usize) -> Result<MemDisk, JournalFault> {
-    let mut journal = journal_on(alloc, MemDisk::from_bytes(alloc, &CREATED)?)?;
+    let mut journal = journal_on(alloc, MemDisk::from_bytes(alloc, &created())?)?;
     let replaced = match act {
         Act::ReplaceAgain => journal.replace(2, &[]),
         _ => Ok(()),

@@ -1,6 +1,6 @@
 //! What is written and read.
 
-use super::{BODY, COMMITTED, CREATED, opened};
+use super::{body, committed, created, opened};
 use crate::disk::holds;
 use coord_disk::{Disk, FuseDisk, MemDisk};
 use coord_journal::{Contents, Journal, JournalFault, format, laws};
@@ -12,7 +12,7 @@ fn makes(alloc: Global) -> Result<bool, JournalFault> {
     let mut disk = FuseDisk::new(MemDisk::new(alloc), u64::MAX);
     let made = format(alloc, &mut disk, 32_768, 1, &[0; 11]);
     let calls = disk.calls();
-    let is_created = holds(disk.into_inner(), &CREATED);
+    let is_created = holds(disk.into_inner(), &created());
     made?;
     Ok(calls == 3 && is_created)
 }
@@ -26,30 +26,31 @@ fn is_created(contents: &Contents) -> bool {
 
 // Whether a body is added, and there is as much room before it and behind it as there should be.
 fn has_room<D: Disk>(journal: &mut Journal<D>) -> Result<bool, JournalFault> {
-    if journal.room() != 32_746 || !journal.fits(BODY.len()) {
+    let body = body();
+    if journal.room() != 32_746 || !journal.fits(body.len()) {
         return Ok(false);
     }
-    journal.append(&BODY)?;
+    journal.append(&body)?;
     Ok(journal.room() == 32_718)
 }
 
 // Whether an opening and an append take seven calls, and leave those bytes.
 fn adds(alloc: Global) -> Result<bool, JournalFault> {
-    let disk = FuseDisk::new(MemDisk::from_bytes(alloc, &CREATED)?, u64::MAX);
+    let disk = FuseDisk::new(MemDisk::from_bytes(alloc, &created())?, u64::MAX);
     let (mut journal, contents) = opened(alloc, disk)?;
     let was_created = is_created(&contents);
     drop(contents);
     let added = has_room(&mut journal);
     let disk = journal.into_disk();
     let calls = disk.calls();
-    let is_committed = holds(disk.into_inner(), &COMMITTED);
+    let is_committed = holds(disk.into_inner(), &committed());
     Ok(added? && was_created && calls == 7 && is_committed)
 }
 
 // Whether there is one batch, with that body.
 fn is_body(contents: &Contents) -> bool {
     let first = match contents.batches.first() {
-        Some(body) => body.as_slice() == BODY.as_slice(),
+        Some(first) => first.as_slice() == body().as_slice(),
         None => false,
     };
     first && contents.batches.len() == 1
@@ -57,8 +58,8 @@ fn is_body(contents: &Contents) -> bool {
 
 // Whether the batch is read, and an opening writes nothing.
 fn reads(alloc: Global) -> Result<bool, JournalFault> {
-    let (journal, contents) = opened(alloc, MemDisk::from_bytes(alloc, &COMMITTED)?)?;
-    let kept = holds(journal.into_disk(), &COMMITTED);
+    let (journal, contents) = opened(alloc, MemDisk::from_bytes(alloc, &committed())?)?;
+    let kept = holds(journal.into_disk(), &committed());
     let is_read = is_body(&contents);
     drop(contents);
     Ok(kept && is_read)
@@ -86,7 +87,7 @@ fn refuses(
 
 // Whether a device that is not empty, and halves of a wrong size, are refused and left.
 fn refuses_to_format(alloc: Global) -> Result<bool, JournalFault> {
-    let not_empty = refuses(alloc, &CREATED, 32_767, JournalFault::NotEmpty)?;
+    let not_empty = refuses(alloc, &created(), 32_767, JournalFault::NotEmpty)?;
     let too_small = refuses(alloc, &[], 32_767, JournalFault::HalfSize)?;
     let too_large = refuses(alloc, &[], 16_777_217, JournalFault::HalfSize)?;
     let mut disk = MemDisk::new(alloc);
@@ -140,15 +141,25 @@ const CHANGED: [(usize, u8, Result<usize, JournalFault>); 17] = [
     (33, 0, Ok(0)),
 ];
 
+/// They stand behind a call, so that a proof about the walk over them does not carry them.
+fn changes() -> &'static [(usize, u8, Result<usize, JournalFault>)] {
+    &CHANGED
+}
+
+// The device with this byte put there.
+fn changed(place: usize, byte: u8) -> [u8; 62] {
+    let mut bytes = committed();
+    if let Some(old) = bytes.get_mut(place) {
+        *old = byte;
+    }
+    bytes
+}
+
 // The first place at which a change is told otherwise.
 fn first_wrong_change(alloc: Global) -> Result<Option<usize>, JournalFault> {
-    for (place, byte, want) in CHANGED {
-        let mut bytes = COMMITTED;
-        if let Some(old) = bytes.get_mut(place) {
-            *old = byte;
-        }
-        if batches_of(alloc, &bytes)? != want {
-            return Ok(Some(place));
+    for (place, byte, want) in changes() {
+        if batches_of(alloc, &changed(*place, *byte))? != *want {
+            return Ok(Some(*place));
         }
     }
     Ok(None)
@@ -163,13 +174,14 @@ fn a_changed_byte_changes_what_is_read(rt: HostRuntime) -> Result<(), Fail> {
 
 // The first size at which a device that is cut there is told otherwise.
 fn first_wrong_size(alloc: Global) -> Result<Option<usize>, JournalFault> {
+    let bytes = committed();
     for size in 0..62 {
         let want = if size < 17 {
             JournalFault::NoMagic
         } else {
             JournalFault::BadRecord
         };
-        if batches_of(alloc, &COMMITTED[..size])? != Err(want) {
+        if batches_of(alloc, &bytes[..size])? != Err(want) {
             return Ok(Some(size));
         }
     }

@@ -1,6 +1,6 @@
 //! Journals that are added to, move into their other half and are opened again.
 
-use super::{BODY, COMMITTED, CREATED, opened};
+use super::{committed, created, opened};
 use coord_disk::MemDisk;
 use coord_journal::{Contents, Journal, JournalFault, MAX_BODY};
 use std::alloc::Global;
@@ -62,6 +62,19 @@ const MOVED: [Stay<'static>; 7] = [
     ((3, 1), &[]),
 ];
 
+/// They stand behind calls, so that a proof that hands them on does not carry them.
+fn filled() -> &'static [Stay<'static>] {
+    &FILLED
+}
+
+fn filled_exactly() -> &'static [Stay<'static>] {
+    &FILLED_EXACTLY
+}
+
+fn moved() -> &'static [Stay<'static>] {
+    &MOVED
+}
+
 // Does it, and says whether it was possible as told.
 fn takes(journal: &mut Journal<MemDisk>, turn: Turn) -> Result<bool, JournalFault> {
     let body = [7u8; MAX_BODY];
@@ -115,25 +128,26 @@ fn takes_all(journal: &mut Journal<MemDisk>, turns: &[Turn]) -> Result<bool, Jou
 
 // Whether a new journal goes through these stays.
 fn goes(alloc: Global, stays: &[Stay<'_>]) -> Result<bool, JournalFault> {
-    let mut disk = MemDisk::from_bytes(alloc, &CREATED)?;
+    let mut disk = MemDisk::from_bytes(alloc, &created())?;
     for stay in stays {
         match left(alloc, disk, *stay)? {
             Some(after) => disk = after,
             None => return Ok(false),
         }
     }
+    drop(disk);
     Ok(true)
 }
 
 #[test]
 fn a_half_is_filled(rt: HostRuntime) -> Result<(), Fail> {
-    assert!(rt; goes(rt.alloc(), &FILLED)? && goes(rt.alloc(), &FILLED_EXACTLY)?);
+    assert!(rt; goes(rt.alloc(), filled())? && goes(rt.alloc(), filled_exactly())?);
     Ok(())
 }
 
 // Whether a replace leaves all that was written but the selector, and writes the second half behind zeros.
 fn moves(alloc: Global) -> Result<bool, JournalFault> {
-    let (mut journal, contents) = opened(alloc, MemDisk::from_bytes(alloc, &COMMITTED)?)?;
+    let (mut journal, contents) = opened(alloc, MemDisk::from_bytes(alloc, &committed())?)?;
     drop(contents);
     let replaced = journal.replace(1, &[0; 11]);
     let disk = journal.into_disk();
@@ -146,13 +160,13 @@ fn moves(alloc: Global) -> Result<bool, JournalFault> {
 fn is_moved(bytes: &[u8]) -> bool {
     bytes.len() == 32_802
         && bytes[0] == 1
-        && bytes[1..62] == COMMITTED[1..]
+        && bytes[1..62] == committed()[1..]
         && bytes[62..32_785].iter().all(|byte| *byte == 0)
-        && bytes[32_785..] == CREATED[17..]
+        && bytes[32_785..] == created()[17..]
 }
 
 #[test]
 fn a_journal_moves_into_its_other_half(rt: HostRuntime) -> Result<(), Fail> {
-    assert!(rt; moves(rt.alloc())? && goes(rt.alloc(), &MOVED)?);
+    assert!(rt; moves(rt.alloc())? && goes(rt.alloc(), moved())?);
     Ok(())
 }
