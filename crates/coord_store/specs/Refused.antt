@@ -2,8 +2,9 @@
 use Rattle.std.specs.Prelude.{◌≡◌, ◌⊎◌, ℕ, ◌<◌, List, ◌∷◌, ◌++◌, length, Some}
 use Rattle.coord_types.specs.declared.steps.Step.{Step}
 use Rattle.coord_check.specs.Faults.{faults, first}
-use Rattle.coord_journal.specs.Faults.{BeginsWithHeader}
+use Rattle.coord_journal.specs.Faults.{RefusesOpen as JournalRefuses}
 use Rattle.coord_journal.specs.Text.{Content, IsHalfSize, IsText}
+use Rattle.coord_journal.specs.declared.fault.JournalFault.TheVariants as journal
 use Rattle.coord_world.specs.protocol.Acceptance.{IsFresh}
 use Rattle.coord_world.specs.protocol.Legal.{Legal}
 use Rattle.coord_world.specs.protocol.Next.{fold}
@@ -64,12 +65,12 @@ RefusesContent content fault = RefusesSnapshot content fault
 abbrev pub RefusesText : List ℕ → StoreFault → Type 0
 RefusesText bytes fault = (content : Content) × IsText content bytes × RefusesContent content fault
 
--- a device of these bytes is refused so, where it is to be opened; memory and the device may fail anywhere
+-- a device of these bytes is refused so, where it is to be opened: by its journal, or for what the journal holds; memory and the device may fail anywhere
 abbrev pub RefusesOpen : List ℕ → StoreFault → Type 0
 RefusesOpen bytes OutOfMemory = Unit {0}
 RefusesOpen bytes Device = Unit {0}
-RefusesOpen bytes NoMagic = ¬ BeginsWithHeader bytes
-RefusesOpen bytes BadRecord = BeginsWithHeader bytes × ((content : Content) → IsText content bytes → ⊥)
+RefusesOpen bytes NoMagic = JournalRefuses bytes journal.NoMagic
+RefusesOpen bytes BadRecord = JournalRefuses bytes journal.BadRecord
 RefusesOpen bytes fault = RefusesText bytes fault
 
 -- a device of these bytes is refused so, where a store with halves of this size is to be made on it
