@@ -17,6 +17,9 @@ use std::{env, fs, io};
 /// Words, in which `@` stands for the folder of the run, and what a run with them ends with.
 pub(crate) type Run = (&'static str, Ending<'static>);
 
+/// A file's name in the folder, and its bytes.
+type GivenFile = (&'static str, &'static [u8]);
+
 /// A folder of its own for the files of a test.
 pub(crate) fn make_folder<R: Files<File = File> + Env + AllocGlobal>(
     rt: &R,
@@ -134,14 +137,30 @@ const TOPOLOGY_RUNS: [Run; 10] = [
     ("resetd show @/empty", (0, "view 0 0\n", "")),
 ];
 
+/// They stand behind a call, as all tables here do, so that a proof does not carry their texts.
+fn topology_runs() -> &'static [Run] {
+    &TOPOLOGY_RUNS
+}
+
+pub(crate) const NOTHING: &[u8] = b"";
+
+/// The files that they are given.
+const TOPOLOGY_FILES: [GivenFile; 3] = [
+    ("pair", PAIR),
+    ("repeated", REPEATED_NODE),
+    ("nothing", NOTHING),
+];
+
+fn topology_files() -> &'static [GivenFile] {
+    &TOPOLOGY_FILES
+}
+
 #[test]
 fn topology_file(rt: HostRuntime) -> Result<(), Fail> {
-    let files = [
-        ("pair", PAIR),
-        ("repeated", REPEATED_NODE),
-        ("nothing", b"".as_slice()),
-    ];
-    assert_none(&rt, first_wrong(&rt, "topology", &files, &TOPOLOGY_RUNS)?);
+    assert_none(
+        &rt,
+        first_wrong(&rt, "topology", topology_files(), topology_runs())?,
+    );
     Ok(())
 }
 
@@ -190,16 +209,38 @@ const FAULT_RUNS: [Run; 14] = [
     ("resetd show @/pair", (1, "", "resetd: NoMagic\n")),
 ];
 
+/// The runs.
+fn fault_runs() -> &'static [Run] {
+    &FAULT_RUNS
+}
+
+const BAD_KEY: &[u8] = b"halves = 1";
+
+const BAD_VALUE: &[u8] = b"half = 1";
+
+const NO_TOML: &[u8] = b"half =";
+
+const NO_TEXT: &[u8] = b"half = 32768 # \xff";
+
+/// The files that they are given.
+const FAULT_FILES: [GivenFile; 5] = [
+    ("pair", PAIR),
+    ("key", BAD_KEY),
+    ("value", BAD_VALUE),
+    ("toml", NO_TOML),
+    ("bytes", NO_TEXT),
+];
+
+fn fault_files() -> &'static [GivenFile] {
+    &FAULT_FILES
+}
+
 #[test]
 fn order_of_faults(rt: HostRuntime) -> Result<(), Fail> {
-    let files = [
-        ("pair", PAIR),
-        ("key", b"halves = 1".as_slice()),
-        ("value", b"half = 1".as_slice()),
-        ("toml", b"half =".as_slice()),
-        ("bytes", b"half = 32768 # \xff".as_slice()),
-    ];
-    assert_none(&rt, first_wrong(&rt, "faults", &files, &FAULT_RUNS)?);
+    assert_none(
+        &rt,
+        first_wrong(&rt, "faults", fault_files(), fault_runs())?,
+    );
     Ok(())
 }
 
@@ -223,13 +264,26 @@ const VIOLATED_RUNS: [Run; 3] = [
     ("resetd check @/cut", (1, "", "resetd: BadRecord\n")),
 ];
 
+/// The runs.
+fn violated_runs() -> &'static [Run] {
+    &VIOLATED_RUNS
+}
+
+/// A store's file, and one without its last byte.
+fn violated_files(store: &[u8]) -> [(&str, &[u8]); 2] {
+    let cut = match store.split_last() {
+        Some((_, cut)) => cut,
+        None => store,
+    };
+    [("store", store), ("cut", cut)]
+}
+
 #[test]
 fn violated_store(rt: HostRuntime) -> Result<(), Fail> {
-    let files = [
-        ("store", VIOLATED),
-        ("cut", &VIOLATED[..VIOLATED.len() - 1]),
-    ];
-    assert_none(&rt, first_wrong(&rt, "violated", &files, &VIOLATED_RUNS)?);
+    assert_none(
+        &rt,
+        first_wrong(&rt, "violated", &violated_files(VIOLATED), violated_runs())?,
+    );
     Ok(())
 }
 
@@ -260,9 +314,14 @@ const REFUSED_WORDS: [&str; 23] = [
     "resetd migrate F F",
 ];
 
+/// They stand behind a call too.
+fn all_refused_words() -> &'static [&'static str] {
+    &REFUSED_WORDS
+}
+
 #[test]
 fn refused_words(rt: HostRuntime) -> Result<(), Fail> {
-    for words in REFUSED_WORDS {
+    for words in all_refused_words() {
         let mut input = b"add 1 1\n".as_slice();
         assert!(rt;
             ends(&rt, words, &mut input, (2, "", "resetd: Usage\n"))?,

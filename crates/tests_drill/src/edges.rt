@@ -310,12 +310,17 @@ const LOCKED_RUNS: [Run; 5] = [
     ),
 ];
 
+/// The runs.
+fn locked_runs() -> &'static [Run] {
+    &LOCKED_RUNS
+}
+
 #[test]
 fn a_locked_file(rt: HostRuntime) -> Result<(), Fail> {
     let folder = make_folder(&rt, "locked")?;
     assert!(rt; make_pair(&rt, &folder)?);
     let lock = locked(&rt, &folder)?;
-    let wrong = first_wrong_in(&rt, &folder, &LOCKED_RUNS);
+    let wrong = first_wrong_in(&rt, &folder, locked_runs());
     drop(lock);
     fs::remove_dir_all(&rt, &folder)?;
     assert_none(&rt, wrong?);

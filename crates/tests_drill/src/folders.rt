@@ -109,10 +109,15 @@ const RUNS: [Run; 10] = [
     ("resetd serve store 127.0.0.1:0", (0, "", "")),
 ];
 
+/// The runs.
+fn runs() -> &'static [Run] {
+    &RUNS
+}
+
 #[test]
 fn commands_on_disks_in_memory(rt: HostRuntime) -> Result<(), Fail> {
     let mut folder = folder_of(rt.alloc(), MemDisk::new(rt.alloc()))?;
-    assert_none(&rt, first_wrong(rt.alloc(), &mut folder, &RUNS)?);
+    assert_none(&rt, first_wrong(rt.alloc(), &mut folder, runs())?);
     Ok(())
 }
 
@@ -126,6 +131,11 @@ const PAIR_RUNS: [Run; 6] = [
     ("resetd migrate store", (0, "migrated 3\n", "")),
 ];
 
+/// The runs.
+fn pair_runs() -> &'static [Run] {
+    &PAIR_RUNS
+}
+
 /// The bytes of the disk in a folder.
 pub(crate) fn bytes_in(folder: &MemFolder) -> &[u8] {
     match &folder.disk {
@@ -138,7 +148,7 @@ pub(crate) fn bytes_in(folder: &MemFolder) -> &[u8] {
 #[test]
 fn a_refused_store_stays(rt: HostRuntime) -> Result<(), Fail> {
     let mut folder = folder_of(rt.alloc(), MemDisk::new(rt.alloc()))?;
-    assert_none(&rt, first_wrong(rt.alloc(), &mut folder, &PAIR_RUNS)?);
+    assert_none(&rt, first_wrong(rt.alloc(), &mut folder, pair_runs())?);
     assert!(rt; bytes_in(&folder).get(17) == Some(&2));
     Ok(())
 }

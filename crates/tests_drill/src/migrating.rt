@@ -3,7 +3,9 @@
 ghost use Rattle.std.specs.Prelude.{◌≤◌};
 ghost use Rattle.coord_batch.specs.Batches.{IsNumbered};
 
-use crate::commands::{PAIR, Run as FileRun, assert_none, first_wrong as first_wrong_on_files};
+use crate::commands::{
+    NOTHING, PAIR, Run as FileRun, assert_none, first_wrong as first_wrong_on_files,
+};
 use crate::folders::{Run, bytes_in, first_wrong, folder_of, has_failed};
 use crate::program::words_of;
 use coord_commands::{MemFolder, run_in};
@@ -128,16 +130,26 @@ const MIGRATIONS: [Run; 5] = [
     ("resetd migrate other", (3, "", "resetd: Device\n")),
 ];
 
+/// The runs.
+fn migrations() -> &'static [Run] {
+    &MIGRATIONS
+}
+
 /// The same again leaves what the first one wrote.
 const AGAIN: [Run; 1] = [("resetd migrate store", (0, "migrated 8\n", ""))];
+
+/// The runs.
+fn again() -> &'static [Run] {
+    &AGAIN
+}
 
 #[test]
 fn a_quiet_store_is_migrated(rt: HostRuntime) -> Result<(), Fail> {
     let alloc = rt.alloc();
     let mut folder = folder_of(alloc, stored(alloc, true)?)?;
-    assert_none(&rt, first_wrong(alloc, &mut folder, &MIGRATIONS)?);
+    assert_none(&rt, first_wrong(alloc, &mut folder, migrations())?);
     let first = bytes_in(&folder).to_vec(alloc)?;
-    assert_none(&rt, first_wrong(alloc, &mut folder, &AGAIN)?);
+    assert_none(&rt, first_wrong(alloc, &mut folder, again())?);
     assert!(rt; bytes_in(&folder) == first.as_slice());
     // Its content is in the second half now, and in version 2.
     assert!(rt; first.first() == Some(&1) && first.get(17 + 32_768) == Some(&2));
@@ -149,13 +161,18 @@ const REFUSED: [Run; 2] = [
     ("resetd check store", (0, "legal 4\n", "")),
 ];
 
+/// The runs.
+fn refused() -> &'static [Run] {
+    &REFUSED
+}
+
 #[test]
 fn a_store_in_a_reset_is_not(rt: HostRuntime) -> Result<(), Fail> {
     let alloc = rt.alloc();
     let disk = stored(alloc, false)?;
     let before = disk.bytes().to_vec(alloc)?;
     let mut folder = folder_of(alloc, disk)?;
-    assert_none(&rt, first_wrong(alloc, &mut folder, &REFUSED)?);
+    assert_none(&rt, first_wrong(alloc, &mut folder, refused())?);
     assert!(rt; bytes_in(&folder) == before.as_slice());
     Ok(())
 }
@@ -201,7 +218,7 @@ fn a_line_that_is_not_printed(rt: HostRuntime) -> Result<(), Fail> {
     let alloc = rt.alloc();
     let mut folder = folder_of(alloc, stored(alloc, true)?)?;
     assert!(rt; is_told_unprinted(alloc, &mut folder)?);
-    assert_none(&rt, first_wrong(alloc, &mut folder, &AGAIN)?);
+    assert_none(&rt, first_wrong(alloc, &mut folder, again())?);
     assert!(rt; bytes_in(&folder).first() == Some(&1));
     Ok(())
 }
@@ -222,18 +239,31 @@ const FILES: [FileRun; 12] = [
     ("resetd migrate @/old", (0, "migrated 8\n", "")),
 ];
 
+/// The runs.
+fn files() -> &'static [FileRun] {
+    &FILES
+}
+
+/// The files that they are given, two of them of these stores.
+fn files_with<'a>(busy: &'a [u8], old: &'a [u8]) -> [(&'a str, &'a [u8]); 4] {
+    [
+        ("pair", PAIR),
+        ("empty", NOTHING),
+        ("busy", busy),
+        ("old", old),
+    ]
+}
+
 #[test]
 fn files_are_migrated(rt: HostRuntime) -> Result<(), Fail> {
     let alloc = rt.alloc();
     let busy = stored(alloc, false)?;
     let old = stored(alloc, true)?;
-    let files = [
-        ("pair", PAIR),
-        ("empty", b"".as_slice()),
-        ("busy", busy.bytes()),
-        ("old", old.bytes()),
-    ];
-    assert_none(&rt, first_wrong_on_files(&rt, "migrated", &files, &FILES)?);
+    let given = files_with(busy.bytes(), old.bytes());
+    let wrong = first_wrong_on_files(&rt, "migrated", &given, files());
+    drop(busy);
+    drop(old);
+    assert_none(&rt, wrong?);
     Ok(())
 }
 
@@ -286,18 +316,28 @@ const CLOSED_CIRCLE: [Run; 2] = [
     ("resetd migrate store", (1, "", "resetd: NotQuiet 1\n")),
 ];
 
+/// The runs.
+fn closed_circle() -> &'static [Run] {
+    &CLOSED_CIRCLE
+}
+
 const OPENED_CIRCLE: [Run; 2] = [
     ("resetd migrate store", (0, "migrated 11\n", "")),
     ("resetd check store", (0, "legal 11\n", "")),
 ];
 
+/// The runs.
+fn opened_circle_runs() -> &'static [Run] {
+    &OPENED_CIRCLE
+}
+
 #[test]
 fn a_circle_of_parents_is_opened_first(rt: HostRuntime) -> Result<(), Fail> {
     let alloc = rt.alloc();
     let mut closed = folder_of(alloc, MemDisk::from_bytes(alloc, CIRCLE)?)?;
-    assert_none(&rt, first_wrong(alloc, &mut closed, &CLOSED_CIRCLE)?);
+    assert_none(&rt, first_wrong(alloc, &mut closed, closed_circle())?);
     drop(closed);
     let mut opened = folder_of(alloc, opened_circle(alloc)?)?;
-    assert_none(&rt, first_wrong(alloc, &mut opened, &OPENED_CIRCLE)?);
+    assert_none(&rt, first_wrong(alloc, &mut opened, opened_circle_runs())?);
     Ok(())
 }
