@@ -25,12 +25,22 @@ fn take_descriptors(rt: &HostRuntime) -> [io::Result<File>; 3] {
     ]
 }
 
-fn main(rt: HostRuntime) -> ExitCode {
-    let _taken = take_descriptors(&rt);
+/// Carries out what the program's words ask for, and answers the exit status.
+fn status(rt: &HostRuntime) -> u8 {
     let (mut input, mut output, mut errors) = (rt.stdin(), rt.stdout(), rt.stderr());
-    let status = match words(&rt) {
-        Ok(words) => run(&rt, &words, &mut input, &mut output, &mut errors),
+    match words(rt) {
+        Ok(words) => {
+            let status = run(rt, &words, &mut input, &mut output, &mut errors);
+            drop(words);
+            status
+        }
         Err(fault) => report(Err(fault), &mut errors),
-    };
+    }
+}
+
+fn main(rt: HostRuntime) -> ExitCode {
+    let taken = take_descriptors(&rt);
+    let status = status(&rt);
+    drop(taken);
     ExitCode::from(status)
 }

@@ -269,6 +269,10 @@ fn violated_runs() -> &'static [Run] {
     &VIOLATED_RUNS
 }
 
+fn violated() -> &'static [u8] {
+    VIOLATED
+}
+
 /// A store's file, and one without its last byte.
 fn violated_files(store: &[u8]) -> [(&str, &[u8]); 2] {
     let cut = match store.split_last() {
@@ -282,7 +286,12 @@ fn violated_files(store: &[u8]) -> [(&str, &[u8]); 2] {
 fn violated_store(rt: HostRuntime) -> Result<(), Fail> {
     assert_none(
         &rt,
-        first_wrong(&rt, "violated", &violated_files(VIOLATED), violated_runs())?,
+        first_wrong(
+            &rt,
+            "violated",
+            &violated_files(violated()),
+            violated_runs(),
+        )?,
     );
     Ok(())
 }
