@@ -25,22 +25,17 @@ fn take_descriptors(rt: &HostRuntime) -> [io::Result<File>; 3] {
     ]
 }
 
-/// Carries out what the program's words ask for, and answers the exit status.
-fn status(rt: &HostRuntime) -> u8 {
+fn main(rt: HostRuntime) -> ExitCode {
+    let taken = take_descriptors(&rt);
     let (mut input, mut output, mut errors) = (rt.stdin(), rt.stdout(), rt.stderr());
-    match words(rt) {
+    let status = match words(&rt) {
         Ok(words) => {
-            let status = run(rt, &words, &mut input, &mut output, &mut errors);
+            let status = run(&rt, &words, &mut input, &mut output, &mut errors);
             drop(words);
             status
         }
         Err(fault) => report(Err(fault), &mut errors),
-    }
-}
-
-fn main(rt: HostRuntime) -> ExitCode {
-    let taken = take_descriptors(&rt);
-    let status = status(&rt);
+    };
     drop(taken);
     ExitCode::from(status)
 }

@@ -14,8 +14,9 @@ use std::thread::Threads;
 use std::time::Clock;
 use std::{env, fs, io};
 
-/// Words, in which `@` stands for the folder of the run, and what a run with them ends with.
-pub(crate) type Run = (&'static str, Ending<'static>);
+/// Words, in which `@` stands for the folder of the run, and what a run with them ends with: its exit
+/// status, what it prints, and its fault line.
+pub(crate) type Run = (&'static str, u8, &'static str, &'static str);
 
 /// A file's name in the folder, and its bytes.
 type GivenFile = (&'static str, &'static [u8]);
@@ -57,8 +58,8 @@ pub(crate) fn ends_in<S: Files<File = File> + Net + Threads + Wait + Clock + Syn
 pub(crate) fn first_wrong_in<
     S: Files<File = File> + Net + Threads + Wait + Clock + Sync + AllocGlobal,
 >(rt: &S, folder: &str, runs: &[Run]) -> Result<Option<&'static str>, AllocError> {
-    for (words, ending) in runs {
-        if !ends_in(rt, folder, words, *ending)? {
+    for (words, status, printed, told) in runs {
+        if !ends_in(rt, folder, words, (*status, *printed, *told))? {
             return Ok(Some(*words));
         }
     }
@@ -122,19 +123,21 @@ id = 1\n\
 group = 1\n";
 
 const TOPOLOGY_RUNS: [Run; 10] = [
-    ("resetd init @/store @/pair", (0, "created 3\n", "")),
-    ("resetd show @/store", (0, SHOWN_PAIR, "")),
-    ("resetd check @/store", (0, "legal 3\n", "")),
-    ("resetd init @/store @/pair", (1, "", "resetd: NotEmpty\n")),
-    ("resetd check @/store", (0, "legal 3\n", "")),
+    ("resetd init @/store @/pair", 0, "created 3\n", ""),
+    ("resetd show @/store", 0, SHOWN_PAIR, ""),
+    ("resetd check @/store", 0, "legal 3\n", ""),
+    ("resetd init @/store @/pair", 1, "", "resetd: NotEmpty\n"),
+    ("resetd check @/store", 0, "legal 3\n", ""),
     (
         "resetd init @/other @/repeated",
-        (1, "", "resetd: 7 NodeExists\n"),
+        1,
+        "",
+        "resetd: 7 NodeExists\n",
     ),
-    ("resetd check @/other", (0, "legal 0\n", "")),
-    ("resetd show @/other", (0, "view 0 0\n", "")),
-    ("resetd init @/empty @/nothing", (0, "created 0\n", "")),
-    ("resetd show @/empty", (0, "view 0 0\n", "")),
+    ("resetd check @/other", 0, "legal 0\n", ""),
+    ("resetd show @/other", 0, "view 0 0\n", ""),
+    ("resetd init @/empty @/nothing", 0, "created 0\n", ""),
+    ("resetd show @/empty", 0, "view 0 0\n", ""),
 ];
 
 /// They stand behind a call, as all tables here do, so that a proof does not carry their texts.
@@ -168,45 +171,63 @@ fn topology_file(rt: HostRuntime) -> Result<(), Fail> {
 const FAULT_RUNS: [Run; 14] = [
     (
         "resetd init @/absent/store @/absent",
-        (3, "", "resetd: Read\n"),
+        3,
+        "",
+        "resetd: Read\n",
     ),
     (
         "resetd init @/absent/store @/key",
-        (1, "", "resetd: BadKey\n"),
+        1,
+        "",
+        "resetd: BadKey\n",
     ),
     (
         "resetd init @/absent/store @/value",
-        (1, "", "resetd: BadValue\n"),
+        1,
+        "",
+        "resetd: BadValue\n",
     ),
     (
         "resetd init @/absent/store @/toml",
-        (1, "", "resetd: NotToml\n"),
+        1,
+        "",
+        "resetd: NotToml\n",
     ),
     (
         "resetd init @/absent/store @/bytes",
-        (1, "", "resetd: NotToml\n"),
+        1,
+        "",
+        "resetd: NotToml\n",
     ),
     (
         "resetd init @/absent/store @/pair",
-        (3, "", "resetd: Device\n"),
+        3,
+        "",
+        "resetd: Device\n",
     ),
-    ("resetd check @/absent/store", (3, "", "resetd: Device\n")),
-    ("resetd check @/new", (1, "", "resetd: NoMagic\n")),
+    ("resetd check @/absent/store", 3, "", "resetd: Device\n"),
+    ("resetd check @/new", 1, "", "resetd: NoMagic\n"),
     (
         "resetd serve @/absent/store localhost:1",
-        (2, "", "resetd: Usage\n"),
+        2,
+        "",
+        "resetd: Usage\n",
     ),
     (
         "resetd serve @/absent/store 127.0.0.1:0",
-        (3, "", "resetd: Device\n"),
+        3,
+        "",
+        "resetd: Device\n",
     ),
     (
         "resetd serve @/pair 127.0.0.1:0",
-        (1, "", "resetd: NoMagic\n"),
+        1,
+        "",
+        "resetd: NoMagic\n",
     ),
-    ("resetd init @/new @/pair", (0, "created 3\n", "")),
-    ("resetd check @/pair", (1, "", "resetd: NoMagic\n")),
-    ("resetd show @/pair", (1, "", "resetd: NoMagic\n")),
+    ("resetd init @/new @/pair", 0, "created 3\n", ""),
+    ("resetd check @/pair", 1, "", "resetd: NoMagic\n"),
+    ("resetd show @/pair", 1, "", "resetd: NoMagic\n"),
 ];
 
 /// The runs.
@@ -259,9 +280,9 @@ const VIOLATED: &[u8] = b"\x00ACRRESET\0\0\0\0\0\0\x80\0\
 \0";
 
 const VIOLATED_RUNS: [Run; 3] = [
-    ("resetd check @/store", (1, "violated 1 2 B\n", "")),
-    ("resetd show @/store", (1, "", "resetd: Violated\n")),
-    ("resetd check @/cut", (1, "", "resetd: BadRecord\n")),
+    ("resetd check @/store", 1, "violated 1 2 B\n", ""),
+    ("resetd show @/store", 1, "", "resetd: Violated\n"),
+    ("resetd check @/cut", 1, "", "resetd: BadRecord\n"),
 ];
 
 /// The runs.

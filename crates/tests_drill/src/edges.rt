@@ -293,7 +293,7 @@ fn are_refused_where_taken<
 }
 
 /// A bad word is told before all, and no file is made then.
-const BAD_ADDRESS: [Run; 1] = [("resetd serve @/new localhost:1", (2, "", "resetd: Usage\n"))];
+const BAD_ADDRESS: [Run; 1] = [("resetd serve @/new localhost:1", 2, "", "resetd: Usage\n")];
 
 /// The runs.
 fn bad_address() -> &'static [Run] {
@@ -337,13 +337,15 @@ fn is_file<S: Files<File = File> + AllocGlobal>(rt: &S, folder: &str) -> Result<
 
 /// While a file is locked it may be looked at, but not made, raised or served.
 const LOCKED_RUNS: [Run; 5] = [
-    ("resetd check @/store", (0, "legal 3\n", "")),
-    ("resetd show @/store", (0, SHOWN_PAIR, "")),
-    ("resetd init @/store @/pair", (3, "", "resetd: Device\n")),
-    ("resetd migrate @/store", (3, "", "resetd: Device\n")),
+    ("resetd check @/store", 0, "legal 3\n", ""),
+    ("resetd show @/store", 0, SHOWN_PAIR, ""),
+    ("resetd init @/store @/pair", 3, "", "resetd: Device\n"),
+    ("resetd migrate @/store", 3, "", "resetd: Device\n"),
     (
         "resetd serve @/store 127.0.0.1:0",
-        (3, "", "resetd: Device\n"),
+        3,
+        "",
+        "resetd: Device\n",
     ),
 ];
 

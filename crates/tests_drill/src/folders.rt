@@ -7,8 +7,8 @@ use coord_disk::MemDisk;
 use std::alloc::{AllocError, Global};
 use std::test::Fail;
 
-/// Words, and what a run with them ends with.
-pub(crate) type Run = (&'static str, Ending<'static>);
+/// Words, and what a run with them ends with: its exit status, what it prints, and its fault line.
+pub(crate) type Run = (&'static str, u8, &'static str, &'static str);
 
 /// A text, and its name.
 fn named(alloc: Global, name: &str, bytes: &[u8]) -> Result<Named, AllocError> {
@@ -111,8 +111,8 @@ pub(crate) fn first_wrong(
     folder: &mut MemFolder,
     runs: &[Run],
 ) -> Result<Option<&'static str>, AllocError> {
-    for (words, ending) in runs {
-        if !ends(alloc, folder, words, *ending)? {
+    for (words, status, printed, told) in runs {
+        if !ends(alloc, folder, words, (*status, *printed, *told))? {
             return Ok(Some(*words));
         }
     }
@@ -121,16 +121,16 @@ pub(crate) fn first_wrong(
 
 /// A store that is refused by `init` stays, and `serve` is left to the caller.
 const RUNS: [Run; 10] = [
-    ("resetd check store", (1, "", "resetd: NoMagic\n")),
-    ("resetd init store nothing", (0, "created 0\n", "")),
-    ("resetd init store nothing", (1, "", "resetd: NotEmpty\n")),
-    ("resetd init store pair", (1, "", "resetd: NotEmpty\n")),
-    ("resetd check store", (0, "legal 0\n", "")),
-    ("resetd show store", (0, "view 0 0\n", "")),
-    ("resetd show absent", (3, "", "resetd: Device\n")),
-    ("resetd init store absent", (3, "", "resetd: Read\n")),
-    ("resetd init absent pair", (3, "", "resetd: Device\n")),
-    ("resetd serve store 127.0.0.1:0", (0, "", "")),
+    ("resetd check store", 1, "", "resetd: NoMagic\n"),
+    ("resetd init store nothing", 0, "created 0\n", ""),
+    ("resetd init store nothing", 1, "", "resetd: NotEmpty\n"),
+    ("resetd init store pair", 1, "", "resetd: NotEmpty\n"),
+    ("resetd check store", 0, "legal 0\n", ""),
+    ("resetd show store", 0, "view 0 0\n", ""),
+    ("resetd show absent", 3, "", "resetd: Device\n"),
+    ("resetd init store absent", 3, "", "resetd: Read\n"),
+    ("resetd init absent pair", 3, "", "resetd: Device\n"),
+    ("resetd serve store 127.0.0.1:0", 0, "", ""),
 ];
 
 /// The runs.
@@ -149,12 +149,12 @@ fn commands_on_disks_in_memory(rt: HostRuntime) -> Result<(), Fail> {
 
 /// The store of a topology, and the same again.
 const PAIR_RUNS: [Run; 6] = [
-    ("resetd init store pair", (0, "created 3\n", "")),
-    ("resetd check store", (0, "legal 3\n", "")),
-    ("resetd init store pair", (1, "", "resetd: NotEmpty\n")),
-    ("resetd check store", (0, "legal 3\n", "")),
-    ("resetd show store", (0, SHOWN_PAIR, "")),
-    ("resetd migrate store", (0, "migrated 3\n", "")),
+    ("resetd init store pair", 0, "created 3\n", ""),
+    ("resetd check store", 0, "legal 3\n", ""),
+    ("resetd init store pair", 1, "", "resetd: NotEmpty\n"),
+    ("resetd check store", 0, "legal 3\n", ""),
+    ("resetd show store", 0, SHOWN_PAIR, ""),
+    ("resetd migrate store", 0, "migrated 3\n", ""),
 ];
 
 /// The runs.

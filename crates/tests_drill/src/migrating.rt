@@ -120,21 +120,19 @@ fn with_fresh(disk: MemDisk, are_fresh: Result<bool, CommitFault>) -> Result<Mem
 }
 
 const MIGRATIONS: [Run; 5] = [
-    ("resetd check store", (0, "legal 8\n", "")),
-    ("resetd migrate store", (0, "migrated 8\n", "")),
-    ("resetd check store", (0, "legal 8\n", "")),
+    ("resetd check store", 0, "legal 8\n", ""),
+    ("resetd migrate store", 0, "migrated 8\n", ""),
+    ("resetd check store", 0, "legal 8\n", ""),
     (
         "resetd show store",
-        (
-            0,
-            "view 8 8\n\
+        0,
+        "view 8 8\n\
              node 1 1 ready 0 1 0\n\
              node 2 1 ready 0 1 0\n\
              link 1 2 3\n",
-            "",
-        ),
+        "",
     ),
-    ("resetd migrate other", (3, "", "resetd: Device\n")),
+    ("resetd migrate other", 3, "", "resetd: Device\n"),
 ];
 
 /// The runs.
@@ -143,7 +141,7 @@ fn migrations() -> &'static [Run] {
 }
 
 /// The same again leaves what the first one wrote.
-const AGAIN: [Run; 1] = [("resetd migrate store", (0, "migrated 8\n", ""))];
+const AGAIN: [Run; 1] = [("resetd migrate store", 0, "migrated 8\n", "")];
 
 /// The runs.
 fn again() -> &'static [Run] {
@@ -179,8 +177,8 @@ fn stays(alloc: Global, folder: &mut MemFolder, runs: &[Run]) -> Result<bool, Al
 }
 
 const REFUSED: [Run; 2] = [
-    ("resetd migrate store", (1, "", "resetd: NotQuiet 1\n")),
-    ("resetd check store", (0, "legal 4\n", "")),
+    ("resetd migrate store", 1, "", "resetd: NotQuiet 1\n"),
+    ("resetd check store", 0, "legal 4\n", ""),
 ];
 
 /// The runs.
@@ -262,18 +260,18 @@ fn a_line_that_is_not_printed(rt: HostRuntime) -> Result<(), Fail> {
 
 /// Files of all kinds: an absent one is made, and one of version 1 becomes one of version 2.
 const FILES: [FileRun; 12] = [
-    ("resetd migrate @/new", (1, "", "resetd: NoMagic\n")),
-    ("resetd init @/new @/pair", (0, "created 3\n", "")),
-    ("resetd migrate @/new", (0, "migrated 3\n", "")),
-    ("resetd migrate @/empty", (1, "", "resetd: NoMagic\n")),
-    ("resetd migrate @/pair", (1, "", "resetd: NoMagic\n")),
-    ("resetd migrate @/absent/store", (3, "", "resetd: Device\n")),
-    ("resetd migrate @", (3, "", "resetd: Device\n")),
-    ("resetd migrate @/busy", (1, "", "resetd: NotQuiet 1\n")),
-    ("resetd check @/busy", (0, "legal 4\n", "")),
-    ("resetd migrate @/old", (0, "migrated 8\n", "")),
-    ("resetd check @/old", (0, "legal 8\n", "")),
-    ("resetd migrate @/old", (0, "migrated 8\n", "")),
+    ("resetd migrate @/new", 1, "", "resetd: NoMagic\n"),
+    ("resetd init @/new @/pair", 0, "created 3\n", ""),
+    ("resetd migrate @/new", 0, "migrated 3\n", ""),
+    ("resetd migrate @/empty", 1, "", "resetd: NoMagic\n"),
+    ("resetd migrate @/pair", 1, "", "resetd: NoMagic\n"),
+    ("resetd migrate @/absent/store", 3, "", "resetd: Device\n"),
+    ("resetd migrate @", 3, "", "resetd: Device\n"),
+    ("resetd migrate @/busy", 1, "", "resetd: NotQuiet 1\n"),
+    ("resetd check @/busy", 0, "legal 4\n", ""),
+    ("resetd migrate @/old", 0, "migrated 8\n", ""),
+    ("resetd check @/old", 0, "legal 8\n", ""),
+    ("resetd migrate @/old", 0, "migrated 8\n", ""),
 ];
 
 /// The runs.
@@ -363,8 +361,8 @@ fn opened_circle(alloc: Global) -> Result<MemDisk, Fail> {
 }
 
 const CLOSED_CIRCLE: [Run; 2] = [
-    ("resetd check store", (0, "legal 6\n", "")),
-    ("resetd migrate store", (1, "", "resetd: NotQuiet 1\n")),
+    ("resetd check store", 0, "legal 6\n", ""),
+    ("resetd migrate store", 1, "", "resetd: NotQuiet 1\n"),
 ];
 
 /// The runs.
@@ -373,8 +371,8 @@ fn closed_circle() -> &'static [Run] {
 }
 
 const OPENED_CIRCLE: [Run; 2] = [
-    ("resetd migrate store", (0, "migrated 11\n", "")),
-    ("resetd check store", (0, "legal 11\n", "")),
+    ("resetd migrate store", 0, "migrated 11\n", ""),
+    ("resetd check store", 0, "legal 11\n", ""),
 ];
 
 /// The runs.
