@@ -26,16 +26,11 @@ fn take_descriptors(rt: &HostRuntime) -> [io::Result<File>; 3] {
 }
 
 fn main(rt: HostRuntime) -> ExitCode {
-    let taken = take_descriptors(&rt);
+    let _taken = take_descriptors(&rt);
     let (mut input, mut output, mut errors) = (rt.stdin(), rt.stdout(), rt.stderr());
     let status = match words(&rt) {
-        Ok(words) => {
-            let status = run(&rt, &words, &mut input, &mut output, &mut errors);
-            drop(words);
-            status
-        }
+        Ok(words) => run(&rt, &words, &mut input, &mut output, &mut errors),
         Err(fault) => report(Err(fault), &mut errors),
     };
-    drop(taken);
     ExitCode::from(status)
 }
