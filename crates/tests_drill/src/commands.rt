@@ -14,8 +14,12 @@ use std::thread::Threads;
 use std::time::Clock;
 use std::{env, fs, io};
 
-/// Words, in which `@` stands for the folder of the run, and what a run with them ends with.
-pub(crate) type Run = (&'static str, Ending<'static>);
+/// Words, in which `@` stands for the folder of the run, and what a run with them ends with: its exit
+/// status, what it prints, and its fault line.
+pub(crate) type Run = (&'static str, u8, &'static str, &'static str);
+
+/// A file's name in the folder, and its bytes.
+type GivenFile = (&'static str, &'static [u8]);
 
 /// A folder of its own for the files of a test.
 pub(crate) fn make_folder<R: Files<File = File> + Env + AllocGlobal>(
@@ -54,8 +58,8 @@ pub(crate) fn ends_in<S: Files<File = File> + Net + Threads + Wait + Clock + Syn
 pub(crate) fn first_wrong_in<
     S: Files<File = File> + Net + Threads + Wait + Clock + Sync + AllocGlobal,
 >(rt: &S, folder: &str, runs: &[Run]) -> Result<Option<&'static str>, AllocError> {
-    for (words, ending) in runs {
-        if !ends_in(rt, folder, words, *ending)? {
+    for (words, status, printed, told) in runs {
+        if !ends_in(rt, folder, words, (*status, *printed, *told))? {
             return Ok(Some(*words));
         }
     }
@@ -119,29 +123,47 @@ id = 1\n\
 group = 1\n";
 
 const TOPOLOGY_RUNS: [Run; 10] = [
-    ("resetd init @/store @/pair", (0, "created 3\n", "")),
-    ("resetd show @/store", (0, SHOWN_PAIR, "")),
-    ("resetd check @/store", (0, "legal 3\n", "")),
-    ("resetd init @/store @/pair", (1, "", "resetd: NotEmpty\n")),
-    ("resetd check @/store", (0, "legal 3\n", "")),
+    ("resetd init @/store @/pair", 0, "created 3\n", ""),
+    ("resetd show @/store", 0, SHOWN_PAIR, ""),
+    ("resetd check @/store", 0, "legal 3\n", ""),
+    ("resetd init @/store @/pair", 1, "", "resetd: NotEmpty\n"),
+    ("resetd check @/store", 0, "legal 3\n", ""),
     (
         "resetd init @/other @/repeated",
-        (1, "", "resetd: 7 NodeExists\n"),
+        1,
+        "",
+        "resetd: 7 NodeExists\n",
     ),
-    ("resetd check @/other", (0, "legal 0\n", "")),
-    ("resetd show @/other", (0, "view 0 0\n", "")),
-    ("resetd init @/empty @/nothing", (0, "created 0\n", "")),
-    ("resetd show @/empty", (0, "view 0 0\n", "")),
+    ("resetd check @/other", 0, "legal 0\n", ""),
+    ("resetd show @/other", 0, "view 0 0\n", ""),
+    ("resetd init @/empty @/nothing", 0, "created 0\n", ""),
+    ("resetd show @/empty", 0, "view 0 0\n", ""),
 ];
+
+/// They stand behind a call, as all tables here do, so that a proof does not carry their texts.
+fn topology_runs() -> &'static [Run] {
+    &TOPOLOGY_RUNS
+}
+
+pub(crate) const NOTHING: &[u8] = b"";
+
+/// The files that they are given.
+const TOPOLOGY_FILES: [GivenFile; 3] = [
+    ("pair", PAIR),
+    ("repeated", REPEATED_NODE),
+    ("nothing", NOTHING),
+];
+
+fn topology_files() -> &'static [GivenFile] {
+    &TOPOLOGY_FILES
+}
 
 #[test]
 fn topology_file(rt: HostRuntime) -> Result<(), Fail> {
-    let files = [
-        ("pair", PAIR),
-        ("repeated", REPEATED_NODE),
-        ("nothing", b"".as_slice()),
-    ];
-    assert_none(&rt, first_wrong(&rt, "topology", &files, &TOPOLOGY_RUNS)?);
+    assert_none(
+        &rt,
+        first_wrong(&rt, "topology", topology_files(), topology_runs())?,
+    );
     Ok(())
 }
 
@@ -149,57 +171,97 @@ fn topology_file(rt: HostRuntime) -> Result<(), Fail> {
 const FAULT_RUNS: [Run; 14] = [
     (
         "resetd init @/absent/store @/absent",
-        (3, "", "resetd: Read\n"),
+        3,
+        "",
+        "resetd: Read\n",
     ),
     (
         "resetd init @/absent/store @/key",
-        (1, "", "resetd: BadKey\n"),
+        1,
+        "",
+        "resetd: BadKey\n",
     ),
     (
         "resetd init @/absent/store @/value",
-        (1, "", "resetd: BadValue\n"),
+        1,
+        "",
+        "resetd: BadValue\n",
     ),
     (
         "resetd init @/absent/store @/toml",
-        (1, "", "resetd: NotToml\n"),
+        1,
+        "",
+        "resetd: NotToml\n",
     ),
     (
         "resetd init @/absent/store @/bytes",
-        (1, "", "resetd: NotToml\n"),
+        1,
+        "",
+        "resetd: NotToml\n",
     ),
     (
         "resetd init @/absent/store @/pair",
-        (3, "", "resetd: Device\n"),
+        3,
+        "",
+        "resetd: Device\n",
     ),
-    ("resetd check @/absent/store", (3, "", "resetd: Device\n")),
-    ("resetd check @/new", (1, "", "resetd: NoMagic\n")),
+    ("resetd check @/absent/store", 3, "", "resetd: Device\n"),
+    ("resetd check @/new", 1, "", "resetd: NoMagic\n"),
     (
         "resetd serve @/absent/store localhost:1",
-        (2, "", "resetd: Usage\n"),
+        2,
+        "",
+        "resetd: Usage\n",
     ),
     (
         "resetd serve @/absent/store 127.0.0.1:0",
-        (3, "", "resetd: Device\n"),
+        3,
+        "",
+        "resetd: Device\n",
     ),
     (
         "resetd serve @/pair 127.0.0.1:0",
-        (1, "", "resetd: NoMagic\n"),
+        1,
+        "",
+        "resetd: NoMagic\n",
     ),
-    ("resetd init @/new @/pair", (0, "created 3\n", "")),
-    ("resetd check @/pair", (1, "", "resetd: NoMagic\n")),
-    ("resetd show @/pair", (1, "", "resetd: NoMagic\n")),
+    ("resetd init @/new @/pair", 0, "created 3\n", ""),
+    ("resetd check @/pair", 1, "", "resetd: NoMagic\n"),
+    ("resetd show @/pair", 1, "", "resetd: NoMagic\n"),
 ];
+
+/// The runs.
+fn fault_runs() -> &'static [Run] {
+    &FAULT_RUNS
+}
+
+const BAD_KEY: &[u8] = b"halves = 1";
+
+const BAD_VALUE: &[u8] = b"half = 1";
+
+const NO_TOML: &[u8] = b"half =";
+
+const NO_TEXT: &[u8] = b"half = 32768 # \xff";
+
+/// The files that they are given.
+const FAULT_FILES: [GivenFile; 5] = [
+    ("pair", PAIR),
+    ("key", BAD_KEY),
+    ("value", BAD_VALUE),
+    ("toml", NO_TOML),
+    ("bytes", NO_TEXT),
+];
+
+fn fault_files() -> &'static [GivenFile] {
+    &FAULT_FILES
+}
 
 #[test]
 fn order_of_faults(rt: HostRuntime) -> Result<(), Fail> {
-    let files = [
-        ("pair", PAIR),
-        ("key", b"halves = 1".as_slice()),
-        ("value", b"half = 1".as_slice()),
-        ("toml", b"half =".as_slice()),
-        ("bytes", b"half = 32768 # \xff".as_slice()),
-    ];
-    assert_none(&rt, first_wrong(&rt, "faults", &files, &FAULT_RUNS)?);
+    assert_none(
+        &rt,
+        first_wrong(&rt, "faults", fault_files(), fault_runs())?,
+    );
     Ok(())
 }
 
@@ -218,18 +280,40 @@ const VIOLATED: &[u8] = b"\x00ACRRESET\0\0\0\0\0\0\x80\0\
 \0";
 
 const VIOLATED_RUNS: [Run; 3] = [
-    ("resetd check @/store", (1, "violated 1 2 B\n", "")),
-    ("resetd show @/store", (1, "", "resetd: Violated\n")),
-    ("resetd check @/cut", (1, "", "resetd: BadRecord\n")),
+    ("resetd check @/store", 1, "violated 1 2 B\n", ""),
+    ("resetd show @/store", 1, "", "resetd: Violated\n"),
+    ("resetd check @/cut", 1, "", "resetd: BadRecord\n"),
 ];
+
+/// The runs.
+fn violated_runs() -> &'static [Run] {
+    &VIOLATED_RUNS
+}
+
+fn violated() -> &'static [u8] {
+    VIOLATED
+}
+
+/// A store's file, and one without its last byte.
+fn violated_files(store: &[u8]) -> [(&str, &[u8]); 2] {
+    let cut = match store.split_last() {
+        Some((_, cut)) => cut,
+        None => store,
+    };
+    [("store", store), ("cut", cut)]
+}
 
 #[test]
 fn violated_store(rt: HostRuntime) -> Result<(), Fail> {
-    let files = [
-        ("store", VIOLATED),
-        ("cut", &VIOLATED[..VIOLATED.len() - 1]),
-    ];
-    assert_none(&rt, first_wrong(&rt, "violated", &files, &VIOLATED_RUNS)?);
+    assert_none(
+        &rt,
+        first_wrong(
+            &rt,
+            "violated",
+            &violated_files(violated()),
+            violated_runs(),
+        )?,
+    );
     Ok(())
 }
 
@@ -260,9 +344,14 @@ const REFUSED_WORDS: [&str; 23] = [
     "resetd migrate F F",
 ];
 
+/// They stand behind a call too.
+fn all_refused_words() -> &'static [&'static str] {
+    &REFUSED_WORDS
+}
+
 #[test]
 fn refused_words(rt: HostRuntime) -> Result<(), Fail> {
-    for words in REFUSED_WORDS {
+    for words in all_refused_words() {
         let mut input = b"add 1 1\n".as_slice();
         assert!(rt;
             ends(&rt, words, &mut input, (2, "", "resetd: Usage\n"))?,

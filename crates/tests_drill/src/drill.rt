@@ -100,9 +100,13 @@ fn push_long_lines(input: &mut Vec<u8>) -> Result<(), AllocError> {
 #[test]
 fn the_limit_of_a_line(rt: HostRuntime) -> Result<(), Fail> {
     let mut input = Vec::new(rt.alloc());
-    push_long_lines(&mut input)?;
     let expected = "bad line 2\nbad line 3\ndone 1\nbad line 5\n";
-    assert!(rt; prints(&rt, input.as_slice(), expected)?);
+    let is_printed = match push_long_lines(&mut input) {
+        Ok(()) => prints(&rt, input.as_slice(), expected),
+        Err(error) => Err(error),
+    };
+    drop(input);
+    assert!(rt; is_printed?);
     Ok(())
 }
 
@@ -225,22 +229,31 @@ fn failed_write(rt: HostRuntime) -> Result<(), Fail> {
     let mut output = Full { taken: 0 };
     let mut errors = Vec::with_capacity(rt.alloc(), 64)?;
     let status = coord_commands::drill(rt.alloc(), &mut input, &mut output, &mut errors);
+    let is_told = errors.as_slice() == b"resetd: Write\n".as_slice();
+    drop(errors);
     if status == 4 {
         return Err(AllocError)?;
     }
-    assert!(rt;
-        status == 3 && output.taken == 7 && errors.as_slice() == b"resetd: Write\n".as_slice()
-    );
+    assert!(rt; status == 3 && output.taken == 7 && is_told);
     Ok(())
 }
 
 /// More than 1,048,576 bytes are read to their end: the bound is one of reads, and a read asks for 512.
 #[test]
 fn long_input(rt: HostRuntime) -> Result<(), Fail> {
-    let mut input = Vec::with_capacity(rt.alloc(), 1_200_010)?;
+    let mut input = Vec::new(rt.alloc());
+    let is_printed = match push_long_input(&mut input) {
+        Ok(()) => prints(&rt, &input, "done 1\n"),
+        Err(error) => Err(error),
+    };
+    drop(input);
+    assert!(rt; is_printed?);
+    Ok(())
+}
+
+fn push_long_input(input: &mut Vec<u8>) -> Result<(), AllocError> {
     input.resize(1_200_000, b'\n')?;
     input.extend_from_slice(b"add 1 1\n")?;
-    assert!(rt; prints(&rt, &input, "done 1\n")?);
     Ok(())
 }
 
@@ -287,24 +300,34 @@ fn ends_slowly(
     broken: bool,
     expected: Ended,
 ) -> Result<bool, AllocError> {
-    let mut input = b"add 1 1\nreset 1\n".as_slice();
     let mut output = Slow {
         taken: Vec::with_capacity(alloc, 64)?,
         room,
         flushes: 0,
         broken,
     };
+    let is_so = ends_over(alloc, &mut output, expected);
+    drop(output);
+    is_so
+}
+
+/// The same over this writer.
+fn ends_over(alloc: Global, output: &mut Slow, expected: Ended) -> Result<bool, AllocError> {
+    let mut input = b"add 1 1\nreset 1\n".as_slice();
     let mut errors = Vec::with_capacity(alloc, 64)?;
-    let status = coord_commands::drill(alloc, &mut input, &mut output, &mut errors);
-    if status == 4 || tells_want(output.taken.as_slice()) || has_failed(errors.as_slice()) {
+    let status = coord_commands::drill(alloc, &mut input, output, &mut errors);
+    let (wanted, printed, flushes, told) = expected;
+    let is_told = errors.as_slice() == told.as_bytes();
+    let is_failing = has_failed(errors.as_slice());
+    drop(errors);
+    if status == 4 || is_failing || tells_want(output.taken.as_slice()) {
         return Err(AllocError);
     }
-    let (wanted, printed, flushes, told) = expected;
     Ok(
         status == wanted
             && output.taken.as_slice() == printed.as_bytes()
             && output.flushes == flushes
-            && errors.as_slice() == told.as_bytes(),
+            && is_told,
     )
 }
 
@@ -353,8 +376,13 @@ fn push_flights(script: &mut String, printed: &mut String) -> Result<(), AllocEr
 #[test]
 fn full_batches(rt: HostRuntime) -> Result<(), Fail> {
     let (mut script, mut printed) = (String::new(rt.alloc()), String::new(rt.alloc()));
-    push_flights(&mut script, &mut printed)?;
-    assert!(rt; prints(&rt, script.as_bytes(), &printed)?);
+    let is_printed = match push_flights(&mut script, &mut printed) {
+        Ok(()) => prints(&rt, script.as_bytes(), &printed),
+        Err(error) => Err(error),
+    };
+    drop(script);
+    drop(printed);
+    assert!(rt; is_printed?);
     Ok(())
 }
 
@@ -369,7 +397,12 @@ fn push_too_many(script: &mut String, printed: &mut String) -> Result<(), AllocE
 #[test]
 fn pending_full(rt: HostRuntime) -> Result<(), Fail> {
     let (mut script, mut printed) = (String::new(rt.alloc()), String::new(rt.alloc()));
-    push_too_many(&mut script, &mut printed)?;
-    assert!(rt; prints(&rt, script.as_bytes(), &printed)?);
+    let is_printed = match push_too_many(&mut script, &mut printed) {
+        Ok(()) => prints(&rt, script.as_bytes(), &printed),
+        Err(error) => Err(error),
+    };
+    drop(script);
+    drop(printed);
+    assert!(rt; is_printed?);
     Ok(())
 }

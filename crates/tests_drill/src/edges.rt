@@ -10,6 +10,7 @@ use coord_disk::{DiskFault, FileDisk, FuseDisk};
 use coord_store::Store;
 use coord_types::{Client, Command, NodeId, Step};
 use std::alloc::AllocError;
+use std::env::Env;
 use std::fs::File;
 use std::io::Write;
 use std::net::{Net, SocketAddr, TcpListener, TcpStream};
@@ -79,10 +80,20 @@ impl<R: Net<Stream = TcpStream, Listener = TcpListener>> Write for Watcher<'_, R
 fn make_pair<S: Files<File = File> + Net + Threads + Wait + Clock + Sync + AllocGlobal>(
     rt: &S,
     folder: &str,
-) -> Result<bool, Fail> {
+) -> io::Result<bool> {
     fs::write(rt, format!(in rt.alloc(); "{folder}/pair")?, PAIR)?;
     let made = (0, "created 3\n", "");
     Ok(ends_in(rt, folder, "resetd init @/store @/pair", made)?)
+}
+
+/// A folder of this name with the file of that store.
+fn folder_with_pair<
+    S: Files<File = File> + Net + Threads + Wait + Clock + Sync + AllocGlobal + Env + Abort,
+>(rt: &S, name: &str) -> String {
+    let folder = make_folder(rt, name).expect(rt, "no folder");
+    let is_made = make_pair(rt, &folder).expect(rt, "no store");
+    assert!(rt; is_made);
+    folder
 }
 
 /// The files of the system, of which the disks fail after so many calls.
@@ -168,9 +179,8 @@ fn free_address<S: Net<Stream = TcpStream, Listener = TcpListener>>(
 }
 
 #[test]
-fn a_given_address(rt: HostRuntime) -> Result<(), Fail> {
-    let folder = make_folder(&rt, "address")?;
-    assert!(rt; make_pair(&rt, &folder)?);
+fn a_given_address(rt: HostRuntime) {
+    let folder = folder_with_pair(&rt, "address");
     let serving = Serving {
         lines: CLOSE,
         passes: u64::MAX,
@@ -178,15 +188,14 @@ fn a_given_address(rt: HostRuntime) -> Result<(), Fail> {
         ending: (0, ""),
     };
     assert!(rt; is_served(&rt, &folder, &serving));
-    Ok(())
+    drop(folder);
 }
 
 /// The device fails in the commit of the order: three of its calls open the store, and one more
 /// passes.
 #[test]
-fn a_failing_device(rt: HostRuntime) -> Result<(), Fail> {
-    let folder = make_folder(&rt, "device")?;
-    assert!(rt; make_pair(&rt, &folder)?);
+fn a_failing_device(rt: HostRuntime) {
+    let folder = folder_with_pair(&rt, "device");
     let serving = Serving {
         lines: ORDER,
         passes: 4,
@@ -194,7 +203,7 @@ fn a_failing_device(rt: HostRuntime) -> Result<(), Fail> {
         ending: (3, "resetd: Device\n"),
     };
     assert!(rt; is_served(&rt, &folder, &serving));
-    Ok(())
+    drop(folder);
 }
 
 /// The disk of the store in a folder, which is locked then.
@@ -223,9 +232,9 @@ fn start_reset<S: Files<File = File> + AllocGlobal + Abort>(rt: &S, folder: &str
 
 /// A reset has begun in the store, and its first packet has not come: the wave goes on.
 #[test]
-fn a_store_inside_a_wave(rt: HostRuntime) -> Result<(), Fail> {
-    let folder = make_folder(&rt, "wave")?;
-    assert!(rt; make_pair(&rt, &folder)? && start_reset(&rt, &folder));
+fn a_store_inside_a_wave(rt: HostRuntime) {
+    let folder = folder_with_pair(&rt, "wave");
+    assert!(rt; start_reset(&rt, &folder));
     let serving = Serving {
         lines: b"",
         passes: u64::MAX,
@@ -233,7 +242,7 @@ fn a_store_inside_a_wave(rt: HostRuntime) -> Result<(), Fail> {
         ending: (0, ""),
     };
     assert!(rt; is_served(&rt, &folder, &serving));
-    Ok(())
+    drop(folder);
 }
 
 /// Whether a server of a file at this address ends so.
@@ -273,7 +282,7 @@ fn are_refused_where_taken<
         + Clock
         + Sync
         + AllocGlobal,
->(rt: &S, folder: &str) -> Result<bool, Fail> {
+>(rt: &S, folder: &str) -> io::Result<bool> {
     let listener = TcpListener::bind(rt, "127.0.0.1:0")?;
     let are_refused = match listener.local_addr() {
         Ok(address) => are_refused(rt, folder, address).ok(),
@@ -284,40 +293,86 @@ fn are_refused_where_taken<
 }
 
 /// A bad word is told before all, and no file is made then.
-const BAD_ADDRESS: Run = ("resetd serve @/new localhost:1", (2, "", "resetd: Usage\n"));
+const BAD_ADDRESS: [Run; 1] = [("resetd serve @/new localhost:1", 2, "", "resetd: Usage\n")];
+
+/// The runs.
+fn bad_address() -> &'static [Run] {
+    &BAD_ADDRESS
+}
 
 /// What is told of an address that is taken: a bad word before all, then the file, then the socket.
 #[test]
 fn order_of_address_file_and_socket(rt: HostRuntime) -> Result<(), Fail> {
     let folder = make_folder(&rt, "order")?;
-    assert!(rt; make_pair(&rt, &folder)? && are_refused_where_taken(&rt, &folder)?);
-    assert_none(&rt, first_wrong_in(&rt, &folder, &[BAD_ADDRESS])?);
-    let made = format!(in rt.alloc(); "{folder}/new")?;
-    assert!(rt; File::open(&rt, &made).is_err());
-    fs::remove_dir_all(&rt, &folder)?;
+    let is_so = are_told_in_order(&rt, &folder);
+    drop(folder);
+    assert!(rt; is_so?);
     Ok(())
+}
+
+/// Whether it is so. Then the folder is removed.
+fn are_told_in_order<
+    S: Files<File = File>
+        + Net<Stream = TcpStream, Listener = TcpListener>
+        + Threads
+        + Wait
+        + Clock
+        + Sync
+        + AllocGlobal,
+>(rt: &S, folder: &str) -> Result<bool, Fail> {
+    let are_refused = make_pair(rt, folder)? && are_refused_where_taken(rt, folder)?;
+    let wrong = first_wrong_in(rt, folder, bad_address())?;
+    let is_made = is_file(rt, folder)?;
+    fs::remove_dir_all(rt, folder)?;
+    Ok(are_refused && wrong == None && !is_made)
+}
+
+/// Whether the file `new` can be opened in a folder.
+fn is_file<S: Files<File = File> + AllocGlobal>(rt: &S, folder: &str) -> Result<bool, AllocError> {
+    let file = format!(in rt.alloc(); "{folder}/new")?;
+    let is_there = File::open(rt, &file).is_ok();
+    drop(file);
+    Ok(is_there)
 }
 
 /// While a file is locked it may be looked at, but not made, raised or served.
 const LOCKED_RUNS: [Run; 5] = [
-    ("resetd check @/store", (0, "legal 3\n", "")),
-    ("resetd show @/store", (0, SHOWN_PAIR, "")),
-    ("resetd init @/store @/pair", (3, "", "resetd: Device\n")),
-    ("resetd migrate @/store", (3, "", "resetd: Device\n")),
+    ("resetd check @/store", 0, "legal 3\n", ""),
+    ("resetd show @/store", 0, SHOWN_PAIR, ""),
+    ("resetd init @/store @/pair", 3, "", "resetd: Device\n"),
+    ("resetd migrate @/store", 3, "", "resetd: Device\n"),
     (
         "resetd serve @/store 127.0.0.1:0",
-        (3, "", "resetd: Device\n"),
+        3,
+        "",
+        "resetd: Device\n",
     ),
 ];
+
+/// The runs.
+fn locked_runs() -> &'static [Run] {
+    &LOCKED_RUNS
+}
 
 #[test]
 fn a_locked_file(rt: HostRuntime) -> Result<(), Fail> {
     let folder = make_folder(&rt, "locked")?;
-    assert!(rt; make_pair(&rt, &folder)?);
-    let lock = locked(&rt, &folder)?;
-    let wrong = first_wrong_in(&rt, &folder, &LOCKED_RUNS);
-    drop(lock);
-    fs::remove_dir_all(&rt, &folder)?;
+    let wrong = first_wrong_where_locked(&rt, &folder);
+    drop(folder);
     assert_none(&rt, wrong?);
     Ok(())
+}
+
+/// The first of those runs that ends otherwise, where the store in a folder is locked. Then the
+/// folder is removed.
+fn first_wrong_where_locked<
+    S: Files<File = File> + Net + Threads + Wait + Clock + Sync + AllocGlobal + Abort,
+>(rt: &S, folder: &str) -> Result<Option<&'static str>, Fail> {
+    let is_made = make_pair(rt, folder)?;
+    assert!(rt; is_made);
+    let lock = locked(rt, folder)?;
+    let wrong = first_wrong_in(rt, folder, locked_runs());
+    drop(lock);
+    fs::remove_dir_all(rt, folder)?;
+    Ok(wrong?)
 }

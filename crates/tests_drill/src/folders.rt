@@ -1,14 +1,14 @@
 //! Runs of the commands on disks in memory.
 
 use crate::commands::{PAIR, SHOWN_PAIR, assert_none};
-use crate::program::{Ending, is_ending, streams, words_of};
+use crate::program::{Ended, Ending, is_ending, streams, words_of};
 use coord_commands::{MemFolder, Named, run_in};
 use coord_disk::MemDisk;
 use std::alloc::{AllocError, Global};
 use std::test::Fail;
 
-/// Words, and what a run with them ends with.
-pub(crate) type Run = (&'static str, Ending<'static>);
+/// Words, and what a run with them ends with: its exit status, what it prints, and its fault line.
+pub(crate) type Run = (&'static str, u8, &'static str, &'static str);
 
 /// A text, and its name.
 fn named(alloc: Global, name: &str, bytes: &[u8]) -> Result<Named, AllocError> {
@@ -20,15 +20,28 @@ fn named(alloc: Global, name: &str, bytes: &[u8]) -> Result<Named, AllocError> {
 
 /// A folder with a disk that is named `store`, and the topologies `pair` and `nothing`.
 pub(crate) fn folder_of(alloc: Global, disk: MemDisk) -> Result<MemFolder, AllocError> {
-    let mut texts = Vec::new(alloc);
-    texts.push(named(alloc, "pair", PAIR)?)?;
-    texts.push(named(alloc, "nothing", b"")?)?;
-    Ok(MemFolder {
+    let mut folder = MemFolder {
         alloc,
-        name: String::from_str(alloc, "store")?,
+        name: String::new(alloc),
         disk: Some(disk),
-        texts,
-    })
+        texts: Vec::new(alloc),
+    };
+    match fill(&mut folder) {
+        Ok(()) => Ok(folder),
+        Err(error) => {
+            drop(folder);
+            Err(error)
+        }
+    }
+}
+
+/// Names the disk, and adds the topologies.
+fn fill(folder: &mut MemFolder) -> Result<(), AllocError> {
+    let alloc = folder.alloc;
+    folder.name.push_str("store")?;
+    folder.texts.push(named(alloc, "pair", PAIR)?)?;
+    folder.texts.push(named(alloc, "nothing", b"")?)?;
+    Ok(())
 }
 
 /// Whether this is told of a disk that failed. A disk in memory fails for want of memory alone, so
@@ -46,11 +59,30 @@ fn ends(
     ending: Ending<'_>,
 ) -> Result<bool, AllocError> {
     let given = words_of(alloc, words)?;
+    let run = ended(alloc, folder, words, given.as_slice());
+    drop(given);
+    let run = run?;
+    let is_failing = has_failed(run.2.as_slice());
+    let is_so = is_ending(&run, ending);
+    drop(run);
+    match is_so {
+        Ok(false) if is_failing => Err(AllocError),
+        is_so => is_so,
+    }
+}
+
+/// What a run in a folder in memory ended with.
+fn ended(
+    alloc: Global,
+    folder: &mut MemFolder,
+    words: &str,
+    given: &[String],
+) -> Result<Ended, AllocError> {
     let (mut output, mut errors) = streams(alloc)?;
     let status = run_in(
         alloc,
         folder,
-        given.as_slice(),
+        given,
         &mut b"".as_slice(),
         &mut output,
         &mut errors,
@@ -59,15 +91,7 @@ fn ends(
         Ok(status) => status,
         Err(left) => is_left(words, left.file, left.address),
     };
-    drop(given);
-    let is_failing = has_failed(errors.as_slice());
-    let run = (status, output, errors);
-    let is_so = is_ending(&run, ending);
-    drop(run);
-    match is_so {
-        Ok(false) if is_failing => Err(AllocError),
-        is_so => is_so,
-    }
+    Ok((status, output, errors))
 }
 
 /// 0 where these words leave this file to be served at this address, and else no status.
@@ -87,8 +111,8 @@ pub(crate) fn first_wrong(
     folder: &mut MemFolder,
     runs: &[Run],
 ) -> Result<Option<&'static str>, AllocError> {
-    for (words, ending) in runs {
-        if !ends(alloc, folder, words, *ending)? {
+    for (words, status, printed, told) in runs {
+        if !ends(alloc, folder, words, (*status, *printed, *told))? {
             return Ok(Some(*words));
         }
     }
@@ -97,34 +121,46 @@ pub(crate) fn first_wrong(
 
 /// A store that is refused by `init` stays, and `serve` is left to the caller.
 const RUNS: [Run; 10] = [
-    ("resetd check store", (1, "", "resetd: NoMagic\n")),
-    ("resetd init store nothing", (0, "created 0\n", "")),
-    ("resetd init store nothing", (1, "", "resetd: NotEmpty\n")),
-    ("resetd init store pair", (1, "", "resetd: NotEmpty\n")),
-    ("resetd check store", (0, "legal 0\n", "")),
-    ("resetd show store", (0, "view 0 0\n", "")),
-    ("resetd show absent", (3, "", "resetd: Device\n")),
-    ("resetd init store absent", (3, "", "resetd: Read\n")),
-    ("resetd init absent pair", (3, "", "resetd: Device\n")),
-    ("resetd serve store 127.0.0.1:0", (0, "", "")),
+    ("resetd check store", 1, "", "resetd: NoMagic\n"),
+    ("resetd init store nothing", 0, "created 0\n", ""),
+    ("resetd init store nothing", 1, "", "resetd: NotEmpty\n"),
+    ("resetd init store pair", 1, "", "resetd: NotEmpty\n"),
+    ("resetd check store", 0, "legal 0\n", ""),
+    ("resetd show store", 0, "view 0 0\n", ""),
+    ("resetd show absent", 3, "", "resetd: Device\n"),
+    ("resetd init store absent", 3, "", "resetd: Read\n"),
+    ("resetd init absent pair", 3, "", "resetd: Device\n"),
+    ("resetd serve store 127.0.0.1:0", 0, "", ""),
 ];
+
+/// The runs.
+fn runs() -> &'static [Run] {
+    &RUNS
+}
 
 #[test]
 fn commands_on_disks_in_memory(rt: HostRuntime) -> Result<(), Fail> {
     let mut folder = folder_of(rt.alloc(), MemDisk::new(rt.alloc()))?;
-    assert_none(&rt, first_wrong(rt.alloc(), &mut folder, &RUNS)?);
+    let wrong = first_wrong(rt.alloc(), &mut folder, runs());
+    drop(folder);
+    assert_none(&rt, wrong?);
     Ok(())
 }
 
 /// The store of a topology, and the same again.
 const PAIR_RUNS: [Run; 6] = [
-    ("resetd init store pair", (0, "created 3\n", "")),
-    ("resetd check store", (0, "legal 3\n", "")),
-    ("resetd init store pair", (1, "", "resetd: NotEmpty\n")),
-    ("resetd check store", (0, "legal 3\n", "")),
-    ("resetd show store", (0, SHOWN_PAIR, "")),
-    ("resetd migrate store", (0, "migrated 3\n", "")),
+    ("resetd init store pair", 0, "created 3\n", ""),
+    ("resetd check store", 0, "legal 3\n", ""),
+    ("resetd init store pair", 1, "", "resetd: NotEmpty\n"),
+    ("resetd check store", 0, "legal 3\n", ""),
+    ("resetd show store", 0, SHOWN_PAIR, ""),
+    ("resetd migrate store", 0, "migrated 3\n", ""),
 ];
+
+/// The runs.
+fn pair_runs() -> &'static [Run] {
+    &PAIR_RUNS
+}
 
 /// The bytes of the disk in a folder.
 pub(crate) fn bytes_in(folder: &MemFolder) -> &[u8] {
@@ -138,7 +174,10 @@ pub(crate) fn bytes_in(folder: &MemFolder) -> &[u8] {
 #[test]
 fn a_refused_store_stays(rt: HostRuntime) -> Result<(), Fail> {
     let mut folder = folder_of(rt.alloc(), MemDisk::new(rt.alloc()))?;
-    assert_none(&rt, first_wrong(rt.alloc(), &mut folder, &PAIR_RUNS)?);
-    assert!(rt; bytes_in(&folder).get(17) == Some(&2));
+    let wrong = first_wrong(rt.alloc(), &mut folder, pair_runs());
+    let version = bytes_in(&folder).get(17).copied();
+    drop(folder);
+    assert_none(&rt, wrong?);
+    assert!(rt; version == Some(2));
     Ok(())
 }

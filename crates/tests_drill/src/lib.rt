@@ -17,3 +17,5 @@ mod program;
 mod scripts;
 #[cfg(test)]
 mod serving;
+#[cfg(test)]
+mod topology;

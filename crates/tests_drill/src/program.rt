@@ -31,9 +31,18 @@ pub(crate) fn ended<
     R: Read,
 >(rt: &S, words: &str, input: &mut R) -> Result<Ended, AllocError> {
     let given = words_of(rt.alloc(), words)?;
-    let (mut output, mut errors) = streams(rt.alloc())?;
-    let status = run(rt, given.as_slice(), input, &mut output, &mut errors);
+    let ended = ended_of(rt, given.as_slice(), input);
     drop(given);
+    ended
+}
+
+fn ended_of<S: Files<File = File> + Net + Threads + Wait + Clock + Sync + AllocGlobal, R: Read>(
+    rt: &S,
+    words: &[String],
+    input: &mut R,
+) -> Result<Ended, AllocError> {
+    let (mut output, mut errors) = streams(rt.alloc())?;
+    let status = run(rt, words, input, &mut output, &mut errors);
     Ok((status, output, errors))
 }
 
