@@ -1,10 +1,12 @@
 #!/usr/bin/env bash
 # How long the store takes to commit 256 steps, as a multiple of judging and applying them, and to open
 # a device of which a half of 4, 8 or 16 MiB is full, as bytes per second and as a multiple of a plain
-# read of as many bytes, and to migrate a full store: all over a disk in memory, in one run. The program of bench/store is proved and
-# built in a scratch repository over copies of the crates with what rt keeps in their out/, and runs
-# ROUNDS times; the least time of each part counts. Its files end in .txt, since the gate refuses a
-# source file that belongs to no crate.
+# read of as many bytes, and to migrate a full store: all over a disk in memory, in one run. The program
+# of bench/store is proved and built in a scratch repository over copies of the crates with what rt keeps
+# in their out/, and runs ROUNDS times; the least time of each part counts. Once more it runs with a
+# counter of the heap that is loaded ahead of the C library (heap.c.txt, which needs a C compiler, $CC or
+# cc): how much memory a migration over a file takes at once. Its files end in .txt, since the gate
+# refuses a source file that belongs to no crate.
 set -euo pipefail
 rounds=${1:-5}
 here=$(cd "$(dirname "$0")/.." && pwd)
@@ -18,17 +20,16 @@ for name in coord_disk coord_journal coord_types coord_link coord_node coord_tab
   grep "^$name:" "$here/crates.txt" >> "$scratch/crates.txt"
 done
 echo 'store_bench: coord_disk coord_types coord_world coord_batch coord_codec coord_store' >> "$scratch/crates.txt"
-for name in main fault steps full; do
+for name in main fault steps full migration held; do
   cp "$here/bench/store/$name.rt.txt" "$crate/src/$name.rt"
 done
-cp "$here/bench/store/migration.rt.txt" "$crate/src/migration.rt"
 cp "$here/bench/measures/wave.rt.txt" "$crate/src/wave.rt"
 cp "$here/bench/store/Invariants.antt.txt" "$crate/proofs/steps/are_numbered/Invariants.antt"
 cp "$here/bench/store/Writable.antt.txt" "$crate/proofs/full/are_writable/Invariants.antt"
 
 (cd "$crate" && "${RT:-rt}" run > "$scratch/build.txt" 2>&1) || { tail -n 40 "$scratch/build.txt"; exit 1; }
 for ((round = 0; round < rounds; round++)); do
-  "$crate/out/store_bench"
+  (cd "$scratch" && "$crate/out/store_bench")
 done | awk '
   { part = $1 " " $2; steps[part] = $3; if (!(part in least) || $4 < least[part]) least[part] = $4 }
   END {
@@ -43,4 +44,15 @@ done | awk '
       split(part, words); bytes = words[2]; read = least["read " bytes]
       printf "opened %9d bytes, %7d steps %9.0f ms, %6.2f MB/s, %7.0f steps/s, %6.0f reads\n", bytes, steps[part], least[part] / 1e6, 1e3 * bytes / least[part], 1e9 * steps[part] / least[part], least[part] / read | "sort -k2n"
     }
+  }'
+
+"${CC:-cc}" -O2 -shared -fPIC -x c -o "$scratch/heap.so" "$here/bench/store/heap.c.txt"
+(cd "$scratch" && LD_PRELOAD=$scratch/heap.so "$crate/out/store_bench") | awk '
+  $1 == "heap" { used[part] = $2; most[part] = $3; next }
+  { part = $1; bytes[part] = $2 }
+  END {
+    world = used["held_with_a_world"] - used["held_before"]; rows = used["held_with_rows"] - used["held_before"]
+    snapshot = bytes["held_with_a_snapshot"]; more = most["held_migrated"] - used["held_again"]
+    bound = world + rows + 2 * snapshot
+    printf "migrated with %d bytes of memory more: %.2f times the %d of a world (%d), its rows (%d) and twice the snapshot (%d)\n", more, more / bound, bound, world, rows, snapshot
   }'
