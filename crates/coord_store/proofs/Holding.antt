@@ -66,10 +66,6 @@ pub appending_gives : (content : Content) (w : World) (body : List ℕ) (steps :
 appending_gives content w body steps gives takes bytes either =
     ⊎_elim (λ t. inl (text_gives content w bytes gives t)) (λ t. inr (text_gives (with_batch content body) (fold w steps) bytes (gives-push content w body steps gives takes) t)) either
 
--- during a checkpoint
-pub replacing_gives : (content other : Content) (w : World) → Gives content w → Gives other w → (bytes : List ℕ) → IsEitherText content other bytes → IsOnlyWorld w bytes
-replacing_gives content other w gives too bytes either = ⊎_elim (λ t. text_gives content w bytes gives t) (λ t. text_gives other w bytes too t) either
-
 -- while another world is put in place of one
 pub replacing_either : (content other : Content) (v w : World) → Gives content v → Gives other w → (bytes : List ℕ) → IsEitherText content other bytes → GivesEither v w bytes
 replacing_either content other v w gives too bytes either = ⊎_elim (λ t. inl (text_gives content v bytes gives t)) (λ t. inr (text_gives other w bytes too t)) either
