@@ -177,6 +177,8 @@ pub fn write<D: Disk>(
     if journal.fits(body.len()) {
         return append(journal, body);
     }
-    checkpoint(alloc, journal, world)?;
-    append(journal, body)
+    match checkpoint(alloc, journal, world) {
+        Ok(()) => append(journal, body),
+        Err(fault) => Err(fault),
+    }
 }
