@@ -1,11 +1,11 @@
 -- What the images of a journal's disk give.
-use Rattle.std.proofs.Common.{◌≡◌, ℕ, ◌+◌, Bool, true, false, List, length, None, Some, Option, is_some, Result, Ok, Err, IfErr, inl, inr, ⊎_elim, refl, sym, ap, ◌∙◌, subst, arith}
+use Rattle.std.proofs.Common.{◌≡◌, ◌≢◌, ℕ, ◌+◌, Bool, true, false, List, length, None, Some, Option, is_some, Result, Ok, Err, IfErr, inl, inr, ⊎_elim, refl, sym, ap, ◌∙◌, subst, arith}
 use Rattle.coord_batch.specs.Batches.{IsBatch, pair}
 use Rattle.coord_batch.specs.Steps.{batch}
 use Rattle.coord_codec.specs.Worlds.{world}
 use Rattle.coord_disk.specs.Model.Moments.{LeavesOnly}
 use Rattle.coord_disk.specs.Model.Present.{Present, IsImage}
-use Rattle.coord_disk.proofs.MomentLemmas.{started}
+use Rattle.coord_disk.proofs.MomentLemmas.{and_then, started, weaker}
 use Rattle.coord_disk.proofs.TornWrites.{whole_image}
 use Rattle.coord_journal.specs.Journal.{HasRoomFor, disk_of, half_of, half_size_of, has_stopped, used_of}
 use Rattle.coord_journal.specs.Text.{Content, HasPlaceIn, IsEitherText, IsText, IsTextAt, IsTextIn, with_batch, without_batch}
@@ -19,6 +19,8 @@ use Rattle.coord_world.specs.protocol.Rows.{rows_of}
 use Rattle.coord_world.specs.protocol.Ranges.{InRange}
 use Rattle.coord_store.specs.Kept.{GivesEither, Holds, ImagesGive, IsKept, IsOnlyWorld, Kept}
 use Rattle.coord_store.specs.Recovered.{AllFresh, Gives, IsBody, Recovered, Takes}
+use Rattle.coord_store.specs.declared.faults.CommitFault.{CommitFault}
+use Rattle.coord_store.specs.declared.faults.CommitFault.TheVariants.{Device}
 use Rattle.coord_store.proofs.Replaying.{replays-push}
 
 pub text_gives : (content : Content) (w : World) (bytes : List ℕ) → Gives content w → IsText content bytes → Recovered bytes w
@@ -48,9 +50,8 @@ taken w version n body items steps one counts is spelled fits fresh = record {
 }
 
 -- all bodies of these steps are as long
-pub body_length : (w : World) (version n : ℕ) (written items body : List ℕ) (steps : List Step) → version ≡ w.version → n ≡ w.count → written ≡ items → items ≡ (batch version).text (pair (n + 1) steps) → IsBody w body steps → length body ≡ length written
-body_length w version n written items body steps one counts is spelled spells =
-    ap length (spells.spelled ∙ sym (is ∙ spelled ∙ (λ i. (batch (one i)).text (pair (counts i + 1) steps))))
+pub as_long : (w : World) (one other : List ℕ) (steps : List Step) → IsBody w one steps → IsBody w other steps → length one ≡ length other
+as_long w one other steps spells too = ap length (spells.spelled ∙ sym too.spelled)
 
 pub none_of : (o : Option World) (b : Bool) → b ≡ is_some o → b ≡ false → o ≡ None
 none_of None b is clear = refl
@@ -61,18 +62,28 @@ pub whenever : {T E : Type 0} (r : Result T E) (Q : E → Type 0) (P : Type 0) �
 whenever (Ok x) Q P holds = tt
 whenever (Err e) Q P holds = λ _. holds
 
+-- what follows where a call is refused for another reason than its device
+pub on_refusal : {T P Q : Type 0} (r : Result T CommitFault) → (P → Q) → IfErr r (λ fault. fault ≢ Device → P) → IfErr r (λ fault. fault ≢ Device → Q)
+on_refusal (Ok x) implies refused = tt
+on_refusal (Err fault) implies refused = λ other. implies (refused other)
+
 -- during an append
 pub appending_gives : (content : Content) (w : World) (body : List ℕ) (steps : List Step) → Gives content w → Takes w body steps → (bytes : List ℕ) → IsEitherText content (with_batch content body) bytes → GivesEither w (fold w steps) bytes
 appending_gives content w body steps gives takes bytes either =
     ⊎_elim (λ t. inl (text_gives content w bytes gives t)) (λ t. inr (text_gives (with_batch content body) (fold w steps) bytes (gives-push content w body steps gives takes) t)) either
 
--- during a checkpoint
-pub replacing_gives : (content other : Content) (w : World) → Gives content w → Gives other w → (bytes : List ℕ) → IsEitherText content other bytes → IsOnlyWorld w bytes
-replacing_gives content other w gives too bytes either = ⊎_elim (λ t. text_gives content w bytes gives t) (λ t. text_gives other w bytes too t) either
-
 -- while another world is put in place of one
 pub replacing_either : (content other : Content) (v w : World) → Gives content v → Gives other w → (bytes : List ℕ) → IsEitherText content other bytes → GivesEither v w bytes
 replacing_either content other v w gives too bytes either = ⊎_elim (λ t. inl (text_gives content v bytes gives t)) (λ t. inr (text_gives other w bytes too t)) either
+
+module _ {D : Type 0} (clock : D → ℕ) (left_since : D → ℕ → List ℕ → Type 0) where
+  -- a run that leaves one world, and then one that leaves it or another
+  pub only_then_either : (old mid new : D) (v w : World) → LeavesOnly clock left_since old mid (IsOnlyWorld v) → LeavesOnly clock left_since mid new (GivesEither v w) → LeavesOnly clock left_since old new (GivesEither v w)
+  only_then_either old mid new v w one other = weaker clock left_since old new _ _ (and_then clock left_since old mid new _ _ one other) (λ bytes either. ⊎_elim (λ first. inl first) (λ second. second) either)
+
+  -- and one that leaves it alone
+  pub only_twice : (old mid new : D) (w : World) → LeavesOnly clock left_since old mid (IsOnlyWorld w) → LeavesOnly clock left_since mid new (IsOnlyWorld w) → LeavesOnly clock left_since old new (IsOnlyWorld w)
+  only_twice old mid new w one other = weaker clock left_since old new _ _ (and_then clock left_since old mid new _ _ one other) (λ bytes either. ⊎_elim (λ first. first) (λ second. second) either)
 
 module _ {D : Type 0} (present : D → Present) (keeps_model : D → Bool) where
   -- each image of a journal that holds a world gives it

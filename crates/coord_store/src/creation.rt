@@ -1,11 +1,15 @@
 //! Makes a store.
 
 ghost use Rattle.std.specs.Prelude.{◌≡◌, ◌⊎◌, ◌+◌, ◌≤◌, true, None, length, MatchResult, IfOk, IfErr};
-ghost use Rattle.coord_journal.specs.Text.{IsHalfSize};
+ghost use Rattle.coord_codec.specs.Worlds.{world};
+ghost use Rattle.coord_journal.specs.Text.{IsHalfSize, without_batch};
+ghost use Rattle.coord_journal.specs.declared.layout.TheConstants.{MAX_SNAPSHOT};
 ghost use Rattle.coord_store.specs.Kept.{IsUntouched, made};
+ghost use Rattle.coord_store.specs.Recovered.{Gives};
 ghost use Rattle.coord_store.specs.Refused.{IsCreateFault, RefusesCreate, failed_in};
 ghost use Rattle.coord_store.specs.declared.faults.StoreFault.TheVariants.{HalfSize, NotEmpty, OutOfMemory};
 ghost use Rattle.coord_world.specs.protocol.NumberedWorld.{no_world};
+ghost use Rattle.coord_world.specs.protocol.Rows.{rows_of};
 
 use crate::opening::told;
 use crate::{Store, StoreFault};
@@ -14,7 +18,23 @@ use coord_disk::Disk;
 use coord_journal::format;
 use coord_types::Version;
 use coord_world::World;
-use std::alloc::Global;
+use std::alloc::{AllocError, Global};
+
+/// The snapshot of the world before any step.
+fn first_snapshot(alloc: Global, version: Version) -> Result<Vec<u8>, AllocError>
+    ensures spelled { IfOk result (λ snapshot. snapshot.items ≡
+        (world version).text (rows_of (no_world version))) }
+    ensures gives { IfOk result (λ snapshot.
+        Gives (without_batch version snapshot.items) (no_world version)) }
+    ensures short { IfOk result (λ snapshot. length snapshot.items ≤ MAX_SNAPSHOT) }
+{
+    let world = World::empty(alloc, version);
+    world.ranges();
+    match write_world(alloc, &world) {
+        Ok(snapshot) => Ok(snapshot),
+        Err(fault) => Err(fault),
+    }
+}
 
 impl<D: Disk> Store<D> {
     /// Makes a store of the world before any step, on an empty device.
@@ -60,9 +80,7 @@ impl<D: Disk> Store<D> {
         let Some(known) = Version::new(version) else {
             unreachable!()
         };
-        let world = World::empty(alloc, known);
-        world.ranges();
-        let snapshot = match write_world(alloc, &world) {
+        let snapshot = match first_snapshot(alloc, known) {
             Ok(snapshot) => snapshot,
             Err(_) => return Err((StoreFault::OutOfMemory, disk)),
         };
@@ -71,7 +89,7 @@ impl<D: Disk> Store<D> {
             Err(fault) => return Err((told(fault), disk)),
         }
         match coord_journal::open(alloc, disk) {
-            Ok((journal, _)) => Ok(Store::over(alloc, journal, world)),
+            Ok((journal, _)) => Ok(Store::over(alloc, journal, World::empty(alloc, known))),
             Err((fault, disk)) => Err((told(fault), disk)),
         }
     }

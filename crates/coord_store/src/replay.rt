@@ -63,13 +63,24 @@ pub fn replay(alloc: Global, start: World, batches: &[Vec<u8>]) -> Result<World,
     ensures refused { IfErr result (λ fault. (fault ≡ OutOfMemory) ⊎
         RefusesReplay start (bodies batches.now) fault) }
 {
-    let mut settled = start.copy()?;
+    let mut settled = match start.copy() {
+        Ok(settled) => settled,
+        Err(_) => {
+            drop(start);
+            return Err(StoreFault::OutOfMemory);
+        }
+    };
     let mut world = start;
     for (number, body) in batches.iter().enumerate() {
         match replay_batch(alloc, &mut world, &mut settled, number, body) {
             Ok(()) => {}
-            Err(fault) => return Err(fault),
+            Err(fault) => {
+                drop(world);
+                drop(settled);
+                return Err(fault);
+            }
         }
     }
+    drop(settled);
     Ok(world)
 }

@@ -35,7 +35,43 @@ fn told(fault: JournalFault) -> CommitFault
     }
 }
 
-/// Puts a world in place of all that a journal holds.
+/// Puts another world in place of all that a journal holds.
+pub fn put_in_place<D: Disk>(
+    alloc: Global,
+    journal: &mut Journal<D>,
+    other: &World,
+) -> Result<(), CommitFault>
+    requires legal { Legal other.now }
+    requires going { has_stopped journal.old ≡ false }
+    ensures any_moment { (w : Numbered) → D.keeps_model (disk_of journal.old) ≡ true →
+        Holds D.present journal.old w
+        → LeavesOnly D.clock D.left_since (disk_of journal.old) (disk_of journal.new)
+        (GivesEither w other.now) }
+    ensures done { (w : Numbered) → D.keeps_model (disk_of journal.old) ≡ true →
+        Holds D.present journal.old w → OnOk result (Holds D.present journal.new other.now) }
+    ensures fits { OnOk result (HasRoomFor journal.new MAX_BODY) }
+    ensures going { OnOk result (has_stopped journal.new ≡ false) }
+    ensures fault { IfErr result (λ fault. (fault ≡ OutOfMemory) ⊎ (fault ≡ Device)) }
+    ensures unchanged { IfErr result (λ fault. fault ≢ Device → journal.new ≡ journal.old) }
+    ensures device { IsErrOf result CommitFault.Device → has_stopped journal.new ≡ true }
+    ensures failures { D.failures (disk_of journal.new) ≡
+        D.failures (disk_of journal.old) + failures_in result }
+    ensures calls { D.keeps_model (disk_of journal.old) ≡ true →
+        D.clock (disk_of journal.new) ≤ D.clock (disk_of journal.old) + 4 }
+    ensures model { D.keeps_model (disk_of journal.new) ≡ D.keeps_model (disk_of journal.old) }
+{
+    other.ranges();
+    let snapshot = match write_world(alloc, other) {
+        Ok(snapshot) => snapshot,
+        Err(_) => return Err(CommitFault::OutOfMemory),
+    };
+    match journal.replace(other.version().number(), &snapshot) {
+        Ok(()) => Ok(()),
+        Err(fault) => Err(told(fault)),
+    }
+}
+
+/// Puts the world that a journal holds in place of all that it holds.
 fn checkpoint<D: Disk>(
     alloc: Global,
     journal: &mut Journal<D>,
@@ -61,50 +97,7 @@ fn checkpoint<D: Disk>(
         D.clock (disk_of journal.new) ≤ D.clock (disk_of journal.old) + 4 }
     ensures model { D.keeps_model (disk_of journal.new) ≡ D.keeps_model (disk_of journal.old) }
 {
-    world.ranges();
-    let snapshot = match write_world(alloc, world) {
-        Ok(snapshot) => snapshot,
-        Err(_) => return Err(CommitFault::OutOfMemory),
-    };
-    match journal.replace(world.version().number(), &snapshot) {
-        Ok(()) => Ok(()),
-        Err(fault) => Err(told(fault)),
-    }
-}
-
-/// Puts another world in place of all that a journal holds.
-pub fn put_in_place<D: Disk>(
-    alloc: Global,
-    journal: &mut Journal<D>,
-    other: &World,
-) -> Result<(), CommitFault>
-    requires legal { Legal other.now }
-    requires going { has_stopped journal.old ≡ false }
-    ensures any_moment { (w : Numbered) → D.keeps_model (disk_of journal.old) ≡ true →
-        Holds D.present journal.old w
-        → LeavesOnly D.clock D.left_since (disk_of journal.old) (disk_of journal.new)
-        (GivesEither w other.now) }
-    ensures done { (w : Numbered) → D.keeps_model (disk_of journal.old) ≡ true →
-        Holds D.present journal.old w → OnOk result (Holds D.present journal.new other.now) }
-    ensures going { OnOk result (has_stopped journal.new ≡ false) }
-    ensures fault { IfErr result (λ fault. (fault ≡ OutOfMemory) ⊎ (fault ≡ Device)) }
-    ensures unchanged { IfErr result (λ fault. fault ≢ Device → journal.new ≡ journal.old) }
-    ensures device { IsErrOf result CommitFault.Device → has_stopped journal.new ≡ true }
-    ensures failures { D.failures (disk_of journal.new) ≡
-        D.failures (disk_of journal.old) + failures_in result }
-    ensures calls { D.keeps_model (disk_of journal.old) ≡ true →
-        D.clock (disk_of journal.new) ≤ D.clock (disk_of journal.old) + 4 }
-    ensures model { D.keeps_model (disk_of journal.new) ≡ D.keeps_model (disk_of journal.old) }
-{
-    other.ranges();
-    let snapshot = match write_world(alloc, other) {
-        Ok(snapshot) => snapshot,
-        Err(_) => return Err(CommitFault::OutOfMemory),
-    };
-    match journal.replace(other.version().number(), &snapshot) {
-        Ok(()) => Ok(()),
-        Err(fault) => Err(told(fault)),
-    }
+    put_in_place(alloc, journal, world)
 }
 
 /// Appends a batch of which the body fits.
@@ -184,6 +177,8 @@ pub fn write<D: Disk>(
     if journal.fits(body.len()) {
         return append(journal, body);
     }
-    checkpoint(alloc, journal, world)?;
-    append(journal, body)
+    match checkpoint(alloc, journal, world) {
+        Ok(()) => append(journal, body),
+        Err(fault) => Err(fault),
+    }
 }

@@ -6,10 +6,12 @@ ghost use Rattle.coord_batch.specs.Batches.{IsNumbered};
 ghost use Rattle.coord_types.specs.declared.limits.TheConstants.{MAX_BATCH_STEPS};
 ghost use Rattle.coord_disk.specs.Model.Moments.{LeavesOnly};
 ghost use Rattle.coord_journal.specs.Text.{HasPlaceIn, IsTextIn};
+ghost use Rattle.coord_journal.specs.declared.layout.TheConstants.{MAX_BODY};
 ghost use Rattle.coord_store.specs.Faults.{failures_in};
 ghost use Rattle.coord_store.specs.Kept.{GivesEither, IsOnlyWorld, has_stopped};
-ghost use Rattle.coord_store.specs.Recovered.{AllFresh, IsBody};
+ghost use Rattle.coord_store.specs.Recovered.{AllFresh, IsBody, Takes};
 ghost use Rattle.coord_store.specs.declared.faults.CommitFault.TheVariants.{OutOfMemory, Device, Stopped};
+ghost use Rattle.coord_world.specs.protocol.Legal.{Legal};
 ghost use Rattle.coord_world.specs.protocol.Next.{fold};
 
 use super::Store;
@@ -20,8 +22,36 @@ use coord_batch::write_batch;
 use coord_disk::Disk;
 use coord_types::Step;
 use coord_world::World;
-use std::alloc::AllocError;
+use std::alloc::{AllocError, Global};
 use std::mem::replace;
+
+/// The world after steps, each of them fresh, and the body of their batch.
+fn next_batch(
+    alloc: Global,
+    world: &World,
+    steps: &[Step],
+    made: Option<World>,
+) -> Result<(World, Vec<u8>), AllocError>
+    requires some { (1 ≤ length steps.now) × (length steps.now ≤ MAX_BATCH_STEPS) }
+    requires numbered { AllByRecursion IsNumbered steps.now }
+    requires fresh { AllFresh world.now world.now steps.now }
+    requires legal { Legal world.now }
+    requires made { IfSome made (λ next. next ≡ fold world.now steps.now) }
+    ensures world { IfOk result (λ next. next.0 ≡ fold world.now steps.now) }
+    ensures legal { IfOk result (λ next. Legal next.0) }
+    ensures taken { IfOk result (λ next. Takes world.now next.1.items steps.now) }
+    ensures short { IfOk result (λ next. length next.1.items ≤ MAX_BODY) }
+{
+    world.ranges();
+    let next = led_to(world, steps, made)?;
+    match write_batch(alloc, world.version(), world.count() + 1, steps) {
+        Ok(body) => Ok((next, body)),
+        Err(fault) => {
+            drop(next);
+            Err(fault)
+        }
+    }
+}
 
 impl<D: Disk> Store<D> {
     /// Whether these steps are fresh, each after those before it, with the world from before them
@@ -150,22 +180,21 @@ impl<D: Disk> Store<D> {
         ensures model { D.keeps_model self.new.disk ≡ D.keeps_model self.old.disk }
     {
         if self.torn.is_some() {
+            drop(made);
             return Err(CommitFault::Stopped);
         }
-        self.world.ranges();
-        let next = led_to(&self.world, steps, made)?;
-        let body = write_batch(
-            self.alloc,
-            self.world.version(),
-            self.world.count() + 1,
-            steps,
-        )?;
+        let (next, body) = match next_batch(self.alloc, &self.world, steps, made) {
+            Ok(batch) => batch,
+            Err(_) => return Err(CommitFault::OutOfMemory),
+        };
         match write(self.alloc, &mut self.journal, &self.world, &body) {
             Ok(()) => Ok(replace(&mut self.world, next)),
             Err(fault) => {
                 if fault == CommitFault::Device {
-                    self.torn = Some(next);
+                    drop(self.torn.replace(next));
+                    return Err(CommitFault::Device);
                 }
+                drop(next);
                 Err(fault)
             }
         }

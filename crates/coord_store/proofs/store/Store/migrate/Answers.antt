@@ -1,8 +1,8 @@
-use Rattle.std.proofs.Common.{◌≡◌, ◌≢◌, ℕ, true, None, eqb, cond, inl, sym, ap, ◌∙◌, subst, arith}
+use Rattle.std.proofs.Common.{◌≡◌, ◌≢◌, eqb, cond, inl, sym, ap, ◌∙◌, subst, arith}
 use Rattle.std.proofs.lemmas.Bool.Decides.{nat_tests}
 use Rattle.coord_disk.specs.Model.Moments.{LeavesOnly}
 use Rattle.coord_disk.proofs.MomentLemmas.{weaker}
-use Rattle.coord_store.specs.Kept.{GivesEither, Kept}
+use Rattle.coord_store.specs.Kept.{GivesEither}
 use Rattle.coord_store.specs.Migrating.{risen}
 use Rattle.coord_store.specs.declared.faults.StoreFault.TheVariants as fault
 use Rattle.coord_world.specs.laws.Raised.{raised}

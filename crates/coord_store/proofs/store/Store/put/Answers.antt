@@ -1,4 +1,4 @@
-use Rattle.std.proofs.Common.{◌≡◌, ◌≢◌, ◌≤◌, ◌+◌, ℕ, true, is_some, inl, inr, rules, refl, sym, ap, ◌∙◌, subst}
+use Rattle.std.proofs.Common.{◌≡◌, ◌≢◌, ◌≤◌, ◌+◌, true, is_some, inl, inr, rules, refl, sym, ap, ◌∙◌, subst}
 use Rattle.coord_disk.specs.Model.Moments.{LeavesOnly}
 use Rattle.coord_store.specs.Faults.{failed_in}
 use Rattle.coord_store.specs.Kept.{GivesEither, IsKept, IsOnlyWorld, Kept}
