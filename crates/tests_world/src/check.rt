@@ -11,7 +11,7 @@ use coord_world::{Verdict, World};
 use std::alloc::{AllocError, Global};
 use std::test::Fail;
 
-fn id(number: u8) -> NodeId
+pub(crate) fn id(number: u8) -> NodeId
     requires least { 1 ≤ number }
     requires greatest { number ≤ 64 }
 {
@@ -117,11 +117,17 @@ fn fault_of(alloc: Global, version: u8, world: &str) -> Result<Option<Violation>
     Ok(fault?)
 }
 
+pub(crate) fn is_text(text: String, wanted: &str) -> bool {
+    let is_wanted = text.as_str() == wanted;
+    drop(text);
+    is_wanted
+}
+
 /// Whether it is this line.
 fn is_told(alloc: Global, version: u8, world: &str, line: &str) -> Result<bool, Fail> {
     match fault_of(alloc, version, world)? {
         None => Ok(line == "legal"),
-        Some(fault) => Ok(format!(in alloc; "{fault}")?.as_str() == line),
+        Some(fault) => Ok(is_text(format!(in alloc; "{fault}")?, line)),
     }
 }
 
@@ -130,12 +136,22 @@ fn is_told(alloc: Global, version: u8, world: &str, line: &str) -> Result<bool, 
 // lanes, each with what is receipted, what was taken, and its queue.
 
 // What is told of each in version 1.
-const TOLD: [(&str, &str); 10] = [
+const TOLD: [(&str, &str); 12] = [
     // an unsound node: node 2 is Abort and awaits nobody
     (
         "2 2 N",
         "0000000000000003 02
         01 01 00 00 0000000000000000 0000000000000000 0000000000000000
+        02 01 01 00 0000000000000000 0000000000000000 0000000000000000
+        01 01 02 0000000000000003
+        0000000000000000 0000000000000000 00
+        0000000000000000 0000000000000000 00 00",
+    ),
+    // of two unsound nodes the one with the lesser number
+    (
+        "1 1 N",
+        "0000000000000003 02
+        01 01 01 00 0000000000000000 0000000000000000 0000000000000000
         02 01 01 00 0000000000000000 0000000000000000 0000000000000000
         01 01 02 0000000000000003
         0000000000000000 0000000000000000 00
@@ -168,6 +184,21 @@ const TOLD: [(&str, &str); 10] = [
         01 01 00 00 0000000000000000 0000000000000000 0000000000000000
         02 01 00 00 0000000000000000 0000000000000000 0000000000000000
         01 01 02 0000000000000003
+        0000000000000000 0000000000000000 02 02 02
+        0000000000000000 0000000000000000 00 00",
+    ),
+    // of two links with two Readies each the one with the lesser ends
+    (
+        "1 2 C",
+        "0000000000000005 03
+        01 01 00 00 0000000000000000 0000000000000000 0000000000000000
+        02 01 00 00 0000000000000000 0000000000000000 0000000000000000
+        03 01 00 00 0000000000000000 0000000000000000 0000000000000000
+        02
+        01 02 0000000000000004
+        0000000000000000 0000000000000000 02 02 02
+        0000000000000000 0000000000000000 00
+        02 03 0000000000000005
         0000000000000000 0000000000000000 02 02 02
         0000000000000000 0000000000000000 00 00",
     ),
@@ -353,7 +384,7 @@ fn is_printed(alloc: Global) -> Result<bool, AllocError> {
         b: id(64),
         letter: Letter::N,
     };
-    Ok(format!(in alloc; "{node}")?.as_str() == "64 64 N" && Letter::G.name() == "G")
+    Ok(is_text(format!(in alloc; "{node}")?, "64 64 N") && Letter::G.name() == "G")
 }
 
 #[test]

@@ -63,6 +63,13 @@ fn orders(node: NodeId, other: NodeId, group: Group) -> [(Command, Kind, usize);
     ]
 }
 
+// Whether an order was answered with this kind and this count of outputs.
+fn is_answered(outcome: Outcome, kind: Kind, outputs: usize) -> bool {
+    let is_so = outcome.reply.kind == kind && outcome.outputs.len() == outputs;
+    drop(outcome);
+    is_so
+}
+
 // Whether each order is taken with its kind and its count of outputs.
 fn takes_all(world: &mut World, orders: &[(Command, Kind, usize)]) -> Result<bool, Fail>
     requires { Legal world.old }
@@ -73,7 +80,7 @@ fn takes_all(world: &mut World, orders: &[(Command, Kind, usize)]) -> Result<boo
     for (command, kind, outputs) in orders {
         number = number.saturating_add(1);
         let outcome = taken(world, &Step::Order(client, number, *command))?;
-        if outcome.reply.kind != *kind || outcome.outputs.len() != *outputs {
+        if !is_answered(outcome, *kind, *outputs) {
             return Ok(false);
         }
     }

@@ -1,9 +1,11 @@
 //! Tests of coord_world: a reset as a caller sees it, a world put together again from its rows,
 //! and the limits on steps and links.
 
-ghost use Rattle.std.specs.Prelude.{◌≡◌, ◌≤◌, IfOk};
+ghost use Rattle.std.specs.Prelude.{◌≡◌, IfOk};
 ghost use Rattle.coord_world.specs.protocol.Legal.{Legal};
+ghost use Rattle.coord_world.specs.protocol.Rows.{listed, RowsFit};
 
+use crate::check::id;
 use coord_link::Lane;
 use coord_node::Node;
 use coord_types::{
@@ -13,13 +15,6 @@ use coord_types::{
 use coord_world::{Parts, Verdict, World};
 use std::alloc::{AllocError, Global};
 use std::test::Fail;
-
-fn id(number: u8) -> NodeId
-    requires least { 1 ≤ number }
-    requires greatest { number ≤ 64 }
-{
-    NodeId::new(number).unwrap()
-}
 
 fn client() -> Client {
     Client::new(1).unwrap()
@@ -237,10 +232,19 @@ fn is_copied(alloc: Global) -> Result<bool, AllocError> {
     Ok(copied? && is_asked)
 }
 
+/// The rows of such a world.
+fn asked_parts(alloc: Global) -> Result<Parts, AllocError>
+    ensures { IfOk result (λ parts. RowsFit (listed parts)) }
+{
+    let world = asked(alloc)?;
+    let parts = world.parts();
+    drop(world);
+    parts
+}
+
 /// Whether the nodes, lanes and orders of a world come back from its rows.
 fn is_put_together(alloc: Global) -> Result<bool, Fail> {
-    let parts = asked(alloc)?.parts()?;
-    let world = World::assemble(alloc, parts)?;
+    let world = World::assemble(alloc, asked_parts(alloc)?)?;
     let is_asked = is_asked(&world);
     drop(world);
     Ok(is_asked)

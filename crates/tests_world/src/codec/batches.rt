@@ -3,6 +3,7 @@ ghost use Rattle.std.specs.List.{AllByRecursion};
 ghost use Rattle.coord_batch.specs.Batches.{IsWritable};
 
 use super::*;
+use crate::check::id;
 use coord_codec::write_batch;
 use coord_types::{
     Client, Command, DataPacket, Group, MAX_BATCH_STEPS, Msg, NodeId, ReceiptPacket, Step, Version,
@@ -43,11 +44,17 @@ const EVERY_DISTANT_FORM: [u8; 180] = [
     2, 2, 1, 0, 0, 0, 0, 0, 0, 0, 3, 255, 255, 255, 255, 255, 255, 255, 255,
 ];
 
-fn id(number: u8) -> NodeId
-    requires least { 1 ≤ number }
-    requires greatest { number ≤ 64 }
-{
-    NodeId::new(number).unwrap()
+/// The bytes stand behind calls, so that a proof that hands them on does not carry them.
+fn batch() -> &'static [u8] {
+    &BATCH
+}
+
+fn every_form_in(version: Version) -> &'static [u8] {
+    if version.number() == 1 {
+        &EVERY_FORM
+    } else {
+        &EVERY_DISTANT_FORM
+    }
 }
 
 fn order(client: u8, number: u64, command: Command) -> Step
@@ -162,7 +169,7 @@ fn are_written(
     if !is_first || !is_counted || !are_writable(version, steps) {
         return Ok(false);
     }
-    Ok(write_batch(alloc, version, first, steps)?.as_slice() == bytes)
+    Ok(are_bytes(write_batch(alloc, version, first, steps)?, bytes))
 }
 
 // An Abort from as far as can be told.
@@ -221,24 +228,20 @@ fn is_spelled_in(
 fn are_spelled(alloc: Global) -> Result<bool, AllocError> {
     let [first, second] = versions();
     let step = order(1, 1, Command::Add(id(1), Group::new(1).unwrap()));
-    let alike = is_spelling(alloc, first, &BATCH, 1, &[step])?
-        && is_spelling(alloc, second, &BATCH, 1, &[step])?;
+    let alike = is_spelling(alloc, first, batch(), 1, &[step])?
+        && is_spelling(alloc, second, batch(), 1, &[step])?;
     Ok(alike && is_every_form_spelled(alloc)? && are_full_batches_spelled(alloc)?)
 }
 
 fn is_every_form_spelled(alloc: Global) -> Result<bool, AllocError> {
     let [first, second] = versions();
-    let near = is_spelling(alloc, first, &EVERY_FORM, 1 << 40, &every_form(0))?;
-    let distance = 0x0807_0605_0403_0201;
-    Ok(
-        near && is_spelling(
-            alloc,
-            second,
-            &EVERY_DISTANT_FORM,
-            1 << 40,
-            &every_form(distance),
-        )?,
-    )
+    let near = is_form_spelled(alloc, first, 0)?;
+    Ok(near && is_form_spelled(alloc, second, 0x0807_0605_0403_0201)?)
+}
+
+fn is_form_spelled(alloc: Global, version: Version, distance: u64) -> Result<bool, AllocError> {
+    let bytes = every_form_in(version);
+    is_spelling(alloc, version, bytes, 1 << 40, &every_form(distance))
 }
 
 fn are_full_batches_spelled(alloc: Global) -> Result<bool, AllocError> {
@@ -268,17 +271,22 @@ const CHANGES: [Change; 13] = [
     Change(22, 0x11, FaultKind::BadByte, 22),
 ];
 
+fn changes() -> &'static [Change] {
+    &CHANGES
+}
+
 #[test]
 fn a_wrong_byte_is_found(rt: HostRuntime) -> Result<(), Fail> {
-    let wrong = missed(rt.alloc(), Form::Batch, 1, &BATCH, &CHANGES)?;
+    let wrong = missed(rt.alloc(), Form::Batch, 1, batch(), changes())?;
     assert!(rt; wrong.is_none(), "{wrong:?}");
     Ok(())
 }
 
 #[test]
 fn a_wrong_length_or_version_is_found(rt: HostRuntime) -> Result<(), Fail> {
+    let [_, second] = versions();
     let alloc = rt.alloc();
-    let first = is_of_one_length(alloc, Form::Batch, 1, &BATCH)?;
-    assert!(rt; first && is_of_one_length(alloc, Form::Batch, 2, &EVERY_DISTANT_FORM)?);
+    let first = is_of_one_length(alloc, Form::Batch, 1, batch())?;
+    assert!(rt; first && is_of_one_length(alloc, Form::Batch, 2, every_form_in(second))?);
     Ok(())
 }

@@ -46,6 +46,27 @@ const ANSWERED: [u8; 32] = [
     1, 0, 0, 0, 0, 0, 0, 0, 1, 0, 1, 1, 0, 0, 0, 0, 0, 0, 0, 1, 0,
 ];
 
+/// The worlds that are spelled here.
+#[derive(Clone, Copy)]
+enum Sample {
+    Near,
+    Distant,
+    Farthest,
+    Answered,
+}
+
+use Sample::{Answered, Distant, Farthest, Near};
+
+/// Their bytes stand behind a call, so that a proof that hands them on does not carry them.
+fn bytes_of(sample: Sample) -> &'static [u8] {
+    match sample {
+        Near => &WORLD,
+        Distant => &DISTANT_WORLD,
+        Farthest => &FARTHEST_WORLD,
+        Answered => &ANSWERED,
+    }
+}
+
 // Whether three steps were taken, of which the third made the link, and this alone is sent, from 2 to 1.
 fn is_the_world(world: &World, sent: Msg) -> bool {
     let (one, two) = (NodeId::new(1).unwrap(), NodeId::new(2).unwrap());
@@ -62,7 +83,7 @@ fn is_the_world(world: &World, sent: Msg) -> bool {
 
 // Whether the bytes are read as that world.
 fn is_read(alloc: Global) -> Result<bool, AllocError> {
-    match read_world(alloc, 1, &WORLD) {
+    match read_world(alloc, 1, bytes_of(Near)) {
         Ok(world) => {
             let is_it = is_the_world(&world, Msg::Ack);
             drop(world);
@@ -76,10 +97,10 @@ fn is_read(alloc: Global) -> Result<bool, AllocError> {
 // Whether each of these is written as it was read.
 fn are_spelled(alloc: Global) -> Result<bool, AllocError> {
     Ok(
-        spells_world(alloc, 1, &WORLD)?
+        spells_world(alloc, 1, bytes_of(Near))?
             && are_spelled_alike(alloc, 1)?
-            && spells_world(alloc, 2, &DISTANT_WORLD)?
-            && spells_world(alloc, 2, &FARTHEST_WORLD)?
+            && spells_world(alloc, 2, bytes_of(Distant))?
+            && spells_world(alloc, 2, bytes_of(Farthest))?
             && are_spelled_alike(alloc, 2)?
             && is_read(alloc)?,
     )
@@ -87,7 +108,7 @@ fn are_spelled(alloc: Global) -> Result<bool, AllocError> {
 
 // The same of worlds without nodes, which are spelled alike in both versions.
 fn are_spelled_alike(alloc: Global, version: u8) -> Result<bool, AllocError> {
-    Ok(spells_world(alloc, version, &ANSWERED)? && spells_world(alloc, version, &[0; 11])?)
+    Ok(spells_world(alloc, version, bytes_of(Answered))? && spells_world(alloc, version, &[0; 11])?)
 }
 
 #[test]
@@ -176,30 +197,37 @@ const CHANGES_OF_A_FARTHEST_WORLD: [Change; 4] = [
     Change(109, 1, FaultKind::Extra, 128),
 ];
 
-// The place of the first change that is not found, and of the first one of a client's row.
+/// They stand behind a call, as the bytes do.
+fn changes_of(sample: Sample) -> &'static [Change] {
+    match sample {
+        Near => &CHANGES,
+        Distant => &CHANGES_OF_A_DISTANT_WORLD,
+        Farthest => &CHANGES_OF_A_FARTHEST_WORLD,
+        Answered => &CHANGES_OF_A_CLIENT,
+    }
+}
+
+// The place of the first change of this world that is not found.
+fn missed_of(alloc: Global, version: u8, sample: Sample) -> Result<Option<usize>, AllocError> {
+    missed(
+        alloc,
+        Form::World,
+        version,
+        bytes_of(sample),
+        changes_of(sample),
+    )
+}
+
+// Of a world and of a client's row.
 fn missed_ones(alloc: Global) -> Result<(Option<usize>, Option<usize>), AllocError> {
-    let wrong = missed(alloc, Form::World, 1, &WORLD, &CHANGES)?;
-    let wrong_of_a_client = missed(alloc, Form::World, 2, &ANSWERED, &CHANGES_OF_A_CLIENT)?;
-    Ok((wrong, wrong_of_a_client))
+    let wrong = missed_of(alloc, 1, Near)?;
+    Ok((wrong, missed_of(alloc, 2, Answered)?))
 }
 
 // The same of the worlds with distances.
 fn missed_distances(alloc: Global) -> Result<(Option<usize>, Option<usize>), AllocError> {
-    let near = missed(
-        alloc,
-        Form::World,
-        2,
-        &DISTANT_WORLD,
-        &CHANGES_OF_A_DISTANT_WORLD,
-    )?;
-    let far = missed(
-        alloc,
-        Form::World,
-        2,
-        &FARTHEST_WORLD,
-        &CHANGES_OF_A_FARTHEST_WORLD,
-    )?;
-    Ok((near, far))
+    let near = missed_of(alloc, 2, Distant)?;
+    Ok((near, missed_of(alloc, 2, Farthest)?))
 }
 
 #[test]
@@ -214,8 +242,8 @@ fn a_wrong_byte_is_found(rt: HostRuntime) -> Result<(), Fail> {
 #[test]
 fn a_wrong_length_or_version_is_found(rt: HostRuntime) -> Result<(), Fail> {
     let alloc = rt.alloc();
-    let first = is_of_one_length(alloc, Form::World, 1, &WORLD)?;
-    let second = is_of_one_length(alloc, Form::World, 2, &DISTANT_WORLD)?;
+    let first = is_of_one_length(alloc, Form::World, 1, bytes_of(Near))?;
+    let second = is_of_one_length(alloc, Form::World, 2, bytes_of(Distant))?;
     assert!(rt; first && second && are_of_their_versions(alloc)?);
     Ok(())
 }
@@ -228,7 +256,7 @@ fn are_of_their_versions(alloc: Global) -> Result<bool, AllocError> {
         at: 37,
     };
     Ok(
-        finds(alloc, Form::World, 2, &WORLD, fault)?
-            && finds(alloc, Form::World, 1, &DISTANT_WORLD, fault)?,
+        finds(alloc, Form::World, 2, bytes_of(Near), fault)?
+            && finds(alloc, Form::World, 1, bytes_of(Distant), fault)?,
     )
 }
