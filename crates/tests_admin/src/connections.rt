@@ -92,7 +92,7 @@ fn lines_over_loopback(rt: HostRuntime) {
 }
 
 /// A client that holds its connection.
-#[derive(Clone, Copy, Debug, PartialEq, Eq)]
+#[derive(Clone, Copy)]
 enum Holder {
     /// It says nothing.
     Silent,

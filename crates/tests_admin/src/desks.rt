@@ -57,15 +57,18 @@ impl Desk for OneLink {
         let Ok(nodes) = Vec::from_array(self.alloc, nodes) else {
             return Err(Refusal::OutOfMemory);
         };
-        let Ok(links) = Vec::from_array(self.alloc, [link]) else {
-            return Err(Refusal::OutOfMemory);
-        };
-        Ok(View {
-            accepted: 3,
-            settled: 3,
-            nodes,
-            links,
-        })
+        match Vec::from_array(self.alloc, [link]) {
+            Ok(links) => Ok(View {
+                accepted: 3,
+                settled: 3,
+                nodes,
+                links,
+            }),
+            Err(_) => {
+                drop(nodes);
+                Err(Refusal::OutOfMemory)
+            }
+        }
     }
 
     fn resend(&mut self) -> Result<u64, Refusal> {

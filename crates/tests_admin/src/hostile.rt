@@ -29,20 +29,18 @@ impl Read for OneByOne<'_> {
 
 /// Whether lines that come byte by byte get the replies of the worked lines.
 fn are_read(alloc: Global, lines: &[u8]) -> Result<bool, AllocError> {
-    let mut desk = CountDesk::new(alloc, 0);
     let mut reader = OneByOne { left: lines };
-    serves(
-        alloc,
-        &mut desk,
-        &mut reader,
-        WORKED_REPLIES,
-        Ok(Ended::Input),
-    )
+    let desk = CountDesk::new(alloc, 0);
+    let are_read = serves(alloc, desk, &mut reader, WORKED_REPLIES, Ok(Ended::Input));
+    drop(reader);
+    are_read
 }
 
 fn are_worked_lines_read(alloc: Global) -> Result<bool, AllocError> {
     let lines = worked_lines(alloc)?;
-    are_read(alloc, &lines)
+    let are_read = are_read(alloc, &lines);
+    drop(lines);
+    are_read
 }
 
 #[test]
@@ -70,25 +68,26 @@ impl Read for Endless {
     }
 }
 
-/// The bound on reads is met by no clause alone: one says that so many bytes came, and not that so
-/// many reads suffice.
-#[test]
-fn endless_line(rt: HostRuntime) -> Result<(), Fail> {
-    let mut desk = CountDesk::new(rt.alloc(), 0);
+/// Whether a line that never ends is given up, how often it was read, and for how many bytes at most.
+fn given_up(alloc: Global) -> Result<(bool, u64, usize), AllocError> {
     let mut reader = Endless {
         reads: 0,
         longest: 0,
     };
-    assert!(rt;
-        serves(
-            rt.alloc(),
-            &mut desk,
-            &mut reader,
-            "",
-            Err(ServeFault::Turns)
-        )?
-    );
-    assert!(rt; reader.reads == 1_048_576 && reader.longest == 512);
+    let desk = CountDesk::new(alloc, 0);
+    let is_given_up = serves(alloc, desk, &mut reader, "", Err(ServeFault::Turns));
+    let (reads, longest) = (reader.reads, reader.longest);
+    drop(reader);
+    Ok((is_given_up?, reads, longest))
+}
+
+/// The bound on reads is met by no clause alone: one says that so many bytes came, and not that so
+/// many reads suffice.
+#[test]
+fn endless_line(rt: HostRuntime) -> Result<(), Fail> {
+    let (is_given_up, reads, longest) = given_up(rt.alloc())?;
+    assert!(rt; is_given_up);
+    assert!(rt; reads == 1_048_576 && longest == 512);
     Ok(())
 }
 
@@ -104,16 +103,8 @@ impl Read for Broken {
 
 #[test]
 fn failed_read(rt: HostRuntime) -> Result<(), Fail> {
-    let mut desk = CountDesk::new(rt.alloc(), 0);
-    assert!(rt;
-        serves(
-            rt.alloc(),
-            &mut desk,
-            &mut Broken {},
-            "",
-            Err(ServeFault::Read)
-        )?
-    );
+    let desk = CountDesk::new(rt.alloc(), 0);
+    assert!(rt; serves(rt.alloc(), desk, &mut Broken {}, "", Err(ServeFault::Read))?);
     Ok(())
 }
 
@@ -138,14 +129,44 @@ impl Write for Room {
     }
 }
 
+/// How many steps a desk shows as accepted and as settled.
+fn shown(desk: &mut CountDesk) -> (u64, u64) {
+    match desk.show() {
+        Ok(view) => {
+            let counts = (view.accepted, view.settled);
+            drop(view);
+            counts
+        }
+        Err(_) => (0, 0),
+    }
+}
+
+/// How these lines end where there is room for so many writes, how many were made, and what the desk
+/// shows then.
+fn written(alloc: Global, lines: &[u8], most: u64) -> (Result<Ended, ServeFault>, u64, (u64, u64)) {
+    let mut reader = lines;
+    let mut writer = Room { writes: 0, most };
+    let mut desk = CountDesk::new(alloc, 0);
+    let outcome = serve_halves(alloc, &mut reader, &mut writer, &mut desk);
+    let writes = writer.writes;
+    drop(writer);
+    let shown = shown(&mut desk);
+    drop(desk);
+    (outcome, writes, shown)
+}
+
+/// Whether each of the worked lines has its reply in one write, where there is room for one more.
+fn are_written_once(alloc: Global) -> Result<bool, AllocError> {
+    let lines = worked_lines(alloc)?;
+    let (outcome, writes, _) = written(alloc, &lines, 9);
+    drop(lines);
+    Ok(outcome == Ok(Ended::Input) && writes == 8)
+}
+
 /// Each reply is one write.
 #[test]
 fn one_write_a_reply(rt: HostRuntime) -> Result<(), Fail> {
-    let lines = worked_lines(rt.alloc())?;
-    let mut desk = CountDesk::new(rt.alloc(), 0);
-    let mut writer = Room { writes: 0, most: 9 };
-    let outcome = serve_halves(rt.alloc(), &mut lines.as_slice(), &mut writer, &mut desk);
-    assert!(rt; outcome == Ok(Ended::Input) && writer.writes == 8);
+    assert!(rt; are_written_once(rt.alloc())?);
     Ok(())
 }
 
@@ -171,40 +192,43 @@ impl Write for Slow {
     }
 }
 
+/// Whether a reply is written whole where a byte of it is taken at a time.
+fn is_written_slowly(alloc: Global) -> bool {
+    let mut lines = b"{\"op\":\"resend\"}\n".as_slice();
+    let mut writer = Slow {
+        kept: Vec::new(alloc),
+    };
+    let mut desk = CountDesk::new(alloc, 0);
+    let outcome = serve_halves(alloc, &mut lines, &mut writer, &mut desk);
+    drop(desk);
+    let is_whole = writer.kept.as_slice() == b"{\"count\":0,\"kind\":\"resent\"}\n".as_slice();
+    drop(writer);
+    outcome.is_ok() && is_whole
+}
+
 /// A reply that is taken a byte at a time is written whole.
 #[test]
-fn replies_byte_by_byte(rt: HostRuntime) -> Result<(), Fail> {
-    let mut lines = b"{\"op\":\"resend\"}\n".as_slice();
-    let mut desk = CountDesk::new(rt.alloc(), 0);
-    let mut writer = Slow {
-        kept: Vec::new(rt.alloc()),
-    };
-    let outcome = serve_halves(rt.alloc(), &mut lines, &mut writer, &mut desk);
-    assert!(rt;
-        outcome.is_ok()
-            && writer.kept.as_slice() == b"{\"count\":0,\"kind\":\"resent\"}\n".as_slice()
-    );
-    Ok(())
+fn replies_byte_by_byte(rt: HostRuntime) {
+    assert!(rt; is_written_slowly(rt.alloc()));
+}
+
+/// Whether the first of the worked lines, whose reply finds no room, is accepted.
+fn is_accepted_unwritten(alloc: Global) -> Result<bool, AllocError> {
+    let lines = worked_lines(alloc)?;
+    let (outcome, _, shown) = written(alloc, &lines, 0);
+    drop(lines);
+    Ok(outcome == Err(ServeFault::Write) && shown == (1, 1))
 }
 
 /// What was accepted before a write failed stays accepted.
 #[test]
 fn failed_write(rt: HostRuntime) -> Result<(), Fail> {
-    let lines = worked_lines(rt.alloc())?;
-    let mut desk = CountDesk::new(rt.alloc(), 0);
-    let mut writer = Room { writes: 0, most: 0 };
-    let outcome = serve_halves(rt.alloc(), &mut lines.as_slice(), &mut writer, &mut desk);
-    let counts = match desk.show() {
-        Ok(view) => (view.accepted, view.settled),
-        Err(_) => (0, 0),
-    };
-    assert!(rt; outcome == Err(ServeFault::Write) && counts == (1, 1));
+    assert!(rt; is_accepted_unwritten(rt.alloc())?);
     Ok(())
 }
 
-#[test]
-fn printed_faults(rt: HostRuntime) -> Result<(), Fail> {
-    let mut text = String::new(rt.alloc());
+/// Adds each fault with its number.
+fn push_faults(text: &mut String) -> Result<(), AllocError> {
     for fault in [
         ServeFault::OutOfMemory,
         ServeFault::Read,
@@ -214,6 +238,21 @@ fn printed_faults(rt: HostRuntime) -> Result<(), Fail> {
         let number = fault.number();
         write!(text, "{number} {fault}, ")?;
     }
-    assert!(rt; text.as_str() == "1 OutOfMemory, 2 Read, 3 Write, 4 Turns, ");
+    Ok(())
+}
+
+/// Whether they are printed so.
+fn are_printed(alloc: Global) -> Result<bool, AllocError> {
+    let mut text = String::new(alloc);
+    let pushed = push_faults(&mut text);
+    let is_so = text.as_str() == "1 OutOfMemory, 2 Read, 3 Write, 4 Turns, ";
+    drop(text);
+    pushed?;
+    Ok(is_so)
+}
+
+#[test]
+fn printed_faults(rt: HostRuntime) -> Result<(), Fail> {
+    assert!(rt; are_printed(rt.alloc())?);
     Ok(())
 }

@@ -8,15 +8,16 @@ use std::test::Fail;
 
 /// Whether these lines get these replies from a desk, and the call ends so. Where memory runs out
 /// there is no answer.
-pub(crate) fn serves<R: Read, D: Desk>(
+pub(crate) fn serves<R: Read, D: Desk + Drop>(
     alloc: Global,
-    desk: &mut D,
+    mut desk: D,
     reader: &mut R,
     replies: &str,
     end: Result<Ended, ServeFault>,
 ) -> Result<bool, AllocError> {
     let mut output = Vec::new(alloc);
-    let outcome = serve_halves(alloc, reader, &mut output, desk);
+    let outcome = serve_halves(alloc, reader, &mut output, &mut desk);
+    drop(desk);
     let is_so = outcome == end && output.as_slice() == replies.as_bytes();
     drop(output);
     if outcome == Err(ServeFault::OutOfMemory) {
@@ -80,14 +81,21 @@ pub(crate) const WORKED_REPLIES: &str = "{\"kind\":\"done\",\"step\":1}
 /// Whether these lines get these replies from a new desk.
 fn are_replied(alloc: Global, lines: &[u8], replies: &str) -> Result<bool, AllocError> {
     let mut reader = lines;
-    let mut desk = CountDesk::new(alloc, 0);
-    serves(alloc, &mut desk, &mut reader, replies, Ok(Ended::Input))
+    serves(
+        alloc,
+        CountDesk::new(alloc, 0),
+        &mut reader,
+        replies,
+        Ok(Ended::Input),
+    )
 }
 
 /// Whether the worked lines get their replies.
 fn are_worked(alloc: Global) -> Result<bool, AllocError> {
     let lines = worked_lines(alloc)?;
-    are_replied(alloc, &lines, WORKED_REPLIES)
+    let are_replied = are_replied(alloc, &lines, WORKED_REPLIES);
+    drop(lines);
+    are_replied
 }
 
 #[test]
@@ -181,13 +189,16 @@ fn with_end(alloc: Global, line: &str) -> Result<String, AllocError> {
 /// Whether a line gets this reply.
 fn replies(alloc: Global, line: &str, reply: &str) -> Result<bool, AllocError> {
     let input = with_end(alloc, line)?;
-    match with_end(alloc, reply) {
-        Ok(expected) => are_replied(alloc, input.as_bytes(), &expected),
-        Err(fault) => {
-            drop(input);
-            Err(fault)
-        }
-    }
+    let is_replied = is_replied(alloc, &input, reply);
+    drop(input);
+    is_replied
+}
+
+fn is_replied(alloc: Global, input: &str, reply: &str) -> Result<bool, AllocError> {
+    let expected = with_end(alloc, reply)?;
+    let is_replied = are_replied(alloc, input.as_bytes(), &expected);
+    drop(expected);
+    is_replied
 }
 
 /// The first line that gets another reply.
@@ -219,8 +230,11 @@ fn push_nested(line: &mut String) -> Result<(), AllocError> {
 
 fn is_too_deep(alloc: Global) -> Result<bool, AllocError> {
     let mut line = String::new(alloc);
-    push_nested(&mut line)?;
-    replies(alloc, &line, "{\"fault\":\"BadJson\"}")
+    let pushed = push_nested(&mut line);
+    let is_bad = replies(alloc, &line, "{\"fault\":\"BadJson\"}");
+    drop(line);
+    pushed?;
+    is_bad
 }
 
 #[test]
@@ -232,32 +246,24 @@ fn deep_nesting(rt: HostRuntime) -> Result<(), Fail> {
 /// What stands behind a close is not answered.
 #[test]
 fn close(rt: HostRuntime) -> Result<(), Fail> {
-    let mut desk = CountDesk::new(rt.alloc(), 0);
+    let desk = CountDesk::new(rt.alloc(), 0);
     let mut lines = b"{\"op\":\"resend\"}\n{\"op\":\"close\"}\n{\"op\":\"show\"}\n".as_slice();
     let expected = "{\"count\":0,\"kind\":\"resent\"}\n{\"kind\":\"closed\"}\n";
-    assert!(rt;
-        serves(
-            rt.alloc(),
-            &mut desk,
-            &mut lines,
-            expected,
-            Ok(Ended::Closed)
-        )?
-    );
+    assert!(rt; serves(rt.alloc(), desk, &mut lines, expected, Ok(Ended::Closed))?);
     Ok(())
 }
 
 /// Whether a desk past its last step takes no order.
 fn is_full(alloc: Global) -> Result<bool, AllocError> {
-    let mut full = CountDesk::new(alloc, u64::MAX);
+    let full = CountDesk::new(alloc, u64::MAX);
     let mut order = b"{\"op\":\"remove\",\"client\":1,\"number\":1,\"node\":1}\n".as_slice();
     let expected = "{\"name\":\"Exhausted\",\"refused\":3}\n";
-    serves(alloc, &mut full, &mut order, expected, Ok(Ended::Input))
+    serves(alloc, full, &mut order, expected, Ok(Ended::Input))
 }
 
 /// Whether one that has two nodes and a link shows them.
 fn is_shown(alloc: Global) -> Result<bool, AllocError> {
-    let mut linked = OneLink::new(alloc);
+    let linked = OneLink::new(alloc);
     let mut lines =
         b"{\"op\":\"show\"}\n{\"op\":\"resend\"}\n{\"op\":\"reset\",\"client\":1,\"number\":1,\"node\":1}\n".as_slice();
     let expected =
@@ -265,7 +271,7 @@ fn is_shown(alloc: Global) -> Result<bool, AllocError> {
 {\"name\":\"Stopped\",\"refused\":1}
 {\"fault\":\"OutOfMemory\"}
 ";
-    serves(alloc, &mut linked, &mut lines, expected, Ok(Ended::Input))
+    serves(alloc, linked, &mut lines, expected, Ok(Ended::Input))
 }
 
 /// Of a desk past its last step, and of one that shows nodes and a link.
@@ -279,7 +285,9 @@ fn other_desks(rt: HostRuntime) -> Result<(), Fail> {
 /// Whether five hundred letters are told that they are no JSON.
 fn is_no_json(alloc: Global) -> Result<bool, AllocError> {
     let line = "x".repeat(alloc, 500)?;
-    replies(alloc, &line, "{\"fault\":\"BadJson\"}")
+    let is_bad = replies(alloc, &line, "{\"fault\":\"BadJson\"}");
+    drop(line);
+    is_bad
 }
 
 /// A long line that is no JSON is told so.

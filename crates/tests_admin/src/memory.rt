@@ -3,6 +3,7 @@
 
 use crate::lines::{WORKED_REPLIES, serve_halves, worked_lines};
 use coord_admin::{CountDesk, Desk, Ended, ServeFault};
+use std::alloc::{AllocError, Global};
 use std::str;
 use std::test::Fail;
 
@@ -42,23 +43,41 @@ fn are_allowed(written: &[u8], count: u64) -> bool {
 }
 
 /// How many orders a desk has counted.
-fn counted(mut desk: CountDesk) -> u64 {
+fn counted(desk: &mut CountDesk) -> u64 {
     match desk.show() {
-        Ok(view) => view.settled,
+        Ok(view) => {
+            let settled = view.settled;
+            drop(view);
+            settled
+        }
         Err(_) => u64::MAX,
     }
 }
 
-#[test]
-fn each_reply_or_no_memory(rt: HostRuntime) -> Result<(), Fail> {
-    let lines = worked_lines(rt.alloc())?;
-    let mut desk = CountDesk::new(rt.alloc(), 0);
+/// Whether these lines are answered so.
+fn are_answered(alloc: Global, lines: &[u8]) -> Result<bool, AllocError> {
+    let mut reader = lines;
     // Room for all replies, so that no write is refused.
-    let mut output = Vec::with_capacity(rt.alloc(), 512)?;
-    let outcome = serve_halves(rt.alloc(), &mut lines.as_slice(), &mut output, &mut desk);
-    let count = counted(desk);
+    let mut output = Vec::with_capacity(alloc, 512)?;
+    let mut desk = CountDesk::new(alloc, 0);
+    let outcome = serve_halves(alloc, &mut reader, &mut output, &mut desk);
+    let count = counted(&mut desk);
+    drop(desk);
     let begun = outcome == Ok(Ended::Input) && are_allowed(output.as_slice(), count);
     let refused = outcome == Err(ServeFault::OutOfMemory) && output.is_empty() && count == 0;
-    assert!(rt; begun || refused);
+    drop(output);
+    Ok(begun || refused)
+}
+
+fn are_worked_lines_answered(alloc: Global) -> Result<bool, AllocError> {
+    let lines = worked_lines(alloc)?;
+    let are_answered = are_answered(alloc, &lines);
+    drop(lines);
+    are_answered
+}
+
+#[test]
+fn each_reply_or_no_memory(rt: HostRuntime) -> Result<(), Fail> {
+    assert!(rt; are_worked_lines_answered(rt.alloc())?);
     Ok(())
 }

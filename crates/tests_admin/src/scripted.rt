@@ -5,7 +5,6 @@ use std::alloc::Global;
 use std::io::{ErrorKind, Read, Write};
 use std::net::{IpAddr, Ipv4Addr, OpenListener, OpenStream, Shutdown, SocketAddr};
 use std::sync::atomic::{AtomicU64, Ordering};
-use std::test::Fail;
 use std::time::{Clock, Duration};
 use std::{io, thread};
 
@@ -14,7 +13,7 @@ const CLOSE: &[u8] = b"{\"op\":\"close\"}\n";
 const CLOSED: &[u8] = b"{\"kind\":\"closed\"}\n";
 
 /// What a client does.
-#[derive(Clone, Copy, Debug, PartialEq, Eq)]
+#[derive(Clone, Copy)]
 enum Client {
     /// It leaves before it is accepted, and the listener tells it so.
     Leaves(ErrorKind),
@@ -48,6 +47,19 @@ struct Script<T: Clock> {
     written: AtomicU64,
     too_long: AtomicU64,
     read_on: AtomicU64,
+}
+
+impl<T: Clock> Script<T> {
+    /// What became of it.
+    fn met(&self, is_closed: bool) -> Met {
+        Met {
+            is_closed,
+            come: self.come.load(Ordering::SeqCst),
+            written: self.written.load(Ordering::SeqCst),
+            too_long: self.too_long.load(Ordering::SeqCst),
+            read_on: self.read_on.load(Ordering::SeqCst),
+        }
+    }
 }
 
 /// A client's stream.
@@ -103,7 +115,7 @@ impl<T: Clock> OpenStream for Scripted<'_, T> {
     }
 
     fn set_nodelay(&self, nodelay: bool) -> io::Result<()> {
-        if !nodelay || self.client == Client::Unready {
+        if !nodelay || matches!(self.client, Client::Unready) {
             return Err(ErrorKind::InvalidInput.into());
         }
         Ok(())
@@ -122,7 +134,7 @@ impl<T: Clock> OpenStream for Scripted<'_, T> {
 
 impl<T: Clock> Read for Scripted<'_, T> {
     fn read(&mut self, buf: &mut [u8]) -> io::Result<usize> {
-        if self.client == Client::Silent {
+        if matches!(self.client, Client::Silent) {
             return Err(ErrorKind::WouldBlock.into());
         }
         if let Client::Floods(pieces) = self.client {
@@ -130,7 +142,7 @@ impl<T: Clock> Read for Scripted<'_, T> {
             let reads = self.script.read_on.fetch_add(1, Ordering::SeqCst);
             return Ok(if reads < pieces { buf.len() } else { 0 });
         }
-        if self.is_read && self.client == Client::SendsOn {
+        if self.is_read && matches!(self.client, Client::SendsOn) {
             self.script.read_on.fetch_add(1, Ordering::SeqCst);
             return Ok(buf.len());
         }
@@ -149,7 +161,7 @@ impl<T: Clock> Write for Scripted<'_, T> {
         let Some(byte) = buf.first() else {
             return Ok(0);
         };
-        if self.client == Client::TakesSlowly {
+        if matches!(self.client, Client::TakesSlowly) {
             thread::sleep(&self.script.clock, Duration::from_millis(30));
         }
         if CLOSED.get(self.written) == Some(byte) {
@@ -167,7 +179,7 @@ impl<T: Clock> Write for Scripted<'_, T> {
 /// What became of a script: whether a client closed the desk, how many came, how many bytes of the
 /// answer were written, how often a stream was to wait too long, and how often it was read behind a
 /// close or in a line without a pause.
-#[derive(Clone, Copy, Debug, PartialEq, Eq)]
+#[derive(Clone, Copy, PartialEq)]
 struct Met {
     is_closed: bool,
     come: u64,
@@ -190,13 +202,11 @@ fn ended<T: Clock>(rt: &T, alloc: Global, clients: [Client; 6], patience: Patien
     let mut callers = Accepted::new(rt, &listener, patience);
     let mut desk = CountDesk::new(alloc, 0);
     let is_closed = serve_connections(alloc, &mut callers, &mut desk).is_ok();
-    Met {
-        is_closed,
-        come: script.come.load(Ordering::SeqCst),
-        written: script.written.load(Ordering::SeqCst),
-        too_long: script.too_long.load(Ordering::SeqCst),
-        read_on: script.read_on.load(Ordering::SeqCst),
-    }
+    drop(callers);
+    drop(desk);
+    let met = script.met(is_closed);
+    drop(script);
+    met
 }
 
 /// The usual times, but that a full table of files is not waited for.
@@ -231,7 +241,7 @@ fn broken_as(come: u64) -> Met {
 /// A client that fails, says nothing or has left ends its own connection alone. An answer that is
 /// taken a byte at a time is written whole.
 #[test]
-fn a_close_behind_clients_that_fail(rt: HostRuntime) -> Result<(), Fail> {
+fn a_close_behind_clients_that_fail(rt: HostRuntime) {
     let clients = [
         Client::Leaves(ErrorKind::ConnectionAborted),
         Client::Leaves(ErrorKind::ConnectionReset),
@@ -241,29 +251,26 @@ fn a_close_behind_clients_that_fail(rt: HostRuntime) -> Result<(), Fail> {
         Client::Closes,
     ];
     assert!(rt; ended(&rt, rt.alloc(), clients, patience()) == closed_as(6));
-    Ok(())
 }
 
 #[test]
-fn a_listener_that_fails(rt: HostRuntime) -> Result<(), Fail> {
+fn a_listener_that_fails(rt: HostRuntime) {
     let mut clients = [Client::Closes; 6];
     clients[0] = Client::Silent;
     clients[1] = Client::Breaks;
     assert!(rt; ended(&rt, rt.alloc(), clients, patience()) == broken_as(2));
-    Ok(())
 }
 
 /// A reply that is taken a little at a time is given up once its time in all is over, and then the
 /// desk was not closed for it.
 #[test]
-fn a_reply_that_is_taken_slowly(rt: HostRuntime) -> Result<(), Fail> {
+fn a_reply_that_is_taken_slowly(rt: HostRuntime) {
     let mut clients = [Client::Closes; 6];
     clients[0] = Client::TakesSlowly;
     let mut short = patience();
     short.reply = Duration::from_millis(100);
     let short = ended(&rt, rt.alloc(), clients, short);
     assert!(rt; short.is_closed && short.come == 2);
-    Ok(())
 }
 
 /// How often a client that has closed the desk and sends on is read, where that is waited for so long.
@@ -275,37 +282,34 @@ fn read_on<T: Clock>(rt: &T, alloc: Global, discard: Duration) -> u64 {
 
 /// Behind a close so much is read at the most, and nothing once its time is over.
 #[test]
-fn a_client_that_sends_on(rt: HostRuntime) -> Result<(), Fail> {
+fn a_client_that_sends_on(rt: HostRuntime) {
     assert!(rt; read_on(&rt, rt.alloc(), Duration::from_secs(60)) == DISCARD_READS);
     assert!(rt; read_on(&rt, rt.alloc(), Duration::from_secs(0)) == 0);
-    Ok(())
 }
 
 /// A line that comes without a pause is cut off once its time is over, and the next client is served.
 #[test]
-fn a_line_without_a_pause(rt: HostRuntime) -> Result<(), Fail> {
+fn a_line_without_a_pause(rt: HostRuntime) {
     let mut clients = [Client::Closes; 6];
     clients[0] = Client::Floods(1_000);
     let mut short = patience();
     short.line = Duration::from_millis(20);
     let met = ended(&rt, rt.alloc(), clients, short);
     assert!(rt; met.is_closed && met.come == 2 && met.read_on < 1_000);
-    Ok(())
 }
 
 /// A table of files that is full is waited for so often, and not more often.
 #[test]
-fn no_room_for_a_connection(rt: HostRuntime) -> Result<(), Fail> {
+fn no_room_for_a_connection(rt: HostRuntime) {
     let waits = [Client::Waits(ACCEPT_TRIES); 6];
     let gives_up = [Client::Waits(ACCEPT_TRIES + 1); 6];
     assert!(rt; ended(&rt, rt.alloc(), waits, patience()) == closed_as(1));
     assert!(rt; ended(&rt, rt.alloc(), gives_up, patience()) == broken_as(0));
-    Ok(())
 }
 
 /// The times that a client is waited for.
 #[test]
-fn the_usual_patience(rt: HostRuntime) -> Result<(), Fail> {
+fn the_usual_patience(rt: HostRuntime) {
     let usual = Patience {
         line: Duration::from_secs(10),
         reply: Duration::from_secs(10),
@@ -315,5 +319,4 @@ fn the_usual_patience(rt: HostRuntime) -> Result<(), Fail> {
         accept_rest: Duration::from_millis(100),
     };
     assert!(rt; Patience::usual() == usual);
-    Ok(())
 }
