@@ -98,6 +98,7 @@ impl<D: CrashDisk> Driver<D> {
         let Driver { ledger, flight } = self;
         match flight {
             Some(flight) => {
+                drop(ledger);
                 flight.images_give_world();
                 flight.into_disk()
             }
@@ -127,7 +128,10 @@ impl<D: CrashDisk> Driver<D> {
                 releases.lose_rest();
                 Ok(ledger)
             }
-            Err((_, flight)) => Err(flight.into_disk()),
+            Err((_, flight)) => {
+                drop(ledger);
+                Err(flight.into_disk())
+            }
         }
     }
 }

@@ -9,6 +9,7 @@ ghost use Rattle.coord_store.specs.Kept.{GivesEither, IsOnlyWorld};
 ghost use Rattle.coord_store.specs.Recovered.{IsBody};
 ghost use Rattle.coord_store.specs.declared.faults.CommitFault.TheVariants.{OutOfMemory, Device, Stopped, Again};
 ghost use Rattle.coord_world.specs.protocol.Next.{fold};
+ghost use Rattle.coord_ledger.specs.code.Holding.{IsCarried};
 ghost use Rattle.coord_ledger.specs.declared.mark.Mark.TheVariants.{New, Good, Torn};
 
 use crate::Mark;
@@ -106,7 +107,7 @@ impl<D: Disk> Flight<D> {
             Mark::Torn => Err(CommitFault::Stopped),
             Mark::New => match self.store.commit_to(&self.steps, self.next.take()) {
                 Ok(before) => {
-                    self.before = Some(before);
+                    drop(self.before.replace(before));
                     self.mark = Mark::Good;
                     Ok(())
                 }
@@ -129,18 +130,32 @@ impl<D: Disk> Flight<D> {
         }
     }
 
+    // Taken apart: how many steps it carried, what became of it, and the store.
+    pub(crate) fn into_parts(self) -> (usize, Mark, Store<D>)
+        ensures size { result.0 ≡ length self.steps }
+        ensures mark { result.1 ≡ self.mark }
+        ensures store { IsCarried self result.2 }
+    {
+        let Flight {
+            first: _,
+            steps,
+            before,
+            next,
+            mark,
+            store,
+        } = self;
+        let size = steps.len();
+        drop(steps);
+        drop(before);
+        drop(next);
+        (size, mark, store)
+    }
+
     // Gives the disk back, and loses what it carried: its ledger stays without its store.
     pub(crate) fn into_disk(self) -> D
         ensures { result ≡ self.disk }
     {
-        let Flight {
-            first: _,
-            steps: _,
-            before: _,
-            next: _,
-            mark: _,
-            store,
-        } = self;
+        let (_size, _mark, store) = self.into_parts();
         store.into_disk()
     }
 

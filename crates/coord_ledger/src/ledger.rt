@@ -77,7 +77,22 @@ fn copies(world: &World) -> Result<(World, World, World), AllocError>
     ensures front { IfOk result (λ r. r.1 ≡ world.now) }
     ensures settled { IfOk result (λ r. r.2 ≡ world.now) }
 {
-    Ok((world.copy()?, world.copy()?, world.copy()?))
+    let base = world.copy()?;
+    let front = match world.copy() {
+        Ok(front) => front,
+        Err(fault) => {
+            drop(base);
+            return Err(fault);
+        }
+    };
+    match world.copy() {
+        Ok(settled) => Ok((base, front, settled)),
+        Err(fault) => {
+            drop(base);
+            drop(front);
+            Err(fault)
+        }
+    }
 }
 
 impl<D: Disk> Ledger<D> {
@@ -178,8 +193,9 @@ impl<D: Disk> Ledger<D> {
         ensures { IfSome self.now.disk (λ disk. D.keeps_model disk ≡ true →
             LedgerGives D.present self.now disk) }
     {
-        if let Some(store) = &self.store {
-            store.images_give_world();
-        }
+        let Some(store) = &self.store else {
+            return;
+        };
+        store.images_give_world();
     }
 }

@@ -14,13 +14,12 @@ use Rattle.coord_ledger.specs.ledger.Calls.{RefusesFlight}
 use Rattle.coord_ledger.specs.ledger.Follows.{Follows, FollowsTo, Held, HoldsFlight}
 use Rattle.coord_ledger.specs.ledger.State.{FlightState}
 use Rattle.coord_ledger.specs.machine.After.{release_of, resent}
-use Rattle.coord_ledger.specs.machine.Consistent.{IsConsistent, IsConsistentLog}
-use Rattle.coord_ledger.specs.machine.Log.{Log, accepted_count, settled_count, settled_world}
+use Rattle.coord_ledger.specs.machine.Consistent.{IsConsistent}
+use Rattle.coord_ledger.specs.machine.Log.{accepted_count, settled_count, settled_world}
 use Rattle.coord_ledger.specs.machine.Machine.{Machine}
 use Rattle.coord_view.specs.Shown as view
 use Rattle.coord_ledger.proofs.follows.FollowsFlights.{follows_not_finished}
 use Rattle.coord_ledger.proofs.follows.FollowsTickets.{follows_not_shown, follows_shown, follows_unshown, never_behind}
-use Rattle.coord_ledger.proofs.machine.Logs.{count_after}
 
 -- what a show is answered
 abbrev pub shown_as : Result view.Shown Refusal → Answer
@@ -58,10 +57,6 @@ module _ {D : Type 0} (h : Held D) (s : Machine) (is : IsConsistent s) (follows 
 -- so many are released again
 pub resent_count : (w : World) → length (resent w) ≡ length (again w)
 resent_count w = length-map (again w) (release_of 0)
-
--- the settled count is that of the settled world
-pub count_settled : (log : Log) → IsConsistentLog log → (settled_world log).count ≡ settled_count log
-count_settled log is = count_after log log.settled is.within
 
 -- ---- results
 

@@ -1,5 +1,5 @@
 -- A flight that is the ledger's own, and how the ledger takes it back.
-use Rattle.std.proofs.Common.{◌≡◌, ℕ, ◌+◌, false, List, ◌≤◌, length, take, drop, Option, Some, None, Vec, is_some, refl, sym, ap, ◌∙◌, subst, arith}
+use Rattle.std.proofs.Common.{◌≡◌, ℕ, ◌+◌, ◌++◌, ◌∷◌, [], false, List, ◌≤◌, length, take, drop, Option, Some, None, Vec, is_some, refl, sym, ap, ◌∙◌, subst, arith}
 use Rattle.std.proofs.lemmas.List.{length-take}
 use Rattle.std.specs.declared.alloc.Global.{Global}
 use Rattle.coord_store.specs.Kept.{Kept}
@@ -9,16 +9,16 @@ use Rattle.coord_types.specs.declared.steps.Step.{Step}
 use Rattle.coord_world.specs.protocol.Next.{fold}
 use Rattle.coord_world.specs.protocol.NumberedWorld.{World}
 use Rattle.coord_world.specs.protocol.Outputs.{outs}
-use Rattle.coord_ledger.specs.code.Holding.{IsFlight, IsLedger, disk_at, listed, out_of, outputs_of, released_from}
+use Rattle.coord_ledger.specs.code.Holding.{IsCarried, IsLedger, disk_at, listed, out_of, outputs_of, released_from}
 use Rattle.coord_ledger.specs.declared.mark.Mark.{Mark}
-use Rattle.coord_ledger.specs.declared.mark.Mark.TheVariants.{Good, Torn}
-use Rattle.coord_ledger.specs.ledger.Calls.{with_out}
+use Rattle.coord_ledger.specs.declared.mark.Mark.TheVariants.{New, Good, Torn}
+use Rattle.coord_ledger.specs.ledger.Calls.{with_accepted, with_out}
 use Rattle.coord_ledger.specs.ledger.Follows.{IsOut}
 use Rattle.coord_ledger.specs.ledger.State.{FlightState, LedgerState}
 use Rattle.coord_ledger.specs.machine.After.{releases_of}
 use Rattle.coord_ledger.specs.machine.Log.{Log, pending, settled_count, settled_world, with_settled}
 use Rattle.coord_ledger.proofs.follows.Given.{listed-length, outputs_of-length, outputs_of-take, released_are}
-use Rattle.coord_ledger.proofs.follows.Kept.{back_good, back_torn}
+use Rattle.coord_ledger.proofs.follows.Kept.{back_good, back_new, back_torn}
 use Rattle.coord_ledger.proofs.machine.Logs.{count_after}
 
 module _ {D : Type 0} where
@@ -37,30 +37,36 @@ module _ {D : Type 0} where
   same_away log out n m doubt store (Some kept) l seen gone same = cc
   same_away log out n m doubt store None l seen gone same = let away : Option (Kept D) = None in ap (λ k. ledger_of log k doubt away) same ∙ ap (λ (x : LedgerState D). with_out x m) seen
 
+  pub same_accepted : (log : Log) (out : ℕ) (doubt : Option ℕ) (store : Option (Kept D)) (l : LedgerState D) (s : Step) (longer : List Step) → ledger_of log out doubt store ≡ l → longer ≡ log.trail ++ s ∷ [] → ledger_of (record { base = log.base; trail = longer; settled = log.settled }) out doubt store ≡ with_accepted l s
+  same_accepted log out doubt store l s longer seen is =
+      ap (λ t. ledger_of (record { base = log.base; trail = t; settled = log.settled }) out doubt store) is ∙ ap (λ (x : LedgerState D). with_accepted x s) seen
+
   -- a ledger of which a flight is out
   away_of : (log : Log) (kinds : List Kind) (given : List (List Output)) (front settled : World) (out n : ℕ) (doubt : Option ℕ) (store : Option (Kept D)) → IsLedger log kinds given front settled out doubt store → out_of store out ≡ Some n
       → IsLedger {D = D} log kinds given front settled n doubt None
   away_of log kinds given front settled out n doubt None is flown = let same : out ≡ n = cc in subst (λ m. IsLedger {D = D} log kinds given front settled m doubt None) same is
   away_of log kinds given front settled out n doubt (Some kept) is flown = cc
 
-  module _ (log : Log) (kinds : List Kind) (given : List (List Output)) (front settled : World) (out : ℕ) (doubt : Option ℕ) (store : Option (Kept D)) (l : LedgerState D) (seen : ledger_of log out doubt store ≡ l) (is : IsLedger log kinds given front settled out doubt store) (first : ℕ) (steps : List Step) (world : World) (next : Option World) (mark : Mark) (kept : Kept D) (f : FlightState D) (flown : flight_of first steps world mark kept ≡ f) (flight : IsFlight steps world next mark kept) (own : IsOut l f) where
-    parts : IsOut (ledger_of log out doubt store) (flight_of first steps world mark kept)
-    parts = subst (λ x. IsOut x (flight_of first steps world mark kept)) (sym seen) (subst (λ y. IsOut l y) (sym flown) own)
+  module _ (log : Log) (kinds : List Kind) (given : List (List Output)) (front settled : World) (out : ℕ) (doubt : Option ℕ) (store : Option (Kept D)) (l : LedgerState D) (seen : ledger_of log out doubt store ≡ l) (is : IsLedger log kinds given front settled out doubt store) (f : FlightState D) (kept : Kept D) (later : Option (Kept D)) (carried : IsCarried f kept) (own : IsOut l f) (home : later ≡ Some kept) where
+    parts : IsOut (ledger_of log out doubt store) f
+    parts = subst (λ x. IsOut x f) (sym seen) own
 
-    away : IsLedger {D = D} log kinds given front settled (length steps) doubt None
-    away = away_of log kinds given front settled out (length steps) doubt store is parts.size
+    away : IsLedger {D = D} log kinds given front settled (length f.steps) doubt None
+    away = away_of log kinds given front settled out (length f.steps) doubt store is parts.size
 
-    of_mark : (m : Mark) → mark ≡ m → IsFlight steps world next m kept
-    of_mark m same = subst (λ x. IsFlight steps world next x kept) same flight
-
-    pub took_torn : (n : ℕ) → n ≡ length steps → mark ≡ Torn → IsLedger log kinds given front settled out (Some n) (Some kept)
+    pub took_torn : (n : ℕ) → n ≡ length f.steps → f.mark ≡ Torn → IsLedger log kinds given front settled out (Some n) later
     took_torn n size torn =
-        subst (λ m. IsLedger log kinds given front settled out (Some m) (Some kept)) (sym size) (back_torn log kinds given front settled (length steps) out doubt kept steps world next away (of_mark Torn torn) parts.world refl parts.steps)
+        subst (λ o. IsLedger log kinds given front settled out (Some n) o) (sym home)
+        (subst (λ m. IsLedger log kinds given front settled out (Some m) (Some kept)) (sym size) (back_torn log kinds given front settled (length f.steps) out doubt kept f away carried torn parts.world refl parts.steps))
 
-    pub took_good : (n : ℕ) (left : List (List Output)) (later : World) → n ≡ length steps → mark ≡ Good → left ≡ drop n given → later ≡ fold world steps → IsLedger (with_settled log n) kinds left front later out doubt (Some kept)
-    took_good n left later size good rest led =
-        subst (λ m. IsLedger (with_settled log m) kinds left front later out doubt (Some kept)) (sym size)
-        (back_good log kinds given left front settled later (length steps) out doubt kept steps world next away (of_mark Good good) parts.world refl parts.steps (rest ∙ ap (λ m. drop m given) size) led)
+    pub took_new : f.mark ≡ New → IsLedger log kinds given front settled out doubt later
+    took_new new = subst (λ o. IsLedger log kinds given front settled out doubt o) (sym home) (back_new log kinds given front settled (length f.steps) out doubt kept f away carried new parts.world)
+
+    pub took_good : (n : ℕ) (left : List (List Output)) (led : World) → n ≡ length f.steps → f.mark ≡ Good → left ≡ drop n given → led ≡ fold f.world f.steps → IsLedger (with_settled log n) kinds left front led out doubt later
+    took_good n left led size good rest folded =
+        subst (λ o. IsLedger (with_settled log n) kinds left front led out doubt o) (sym home)
+        (subst (λ m. IsLedger (with_settled log m) kinds left front led out doubt (Some kept)) (sym size)
+        (back_good log kinds given left front settled led (length f.steps) out doubt kept f away carried good parts.world refl parts.steps (rest ∙ ap (λ m. drop m given) size) folded))
 
   -- ---- whether it is the own one
 

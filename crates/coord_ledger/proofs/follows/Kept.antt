@@ -1,13 +1,14 @@
 -- What the types of a ledger and of a flight keep, through each call.
-use Rattle.std.proofs.Common.{◌≡◌, ℕ, ◌+◌, ◌≤◌, false, List, [], ◌∷◌, ◌++◌, length, take, drop, Option, Some, None, IfSome, IfNone, Ok, is_some, refl, sym, ap, ◌∙◌, subst, arith}
+use Rattle.std.proofs.Common.{◌≡◌, ℕ, ◌+◌, ◌≤◌, Bool, true, false, List, [], ◌∷◌, ◌++◌, length, take, drop, Option, Some, None, IfSome, IfNone, Ok, is_some, inl, inr, ⊎_elim, refl, sym, ap, ◌∙◌, subst, arith}
 use Rattle.std.proofs.Math.Seq.{take-length}
-use Rattle.std.proofs.lemmas.List.{drop-drop, length-append, length-take, take-append-le}
+use Rattle.std.proofs.lemmas.List.{drop-drop, length-append, length-drop, length-take, take-append-le}
 use Rattle.std.specs.List.{AllByRecursion}
 use Rattle.coord_batch.specs.Batches.{IsNumbered}
+use Rattle.coord_disk.specs.Model.Present.{Present, IsImage}
 use Rattle.coord_node.specs.Steps.{kind}
 use Rattle.coord_store.proofs.Freshness.{fold-push}
-use Rattle.coord_store.specs.Kept.{Kept}
-use Rattle.coord_store.specs.Recovered.{AllFresh}
+use Rattle.coord_store.specs.Kept.{GivesEither, ImagesGive, Kept}
+use Rattle.coord_store.specs.Recovered.{AllFresh, Recovered}
 use Rattle.coord_types.specs.declared.limits.TheConstants.{MAX_BATCH_STEPS}
 use Rattle.coord_types.specs.declared.outputs.Output.{Output}
 use Rattle.coord_types.specs.declared.steps.Kind.{Kind}
@@ -21,9 +22,12 @@ use Rattle.coord_world.specs.protocol.Next.{fold, next}
 use Rattle.coord_world.specs.protocol.NumberedWorld.{World, state}
 use Rattle.coord_world.specs.protocol.Outputs.{outputs}
 use Rattle.coord_world.specs.protocol.Ranges.{StepInRange}
-use Rattle.coord_ledger.specs.code.Holding.{IsAway, IsFlight, IsHome, IsLedger, doubted, kinds_of, out_of, outputs_of}
+use Rattle.coord_ledger.specs.code.Holding.{IsAway, IsCarried, IsFlight, IsHome, IsLedger, carried_torn, carried_world, disk_at, doubted, kinds_of, out_of, outputs_of}
+use Rattle.coord_ledger.specs.declared.mark.Mark.{Mark}
 use Rattle.coord_ledger.specs.declared.mark.Mark.TheVariants.{New, Good, Torn}
-use Rattle.coord_ledger.specs.machine.Consistent.{IsConsistentLog}
+use Rattle.coord_ledger.specs.ledger.Calls.{GivesFlown, GivesSettled}
+use Rattle.coord_ledger.specs.ledger.State.{FlightState}
+use Rattle.coord_ledger.specs.machine.Consistent.{FitsOut, IsConsistentLog}
 use Rattle.coord_ledger.specs.machine.Log.{Log, accepted_count, front_world, pending, settled_count, settled_world, with_settled, with_step, world_after}
 use Rattle.coord_ledger.specs.machine.Submits.{verdict}
 use Rattle.coord_ledger.proofs.follows.Given.{outputs_of-drop, outputs_of-push}
@@ -119,40 +123,113 @@ module _ {D : Type 0} where
         next_is = led ∙ ap (λ v. fold v steps) (sym here);
       }
 
+  -- the store is away with them
+  pub sent_away : (log : Log) (kinds : List Kind) (given : List (List Output)) (front settled : World) (out n : ℕ) (doubt : Option ℕ) (store later : Option (Kept D)) (steps : List Step) → IsLedger log kinds given front settled out doubt store → doubt ≡ None → steps ≡ take MAX_BATCH_STEPS (pending log) → 1 ≤ length steps
+      → later ≡ None → n ≡ length steps → IsLedger log kinds given front settled n doubt later
+  sent_away log kinds given front settled out n doubt store later steps is going same some gone size =
+      let fits : FitsOut log n = record {
+        some = omega (arith, some, size);
+        most = omega (arith, size, ap length same, length_next (pending log));
+        within = omega (arith, size, ap length same, length-take MAX_BATCH_STEPS (pending log), length-drop log.settled log.trail, is.consistent.within);
+      } in
+      subst (λ o. IsLedger log kinds given front settled n doubt o) (sym gone) (record {
+        consistent = is.consistent;
+        kinds_are = is.kinds_are;
+        given_is = is.given_is;
+        front_is = is.front_is;
+        settled_is = is.settled_is;
+        doubt_within = is.doubt_within;
+        home = tt;
+        away = record { fits = fits; going = going };
+      })
+
   -- a flight comes back that was torn
-  pub back_torn : (log : Log) (kinds : List Kind) (given : List (List Output)) (front settled : World) (out any : ℕ) (doubt : Option ℕ) (kept : Kept D) (steps : List Step) (world : World) (next : Option World) → IsLedger {D = D} log kinds given front settled out doubt None → IsFlight steps world next Torn kept
-      → world ≡ settled_world log → out ≡ length steps → steps ≡ take (length steps) (pending log) → IsLedger log kinds given front settled any (Some (length steps)) (Some kept)
-  back_torn log kinds given front settled out any doubt kept steps world next is flight at size same =
-      let flown : fold world steps ≡ world_after log (log.settled + length steps) = ap (λ w. fold w steps) at ∙ ap (fold (settled_world log)) same ∙ sym (world-add log log.settled (length steps)) in
+  pub back_torn : (log : Log) (kinds : List Kind) (given : List (List Output)) (front settled : World) (out any : ℕ) (doubt : Option ℕ) (kept : Kept D) (f : FlightState D) → IsLedger {D = D} log kinds given front settled out doubt None → IsCarried f kept → f.mark ≡ Torn
+      → f.world ≡ settled_world log → out ≡ length f.steps → f.steps ≡ take (length f.steps) (pending log) → IsLedger log kinds given front settled any (Some (length f.steps)) (Some kept)
+  back_torn log kinds given front settled out any doubt kept f is carried torn at size same =
+      let flown : fold f.world f.steps ≡ world_after log (log.settled + length f.steps) = ap (λ w. fold w f.steps) at ∙ ap (fold (settled_world log)) same ∙ sym (world-add log log.settled (length f.steps)) in
       record {
         consistent = is.consistent;
         kinds_are = is.kinds_are;
         given_is = is.given_is;
         front_is = is.front_is;
         settled_is = is.settled_is;
-        doubt_within = (flight.some, omega (arith, is.away.fits.within, size));
-        home = record { world_is = flight.world_is ∙ at; torn_is = flight.torn_is ∙ ap Some flown };
+        doubt_within = (carried.some, omega (arith, is.away.fits.within, size));
+        home = record {
+          world_is = carried.world_is ∙ ap (λ m. carried_world m f.world f.steps) torn ∙ at;
+          torn_is = carried.torn_is ∙ ap (λ m. carried_torn m f.world f.steps) torn ∙ ap Some flown;
+        };
+        away = tt;
+      }
+
+  -- one that was not committed
+  pub back_new : (log : Log) (kinds : List Kind) (given : List (List Output)) (front settled : World) (out any : ℕ) (doubt : Option ℕ) (kept : Kept D) (f : FlightState D) → IsLedger {D = D} log kinds given front settled out doubt None → IsCarried f kept → f.mark ≡ New → f.world ≡ settled_world log
+      → IsLedger log kinds given front settled any doubt (Some kept)
+  back_new log kinds given front settled out any doubt kept f is carried new at =
+      record {
+        consistent = is.consistent;
+        kinds_are = is.kinds_are;
+        given_is = is.given_is;
+        front_is = is.front_is;
+        settled_is = is.settled_is;
+        doubt_within = is.doubt_within;
+        home = record {
+          world_is = carried.world_is ∙ ap (λ m. carried_world m f.world f.steps) new ∙ at;
+          torn_is = carried.torn_is ∙ ap (λ m. carried_torn m f.world f.steps) new ∙ sym (ap (doubted log) is.away.going);
+        };
         away = tt;
       }
 
   -- one that was committed
-  pub back_good : (log : Log) (kinds : List Kind) (given left : List (List Output)) (front settled later : World) (out any : ℕ) (doubt : Option ℕ) (kept : Kept D) (steps : List Step) (world : World) (next : Option World) → IsLedger {D = D} log kinds given front settled out doubt None
-      → IsFlight steps world next Good kept → world ≡ settled_world log → out ≡ length steps → steps ≡ take (length steps) (pending log) → left ≡ drop (length steps) given → later ≡ fold world steps
-      → IsLedger (with_settled log (length steps)) kinds left front later any doubt (Some kept)
-  back_good log kinds given left front settled later out any doubt kept steps world next is flight at size same rest led =
-      let within : log.settled + length steps ≤ length log.trail = omega (arith, is.away.fits.within, size) in
-      let flown : fold world steps ≡ settled_world (with_settled log (length steps)) = ap (λ w. fold w steps) at ∙ ap (fold (settled_world log)) same ∙ sym (world-add log log.settled (length steps)) in
+  pub back_good : (log : Log) (kinds : List Kind) (given left : List (List Output)) (front settled later : World) (out any : ℕ) (doubt : Option ℕ) (kept : Kept D) (f : FlightState D) → IsLedger {D = D} log kinds given front settled out doubt None → IsCarried f kept → f.mark ≡ Good
+      → f.world ≡ settled_world log → out ≡ length f.steps → f.steps ≡ take (length f.steps) (pending log) → left ≡ drop (length f.steps) given → later ≡ fold f.world f.steps → IsLedger (with_settled log (length f.steps)) kinds left front later any doubt (Some kept)
+  back_good log kinds given left front settled later out any doubt kept f is carried good at size same rest led =
+      let n = length f.steps in
+      let within : log.settled + n ≤ length log.trail = omega (arith, is.away.fits.within, size) in
+      let flown : fold f.world f.steps ≡ settled_world (with_settled log n) = ap (λ w. fold w f.steps) at ∙ ap (fold (settled_world log)) same ∙ sym (world-add log log.settled n) in
       let none = is.away.going in
       record {
-        consistent = log_stays.settled log (length steps) is.consistent within;
+        consistent = log_stays.settled log n is.consistent within;
         kinds_are = is.kinds_are;
-        given_is = rest ∙ given_behind log (length steps) given is.given_is;
+        given_is = rest ∙ given_behind log n given is.given_is;
         front_is = is.front_is;
         settled_is = led ∙ flown;
-        doubt_within = subst (λ o. IfSome o (λ b. (1 ≤ b) × (log.settled + length steps + b ≤ length log.trail))) (sym none) tt;
-        home = record { world_is = flight.world_is ∙ flown; torn_is = flight.torn_is ∙ sym (ap (doubted (with_settled log (length steps))) none) };
+        doubt_within = subst (λ o. IfSome o (λ b. (1 ≤ b) × (log.settled + n + b ≤ length log.trail))) (sym none) tt;
+        home = record {
+          world_is = carried.world_is ∙ ap (λ m. carried_world m f.world f.steps) good ∙ flown;
+          torn_is = carried.torn_is ∙ ap (λ m. carried_torn m f.world f.steps) good ∙ sym (ap (doubted (with_settled log n)) none);
+        };
         away = tt;
       }
+
+  -- ---- images
+
+  -- those of a store that goes on give its world
+  one_gives : (present : D → Present) (kept : Kept D) (w : World) → kept.world ≡ w → kept.torn ≡ None → ImagesGive present kept → (image : List ℕ) → IsImage (present kept.disk) image → Recovered image w
+  one_gives present kept w is none gives image here = ⊎_elim (λ given. subst (Recovered image) is given) (λ other. let no : ⊥ = cc (none, other.1) in absurd no) (gives image here)
+
+  -- after a torn commit one of two
+  either_gives : (present : D → Present) (kept : Kept D) (w later : World) → kept.world ≡ w → kept.torn ≡ Some later → ImagesGive present kept → (image : List ℕ) → IsImage (present kept.disk) image → GivesEither w later image
+  either_gives present kept w later is torn gives image here =
+      ⊎_elim (λ given. inl (subst (Recovered image) is given)) (λ other. let same : other.0 ≡ later = cc (torn, other.1) in inr (subst (Recovered image) same other.2)) (gives image here)
+
+  -- those of a ledger's store at home
+  home_gives : (present : D → Present) (log : Log) (doubt : Option ℕ) (kept : Kept D) → IsHome log doubt kept → ImagesGive present kept → (image : List ℕ) → IsImage (present kept.disk) image → GivesSettled log doubt image
+  home_gives present log None kept home = one_gives present kept (settled_world log) home.world_is home.torn_is
+  home_gives present log (Some b) kept home = either_gives present kept (settled_world log) (world_after log (log.settled + b)) home.world_is home.torn_is
+
+  pub store_gives : (keeps_model : D → Bool) (present : D → Present) (log : Log) (doubt : Option ℕ) (store : Option (Kept D)) (kept : Kept D) → store ≡ Some kept → IfSome store (IsHome log doubt) → (keeps_model kept.disk ≡ true → ImagesGive present kept)
+      → IfSome (disk_at store) (λ d. keeps_model d ≡ true → (image : List ℕ) → IsImage (present d) image → GivesSettled log doubt image)
+  store_gives keeps_model present log doubt None kept is home gives = tt
+  store_gives keeps_model present log doubt (Some own) kept is home gives =
+      let same : kept ≡ own = cc in
+      λ on. home_gives present log doubt own home (subst (λ k. keeps_model k.disk ≡ true → ImagesGive present k) same gives on)
+
+  -- those of a flight's
+  pub flown_gives : (present : D → Present) (steps : List Step) (world : World) (next : Option World) (mark : Mark) (kept : Kept D) → IsFlight steps world next mark kept → ImagesGive present kept → (image : List ℕ) → IsImage (present kept.disk) image → GivesFlown mark world steps image
+  flown_gives present steps world next New kept flight = one_gives present kept world flight.world_is flight.torn_is
+  flown_gives present steps world next Good kept flight = one_gives present kept (fold world steps) flight.world_is flight.torn_is
+  flown_gives present steps world next Torn kept flight = either_gives present kept world (fold world steps) flight.world_is flight.torn_is
 
   -- a ledger that has stopped has its store back
   pub stopped_is_home : (log : Log) (kinds : List Kind) (given : List (List Output)) (front settled : World) (out : ℕ) (doubt : Option ℕ) (store : Option (Kept D)) → IsLedger log kinds given front settled out doubt store → IfSome doubt (λ _. out_of store out ≡ None)

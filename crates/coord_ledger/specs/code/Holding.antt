@@ -15,6 +15,7 @@ use Rattle.coord_world.specs.protocol.Outputs.{outs}
 use Rattle.coord_ledger.specs.declared.mark.Mark.{Mark}
 use Rattle.coord_ledger.specs.declared.mark.Mark.TheVariants.{New, Good, Torn}
 use Rattle.coord_ledger.specs.declared.release.Release.{Release}
+use Rattle.coord_ledger.specs.ledger.State.{FlightState}
 use Rattle.coord_ledger.specs.machine.After.{release_of}
 use Rattle.coord_ledger.specs.machine.Consistent.{FitsOut, IsConsistentLog}
 use Rattle.coord_ledger.specs.machine.Log.{Log, front_world, pending, settled_world, world_after}
@@ -102,3 +103,10 @@ pub record IsFlight {D : Type 0} (steps : List Step) (world : World) (next : Opt
   pub world_is : kept.world ≡ carried_world mark world steps
   pub torn_is : kept.torn ≡ carried_torn mark world steps
   pub next_is : IfSome next (λ v. v ≡ fold kept.world steps)
+
+-- the store that a flight carried
+pub record IsCarried {D : Type 0} (f : FlightState D) (kept : Kept D) : Type 0 where
+  pub some : 1 ≤ length f.steps
+  pub disk_is : kept.disk ≡ f.disk
+  pub world_is : kept.world ≡ carried_world f.mark f.world f.steps
+  pub torn_is : kept.torn ≡ carried_torn f.mark f.world f.steps

@@ -1,6 +1,6 @@
 //! Replies to settled steps.
 
-ghost use Rattle.std.specs.Prelude.{◌≡◌, ◌↔◌, ◌<◌, length, slice_get, IfErr, IfOk, IsTrue, Some};
+ghost use Rattle.std.specs.Prelude.{◌≡◌, ◌↔◌, ◌<◌, false, true, length, slice_get, IfErr, IfOk, IsTrue, Some};
 ghost use Rattle.coord_ledger.specs.ledger.State.{IsCollectable, IsKeptBy, reply_of};
 
 use super::Ledger;
@@ -25,6 +25,22 @@ fn is_kept(world: &World, ticket: &Ticket) -> bool
     }
 }
 
+/// Whether the ticket's step stands at this place of a trail.
+fn is_step_at(trail: &[Step], place: usize, ticket: &Ticket) -> bool
+    requires { place < length trail.now }
+    ensures { IsTrue result ↔ (slice_get trail.now place ≡ Some ticket.now.what) }
+{
+    is_same_step(&trail[place], &ticket.what)
+}
+
+/// Whether its kind stands at this place of the kinds.
+fn is_kind_at(kinds: &[Kind], place: usize, ticket: &Ticket) -> bool
+    requires { place < length kinds.now }
+    ensures { IsTrue result ↔ (slice_get kinds.now place ≡ Some ticket.now.kind) }
+{
+    kinds[place] == ticket.kind
+}
+
 /// Whether the ticket's step stands at this place of a trail, and its kind at that of the kinds.
 fn stands_at(trail: &[Step], kinds: &[Kind], place: usize, ticket: &Ticket) -> bool
     requires in_trail { place < length trail.now }
@@ -32,10 +48,23 @@ fn stands_at(trail: &[Step], kinds: &[Kind], place: usize, ticket: &Ticket) -> b
     ensures { IsTrue result ↔ ((slice_get trail.now place ≡ Some ticket.now.what) ×
         (slice_get kinds.now place ≡ Some ticket.now.kind)) }
 {
-    if !is_same_step(&trail[place], &ticket.what) {
+    if !is_step_at(trail, place, ticket) {
         return false;
     }
-    kinds[place] == ticket.kind
+    is_kind_at(kinds, place, ticket)
+}
+
+/// The reply that the ticket stands for where its step is settled, and else the ticket.
+fn replied(ticket: Ticket, settled: bool) -> Result<Reply, Ticket>
+    ensures settled { IfOk result (λ reply. (reply ≡ reply_of ticket) × (settled ≡ true)) }
+    ensures waiting { IfErr result (λ back. (back ≡ ticket) × (settled ≡ false)) }
+{
+    if !settled {
+        return Err(ticket);
+    }
+    let reply = ticket.reply();
+    ticket.forget();
+    Ok(reply)
 }
 
 impl<D: Disk> Ledger<D> {
@@ -71,11 +100,10 @@ impl<D: Disk> Ledger<D> {
         ensures waiting { IfErr result (λ back. (back ≡ ticket) ×
             ¬ IsCollectable self.now.log ticket) }
     {
-        if !self.is_collectable(&ticket) {
-            return Err(ticket);
+        let settled = self.is_collectable(&ticket);
+        match replied(ticket, settled) {
+            Ok(reply) => Ok(reply),
+            Err(ticket) => Err(ticket),
         }
-        let reply = ticket.reply();
-        ticket.forget();
-        Ok(reply)
     }
 }

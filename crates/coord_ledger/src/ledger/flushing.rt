@@ -1,6 +1,7 @@
 //! Flights go out, and come back.
 
-ghost use Rattle.std.specs.Prelude.{◌≡◌, ◌≢◌, ◌+◌, ◌↔◌, ◌≤◌, false, true, None, Ok, Some, drop, length, take, IfErr, IfOk, IsSomeAnd, IsTrue, MatchResult, OnErr, OnOk};
+ghost use Rattle.std.specs.Prelude.{◌≡◌, ◌≢◌, ◌+◌, ◌↔◌, ◌≤◌, false, true, is_some, None, Ok, Some, drop, length, take, IfErr, IfOk, IsSomeAnd, IsTrue, MatchResult, OnErr, OnOk};
+ghost use Rattle.coord_types.specs.declared.limits.TheConstants.{MAX_BATCH_STEPS};
 ghost use Rattle.coord_world.specs.protocol.Next.{fold};
 ghost use Rattle.coord_ledger.specs.ledger.Calls.{RefusesFlight, keeps_store, next_flight, releases_in, taken_back, with_out};
 ghost use Rattle.coord_ledger.specs.ledger.Follows.{IsOut};
@@ -14,6 +15,7 @@ use coord_store::take_all;
 use coord_types::{MAX_BATCH_STEPS, Refusal, Step};
 use coord_world::World;
 use std::alloc::AllocError;
+use std::mem::replace;
 
 /// So many steps behind the settled ones.
 fn next_steps(trail: &[Step], done: usize, size: usize) -> &[Step]
@@ -33,8 +35,59 @@ impl<D: Disk> Ledger<D> {
             return self.front.copy();
         }
         let mut next = self.settled.copy()?;
-        take_all(&mut next, steps)?;
-        Ok(next)
+        match take_all(&mut next, steps) {
+            Ok(()) => Ok(next),
+            Err(fault) => {
+                drop(next);
+                Err(fault)
+            }
+        }
+    }
+
+    /// The next steps that are not settled, at most 256, and the world after them.
+    fn next_flown(&self) -> Result<(Vec<Step>, World), AllocError>
+        ensures steps { IfOk result (λ flown. flown.0.items ≡
+            take MAX_BATCH_STEPS (pending self.now.log)) }
+        ensures world { IfOk result (λ flown. flown.1 ≡
+            fold (settled_world self.now.log) flown.0.items) }
+    {
+        let size = MAX_BATCH_STEPS.min(self.trail.len() - self.done);
+        let steps = Vec::from_slice(self.alloc, next_steps(&self.trail, self.done, size))?;
+        match self.world_behind(&steps) {
+            Ok(next) => Ok((steps, next)),
+            Err(fault) => {
+                drop(steps);
+                Err(fault)
+            }
+        }
+    }
+
+    /// Sends the store out with the next steps, which lead to this world.
+    fn send_out(&mut self, steps: Vec<Step>, later: World) -> Flight<D>
+        requires home { is_some self.old.disk ≡ true }
+        requires going { self.old.doubt ≡ None }
+        requires next { steps.items ≡ take MAX_BATCH_STEPS (pending self.old.log) }
+        requires some { 1 ≤ length steps.items }
+        requires led { later ≡ fold (settled_world self.old.log) steps.items }
+        ensures flight { result ≡ next_flight self.old.log result.disk }
+        ensures disk { self.old.disk ≡ Some result.disk }
+        ensures out { self.new ≡ with_out self.old (length result.steps) }
+    {
+        let first = self.settled_count() + 1;
+        let size = steps.len();
+        let store = match self.store.take() {
+            Some(store) => store,
+            None => unreachable!(),
+        };
+        self.out = size;
+        Flight {
+            first,
+            steps,
+            before: None,
+            next: Some(later),
+            mark: Mark::New,
+            store,
+        }
     }
 
     /// Sends the store out with the next steps that are not settled, at most 256. None where
@@ -53,22 +106,11 @@ impl<D: Disk> Ledger<D> {
         if self.store.is_none() {
             return Ok(None);
         }
-        let size = MAX_BATCH_STEPS.min(self.trail.len() - self.done);
-        let steps = Vec::from_slice(self.alloc, next_steps(&self.trail, self.done, size))?;
-        let next = self.world_behind(&steps)?;
-        let first = self.settled_count() + 1;
-        let Some(store) = self.store.take() else {
-            return Ok(None);
+        let (steps, later) = match self.next_flown() {
+            Ok(flown) => flown,
+            Err(fault) => return Err(fault),
         };
-        self.out = size;
-        Ok(Some(Flight {
-            first,
-            steps,
-            before: None,
-            next: Some(next),
-            mark: Mark::New,
-            store,
-        }))
+        Ok(Some(self.send_out(steps, later)))
     }
 
     /// Whether a flight is the one that is out.
@@ -96,8 +138,13 @@ impl<D: Disk> Ledger<D> {
     {
         let world = flight.store.world().copy()?;
         let first = 1 + self.settled_count();
-        let rows = released(self.alloc, first, &self.given, flight.steps.len())?;
-        Ok((world, rows))
+        match released(self.alloc, first, &self.given, flight.steps.len()) {
+            Ok(rows) => Ok((world, rows)),
+            Err(fault) => {
+                drop(world);
+                Err(fault)
+            }
+        }
     }
 
     /// Takes back a flight of its own that was not committed, or was torn.
@@ -106,17 +153,10 @@ impl<D: Disk> Ledger<D> {
         requires uncommitted { flight.mark ≢ Mark.Good }
         ensures { self.new ≡ taken_back self.old (length flight.steps) flight.mark flight.disk }
     {
-        let Flight {
-            first: _,
-            steps,
-            before: _,
-            next: _,
-            mark,
-            store,
-        } = flight;
-        self.store = Some(store);
+        let (size, mark, store) = flight.into_parts();
+        drop(self.store.replace(store));
         if mark == Mark::Torn {
-            self.doubt = Some(steps.len());
+            self.doubt = Some(size);
         }
     }
 
@@ -127,19 +167,34 @@ impl<D: Disk> Ledger<D> {
         requires led { settled ≡ fold flight.world flight.steps }
         ensures { self.new ≡ taken_back self.old (length flight.steps) flight.mark flight.disk }
     {
-        let Flight {
-            first: _,
-            steps,
-            before: _,
-            next: _,
-            mark: _,
-            store,
-        } = flight;
-        self.store = Some(store);
-        let size = steps.len();
+        let (size, _mark, store) = flight.into_parts();
+        drop(self.store.replace(store));
         self.done += size;
         drop_first(&mut self.given, size);
-        self.settled = settled;
+        drop(replace(&mut self.settled, settled));
+    }
+
+    /// Takes back a flight of its own. Where it finds no memory it gives the flight back.
+    fn land(&mut self, flight: Flight<D>) -> Result<Releases, Flight<D>>
+        requires { IsOut self.old flight }
+        ensures taken { OnOk result (self.new ≡
+            taken_back self.old (length flight.steps) flight.mark flight.disk) }
+        ensures released { IfOk result (λ releases. releases ≡ releases_in flight flight.mark) }
+        ensures good { OnErr result (flight.mark ≡ Mark.Good) }
+        ensures back { IfErr result (λ back. back ≡ flight) }
+        ensures unchanged { OnErr result (self.new ≡ self.old) }
+    {
+        if flight.mark != Mark::Good {
+            self.take_back(flight);
+            return Ok(Releases::of(Vec::new(self.alloc)));
+        }
+        match self.settled_by(&flight) {
+            Ok((settled, rows)) => {
+                self.take_settled(flight, settled);
+                Ok(Releases::of(rows))
+            }
+            Err(_) => Err(flight),
+        }
     }
 
     /// Takes back the flight that is out, and its store with it. A good one settles its steps and
@@ -160,16 +215,9 @@ impl<D: Disk> Ledger<D> {
         if !self.is_own(&flight) {
             return Err((Refusal::Stranger, flight));
         }
-        if flight.mark != Mark::Good {
-            self.take_back(flight);
-            return Ok(Releases::of(Vec::new(self.alloc)));
-        }
-        match self.settled_by(&flight) {
-            Ok((settled, rows)) => {
-                self.take_settled(flight, settled);
-                Ok(Releases::of(rows))
-            }
-            Err(_) => Err((Refusal::OutOfMemory, flight)),
+        match self.land(flight) {
+            Ok(releases) => Ok(releases),
+            Err(flight) => Err((Refusal::OutOfMemory, flight)),
         }
     }
 }

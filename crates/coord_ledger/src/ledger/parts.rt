@@ -45,15 +45,19 @@ impl<D: Disk> Ledger<D> {
             alloc: _,
             base,
             trail,
-            kinds: _,
-            given: _,
+            kinds,
+            given,
             done: _,
-            front: _,
-            settled: _,
+            front,
+            settled,
             out: _,
             doubt: _,
             store,
         } = self;
+        drop(kinds);
+        drop(given);
+        drop(front);
+        drop(settled);
         match store {
             Some(store) => Ok((store, base, trail, count)),
             None => unreachable!(),

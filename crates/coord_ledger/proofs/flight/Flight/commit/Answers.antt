@@ -1,47 +1,39 @@
-use Rattle.std.proofs.Common.{◌≡◌, ◌+◌, ◌≤◌, ℕ, List, None, length, true, unwrap_or, sym, ap, ◌∙◌, subst}
+use Rattle.std.proofs.Common.{◌≡◌, ◌+◌, ◌≤◌, ℕ, Bool, List, Option, None, length, true, sym, ap, ◌∙◌, subst}
+use Rattle.coord_disk.specs.Model.Present.{Present}
 use Rattle.coord_journal.specs.Text.{HasPlaceIn, IsTextIn}
+use Rattle.coord_store.specs.Kept.{Kept}
 use Rattle.coord_store.specs.Recovered.{IsBody}
-use Rattle.coord_ledger.specs.code.Holding.{carried_torn, carried_world}
+use Rattle.coord_types.specs.declared.steps.Step.{Step}
+use Rattle.coord_world.specs.protocol.NumberedWorld.{World}
+use Rattle.coord_ledger.specs.code.Holding.{IsFlight, carried_torn, carried_world}
+use Rattle.coord_ledger.specs.declared.mark.Mark.{Mark}
 use Rattle.coord_ledger.specs.declared.mark.Mark.TheVariants.{New}
 use Rattle.coord_ledger.specs.ledger.State.{FlightState}
+use Rattle.coord_ledger.proofs.follows.IsOut.{flight_of}
 use Rattle.coord_ledger.proofs.flight.Flight.commit.Goals as goal
+
+-- what the store's commit says of its disk where a body fits holds of a new flight's
+where_it_fits : {D : Type 0} (keeps_model : D → Bool) (present : D → Present) (Says : ℕ → D → Type 0) (first : ℕ) (steps items : List Step) (world : World) (next : Option World) (mark : Mark) (kept : Kept D) (f : FlightState D) → flight_of first steps world mark kept ≡ f → mark ≡ New → IsFlight steps world next mark kept → items ≡ steps
+    → ((half : ℕ) (body : List ℕ) → keeps_model kept.disk ≡ true → kept.torn ≡ None → IsBody kept.world body items → HasPlaceIn half (length body) (present kept.disk).read → Says half kept.disk)
+    → (half : ℕ) (body : List ℕ) → keeps_model f.disk ≡ true → f.mark ≡ New → IsBody f.world body f.steps → HasPlaceIn half (length body) (present f.disk).read → Says half f.disk
+where_it_fits {D} keeps_model present Says first steps items world next mark kept f seen new is same says =
+    let none = is.torn_is ∙ ap (λ m. carried_torn m world steps) new in
+    let here = is.world_is ∙ ap (λ m. carried_world m world steps) new in
+    subst (λ (o : FlightState D). (half : ℕ) (body : List ℕ) → keeps_model o.disk ≡ true → o.mark ≡ New → IsBody o.world body o.steps → HasPlaceIn half (length body) (present o.disk).read → Says half o.disk) seen
+    (λ half body k _ spells place. says half body k none (subst (λ w. IsBody w body items) (sym here) (subst (IsBody world body) (sym same) spells)) place)
 
 pub returns-in-Ok-clause-calls_where_it_fits : goal.returns-in-Ok-clause-calls_where_it_fits
 returns-in-Ok-clause-calls_where_it_fits g c =
-    let f = c.self.inside in
-    let begun = unwrap_or f.before f.store.world in
-    let none : f.store.torn ≡ None = c.self.invariant.torn_is ∙ ap (λ m. carried_torn m begun f.steps.items) c.in-New.is in
-    let world : f.store.world ≡ begun = c.self.invariant.world_is ∙ ap (λ m. carried_world m begun f.steps.items) c.in-New.is in
-    let P : FlightState g.row.D.Denot → Type 0 = λ o. (half : ℕ) (body : List ℕ) → g.D.Disk.keeps_model o.disk ≡ true → o.mark ≡ New → IsBody o.world body o.steps → HasPlaceIn half (length body) (g.D.Disk.present o.disk).read → g.D.Disk.clock c.commit_to.new.self.disk ≤ g.D.Disk.clock o.disk + 4 in
-    subst P c.self.view_is (λ half body k new spells place.
-    c.commit_to.ensures.calls_where_it_fits half body k none (subst (λ w. IsBody w body c.deref.result.now) (sym world) (subst (λ l. IsBody begun body l) (sym c.deref.ensures.value) spells)) place)
+    where_it_fits g.D.Disk.keeps_model g.D.Disk.present (λ _ d. g.D.Disk.clock c.commit_to.new.self.disk ≤ g.D.Disk.clock d + 4) _ _ _ _ _ _ _ _ c.self.view_is c.in-New.is c.self.invariant c.deref.ensures.value c.commit_to.ensures.calls_where_it_fits
 
 pub returns-in-Ok-clause-half_where_it_fits : goal.returns-in-Ok-clause-half_where_it_fits
 returns-in-Ok-clause-half_where_it_fits g c =
-    let f = c.self.inside in
-    let begun = unwrap_or f.before f.store.world in
-    let none : f.store.torn ≡ None = c.self.invariant.torn_is ∙ ap (λ m. carried_torn m begun f.steps.items) c.in-New.is in
-    let world : f.store.world ≡ begun = c.self.invariant.world_is ∙ ap (λ m. carried_world m begun f.steps.items) c.in-New.is in
-    let P : FlightState g.row.D.Denot → Type 0 = λ o. (half : ℕ) (body : List ℕ) → g.D.Disk.keeps_model o.disk ≡ true → o.mark ≡ New → IsBody o.world body o.steps → HasPlaceIn half (length body) (g.D.Disk.present o.disk).read → IsTextIn half (g.D.Disk.present c.commit_to.new.self.disk).read in
-    subst P c.self.view_is (λ half body k new spells place.
-    c.in-Ok.ensures.half_where_it_fits half body k none (subst (λ w. IsBody w body c.deref.result.now) (sym world) (subst (λ l. IsBody begun body l) (sym c.deref.ensures.value) spells)) place)
+    where_it_fits g.D.Disk.keeps_model g.D.Disk.present (λ half _. IsTextIn half (g.D.Disk.present c.commit_to.new.self.disk).read) _ _ _ _ _ _ _ _ c.self.view_is c.in-New.is c.self.invariant c.deref.ensures.value c.in-Ok.ensures.half_where_it_fits
 
 pub returns-in-Err-Device-clause-calls_where_it_fits : goal.returns-in-Err-Device-clause-calls_where_it_fits
 returns-in-Err-Device-clause-calls_where_it_fits g c =
-    let f = c.self.inside in
-    let begun = unwrap_or f.before f.store.world in
-    let none : f.store.torn ≡ None = c.self.invariant.torn_is ∙ ap (λ m. carried_torn m begun f.steps.items) c.in-New.is in
-    let world : f.store.world ≡ begun = c.self.invariant.world_is ∙ ap (λ m. carried_world m begun f.steps.items) c.in-New.is in
-    let P : FlightState g.row.D.Denot → Type 0 = λ o. (half : ℕ) (body : List ℕ) → g.D.Disk.keeps_model o.disk ≡ true → o.mark ≡ New → IsBody o.world body o.steps → HasPlaceIn half (length body) (g.D.Disk.present o.disk).read → g.D.Disk.clock c.commit_to.new.self.disk ≤ g.D.Disk.clock o.disk + 4 in
-    subst P c.self.view_is (λ half body k new spells place.
-    c.commit_to.ensures.calls_where_it_fits half body k none (subst (λ w. IsBody w body c.deref.result.now) (sym world) (subst (λ l. IsBody begun body l) (sym c.deref.ensures.value) spells)) place)
+    where_it_fits g.D.Disk.keeps_model g.D.Disk.present (λ _ d. g.D.Disk.clock c.commit_to.new.self.disk ≤ g.D.Disk.clock d + 4) _ _ _ _ _ _ _ _ c.self.view_is c.in-New.is c.self.invariant c.deref.ensures.value c.commit_to.ensures.calls_where_it_fits
 
 pub returns-in-Err-clause-calls_where_it_fits : goal.returns-in-Err-clause-calls_where_it_fits
 returns-in-Err-clause-calls_where_it_fits g c =
-    let f = c.self.inside in
-    let begun = unwrap_or f.before f.store.world in
-    let none : f.store.torn ≡ None = c.self.invariant.torn_is ∙ ap (λ m. carried_torn m begun f.steps.items) c.in-New.is in
-    let world : f.store.world ≡ begun = c.self.invariant.world_is ∙ ap (λ m. carried_world m begun f.steps.items) c.in-New.is in
-    let P : FlightState g.row.D.Denot → Type 0 = λ o. (half : ℕ) (body : List ℕ) → g.D.Disk.keeps_model o.disk ≡ true → o.mark ≡ New → IsBody o.world body o.steps → HasPlaceIn half (length body) (g.D.Disk.present o.disk).read → g.D.Disk.clock c.commit_to.new.self.disk ≤ g.D.Disk.clock o.disk + 4 in
-    subst P c.self.view_is (λ half body k new spells place.
-    c.commit_to.ensures.calls_where_it_fits half body k none (subst (λ w. IsBody w body c.deref.result.now) (sym world) (subst (λ l. IsBody begun body l) (sym c.deref.ensures.value) spells)) place)
+    where_it_fits g.D.Disk.keeps_model g.D.Disk.present (λ _ d. g.D.Disk.clock c.commit_to.new.self.disk ≤ g.D.Disk.clock d + 4) _ _ _ _ _ _ _ _ c.self.view_is c.in-New.is c.self.invariant c.deref.ensures.value c.commit_to.ensures.calls_where_it_fits

@@ -15,15 +15,15 @@ released-requires-clause-within g c =
     let own : IsOut l c.args.flight.now = subst (λ x. IsOut x c.args.flight.now) (sym c.self.view_is) c.requires.own in
     omega (arith, given_within log _ _ _ _ _ _ c.args.flight.now own c.self.inside.given.items c.self.invariant, ap (λ (f : FlightState g.row.D.Denot). length f.steps) c.flight.view_is)
 
-pub returns-clause-world : goal.returns-clause-world
-returns-clause-world g c =
+pub returns-in-Ok-clause-world : goal.returns-in-Ok-clause-world
+returns-in-Ok-clause-world g c =
     let f = c.flight.inside in
     let begun = unwrap_or f.before f.store.world in
     let good : f.mark ≡ Good = ap (λ (x : FlightState g.row.D.Denot). x.mark) c.flight.view_is ∙ c.requires.good in
     c.in_ok-world.ensures ∙ c.world.ensures ∙ c.flight.invariant.world_is ∙ ap (λ m. carried_world m begun f.steps.items) good ∙ ap (λ (x : FlightState g.row.D.Denot). fold x.world x.steps) c.flight.view_is
 
-pub returns-clause-released : goal.returns-clause-released
-returns-clause-released g c =
+pub returns-in-Ok-clause-released : goal.returns-in-Ok-clause-released
+returns-in-Ok-clause-released g c =
     let log : Log = record { base = c.self.inside.base; trail = c.self.inside.trail.items; settled = c.self.inside.done } in
     let l : LedgerState g.row.D.Denot = ledger_of log c.self.inside.out c.self.inside.doubt c.self.inside.store in
     let own : IsOut l c.args.flight.now = subst (λ x. IsOut x c.args.flight.now) (sym c.self.view_is) c.requires.own in
@@ -32,4 +32,4 @@ returns-clause-released g c =
     let number : first ≡ settled_count log + 1 = omega (arith, c.settled_count-first.ensures.value, same_count) in
     let size : c.len.result ≡ length c.flight.inside.steps.items = search rules in
     let all = size ∙ ap (λ (x : FlightState g.row.D.Denot). length x.steps) c.flight.view_is in
-    c.in_ok-rows.ensures ∙ gives_out log _ _ _ _ _ _ c.args.flight.now own (listed c.self.inside.given.items) first c.len.result c.self.invariant number all
+    c.in-Ok.ensures ∙ gives_out log _ _ _ _ _ _ c.args.flight.now own (listed c.self.inside.given.items) first c.len.result c.self.invariant number all
