@@ -4,7 +4,7 @@ ghost use Rattle.std.specs.Prelude.{◌≤◌};
 
 use crate::scripts::{HALF, begun, count_on, created};
 use coord_check::{Letter, Violation};
-use coord_disk::{BlipDisk, MemDisk};
+use coord_disk::{BlipDisk, Disk, MemDisk};
 use coord_journal::format;
 use coord_store::{Store, StoreFault};
 use coord_types::NodeId;
@@ -48,6 +48,11 @@ const VIOLATED: [u8; 112] = [
     0, 0, 0, 0, 0, 0, 0, 0, 0, 0, 0, 0, 0, 1, 1, 0,
 ];
 
+/// They stand behind a call, so that a proof that hands them on does not carry them.
+fn violated() -> [u8; 112] {
+    VIOLATED
+}
+
 // The count of the world that an opening finds on these bytes, or why it is refused. A disk in memory fails for want of memory alone, and that is an error here.
 fn told(alloc: Global, bytes: &[u8]) -> Result<Result<u64, StoreFault>, StoreFault> {
     match count_on(alloc, MemDisk::from_bytes(alloc, bytes)?) {
@@ -84,13 +89,24 @@ fn a_store_is_made_and_committed_to(rt: HostRuntime) -> Result<(), Fail> {
     Ok(())
 }
 
-// Why no store is made on these bytes with a half of this size, if so.
+// Why no store was made, if so.
+fn fault_of<D: Disk>(made: Result<Store<D>, (StoreFault, D)>) -> Option<StoreFault> {
+    match made {
+        Ok(store) => {
+            drop(store);
+            None
+        }
+        Err((fault, disk)) => {
+            drop(disk);
+            Some(fault)
+        }
+    }
+}
+
+// Why none is made on these bytes with a half of this size, if so.
 fn refusal(alloc: Global, bytes: &[u8], half: u64) -> Result<Option<StoreFault>, AllocError> {
     let disk = MemDisk::from_bytes(alloc, bytes)?;
-    match Store::create(alloc, disk, half, 1) {
-        Ok(_store) => Ok(None),
-        Err((fault, _disk)) => Ok(Some(fault)),
-    }
+    Ok(fault_of(Store::create(alloc, disk, half, 1)))
 }
 
 // Whether it is for this reason. Want of memory is an error here.
@@ -104,7 +120,7 @@ fn is_refused(alloc: Global, bytes: &[u8], half: u64, why: StoreFault) -> Result
 #[test]
 fn a_store_is_made_once_and_not_too_small(rt: HostRuntime) -> Result<(), Fail> {
     let alloc = rt.alloc();
-    let again = is_refused(alloc, &CREATED, HALF, StoreFault::NotEmpty)?;
+    let again = is_refused(alloc, &created_in(1), HALF, StoreFault::NotEmpty)?;
     assert!(rt; again && is_refused(alloc, &[], HALF - 1, StoreFault::HalfSize)?);
     Ok(())
 }
@@ -116,11 +132,11 @@ const MAKING: u64 = 6;
 // Whether a making over a device that fails this call is told so, and one that ends before it is not.
 fn is_making_told(alloc: Global, call: u64) -> Result<bool, StoreFault> {
     let disk = BlipDisk::new(MemDisk::new(alloc), call);
-    match Store::create(alloc, disk, HALF, 2) {
-        Ok(_store) => Ok(MAKING <= call),
-        Err((StoreFault::OutOfMemory, _disk)) => Err(StoreFault::OutOfMemory),
-        Err((StoreFault::Device, _disk)) if MAKING <= call => Err(StoreFault::Device),
-        Err((fault, _disk)) => Ok(fault == StoreFault::Device),
+    match fault_of(Store::create(alloc, disk, HALF, 2)) {
+        None => Ok(MAKING <= call),
+        Some(StoreFault::OutOfMemory) => Err(StoreFault::OutOfMemory),
+        Some(StoreFault::Device) if MAKING <= call => Err(StoreFault::Device),
+        Some(fault) => Ok(fault == StoreFault::Device),
     }
 }
 
@@ -221,7 +237,7 @@ fn cut_and_changed_devices_are_told(rt: HostRuntime) -> Result<(), Fail> {
 // Whether a snapshot that is not legal is refused.
 fn is_violated(alloc: Global) -> Result<bool, Fail> {
     let mut disk = MemDisk::new(alloc);
-    let formatted = format(alloc, &mut disk, HALF, 1, &VIOLATED);
+    let formatted = format(alloc, &mut disk, HALF, 1, &violated());
     let told = told(alloc, disk.bytes());
     drop(disk);
     formatted?;

@@ -43,13 +43,23 @@ fn reset(alloc: Global, disk: MemDisk, first: u64, count: u64) -> Result<(bool, 
     }
 }
 
+/// They stand behind a call, so that a proof about the walk over them does not carry them.
+fn resets() -> &'static [(u64, u64, u8)] {
+    &RESETS
+}
+
+fn is_selected(disk: &MemDisk, half: u8) -> bool {
+    disk.bytes().first() == Some(&half)
+}
+
 // Whether each row of resets leaves its half selected, and the store holds all steps in the end.
 fn fills_both_halves(alloc: Global) -> Result<bool, Fail> {
     let mut disk = begun(alloc, 1)?;
     let mut are_turned = true;
-    for (first, count, half) in &RESETS {
+    for (first, count, half) in resets() {
         let (are_fresh, after) = reset(alloc, disk, *first, *count)?;
-        are_turned = are_turned && are_fresh && after.bytes().first() == Some(half);
+        let is_selected = is_selected(&after, *half);
+        are_turned = are_turned && are_fresh && is_selected;
         disk = after;
     }
     let store = opened(alloc, disk)?;

@@ -3,8 +3,10 @@
 
 ghost use Rattle.std.specs.Prelude.{◌≤◌};
 
-use crate::scripts::{adding, choice, commits, commits_resets, count_on, created, opened, told_on};
-use coord_disk::{BlipDisk, CrashDisk, Disk, FuseDisk, MemDisk, TornDisk};
+use crate::scripts::{
+    adding, choice, choosing, commits, commits_resets, count_on, created, opened, told_on,
+};
+use coord_disk::{BlipDisk, CrashDisk, Disk, FailingDisk, FuseDisk, MemDisk, Rule, TornDisk};
 use coord_store::{CommitFault, Store, StoreFault};
 use std::alloc::Global;
 use std::test::Fail;
@@ -34,14 +36,56 @@ fn run<D: Disk>(alloc: Global, store: &mut Store<D>) -> Result<bool, CommitFault
 fn fresh(alloc: Global, version: u8, which: usize) -> Result<MemDisk, StoreFault>
     requires { (1 ≤ version) × (version ≤ 2) }
 {
-    let mut disk = created(alloc, version)?.into_disk();
-    disk.choose(choice(alloc, which)?);
-    Ok(disk)
+    let disk = created(alloc, version)?.into_disk();
+    Ok(choosing(disk, choice(alloc, which))?)
 }
 
-// The version, and how many steps are there, after a crash.
-fn left(alloc: Global, disk: MemDisk) -> Result<(u8, u64), StoreFault> {
-    told_on(alloc, disk.crash())
+// What is left of a run.
+#[derive(Clone, Copy)]
+struct Left {
+    answer: Result<bool, CommitFault>,
+    has_stopped: bool,
+    /// How many calls the device had.
+    calls: u64,
+    /// The version, and how many steps are there, after a crash.
+    steps: (u8, u64),
+}
+
+// What the run answers over a device, whether its store has stopped then, and the device.
+fn ran<D: Disk>(
+    alloc: Global,
+    disk: D,
+) -> Result<(Result<bool, CommitFault>, bool, D), StoreFault> {
+    let mut store = opened(alloc, disk)?;
+    let answer = run(alloc, &mut store);
+    let has_stopped = store.stopped();
+    Ok((answer, has_stopped, store.into_disk()))
+}
+
+// What is left over a device that fails.
+fn left_by<R: Rule>(alloc: Global, disk: FailingDisk<MemDisk, R>) -> Result<Left, StoreFault> {
+    let (answer, has_stopped, disk) = ran(alloc, disk)?;
+    let calls = disk.calls();
+    let steps = told_on(alloc, disk.into_inner().crash())?;
+    Ok(Left {
+        answer,
+        has_stopped,
+        calls,
+        steps,
+    })
+}
+
+// The same over one that tears a write.
+fn left_by_torn(alloc: Global, disk: TornDisk<MemDisk>) -> Result<Left, StoreFault> {
+    let (answer, has_stopped, disk) = ran(alloc, disk)?;
+    let calls = disk.calls();
+    let steps = told_on(alloc, disk.into_inner().crash())?;
+    Ok(Left {
+        answer,
+        has_stopped,
+        calls,
+        steps,
+    })
 }
 
 // How many steps there are, where so many calls were passed. A crash that loses what is not
@@ -66,19 +110,12 @@ fn count(calls: u64, which: usize) -> u64 {
 fn is_left_by_fuse(alloc: Global, version: u8, calls: u64, which: usize) -> Result<bool, StoreFault>
     requires { (1 ≤ version) × (version ≤ 2) }
 {
-    let disk = FuseDisk::new(fresh(alloc, version, which)?, calls.saturating_add(OPENING));
-    let mut store = opened(alloc, disk)?;
-    let answer = run(alloc, &mut store);
-    let has_stopped = store.stopped();
-    let disk = store.into_disk();
-    let is_reached = disk.calls() > calls.saturating_add(OPENING);
-    let steps = left(alloc, disk.into_inner())?;
-    Ok(
-        is_told(answer, is_reached)?
-            && is_reached == (calls < CALLS)
-            && has_stopped == is_reached
-            && steps == (version, count(calls, which)),
-    )
+    let passed = calls.saturating_add(OPENING);
+    let left = left_by(alloc, FuseDisk::new(fresh(alloc, version, which)?, passed))?;
+    let is_reached = left.calls > passed;
+    let is_told = is_told(left.answer, is_reached)?;
+    let has_stopped = left.has_stopped == is_reached && is_reached == (calls < CALLS);
+    Ok(is_told && has_stopped && left.steps == (version, count(calls, which)))
 }
 
 // Whether a run of fresh steps tells a fault of the device, where one was made, and else ends. Want
@@ -93,24 +130,19 @@ fn is_told(answer: Result<bool, CommitFault>, is_made: bool) -> Result<bool, Sto
     }
 }
 
+// Whether it was told that this call failed, none was made behind it, and the store has stopped.
+fn is_stopped_at(left: Left, failed: u64) -> Result<bool, StoreFault> {
+    let is_told = is_told(left.answer, left.calls > failed)?;
+    Ok(is_told && left.has_stopped && left.calls == failed.saturating_add(1))
+}
+
 // The same where one call fails. Nothing is written after it.
 fn is_left_by_blip(alloc: Global, version: u8, call: u64, which: usize) -> Result<bool, StoreFault>
     requires { (1 ≤ version) × (version ≤ 2) }
 {
-    let disk = BlipDisk::new(fresh(alloc, version, which)?, call.saturating_add(OPENING));
-    let mut store = opened(alloc, disk)?;
-    let answer = run(alloc, &mut store);
-    let has_stopped = store.stopped();
-    let disk = store.into_disk();
-    let calls = disk.calls();
     let failed = call.saturating_add(OPENING);
-    let steps = left(alloc, disk.into_inner())?;
-    Ok(
-        is_told(answer, calls > failed)?
-            && has_stopped
-            && calls == failed.saturating_add(1)
-            && steps == (version, count(call, which)),
-    )
+    let left = left_by(alloc, BlipDisk::new(fresh(alloc, version, which)?, failed))?;
+    Ok(is_stopped_at(left, failed)? && left.steps == (version, count(call, which)))
 }
 
 // The same where one write writes its first bytes and fails. Of a body or a snapshot they are not
@@ -122,24 +154,19 @@ fn is_left_by_torn(
     which: usize,
 ) -> Result<bool, StoreFault> {
     let failed = call.saturating_add(OPENING);
-    let disk = TornDisk::new(fresh(alloc, 2, which)?, failed, kept);
-    let mut store = opened(alloc, disk)?;
-    let answer = run(alloc, &mut store);
-    let has_stopped = store.stopped();
-    let disk = store.into_disk();
-    let calls = disk.calls();
-    let steps = left(alloc, disk.into_inner())?;
+    let left = left_by_torn(alloc, TornDisk::new(fresh(alloc, 2, which)?, failed, kept))?;
+    let is_stopped = is_stopped_at(left, failed)?;
     let reached = if call % 4 == 2 {
         call.saturating_add(1)
     } else {
         call
     };
-    Ok(
-        is_told(answer, calls > failed)?
-            && has_stopped
-            && calls == failed.saturating_add(1)
-            && steps == (2, count(reached, which)),
-    )
+    let is_left = left.steps == (2, count(reached, which));
+    if !is_left && left.steps == (2, count(call, which)) {
+        // The write that was to be torn found no memory, and wrote nothing.
+        return Err(StoreFault::OutOfMemory);
+    }
+    Ok(is_stopped && is_left)
 }
 
 // The first number of calls and choice for which a stop leaves something else.
@@ -240,9 +267,7 @@ fn opens_after_each_blip(alloc: Global, bytes: &[u8]) -> Result<bool, StoreFault
 
 // Whether it is so of the device that the run leaves.
 fn is_opened_again(alloc: Global) -> Result<bool, StoreFault> {
-    let mut store = opened(alloc, fresh(alloc, 1, 0)?)?;
-    let answer = run(alloc, &mut store);
-    let disk = store.into_disk();
+    let (answer, _, disk) = ran(alloc, fresh(alloc, 1, 0)?)?;
     let opens = opens_after_each_blip(alloc, disk.bytes());
     drop(disk);
     Ok(is_told(answer, false)? && opens?)

@@ -150,7 +150,13 @@ fn is_legal(alloc: Global, bytes: &[u8]) -> Result<bool, Fail> {
     let is_legal = check(&world).is_none();
     let written = write_world(alloc, &world);
     drop(world);
-    Ok(is_legal && written?.as_slice() == bytes)
+    Ok(are_bytes(written?, bytes) && is_legal)
+}
+
+fn are_bytes(written: Vec<u8>, wanted: &[u8]) -> bool {
+    let are_wanted = written.as_slice() == wanted;
+    drop(written);
+    are_wanted
 }
 
 // A device with a store of this version over them.
@@ -173,9 +179,15 @@ fn is_opened(alloc: Global, bytes: &[u8]) -> Result<bool, Fail> {
     Ok(count_on(alloc, formatted(alloc, 2, bytes)?)? == COUNT)
 }
 
+fn spell_longest(alloc: Global, bytes: &[u8]) -> Result<bool, Fail> {
+    Ok(bytes.len() == LENGTH && is_legal(alloc, bytes)? && is_opened(alloc, bytes)?)
+}
+
 fn is_longest(alloc: Global) -> Result<bool, Fail> {
     let bytes = spelled(alloc, Shape::InReset)?;
-    Ok(bytes.len() == LENGTH && is_legal(alloc, &bytes)? && is_opened(alloc, &bytes)?)
+    let is_longest = spell_longest(alloc, &bytes);
+    drop(bytes);
+    is_longest
 }
 
 #[test]
@@ -189,12 +201,20 @@ fn is_spelled_on(alloc: Global, disk: MemDisk, wanted: &[u8]) -> Result<bool, Fa
     let store = opened(alloc, disk)?;
     let spelling = write_world(alloc, store.world());
     drop(store);
-    Ok(spelling?.as_slice() == wanted)
+    Ok(are_bytes(spelling?, wanted))
 }
 
-// Whether a store of version 1 over these bytes is raised to one whose world is spelled so in version 2.
-fn is_raised(alloc: Global, bytes: &[u8], wanted: &[u8]) -> Result<bool, Fail> {
-    let mut store = opened(alloc, formatted(alloc, 1, bytes)?)?;
+// A device with a store of version 1, whose nodes are Ready.
+fn ready(alloc: Global) -> Result<MemDisk, Fail> {
+    let bytes = spelled(alloc, Shape::Ready { version: 1 })?;
+    let disk = formatted(alloc, 1, &bytes);
+    drop(bytes);
+    disk
+}
+
+// Whether it is raised to one whose world is spelled so in version 2.
+fn is_raised(alloc: Global, wanted: &[u8]) -> Result<bool, Fail> {
+    let mut store = opened(alloc, ready(alloc)?)?;
     let answer = store.migrate();
     let disk = store.into_disk();
     match answer {
@@ -206,11 +226,15 @@ fn is_raised(alloc: Global, bytes: &[u8], wanted: &[u8]) -> Result<bool, Fail> {
     }
 }
 
+fn is_raised_at_the_limits(alloc: Global) -> Result<bool, Fail> {
+    let wanted = spelled(alloc, Shape::Ready { version: 2 })?;
+    let is_raised = is_raised(alloc, &wanted);
+    drop(wanted);
+    is_raised
+}
+
 #[test]
 fn a_world_at_the_limits_is_raised(rt: HostRuntime) -> Result<(), Fail> {
-    let alloc = rt.alloc();
-    let first = spelled(alloc, Shape::Ready { version: 1 })?;
-    let second = spelled(alloc, Shape::Ready { version: 2 })?;
-    assert!(rt; is_raised(alloc, &first, &second)?);
+    assert!(rt; is_raised_at_the_limits(rt.alloc())?);
     Ok(())
 }

@@ -175,13 +175,18 @@ fn reset_often(alloc: Global, store: &mut Store<MemDisk>) -> Result<bool, Commit
     Ok(true)
 }
 
+// Whether the first half is selected, and is of version 2.
+fn is_back(bytes: &[u8]) -> bool {
+    bytes.first() == Some(&0) && bytes.get(17) == Some(&2)
+}
+
 // Whether twelve batches fill the half until a checkpoint, which writes version 2 over the first half.
 fn fills_its_half(alloc: Global) -> Result<bool, Fail> {
     let mut store = opened(alloc, begun(alloc, 1)?)?;
     let is_raised = raises(&mut store);
     let are_fresh = reset_often(alloc, &mut store);
     let disk = store.into_disk();
-    let is_written = disk.bytes().first() == Some(&0) && disk.bytes().get(17) == Some(&2);
+    let is_written = is_back(disk.bytes());
     let told = told_on(alloc, disk);
     Ok(is_raised? && are_fresh? && is_written && told? == (2, 3_073))
 }

@@ -17,6 +17,11 @@ const RAISED: [u8; 74] = [
     1, 0, 0, 0, 0, 0, 0, 0, 1, 0, 0,
 ];
 
+// Whether the second half is selected, and has these bytes.
+fn is_raised(bytes: &[u8]) -> bool {
+    bytes.first() == Some(&1) && bytes.get(SECOND_HALF..) == Some(RAISED.as_slice())
+}
+
 // Whether the store of one node is one of version 2 after a migration, in the other half, and its
 // bytes stay so through a second one.
 fn is_migrated(alloc: Global) -> Result<bool, Fail> {
@@ -24,12 +29,11 @@ fn is_migrated(alloc: Global) -> Result<bool, Fail> {
     let first = store.migrate();
     let second = store.migrate();
     let disk = store.into_disk();
-    let is_turned = disk.bytes().first() == Some(&1);
-    let is_written = disk.bytes().get(SECOND_HALF..) == Some(RAISED.as_slice());
+    let is_raised = is_raised(disk.bytes());
     let told = told_on(alloc, disk);
     first?;
     second?;
-    Ok(is_turned && is_written && told? == (2, 1))
+    Ok(is_raised && told? == (2, 1))
 }
 
 // Whether it is refused where the node was reset and awaits another one.

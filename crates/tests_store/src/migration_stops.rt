@@ -1,7 +1,9 @@
 //! What a device that stops or fails once leaves of a migration, in each half: a store of the one
 //! version or the other, with all of its steps.
 
-use crate::scripts::{adding, choice, commits, created, opened, order, told_on, with_fresh};
+use crate::scripts::{
+    adding, choice, choosing, commits, created, opened, order, told_on, with_fresh,
+};
 use coord_codec::write_world;
 use coord_disk::{BlipDisk, CrashDisk, FailingDisk, FuseDisk, MemDisk, Rule};
 use coord_journal::{JournalFault, MAX_SNAPSHOT, open};
@@ -152,9 +154,26 @@ fn leaves<R: Rule>(
 
 // A device with these bytes, and what its next crash leaves.
 fn chosen(alloc: Global, bytes: &[u8], which: usize) -> Result<MemDisk, StoreFault> {
-    let mut disk = MemDisk::from_bytes(alloc, bytes)?;
-    disk.choose(choice(alloc, which)?);
-    Ok(disk)
+    let disk = MemDisk::from_bytes(alloc, bytes)?;
+    Ok(choosing(disk, choice(alloc, which))?)
+}
+
+// Whether a device that stops behind so many calls, and one that fails the next one alone, leave a
+// store of this version.
+fn both_leave(
+    alloc: Global,
+    bytes: &[u8],
+    passed: u64,
+    which: usize,
+    version: u8,
+) -> Result<bool, StoreFault> {
+    let failed = passed.saturating_add(OPENING);
+    let stopped = FuseDisk::new(chosen(alloc, bytes, which)?, failed);
+    if !leaves(alloc, stopped, passed, version)? {
+        return Ok(false);
+    }
+    let faulty = BlipDisk::new(chosen(alloc, bytes, which)?, failed);
+    leaves(alloc, faulty, passed, version)
 }
 
 // The first number of calls that are passed, and choice, for which a stop or a fault of one call
@@ -167,12 +186,7 @@ fn first_wrong(
     for passed in 0..5u64 {
         for which in 0..5usize {
             let version = version_left(from_first, passed, which);
-            let failed = passed.saturating_add(OPENING);
-            let stopped = FuseDisk::new(chosen(alloc, bytes, which)?, failed);
-            let faulty = BlipDisk::new(chosen(alloc, bytes, which)?, failed);
-            if !leaves(alloc, stopped, passed, version)?
-                || !leaves(alloc, faulty, passed, version)?
-            {
+            if !both_leave(alloc, bytes, passed, which, version)? {
                 return Ok(Some((passed, which)));
             }
         }
@@ -180,12 +194,20 @@ fn first_wrong(
     Ok(None)
 }
 
+// The device with its store in the first half, or in the second one.
+fn reset_in(alloc: Global, from_first: bool) -> Result<MemDisk, Fail> {
+    let disk = reset_of_two(alloc)?;
+    if from_first {
+        return Ok(disk);
+    }
+    let turned = turned(alloc, disk.bytes());
+    drop(disk);
+    turned
+}
+
 // The same from the first half, or from the second one.
 fn first_wrong_from(alloc: Global, from_first: bool) -> Result<Option<(u64, usize)>, Fail> {
-    let mut disk = reset_of_two(alloc)?;
-    if !from_first {
-        disk = turned(alloc, disk.bytes())?;
-    }
+    let disk = reset_in(alloc, from_first)?;
     let wrong = first_wrong(alloc, disk.bytes(), from_first);
     drop(disk);
     Ok(wrong?)

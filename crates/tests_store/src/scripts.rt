@@ -160,6 +160,24 @@ pub(crate) fn commits<D: Disk>(store: &mut Store<D>, steps: &[Step]) -> Result<b
     Ok(are_fresh)
 }
 
+/// The device once it leaves this at its next crash.
+pub(crate) fn choosing(
+    disk: MemDisk,
+    choice: Result<Choice, AllocError>,
+) -> Result<MemDisk, AllocError> {
+    let mut disk = disk;
+    match choice {
+        Ok(choice) => {
+            disk.choose(choice);
+            Ok(disk)
+        }
+        Err(fault) => {
+            drop(disk);
+            Err(fault)
+        }
+    }
+}
+
 /// What a crash leaves: at the last sync, as read, or filled with bytes.
 pub(crate) fn choice(alloc: Global, which: usize) -> Result<Choice, AllocError> {
     Ok(match which {
