@@ -47,7 +47,10 @@ fn gives_all<D: Disk, L: Origin, R: Wait + Abort>(
     match all_shares(rt, alloc, &engine) {
         Ok(shares) => {
             let are_all = shares.len() == MOST && engine.share(rt).is_none();
-            Ok(closed(engine, shares).is_some() && are_all)
+            let closed = closed(engine, shares);
+            let is_closed = closed.is_some();
+            drop(closed);
+            Ok(is_closed && are_all)
         }
         Err(fault) => {
             drop(engine);

@@ -26,7 +26,9 @@ fn submit<D: Disk, L: Origin, R: Wait>(
         return Ok(false);
     };
     let mut share = share;
-    match engine.submit(rt, step, &mut share) {
+    let submitted = engine.submit(rt, step, &mut share);
+    drop(share);
+    match submitted {
         Ok(ticket) => {
             ticket.forget();
             Ok(true)
@@ -49,7 +51,11 @@ fn flushed<D: Disk, L: Origin, R: Wait>(
 // How many steps are shown as settled.
 fn shown<D: Disk, L: Origin, R: Wait>(rt: &R, engine: &Engine<D, L>) -> Result<u64, Refusal> {
     match engine.show(rt, &mut Seen::new()) {
-        Ok(view) => Ok(view.settled),
+        Ok(view) => {
+            let settled = view.settled;
+            drop(view);
+            Ok(settled)
+        }
         Err(refusal) => Err(refusal),
     }
 }

@@ -154,14 +154,16 @@ fn joining(client: u8, number: u64, a: u8, b: u8) -> Option<Step> {
 
 /// The steps that make a ring of the nodes up to this one. Each node is added by the client with its
 /// number, and linked to the next by the same one.
-pub(crate) fn ring_steps(alloc: Global, last: u8) -> Option<Vec<Step>> {
+pub(crate) fn ring_steps<R: Abort>(rt: &R, alloc: Global, last: u8) -> Vec<Step> {
     let mut steps = Vec::new(alloc);
     for id in 1..=last {
-        steps.extend_from_slice(&[adding(id, 1, id)?]).ok()?;
+        let step = adding(id, 1, id).expect(rt, "no step");
+        steps.push(step).expect(rt, "no memory");
     }
     for id in 1..=last {
         let next = if id == last { 1 } else { id + 1 };
-        steps.extend_from_slice(&[joining(id, 2, id, next)?]).ok()?;
+        let step = joining(id, 2, id, next).expect(rt, "no step");
+        steps.push(step).expect(rt, "no memory");
     }
-    Some(steps)
+    steps
 }

@@ -5,7 +5,7 @@ ghost use Rattle.std.specs.Prelude.{◌≡◌};
 use crate::scripts::{adding, closed, engine, made_with, resetting};
 use coord_disk::{Disk, MemDisk};
 use coord_engine::{Closed, Engine, Origin, Share};
-use coord_ledger::{Ledger, Note, Seen, Ticket};
+use coord_ledger::{Ledger, Note, Seen, Ticket, View};
 use coord_types::{Kind, Reply, Step};
 use std::alloc::Global;
 use std::marker::Brand;
@@ -86,6 +86,16 @@ fn are_finished<D: Disk, L: Origin, R: Wait>(
     all
 }
 
+// Whether all steps and the two nodes are shown.
+fn are_all(view: &View) -> bool {
+    for node in &view.nodes {
+        if node.epoch != RESETS {
+            return false;
+        }
+    }
+    view.accepted == STEPS as u64 && view.settled == STEPS as u64 && view.nodes.len() == 2
+}
+
 // Whether a caller that has seen all steps is shown all steps, and the two nodes.
 fn is_shown<D: Disk, L: Origin, R: Wait>(rt: &R, engine: &Engine<D, L>) -> bool {
     let mut seen = Seen::new();
@@ -93,12 +103,9 @@ fn is_shown<D: Disk, L: Origin, R: Wait>(rt: &R, engine: &Engine<D, L>) -> bool 
     let Ok(view) = engine.show(rt, &mut seen) else {
         return false;
     };
-    for node in &view.nodes {
-        if node.epoch != RESETS {
-            return false;
-        }
-    }
-    view.accepted == STEPS as u64 && view.settled == STEPS as u64 && view.nodes.len() == 2
+    let are_all = are_all(&view);
+    drop(view);
+    are_all
 }
 
 // Whether nothing has to be sent again.

@@ -43,14 +43,13 @@ fn is_accepted<D: Disk, L: Origin, R: Wait>(
 fn is_accepted_meanwhile<D: Disk, L: Origin, R: Wait>(
     rt: &R,
     engine: &Engine<D, L>,
-    share: Share<L>,
+    share: &mut Share<L>,
     entered: &AtomicBool,
     answered: &AtomicBool,
 ) -> bool {
-    let mut share = share;
     for _ in 0..LOOKS {
         if entered.load(Ordering::SeqCst) {
-            let filled = is_filled(rt, engine, &mut share, MOST);
+            let filled = is_filled(rt, engine, share, MOST);
             answered.store(true, Ordering::SeqCst);
             return filled;
         }
@@ -73,13 +72,12 @@ fn flushes<D: Disk, L: Origin, R: Wait>(rt: &R, engine: &Engine<D, L>) -> bool {
 fn is_accepted_in_sync<D: Disk + Send, L: Origin + Send + Sync, R: Threads + Wait + Sync>(
     rt: &R,
     engine: &Engine<D, L>,
-    mine: Share<L>,
-    other: Share<L>,
+    mine: &mut Share<L>,
+    other: &mut Share<L>,
     entered: &AtomicBool,
     answered: &AtomicBool,
 ) -> bool {
-    let mut mine = mine;
-    let pending = is_accepted(rt, engine, &mut mine, 1);
+    let pending = is_accepted(rt, engine, mine, 1);
     let (flushed, accepted) = thread::join(
         rt,
         move || flushes(rt, engine),
@@ -102,9 +100,11 @@ fn accept_in_sync<D: Disk + Send, L: Origin + Send + Sync, R: Threads + Wait + S
     requires before { ledger.log.trail ≡ L.before }
 {
     let engine: Engine<D, L> = engine(rt, alloc, blank, ledger);
-    let mine = engine.share(rt).expect(rt, "no share");
-    let other = engine.share(rt).expect(rt, "no share");
-    let is_accepted = is_accepted_in_sync(rt, &engine, mine, other, entered, answered);
+    let mut mine = engine.share(rt).expect(rt, "no share");
+    let mut other = engine.share(rt).expect(rt, "no share");
+    let is_accepted = is_accepted_in_sync(rt, &engine, &mut mine, &mut other, entered, answered);
+    drop(mine);
+    drop(other);
     drop(engine);
     is_accepted
 }

@@ -7,7 +7,7 @@ use std::alloc::Global;
 use std::sync::{Mutex, Wait};
 
 /// What becomes of a packet on its way.
-#[derive(Clone, Copy, PartialEq, Eq, Drop)]
+#[derive(Clone, Copy)]
 enum Fate {
     Lost,
     HeldBack,
@@ -16,7 +16,7 @@ enum Fate {
 }
 
 /// What a port does to packets.
-#[derive(Clone, Copy, PartialEq, Eq, Drop)]
+#[derive(Clone, Copy, Drop)]
 pub(crate) enum Manner {
     Faithful,
     /// It loses every fourth packet, holds every third back until the next one was carried, and
@@ -28,7 +28,7 @@ pub(crate) enum Manner {
 
 impl Manner {
     fn fate(self, count: u64) -> Fate {
-        if self != Manner::Lossy {
+        if !matches!(self, Manner::Lossy) {
             return Fate::Once;
         }
         if count % 4 == 0 {
@@ -118,6 +118,16 @@ fn has_signalled(signals: &[Signal], id: u8, epoch: u64) -> bool {
     false
 }
 
+// Whether the nodes up to this one have, each once and with this epoch, and no other.
+fn have_each_once(signals: &[Signal], last: u8, epoch: u64) -> bool {
+    for id in 1..=last {
+        if !has_signalled(signals, id, epoch) {
+            return false;
+        }
+    }
+    signals.len() == usize::from(last)
+}
+
 // The receipt of what no lane has had in front: it names a node as its own neighbour.
 fn nothing_for(node: NodeId) -> Packet {
     Packet::Receipted(ReceiptPacket {
@@ -158,12 +168,9 @@ impl<R: Wait> Ring<R> {
     /// Whether the nodes up to this one have signalled, each once and with this epoch, and no other.
     pub(crate) fn has_each_once(&self, last: u8, epoch: u64) -> bool {
         let signals = self.signals.lock(&self.rt);
-        for id in 1..=last {
-            if !has_signalled(signals.as_slice(), id, epoch) {
-                return false;
-            }
-        }
-        signals.len() == usize::from(last)
+        let have_each_once = have_each_once(signals.as_slice(), last, epoch);
+        drop(signals);
+        have_each_once
     }
 
     /// Whether the workers have received all packets.

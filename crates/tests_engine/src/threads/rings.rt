@@ -81,7 +81,7 @@ fn begun<D: Disk, L: Origin, R: Wait + Clock + Abort>(
     let mut share = engine.share(rt).expect(rt, "no share");
     let ticket = engine.submit(rt, reset, &mut share);
     ticket.expect(rt, "no ticket").forget();
-    if manner == Manner::Full {
+    if matches!(manner, Manner::Full) {
         assert!(rt; is_met_full(rt, engine, ring, &mut share));
     }
     share
@@ -178,7 +178,7 @@ fn all_nodes_signal<R: Threads + Wait + Clock + Sync + Abort>(
     alloc: Global,
     manner: Manner,
 ) -> bool {
-    let steps = ring_steps(alloc, NODES).expect(rt, "no memory");
+    let steps = ring_steps(rt, alloc, NODES);
     let ledger = made_with(rt, alloc, MemDisk::new(alloc), &steps);
     drop(steps);
     let blank = Blank::new(65536);
