@@ -177,6 +177,7 @@ impl<D: Disk> Ledger<D> {
     /// Takes back a flight of its own. Where it finds no memory it gives the flight back.
     fn land(&mut self, flight: Flight<D>) -> Result<Releases, Flight<D>>
         requires { IsOut self.old flight }
+        ensures own { IsOut self.old flight }
         ensures taken { OnOk result (self.new ≡
             taken_back self.old (length flight.steps) flight.mark flight.disk) }
         ensures released { IfOk result (λ releases. releases ≡ releases_in flight flight.mark) }

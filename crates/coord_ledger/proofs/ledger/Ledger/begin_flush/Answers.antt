@@ -24,3 +24,6 @@ send_out-requires-clause-some g c =
     let done = ap (λ (l : LedgerState g.row.D.Denot). l.log.settled) c.self.view_is in
     let many = ap (λ (l : LedgerState g.row.D.Denot). length l.log.trail) c.self.view_is in
     omega (arith, within, done, many, ap length c.in-Ok.ensures.steps, length-take MAX_BATCH_STEPS (pending log), length-drop log.settled log.trail)
+
+pub returns-clause-begun : goal.returns-clause-begun
+returns-clause-begun g c home = (c.send_out.ensures.flight, c.send_out.ensures.disk, c.send_out.ensures.out)

@@ -1,4 +1,4 @@
-use Rattle.std.proofs.Common.{◌≡◌, ◌+◌, Option, None, Some, is_some, IfSome, length, take, sym, ap, ◌∙◌, subst, rules}
+use Rattle.std.proofs.Common.{◌≡◌, ◌+◌, Option, None, Some, true, is_some, IfSome, length, take, sym, ap, ◌∙◌, subst, rules}
 use Rattle.coord_types.specs.declared.limits.TheConstants.{MAX_BATCH_STEPS}
 use Rattle.coord_store.specs.Kept.{Kept}
 use Rattle.coord_world.specs.protocol.Next.{fold}
@@ -10,12 +10,15 @@ use Rattle.coord_ledger.proofs.follows.Kept.{flies, sent_away}
 use Rattle.coord_ledger.proofs.follows.IsOut.{same_away, same_flight}
 use Rattle.coord_ledger.proofs.ledger.Ledger.send_out.Goals as goal
 
+no_disk : {D : Type 0} (store : Option (Kept D)) → store ≡ None → is_some (disk_at store) ≡ true → ⊥
+no_disk None none home = cc
+no_disk (Some kept) none home = cc
+
 pub unreachable-requires : goal.unreachable-requires
 unreachable-requires g c =
     let none : c.self.inside.store ≡ None = sym c.take.ensures.value ∙ c.in-None.is in
-    let away = ap (λ (o : Option (Kept g.row.D.Denot)). is_some (disk_at o)) none in
     let home = ap (λ (l : LedgerState g.row.D.Denot). is_some l.disk) c.self.view_is ∙ c.requires.home in
-    cc (away, home)
+    absurd (no_disk c.self.inside.store none home)
 
 pub invariant_of-result : goal.invariant_of-result
 invariant_of-result g c =
