@@ -49,12 +49,16 @@ pub(crate) fn told<R: Abort>(rt: &R, alloc: Global, mut stream: TcpStream) -> St
 
 /// How many nodes are shown to have signalled.
 fn signalled(shown: String) -> usize {
-    shown.as_str().matches(SIGNALLED).count()
+    let count = shown.as_str().matches(SIGNALLED).count();
+    drop(shown);
+    count
 }
 
 /// Whether a text is this one.
 pub(crate) fn is_text(text: String, wanted: &str) -> bool {
-    text.as_str() == wanted
+    let is_wanted = text.as_str() == wanted;
+    drop(text);
+    is_wanted
 }
 
 /// Asks until at least so many nodes have signalled. Whether they have.

@@ -151,7 +151,10 @@ fn killed<
 /// Whether these are those printed before the kill and maybe others, none of them twice, and not
 /// all.
 fn are_some_once(nodes: Vec<u8>) -> bool {
-    is_each_once(&nodes) && PRINTED <= nodes.len() && nodes.len() < usize::from(LAST)
+    let count = nodes.len();
+    let is_each_once = is_each_once(&nodes);
+    drop(nodes);
+    is_each_once && PRINTED <= count && count < usize::from(LAST)
 }
 
 fn is_each_once(nodes: &[u8]) -> bool {

@@ -28,7 +28,9 @@ const TRIES: u64 = 16;
 const STARTED: &str = "\"kind\":\"started\"";
 
 fn has_started(replies: String) -> bool {
-    replies.as_str().contains(STARTED)
+    let has_started = replies.as_str().contains(STARTED);
+    drop(replies);
+    has_started
 }
 
 /// Sends the lines until the last of them has its reply. Whether it came, and a connection was cut

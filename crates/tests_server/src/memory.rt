@@ -60,18 +60,30 @@ impl<E: Desk> Desk for Forgetful<E> {
     }
 }
 
+/// Sends the line. Whether it is told its reply; None where it is told that there was no memory, or
+/// nothing.
+fn is_replied<E: Desk>(alloc: Global, desk: &mut E) -> Option<bool> {
+    let mut told = Vec::new(alloc);
+    let mut halves = Halves {
+        reader: LINE,
+        writer: &mut told,
+    };
+    let served = serve(alloc, &mut halves, desk).is_ok();
+    let is_refused = told.as_slice() == NO_MEMORY.as_bytes();
+    let is_reply = told.as_slice() == REPLY.as_bytes();
+    drop(told);
+    if served && !is_refused {
+        return Some(is_reply);
+    }
+    None
+}
+
 /// Sends the line until it is told something else than that there was no memory. Whether that is its
 /// reply, and the line was told that there was no memory before.
 fn is_replied_at_last<E: Desk>(alloc: Global, desk: &mut E) -> bool {
     for tried in 0..TRIES {
-        let mut told = Vec::new(alloc);
-        let mut halves = Halves {
-            reader: LINE,
-            writer: &mut told,
-        };
-        let served = serve(alloc, &mut halves, desk).is_ok();
-        if served && told.as_slice() != NO_MEMORY.as_bytes() {
-            return tried > 0 && told.as_slice() == REPLY.as_bytes();
+        if let Some(is_reply) = is_replied(alloc, desk) {
+            return tried > 0 && is_reply;
         }
     }
     false
@@ -102,7 +114,11 @@ fn run<D: Disk + Send, L: Origin + Send + Sync, R: Threads + Wait + Clock + Sync
             let is_replied = is_replied_at_last(alloc, &mut desk);
             engine.finish(rt);
             flushing.join(rt);
-            (desk.desk.into_share(), is_replied)
+            let Forgetful {
+                desk,
+                has_forgotten: _,
+            } = desk;
+            (desk.into_share(), is_replied)
         },
     )
 }

@@ -139,7 +139,9 @@ fn follows(before: &[u8], node: u8, last: u8) -> bool {
 
 /// Whether this is a wave through a ring that was reset at this node.
 pub(crate) fn are_wave(nodes: Vec<u8>, last: u8, first: u8) -> bool {
-    is_wave(&nodes, last, first)
+    let is_wave = is_wave(&nodes, last, first);
+    drop(nodes);
+    is_wave
 }
 
 fn is_wave(nodes: &[u8], last: u8, first: u8) -> bool {

@@ -10,7 +10,6 @@ use std::io::{ErrorKind, Write};
 use std::net::{Net, TcpListener, TcpStream};
 use std::process::Abort;
 use std::sync::Wait;
-use std::test::Fail;
 use std::thread::Threads;
 use std::time::Clock;
 
@@ -61,13 +60,11 @@ fn told<R: Threads + Wait + Clock + Net<Stream = TcpStream, Listener = TcpListen
 }
 
 #[test]
-fn an_output_without_memory(rt: HostRuntime) -> Result<(), Fail> {
+fn an_output_without_memory(rt: HostRuntime) {
     assert!(rt; told(&rt, rt.alloc(), ErrorKind::OutOfMemory) == Some(ServerFault::OutOfMemory));
-    Ok(())
 }
 
 #[test]
-fn an_output_that_is_gone(rt: HostRuntime) -> Result<(), Fail> {
+fn an_output_that_is_gone(rt: HostRuntime) {
     assert!(rt; told(&rt, rt.alloc(), ErrorKind::BrokenPipe) == Some(ServerFault::Write));
-    Ok(())
 }
