@@ -107,24 +107,32 @@ const SHOW: &[u8] = b"{\"op\":\"show\"}\n";
 /// How often a holder does the same, ten milliseconds apart.
 const TIMES: u64 = 900;
 
+/// Does once what a holder does. Whether it is over: it was cut off, or says nothing more.
+fn held_once(holder: Holder, stream: &mut TcpStream, buffer: &mut [u8]) -> io::Result<bool> {
+    match holder {
+        Holder::Silent => {
+            stream.read(buffer)?;
+            Ok(true)
+        }
+        Holder::Trickles => {
+            stream.write_all(b" ")?;
+            Ok(false)
+        }
+        Holder::Asks => {
+            stream.write_all(SHOW)?;
+            Ok(stream.read(buffer)? == 0)
+        }
+    }
+}
+
 /// Holds a connection until it is cut off, but for no more than some seconds.
 fn hold<R: Clock>(rt: &R, holder: Holder, stream: &mut TcpStream) -> io::Result<()> {
     let mut buffer = [0; 512];
     stream.set_read_timeout(Some(Duration::from_millis(3_000)))?;
     stream.set_write_timeout(Some(Duration::from_millis(3_000)))?;
     for _ in 0..TIMES {
-        match holder {
-            Holder::Silent => {
-                stream.read(&mut buffer)?;
-                return Ok(());
-            }
-            Holder::Trickles => stream.write_all(b" ")?,
-            Holder::Asks => {
-                stream.write_all(SHOW)?;
-                if stream.read(&mut buffer)? == 0 {
-                    return Ok(());
-                }
-            }
+        if held_once(holder, stream, &mut buffer)? {
+            return Ok(());
         }
         thread::sleep(rt, Duration::from_millis(10));
     }
@@ -192,6 +200,13 @@ fn is_refused<L: Duplex>(line: &mut L, text: &[u8]) -> bool {
     false
 }
 
+/// Whether it is so, and soon.
+fn is_refused_soon<L: Duplex, R: Clock + Abort>(rt: &R, line: &mut L, text: &[u8]) -> bool {
+    let start = Instant::now(rt).expect(rt, "no time");
+    let is_refused = is_refused(line, text);
+    is_refused && start.elapsed(rt).expect(rt, "no time") < Duration::from_secs(8)
+}
+
 /// Whether a reply is given up soon that its client takes no byte of, where it has a short time in all.
 fn is_given_up<R: Net<Stream = TcpStream, Listener = TcpListener> + Clock + Abort>(
     rt: &R,
@@ -204,13 +219,12 @@ fn is_given_up<R: Net<Stream = TcpStream, Listener = TcpListener> + Clock + Abor
     let client = TcpStream::connect(rt, address).expect(rt, "no connection");
     let (stream, _) = listener.accept().expect(rt, "nobody");
     let mut line = TimedStream::new(rt, stream, patience).expect(rt, "no time");
-    let start = Instant::now(rt).expect(rt, "no time");
-    let is_refused = is_refused(&mut line, &text);
+    let is_refused = is_refused_soon(rt, &mut line, &text);
     drop(client);
     drop(line);
     drop(listener);
     drop(text);
-    is_refused && start.elapsed(rt).expect(rt, "no time") < Duration::from_secs(8)
+    is_refused
 }
 
 #[test]

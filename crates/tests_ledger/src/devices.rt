@@ -5,7 +5,7 @@ ghost use Rattle.std.specs.Prelude.{◌≡◌, IfOk, None};
 use coord_disk::{Choice, Disk, MemDisk};
 use coord_ledger::Ledger;
 use coord_store::Store;
-use std::alloc::Global;
+use std::alloc::{AllocError, Global};
 use std::test::Fail;
 
 /// The least size of a half.
@@ -18,12 +18,15 @@ pub(crate) const OPENING: u64 = 3;
 pub(crate) fn made(alloc: Global) -> Result<MemDisk, Fail> {
     match Store::create(alloc, MemDisk::new(alloc), HALF, 1) {
         Ok(store) => Ok(store.into_disk()),
-        Err((fault, _disk)) => Err(fault)?,
+        Err((fault, disk)) => {
+            drop(disk);
+            Err(fault)?
+        }
     }
 }
 
 /// What a crash leaves: at the last sync, as read, or filled with bytes.
-fn choice(alloc: Global, which: usize) -> Result<Choice, Fail> {
+fn choice(alloc: Global, which: usize) -> Result<Choice, AllocError> {
     Ok(match which {
         0 => Choice::Lost,
         1 => Choice::Kept,
@@ -35,10 +38,23 @@ fn choice(alloc: Global, which: usize) -> Result<Choice, Fail> {
 
 /// A device in memory with these bytes, and what its next crash leaves of it.
 pub(crate) fn device(alloc: Global, bytes: &[u8], which: usize) -> Result<MemDisk, Fail> {
-    let choice = choice(alloc, which)?;
-    let mut disk = MemDisk::from_bytes(alloc, bytes)?;
-    disk.choose(choice);
-    Ok(disk)
+    let disk = MemDisk::from_bytes(alloc, bytes)?;
+    choosing(disk, choice(alloc, which))
+}
+
+// The device once it leaves this at its next crash.
+fn choosing(disk: MemDisk, choice: Result<Choice, AllocError>) -> Result<MemDisk, Fail> {
+    let mut disk = disk;
+    match choice {
+        Ok(choice) => {
+            disk.choose(choice);
+            Ok(disk)
+        }
+        Err(fault) => {
+            drop(disk);
+            Err(fault)?
+        }
+    }
 }
 
 /// A ledger over the store on this device.
@@ -49,9 +65,15 @@ pub(crate) fn opened<D: Disk>(alloc: Global, disk: D) -> Result<Ledger<D>, Fail>
     match Store::open(alloc, disk) {
         Ok(store) => match Ledger::adopt(alloc, store) {
             Ok(ledger) => Ok(ledger),
-            Err((fault, _store)) => Err(fault)?,
+            Err((fault, store)) => {
+                drop(store);
+                Err(fault)?
+            }
         },
-        Err((fault, _disk)) => Err(fault)?,
+        Err((fault, disk)) => {
+            drop(disk);
+            Err(fault)?
+        }
     }
 }
 

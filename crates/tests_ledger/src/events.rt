@@ -1,12 +1,13 @@
 //! Runs of events whose answers are known.
 
+use crate::cases::push;
 use crate::devices::{HALF, device, made};
-use crate::runs::{are, are_answered, ran};
+use crate::runs::{are_answered, are_last, ran};
 use crate::scene::Scene;
 use coord_disk::{BlipDisk, MemDisk};
 use coord_journal::format;
 use coord_ledger::Event;
-use std::alloc::Global;
+use std::alloc::{AllocError, Global};
 use std::test::Fail;
 
 /// The last call of the first commit, behind those of the opening.
@@ -56,9 +57,18 @@ fn torn(alloc: Global, which: usize, answers: &str) -> Result<bool, Fail> {
         Event::Submit(scene.add(2, scene.second)),
         Event::Crash,
     ];
-    let disk = BlipDisk::new(device(alloc, made(alloc)?.bytes(), which)?, GATE);
-    let (trace, _disk) = ran(alloc, disk, &events)?;
-    are(alloc, &trace, 0, answers, true)
+    let disk = BlipDisk::new(chosen(alloc, which)?, GATE);
+    let (trace, disk) = ran(alloc, disk, &events)?;
+    drop(disk);
+    are_last(alloc, trace, 0, answers, true)
+}
+
+// A device with a store that has no steps, and what its next crash leaves of it.
+fn chosen(alloc: Global, which: usize) -> Result<MemDisk, Fail> {
+    let made = made(alloc)?;
+    let chosen = device(alloc, made.bytes(), which);
+    drop(made);
+    chosen
 }
 
 fn are_torn(alloc: Global) -> Result<bool, Fail> {
@@ -78,10 +88,20 @@ fn a_torn_flight_stops_the_ledger(rt: HostRuntime) -> Result<(), Fail> {
 // An order out of turn is refused for the steps of the world.
 fn is_exhausted(alloc: Global) -> Result<bool, Fail> {
     let scene = Scene::new()?;
-    let mut disk = MemDisk::new(alloc);
-    format(alloc, &mut disk, HALF, 1, &EXHAUSTED)?;
     let events = [Event::Submit(scene.reset(9, scene.first))];
-    are_answered(alloc, disk, &events, "[Refused(Exhausted)]")
+    are_answered(alloc, exhausted(alloc)?, &events, "[Refused(Exhausted)]")
+}
+
+// A device with such a world.
+fn exhausted(alloc: Global) -> Result<MemDisk, Fail> {
+    let mut disk = MemDisk::new(alloc);
+    match format(alloc, &mut disk, HALF, 1, &EXHAUSTED) {
+        Ok(()) => Ok(disk),
+        Err(fault) => {
+            drop(disk);
+            Err(fault)?
+        }
+    }
 }
 
 #[test]
@@ -91,24 +111,18 @@ fn an_exhausted_world_takes_no_step(rt: HostRuntime) -> Result<(), Fail> {
 }
 
 // 1,024 steps are pending behind the first, which is settled.
-fn filling(alloc: Global, scene: &Scene) -> Result<Vec<Event>, Fail> {
-    let mut events = [
-        Event::Submit(scene.add(1, scene.first)),
-        Event::Begin,
-        Event::Commit,
-        Event::Finish,
-    ]
-    .to_vec(alloc)?;
+fn push_filling(events: &mut Vec<Event>, scene: &Scene) -> Result<(), AllocError> {
+    push(events, &[scene.add(1, scene.first)])?;
     for number in 2..1_026u64 {
         events.push(Event::Submit(scene.reset(number, scene.first)))?;
     }
-    Ok(events)
+    Ok(())
 }
 
 // They hide all but a repeat, until 256 of them are settled.
-fn overfilling(alloc: Global) -> Result<Vec<Event>, Fail> {
+fn push_overfilling(events: &mut Vec<Event>) -> Result<(), Fail> {
     let scene = Scene::new()?;
-    let mut events = filling(alloc, &scene)?;
+    push_filling(events, &scene)?;
     events.extend_from_slice(&[
         Event::Submit(scene.reset(1_026, scene.first)),
         Event::Submit(scene.reset(9, scene.first)),
@@ -118,15 +132,27 @@ fn overfilling(alloc: Global) -> Result<Vec<Event>, Fail> {
         Event::Finish,
         Event::Submit(scene.reset(1_026, scene.first)),
     ])?;
-    Ok(events)
+    Ok(())
 }
 
-fn fills_up(alloc: Global) -> Result<bool, Fail> {
-    let (trace, _disk) = ran(alloc, made(alloc)?, &overfilling(alloc)?)?;
+fn is_full(alloc: Global, events: &[Event]) -> Result<bool, Fail> {
+    let (trace, disk) = ran(alloc, made(alloc)?, events)?;
+    drop(disk);
+    let released = trace.released.len();
     let answers =
         "[Refused(PendingFull), Refused(PendingFull), Repeated(1025), Begun(256), Committed, Finished(257), \
                    Accepted(1026)]";
-    Ok(are(alloc, &trace, 1_028, answers, false)? && trace.released.len() == 256)
+    Ok(are_last(alloc, trace, 1_028, answers, false)? && released == 256)
+}
+
+fn fills_up(alloc: Global) -> Result<bool, Fail> {
+    let mut events = Vec::new(alloc);
+    let is_full = match push_overfilling(&mut events) {
+        Ok(()) => is_full(alloc, &events),
+        Err(fail) => Err(fail),
+    };
+    drop(events);
+    is_full
 }
 
 #[test]

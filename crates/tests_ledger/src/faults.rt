@@ -7,19 +7,19 @@ use crate::runs::{are, ran};
 use crate::scene::Scene;
 use coord_disk::{BlipDisk, CrashDisk, FailingDisk, FuseDisk, MemDisk, Rule};
 use coord_ledger::{Event, Trace};
-use coord_store::{CommitFault, Store};
+use coord_store::{CommitFault, Store, StoreFault};
 use std::alloc::Global;
 use std::test::Fail;
 
-// The flight of a case, and a step behind it.
-fn events(alloc: Global, case: &Case) -> Result<Vec<Event>, Fail> {
+// Adds the flight of a case, and a step behind it.
+fn push_events(events: &mut Vec<Event>, case: &Case) -> Result<(), Fail> {
     let scene = Scene::new()?;
-    let mut events = Vec::new(alloc);
-    cases::push(&mut events, &case.steps)?;
+    cases::push(events, &case.steps)?;
     let last = case.settled.saturating_add(case.steps.len() as u64);
     let next = scene.reset(last.saturating_add(1), scene.first);
-    events.extend_from_slice(&[Event::Submit(next), Event::Begin])?;
-    Ok(events)
+    events.push(Event::Submit(next))?;
+    events.push(Event::Begin)?;
+    Ok(())
 }
 
 // How many steps are there after a crash, where so many calls of the commit were passed. A crash
@@ -51,14 +51,23 @@ fn is_answered(alloc: Global, case: &Case, trace: &Trace, calls: u64) -> Result<
             "[Begun({steps}), Failed(Device), Finished({settled}), Refused(Stopped), Nothing]"
         )?
     };
-    are(alloc, trace, steps, &wanted, calls < case.calls)
+    let are = are(alloc, trace, steps, &wanted, calls < case.calls);
+    drop(wanted);
+    are
 }
 
 // How many steps there are after a crash.
-fn left(alloc: Global, disk: MemDisk) -> Result<u64, Fail> {
+fn left(alloc: Global, disk: MemDisk) -> Result<u64, StoreFault> {
     match Store::open(alloc, disk.crash()) {
-        Ok(store) => Ok(store.world().count()),
-        Err((fault, _disk)) => Err(fault)?,
+        Ok(store) => {
+            let count = store.world().count();
+            drop(store);
+            Ok(count)
+        }
+        Err((fault, disk)) => {
+            drop(disk);
+            Err(fault)
+        }
     }
 }
 
@@ -74,12 +83,15 @@ fn is_left<R: Rule>(
 ) -> Result<bool, Fail> {
     let (trace, disk) = ran(alloc, disk, events)?;
     let made = disk.calls().saturating_sub(OPENING);
+    let left = left(alloc, disk.into_inner());
+    let is_answered = is_answered(alloc, case, &trace, calls);
+    drop(trace);
+    let is_answered = is_answered?;
     let want = case.calls.min(calls.saturating_add(1));
     if made < want {
         return Err(CommitFault::Device)?;
     }
-    let is_right = is_answered(alloc, case, &trace, calls)? && made == want;
-    Ok(is_right && left(alloc, disk.into_inner())? == count(case, calls, which))
+    Ok(is_answered && made == want && left? == count(case, calls, which))
 }
 
 // Whether it is so with a device that stops after so many calls, and with one that fails one call.
@@ -100,11 +112,15 @@ fn are_left(
 }
 
 // The first number of calls and choice, of so many, for which it is not so.
-fn first_wrong(alloc: Global, case: &Case, choices: usize) -> Result<Option<(u64, usize)>, Fail> {
-    let events = events(alloc, case)?;
+fn first_wrong_of(
+    alloc: Global,
+    case: &Case,
+    events: &[Event],
+    choices: usize,
+) -> Result<Option<(u64, usize)>, Fail> {
     for calls in 0..=case.calls.min(8) {
         for which in 0..choices {
-            if !are_left(alloc, case, &events, calls, which)? {
+            if !are_left(alloc, case, events, calls, which)? {
                 return Ok(Some((calls, which)));
             }
         }
@@ -112,16 +128,27 @@ fn first_wrong(alloc: Global, case: &Case, choices: usize) -> Result<Option<(u64
     Ok(None)
 }
 
+fn first_wrong(alloc: Global, case: Case, choices: usize) -> Result<Option<(u64, usize)>, Fail> {
+    let mut events = Vec::new(alloc);
+    let wrong = match push_events(&mut events, &case) {
+        Ok(()) => first_wrong_of(alloc, &case, &events, choices),
+        Err(fail) => Err(fail),
+    };
+    drop(events);
+    drop(case);
+    wrong
+}
+
 #[test]
 fn a_commit_leaves_all_its_steps_or_none(rt: HostRuntime) -> Result<(), Fail> {
-    let wrong = first_wrong(rt.alloc(), &small(rt.alloc())?, 5)?;
+    let wrong = first_wrong(rt.alloc(), small(rt.alloc())?, 5)?;
     assert!(rt; wrong.is_none(), "{wrong:?}");
     Ok(())
 }
 
 #[test]
 fn so_does_one_that_makes_a_checkpoint(rt: HostRuntime) -> Result<(), Fail> {
-    let wrong = first_wrong(rt.alloc(), &full(rt.alloc())?, 3)?;
+    let wrong = first_wrong(rt.alloc(), full(rt.alloc())?, 3)?;
     assert!(rt; wrong.is_none(), "{wrong:?}");
     Ok(())
 }

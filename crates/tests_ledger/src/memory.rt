@@ -5,7 +5,7 @@
 use crate::cases::{Case, full, small};
 use crate::devices::{device, made};
 use crate::retries::{Call, Sight, committed, flown, looked_at, opened, resent, shown, submitted};
-use crate::runs::{are, ran};
+use crate::runs::{are_last, ran};
 use crate::scene::Scene;
 use coord_disk::MemDisk;
 use coord_ledger::{Driver, Event, Ledger};
@@ -106,22 +106,28 @@ fn kept(alloc: Global, disk: MemDisk) -> Result<u64, Fail> {
 }
 
 // Whether it is so of the flight of a case, and the device has its steps.
-fn is_settled(alloc: Global, case: &Case, wanted: (u64, u64)) -> Result<bool, Fail> {
+fn is_settled_of(alloc: Global, case: &Case, wanted: (u64, u64)) -> Result<bool, Fail> {
     let ledger = opened(alloc, device(alloc, case.disk.bytes(), 0)?)?;
     let (told, disk) = settles(ledger, &case.steps, wanted)?;
     let kept = kept(alloc, disk)?;
     Ok(told && kept == case.settled.saturating_add(case.steps.len() as u64))
 }
 
+fn is_settled(alloc: Global, case: Case, wanted: (u64, u64)) -> Result<bool, Fail> {
+    let is_settled = is_settled_of(alloc, &case, wanted);
+    drop(case);
+    is_settled
+}
+
 #[test]
 fn steps_are_settled_once_there_is_memory(rt: HostRuntime) -> Result<(), Fail> {
-    assert!(rt; is_settled(rt.alloc(), &small(rt.alloc())?, (1, 1))?);
+    assert!(rt; is_settled(rt.alloc(), small(rt.alloc())?, (1, 1))?);
     Ok(())
 }
 
 #[test]
 fn they_are_so_behind_a_checkpoint(rt: HostRuntime) -> Result<(), Fail> {
-    assert!(rt; is_settled(rt.alloc(), &full(rt.alloc())?, (256, 0))?);
+    assert!(rt; is_settled(rt.alloc(), full(rt.alloc())?, (256, 0))?);
     Ok(())
 }
 
@@ -137,13 +143,15 @@ fn runs_again(alloc: Global) -> Result<bool, Fail> {
         Event::Resend,
         Event::Show,
     ];
-    let (_first, disk) = ran(alloc, made(alloc)?, &events)?;
-    let (second, _disk) = ran(alloc, disk, &events)?;
+    let (first, disk) = ran(alloc, made(alloc)?, &events)?;
+    drop(first);
+    let (second, disk) = ran(alloc, disk, &events)?;
+    drop(disk);
     let answers =
         "[Collected(Reply { step: 1, kind: Done }), Resent(0), Shown(View { accepted: 1, settled: 1, \
                    nodes: [NodeView { node: Identifier { number: 1 }, group: Identifier { number: 1 }, mode: Ready, \
                    parent: None, epoch: 0, confirmed: 0 }], links: [] })]";
-    are(alloc, &second, 4, answers, false)
+    are_last(alloc, second, 4, answers, false)
 }
 
 #[test]

@@ -1,25 +1,18 @@
 //! A reset of two linked nodes: what it releases, in order, and what is kept of it.
 
+use crate::cases::push;
 use crate::devices::made;
-use crate::runs::{are, are_answered, ran};
+use crate::runs::{are_answered, are_last, ran};
 use crate::scene::{LINK, Scene};
 use coord_ledger::{Event, Release};
 use coord_types::{Msg, Output, ReceiptPacket};
-use std::alloc::Global;
+use std::alloc::{AllocError, Global};
 use std::test::Fail;
 
 // Two nodes are linked, and a reset of the first is settled.
-fn reset(scene: &Scene) -> [Event; 7] {
+fn push_reset(events: &mut Vec<Event>, scene: &Scene) -> Result<(), AllocError> {
     let [first, second, link] = scene.linking();
-    [
-        Event::Submit(first),
-        Event::Submit(second),
-        Event::Submit(link),
-        Event::Submit(scene.reset(4, scene.first)),
-        Event::Begin,
-        Event::Commit,
-        Event::Finish,
-    ]
+    push(events, &[first, second, link, scene.reset(4, scene.first)])
 }
 
 fn release(step: u64, output: Output) -> Release {
@@ -57,24 +50,32 @@ fn released(scene: &Scene) -> [Release; 6] {
     ]
 }
 
-fn releases_in_order(alloc: Global) -> Result<bool, Fail> {
-    let scene = Scene::new()?;
-    let mut events = reset(&scene).to_vec(alloc)?;
-    events.extend_from_slice(&[
-        Event::Submit(scene.take_abort()),
-        Event::Begin,
-        Event::Commit,
-        Event::Finish,
-        Event::Resend,
-    ])?;
-    let (trace, _disk) = ran(alloc, made(alloc)?, &events)?;
+// Its packet is taken, and what is to be sent again is.
+fn push_answered(events: &mut Vec<Event>, scene: &Scene) -> Result<(), AllocError> {
+    push_reset(events, scene)?;
+    push(events, &[scene.take_abort()])?;
+    Ok(events.push(Event::Resend)?)
+}
+
+fn is_released(alloc: Global, scene: &Scene, events: &[Event]) -> Result<bool, Fail> {
+    let (trace, disk) = ran(alloc, made(alloc)?, events)?;
+    drop(disk);
+    let is_in_order = trace.released.as_slice() == released(scene).as_slice();
     let answers =
         "[Accepted(1), Accepted(2), Accepted(3), Accepted(4), Begun(4), Committed, Finished(4), \
                    Accepted(5), Begun(1), Committed, Finished(5), Resent(3)]";
-    Ok(
-        are(alloc, &trace, 0, answers, false)?
-            && trace.released.as_slice() == released(&scene).as_slice(),
-    )
+    Ok(are_last(alloc, trace, 0, answers, false)? && is_in_order)
+}
+
+fn releases_in_order(alloc: Global) -> Result<bool, Fail> {
+    let scene = Scene::new()?;
+    let mut events = Vec::new(alloc);
+    let is_released = match push_answered(&mut events, &scene) {
+        Ok(()) => is_released(alloc, &scene, &events),
+        Err(fault) => Err(fault.into()),
+    };
+    drop(events);
+    is_released
 }
 
 #[test]
@@ -84,20 +85,33 @@ fn releases_come_in_order(rt: HostRuntime) -> Result<(), Fail> {
 }
 
 // The last order comes again after a crash, and then others of its number and out of turn.
-fn keeps_reply(alloc: Global) -> Result<bool, Fail> {
-    let scene = Scene::new()?;
-    let mut events = reset(&scene).to_vec(alloc)?;
+fn push_repeated(events: &mut Vec<Event>, scene: &Scene) -> Result<(), AllocError> {
+    push_reset(events, scene)?;
     events.extend_from_slice(&[
         Event::Crash,
         Event::Submit(scene.reset(4, scene.first)),
         Event::Collect(0),
         Event::Submit(scene.reset(4, scene.second)),
         Event::Submit(scene.reset(6, scene.first)),
-    ])?;
+    ])
+}
+
+fn is_repeated(alloc: Global, events: &[Event]) -> Result<bool, Fail> {
     let answers =
         "[Accepted(1), Accepted(2), Accepted(3), Accepted(4), Begun(4), Committed, Finished(4), Opened(4), \
                    Repeated(4), Collected(Reply { step: 4, kind: Started }), Refused(NumberReused), Refused(OutOfTurn)]";
-    are_answered(alloc, made(alloc)?, &events, answers)
+    are_answered(alloc, made(alloc)?, events, answers)
+}
+
+fn keeps_reply(alloc: Global) -> Result<bool, Fail> {
+    let scene = Scene::new()?;
+    let mut events = Vec::new(alloc);
+    let is_repeated = match push_repeated(&mut events, &scene) {
+        Ok(()) => is_repeated(alloc, &events),
+        Err(fault) => Err(fault.into()),
+    };
+    drop(events);
+    is_repeated
 }
 
 #[test]

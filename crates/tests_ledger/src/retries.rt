@@ -12,7 +12,7 @@ use coord_world::World;
 use std::alloc::{AllocError, Global};
 use std::test::Fail;
 
-fn copied(world: &World) -> Result<World, AllocError> {
+pub(crate) fn copied(world: &World) -> Result<World, AllocError> {
     match world.copy() {
         Ok(copy) => Ok(copy),
         Err(_) => world.copy(),
@@ -26,7 +26,10 @@ fn adopted(alloc: Global, store: Store<MemDisk>) -> Result<Ledger<MemDisk>, Stor
         Ok(ledger) => Ok(ledger),
         Err((_fault, store)) => match Ledger::adopt(alloc, store) {
             Ok(ledger) => Ok(ledger),
-            Err((_fault, _store)) => Err(StoreFault::OutOfMemory),
+            Err((_fault, store)) => {
+                drop(store);
+                Err(StoreFault::OutOfMemory)
+            }
         },
     }
 }
@@ -36,9 +39,15 @@ pub(crate) fn opened(alloc: Global, disk: MemDisk) -> Result<Ledger<MemDisk>, St
         Ok(store) => adopted(alloc, store),
         Err((StoreFault::OutOfMemory, disk)) => match Store::open(alloc, disk) {
             Ok(store) => adopted(alloc, store),
-            Err((fault, _disk)) => Err(fault),
+            Err((fault, disk)) => {
+                drop(disk);
+                Err(fault)
+            }
         },
-        Err((fault, _disk)) => Err(fault),
+        Err((fault, disk)) => {
+            drop(disk);
+            Err(fault)
+        }
     }
 }
 
@@ -50,10 +59,14 @@ pub(crate) struct Sight {
 }
 
 pub(crate) fn looked_at(ledger: &Ledger<MemDisk>) -> Result<Sight, AllocError> {
-    Ok(Sight {
-        front: copied(ledger.front())?,
-        settled: copied(ledger.settled())?,
-    })
+    let front = copied(ledger.front())?;
+    match copied(ledger.settled()) {
+        Ok(settled) => Ok(Sight { front, settled }),
+        Err(fault) => {
+            drop(front);
+            Err(fault)
+        }
+    }
 }
 
 fn is_as(ledger: &Ledger<MemDisk>, before: &Sight) -> bool {

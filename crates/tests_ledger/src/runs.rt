@@ -78,7 +78,26 @@ pub(crate) fn are(
 ) -> Result<bool, Fail> {
     had_memory(trace, may_fail)?;
     let last = trace.answers.get(behind..).ok_or("answers")?;
-    Ok(format!(in alloc; "{last:?}")?.as_str() == wanted)
+    Ok(is_text(format!(in alloc; "{last:?}")?, wanted))
+}
+
+fn is_text(text: String, wanted: &str) -> bool {
+    let is_wanted = text.as_str() == wanted;
+    drop(text);
+    is_wanted
+}
+
+/// The same of a trace of which no more is asked.
+pub(crate) fn are_last(
+    alloc: Global,
+    trace: Trace,
+    behind: usize,
+    wanted: &str,
+    may_fail: bool,
+) -> Result<bool, Fail> {
+    let are = are(alloc, &trace, behind, wanted, may_fail);
+    drop(trace);
+    are
 }
 
 /// Whether events on the store of a device in memory are answered so.
@@ -88,6 +107,7 @@ pub(crate) fn are_answered(
     events: &[Event],
     wanted: &str,
 ) -> Result<bool, Fail> {
-    let (trace, _disk) = ran(alloc, disk, events)?;
-    are(alloc, &trace, 0, wanted, false)
+    let (trace, disk) = ran(alloc, disk, events)?;
+    drop(disk);
+    are_last(alloc, trace, 0, wanted, false)
 }

@@ -121,11 +121,15 @@ fn stays_strange(
     Ok(is_strange_anew(alloc, own, disk, scene)? && returned?)
 }
 
-// Two ledgers over empty stores.
+// A ledger over an empty store.
+fn opened_anew(alloc: Global) -> Result<Ledger<MemDisk>, Fail> {
+    opened(alloc, made(alloc)?)
+}
+
+// Two of them.
 fn two(alloc: Global) -> Result<(Ledger<MemDisk>, Ledger<MemDisk>), Fail> {
-    let disk = made(alloc)?;
-    let own = opened(alloc, made(alloc)?)?;
-    match opened(alloc, disk) {
+    let own = opened_anew(alloc)?;
+    match opened_anew(alloc) {
         Ok(other) => Ok((own, other)),
         Err(fail) => {
             drop(own);
@@ -164,7 +168,7 @@ fn is_behind(ledger: &Ledger<MemDisk>) -> Result<bool, Refusal> {
 
 fn shows_none_who_has_seen_more(alloc: Global) -> Result<bool, Fail> {
     let scene = Scene::new()?;
-    let mut ledger = opened(alloc, made(alloc)?)?;
+    let mut ledger = opened_anew(alloc)?;
     let accepted = accept(&mut ledger, scene.add(1, scene.first));
     let (ledger, _released) = flush(alloc, ledger)?;
     let is_behind = is_behind(&ledger);

@@ -1,24 +1,17 @@
 //! A world that finds no memory for a step, where allocations are refused under the test: it stays as
 //! it was, and takes the step when it is asked once more.
 
-ghost use Rattle.std.specs.Prelude.{IfOk};
 ghost use Rattle.coord_world.specs.protocol.Legal.{Legal};
 
+use crate::retries::copied;
 use crate::scene::Scene;
 use coord_types::{Step, Version};
 use coord_world::{Verdict, World};
-use std::alloc::{AllocError, Global};
+use std::alloc::Global;
 use std::test::Fail;
 
 fn version() -> Version {
     Version::new(1).unwrap()
-}
-
-fn copied(world: &World) -> Result<World, AllocError> {
-    match world.copy() {
-        Ok(copy) => Ok(copy),
-        Err(_) => world.copy(),
-    }
 }
 
 // Takes a fresh step, at the first or the second time.
@@ -43,27 +36,32 @@ fn take(world: &mut World, step: &Step) -> Result<(), Fail>
     ensures { Legal world.new }
 {
     let before = copied(world)?;
-    taken_from(world, &before, step)
+    let taken = taken_from(world, &before, step);
+    drop(before);
+    taken
 }
 
-fn taken(mut world: World, step: &Step) -> Result<World, Fail>
-    requires { Legal world }
-    ensures { IfOk result Legal }
+// Takes the steps of a reset that a neighbour answers.
+fn take_in_turn(world: &mut World) -> Result<(), Fail>
+    requires { Legal world.old }
 {
-    take(&mut world, step)?;
-    Ok(world)
-}
-
-// How many steps a world has taken of a reset that a neighbour answers.
-fn taken_in_turn(alloc: Global) -> Result<u64, Fail> {
     let scene = Scene::new()?;
     let [first, second, link] = scene.linking();
-    let world = taken(World::empty(alloc, version()), &first)?;
-    let world = taken(world, &second)?;
-    let world = taken(world, &link)?;
-    let world = taken(world, &scene.reset(4, scene.first))?;
-    let world = taken(world, &scene.take_abort())?;
-    Ok(world.count())
+    take(world, &first)?;
+    take(world, &second)?;
+    take(world, &link)?;
+    take(world, &scene.reset(4, scene.first))?;
+    take(world, &scene.take_abort())
+}
+
+// How many of them a world has taken.
+fn taken_in_turn(alloc: Global) -> Result<u64, Fail> {
+    let mut world = World::empty(alloc, version());
+    let taken = take_in_turn(&mut world);
+    let count = world.count();
+    drop(world);
+    taken?;
+    Ok(count)
 }
 
 #[test]

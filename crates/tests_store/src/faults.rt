@@ -250,10 +250,21 @@ fn a_torn_write_leaves_what_was_committed(rt: HostRuntime) -> Result<(), Fail> {
 fn opens_after_blip(alloc: Global, bytes: &[u8], call: u64) -> Result<bool, StoreFault> {
     let disk = BlipDisk::new(MemDisk::from_bytes(alloc, bytes)?, call);
     match Store::open(alloc, disk) {
-        Ok(_store) => Ok(false),
-        Err((StoreFault::Device, disk)) => Ok(count_on(alloc, disk)? == 3_073),
-        Err((fault, _disk)) => Err(fault),
+        Ok(store) => {
+            drop(store);
+            Ok(false)
+        }
+        Err((fault, disk)) => opens_after(alloc, fault, disk),
     }
+}
+
+// Whether it was the device's, and the disk opens.
+fn opens_after<D: Disk>(alloc: Global, fault: StoreFault, disk: D) -> Result<bool, StoreFault> {
+    if fault == StoreFault::Device {
+        return Ok(count_on(alloc, disk)? == 3_073);
+    }
+    drop(disk);
+    Err(fault)
 }
 
 // Whether it is so at each call.
