@@ -159,7 +159,7 @@ fn all_shares<L: Origin, R: Wait + Abort>(
     shares
 }
 
-fn start_flusher<
+pub(super) fn start_flusher<
     's,
     'r: 's,
     'e: 's,
