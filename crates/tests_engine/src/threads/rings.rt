@@ -104,59 +104,29 @@ fn run<D: Disk + Send, L: Origin + Send + Sync, R: Threads + Wait + Clock + Sync
         |scope| -> (Vec<Share<L>>, bool)
             requires { IsSend D.row × IsSend L.row × IsSync L.row × IsSync R.row }
         {
-            let running = start_workers(scope, rt, alloc, engine, channels);
+            let mut running = Vec::new(alloc);
+            for packets in channels {
+                let share = engine.share(rt).expect(rt, "no share");
+                let started = scope
+                    .spawn(move || worker(rt, alloc, engine, packets, share))
+                    .ok()
+                    .expect(rt, "no thread");
+                running.push(started).expect(rt, "no memory");
+            }
             let own = begun(rt, engine, ring, reset, manner);
             let flushing = start_flusher(scope, rt, engine, ring);
             let signalled = all_signal(rt, engine, ring, manner);
             engine.finish(rt);
             flushing.join(rt);
             ring.hang_up();
-            (all_shares(rt, alloc, running, own), signalled)
+            let mut shares = Vec::new(alloc);
+            for started in running {
+                shares.push(started.join(rt)).expect(rt, "no memory");
+            }
+            shares.push(own).expect(rt, "no memory");
+            (shares, signalled)
         },
     )
-}
-
-// A worker on each channel, with a share of its own.
-fn start_workers<
-    's,
-    'r: 's,
-    'e: 's,
-    E,
-    D: Disk + Send,
-    L: Origin + Send + Sync,
-    R: Wait + Clock + Sync + Abort,
->(
-    scope: &Scope<'s, E>,
-    rt: &'r R,
-    alloc: Global,
-    engine: &'e Engine<D, L>,
-    channels: Vec<Receiver<Packet>>,
-) -> Vec<JoinHandle<Share<L>>> {
-    let mut running = Vec::new(alloc);
-    for packets in channels {
-        let share = engine.share(rt).expect(rt, "no share");
-        let started = scope
-            .spawn(move || worker(rt, alloc, engine, packets, share))
-            .ok()
-            .expect(rt, "no thread");
-        running.push(started).expect(rt, "no memory");
-    }
-    running
-}
-
-// The shares of the workers, once they have ended, and a caller's own.
-fn all_shares<L: Origin, R: Wait + Abort>(
-    rt: &R,
-    alloc: Global,
-    running: Vec<JoinHandle<Share<L>>>,
-    own: Share<L>,
-) -> Vec<Share<L>> {
-    let mut shares = Vec::new(alloc);
-    for started in running {
-        shares.push(started.join(rt)).expect(rt, "no memory");
-    }
-    shares.push(own).expect(rt, "no memory");
-    shares
 }
 
 pub(super) fn start_flusher<
