@@ -6,6 +6,8 @@ mod closing;
 #[cfg(test)]
 mod devices;
 #[cfg(test)]
+mod handed;
+#[cfg(test)]
 mod retried;
 #[cfg(test)]
 mod scripts;

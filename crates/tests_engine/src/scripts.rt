@@ -143,6 +143,11 @@ pub(crate) fn resetting(client: u8, number: u64, id: u8) -> Option<Step> {
     order(client, number, &Command::Reset(NodeId::new(id)?))
 }
 
+/// The steps that make two nodes and link them, by the clients with their numbers.
+pub(crate) fn pair_steps() -> Option<[Step; 3]> {
+    Some([adding(1, 1, 1)?, adding(2, 1, 2)?, joining(1, 2, 1, 2)?])
+}
+
 /// The client links two nodes.
 fn joining(client: u8, number: u64, a: u8, b: u8) -> Option<Step> {
     order(

@@ -3,5 +3,6 @@
 mod callers;
 mod full;
 mod gates;
+mod patience;
 mod ports;
 mod rings;

@@ -129,7 +129,7 @@ fn run<D: Disk + Send, L: Origin + Send + Sync, R: Threads + Wait + Clock + Sync
     )
 }
 
-fn start_flusher<
+pub(super) fn start_flusher<
     's,
     'r: 's,
     'e: 's,
