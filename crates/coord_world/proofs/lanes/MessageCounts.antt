@@ -2,8 +2,7 @@
 use Rattle.std.proofs.Common.{◌≡◌, ℕ, ◌+◌, ◌≤◌, List, [], ◌∷◌, ◌++◌, arith}
 use Rattle.coord_types.specs.declared.messages.Msg.{Msg}
 use Rattle.coord_types.specs.declared.messages.Msg.TheVariants.{Abort, Ack, Ready}
-use Rattle.coord_world.specs.protocol.Links.{aborts, acks, readies, readies_behind, strays, one}
-use Rattle.std.specs.Prelude.{◌==◌, not}
+use Rattle.coord_world.specs.protocol.Links.{aborts, acks, readies, readies_behind, strays}
 
 -- how many of a kind stand in two lists together
 pub aborts-append : (xs ys : List Msg) → aborts (xs ++ ys) ≡ aborts xs + aborts ys

@@ -1,5 +1,5 @@
 -- What stands where no node can be is Ready.
-use Rattle.std.proofs.Common.{◌≡◌, ℕ, ◌<◌, Option, Some, None, refl, ap, ◌∙◌, arith}
+use Rattle.std.proofs.Common.{◌≡◌, ℕ, ◌<◌, Option, Some, None, refl, ap, arith}
 use Rattle.coord_types.specs.NodeState.{NodeState}
 use Rattle.coord_types.specs.Table.{get}
 use Rattle.coord_types.specs.declared.messages.Mode.TheVariants.{Ready}

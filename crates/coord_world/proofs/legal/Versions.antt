@@ -17,7 +17,7 @@ use Rattle.coord_world.specs.laws.Waves.{changes_topology}
 use Rattle.coord_world.proofs.lanes.Counts.{AllCount}
 use Rattle.coord_world.proofs.legal.Sound.{SameVersions}
 use Rattle.coord_world.proofs.ranges.EveryNode.{there_is}
-use Rattle.coord_world.proofs.transitions.NodeGoesOn.{Goes, goes_deed, goes_request}
+use Rattle.coord_world.proofs.transitions.NodeGoesOn.{goes_deed, goes_request}
 use Rattle.coord_world.proofs.view.ViewOfNext.{view_next}
 use Rattle.coord_tables.proofs.Cases.{by_test}
 

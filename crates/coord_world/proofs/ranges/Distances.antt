@@ -1,5 +1,5 @@
 -- Distances stay in their ranges through a step, those of nodes and those that lanes carry.
-use Rattle.std.proofs.Common.{◌≡◌, ℕ, ◌+◌, ◌≤◌, Bool, true, false, List, [], ◌∷◌, ◌++◌, Some, cond, eqb, refl, sym, ap, ◌∙◌, subst, arith}
+use Rattle.std.proofs.Common.{◌≡◌, ℕ, ◌+◌, ◌≤◌, true, List, [], ◌∷◌, ◌++◌, cond, eqb, refl, sym, ap, ◌∙◌, subst, arith}
 use Rattle.std.proofs.lemmas.Bool.Decides.{nat_tests}
 use Rattle.std.specs.Prelude.{is_some}
 use Rattle.coord_types.specs.NodeSet as set
@@ -11,7 +11,7 @@ use Rattle.coord_types.specs.declared.steps.Command.TheVariants.{Add, Remove, Jo
 use Rattle.coord_types.specs.declared.steps.Step.{Step}
 use Rattle.coord_types.specs.declared.steps.Step.TheVariants.{Order, Take, Clear}
 use Rattle.coord_types.specs.Messages.{behind_front}
-use Rattle.coord_types.specs.Table.{get, has}
+use Rattle.coord_types.specs.Table.{has}
 use Rattle.coord_node.specs.IdealRules.{added}
 use Rattle.coord_node.specs.Rules.{Transition, kept, lost, request, transition}
 use Rattle.coord_node.specs.Steps.{transitions}

@@ -2,7 +2,7 @@
 
 ghost use Rattle.std.specs.Prelude.{◌≡◌, IfOk, map};
 ghost use Rattle.coord_world.specs.protocol.Rows.{RowsFit, listed};
-ghost use Rattle.coord_world.specs.code.Assembly.{assembled, client_entry, entry_with, near_in, state_with};
+ghost use Rattle.coord_world.specs.code.Assembly.{AreNear, assembled, client_entry, entry_with, near_in, state_with};
 
 use crate::rows::neighbours::Neighbours;
 use crate::rows::ordering::lanes_of;
@@ -14,23 +14,52 @@ use coord_types::{Client, NodeId, Session, Version};
 use std::alloc::{AllocError, Global};
 
 impl Tables {
-    /// The world that has these rows.
+    /// The world that has these rows. Its lanes come first: what puts them in order takes the most
+    /// memory, and is gone behind them.
     pub fn assemble(alloc: Global, parts: &Parts) -> Result<Tables, AllocError>
         requires { RowsFit (listed parts.now) }
         ensures { IfOk result (λ tables. tables ≡ assembled (listed parts.now)) }
     {
         let near = Neighbours::by(&parts.links);
-        let nodes = nodes_of(alloc, parts.version, &parts.nodes, &near)?;
-        let lanes = LaneTable::from_sorted(lanes_of(alloc, &parts.links, &near)?)?;
-        let sessions = sessions_of(alloc, &parts.clients)?;
+        let lanes = lane_table(alloc, parts, &near)?;
+        let nodes = node_table(alloc, parts, &near)?;
+        let sessions = session_table(alloc, parts)?;
         Ok(Tables {
             version: parts.version,
             count: parts.count,
-            nodes: NodeTable::from_sorted(alloc, &nodes)?,
+            nodes,
             lanes,
-            sessions: SessionTable::from_sorted(alloc, &sessions)?,
+            sessions,
         })
     }
+}
+
+/// The two lanes of each link.
+fn lane_table(alloc: Global, parts: &Parts, near: &Neighbours) -> Result<LaneTable, AllocError>
+    requires fit { RowsFit (listed parts.now) }
+    requires near { AreNear (listed parts.now).links near.now.sets }
+    ensures { IfOk result (λ lanes. lanes ≡ (assembled (listed parts.now)).lanes) }
+{
+    LaneTable::from_sorted(lanes_of(alloc, &parts.links, near)?)
+}
+
+/// The nodes, each with its neighbours.
+fn node_table(alloc: Global, parts: &Parts, near: &Neighbours) -> Result<NodeTable, AllocError>
+    requires fit { RowsFit (listed parts.now) }
+    requires near { AreNear (listed parts.now).links near.now.sets }
+    ensures { IfOk result (λ nodes. nodes ≡ (assembled (listed parts.now)).nodes) }
+{
+    let nodes = nodes_of(alloc, parts.version, &parts.nodes, near)?;
+    NodeTable::from_sorted(alloc, &nodes)
+}
+
+/// Each client's last order.
+fn session_table(alloc: Global, parts: &Parts) -> Result<SessionTable, AllocError>
+    requires { RowsFit (listed parts.now) }
+    ensures { IfOk result (λ sessions. sessions ≡ (assembled (listed parts.now)).sessions) }
+{
+    let sessions = sessions_of(alloc, &parts.clients)?;
+    SessionTable::from_sorted(alloc, &sessions)
 }
 
 /// The nodes of the rows, with these neighbours.

@@ -3,8 +3,7 @@ use Rattle.std.specs.Prelude.{IfOk}
 use Rattle.coord_world.specs.laws.Raised.{raised}
 use Rattle.coord_world.specs.protocol.Legal.{Legal}
 use Rattle.coord_world.specs.protocol.NumberedWorld.{World}
-use Rattle.coord_world.specs.protocol.Ranges.{InRange}
-use Rattle.coord_world.specs.protocol.Rows.{Rows, RowsFit, rows_of}
+use Rattle.coord_world.specs.protocol.Rows.{RowsFit}
 use Rattle.coord_world.proofs.legal.RaisedLegal.{raised_is_legal}
 use Rattle.coord_world.proofs.listings.RaisedRows.{raised_fit, raised_given, second}
 use Rattle.coord_world.proofs.world.World.raised.Goals as goal
