@@ -96,7 +96,7 @@ impl World {
         ensures rows { IfOk result (λ world. rows_of world ≡ listed parts) }
         ensures ranges { IfOk result (λ world. InRange world) }
     {
-        let tables = Tables::assemble(alloc, &parts)?;
+        let tables = Tables::assemble(alloc, parts)?;
         Ok(World { alloc, tables })
     }
 

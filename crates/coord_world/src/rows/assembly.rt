@@ -1,32 +1,42 @@
 //! How the rows of a world are put together.
 
-ghost use Rattle.std.specs.Prelude.{◌≡◌, IfOk, map};
-ghost use Rattle.coord_world.specs.protocol.Rows.{RowsFit, listed};
-ghost use Rattle.coord_world.specs.code.Assembly.{AreNear, assembled, client_entry, entry_with, near_in, state_with};
+ghost use Rattle.std.specs.Prelude.{◌≡◌, ◌≤◌, true, IfOk, length, map};
+ghost use Rattle.std.specs.Ordering.{nat_cmp};
+ghost use Rattle.std.specs.FinMap.Entries.{is_sorted};
+ghost use Rattle.coord_types.specs.Table as table;
+ghost use Rattle.coord_world.specs.protocol.Rows.{RowsFit, by_client, by_id, listed};
+ghost use Rattle.coord_world.specs.code.Assembly.{AreNear, AreNodes, LinksRise, assembled, client_entry, entry_with, near_in, state_with, with_links};
 
 use crate::rows::neighbours::Neighbours;
 use crate::rows::ordering::lanes_of;
-use crate::rows::parts::{ClientRow, NodeRow, Parts};
+use crate::rows::parts::{ClientRow, LinkRow, NodeRow, Parts};
 use crate::tables::Tables;
 use coord_node::{Node, NodeFields};
 use coord_tables::{LaneTable, NodeTable, SessionTable};
-use coord_types::{Client, NodeId, Session, Version};
+use coord_types::{Client, MAX_LINKS, NodeId, Session, Version};
 use std::alloc::{AllocError, Global};
 
 impl Tables {
-    /// The world that has these rows. Its lanes come first: what puts them in order takes the most
-    /// memory, and is gone behind them.
-    pub fn assemble(alloc: Global, parts: &Parts) -> Result<Tables, AllocError>
-        requires { RowsFit (listed parts.now) }
-        ensures { IfOk result (λ tables. tables ≡ assembled (listed parts.now)) }
+    /// The world that has these rows. Its lanes come last, since they take most of the memory and
+    /// let the rows of links go.
+    pub fn assemble(alloc: Global, parts: Parts) -> Result<Tables, AllocError>
+        requires { RowsFit (listed parts) }
+        ensures { IfOk result (λ tables. tables ≡ assembled (listed parts)) }
     {
-        let near = Neighbours::by(&parts.links);
-        let lanes = lane_table(alloc, parts, &near)?;
-        let nodes = node_table(alloc, parts, &near)?;
-        let sessions = session_table(alloc, parts)?;
+        let Parts {
+            version,
+            count,
+            nodes,
+            links,
+            clients,
+        } = parts;
+        let near = Neighbours::by(&links);
+        let nodes = node_table(alloc, version, nodes, &near)?;
+        let sessions = session_table(alloc, clients)?;
+        let lanes = lane_table(alloc, links, &near)?;
         Ok(Tables {
-            version: parts.version,
-            count: parts.count,
+            version,
+            count,
             nodes,
             lanes,
             sessions,
@@ -34,35 +44,45 @@ impl Tables {
     }
 }
 
-/// The two lanes of each link.
-fn lane_table(alloc: Global, parts: &Parts, near: &Neighbours) -> Result<LaneTable, AllocError>
-    requires fit { RowsFit (listed parts.now) }
-    requires near { AreNear (listed parts.now).links near.now.sets }
-    ensures { IfOk result (λ lanes. lanes ≡ (assembled (listed parts.now)).lanes) }
+/// The nodes of these rows, with these neighbours.
+fn node_table(
+    alloc: Global,
+    version: Version,
+    rows: Vec<NodeRow>,
+    near: &Neighbours,
+) -> Result<NodeTable, AllocError>
+    requires { is_sorted nat_cmp (by_id rows.items) ≡ true }
+    ensures { IfOk result (λ nodes. nodes ≡
+        table.from_sorted (map (entry_with version (near_in near.now.sets)) rows.items)) }
 {
-    LaneTable::from_sorted(lanes_of(alloc, &parts.links, near)?)
-}
-
-/// The nodes, each with its neighbours.
-fn node_table(alloc: Global, parts: &Parts, near: &Neighbours) -> Result<NodeTable, AllocError>
-    requires fit { RowsFit (listed parts.now) }
-    requires near { AreNear (listed parts.now).links near.now.sets }
-    ensures { IfOk result (λ nodes. nodes ≡ (assembled (listed parts.now)).nodes) }
-{
-    let nodes = nodes_of(alloc, parts.version, &parts.nodes, near)?;
+    let nodes = nodes_of(alloc, version, &rows, near)?;
     NodeTable::from_sorted(alloc, &nodes)
 }
 
 /// Each client's last order.
-fn session_table(alloc: Global, parts: &Parts) -> Result<SessionTable, AllocError>
-    requires { RowsFit (listed parts.now) }
-    ensures { IfOk result (λ sessions. sessions ≡ (assembled (listed parts.now)).sessions) }
+fn session_table(alloc: Global, rows: Vec<ClientRow>) -> Result<SessionTable, AllocError>
+    requires { is_sorted nat_cmp (by_client rows.items) ≡ true }
+    ensures { IfOk result (λ sessions. sessions ≡ table.from_sorted (map client_entry rows.items)) }
 {
-    let sessions = sessions_of(alloc, &parts.clients)?;
+    let sessions = sessions_of(alloc, &rows)?;
     SessionTable::from_sorted(alloc, &sessions)
 }
 
-/// The nodes of the rows, with these neighbours.
+/// The two lanes of each link.
+fn lane_table(
+    alloc: Global,
+    links: Vec<LinkRow>,
+    near: &Neighbours,
+) -> Result<LaneTable, AllocError>
+    requires rise { LinksRise links.items }
+    requires few { length links.items ≤ MAX_LINKS }
+    requires near { AreNear links.items near.now.sets }
+    requires ends { AreNodes links.items }
+    ensures { IfOk result (λ lanes. lanes ≡ with_links table.empty links.items) }
+{
+    LaneTable::from_sorted(lanes_of(alloc, links, near)?)
+}
+
 fn nodes_of(
     alloc: Global,
     version: Version,

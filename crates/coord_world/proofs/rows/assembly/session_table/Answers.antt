@@ -1,13 +1,20 @@
-use Rattle.std.proofs.Common.{ap, ◌∙◌, map, arith}
+use Rattle.std.proofs.Common.{◌≡◌, refl, ap, ◌∙◌, map, arith}
+use Rattle.std.proofs.lemmas.Result.{IfOk-weaker}
+use Rattle.std.specs.Cmp.{nat_cmp_total}
 use Rattle.std.specs.Ordering.{nat_cmp}
 use Rattle.std.specs.FinMap.Entries.{is_sorted}
+use Rattle.coord_types.specs.Table.{from_sorted}
+use Rattle.coord_tables.proofs.KeyedLists.{sorted-keys}
 use Rattle.coord_world.specs.code.Assembly.{client_entry}
-use Rattle.coord_world.specs.protocol.Rows.{listed}
-use Rattle.coord_world.proofs.listings.Assembled.{clients_sorted}
 use Rattle.coord_world.proofs.rows.assembly.session_table.Goals as goal
 
--- the sizes of a number and of a table, and that the entries rise
+-- the sizes of a number and of a table, and that the entries rise as the rows do
 pub from_sorted-requires : goal.from_sorted-requires
 from_sorted-requires c =
-    let rising = ap (is_sorted nat_cmp) (c.deref-2.ensures.value ∙ c.in_ok-sessions.ensures) ∙ ap (λ rs. is_sorted nat_cmp (map client_entry rs)) c.deref.ensures.value ∙ clients_sorted (listed c.args.parts.now) c.requires in
+    let rising = ap (is_sorted nat_cmp) (c.deref-2.ensures.value ∙ c.in_ok-sessions.ensures ∙ ap (map client_entry) c.deref.ensures.value) ∙ sorted-keys nat_cmp client_entry (λ r. (r.client, r)) (λ _. refl) c.args.rows.items ∙ c.requires in
     (omega arith, (omega arith, rising))
+
+pub returns : goal.returns
+returns c =
+    let is = ap (from_sorted {o = nat_cmp_total}) (c.deref-2.ensures.value ∙ c.in_ok-sessions.ensures ∙ ap (map client_entry) c.deref.ensures.value) in
+    IfOk-weaker c.from_sorted.result (λ made. made ≡ from_sorted {o = nat_cmp_total} c.deref-2.result.now) (λ sessions. sessions ≡ from_sorted {o = nat_cmp_total} (map client_entry c.args.rows.items)) (λ made made_of. made_of ∙ is) c.from_sorted.ensures
