@@ -344,12 +344,21 @@ fn slow_writers(rt: HostRuntime) -> Result<(), Fail> {
     Ok(())
 }
 
-/// Adds that so many resets of one node are held, and what is printed to that.
-fn push_held(script: &mut String, printed: &mut String, count: u16) -> Result<(), AllocError> {
+/// Adds a node whose steps are held from then on, and what is printed to that.
+fn push_start(script: &mut String, printed: &mut String) -> Result<(), AllocError> {
     script.push_str("add 1 1\nhold\n")?;
-    printed.push_str("done 1\n")?;
-    for held in 0..count {
-        let step = u32::from(held) + 2;
+    printed.push_str("done 1\n")
+}
+
+/// Adds that resets of the node are held behind step `pending` up to step `last`.
+fn push_held(
+    script: &mut String,
+    printed: &mut String,
+    pending: u16,
+    last: u16,
+) -> Result<(), AllocError> {
+    for before in pending..last {
+        let step = u32::from(before) + 1;
         script.push_str("reset 1\n")?;
         writeln!(printed, "pending {step}")?;
     }
@@ -367,7 +376,8 @@ fn push_settled(printed: &mut String, settled: u16, last: u16) -> Result<(), All
 
 /// A flight takes 256 steps, and the next one the rest.
 fn push_flights(script: &mut String, printed: &mut String) -> Result<(), AllocError> {
-    push_held(script, printed, 257)?;
+    push_start(script, printed)?;
+    push_held(script, printed, 1, 258)?;
     script.push_str("flush\nflush\n")?;
     push_settled(printed, 1, 257)?;
     push_settled(printed, 257, 258)
@@ -386,12 +396,18 @@ fn full_batches(rt: HostRuntime) -> Result<(), Fail> {
     Ok(())
 }
 
-/// No more than 1,024 steps are held.
+/// No more than 1,024 steps are held, and as many again once these are settled.
 fn push_too_many(script: &mut String, printed: &mut String) -> Result<(), AllocError> {
-    push_held(script, printed, 1_024)?;
+    push_start(script, printed)?;
+    push_held(script, printed, 1, 1_025)?;
     script.push_str("reset 1\n")?;
     printed.push_str("no 20 PendingFull\n")?;
-    Ok(())
+    for flight in 0..4 {
+        let settled = 256 * flight + 1;
+        script.push_str("flush\n")?;
+        push_settled(printed, settled, settled + 256)?;
+    }
+    push_held(script, printed, 1_025, 2_049)
 }
 
 #[test]

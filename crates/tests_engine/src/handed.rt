@@ -1,11 +1,11 @@
-//! What is released, handed to a port: each delivery once. Nothing is known of a port, so no contract
-//! says it.
+//! What is released, handed to a port: each delivery once, however many a flight releases. Nothing is
+//! known of a port, so no contract says it.
 
 ghost use Rattle.std.specs.Prelude.{◌≡◌};
 
-use crate::scripts::{adding, created, engine, pair_steps, resetting};
+use crate::scripts::{adding, created, engine, made_with, pair_steps, resetting};
 use coord_disk::{Disk, MemDisk};
-use coord_engine::{Engine, Origin, Port, hand_over};
+use coord_engine::{Engine, Origin, Port, flusher, hand_over};
 use coord_ledger::Ledger;
 use coord_types::{NodeId, Packet, Step};
 use std::alloc::Global;
@@ -14,9 +14,13 @@ use std::process::Abort;
 use std::sync::ledger::Blank;
 use std::sync::{Mutex, Wait};
 use std::test::Fail;
+use std::time::Clock;
 
 /// A node without neighbours, by the client with its number.
 const ALONE: u8 = 9;
+
+/// How many nodes are reset in one flight.
+const NODES: u8 = 64;
 
 /// A port that counts what is asked of it.
 #[derive(Drop)]
@@ -115,4 +119,49 @@ fn hands_each<R: Wait + Abort>(rt: &R, alloc: Global) -> Result<bool, Fail> {
 fn each_delivery_is_handed_once(rt: HostRuntime) -> Result<(), Fail> {
     assert!(rt; hands_each(&rt, rt.alloc())?);
     Ok(())
+}
+
+// Whether a flusher hands over the signals of all nodes, which one flight releases.
+fn flushes_all<D: Disk, L: Origin, R: Wait + Clock + Abort>(
+    rt: &R,
+    alloc: Global,
+    blank: Blank,
+    ledger: Ledger<D>,
+) -> bool
+    requires name { blank.name ≡ L.name }
+    requires parts { (blank.parts ≡ L.parts) × (L.parts ≡ 65536) }
+    requires base { ledger.log.base ≡ L.base }
+    requires before { ledger.log.trail ≡ L.before }
+{
+    let engine: Engine<D, L> = engine(rt, alloc, blank, ledger);
+    let port = Counting::new(rt);
+    engine.finish(rt);
+    flusher(rt, &engine, &port);
+    drop(engine);
+    port.carried() == 0 && port.signalled() == u64::from(NODES)
+}
+
+// Nodes that are alone, each of which is reset, by one client.
+fn lone_resets<R: Abort>(rt: &R, alloc: Global) -> Vec<Step> {
+    let mut steps = Vec::new(alloc);
+    for id in 1..=NODES {
+        let number = 2 * u64::from(id);
+        let add = adding(1, number - 1, id).expect(rt, "no step");
+        steps.push(add).expect(rt, "no memory");
+        let reset = resetting(1, number, id).expect(rt, "no step");
+        steps.push(reset).expect(rt, "no memory");
+    }
+    steps
+}
+
+fn flushes<R: Wait + Clock + Abort>(rt: &R, alloc: Global) -> bool {
+    let steps = lone_resets(rt, alloc);
+    let ledger = made_with(rt, alloc, MemDisk::new(alloc), &steps);
+    drop(steps);
+    flushes_all::<MemDisk, Brand, R>(rt, alloc, Blank::new(65536), ledger)
+}
+
+#[test]
+fn a_long_flight_is_handed_over(rt: HostRuntime) {
+    assert!(rt; flushes(&rt, rt.alloc()));
 }
