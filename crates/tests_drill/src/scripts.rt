@@ -11,7 +11,7 @@ pub(crate) fn runs() -> &'static [Run] {
     &RUNS
 }
 
-const RUNS: [Run; 25] = [
+const RUNS: [Run; 26] = [
     ("empty input", "", ""),
     (
         "comments and empty lines",
@@ -229,6 +229,25 @@ const RUNS: [Run; 25] = [
          taken 12\n\
          receipt 2 3 2\n\
          signal 3 1\n",
+    ),
+    (
+        "drop between two initiators",
+        "add 1 1\n\
+         add 2 1\n\
+         join 1 2\n\
+         reset 1\n\
+         reset 2\n\
+         drop 1 2\n",
+        "done 1\n\
+         done 2\n\
+         done 3\n\
+         started 4\n\
+         data 1 2 1 abort\n\
+         started 5\n\
+         data 2 1 1 abort\n\
+         done 6\n\
+         signal 1 1\n\
+         signal 2 1\n",
     ),
     (
         "drop in converge",

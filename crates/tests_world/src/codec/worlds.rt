@@ -27,12 +27,12 @@ const DISTANT_WORLD: [u8; 128] = [
 ];
 
 // After a fourth step in version 2, the reset of node 1: it is at the greatest distance that a grammar
-// knows for so many steps, and so is its Abort.
+// knows for so many steps, and so is its Abort. Node 2 has begun an epoch, and confirmed none.
 const FARTHEST_WORLD: [u8; 136] = [
     0, 0, 0, 0, 0, 0, 0, 4, 2, //
     1, 1, 1, 0, 0, 0, 0, 0, 0, 0, 0, 2, 0, 0, 0, 0, 0, 0, 0, 0, 0, 0, 0, 0, 0, 0, 0, 0, //
     0, 0, 0, 0, 0, 0, 0, 4, //
-    2, 1, 0, 0, 0, 0, 0, 0, 0, 0, 0, 0, 0, 0, 0, 0, 0, 0, 0, 0, 0, 0, 0, 0, 0, 0, 0, 0, //
+    2, 1, 0, 0, 0, 0, 0, 0, 0, 0, 0, 0, 0, 0, 0, 0, 0, 0, 0, 1, 0, 0, 0, 0, 0, 0, 0, 0, //
     0, 0, 0, 0, 0, 0, 0, 0, //
     1, 1, 2, 0, 0, 0, 0, 0, 0, 0, 3, //
     0, 0, 0, 0, 0, 0, 0, 0, 0, 0, 0, 0, 0, 0, 0, 0, 1, 0, 0, 0, 0, 0, 0, 0, 0, 4, //
