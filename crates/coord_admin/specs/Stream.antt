@@ -1,5 +1,5 @@
 -- What `serve` writes: a reply to each line of a text, in order, by what a desk may answer.
-use Rattle.std.specs.Prelude.{◌≡◌, ◌⊎◌, ℕ, ◌≤◌, ◌^◌, Bool, true, false, List, [], ◌∷◌, ◌++◌, length, IsSome, IfSome, Option, Some, Result, Ok, Err}
+use Rattle.std.specs.Prelude.{◌≡◌, ◌⊎◌, ℕ, ◌≤◌, ◌^◌, Bool, true, false, List, [], ◌∷◌, ◌++◌, length, IsSome, IfSome, Some, Result, Ok, Err}
 use Rattle.std.specs.Str.{IsUtf8}
 use Rattle.coord_lines.specs.Lines.{Line, lines_of}
 use Rattle.coord_lines.specs.Written.{IsFirstPart}

@@ -1,6 +1,6 @@
 //! Those who call a server.
 
-ghost use Rattle.std.specs.Prelude.{◌≡◌, List, [], ◌∷◌, ◌++◌, ℕ, ⊤, IfOk};
+ghost use Rattle.std.specs.Prelude.{List, [], ◌∷◌, ◌++◌, ℕ, ⊤, IfOk};
 ghost use Rattle.coord_admin.specs.Connections.{Talk};
 
 use crate::duplex::Duplex;

@@ -1,12 +1,10 @@
 -- What all of the bytes are read as is what they spell.
-use Rattle.std.proofs.Common.{◌≡◌, ◌↔◌, ℕ, ◌-◌, Bool, true, false, cond, List, length, Result, Ok, Err, refl, sym, ap, subst, ◌∙◌}
-use Rattle.std.specs.Prelude.{IfOk}
+use Rattle.std.proofs.Common.{◌≡◌, ◌↔◌, ℕ, ◌-◌, Bool, true, false, cond, List, length, Result, Ok, Err, refl, ap, subst, ◌∙◌, IfOk}
 use Rattle.coord_batch.specs.declared.fault.CodecFault.{CodecFault}
 use Rattle.coord_batch.specs.declared.fault.FaultKind.TheVariants as kind
 use Rattle.coord_batch.specs.declared.fault.Flaw.{Flaw}
 use Rattle.coord_batch.specs.declared.fault.Flaw.TheVariants.{Short, BadByte, Extra}
-use Rattle.coord_batch.specs.Format.{Format, whole}
-use Rattle.coord_batch.specs.Decoding.{Answers, bad_version, decoded, fault_at, is_version, or_fault}
+use Rattle.coord_batch.specs.Facade.{Answers, Format, bad_version, decoded, fault_at, is_version, or_fault, whole}
 use Rattle.coord_batch.proofs.Grammars.{IsBytes, IsGrammar, whole_found, whole_again}
 
 -- the value that is read, in the one version that there is

@@ -1,9 +1,8 @@
 -- Which values the fields can spell: those in their ranges.
 use Rattle.std.proofs.Common.{ℕ, zero, suc, ◌<◌, ◌≤◌, ◌^◌, Bool, true, false, eqb, refl, sym, subst, arith}
-use Rattle.coord_types.specs.Messages.{brought}
+use Rattle.coord_types.specs.Facade.{IsNode, brought}
 use Rattle.coord_batch.specs.Format.{nothing}
 use Rattle.std.proofs.lemmas.Bool.Decides.{nat_tests}
-use Rattle.coord_types.specs.StepRanges.{IsNode}
 use Rattle.coord_types.specs.declared.messages.Msg.{Msg}
 use Rattle.coord_types.specs.declared.messages.Msg.TheVariants as msg
 use Rattle.coord_batch.specs.Fields.{node, group, client, distance, unless, message, message_case, from_one, at_most, from_one_to, how_many}

@@ -5,12 +5,11 @@ use Rattle.std.specs.List.{AllByRecursion, flat_map}
 use Rattle.std.proofs.lemmas.List.Concat.{flat_map-cons}
 use Rattle.coord_types.specs.declared.messages.Msg.{Msg}
 use Rattle.coord_types.specs.declared.messages.Msg.TheVariants as msg
-use Rattle.coord_batch.specs.Format.{nothing}
+use Rattle.coord_batch.specs.Facade.{StepFits, nothing}
 use Rattle.coord_types.specs.declared.steps.Command.{Command}
 use Rattle.coord_types.specs.declared.steps.Command.TheVariants.{Add, Remove, Join, Drop, Reset, Confirm}
 use Rattle.coord_types.specs.declared.steps.Step.{Step}
 use Rattle.coord_types.specs.declared.steps.Step.TheVariants.{Order, Take, Clear}
-use Rattle.coord_batch.specs.Batches.{StepFits}
 use Rattle.coord_batch.specs.Fields.{at_most, node, group, client, distance, unless, message, message_case, from_one}
 use Rattle.coord_batch.specs.Steps.{command, command_case, data_packet, order, receipt_packet, step, step_case}
 

@@ -2,11 +2,9 @@
 use Rattle.std.proofs.Common.{◌≡◌, ℕ, ◌-◌, Bool, true, false, cond, eqb, List, ◌∷◌, ◌++◌, length, Err, refl, ap, ◌∙◌, length-append, arith}
 use Rattle.std.proofs.lemmas.Bool.Decides.{nat_tests}
 use Rattle.coord_batch.specs.declared.fault.FaultKind.TheVariants.{Short, Extra}
-use Rattle.coord_batch.specs.Batches.{pair}
-use Rattle.coord_batch.specs.Decoding.{bad_version, decoded, fault_at, is_version, or_fault}
+use Rattle.coord_batch.specs.Facade.{bad_version, batch, decoded, fault_at, is_version, or_fault, pair, step}
 use Rattle.coord_batch.specs.Format.{Format, ◌>>=◌, ended, whole}
 use Rattle.coord_batch.specs.Laws.{BatchesArePrefixFree, BytesBehindBatchesAreExtra, CutBatchesAreShort, StepsArePrefixFree}
-use Rattle.coord_batch.specs.Steps.{batch, step}
 use Rattle.coord_batch.proofs.Batched.{batch_fits, step_fits}
 use Rattle.coord_batch.proofs.Grammars.{IsGrammar, prefix_free}
 use Rattle.coord_batch.proofs.StepGrammars.{batch_grammar, step_grammar}

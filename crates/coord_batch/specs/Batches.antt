@@ -1,13 +1,12 @@
 -- Which steps and batches have a spelling.
 use Rattle.std.specs.Prelude.{◌≡◌, ℕ, ◌-◌, ◌^◌, ◌≤◌, ◌<◌, List, length}
-use Rattle.coord_types.specs.Messages.{brought}
+use Rattle.coord_types.specs.Facade.{CommandInRange, IsNode, brought}
 use Rattle.coord_batch.specs.Fields.{distance}
 use Rattle.std.specs.List.{AllByRecursion}
 use Rattle.coord_types.specs.declared.limits.TheConstants.{MAX_BATCH_STEPS, MAX_CLIENTS, MAX_STEPS}
 use Rattle.coord_types.specs.declared.steps.Step.{Step}
 use Rattle.coord_types.specs.declared.steps.Step.TheVariants.{Order, Take, Clear}
 use Rattle.coord_batch.specs.declared.batch.Batch.{Batch}
-use Rattle.coord_types.specs.StepRanges.{IsNode, CommandInRange}
 
 -- what the types of a step keep, and orders are numbered from 1; in version 1 no packet brings a distance
 abbrev pub StepFits : ℕ → Step → Type 0

@@ -7,3 +7,4 @@ pub mod Steps
 pub mod Batches
 pub mod Laws
 pub mod WorkedBytes
+pub mod Facade

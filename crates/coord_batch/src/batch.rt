@@ -1,15 +1,14 @@
 //! Batches of steps as bytes.
 
-ghost use Rattle.std.specs.Prelude.{◌≡◌, true, false, ◌↔◌, ◌≤◌, ◌^◌, ℕ, List, length, Ok, Err, IfOk};
+ghost use Rattle.std.specs.Prelude.{◌≡◌, true, false, ◌↔◌, ◌≤◌, ℕ, List, length, Ok, Err, IfOk};
 ghost use Rattle.std.specs.List.{AllByRecursion};
 ghost use Rattle.coord_types.specs.declared.steps.Step.{Step as Taken};
-ghost use Rattle.coord_batch.specs.Format.{whole};
 ghost use Rattle.coord_batch.specs.Reading.{Reads};
 ghost use Rattle.coord_batch.specs.Decoding.{Answers, bad_version, decoded, is_version};
 ghost use Rattle.coord_batch.specs.Steps.{batch};
 ghost use Rattle.coord_batch.specs.Batches.{IsBatch, IsWritable, content, pair};
 
-use crate::fault::{CodecFault, FaultKind, ReadError};
+use crate::fault::{CodecFault, ReadError};
 use crate::input::Input;
 use crate::step_writing::put_step;
 use coord_types::{MAX_BATCH_BYTES, MAX_BATCH_STEPS, MAX_STEPS, Step, Version};

@@ -1,6 +1,6 @@
 //! Reading of commands, packets and steps.
 
-ghost use Rattle.std.specs.Prelude.{◌≡◌, []};
+ghost use Rattle.std.specs.Prelude.{[]};
 ghost use Rattle.coord_batch.specs.Format.{items_at};
 ghost use Rattle.coord_batch.specs.Reading.{Reads};
 ghost use Rattle.coord_batch.specs.Steps.{command, data_packet, receipt_packet, step, steps};

@@ -1,19 +1,16 @@
 -- The first fault of many places in turn.
-use Rattle.std.proofs.Common.{◌≡◌, ℕ, zero, suc, ◌+◌, ◌-◌, ◌<◌, ◌≤◌, Bool, true, false, Option, Some, None, List, [], ◌∷◌, ◌++◌, length, get_or, drop, refl, sym, ap, ◌∙◌, arith}
+use Rattle.std.proofs.Common.{◌≡◌, ℕ, zero, suc, ◌+◌, ◌-◌, ◌<◌, ◌≤◌, Bool, true, false, Option, Some, None, List, [], ◌∷◌, ◌++◌, length, get_or, drop, refl, sym, ap, ◌∙◌, arith, if◌then◌else◌}
 use Rattle.std.specs.List.{flat_map, range_with_len}
 use Rattle.std.proofs.lemmas.List.{drop_more}
 use Rattle.coord_types.specs.Table.{get}
 use Rattle.coord_link.specs.LaneMachine.{Lane, transit}
-use Rattle.coord_world.specs.protocol.Links.{link}
-use Rattle.coord_world.specs.protocol.NumberedWorld.{World, view, is_linked, transit_or_none}
-use Rattle.coord_world.specs.protocol.Rows.{lane_or_none}
+use Rattle.coord_world.specs.Facade.{World, is_linked, lane_or_none, link, transit_or_none, view}
 use Rattle.coord_check.specs.declared.violation.Letter.{Letter}
 use Rattle.coord_check.specs.declared.violation.Letter.TheVariants as letter
 use Rattle.coord_check.specs.declared.violation.Violation.{Violation}
 use Rattle.coord_check.specs.Faults.{first, nodes_from, holds_of, link_holds, fault_unless, end_faults, letter_faults, link_letters, link_faults}
 use Rattle.coord_check.specs.Sides.{side, end_at, seen}
 use Rattle.coord_check.specs.declared.side.Side.{Side}
-use Rattle.std.specs.Prelude.{if◌then◌else◌}
 
 -- a list with a first element has that one before another list too; one with none is empty
 pub first_here : {X : Type 0} (xs ys : List X) (x : X) → first xs ≡ Some x → first (xs ++ ys) ≡ Some x

@@ -1,14 +1,9 @@
 -- A world has no fault exactly where it is legal.
-use Rattle.std.proofs.Common.{◌≡◌, ℕ, ◌+◌, ◌≤◌, ◌<◌, ◌⊎◌, inl, inr, Bool, true, false, List, [], Option, Some, None, refl, sym, ap, ◌∙◌, arith}
-use Rattle.std.specs.Prelude.{is_some, IsNone, if◌then◌else◌}
+use Rattle.std.proofs.Common.{◌≡◌, ℕ, ◌+◌, ◌≤◌, ◌<◌, ◌⊎◌, inl, inr, Bool, true, false, List, [], Option, Some, None, refl, sym, ap, ◌∙◌, arith, is_some, IsNone, if◌then◌else◌}
 use Rattle.std.specs.List.{flat_map}
-use Rattle.coord_types.specs.NodeState.{NodeState}
-use Rattle.coord_types.specs.Table.{get}
-use Rattle.coord_world.specs.protocol.Rows.{lane_or_none}
+use Rattle.coord_types.specs.Facade.{NodeState, get}
+use Rattle.coord_world.specs.Facade.{InRange, Legal, World, is_legal_node, is_linked, lane_or_none, state_or_none}
 use Rattle.coord_link.specs.LaneMachine.{Lane, has_front_taken_at_most}
-use Rattle.coord_world.specs.protocol.Legal.{Legal, is_legal_node}
-use Rattle.coord_world.specs.protocol.NumberedWorld.{World, is_linked, state_or_none}
-use Rattle.coord_world.specs.protocol.Ranges.{InRange}
 use Rattle.coord_check.specs.declared.violation.Letter.{Letter}
 use Rattle.coord_check.specs.declared.violation.Letter.TheVariants as letter
 use Rattle.coord_check.specs.declared.violation.Violation.{Violation}

@@ -6,9 +6,7 @@ use Rattle.coord_types.specs.declared.messages.Msg.{Msg}
 use Rattle.coord_types.specs.declared.messages.Msg.TheVariants as msg
 use Rattle.coord_link.specs.LaneMachine.{transit}
 use Rattle.coord_node.specs.Rules.{carried, is_parent}
-use Rattle.coord_world.specs.protocol.Links.{End, Link, aborts, acks, readies}
-use Rattle.coord_world.specs.protocol.NumberedWorld.{World, state}
-use Rattle.coord_world.specs.protocol.Rows.{lane_or_none}
+use Rattle.coord_world.specs.Facade.{End, Link, World, aborts, acks, lane_or_none, readies, state}
 use Rattle.coord_check.specs.declared.side.Side.{Side}
 
 -- a message is of a kind, whatever it carries

@@ -1,7 +1,7 @@
 //! The predicate over one node.
 
 ghost use Rattle.std.specs.Prelude.{◌≡◌};
-ghost use Rattle.coord_world.specs.protocol.Legal.{awaits_rightly, has_right_parent, is_parent_near, is_within, is_distance_right, is_legal_node};
+ghost use Rattle.coord_world.specs.protocol.Legal.{awaits_rightly, has_right_parent, is_parent_near, is_distance_right, is_legal_node};
 
 use coord_node::Node;
 use coord_types::{Mode, NodeId, NodeSet};

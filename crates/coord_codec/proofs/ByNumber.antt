@@ -1,11 +1,9 @@
 -- A table's entries are those that are met by number.
-use Rattle.std.proofs.Common.{◌≡◌, ℕ, zero, suc, ◌+◌, ◌-◌, ◌<◌, ◌≤◌, true, false, ◌&&◌, List, [], ◌∷◌, ◌++◌, Option, Some, None, map, cond, eqb, refl, sym, ap, ◌∙◌, append_assoc, append-nil, length, subst, arith, T}
-use Rattle.std.specs.Prelude.{nat_lt}
+use Rattle.std.proofs.Common.{◌≡◌, ℕ, zero, suc, ◌+◌, ◌-◌, ◌<◌, ◌≤◌, true, false, ◌&&◌, List, [], ◌∷◌, ◌++◌, Option, Some, None, map, cond, eqb, refl, sym, ap, ◌∙◌, append_assoc, append-nil, length, subst, arith, T, nat_lt, Equal}
 use Rattle.std.specs.Cmp.{nat_cmp_total}
 use Rattle.std.specs.Option.{option_map}
 use Rattle.std.specs.List.{flat_map, range_with_len}
 use Rattle.std.specs.Ordering.{eq_by_cmp, is_lt, nat_cmp}
-use Rattle.std.specs.declared.cmp.Ordering.TheVariants.{Equal}
 use Rattle.std.specs.FinMap.Entries.{below_all, find, is_sorted, same_entries, where_key}
 use Rattle.std.proofs.lemmas.Bool.Decides.{nat_tests}
 use Rattle.std.proofs.lemmas.Grind.{flat_map-append}
@@ -14,8 +12,7 @@ use Rattle.std.proofs.lemmas.List.Folds.{flat_map-map}
 use Rattle.coord_types.specs.Table.{Table, entries, get, len}
 use Rattle.coord_types.proofs.Tables.{get-entries, len-entries}
 use Rattle.coord_link.specs.LaneMachine.{Lane}
-use Rattle.coord_world.specs.protocol.NumberedWorld.{World, pair_cmp}
-use Rattle.coord_world.specs.protocol.Rows.{goes_up, link_row}
+use Rattle.coord_world.specs.Facade.{World, goes_up, link_row, pair_cmp}
 use Rattle.coord_world.specs.declared.rows.parts.LinkRow.{LinkRow}
 use Rattle.coord_world.proofs.Facade.{by_test}
 use Rattle.coord_codec.specs.ByNumber.{HasKeysTo, entry_at, numbers, one_or_none, row_of_lane}

@@ -6,9 +6,7 @@ use Rattle.std.proofs.lemmas.List.Concat.{flat_map-cons}
 use Rattle.coord_types.specs.declared.messages.Msg.{Msg}
 use Rattle.coord_types.specs.declared.messages.Msg.TheVariants as msg
 use Rattle.coord_world.specs.laws.Laws.{HasFewAborts}
-use Rattle.coord_world.specs.protocol.Links.{aborts}
-use Rattle.coord_world.specs.protocol.Rows.{LinkRowFits, NodeRowFits, Rows, RowsFit}
-use Rattle.coord_world.specs.protocol.Ranges.{SessionInRange}
+use Rattle.coord_world.specs.Facade.{LinkRowFits, NodeRowFits, Rows, RowsFit, SessionInRange, aborts}
 use Rattle.coord_world.specs.declared.rows.parts.NodeRow.{NodeRow}
 use Rattle.coord_world.specs.declared.rows.parts.LinkRow.{LinkRow}
 use Rattle.coord_world.specs.declared.rows.parts.ClientRow.{ClientRow}

@@ -1,10 +1,7 @@
 -- What spells a world is read as that world.
-use Rattle.std.proofs.Common.{◌≡◌, ℕ, true, List, Result, Ok, Err, ap, subst, arith}
+use Rattle.std.proofs.Common.{◌≡◌, ℕ, true, List, Result, Ok, Err, ap, subst, arith, IfOk}
 use Rattle.std.proofs.lemmas.Bool.Decides.{nat_tests}
-use Rattle.std.specs.Prelude.{IfOk}
-use Rattle.coord_world.specs.protocol.NumberedWorld.{World}
-use Rattle.coord_world.specs.protocol.Rows.{rows_of}
-use Rattle.coord_world.specs.protocol.Ranges.{InRange}
+use Rattle.coord_world.specs.Facade.{InRange, World, rows_of}
 use Rattle.coord_world.proofs.Facade.{rows_give_world, rows_of_world_fit}
 use Rattle.coord_batch.specs.declared.fault.CodecFault.{CodecFault}
 use Rattle.coord_batch.specs.declared.fault.FaultKind.{FaultKind}

@@ -1,15 +1,13 @@
 -- The formats of worlds are grammars.
 use Rattle.std.proofs.Common.{◌≡◌, ℕ, zero, suc, ◌<◌, ◌^◌, leb, ltb, List, [], refl, arith}
-use Rattle.coord_types.specs.NodeMask.{nodes_of, mask_of}
-use Rattle.coord_types.specs.NodeState.{mode_from, mode_number}
+use Rattle.coord_types.specs.Facade.{mask_of, mode_from, mode_number, nodes_of}
 use Rattle.coord_types.specs.declared.steps.Command.{Command}
 use Rattle.coord_types.proofs.Masks.{mask_back}
 use Rattle.coord_world.specs.protocol.Ranges.{answers}
 use Rattle.coord_world.specs.declared.rows.parts.NodeRow.{NodeRow}
 use Rattle.coord_world.specs.declared.rows.parts.LinkRow.{LinkRow}
 use Rattle.coord_world.specs.declared.rows.parts.ClientRow.{ClientRow}
-use Rattle.coord_batch.specs.Format.{byte, u64, such_that}
-use Rattle.coord_batch.specs.Fields.{node, client, message}
+use Rattle.coord_batch.specs.Facade.{byte, client, message, node, such_that, u64}
 use Rattle.coord_codec.specs.Worlds.{can_link, client_row, clients, ends, first_rises, kind, kind_from, kind_number, lane, last_by, link_row, links, mask, mode, most_distance, node_row, nodes, parent, parent_from, parent_number, queue, second_rises, world}
 use Rattle.coord_batch.proofs.Grammars.{IsGrammar, byte_grammar, u64_grammar, such_grammar, followed_grammar, made_grammar, counted_grammar}
 use Rattle.coord_batch.proofs.StepGrammars.{and_grammar, at_most_grammar, client_grammar, command_grammar, distance_grammar, from_one_to_grammar, group_grammar, how_many_grammar, message_grammar, node_grammar}

@@ -5,21 +5,17 @@ use Rattle.std.specs.Cmp.{nat_cmp_total}
 use Rattle.std.specs.List.{AllByRecursion}
 use Rattle.std.specs.FinMap.Entries.{below_all, find}
 use Rattle.std.proofs.lemmas.Bool.Decides.{nat_tests}
-use Rattle.coord_types.specs.NodeSet.{NodeSet}
-use Rattle.coord_types.specs.NodeMask.{IsMaskable, mask_of}
+use Rattle.coord_types.specs.Facade.{IsMaskable, NodeSet, brought, mask_of}
 use Rattle.coord_types.specs.declared.messages.Mode.{Mode}
 use Rattle.coord_types.specs.declared.messages.Mode.TheVariants as modes
 use Rattle.coord_types.specs.declared.messages.Msg.{Msg}
-use Rattle.coord_types.specs.Messages.{brought}
 use Rattle.coord_types.specs.declared.steps.Command.{Command}
 use Rattle.coord_types.specs.declared.steps.Command.TheVariants.{Add, Remove, Join, Drop, Reset, Confirm}
 use Rattle.coord_types.specs.declared.steps.Kind.{Kind}
 use Rattle.coord_types.specs.declared.steps.Kind.TheVariants as kinds
 use Rattle.coord_types.proofs.Masks.{maskable_nodes, mask_below, nodes_back}
 use Rattle.coord_link.specs.LaneMachine.{Lane}
-use Rattle.coord_world.specs.protocol.NumberedWorld.{pair_cmp, pair_cmp_total}
-use Rattle.coord_world.specs.protocol.Ranges.{CarryWithin, IsNode, LaneInRange, SessionInRange, answers, farthest}
-use Rattle.coord_world.specs.protocol.Rows.{LanesCarryWithin, LinkRowFits, NodeRowFits, RowIsDistant, Rows, RowsFit, by_client, by_ends, by_id, degree, group_in, group_of, is_end}
+use Rattle.coord_world.specs.Facade.{CarryWithin, IsNode, LaneInRange, LanesCarryWithin, LinkRowFits, NodeRowFits, RowIsDistant, Rows, RowsFit, SessionInRange, answers, by_client, by_ends, by_id, degree, farthest, group_in, group_of, is_end, pair_cmp, pair_cmp_total}
 use Rattle.coord_world.specs.declared.rows.parts.NodeRow.{NodeRow}
 use Rattle.coord_world.specs.declared.rows.parts.LinkRow.{LinkRow}
 use Rattle.coord_world.specs.declared.rows.parts.ClientRow.{ClientRow}

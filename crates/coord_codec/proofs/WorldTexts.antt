@@ -2,8 +2,7 @@
 use Rattle.std.proofs.Common.{◌≡◌, ℕ, Bool, true, false, eqb, List, [], ◌∷◌, ◌++◌, length, refl, ap}
 use Rattle.std.specs.Int.{w64, to_be_bytes}
 use Rattle.std.specs.List.{flat_map}
-use Rattle.coord_types.specs.NodeMask.{mask_of}
-use Rattle.coord_types.specs.NodeState.{mode_number}
+use Rattle.coord_types.specs.Facade.{mask_of, mode_number}
 use Rattle.coord_types.specs.declared.messages.Msg.{Msg}
 use Rattle.coord_types.specs.declared.messages.Msg.TheVariants as msg
 use Rattle.coord_link.specs.LaneMachine.{Lane}

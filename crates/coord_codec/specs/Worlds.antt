@@ -1,8 +1,6 @@
 -- The grammar of worlds, by version.
 use Rattle.std.specs.Prelude.{ℕ, zero, suc, ◌==◌, ◌&&◌, ◌||◌, not, nat_le, nat_lt, Bool, false, List, [], ◌∷◌, Option, Some, None}
-use Rattle.coord_types.specs.NodeSet.{NodeSet}
-use Rattle.coord_types.specs.NodeMask.{nodes_of, mask_of}
-use Rattle.coord_types.specs.NodeState.{mode_from, mode_number}
+use Rattle.coord_types.specs.Facade.{NodeSet, mask_of, mode_from, mode_number, nodes_of}
 use Rattle.coord_types.specs.declared.limits.TheConstants.{MAX_CLIENTS, MAX_DEGREE, MAX_LINKS, MAX_NODES, MAX_STEPS}
 use Rattle.coord_types.specs.declared.messages.Mode.{Mode}
 use Rattle.coord_types.specs.declared.messages.Mode.TheVariants.{Ready, Abort, Converge}
@@ -11,14 +9,12 @@ use Rattle.coord_types.specs.declared.steps.Command.{Command}
 use Rattle.coord_types.specs.declared.steps.Kind.{Kind}
 use Rattle.coord_types.specs.declared.steps.Kind.TheVariants as kinds
 use Rattle.coord_link.specs.LaneMachine.{Lane}
-use Rattle.coord_world.specs.protocol.Ranges.{answers}
-use Rattle.coord_world.specs.protocol.Rows.{Rows, group_of, degree}
+use Rattle.coord_world.specs.Facade.{Rows, answers, degree, group_of}
 use Rattle.coord_world.specs.declared.rows.parts.NodeRow.{NodeRow}
 use Rattle.coord_world.specs.declared.rows.parts.LinkRow.{LinkRow}
 use Rattle.coord_world.specs.declared.rows.parts.ClientRow.{ClientRow}
 use Rattle.coord_batch.specs.Format.{Format, byte, u64, such_that, followed, ◌&◌, made, counted}
-use Rattle.coord_batch.specs.Fields.{node, group, client, distance, message, at_most, from_one_to, how_many}
-use Rattle.coord_batch.specs.Steps.{command}
+use Rattle.coord_batch.specs.Facade.{at_most, client, command, distance, from_one_to, group, how_many, message, node}
 
 -- ---- fields
 

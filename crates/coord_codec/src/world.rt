@@ -1,6 +1,6 @@
 //! Worlds as bytes.
 
-ghost use Rattle.std.specs.Prelude.{◌≡◌, true, false, ◌↔◌, ◌≤◌, ◌++◌, length, Ok, Err, IfOk, OnOk};
+ghost use Rattle.std.specs.Prelude.{◌≡◌, false, ◌↔◌, ◌≤◌, ◌++◌, length, Ok, Err, IfOk, OnOk};
 ghost use Rattle.coord_world.specs.protocol.NumberedWorld.{World as Numbered};
 ghost use Rattle.coord_world.specs.protocol.Rows.{RowsFit, listed, rows_of};
 ghost use Rattle.coord_world.specs.protocol.Ranges.{InRange};

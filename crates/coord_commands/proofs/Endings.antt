@@ -1,6 +1,5 @@
 -- How commands end, from what their parts answer.
-use Rattle.std.proofs.Common.{◌≡◌, ℕ, List, Option, Some, None, IfSome, Result, Ok, Err, inl, inr, subst, sym}
-use Rattle.std.specs.Prelude.{MatchResult, OnOk, OnErr, IfErr}
+use Rattle.std.proofs.Common.{◌≡◌, ℕ, List, Option, Result, Ok, Err, inl, inr, subst, sym, MatchResult, OnOk, OnErr, IfErr}
 use Rattle.std.specs.Io.KnownBytes.{Appends, Keeps}
 use Rattle.coord_drill.specs.Drilled.{WritesFirstPart}
 use Rattle.coord_commands.specs.Ending.{Ends, IsCutShort, IsOfWriting, PrintsOne, Streams}
@@ -50,11 +49,6 @@ pub served : {A : Type 0} (word : List ℕ) (bytes after : Option (List ℕ)) (e
     → OnOk ended (GivesWorld bytes) → OnOk ended (GivesWorld after) → IfErr ended (IsOfServing bytes) → Serves word bytes after status old new
 served word bytes after (Ok x) status old new proper is told opened closed of = inl (record { number = is; address = proper; opened = opened; closed = closed; silent = told })
 served word bytes after (Err fault) status old new proper is told opened closed of = inr (record { fault = fault; possible = at_address word bytes fault proper of; number = is; told = told })
-
--- what is known of every value is known of the one, if it is known
-pub if_known : (known : Option (List ℕ)) (P : List ℕ → Type 0) → ((bytes : List ℕ) → P bytes) → IfSome known P
-if_known None P all = tt
-if_known (Some bytes) P all = all bytes
 
 -- what is an error with a fault
 pub err_last : {A : Type 0} (P : Fault → Type 0) (result : Result A Fault) (fault : Fault) → result ≡ Err fault → P fault → IfErr result P

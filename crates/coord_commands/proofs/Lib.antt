@@ -6,5 +6,4 @@ mod Opening
 mod Raising
 mod RefusedWords
 mod SaidBytes
-mod Statuses
 mod Submitted

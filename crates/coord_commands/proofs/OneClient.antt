@@ -19,9 +19,7 @@ use Rattle.coord_types.specs.declared.steps.Step.{Step}
 use Rattle.coord_types.specs.declared.steps.Step.TheVariants.{Order}
 use Rattle.coord_world.specs.declared.verdicts.Verdict.{Verdict}
 use Rattle.coord_world.specs.declared.verdicts.Verdict.TheVariants.{Fresh, Repeat}
-use Rattle.coord_world.specs.protocol.Acceptance.{accepts, against, is_exhausted, judged, last_number, or_repeat}
-use Rattle.coord_world.specs.protocol.Next.{with_transitions, next, prepared, reply}
-use Rattle.coord_world.specs.protocol.NumberedWorld.{World, no_world, state}
+use Rattle.coord_world.specs.Facade.{World, accepts, against, is_exhausted, judged, last_number, next, no_world, or_repeat, prepared, reply, state, with_transitions}
 use Rattle.coord_commands.specs.Founding.{founder, numbered}
 
 refused_if : (b : Bool) (refusal : Refusal) (rest : Result Verdict Refusal) (r : Reply) → (rest ≡ Ok (Repeat r) → ⊥) → (if b then Err refusal else rest) ≡ Ok (Repeat r) → ⊥

@@ -1,14 +1,11 @@
 -- Raising the store on a disk, from what its parts answer.
-use Rattle.std.proofs.Common.{◌≡◌, ◌≢◌, ℕ, Bool, true, false, List, Option, Some, None, IfSome, is_some, Result, Ok, Err, inl, inr, refl, sym, subst, if◌then◌else◌, ◌∙◌}
-use Rattle.std.specs.Prelude.{OnOk, IfOk, IfErr, IsErrOf}
+use Rattle.std.proofs.Common.{◌≡◌, ◌≢◌, ℕ, Bool, true, false, List, Option, Some, None, IfSome, is_some, Result, Ok, Err, inl, inr, refl, sym, subst, if◌then◌else◌, ◌∙◌, OnOk, IfOk, IfErr, IsErrOf}
 use Rattle.coord_disk.specs.Model.Present.{Present}
-use Rattle.coord_store.specs.Kept.{GivesEither, GivesKept, Kept, has_stopped}
-use Rattle.coord_store.specs.Migrating.{risen}
-use Rattle.coord_store.specs.Recovered.{Recovered}
+use Rattle.coord_store.specs.Facade.{GivesEither, GivesKept, Kept, Recovered, has_stopped, risen}
 use Rattle.coord_store.specs.declared.faults.StoreFault.TheVariants as of_store
 use Rattle.coord_world.specs.protocol.NumberedWorld.{World}
 use Rattle.coord_commands.specs.Ending.{IsOfWriting}
-use Rattle.coord_commands.specs.Migrating.{GivesEitherVersion, IsMigratedLine, IsNotQuiet, IsOfMigrating, IsOfRaising, IsRaised, ReadsAsBefore, RefusesRaising}
+use Rattle.coord_commands.specs.Migrating.{GivesEitherVersion, IsMigratedLine, IsOfMigrating, IsOfRaising, IsRaised, ReadsAsBefore, RefusesRaising}
 use Rattle.coord_commands.specs.Printed.{migrated_line}
 use Rattle.coord_commands.specs.declared.fault.Fault.{Fault}
 use Rattle.coord_commands.specs.declared.fault.Fault.TheVariants.{Usage, Read, Write, Socket, TooManyReads, OutOfMemory, Topology, Store, Refused, NotClosed}

@@ -4,9 +4,8 @@ use Rattle.std.proofs.KnownBytes.{Keeps-refl}
 use Rattle.clap.specs.Words.{Text, takes}
 use Rattle.coord_disk.specs.Model.Present.{Present}
 use Rattle.coord_drill.specs.Drilled.{WritesFirstPart}
-use Rattle.coord_commands.specs.Ending.{Streams}
 use Rattle.coord_commands.specs.Faults.{fault_line, fault_status}
-use Rattle.coord_commands.specs.Running.{Around, IsOfWords, RefusesWords}
+use Rattle.coord_commands.specs.Running.{IsOfWords, RefusesWords}
 use Rattle.coord_commands.specs.Words.{resetd, task_of}
 use Rattle.coord_commands.specs.declared.fault.Fault.{Fault}
 use Rattle.coord_commands.specs.declared.fault.Fault.TheVariants.{Usage, OutOfMemory}

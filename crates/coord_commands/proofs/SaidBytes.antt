@@ -1,8 +1,7 @@
 -- What bytes say, as far as they are read.
-use Rattle.std.proofs.Common.{◌≡◌, ℕ, Bool, true, false, List, [], ◌++◌, take, Option, Some, None, Result, Err, cond, refl, subst, ap, ◌∙◌}
+use Rattle.std.proofs.Common.{◌≡◌, ℕ, Bool, true, false, List, [], ◌++◌, take, Option, Some, None, Result, Err, cond, refl, subst, ap, ◌∙◌, IfSome}
 use Rattle.std.proofs.lemmas.Str.{IsUtf8-from_is_utf8, is_utf8-from_IsUtf8}
 use Rattle.std.specs.Option.{option_map}
-use Rattle.std.specs.Prelude.{IfSome}
 use Rattle.std.specs.Str.{is_utf8, IsUtf8}
 use Rattle.coord_config.specs.Reading.{reading}
 use Rattle.coord_config.specs.Topology.{Content}

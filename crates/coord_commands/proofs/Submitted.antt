@@ -6,9 +6,7 @@ use Rattle.coord_types.specs.declared.refusals.Refusal.{Refusal}
 use Rattle.coord_types.specs.declared.steps.Command.{Command}
 use Rattle.coord_types.specs.declared.steps.Step.{Step}
 use Rattle.coord_types.specs.declared.steps.Step.TheVariants.{Order}
-use Rattle.coord_world.specs.protocol.Acceptance.{accepts}
-use Rattle.coord_world.specs.protocol.Next.{fold}
-use Rattle.coord_world.specs.protocol.NumberedWorld.{no_world}
+use Rattle.coord_world.specs.Facade.{accepts, fold, no_world}
 use Rattle.coord_commands.proofs.OneClient.{length-numbered, numbered-append}
 use Rattle.coord_commands.specs.Founding.{IsRefusedBy, founder, numbered}
 

@@ -12,10 +12,7 @@ use Rattle.coord_types.specs.declared.steps.Command.TheVariants.{Add, Join}
 use Rattle.coord_types.specs.declared.steps.Step.{Step}
 use Rattle.coord_types.specs.declared.steps.Step.TheVariants.{Order}
 use Rattle.coord_types.specs.Table.{get}
-use Rattle.coord_world.specs.protocol.Acceptance.{accepts, last_number}
-use Rattle.coord_world.specs.protocol.Legal.{Legal}
-use Rattle.coord_world.specs.protocol.Next.{fold}
-use Rattle.coord_world.specs.protocol.NumberedWorld.{no_world}
+use Rattle.coord_world.specs.Facade.{Legal, accepts, fold, last_number, no_world}
 use Rattle.coord_commands.specs.declared.founding.Founding.{Founding}
 
 -- the client that orders them

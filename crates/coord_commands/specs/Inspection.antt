@@ -1,11 +1,9 @@
 -- What `check` and `show` print of the store on a disk, and what may end them.
 use Rattle.std.specs.Prelude.{◌≡◌, ◌⊎◌, ℕ, List, Option, IfSome}
 use Rattle.coord_check.specs.declared.violation.Violation.{Violation}
-use Rattle.coord_store.specs.Recovered.{Recovered}
-use Rattle.coord_store.specs.Refused.{IsOpenFault, RefusesOpen}
+use Rattle.coord_store.specs.Facade.{IsOpenFault, Recovered, RefusesOpen}
 use Rattle.coord_store.specs.declared.faults.StoreFault.TheVariants.{Device, Violated}
-use Rattle.coord_world.specs.protocol.Legal.{Legal}
-use Rattle.coord_world.specs.protocol.NumberedWorld.{World}
+use Rattle.coord_world.specs.Facade.{Legal, World}
 use Rattle.coord_commands.specs.Ending.{Ends, Fails, PrintsOne, Streams, Succeeds}
 use Rattle.coord_commands.specs.Printed.{legal_line, shown, violated_line}
 use Rattle.coord_commands.specs.declared.fault.Fault.{Fault}

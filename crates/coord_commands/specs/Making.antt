@@ -1,14 +1,12 @@
 -- What `init` makes.
-use Rattle.std.specs.Prelude.{◌≡◌, ℕ, ◌<◌, List, [], length, take, Option, IfSome, Ok, Err}
+use Rattle.std.specs.Prelude.{◌≡◌, ℕ, ◌<◌, List, length, take, Option, IfSome, Ok, Err}
 use Rattle.coord_config.specs.Topology.{Content}
 use Rattle.coord_config.specs.declared.fault.ConfigFault.{ConfigFault}
 use Rattle.coord_config.specs.declared.fault.ConfigFault.TheVariants as of_topology
-use Rattle.coord_store.specs.Recovered.{Recovered}
-use Rattle.coord_store.specs.Refused.{IsCreateFault}
+use Rattle.coord_store.specs.Facade.{IsCreateFault, Recovered}
 use Rattle.coord_store.specs.declared.faults.StoreFault.{StoreFault}
 use Rattle.coord_store.specs.declared.faults.StoreFault.TheVariants.{NotEmpty, HalfSize}
-use Rattle.coord_world.specs.protocol.Next.{fold}
-use Rattle.coord_world.specs.protocol.NumberedWorld.{World, no_world}
+use Rattle.coord_world.specs.Facade.{World, fold, no_world}
 use Rattle.coord_commands.specs.declared.topology.TheConstants.{MOST_BYTES}
 use Rattle.coord_commands.specs.Founding.{RefusesToBegin, orders}
 use Rattle.coord_commands.specs.Printed.{created_line}

@@ -1,10 +1,7 @@
 -- What `migrate` does to the disk of a name, as far as what it holds before and after is known.
 use Rattle.std.specs.Prelude.{◌≡◌, ◌⊎◌, ℕ, List, Option, IfSome}
 use Rattle.coord_disk.specs.Model.Present.{Present, IsImage}
-use Rattle.coord_store.specs.Kept.{GivesEither}
-use Rattle.coord_store.specs.Migrating.{RefusesMigration, risen}
-use Rattle.coord_store.specs.Recovered.{Recovered}
-use Rattle.coord_store.specs.Refused.{IsOpenFault, RefusesOpen}
+use Rattle.coord_store.specs.Facade.{GivesEither, IsOpenFault, Recovered, RefusesMigration, RefusesOpen, risen}
 use Rattle.coord_store.specs.declared.faults.StoreFault.TheVariants.{Device, NotQuiet}
 use Rattle.coord_world.specs.protocol.NumberedWorld.{World}
 use Rattle.coord_commands.specs.Printed.{migrated_line}

@@ -1,6 +1,6 @@
 //! The lines that the commands print.
 
-ghost use Rattle.std.specs.Prelude.{◌≡◌, ◌⊎◌, ◌≤◌, IfErr, OnErr, OnOk};
+ghost use Rattle.std.specs.Prelude.{IfErr, OnErr, OnOk};
 ghost use Rattle.std.specs.Io.KnownBytes.{Appends};
 ghost use Rattle.coord_commands.specs.Ending.{IsOfWriting};
 ghost use Rattle.coord_commands.specs.Faults.{fault_line};

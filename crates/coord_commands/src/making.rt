@@ -1,6 +1,6 @@
 //! Making a store in a folder.
 
-ghost use Rattle.std.specs.Prelude.{◌≡◌, ◌⊎◌, true, length, None, IfErr, IfOk, IfSome, MatchResult, OnOk};
+ghost use Rattle.std.specs.Prelude.{◌≡◌, IfErr, IfOk, OnOk};
 ghost use Rattle.coord_commands.specs.Ending.{Ends, IsCutShort, PrintsOne};
 ghost use Rattle.coord_commands.specs.Folders.{bytes_of, reads};
 ghost use Rattle.coord_commands.specs.Making.{IsCreatedLine, IsMade, IsOfFile, IsOfMaking, RefusesStore, begun};

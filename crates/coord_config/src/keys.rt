@@ -1,9 +1,9 @@
 //! Judging the keys of a topology file.
 
-ghost use Rattle.std.specs.Prelude.{◌≡◌, codes, is_some, map, option_map};
+ghost use Rattle.std.specs.Prelude.{◌≡◌, map, option_map};
 ghost use Rattle.toml.specs.Data.{get_member};
 ghost use Rattle.toml.specs.View.{array_view, table_view, view};
-ghost use Rattle.coord_config.specs.Keys.{entries_have_just, file_keys, has_all, has_only, has_right_keys, is_among, items_have_just, link_keys, node_keys, table_has_just};
+ghost use Rattle.coord_config.specs.Keys.{entries_have_just, has_all, has_only, has_right_keys, is_among, items_have_just, table_has_just};
 
 use toml::value::Array;
 use toml::{Table, Value};

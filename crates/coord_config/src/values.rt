@@ -1,10 +1,10 @@
 //! Reading the values of a topology file.
 
-ghost use Rattle.std.specs.Prelude.{◌≡◌, ◌≢◌, ◌<◌, codes, Err, IfErr, IfOk, IsSome, None, Option, Some, option_map};
+ghost use Rattle.std.specs.Prelude.{◌≡◌, ◌≢◌, ◌<◌, codes, Err, IfErr, IfOk, IsSome, None, Option, Some};
 ghost use Rattle.toml.specs.Data.{Data, get_member, no_members};
 ghost use Rattle.toml.specs.View.{array_view, table_view, view};
 ghost use Rattle.coord_config.specs.declared.fault.ConfigFault.TheVariants.{BadValue, OutOfMemory};
-ghost use Rattle.coord_config.specs.Topology.{content, each, entries_of, half_of, link_of, node_of, number_at, number_within, values_of};
+ghost use Rattle.coord_config.specs.Topology.{content, each, entries_of, half_of, link_of, node_of, number_at, values_of};
 
 use crate::fault::ConfigFault;
 use crate::keys::value_at;

@@ -1,7 +1,5 @@
 -- What one more write or sync makes of a disk in memory.
-use Rattle.std.proofs.Common.{◌≡◌, ℕ, ◌+◌, ◌<◌, List, [], ◌∷◌, ◌++◌, length, take, drop, get_or, refl, sym, ◌∙◌, ap, subst, arith}
-use Rattle.std.specs.Prelude.{◌-◌, ◌≤◌, false, ◌&&◌, ◌||◌, nat_le, nat_lt, Vec, Some}
-use Rattle.std.specs.declared.alloc.Global.{Global}
+use Rattle.std.proofs.Common.{◌≡◌, ℕ, ◌+◌, ◌<◌, List, [], ◌∷◌, ◌++◌, length, take, drop, get_or, refl, sym, ◌∙◌, ap, subst, arith, ◌-◌, ◌≤◌, false, ◌&&◌, ◌||◌, nat_le, nat_lt, Vec, Some, Global}
 use Rattle.std.proofs.lemmas.List.{take_more}
 use Rattle.coord_disk.specs.Disks.History.{Past, LedTo, Adds, after, past_with, present_after, replayed}
 use Rattle.coord_disk.specs.Model.Present.{Present, IsImage, is_within, overwritten, whole, written_at}

@@ -1,7 +1,7 @@
 //! What a crash leaves of a disk in memory.
 
-ghost use Rattle.std.specs.Prelude.{◌≡◌, ◌+◌, ◌&&◌, nat_le, nat_lt, List, ℕ, length, Some};
-ghost use Rattle.coord_disk.specs.Model.Present.{IsImage, is_within, whole};
+ghost use Rattle.std.specs.Prelude.{◌≡◌, ◌+◌, ◌&&◌, nat_le, nat_lt, List, ℕ, Some};
+ghost use Rattle.coord_disk.specs.Model.Present.{is_within, whole};
 ghost use Rattle.coord_disk.specs.Disks.Filled.{IsFilled, repeated};
 ghost use Rattle.coord_disk.specs.Disks.History.{LedTo, past_with, present_after, replayed};
 ghost use Rattle.coord_disk.specs.Disks.Left.{IsLeft};

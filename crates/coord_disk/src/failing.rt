@@ -1,6 +1,6 @@
 //! A disk that fails calls of its own, and leaves the disk inside untouched then.
 
-ghost use Rattle.std.specs.Prelude.{◌≡◌, ◌+◌, ◌-◌, ◌<◌, ◌≤◌, ◌^◌, min, true, Bool, List, ℕ, length, take, drop, IfOk, OnOk, if◌then◌else◌};
+ghost use Rattle.std.specs.Prelude.{◌≡◌, ◌+◌, ◌-◌, ◌<◌, ◌≤◌, ◌^◌, min, true, Bool, length, take, drop, IfOk, OnOk, if◌then◌else◌};
 ghost use Rattle.coord_disk.specs.Model.Present.{IsImage, Writes, FitsNoMore, whole, written_at};
 ghost use Rattle.coord_disk.specs.Model.Moments.{Elapses, HasCause};
 

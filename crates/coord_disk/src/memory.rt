@@ -1,9 +1,9 @@
 //! A disk in memory, which may be crashed at will.
 
-ghost use Rattle.std.specs.Prelude.{◌≡◌, ◌↔◌, ◌+◌, ◌<◌, ◌≤◌, ◌^◌, [], true, List, ℕ, length, Some, None, IsTrue, IfOk, OnOk, OnErr, IsSome};
+ghost use Rattle.std.specs.Prelude.{◌≡◌, ◌↔◌, ◌+◌, ◌<◌, ◌≤◌, ◌^◌, [], true, length, Some, None, IsTrue, IfOk, OnOk, OnErr, IsSome};
 ghost use Rattle.std.specs.Option.{ForSome};
-ghost use Rattle.coord_disk.specs.Model.Present.{IsImage, overwritten, whole, written_at};
-ghost use Rattle.coord_disk.specs.Disks.History.{Past, LedTo, Adds, LeftSince, past_with, present_after};
+ghost use Rattle.coord_disk.specs.Model.Present.{IsImage, whole, written_at};
+ghost use Rattle.coord_disk.specs.Disks.History.{LedTo, Adds, LeftSince};
 
 use crate::crash::crash_bytes;
 use crate::history::{History, record_sync, write};

@@ -1,6 +1,6 @@
 //! A raw file in memory, which may be crashed at will.
 
-ghost use Rattle.std.specs.Prelude.{◌≡◌, ◌+◌, ◌<◌, ◌≤◌, ◌^◌, [], true, false, List, ℕ, length, is_ok, Ok, IfOk};
+ghost use Rattle.std.specs.Prelude.{◌≡◌, ◌<◌, [], true, false, is_ok, Ok, IfOk};
 ghost use Rattle.coord_disk.specs.Disks.Memory.{present_of};
 ghost use Rattle.coord_disk.specs.Model.Present.{IsImage, whole};
 
@@ -106,7 +106,7 @@ fn told<T>(answer: Result<T, DiskFault>) -> io::Result<T>
 }
 
 impl RawFile for MemFile {
-    ghost use Rattle.std.specs.Prelude.{take, drop, is_ok, Ok, IfOk, OnOk};
+    ghost use Rattle.std.specs.Prelude.{is_ok, Ok, IfOk};
     ghost use Rattle.coord_disk.specs.Disks.History.{LeftSince};
     ghost use Rattle.coord_disk.specs.Disks.Memory.{past_of, clock_of};
     ghost use Rattle.coord_disk.specs.Disks.MemoryFile.{counted, disk_of, has_entry, syncs_of};

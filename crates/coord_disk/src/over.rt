@@ -1,6 +1,6 @@
 //! A disk over a raw file.
 
-ghost use Rattle.std.specs.Prelude.{◌≡◌, ◌↔◌, ◌+◌, ◌<◌, ◌≤◌, ◌^◌, false, true, length, take, drop, Ok, is_ok, IfOk, IsOk, IsErr, OnOk, OnErr, if◌then◌else◌};
+ghost use Rattle.std.specs.Prelude.{◌≡◌, ◌+◌, ◌<◌, ◌≤◌, ◌^◌, false, true, length, take, drop, Ok, is_ok, IfOk, IsOk, OnOk, OnErr, if◌then◌else◌};
 ghost use Rattle.coord_disk.specs.Model.Moments.{HasCause, Elapses};
 ghost use Rattle.coord_disk.specs.Model.Present.{IsImage, Writes, FitsNoMore, whole, written_at};
 ghost use Rattle.coord_disk.specs.Model.RawCalls.RawCall.{Len, Read, Write, SyncData, SyncAll, SyncFolder};

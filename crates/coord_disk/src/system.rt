@@ -1,7 +1,7 @@
 //! A file of the system.
 
-ghost use Rattle.std.specs.Prelude.{◌≡◌, false, true, IfOk};
-ghost use Rattle.coord_disk.specs.Disks.Raw.{failures_of, has_grown, has_lost};
+ghost use Rattle.std.specs.Prelude.{◌≡◌, false, IfOk};
+ghost use Rattle.coord_disk.specs.Disks.Raw.{failures_of, has_lost};
 
 mod opening;
 

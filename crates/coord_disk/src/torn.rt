@@ -1,6 +1,6 @@
 //! A disk that tears a write: it writes the first bytes, and fails.
 
-ghost use Rattle.std.specs.Prelude.{◌≡◌, ◌+◌, ◌-◌, ◌<◌, ◌≤◌, ◌^◌, min, true, false, Bool, List, ℕ, length, take, drop, Some, IfOk, IsErr, OnOk, if◌then◌else◌};
+ghost use Rattle.std.specs.Prelude.{◌≡◌, ◌+◌, ◌-◌, ◌<◌, ◌≤◌, ◌^◌, min, true, false, length, take, drop, Some, IfOk, IsErr, OnOk};
 ghost use Rattle.coord_disk.specs.Disks.Blip.{left_of};
 ghost use Rattle.coord_disk.specs.Disks.Torn.{inner_of, kept_of, is_next, calls_of, failed_of, Goes, IsCounted};
 ghost use Rattle.coord_disk.specs.Model.Present.{IsImage, Writes, FitsNoMore, whole, written_at};

@@ -11,9 +11,7 @@ use Rattle.coord_world.specs.declared.verdicts.Verdict.TheVariants.{Fresh, Repea
 use Rattle.coord_world.specs.protocol.Outputs.{again, outs}
 use Rattle.coord_ledger.specs.declared.events.Answer.{Answer}
 use Rattle.coord_ledger.specs.declared.events.Answer.TheVariants.{Accepted, Begun, Committed, Failed, Opened, Refused, Repeated}
-use Rattle.coord_ledger.specs.machine.Answers.{next_size, verdict_on}
-use Rattle.coord_ledger.specs.machine.Log.{Log, accepted_count, front_world, pending, settled_count, settled_world, with_step}
-use Rattle.coord_ledger.specs.machine.Runs.{Answered}
+use Rattle.coord_ledger.specs.Facade.{Answered, Log, accepted_count, front_world, next_size, pending, settled_count, settled_world, verdict_on, with_step}
 use Rattle.coord_view.specs.Printed.{view_lines}
 use Rattle.coord_view.specs.Shown.{shown}
 use Rattle.coord_drill.specs.Asked.{asked}

@@ -8,9 +8,7 @@ use Rattle.coord_types.specs.declared.steps.Step.TheVariants as step
 use Rattle.coord_types.specs.declared.refusals.Refusal.{Refusal}
 use Rattle.coord_types.specs.declared.refusals.Refusal.TheVariants.{NoLink}
 use Rattle.coord_link.specs.LaneMachine.{Lane}
-use Rattle.coord_world.specs.protocol.NumberedWorld.{World}
-use Rattle.coord_world.specs.protocol.Acceptance.{last_number}
-use Rattle.coord_world.specs.protocol.Outputs.{receipt, front_packet}
+use Rattle.coord_world.specs.Facade.{World, front_packet, last_number, receipt}
 use Rattle.coord_drill.specs.declared.request.Request.{Request}
 use Rattle.coord_drill.specs.declared.request.Request.TheVariants as request
 use Rattle.coord_drill.specs.declared.asked.Asked.{Asked}

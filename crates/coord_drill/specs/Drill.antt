@@ -11,9 +11,7 @@ use Rattle.coord_ledger.specs.declared.events.Answer.TheVariants.{Accepted, Begu
 use Rattle.coord_ledger.specs.declared.events.Event.{Event}
 use Rattle.coord_ledger.specs.declared.events.Event.TheVariants as event
 use Rattle.coord_ledger.specs.laws.Moving.{with_base_moved}
-use Rattle.coord_ledger.specs.machine.Log.{Log, front_world}
-use Rattle.coord_ledger.specs.machine.Machine.{Machine, adopted}
-use Rattle.coord_ledger.specs.machine.Runs.{run}
+use Rattle.coord_ledger.specs.Facade.{Log, Machine, adopted, front_world, run}
 use Rattle.coord_drill.specs.declared.asked.Asked.{Asked}
 use Rattle.coord_drill.specs.declared.asked.Asked.TheVariants.{Submit, Hold, Flush, Crash, Version2}
 

@@ -7,19 +7,13 @@ use Rattle.coord_disk.specs.Model.Present.{Present}
 use Rattle.coord_disk.specs.declared.memory.MemDisk.{MemDisk}
 use Rattle.coord_store.specs.Kept.{made}
 use Rattle.coord_types.specs.declared.steps.Step.{Step}
-use Rattle.coord_world.specs.protocol.Next.{next, reply}
-use Rattle.coord_world.specs.protocol.NumberedWorld.{World, no_world}
+use Rattle.coord_world.specs.Facade.{World, next, no_world, reply}
 use Rattle.coord_ledger.specs.declared.events.Answer.{Answer}
 use Rattle.coord_ledger.specs.declared.events.Answer.TheVariants.{Begun, Committed, Failed, Finished, Nothing}
 use Rattle.coord_ledger.specs.declared.mark.Mark.{Mark}
 use Rattle.coord_ledger.specs.declared.mark.Mark.TheVariants.{Good}
 use Rattle.coord_ledger.specs.declared.release.Release.{Release}
-use Rattle.coord_ledger.specs.ledger.Calls.{claimed, taken_back, with_out}
-use Rattle.coord_ledger.specs.ledger.Driven.{Driven, IsMarked, at_home}
-use Rattle.coord_ledger.specs.ledger.State.{Claim, IsGranted, LedgerState, ledger_over, reply_of}
-use Rattle.coord_ledger.specs.machine.After.{settling_releases}
-use Rattle.coord_ledger.specs.machine.Answers.{next_size}
-use Rattle.coord_ledger.specs.machine.Log.{Log, front_world, log_over, pending, settled_world}
+use Rattle.coord_ledger.specs.Facade.{Claim, Driven, IsGranted, IsMarked, LedgerState, Log, at_home, claimed, front_world, ledger_over, log_over, next_size, pending, reply_of, settled_world, settling_releases, taken_back, with_out}
 use Rattle.coord_drill.specs.Drill.{DrillState}
 use Rattle.coord_drill.specs.Printed.{commit_line, output_line, reply_line}
 use Rattle.coord_drill.specs.declared.drill.Drill.{Drill}

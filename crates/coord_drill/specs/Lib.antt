@@ -10,3 +10,4 @@ pub mod Laws
 pub mod WorkedLines
 pub mod Holding
 pub mod Moments
+pub mod Facade

@@ -20,11 +20,7 @@ use Rattle.coord_ledger.specs.declared.events.Answer.TheVariants.{Refused}
 use Rattle.coord_ledger.specs.declared.events.Event.{Event}
 use Rattle.coord_ledger.specs.declared.events.Event.TheVariants.{Submit}
 use Rattle.coord_ledger.specs.declared.handed.Handed.{Handed}
-use Rattle.coord_ledger.specs.ledger.Calls.{HandedTo}
-use Rattle.coord_ledger.specs.ledger.Driven.{Beside, Driven, answer_to, held}
-use Rattle.coord_ledger.specs.ledger.Driver.{Drives}
-use Rattle.coord_ledger.specs.ledger.State.{LedgerState}
-use Rattle.coord_ledger.specs.machine.Runs.{run}
+use Rattle.coord_ledger.specs.Facade.{Beside, Driven, Drives, HandedTo, LedgerState, answer_to, held, run}
 use Rattle.coord_drill.specs.Answered.{IsAnswered, flight_lines}
 use Rattle.coord_drill.specs.Drill.{flight_events, line_events, machine_of, seen_as}
 use Rattle.coord_drill.specs.Holding.{IsMade, state_of}

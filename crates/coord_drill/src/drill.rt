@@ -1,7 +1,7 @@
 //! A drill: the driver of a ledger over a disk in memory, and a ticket for each step that is not
 //! settled.
 
-ghost use Rattle.std.specs.Prelude.{◌≡◌, ◌++◌, ◌+◌, ◌≤◌, [], false, None, Some, IfOk, OnOk, string_bytes, IfErr};
+ghost use Rattle.std.specs.Prelude.{◌≡◌, ◌≤◌, [], false, None, Some, IfOk, OnOk, string_bytes, IfErr};
 ghost use Rattle.coord_disk.specs.Disks.Memory.{choice_of, present_of};
 ghost use Rattle.coord_disk.specs.Model.Present.{whole};
 ghost use Rattle.coord_disk.specs.declared.choice.Choice.TheVariants.{Kept};

@@ -1,15 +1,11 @@
 -- Flights that go out and come back.
-use Rattle.std.proofs.Common.{◌≡◌, Bool, true, false, Option, Some, None, Result, Ok, Err, List, refl, sym, ap, ◌∙◌, subst}
-use Rattle.std.specs.Prelude.{IsSomeAnd, is_some}
+use Rattle.std.proofs.Common.{◌≡◌, Bool, true, false, Option, Some, None, Result, Ok, Err, List, refl, sym, ap, ◌∙◌, subst, IsSomeAnd, is_some}
 use Rattle.std.proofs.lemmas.Bool.{false≢true}
 use Rattle.coord_world.specs.protocol.Outputs.{outs}
 use Rattle.coord_ledger.specs.declared.mark.Mark.TheVariants.{New, Good}
 use Rattle.coord_ledger.specs.declared.release.Release.{Release}
-use Rattle.coord_ledger.specs.ledger.Calls.{next_flight, releases_in}
-use Rattle.coord_ledger.specs.ledger.State.{FlightState}
-use Rattle.coord_ledger.specs.machine.After.{releases_of}
-use Rattle.coord_engine.specs.State.{GuardedState}
-use Rattle.coord_engine.specs.Threads.{Flushes, Leaves}
+use Rattle.coord_ledger.specs.Facade.{FlightState, next_flight, releases_in, releases_of}
+use Rattle.coord_engine.specs.Facade.{Flushes, GuardedState, Leaves}
 
 -- a flight went out, where the store can't have stayed
 pub goes : (b : Bool) → (b ≡ true → ⊥) → b ≡ false

@@ -1,18 +1,12 @@
 -- What the type of the value under the lock keeps of its ledger, when the ledger changes.
-use Rattle.std.proofs.Common.{◌≡◌, ◌≤◌, ◌+◌, ℕ, List, [], ◌∷◌, Option, Some, None, length, take, ◌∙◌}
-use Rattle.std.specs.Prelude.{IfSome}
-use Rattle.std.proofs.lemmas.List.{take-append-le}
+use Rattle.std.proofs.Common.{◌≡◌, ◌≤◌, ◌+◌, ℕ, List, Option, Some, None, length, take, IfSome}
 use Rattle.coord_types.specs.declared.steps.Step.{Step}
 use Rattle.coord_world.specs.protocol.NumberedWorld.{World}
-use Rattle.coord_ledger.specs.ledger.Calls.{with_accepted}
-use Rattle.coord_ledger.specs.ledger.State.{LedgerState}
+use Rattle.coord_ledger.specs.Facade.{LedgerState}
 
 -- the ledger has this base, its trail begins with these steps, and no flight is out once it has stopped
 abbrev pub Begun : {D : Type 0} → World → ℕ → List Step → LedgerState D → Type 0
 Begun base start before l = (l.log.base ≡ base) × (take start l.log.trail ≡ before) × IfSome l.doubt (λ _. l.out ≡ None)
-
-pub begun_stepped : {D : Type 0} (base : World) (start : ℕ) (before : List Step) (l : LedgerState D) (s : Step) → start ≤ length l.log.trail → Begun base start before l → Begun base start before (with_accepted l s)
-begun_stepped base start before l s le is = (is.0, take-append-le start l.log.trail (s ∷ []) le ∙ is.1, is.2)
 
 doubted : {D : Type 0} (l : LedgerState D) (o : Option ℕ) → IfSome o (λ size. (1 ≤ size) × (l.log.settled + size ≤ length l.log.trail)) → IfSome o (λ _. l.out ≡ None) → IfSome o (λ size. (1 ≤ size) × (l.log.settled + size ≤ length l.log.trail) × (l.out ≡ None))
 doubted l None size home = tt

@@ -1,9 +1,7 @@
 -- One delivery more.
-use Rattle.std.proofs.Common.{◌≡◌, ℕ, zero, suc, List, [], ◌∷◌, ◌++◌, ◌+◌, ◌∙◌, Option, Some, None, drop, take, length, ◌<◌, refl, sym, ap, subst, arith}
-use Rattle.std.specs.Prelude.{slice_get}
+use Rattle.std.proofs.Common.{◌≡◌, ℕ, zero, suc, List, [], ◌∷◌, ◌++◌, ◌+◌, ◌∙◌, Option, Some, None, drop, take, length, ◌<◌, refl, sym, ap, subst, arith, slice_get}
 use Rattle.coord_ledger.specs.declared.release.Release.{Release}
-use Rattle.coord_engine.specs.Handing.{TakesAll, deliveries_of}
-use Rattle.coord_engine.specs.Port.{delivery_of}
+use Rattle.coord_engine.specs.Facade.{TakesAll, deliveries_of, delivery_of}
 use Rattle.coord_engine.specs.declared.port.Delivery.{Delivery}
 
 module _ {S : Type 0} (takes : S → Delivery → S → Type 0) where

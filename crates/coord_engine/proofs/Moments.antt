@@ -1,8 +1,6 @@
 -- Answers at some moment.
-use Rattle.std.proofs.Common.{Option, Some, None, Result, Ok, Err}
-use Rattle.std.specs.Prelude.{IfErr, IfNone, IfOk}
-use Rattle.coord_engine.specs.State.{Basis, CanHold, GuardedState}
-use Rattle.coord_engine.specs.Threads.{AtSomeMoment}
+use Rattle.std.proofs.Common.{Option, Some, None, Result, Ok, Err, IfErr, IfNone, IfOk}
+use Rattle.coord_engine.specs.Facade.{AtSomeMoment, Basis, CanHold, GuardedState}
 
 module _ {D : Type 0} (b : Basis D) (g : GuardedState D) (is : CanHold b g) where
   pub then : (P : GuardedState D → Type 0) → P g → AtSomeMoment b P

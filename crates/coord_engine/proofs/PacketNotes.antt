@@ -1,6 +1,5 @@
 -- Notes of packets' steps.
-use Rattle.std.proofs.Common.{◌≡◌, List, [], ◌∷◌, ◌++◌, Result, Ok, Err, sym, ap, ◌∙◌, subst}
-use Rattle.std.specs.Prelude.{All}
+use Rattle.std.proofs.Common.{◌≡◌, List, [], ◌∷◌, ◌++◌, Result, Ok, Err, sym, ap, ◌∙◌, subst, All}
 use Rattle.std.proofs.lemmas.List.{append-nil, append_assoc}
 use Rattle.std.proofs.lemmas.List.Elements.{All-append, All-nil, All-push}
 use Rattle.coord_types.specs.declared.packets.Packet.{Packet}
@@ -10,11 +9,8 @@ use Rattle.coord_world.specs.declared.verdicts.Verdict.{Verdict}
 use Rattle.coord_world.specs.declared.verdicts.Verdict.TheVariants.{Fresh, Repeat}
 use Rattle.coord_ledger.specs.declared.ticket.Note.{Note}
 use Rattle.coord_ledger.specs.ledger.State.{Claim}
-use Rattle.coord_engine.specs.Calls.{AnswersStep, LedgerAndNotes, note_of, engine_verdict}
-use Rattle.coord_engine.specs.Port.{step_of}
-use Rattle.coord_engine.specs.State.{Basis}
+use Rattle.coord_engine.specs.Facade.{AddsPackets, AnswersStep, Basis, IsOfPacket, LedgerAndNotes, engine_verdict, note_of, step_of}
 use Rattle.coord_engine.specs.Threads.{AtSomeMoment, Submits}
-use Rattle.coord_engine.specs.Working.{AddsPackets, IsOfPacket}
 
 -- no note was added
 pub adds_none : (notes later : List Note) → later ≡ notes → AddsPackets notes later

@@ -1,13 +1,11 @@
 -- What a ledger answers to a caller that wants to see it.
-use Rattle.std.proofs.Common.{◌≡◌, ℕ, ◌<◌, ◌≤◌, Bool, true, false, Result, Ok, Err, refl, sym, subst, arith}
-use Rattle.std.specs.Prelude.{IfErr, IfOk, MatchResult, is_some, nat_lt}
+use Rattle.std.proofs.Common.{◌≡◌, ℕ, ◌<◌, ◌≤◌, Bool, true, false, Result, Ok, Err, refl, sym, subst, arith, IfErr, IfOk, MatchResult, is_some, nat_lt}
 use Rattle.std.proofs.lemmas.Bool.Decides.{nat_tests}
 use Rattle.coord_types.specs.declared.refusals.Refusal.{Refusal}
 use Rattle.coord_types.specs.declared.refusals.Refusal.TheVariants.{Behind, OutOfMemory, Stopped}
 use Rattle.coord_ledger.specs.machine.Log.{accepted_count, settled_count, settled_world}
 use Rattle.coord_view.specs.Shown.{Shown, shown}
-use Rattle.coord_engine.specs.State.{GuardedState}
-use Rattle.coord_engine.specs.Threads.{RefusesShow, Shows}
+use Rattle.coord_engine.specs.Facade.{GuardedState, RefusesShow, Shows}
 
 module _ {D : Type 0} (g : GuardedState D) (seen later : ℕ) where
   -- what the ledger says that it did

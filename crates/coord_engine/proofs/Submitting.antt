@@ -5,8 +5,7 @@ use Rattle.coord_types.specs.declared.steps.Step.{Step}
 use Rattle.coord_world.specs.declared.verdicts.Verdict.{Verdict}
 use Rattle.coord_world.specs.declared.verdicts.Verdict.TheVariants.{Fresh, Repeat}
 use Rattle.coord_ledger.specs.declared.ticket.Note.{Note}
-use Rattle.coord_ledger.specs.ledger.Calls.{HandedTo, RefusesStep, ledger_verdict}
-use Rattle.coord_ledger.specs.ledger.State.{LedgerState}
+use Rattle.coord_ledger.specs.Facade.{HandedTo, LedgerState, RefusesStep, ledger_verdict}
 use Rattle.coord_engine.specs.Calls.{AnswersStep}
 
 -- nothing has changed, and there is memory to lack or the refusal is what the ledger says

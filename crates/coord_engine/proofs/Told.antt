@@ -1,15 +1,10 @@
 -- What is told of a flight.
-use Rattle.std.proofs.Common.{◌≡◌, ℕ, List, Option, Some, None, Result, Ok, Err, true, false, refl, sym, ap, subst, inl, inr}
-use Rattle.std.specs.Prelude.{IfErr, IfNone, IfOk, IfSome, IsSomeAnd}
+use Rattle.std.proofs.Common.{◌≡◌, ℕ, List, Option, Some, None, Result, Ok, Err, true, false, refl, sym, ap, subst, inl, inr, IfErr, IfNone, IfOk, IfSome, IsSomeAnd}
 use Rattle.coord_store.specs.declared.faults.CommitFault.{CommitFault}
 use Rattle.coord_store.specs.declared.faults.CommitFault.TheVariants.{Again, Device, Full, OutOfMemory, Stopped}
 use Rattle.coord_ledger.specs.declared.release.Release.{Release}
-use Rattle.coord_ledger.specs.ledger.Calls.{keeps_store}
-use Rattle.coord_ledger.specs.ledger.State.{FlightState}
-use Rattle.coord_engine.specs.Flights.{Commits, Ended, RefusesFlush, hangar_moves}
-use Rattle.coord_engine.specs.Flying.{Flies, HangarMoves, Tells}
-use Rattle.coord_engine.specs.State.{Basis}
-use Rattle.coord_engine.specs.Threads.{AtSomeMoment, Flushes, Leaves}
+use Rattle.coord_ledger.specs.Facade.{FlightState, keeps_store}
+use Rattle.coord_engine.specs.Facade.{AtSomeMoment, Basis, Commits, Ended, Flies, Flushes, HangarMoves, Leaves, RefusesFlush, Tells, hangar_moves}
 use Rattle.coord_engine.proofs.Flights.{flushed}
 
 module _ {S : Type 0} (h : HangarMoves S) where

@@ -1,10 +1,8 @@
 -- Packets that wait, tried one after the other.
-use Rattle.std.proofs.Common.{◌≡◌, true, false, List, [], ◌∷◌, drop, length, Option, Some, None, Result, refl, sym, ap, subst, inl, inr}
-use Rattle.std.specs.Prelude.{slice_get}
+use Rattle.std.proofs.Common.{◌≡◌, true, false, List, [], ◌∷◌, drop, length, Option, Some, None, Result, refl, sym, ap, subst, inl, inr, slice_get}
 use Rattle.coord_types.specs.declared.packets.Packet.{Packet}
 use Rattle.coord_types.specs.declared.refusals.Refusal.{Refusal}
-use Rattle.coord_engine.specs.Benches.{BenchMoves, TriesAll, has_to_wait}
-use Rattle.coord_engine.specs.Port.{step_of}
+use Rattle.coord_engine.specs.Facade.{BenchMoves, TriesAll, has_to_wait, step_of}
 
 abbrev some_is : {A : Type 0} (d : A) → Option A → A
 some_is d None = d

@@ -7,9 +7,7 @@ use Rattle.coord_world.specs.declared.verdicts.Verdict.{Verdict}
 use Rattle.coord_world.specs.declared.verdicts.Verdict.TheVariants.{Fresh, Repeat}
 use Rattle.coord_world.specs.protocol.Next.{reply}
 use Rattle.coord_ledger.specs.declared.ticket.Note.{Note}
-use Rattle.coord_ledger.specs.ledger.Calls.{claimed, ledger_verdict, with_accepted}
-use Rattle.coord_ledger.specs.ledger.State.{Claim, IsCollectable, LedgerState, reply_of}
-use Rattle.coord_ledger.specs.machine.Log.{front_world, settled_count}
+use Rattle.coord_ledger.specs.Facade.{Claim, IsCollectable, LedgerState, claimed, front_world, ledger_verdict, reply_of, settled_count, with_accepted}
 use Rattle.coord_engine.specs.State.{GuardedState}
 use Rattle.coord_engine.specs.declared.collected.Collected.{Collected}
 use Rattle.coord_engine.specs.declared.collected.Collected.TheVariants.{Settled, Refused, Waiting}

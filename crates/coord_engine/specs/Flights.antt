@@ -5,9 +5,7 @@ use Rattle.coord_store.specs.declared.faults.CommitFault.TheVariants.{Device, Ou
 use Rattle.coord_ledger.specs.declared.mark.Mark.{Mark}
 use Rattle.coord_ledger.specs.declared.mark.Mark.TheVariants.{New, Good, Torn}
 use Rattle.coord_ledger.specs.declared.release.Release.{Release}
-use Rattle.coord_ledger.specs.ledger.Calls.{keeps_store, releases_in, taken_back}
-use Rattle.coord_ledger.specs.ledger.Follows.{IsOut}
-use Rattle.coord_ledger.specs.ledger.State.{FlightState}
+use Rattle.coord_ledger.specs.Facade.{FlightState, IsOut, keeps_store, releases_in, taken_back}
 use Rattle.coord_engine.specs.Flying.{HangarMoves}
 use Rattle.coord_engine.specs.State.{Basis, GuardedState, with_ledger}
 use Rattle.coord_engine.specs.Threads.{AtSomeMoment, Leaves}

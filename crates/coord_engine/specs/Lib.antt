@@ -15,3 +15,4 @@ pub mod Waiting
 pub mod WorkedPackets
 pub mod Working
 pub mod code
+pub mod Facade

@@ -3,9 +3,7 @@ use Rattle.std.specs.Prelude.{◌≡◌, ℕ, ◌+◌, ◌≤◌, Bool, true, fa
 use Rattle.coord_disk.specs.Model.Present.{Present}
 use Rattle.coord_types.specs.declared.steps.Step.{Step}
 use Rattle.coord_world.specs.protocol.NumberedWorld.{World}
-use Rattle.coord_ledger.specs.ledger.Calls.{LedgerGives}
-use Rattle.coord_ledger.specs.ledger.State.{LedgerState}
-use Rattle.coord_ledger.specs.machine.Consistent.{FitsOut, IsConsistentLog}
+use Rattle.coord_ledger.specs.Facade.{FitsOut, IsConsistentLog, LedgerGives, LedgerState}
 
 pub record GuardedState (D : Type 0) : Type 0 where
   pub ledger : LedgerState D

@@ -5,14 +5,10 @@ use Rattle.coord_types.specs.declared.refusals.Refusal.{Refusal}
 use Rattle.coord_types.specs.declared.refusals.Refusal.TheVariants.{Behind, OutOfMemory, Stopped}
 use Rattle.coord_types.specs.declared.steps.Step.{Step}
 use Rattle.coord_store.specs.Kept.{Kept, has_stopped}
-use Rattle.coord_world.specs.protocol.NumberedWorld.{World}
-use Rattle.coord_world.specs.protocol.Outputs.{outs}
+use Rattle.coord_world.specs.Facade.{World, outs}
 use Rattle.coord_ledger.specs.declared.release.Release.{Release}
 use Rattle.coord_ledger.specs.declared.ticket.Note.{Note}
-use Rattle.coord_ledger.specs.ledger.Calls.{keeps_store, next_flight}
-use Rattle.coord_ledger.specs.ledger.State.{Claim, FlightState, LedgerState}
-use Rattle.coord_ledger.specs.machine.After.{releases_of, resent}
-use Rattle.coord_ledger.specs.machine.Log.{accepted_count, pending, settled_count, settled_world}
+use Rattle.coord_ledger.specs.Facade.{Claim, FlightState, LedgerState, accepted_count, keeps_store, next_flight, pending, releases_of, resent, settled_count, settled_world}
 use Rattle.coord_view.specs.Shown.{Shown, shown}
 use Rattle.coord_engine.specs.Calls.{AnswersStep, engine_verdict}
 use Rattle.coord_engine.specs.Closing.{MayClose}

@@ -1,14 +1,12 @@
 -- A gate that is opened adds its batch to the text.
-use Rattle.std.proofs.Common.{◌≡◌, ◌≢◌, ◌⊎◌, inl, inr, ℕ, zero, suc, ◌+◌, ◌<◌, ◌≤◌, List, [], ◌∷◌, ◌++◌, length, drop, subst, refl, sym, ◌∙◌, ap, arith, append_assoc, length-append}
+use Rattle.std.proofs.Common.{◌≡◌, ◌≢◌, ◌⊎◌, inl, inr, ℕ, zero, suc, ◌+◌, ◌<◌, ◌≤◌, List, [], ◌∷◌, ◌++◌, length, drop, subst, refl, sym, ◌∙◌, ap, arith, append_assoc, length-append, slice_get}
 use Rattle.std.specs.Int.{w32, w64, to_be_bytes}
 use Rattle.std.proofs.lemmas.List.{append-nil}
-use Rattle.std.specs.Prelude.{slice_get}
 use Rattle.std.proofs.lemmas.Bool.Decides.{nat_tests}
 use Rattle.coord_disk.specs.Model.Present.{Torn, overwritten}
 use Rattle.coord_disk.proofs.TornWrites.{begins, begins_but_hole, overwritten_behind}
-use Rattle.coord_journal.specs.Turns.{TornInTurn}
+use Rattle.coord_journal.specs.Facade.{Content, IsEitherText, IsOpened, IsTextAt, TornInTurn, gate_place, half_front, lead, magic, size_of, sized, with_batch}
 use Rattle.coord_journal.specs.declared.layout.TheConstants.{MAX_BODY}
-use Rattle.coord_journal.specs.Text.{Content, IsOpened, IsTextAt, IsEitherText, gate_place, sized, lead, half_front, magic, size_of, with_batch}
 
 pub opened_push : (batches : List (List ℕ)) (batch opened : List ℕ) (gate : ℕ) → IsOpened batches opened → gate ≢ 0 → length batch ≤ MAX_BODY → IsOpened (batches ++ batch ∷ []) (opened ++ gate ∷ (sized batch ++ []))
 opened_push [] batch opened gate none is_open short = (gate, [], is_open, (short, ap (λ (l : List ℕ). l ++ gate ∷ (sized batch ++ [])) none), refl)

@@ -2,8 +2,7 @@
 use Rattle.std.proofs.Common.{◌≡◌, ℕ, ◌+◌, ◌-◌, ◌<◌, ◌≤◌, ◌^◌, List, [], ◌∷◌, ◌++◌, length, take, drop, get_or, refl, sym, ◌∙◌, ap, subst, arith, append_assoc, length-append}
 use Rattle.std.proofs.lemmas.List.{take-append-drop}
 use Rattle.std.proofs.Math.Seq.{take-append-add}
-use Rattle.coord_journal.specs.Half.{IsHalf}
-use Rattle.coord_journal.specs.Text.{Content, IsOpened, ReadsAs, BeginsWithBody, half_front, sized, size_of, used_by}
+use Rattle.coord_journal.specs.Facade.{BeginsWithBody, Content, IsHalf, IsOpened, ReadsAs, half_front, size_of, sized, used_by}
 use Rattle.coord_journal.specs.declared.layout.TheConstants.{MAX_SNAPSHOT}
 use Rattle.coord_journal.proofs.Reading.{reads_same, same_body, same_behind}
 use Rattle.coord_journal.proofs.Appended.{length_sized}

@@ -1,12 +1,9 @@
 -- How the batches are read, one after another.
-use Rattle.std.proofs.Common.{◌≡◌, ◌≢◌, ℕ, ◌+◌, ◌<◌, ◌^◌, List, [], ◌∷◌, ◌++◌, length, take, drop, get_or, refl, sym, ◌∙◌, ap, subst, arith, append_assoc, length-append}
+use Rattle.std.proofs.Common.{◌≡◌, ◌≢◌, ℕ, ◌+◌, ◌<◌, ◌^◌, List, [], ◌∷◌, ◌++◌, length, take, drop, get_or, refl, sym, ◌∙◌, ap, subst, arith, append_assoc, length-append, Vec, Global}
 use Rattle.std.specs.Int.{w32, to_be_bytes, from_be_bytes}
 use Rattle.std.proofs.lemmas.Nat.{from_be_bytes-to_be_bytes_4}
 use Rattle.std.proofs.lemmas.List.{take_at, drop_at, append-nil}
-use Rattle.std.specs.Prelude.{Vec}
-use Rattle.std.specs.declared.alloc.Global.{Global}
-use Rattle.coord_journal.specs.Contents.{bodies}
-use Rattle.coord_journal.specs.Text.{IsOpened, ReadsAs, BeginsWithBody, sized}
+use Rattle.coord_journal.specs.Facade.{BeginsWithBody, IsOpened, ReadsAs, bodies, sized}
 use Rattle.coord_journal.specs.declared.layout.TheConstants.{MAX_BODY}
 use Rattle.coord_journal.proofs.Appended.{opened_push}
 

@@ -1,13 +1,11 @@
 -- A half that is selected puts its content in place of the other's.
-use Rattle.std.proofs.Common.{◌≡◌, ◌⊎◌, inl, inr, ℕ, zero, suc, ◌+◌, ◌<◌, ◌≤◌, List, [], ◌∷◌, ◌++◌, length, drop, refl, sym, ◌∙◌, ap, subst, arith, append_assoc, length-append}
-use Rattle.std.specs.Prelude.{◌-◌, ◌%◌, false, slice_get}
+use Rattle.std.proofs.Common.{◌≡◌, ◌⊎◌, inl, inr, ℕ, zero, suc, ◌+◌, ◌<◌, ◌≤◌, List, [], ◌∷◌, ◌++◌, length, drop, refl, sym, ◌∙◌, ap, subst, arith, append_assoc, length-append, ◌-◌, ◌%◌, false, slice_get}
 use Rattle.std.specs.Int.{w64, to_be_bytes}
 use Rattle.std.proofs.lemmas.List.{append-nil}
 use Rattle.std.proofs.lemmas.Bool.Decides.{nat_tests}
 use Rattle.coord_disk.specs.Model.Present.{Torn, is_within, overwritten, range_of}
 use Rattle.coord_disk.proofs.TornWrites.{begins_but_hole, length_padded, overwritten_behind, overwritten_inside, overwritten_torn, padded}
-use Rattle.coord_journal.specs.Text.{Content, IsEitherText, IsTextAt, half_front, half_start, lead, magic, sized, without_batch}
-use Rattle.coord_journal.specs.Turns.{TornInTurn}
+use Rattle.coord_journal.specs.Facade.{Content, IsEitherText, IsTextAt, TornInTurn, half_front, half_start, lead, magic, sized, without_batch}
 use Rattle.coord_journal.specs.declared.layout.TheConstants.{MAX_SNAPSHOT}
 use Rattle.coord_journal.proofs.Appended.{lead_push, length_sized, single, torn_behind}
 

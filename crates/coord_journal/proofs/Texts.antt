@@ -1,13 +1,10 @@
 -- A text is a header and a half.
-use Rattle.std.proofs.Common.{◌≡◌, inl, inr, ℕ, ◌+◌, ◌<◌, ◌≤◌, ◌^◌, List, [], ◌∷◌, ◌++◌, length, take, drop, get_or, refl, sym, ◌∙◌, ap, subst, arith, length-append, length-take, length-drop}
-use Rattle.std.specs.Prelude.{◌%◌, min}
+use Rattle.std.proofs.Common.{◌≡◌, inl, inr, ℕ, ◌+◌, ◌<◌, ◌≤◌, ◌^◌, List, [], ◌∷◌, ◌++◌, length, take, drop, get_or, refl, sym, ◌∙◌, ap, subst, arith, length-append, length-take, length-drop, ◌%◌, min}
 use Rattle.std.specs.Int.{w64, to_be_bytes, from_be_bytes}
 use Rattle.std.proofs.lemmas.Nat.{from_be_bytes-to_be_bytes_8}
 use Rattle.std.proofs.lemmas.List.{take_at, drop_at, drop-drop, take-append-drop}
-use Rattle.coord_journal.specs.Half.{IsHalf}
-use Rattle.coord_journal.specs.Text.{Content, HasHeader, IsHalfSize, IsText, IsTextAt, formatted, half_front, half_start, magic, sized, used_by, without_batch}
+use Rattle.coord_journal.specs.Facade.{BeginsWithHeader, Content, HasHeader, IsHalf, IsHalfSize, IsReadFault, IsText, IsTextAt, RefusesOpen, formatted, half_front, half_start, magic, sized, used_by, without_batch}
 use Rattle.coord_journal.specs.declared.layout.TheConstants.{MAX_SNAPSHOT}
-use Rattle.coord_journal.specs.Faults.{BeginsWithHeader, IsReadFault, RefusesOpen}
 use Rattle.coord_journal.specs.declared.fault.JournalFault.{JournalFault}
 use Rattle.coord_journal.specs.declared.fault.JournalFault.TheVariants.{BadRecord}
 use Rattle.coord_journal.proofs.Appended.{lead_push, length_sized}

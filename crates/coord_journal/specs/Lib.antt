@@ -5,3 +5,4 @@ pub mod Half
 pub mod Journal
 pub mod Text
 pub mod Turns
+pub mod Facade

@@ -1,6 +1,6 @@
 //! The two halves of a device.
 
-ghost use Rattle.std.specs.Prelude.{◌≡◌, ◌+◌, ◌-◌, ◌%◌, ◌<◌, ◌≤◌, ◌^◌};
+ghost use Rattle.std.specs.Prelude.{◌≡◌, ◌-◌, ◌%◌, ◌≤◌};
 ghost use Rattle.coord_journal.specs.Text.{half_start};
 
 /// One of the two halves.

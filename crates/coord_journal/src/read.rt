@@ -1,6 +1,6 @@
 //! Reads a half of the device.
 
-ghost use Rattle.std.specs.Prelude.{◌≡◌, ◌≢◌, ◌<◌, ◌≤◌, ℕ, List, ◌∷◌, ◌++◌, length, IfOk, IfErr, IfSome, None, get_or};
+ghost use Rattle.std.specs.Prelude.{◌≡◌, ◌<◌, ◌≤◌, ℕ, List, length, IfOk, IfErr, IfSome, None, get_or};
 ghost use Rattle.coord_journal.specs.Contents.{bodies, content_of};
 ghost use Rattle.coord_journal.specs.Faults.{IsReadFault};
 ghost use Rattle.coord_journal.specs.Half.{IsHalf};

@@ -3,7 +3,6 @@ pub mod Lists
 pub mod Verdicts
 pub mod Logs
 pub mod Releases
-pub mod ReleasedSteps
 pub mod Replies
 pub mod ReplyKinds
 pub mod ConsistentTold

@@ -3,3 +3,4 @@ pub mod ledger
 pub mod promises
 pub mod laws
 pub mod code
+pub mod Facade

@@ -1,7 +1,7 @@
 //! The ledger: a base world, the steps that were accepted since, how many of them are settled, and
 //! the store, at home or out with a flight.
 
-ghost use Rattle.std.specs.Prelude.{◌≡◌, ◌^◌, ◌≤◌, false, true, is_some, None, Some, IfErr, IfOk, IfSome};
+ghost use Rattle.std.specs.Prelude.{◌≡◌, ◌≤◌, false, true, is_some, None, Some, IfErr, IfOk, IfSome};
 ghost use Rattle.coord_types.specs.declared.limits.TheConstants.{MAX_STEPS};
 ghost use Rattle.coord_store.specs.Kept.{has_stopped};
 ghost use Rattle.coord_types.specs.Table.{get};

@@ -1,6 +1,6 @@
 //! Releases that are still to be handed out.
 
-ghost use Rattle.std.specs.Prelude.{◌≡◌, ◌++◌, drop, length, map, slice_get, OnOk};
+ghost use Rattle.std.specs.Prelude.{◌≡◌, drop, length, slice_get};
 
 use crate::Release;
 use coord_types::Output;

@@ -1,9 +1,7 @@
 -- The ideal rules: what each step makes of an ideal world.
 use Rattle.std.specs.Prelude.{ℕ, ◌==◌, Bool, ◌&&◌, ◌||◌, not, List, [], ◌∷◌, ◌++◌, if◌then◌else◌}
 use Rattle.coord_types.specs.NodeSet as set
-use Rattle.coord_types.specs.NodeState.{NodeState, new_node, no_node}
-use Rattle.coord_types.specs.Messages.{behind_front}
-use Rattle.coord_types.specs.IdealWorld.{Ideal}
+use Rattle.coord_types.specs.Facade.{Ideal, NodeState, behind_front, new_node, no_node}
 use Rattle.coord_types.specs.declared.messages.Msg.{Msg}
 use Rattle.coord_types.specs.declared.steps.Command.{Command}
 use Rattle.coord_types.specs.declared.steps.Command.TheVariants.{Add, Remove, Join, Drop, Reset, Confirm}

@@ -1,3 +1,4 @@
 pub mod Rules
 pub mod Steps
 pub mod IdealRules
+pub mod Facade

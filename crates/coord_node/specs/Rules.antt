@@ -1,8 +1,7 @@
 -- The reset rules of one node, a function of its state alone.
 use Rattle.std.specs.Prelude.{ℕ, ◌+◌, ◌==◌, Bool, true, false, ◌&&◌, List, Option, Some, None, if◌then◌else◌, map}
 use Rattle.coord_types.specs.NodeSet as set
-use Rattle.coord_types.specs.NodeSet.{NodeSet}
-use Rattle.coord_types.specs.NodeState.{NodeState}
+use Rattle.coord_types.specs.Facade.{NodeSet, NodeState}
 use Rattle.coord_types.specs.declared.messages.Mode.{Mode}
 use Rattle.coord_types.specs.declared.messages.Mode.TheVariants.{Ready, Abort, Converge}
 use Rattle.coord_types.specs.declared.messages.Msg.{Msg}

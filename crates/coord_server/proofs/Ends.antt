@@ -1,23 +1,17 @@
 -- A server of which no fault is told was closed by a line.
-use Rattle.std.proofs.Common.{◌≡◌, ℕ, zero, suc, ◌+◌, List, [], ◌∷◌, ◌++◌, All, length, Bool, true, false, Option, Some, None, refl, sym, ap, ◌∙◌, subst, append-nil, append_assoc, arith}
-use Rattle.std.specs.Prelude.{drop}
+use Rattle.std.proofs.Common.{◌≡◌, ℕ, zero, suc, ◌+◌, List, [], ◌∷◌, ◌++◌, All, length, Bool, true, false, Option, Some, None, refl, sym, ap, ◌∙◌, subst, append-nil, append_assoc, arith, drop}
 use Rattle.std.proofs.lemmas.List.Elements.{All-push}
-use Rattle.coord_engine.specs.Closing.{IsSince}
-use Rattle.coord_engine.specs.Named.{IsNamed}
-use Rattle.coord_engine.specs.Threads.{AtSomeMoment, Closes}
-use Rattle.coord_engine.specs.Working.{IsOfPacket}
+use Rattle.coord_engine.specs.Facade.{AtSomeMoment, Basis, Closes, IsNamed, IsOfPacket, IsSince, based_on}
 use Rattle.coord_types.specs.declared.steps.Step.{Step}
 use Rattle.coord_ledger.specs.declared.ticket.Note.{Note}
 use Rattle.coord_store.specs.Kept.{Kept, has_stopped}
 use Rattle.coord_disk.specs.Model.Present.{Present}
 use Rattle.coord_world.specs.protocol.NumberedWorld.{World}
 use Rattle.coord_admin.specs.Connections.{Talk}
-use Rattle.coord_engine.specs.State.{Basis, based_on}
 use Rattle.coord_server.specs.EngineDesk.{DeskState}
 use Rattle.coord_server.specs.Ending.{AddsWorkers, IsOneHistory, IsServedToClose, Serves, ServesLife, fault_at_end}
 use Rattle.coord_server.specs.Lives.{HasLived, HasLivedToClose, IsOver, Lives, Rests, met_any}
 use Rattle.coord_server.specs.declared.fault.ServerFault.{ServerFault}
-use Rattle.coord_server.specs.declared.fault.ServerFault.TheVariants as fault
 use Rattle.coord_server.specs.declared.left.Left.{Left}
 use Rattle.coord_server.specs.declared.left.Left.TheVariants.{Resting, Ended}
 

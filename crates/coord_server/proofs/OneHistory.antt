@@ -1,22 +1,19 @@
 -- All lives of a server are one history.
-use Rattle.std.proofs.Common.{◌≡◌, ℕ, zero, suc, ◌+◌, ◌-◌, ◌≤◌, List, [], ◌∷◌, ◌++◌, Bool, Option, length, take, refl, sym, ap, ◌∙◌, subst, append_assoc, append-nil, length-append, arith}
+use Rattle.std.proofs.Common.{◌≡◌, ℕ, zero, suc, ◌+◌, ◌-◌, ◌≤◌, List, [], ◌∷◌, ◌++◌, Bool, Option, length, take, refl, sym, ap, ◌∙◌, subst, append-nil, length-append, arith, map}
 use Rattle.std.proofs.Math.Seq.{take-append-add, take-length}
 use Rattle.std.proofs.lemmas.Grind.{flat_map-append}
 use Rattle.std.specs.List.{range_with_len}
-use Rattle.std.specs.Prelude.{map}
 use Rattle.coord_disk.specs.Model.Present.{Present}
 use Rattle.coord_types.specs.declared.steps.Step.{Step}
 use Rattle.coord_store.specs.Kept.{Kept}
 use Rattle.coord_world.specs.laws.Trails.{IsSound, IsTrail}
-use Rattle.coord_world.specs.protocol.Next.{fold, next, reply}
-use Rattle.coord_world.specs.protocol.NumberedWorld.{World}
-use Rattle.coord_world.specs.protocol.Outputs.{StepOutcome, outputs, outs}
+use Rattle.coord_world.specs.Facade.{StepOutcome, World, fold, next, outputs, outs, reply}
 use Rattle.coord_world.proofs.Facade.{EachFresh, fold-append, fold_counts, trail_each_fresh, trail_of}
 use Rattle.coord_ledger.specs.declared.ticket.Note.{Note}
 use Rattle.coord_admin.specs.Connections.{Talk}
 use Rattle.coord_engine.specs.State.{Basis, based_on}
 use Rattle.coord_server.specs.Ending.{IsOneHistory}
-use Rattle.coord_server.specs.Lives.{AreOneHistory, ClosedLivesAreOne, EndsOneHistory, HasLived, HasLivedToClose, LifeSteps, Lives, LivesAreOne, Rests, all_given, all_steps, met_any, steps_of}
+use Rattle.coord_server.specs.Lives.{AreOneHistory, ClosedLivesAreOne, EndsOneHistory, HasLived, LifeSteps, Lives, LivesAreOne, Rests, all_given, all_steps, met_any, steps_of}
 use Rattle.coord_server.specs.declared.fault.ServerFault.{ServerFault}
 
 -- ---- one life

@@ -1,15 +1,11 @@
 -- What an engine's calls say, put together to what the desk answers.
-use Rattle.std.proofs.Common.{◌≡◌, ℕ, List, Result, Ok, Err, inr, refl, subst}
-use Rattle.std.specs.Prelude.{IfErr, IfOk, OnErr}
+use Rattle.std.proofs.Common.{◌≡◌, ℕ, List, Result, Ok, Err, inr, refl, subst, IfErr, IfOk, OnErr}
 use Rattle.coord_types.specs.declared.refusals.Refusal.{Refusal}
-use Rattle.coord_types.specs.declared.steps.Reply.{Reply}
 use Rattle.coord_types.specs.declared.steps.Step.{Step}
 use Rattle.coord_ledger.specs.declared.ticket.Note.{Note}
 use Rattle.coord_ledger.specs.ledger.State.{Claim}
 use Rattle.coord_view.specs.Shown.{Shown}
-use Rattle.coord_engine.specs.Calls.{RefusesTicket}
-use Rattle.coord_engine.specs.State.{Basis}
-use Rattle.coord_engine.specs.Threads.{AtSomeMoment, RefusesShow, Shows}
+use Rattle.coord_engine.specs.Facade.{AtSomeMoment, Basis, RefusesShow, RefusesTicket, Shows}
 use Rattle.coord_server.specs.EngineDesk.{IsAccepted, Orders, ShowsTo}
 
 -- it was accepted, and then there was no reply

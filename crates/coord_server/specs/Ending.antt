@@ -1,16 +1,12 @@
 -- How a server ends, and what it leaves of its engine.
-use Rattle.std.specs.Prelude.{◌≡◌, ◌⊎◌, ℕ, List, [], ◌∷◌, ◌++◌, All, Bool, true, false, Option, Some, None}
+use Rattle.std.specs.Prelude.{◌≡◌, ℕ, List, [], ◌∷◌, ◌++◌, All, Bool, true, false, Option, Some, None}
 use Rattle.coord_types.specs.declared.steps.Step.{Step}
-use Rattle.coord_store.specs.Kept.{Kept, has_stopped}
+use Rattle.coord_store.specs.Kept.{Kept}
 use Rattle.coord_world.specs.protocol.NumberedWorld.{World}
 use Rattle.coord_ledger.specs.declared.ticket.Note.{Note}
-use Rattle.coord_engine.specs.Named.{IsNamed}
-use Rattle.coord_engine.specs.State.{Basis}
-use Rattle.coord_engine.specs.Threads.{AtSomeMoment, Closes}
-use Rattle.coord_engine.specs.Working.{IsOfPacket}
+use Rattle.coord_engine.specs.Facade.{AtSomeMoment, Basis, Closes, IsNamed, IsOfPacket}
 use Rattle.coord_admin.specs.Connections.{Talk, ServedOpen, ServedToClose}
 use Rattle.coord_admin.specs.declared.answer.Answer.{Answer}
-use Rattle.coord_admin.specs.declared.request.Request.{Request}
 use Rattle.coord_server.specs.EngineDesk.{DeskState, DeskAnswers}
 use Rattle.coord_server.specs.declared.fault.ServerFault.{ServerFault}
 use Rattle.coord_server.specs.declared.fault.ServerFault.TheVariants as fault

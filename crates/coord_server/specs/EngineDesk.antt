@@ -9,8 +9,7 @@ use Rattle.coord_ledger.specs.declared.release.Release.{Release}
 use Rattle.coord_ledger.specs.declared.ticket.Note.{Note}
 use Rattle.coord_ledger.specs.ledger.State.{Claim}
 use Rattle.coord_view.specs.Shown as shown
-use Rattle.coord_engine.specs.Calls.{CollectsAs}
-use Rattle.coord_engine.specs.State.{Basis}
+use Rattle.coord_engine.specs.Facade.{Basis, CollectsAs}
 use Rattle.coord_engine.specs.Threads.{AtSomeMoment, RefusesShow, SendsAgain, Shows, Submits}
 use Rattle.coord_engine.specs.declared.collected.Collected.TheVariants.{Settled, Refused}
 use Rattle.coord_admin.specs.Replies.{order_answer, resend_answer, show_answer}

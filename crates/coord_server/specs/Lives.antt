@@ -5,9 +5,7 @@ use Rattle.coord_disk.specs.Model.Present.{Present}
 use Rattle.coord_types.specs.declared.steps.Step.{Step}
 use Rattle.coord_store.specs.Kept.{Kept, has_stopped}
 use Rattle.coord_world.specs.laws.Trails.{IsTrail}
-use Rattle.coord_world.specs.protocol.Next.{fold}
-use Rattle.coord_world.specs.protocol.NumberedWorld.{World}
-use Rattle.coord_world.specs.protocol.Outputs.{StepOutcome, outs}
+use Rattle.coord_world.specs.Facade.{StepOutcome, World, fold, outs}
 use Rattle.coord_admin.specs.Connections.{Talk}
 use Rattle.coord_engine.specs.State.{Basis, based_on}
 use Rattle.coord_server.specs.EngineDesk.{DeskState}

@@ -1,6 +1,6 @@
 //! A desk over an engine.
 
-ghost use Rattle.std.specs.Prelude.{◌≡◌, IfErr, IfOk, length};
+ghost use Rattle.std.specs.Prelude.{◌≡◌};
 ghost use Rattle.coord_types.specs.declared.refusals.Refusal.TheVariants.{OutOfMemory};
 ghost use Rattle.coord_engine.specs.State.{based_on};
 ghost use Rattle.coord_server.specs.EngineDesk.{DeskAnswers, Orders, Resends};

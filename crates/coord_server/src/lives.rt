@@ -2,7 +2,6 @@
 
 ghost use Rattle.std.specs.Prelude.{◌≡◌, ◌+◌, false, true, length, IfErr, IfNone, IfOk, IfSome, Some};
 ghost use Rattle.std.specs.Thread.{IsSend, IsSync};
-ghost use Rattle.coord_engine.specs.State.{based_on};
 ghost use Rattle.coord_store.specs.Kept.{has_stopped};
 ghost use Rattle.coord_server.specs.declared.left.Left.TheVariants as LeftAs;
 ghost use Rattle.coord_server.specs.Ending.{IsOfStart};

@@ -4,15 +4,11 @@ use Rattle.coord_types.specs.declared.steps.Step.{Step}
 use Rattle.coord_check.specs.Faults.{faults, first}
 use Rattle.coord_check.specs.declared.violation.Violation.{Violation}
 use Rattle.coord_check.proofs.LegalWithoutFaults.{clear_or_not}
-use Rattle.coord_journal.specs.Text.{Content, IsText}
-use Rattle.coord_journal.specs.Faults.{BeginsWithHeader}
+use Rattle.coord_journal.specs.Facade.{BeginsWithHeader, Content, IsText}
 use Rattle.coord_journal.proofs.Texts.{text_header, text_same, behind_header}
-use Rattle.coord_world.specs.protocol.Legal.{Legal}
-use Rattle.coord_world.specs.protocol.NumberedWorld.{World}
-use Rattle.coord_world.specs.protocol.Ranges.{InRange}
+use Rattle.coord_world.specs.Facade.{InRange, Legal, World}
 use Rattle.coord_store.specs.Laws.{RecoveredIsOpened}
-use Rattle.coord_store.specs.Recovered.{AllFresh, Gives, Recovered, Replays, Takes}
-use Rattle.coord_store.specs.Refused.{RefusesBatch, RefusesBatches, RefusesContent, RefusesReplay, RefusesText, StopsAt}
+use Rattle.coord_store.specs.Facade.{AllFresh, Gives, Recovered, RefusesBatch, RefusesBatches, RefusesContent, RefusesReplay, RefusesText, Replays, StopsAt, Takes}
 use Rattle.coord_store.specs.declared.faults.StoreFault.{StoreFault}
 use Rattle.coord_store.specs.declared.faults.StoreFault.TheVariants.{OutOfMemory, Device, NotEmpty, HalfSize, NoMagic, BadRecord, BadSnapshot, BadBatch, BadStep, Violated, NotQuiet, Stopped}
 use Rattle.coord_store.proofs.Freshness.{fresh_at}

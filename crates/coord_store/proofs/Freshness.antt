@@ -3,15 +3,12 @@ use Rattle.std.proofs.Common.{◌≡◌, ℕ, ◌+◌, ◌<◌, ◌≤◌, ◌^�
 use Rattle.std.proofs.lemmas.List.{take-append-drop}
 use Rattle.std.proofs.Math.Seq.{drop-cons, take-length, take-suc}
 use Rattle.coord_types.specs.declared.steps.Step.{Step}
-use Rattle.coord_world.specs.protocol.Acceptance.{IsFresh}
-use Rattle.coord_world.specs.protocol.Next.{fold, next}
-use Rattle.coord_world.specs.protocol.NumberedWorld.{World}
+use Rattle.coord_world.specs.Facade.{InRange, IsFresh, StepInRange, World, farthest, fold, next}
 use Rattle.std.specs.List.{AllByRecursion}
 use Rattle.coord_types.specs.Messages.{brought}
 use Rattle.coord_types.specs.declared.steps.Step.TheVariants.{Order, Take, Clear}
 use Rattle.coord_batch.specs.Batches.{BringsRightly, IsNumbered, IsWritable}
 use Rattle.coord_world.specs.laws.Trails.{IsSound}
-use Rattle.coord_world.specs.protocol.Ranges.{InRange, StepInRange, farthest}
 use Rattle.coord_world.proofs.Facade.{EachFresh, brought_within, fresh_count, itself, same_version, trail_keeps_worlds, trail_of}
 use Rattle.coord_store.specs.Recovered.{AllFresh}
 

@@ -1,24 +1,17 @@
 -- What the images of a journal's disk give.
 use Rattle.std.proofs.Common.{◌≡◌, ◌≢◌, ℕ, ◌+◌, Bool, true, false, List, length, None, Some, Option, is_some, Result, Ok, Err, IfErr, inl, inr, ⊎_elim, refl, sym, ap, ◌∙◌, subst, arith}
-use Rattle.coord_batch.specs.Batches.{IsBatch, pair}
-use Rattle.coord_batch.specs.Steps.{batch}
+use Rattle.coord_batch.specs.Facade.{IsBatch, batch, pair}
 use Rattle.coord_codec.specs.Worlds.{world}
 use Rattle.coord_disk.specs.Model.Moments.{LeavesOnly}
 use Rattle.coord_disk.specs.Model.Present.{Present, IsImage}
 use Rattle.coord_disk.proofs.MomentLemmas.{and_then, started, weaker}
 use Rattle.coord_disk.proofs.TornWrites.{whole_image}
-use Rattle.coord_journal.specs.Journal.{HasRoomFor, disk_of, half_of, half_size_of, has_stopped, used_of}
-use Rattle.coord_journal.specs.Text.{Content, HasPlaceIn, IsEitherText, IsText, IsTextAt, IsTextIn, with_batch, without_batch}
+use Rattle.coord_journal.specs.Facade.{Content, HasPlaceIn, HasRoomFor, IsEitherText, IsText, IsTextAt, IsTextIn, disk_of, half_of, half_size_of, has_stopped, used_of, with_batch, without_batch}
 use Rattle.coord_journal.specs.declared.journal.Journal.{Journal}
 use Rattle.coord_journal.proofs.Texts.{text_place}
 use Rattle.coord_types.specs.declared.steps.Step.{Step}
-use Rattle.coord_world.specs.protocol.Legal.{Legal}
-use Rattle.coord_world.specs.protocol.Next.{fold}
-use Rattle.coord_world.specs.protocol.NumberedWorld.{World}
-use Rattle.coord_world.specs.protocol.Rows.{rows_of}
-use Rattle.coord_world.specs.protocol.Ranges.{InRange}
-use Rattle.coord_store.specs.Kept.{GivesEither, Holds, ImagesGive, IsKept, IsOnlyWorld, Kept}
-use Rattle.coord_store.specs.Recovered.{AllFresh, Gives, IsBody, Recovered, Takes}
+use Rattle.coord_world.specs.Facade.{InRange, Legal, World, fold, rows_of}
+use Rattle.coord_store.specs.Facade.{AllFresh, Gives, GivesEither, Holds, ImagesGive, IsBody, IsKept, IsOnlyWorld, Kept, Recovered, Takes}
 use Rattle.coord_store.specs.declared.faults.CommitFault.{CommitFault}
 use Rattle.coord_store.specs.declared.faults.CommitFault.TheVariants.{Device}
 use Rattle.coord_store.proofs.Replaying.{replays-push}

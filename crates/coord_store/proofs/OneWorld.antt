@@ -1,16 +1,13 @@
 -- Bytes give one world at most.
 use Rattle.std.proofs.Common.{◌≡◌, ℕ, ◌+◌, List, [], ◌∷◌, ◌++◌, sym, ap, ◌∙◌, subst}
 use Rattle.coord_types.specs.declared.steps.Step.{Step}
-use Rattle.coord_batch.specs.Batches.{pair}
-use Rattle.coord_batch.specs.Steps.{batch}
+use Rattle.coord_batch.specs.Facade.{batch, pair}
 use Rattle.coord_batch.proofs.SpellingLaws.{batches_prefix_free}
 use Rattle.coord_codec.specs.Worlds.{world}
 use Rattle.coord_codec.proofs.SpellingLaws.{worlds_prefix_free}
 use Rattle.coord_journal.specs.Text.{Content}
 use Rattle.coord_journal.proofs.Texts.{text_same}
-use Rattle.coord_world.specs.protocol.Next.{fold}
-use Rattle.coord_world.specs.protocol.NumberedWorld.{World}
-use Rattle.coord_world.specs.protocol.Rows.{rows_of}
+use Rattle.coord_world.specs.Facade.{World, fold, rows_of}
 use Rattle.coord_store.specs.Laws.{RecoveredIsOne}
 use Rattle.coord_store.specs.Recovered.{Gives, HasSnapshot, IsBody, Replays}
 

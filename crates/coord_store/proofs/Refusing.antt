@@ -1,14 +1,10 @@
 -- What is refused, told of the whole device.
 use Rattle.std.proofs.Common.{◌≡◌, ◌⊎◌, ℕ, List, ⊎_elim, subst, sym}
-use Rattle.coord_journal.specs.Faults.{RefusesOpen as JournalRefuses}
-use Rattle.coord_journal.specs.Text.{Content, IsText}
+use Rattle.coord_journal.specs.Facade.{Content, IsText, RefusesOpen as JournalRefuses}
 use Rattle.coord_journal.specs.declared.fault.JournalFault.{JournalFault}
 use Rattle.coord_journal.specs.declared.fault.JournalFault.TheVariants as journal
-use Rattle.coord_world.specs.protocol.Legal.{Legal}
-use Rattle.coord_world.specs.protocol.NumberedWorld.{World}
-use Rattle.coord_store.specs.Faults.{store_fault_of}
-use Rattle.coord_store.specs.Recovered.{HasSnapshot}
-use Rattle.coord_store.specs.Refused.{RefusesContent, RefusesCreate, RefusesOpen, RefusesReplay}
+use Rattle.coord_world.specs.Facade.{Legal, World}
+use Rattle.coord_store.specs.Facade.{HasSnapshot, RefusesContent, RefusesCreate, RefusesOpen, RefusesReplay, store_fault_of}
 use Rattle.coord_store.specs.declared.faults.StoreFault.{StoreFault}
 use Rattle.coord_store.specs.declared.faults.StoreFault.TheVariants.{OutOfMemory, Device, NotEmpty, HalfSize, NoMagic, BadRecord, BadSnapshot, BadBatch, BadStep, Violated, NotQuiet, Stopped}
 use Rattle.coord_store.proofs.Exclusion.{begins_with_header}

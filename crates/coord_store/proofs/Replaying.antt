@@ -1,13 +1,10 @@
 -- Batches that follow one another.
-use Rattle.std.proofs.Common.{◌≡◌, ℕ, suc, ◌+◌, ◌<◌, List, [], ◌∷◌, ◌++◌, length, take, drop, get_or, Vec, refl, sym, ap, ◌∙◌, subst, arith}
+use Rattle.std.proofs.Common.{◌≡◌, ℕ, suc, ◌+◌, ◌<◌, List, [], ◌∷◌, ◌++◌, length, take, drop, get_or, Vec, refl, sym, ap, ◌∙◌, subst, arith, Global}
 use Rattle.std.proofs.lemmas.List.{length-take-le}
-use Rattle.std.specs.declared.alloc.Global.{Global}
 use Rattle.coord_types.specs.declared.steps.Step.{Step}
-use Rattle.coord_world.specs.protocol.Next.{fold}
-use Rattle.coord_world.specs.protocol.NumberedWorld.{World}
+use Rattle.coord_world.specs.Facade.{World, fold}
 use Rattle.coord_journal.specs.Contents.{bodies}
-use Rattle.coord_store.specs.Recovered.{Replays, Takes}
-use Rattle.coord_store.specs.Refused.{RefusesBatch, RefusesReplay}
+use Rattle.coord_store.specs.Facade.{RefusesBatch, RefusesReplay, Replays, Takes}
 use Rattle.coord_store.specs.declared.faults.StoreFault.{StoreFault}
 use Rattle.coord_store.proofs.Freshness.{split_at, take-push}
 

@@ -3,12 +3,9 @@ use Rattle.std.specs.Prelude.{◌≡◌, ◌⊎◌, ℕ, Bool, true, List, Optio
 use Rattle.coord_codec.specs.Worlds.{world}
 use Rattle.coord_disk.specs.Model.Moments.{LeavesOnly}
 use Rattle.coord_disk.specs.Model.Present.{Present, IsImage, whole}
-use Rattle.coord_journal.specs.Journal.{IsReady, disk_of, has_stopped as journal_has_stopped}
-use Rattle.coord_journal.specs.Text.{Content, formatted}
+use Rattle.coord_journal.specs.Facade.{Content, IsReady, disk_of, formatted, has_stopped as journal_has_stopped}
 use Rattle.coord_journal.specs.declared.journal.Journal.{Journal}
-use Rattle.coord_world.specs.protocol.Legal.{Legal}
-use Rattle.coord_world.specs.protocol.NumberedWorld.{World, no_world}
-use Rattle.coord_world.specs.protocol.Rows.{rows_of}
+use Rattle.coord_world.specs.Facade.{Legal, World, no_world, rows_of}
 use Rattle.coord_store.specs.Recovered.{Gives, Recovered}
 
 -- its disk, its world, and the world that a torn commit was to make

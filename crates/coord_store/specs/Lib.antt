@@ -4,3 +4,4 @@ pub mod Laws
 pub mod Recovered
 pub mod Refused
 pub mod Migrating
+pub mod Facade

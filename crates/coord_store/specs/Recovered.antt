@@ -1,16 +1,10 @@
 -- The world that the bytes of a device give.
 use Rattle.std.specs.Prelude.{◌≡◌, ℕ, ◌+◌, List, [], ◌∷◌}
 use Rattle.coord_types.specs.declared.steps.Step.{Step}
-use Rattle.coord_batch.specs.Batches.{IsBatch, pair}
-use Rattle.coord_batch.specs.Steps.{batch}
+use Rattle.coord_batch.specs.Facade.{IsBatch, batch, pair}
 use Rattle.coord_codec.specs.Worlds.{world}
 use Rattle.coord_journal.specs.Text.{Content, IsText}
-use Rattle.coord_world.specs.protocol.Acceptance.{IsFresh}
-use Rattle.coord_world.specs.protocol.Legal.{Legal}
-use Rattle.coord_world.specs.protocol.Next.{next, fold}
-use Rattle.coord_world.specs.protocol.NumberedWorld.{World}
-use Rattle.coord_world.specs.protocol.Rows.{rows_of}
-use Rattle.coord_world.specs.protocol.Ranges.{InRange}
+use Rattle.coord_world.specs.Facade.{InRange, IsFresh, Legal, World, fold, next, rows_of}
 
 -- each step is fresh over the one before it, with one world settled for all of them
 abbrev pub AllFresh : World → World → List Step → Type 0

@@ -2,13 +2,9 @@
 use Rattle.std.specs.Prelude.{◌≡◌, ◌⊎◌, ℕ, ◌<◌, List, ◌∷◌, ◌++◌, length, Some}
 use Rattle.coord_types.specs.declared.steps.Step.{Step}
 use Rattle.coord_check.specs.Faults.{faults, first}
-use Rattle.coord_journal.specs.Faults.{RefusesOpen as JournalRefuses}
-use Rattle.coord_journal.specs.Text.{Content, IsHalfSize, IsText}
+use Rattle.coord_journal.specs.Facade.{Content, IsHalfSize, IsText, RefusesOpen as JournalRefuses}
 use Rattle.coord_journal.specs.declared.fault.JournalFault.TheVariants as journal
-use Rattle.coord_world.specs.protocol.Acceptance.{IsFresh}
-use Rattle.coord_world.specs.protocol.Legal.{Legal}
-use Rattle.coord_world.specs.protocol.Next.{fold}
-use Rattle.coord_world.specs.protocol.NumberedWorld.{World}
+use Rattle.coord_world.specs.Facade.{IsFresh, Legal, World, fold}
 use Rattle.coord_store.specs.Recovered.{AllFresh, HasSnapshot, IsBody, Replays}
 use Rattle.coord_store.specs.declared.faults.StoreFault.{StoreFault}
 use Rattle.coord_store.specs.declared.faults.StoreFault.TheVariants.{OutOfMemory, Device, NotEmpty, HalfSize, NoMagic, BadRecord, BadSnapshot, BadBatch, BadStep, Violated, NotQuiet, Stopped}

@@ -1,6 +1,6 @@
 //! The world that a snapshot spells.
 
-ghost use Rattle.std.specs.Prelude.{◌≡◌, IfOk, IfErr};
+ghost use Rattle.std.specs.Prelude.{IfOk, IfErr};
 ghost use Rattle.coord_journal.specs.Contents.{content_of};
 ghost use Rattle.coord_store.specs.Recovered.{HasSnapshot};
 ghost use Rattle.coord_store.specs.Refused.{RefusesSnapshot};

@@ -1,6 +1,5 @@
 -- Proofs by cases.
-use Rattle.std.proofs.Common.{◌≡◌, ◌≢◌, ◌⊎◌, ℕ, Bool, true, false, ◌&&◌, Option, Some, None, Result, Ok, Err, OnOk, refl, sym, subst, inl, inr}
-use Rattle.std.specs.Prelude.{is_some}
+use Rattle.std.proofs.Common.{◌≡◌, ◌≢◌, ◌⊎◌, ℕ, Bool, true, false, ◌&&◌, Option, Some, None, Result, Ok, Err, OnOk, refl, sym, subst, inl, inr, is_some}
 use Rattle.std.proofs.lemmas.Bool.Decides.{eqb_tells}
 
 -- on a test, with its answer

@@ -1,6 +1,5 @@
 -- Lists are equal where they have the same elements at the same places, and tables where their lists of entries are.
-use Rattle.std.proofs.Common.{◌≡◌, ◌↔◌, ℕ, suc, ◌<◌, Bool, true, List, [], ◌∷◌, Ordering, length, refl, sym, ap, ◌∙◌, arith}
-use Rattle.std.specs.Prelude.{IsTrue, slice_get}
+use Rattle.std.proofs.Common.{◌≡◌, ◌↔◌, ℕ, suc, ◌<◌, Bool, true, List, [], ◌∷◌, Ordering, length, refl, sym, ap, ◌∙◌, arith, IsTrue, slice_get}
 use Rattle.std.specs.Cmp.{IsTotalOrder}
 use Rattle.std.specs.FinMap.Entries.{is_sorted}
 use Rattle.coord_types.specs.Table.{Table, entries, from_sorted}

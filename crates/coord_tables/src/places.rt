@@ -1,6 +1,6 @@
 //! Where each lane stands in the list of lanes, by its ends.
 
-ghost use Rattle.std.specs.Prelude.{◌≡◌, ◌≤◌, ◌<◌, ◌^◌, ℕ, length, slice_index, OnOk, OnErr};
+ghost use Rattle.std.specs.Prelude.{◌≡◌, ◌≤◌, ◌<◌, ◌^◌, length, slice_index, OnOk, OnErr};
 ghost use Rattle.coord_types.specs.StepRanges.{IsNode};
 ghost use Rattle.coord_tables.specs.Places.{pair_place, noted_place, IsIndexOf};
 

@@ -1,6 +1,5 @@
 -- Sets of nodes and their masks.
-use Rattle.std.proofs.Common.{◌≡◌, ◌≢◌, ◌↔◌, ℕ, zero, suc, ◌+◌, ◌-◌, ◌*◌, ◌/◌, ◌%◌, ◌^◌, ◌<◌, ◌≤◌, Bool, true, false, ◌&&◌, List, [], ◌∷◌, ◌++◌, length, Option, Some, None, IsSome, refl, sym, ap, ◌∙◌, subst, cond, eqb, ltb, leb, add-one, bit_and, bit_or, w64, lit<, min, arith}
-use Rattle.std.specs.Prelude.{◌==◌, IfSome, nat_eq}
+use Rattle.std.proofs.Common.{◌≡◌, ◌≢◌, ◌↔◌, ℕ, zero, suc, ◌+◌, ◌-◌, ◌*◌, ◌/◌, ◌%◌, ◌^◌, ◌<◌, ◌≤◌, Bool, true, false, ◌&&◌, List, [], ◌∷◌, ◌++◌, length, Option, Some, None, IsSome, refl, sym, ap, ◌∙◌, subst, cond, eqb, ltb, leb, bit_and, bit_or, w64, lit<, min, arith, ◌==◌, IfSome, nat_eq}
 use Rattle.std.specs.Cmp.Lexicographic.{pointwise, same_text, other_text}
 use Rattle.std.specs.Int.{bit_at, bit_not, trailing_zeros}
 use Rattle.std.specs.Int.Count.{ones, trailing_of_zero}
@@ -121,21 +120,6 @@ items_below test (suc n) =
       | true ↦ subst (AllByRecursion (λ y. y < suc (suc n))) (sym (items-insert_back (nodes_where test n) (suc n) (items_below test n))) (all_below_push n _ (items_below test n))
       | false ↦ all_below_more (suc n) _ (items_below test n)
     ]
-
--- the nodes that a loop over the places lists: none before the first place
-pub items_none : (test : ℕ → Bool) → items (nodes_where test 0) ≡ []
-unfolding nodes_where
-items_none test = items-empty
-
--- and the node of the next place behind the others, where its test holds
-pub items_more : (test : ℕ → Bool) (n : ℕ) → items (nodes_where test (n + 1)) ≡ cond (test n) (items (nodes_where test n) ++ (n + 1) ∷ []) (items (nodes_where test n))
-unfolding nodes_where
-items_more test n =
-    rw add-one (
-    elim (test n) as (λ b. items (cond b (insert (nodes_where test n) (suc n)) (nodes_where test n)) ≡ cond b (items (nodes_where test n) ++ suc n ∷ []) (items (nodes_where test n))) [
-      | true ↦ items-insert_back (nodes_where test n) (suc n) (items_below test n)
-      | false ↦ refl
-    ])
 
 -- a number whose bits are those of another but for one
 module _ (bits more k : ℕ) (within : (1 ≤ k) × (k ≤ 64)) (others : (i : ℕ) → i < 64 → i ≢ k - 1 → is_set more i ≡ is_set bits i) where

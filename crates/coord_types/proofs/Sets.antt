@@ -1,9 +1,7 @@
 -- Sets of nodes, and lists in ascending order.
-use Rattle.std.proofs.Common.{◌≡◌, ◌≢◌, ℕ, ◌+◌, ◌<◌, ◌≤◌, Bool, true, false, ◌&&◌, ◌||◌, not, List, [], ◌∷◌, ◌++◌, Option, Some, None, Ordering, map, refl, sym, ap, ◌∙◌, subst, arith, cond, eqb, length}
-use Rattle.std.specs.Prelude.{T, nat_eq, is_some}
+use Rattle.std.proofs.Common.{◌≡◌, ℕ, ◌+◌, ◌<◌, ◌≤◌, Bool, true, false, ◌&&◌, ◌||◌, not, List, [], ◌∷◌, ◌++◌, Option, Some, None, Ordering, map, refl, sym, ap, ◌∙◌, subst, arith, cond, eqb, length, T, nat_eq, is_some, Less, Equal, Greater}
 use Rattle.std.specs.Ordering.{nat_cmp, eq_by_cmp, is_lt}
-use Rattle.std.specs.declared.cmp.Ordering.TheVariants.{Less, Equal, Greater}
-use Rattle.std.specs.List.{filter, list_any, list_all, AllByRecursion}
+use Rattle.std.specs.List.{list_any, list_all, AllByRecursion}
 use Rattle.std.specs.List.Sorted.{IsStrictlySortedBy}
 use Rattle.std.specs.FinMap.{nat_cmp-IsAntisymmetric}
 use Rattle.coord_types.specs.Table as table
@@ -11,7 +9,7 @@ use Rattle.coord_types.proofs.Tables as fm
 use Rattle.coord_types.proofs.Tables.{same_table}
 use Rattle.std.specs.FinMap.Entries.{put, by_order, below_all, is_sorted}
 use Rattle.std.proofs.lemmas.Bool.Decides.{nat_tests}
-use Rattle.std.proofs.lemmas.Map.Keys.{sorted_head, sorted_tail}
+use Rattle.std.proofs.lemmas.Map.Keys.{sorted_head}
 use Rattle.coord_types.specs.NodeSet.{NodeSet, contains, empty, insert, remove, len, items, from_list, first, first_of, is_subset}
 
 some_or : (b : Bool) (o : Option (Unit {0})) → is_some (cond b (Some tt) o) ≡ (b || is_some o)
@@ -64,15 +62,6 @@ len-empty = refl
 pub len_zero : (s : NodeSet) → ((q : ℕ) → contains s q ≡ false) → len s ≡ 0
 len_zero s none = ap len (same_nodes s empty (λ q. none q ∙ sym (contains-empty q))) ∙ len-empty
 
--- a filter that leaves one number out makes the set without it
-any-filter_out : (q k : ℕ) (xs : List ℕ) → list_any (λ y. nat_eq y q) (filter (λ x. not (nat_eq x k)) xs) ≡ (not (nat_eq q k) && list_any (λ y. nat_eq y q) xs)
-any-filter_out q k [] = grind (arith, nat_tests)
-any-filter_out q k (x ∷ xs) = grind (arith, nat_tests, any-filter_out q k xs)
-
-pub from_list-filter_out : (k : ℕ) (xs : List ℕ) → from_list (filter (λ x. not (nat_eq x k)) xs) ≡ remove (from_list xs) k
-from_list-filter_out k xs = same_nodes _ _ (λ q.
-    contains-from_list _ q ∙ any-filter_out q k xs ∙ ap (λ b. not (nat_eq q k) && b) (sym (contains-from_list xs q)) ∙ sym (contains-remove (from_list xs) k q))
-
 -- a number below all goes to the front
 front : (k : ℕ) (es : List (ℕ × Unit {0})) → AllByRecursion (λ y. nat_cmp k y ≡ Less) (map (λ e. e.0) es) → put nat_cmp k tt es ≡ (k, tt) ∷ es
 front k [] below = refl
@@ -86,29 +75,7 @@ pub items-empty : items empty ≡ []
 unfolding items empty
 items-empty = refl
 
--- the items of the set of a list in ascending order are that list
-pub items-from_list : (xs : List ℕ) → IsStrictlySortedBy nat_cmp xs → items (from_list xs) ≡ xs
-unfolding from_list
-items-from_list [] sorted = items-empty
-items-from_list (x ∷ xs) sorted =
-    let e = items-from_list xs (sorted_tail nat_cmp x xs sorted) in
-    items-insert_front (from_list xs) x (subst (AllByRecursion (λ y. nat_cmp x y ≡ Less)) (sym e) (sorted_head nat_cmp x xs sorted)) ∙ ap (λ l. x ∷ l) e
-
--- a list in ascending order with the members of a set has its items
-pub items_are : (s : NodeSet) (xs : List ℕ) → IsStrictlySortedBy nat_cmp xs → ((q : ℕ) → contains s q ≡ list_any (λ y. nat_eq y q) xs) → items s ≡ xs
-items_are s xs sorted same =
-    ap items (same_nodes s (from_list xs) (λ q. same q ∙ sym (contains-from_list xs q))) ∙ items-from_list xs sorted
-
 pub ruleset node_sets = (contains-empty, contains-insert, contains-remove, contains-from_list, len-empty)
-
--- a set with a member isn't empty
-pub len_not_zero : (s : NodeSet) (q : ℕ) → contains s q ≡ true → len s ≢ 0
-len_not_zero s q has zero = grind (arith, contains-empty q, ap (λ t. contains t q) (empty_of_len s zero))
-
-pub len-from_list_zero : (xs : List ℕ) → (length xs ≡ 0 → len (from_list xs) ≡ 0) × (len (from_list xs) ≡ 0 → length xs ≡ 0)
-unfolding from_list
-len-from_list_zero [] = (λ _. len-empty, λ _. omega arith)
-len-from_list_zero (x ∷ xs) = (λ e. absurd (omega arith), λ zero. absurd (len_not_zero _ x (grind (arith, nat_tests, contains-insert (from_list xs) x x)) zero))
 
 -- one node alone
 pub items_only : (k : ℕ) → items (insert empty k) ≡ k ∷ []
@@ -150,9 +117,6 @@ length-keys (e ∷ es) = omega (arith, length-keys es)
 pub len_of_items : (s : NodeSet) → len s ≡ length (items s)
 unfolding len items
 len_of_items s = sym (length-keys (table.entries s))
-
-pub len_listed : (xs : List ℕ) → IsStrictlySortedBy nat_cmp xs → len (from_list xs) ≡ length xs
-len_listed xs sorted = len_of_items (from_list xs) ∙ ap length (items-from_list xs sorted)
 
 split_and : (a b : Bool) → T (a && b) → T a × T b
 split_and true b h = (tt, h)

@@ -7,3 +7,4 @@ pub mod Messages
 pub mod NodeState
 pub mod StepRanges
 pub mod IdealWorld
+pub mod Facade

@@ -2,8 +2,7 @@
 use Rattle.std.specs.Prelude.{ℕ, List, map}
 use Rattle.coord_world.specs.declared.rows.parts.LinkRow.{LinkRow}
 use Rattle.coord_world.specs.declared.rows.parts.NodeRow.{NodeRow}
-use Rattle.coord_world.specs.protocol.NumberedWorld.{World}
-use Rattle.coord_world.specs.protocol.Rows.{rows_of}
+use Rattle.coord_world.specs.Facade.{World, rows_of}
 use Rattle.coord_view.specs.declared.view.LinkView.{LinkView}
 use Rattle.coord_view.specs.declared.view.NodeView.{NodeView}
 

@@ -1,3 +1,4 @@
 pub mod protocol
 pub mod laws
 pub mod code
+pub mod Facade

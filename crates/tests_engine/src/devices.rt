@@ -3,7 +3,7 @@
 ghost use Rattle.std.specs.Prelude.{◌≡◌, false, IfOk};
 ghost use Rattle.coord_store.specs.Kept.{has_stopped};
 
-use crate::scripts::{HALF, adding, adopted, created, engine};
+use crate::scripts::{HALF, adding, adopted, engine};
 use coord_disk::{BlipDisk, Disk, MemDisk};
 use coord_engine::{Engine, Origin, Share};
 use coord_ledger::{Ledger, Ticket};

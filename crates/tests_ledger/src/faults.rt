@@ -2,11 +2,11 @@
 //! are those that were settled, or those of the flight too.
 
 use crate::cases::{self, Case, full, small};
-use crate::devices::{OPENING, device};
+use crate::devices::{OPENING, device, made, opened};
 use crate::runs::{are, ran};
 use crate::scene::Scene;
 use coord_disk::{BlipDisk, CrashDisk, FailingDisk, FuseDisk, MemDisk, Rule};
-use coord_ledger::{Event, Trace};
+use coord_ledger::{Event, RunFault, RunFaultKind, Trace, run_events};
 use coord_store::{CommitFault, Store, StoreFault};
 use std::alloc::Global;
 use std::test::Fail;
@@ -150,5 +150,48 @@ fn a_commit_leaves_all_its_steps_or_none(rt: HostRuntime) -> Result<(), Fail> {
 fn so_does_one_that_makes_a_checkpoint(rt: HostRuntime) -> Result<(), Fail> {
     let wrong = first_wrong(rt.alloc(), full(rt.alloc())?, 3)?;
     assert!(rt; wrong.is_none(), "{wrong:?}");
+    Ok(())
+}
+
+// At which event a run over this device breaks off, how many it had answered, and why.
+fn broken_off<D: CrashDisk>(
+    alloc: Global,
+    disk: D,
+    events: &[Event],
+) -> Result<(usize, usize, RunFaultKind), Fail> {
+    match run_events(alloc, opened(alloc, disk)?, events) {
+        Ok((trace, ledger)) => {
+            drop(trace);
+            drop(ledger);
+            Err("it came to its end")?
+        }
+        Err(RunFault { at, trace, kind }) => {
+            let answered = trace.answers.len();
+            drop(trace);
+            Ok((at, answered, kind))
+        }
+    }
+}
+
+// The device stops behind its first opening, so the crash is not answered.
+fn breaks_off_at_the_crash(alloc: Global) -> Result<bool, Fail> {
+    let scene = Scene::new()?;
+    let [add, next, _] = scene.linking();
+    let events = [
+        Event::Submit(add),
+        Event::Submit(next),
+        Event::Crash,
+        Event::Show,
+    ];
+    let broken = broken_off(alloc, FuseDisk::new(made(alloc)?, OPENING), &events)?;
+    match broken {
+        (_, _, RunFaultKind::OutOfMemory) => Err(StoreFault::OutOfMemory)?,
+        _ => Ok(broken == (2, 2, RunFaultKind::Store(StoreFault::Device))),
+    }
+}
+
+#[test]
+fn a_run_breaks_off_at_a_crash_that_is_not_opened(rt: HostRuntime) -> Result<(), Fail> {
+    assert!(rt; breaks_off_at_the_crash(rt.alloc())?);
     Ok(())
 }

@@ -1,6 +1,6 @@
 //! Tests of files as disks.
 
-ghost use Rattle.std.specs.Prelude.{◌≡◌, ◌+◌, ◌<◌, ◌^◌, length};
+ghost use Rattle.std.specs.Prelude.{◌+◌, ◌<◌, ◌^◌, length};
 
 use coord_disk::{Choice, Disk, DiskFault, FileDisk, MemFile, RawDisk, RawFile, Syncs, SystemFile};
 use std::alloc::{AllocError, Global};

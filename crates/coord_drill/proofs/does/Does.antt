@@ -10,18 +10,11 @@ use Rattle.coord_world.specs.declared.verdicts.Verdict.TheVariants.{Fresh, Repea
 use Rattle.coord_world.specs.protocol.NumberedWorld.{World, no_world}
 use Rattle.coord_ledger.specs.declared.events.Answer.{Answer}
 use Rattle.coord_ledger.specs.declared.events.Answer.TheVariants.{Accepted, Opened, Refused, Repeated}
-use Rattle.coord_ledger.specs.ledger.Driven.{Driven}
-use Rattle.coord_ledger.specs.ledger.State.{Claim, LedgerState, ledger_over}
-use Rattle.coord_ledger.specs.machine.After.{after_submit, crashed}
-use Rattle.coord_ledger.specs.machine.Answers.{verdict_on}
-use Rattle.coord_ledger.specs.machine.Log.{log_over, settled_count, with_step, world_after}
-use Rattle.coord_ledger.specs.machine.Machine.{Machine}
-use Rattle.coord_ledger.specs.machine.Runs.{run}
+use Rattle.coord_ledger.specs.Facade.{Claim, Driven, LedgerState, Machine, after_submit, crashed, ledger_over, log_over, run, settled_count, verdict_on, with_step, world_after}
 use Rattle.coord_ledger.proofs.machine.Moved.{crash_reopens}
 use Rattle.coord_drill.specs.Answered.{asked_lines, flight_lines, kept_line, repeat_line}
 use Rattle.coord_drill.specs.Drill.{DrillState, after_asked, flight_events, from_settled, machine_of, seen_as}
-use Rattle.coord_drill.specs.Holding.{IsHeld, IsReady, IsReadyWith, drill_of, state_of}
-use Rattle.coord_drill.specs.Printed.{opened_line, pending_line, refusal_line}
+use Rattle.coord_drill.specs.Facade.{IsHeld, IsReady, IsReadyWith, drill_of, opened_line, pending_line, refusal_line, state_of}
 use Rattle.coord_drill.specs.declared.asked.Asked.TheVariants.{Crash, Submit}
 use Rattle.coord_drill.specs.declared.drill.Drill.{Drill}
 

@@ -1,18 +1,15 @@
 -- What a flight makes of a ledger, what is printed of it, and the tickets that stay.
-use Rattle.std.proofs.Common.{◌≡◌, ◌≢◌, ℕ, ◌≤◌, Bool, true, false, cond, List, [], ◌∷◌, length, take, drop, Option, Some, None, Ok, refl, sym, ap, ◌∙◌, subst, arith, inl, inr}
+use Rattle.std.proofs.Common.{◌≡◌, ◌≢◌, ℕ, ◌≤◌, Bool, true, false, cond, List, [], ◌∷◌, length, take, drop, Option, Some, None, Ok, refl, sym, ap, ◌∙◌, subst, arith, inl, inr, is_some}
 use Rattle.std.proofs.Math.Nat.{min-le_right}
 use Rattle.std.proofs.lemmas.List.{drop-drop, length-drop, length-take, take-append-drop, take_min}
 use Rattle.std.specs.List.{AllByRecursion}
-use Rattle.std.specs.Prelude.{is_some}
 use Rattle.coord_disk.specs.declared.memory.MemDisk.{MemDisk}
 use Rattle.coord_types.specs.declared.refusals.Refusal.TheVariants.{OutOfMemory}
 use Rattle.coord_types.specs.declared.steps.Reply.{Reply}
 use Rattle.coord_types.specs.declared.steps.Step.{Step}
 use Rattle.coord_store.specs.declared.faults.CommitFault.{CommitFault}
 use Rattle.coord_store.specs.declared.faults.CommitFault.TheVariants as commit
-use Rattle.coord_world.specs.protocol.Next.{fold}
-use Rattle.coord_world.specs.protocol.NumberedWorld.{World}
-use Rattle.coord_world.specs.protocol.Outputs.{outs}
+use Rattle.coord_world.specs.Facade.{World, fold, outs}
 use Rattle.coord_ledger.proofs.machine.Logs.{world-add}
 use Rattle.coord_ledger.specs.declared.events.Answer.{Answer}
 use Rattle.coord_ledger.specs.declared.events.Answer.TheVariants.{Begun, Committed, Failed, Nothing, Refused}
@@ -20,20 +17,9 @@ use Rattle.coord_ledger.specs.declared.events.Event.TheVariants.{Begin}
 use Rattle.coord_ledger.specs.declared.mark.Mark.{Mark}
 use Rattle.coord_ledger.specs.declared.mark.Mark.TheVariants.{New, Good, Torn}
 use Rattle.coord_ledger.specs.declared.release.Release.{Release}
-use Rattle.coord_ledger.specs.ledger.Calls.{next_flight, releases_in, taken_back, with_out}
-use Rattle.coord_ledger.specs.ledger.Driven.{CommitsTo, Driven, IsMarked, LandsTo, at_home}
-use Rattle.coord_ledger.specs.ledger.State.{Claim, FlightState, IsGranted, LedgerState}
-use Rattle.coord_ledger.specs.machine.After.{releases_of, settling_releases}
+use Rattle.coord_ledger.specs.Facade.{Claim, CommitsTo, Driven, FlightState, IsGranted, IsMarked, IsOneOf, LandsTo, LedgerState, Log, Machine, at_home, has_stopped, next_flight, next_size, pending, releases_in, releases_of, run, settled_count, settled_world, settling_releases, stays_home, taken_back, to_begin, with_out, with_settled}
 use Rattle.coord_types.specs.declared.limits.TheConstants.{MAX_BATCH_STEPS}
-use Rattle.coord_ledger.specs.machine.Answers.{IsOneOf, next_size, stays_home, to_begin}
-use Rattle.coord_ledger.specs.machine.Log.{Log, pending, settled_count, settled_world, with_settled}
-use Rattle.coord_ledger.specs.machine.Machine.{Machine, has_stopped}
-use Rattle.coord_ledger.specs.machine.Runs.{run}
-use Rattle.coord_drill.specs.Answered.{flight_lines}
-use Rattle.coord_drill.specs.Drill.{DrillState, flight_events, landing_events, machine_of, seen_as}
-use Rattle.coord_drill.specs.Holding.{AreGranted, FlownTo, IsHeld, IsReady, LandsAs, claims_of, collected_lines, drill_of, flown_answers, flown_lines, landed_answers, left_by, waiting}
-use Rattle.coord_drill.specs.Moments.{Flies, GoesBy, GoesOnTo}
-use Rattle.coord_drill.specs.Printed.{settled_lines}
+use Rattle.coord_drill.specs.Facade.{AreGranted, DrillState, Flies, FlownTo, GoesBy, GoesOnTo, IsHeld, IsReady, LandsAs, claims_of, collected_lines, drill_of, flight_events, flight_lines, flown_answers, flown_lines, landed_answers, landing_events, left_by, machine_of, seen_as, settled_lines, waiting}
 use Rattle.coord_drill.specs.declared.drill.Drill.{Drill}
 use Rattle.coord_drill.specs.declared.drill.flying.Flown.{Flown}
 use Rattle.coord_drill.specs.declared.drill.flying.Flown.TheVariants as flown

@@ -3,9 +3,7 @@ use Rattle.std.proofs.Common.{◌≡◌, List, ℕ, [], ◌++◌, refl, sym, ap,
 use Rattle.coord_ledger.specs.machine.Log.{settled_world}
 use Rattle.coord_drill.specs.Answered.{asked_lines, flight_lines}
 use Rattle.coord_drill.specs.Drill.{DrillState, after_asked, flight_events}
-use Rattle.coord_drill.specs.Holding.{IsReady, state_of}
-use Rattle.coord_drill.specs.Moments.{Begins, Carries, Flies}
-use Rattle.coord_drill.specs.Printed.{count_line}
+use Rattle.coord_drill.specs.Facade.{Begins, Carries, Flies, IsReady, count_line, state_of}
 use Rattle.coord_drill.specs.declared.asked.Asked.TheVariants.{Flush}
 use Rattle.coord_drill.specs.declared.drill.Drill.{Drill}
 use Rattle.coord_drill.proofs.does.Does.{driver_of, state_is}

@@ -1,7 +1,6 @@
 -- What a step that is handed in makes of a drill: its tickets, and what is printed.
-use Rattle.std.proofs.Common.{◌≡◌, ◌≢◌, ℕ, true, false, cond, List, Option, Some, [], ◌∷◌, ◌++◌, drop, Result, Ok, Err, refl, sym, ap, ◌∙◌, subst, arith}
+use Rattle.std.proofs.Common.{◌≡◌, ◌≢◌, ℕ, true, false, cond, List, Option, Some, [], ◌∷◌, ◌++◌, drop, Result, Ok, Err, refl, sym, ap, ◌∙◌, subst, arith, is_some}
 use Rattle.std.proofs.lemmas.List.{drop-append-le, length-append, take-append-le}
-use Rattle.std.specs.Prelude.{is_some}
 use Rattle.coord_disk.specs.declared.memory.MemDisk.{MemDisk}
 use Rattle.coord_types.specs.declared.refusals.Refusal.{Refusal}
 use Rattle.coord_types.specs.declared.refusals.Refusal.TheVariants.{OutOfMemory}
@@ -10,22 +9,13 @@ use Rattle.coord_types.specs.declared.steps.Step.{Step}
 use Rattle.coord_world.proofs.Facade.{fold-take_drop}
 use Rattle.coord_world.specs.declared.verdicts.Verdict.{Verdict}
 use Rattle.coord_world.specs.declared.verdicts.Verdict.TheVariants.{Fresh, Repeat}
-use Rattle.coord_world.specs.protocol.Next.{fold, next, reply}
-use Rattle.coord_world.specs.protocol.NumberedWorld.{World}
+use Rattle.coord_world.specs.Facade.{World, fold, next, reply}
 use Rattle.coord_ledger.proofs.follows.Granted.{granted_repeat}
 use Rattle.coord_ledger.specs.declared.events.Answer.TheVariants as answer
 use Rattle.coord_ledger.specs.declared.events.Event.TheVariants as event
 use Rattle.coord_ledger.specs.declared.handed.Handed.TheVariants.{Accepted, Repeated}
-use Rattle.coord_ledger.specs.ledger.Calls.{HandedTo, RefusesStep, claimed, ledger_verdict, with_accepted}
-use Rattle.coord_ledger.specs.ledger.Driven.{Driven}
-use Rattle.coord_ledger.specs.ledger.State.{Claim, IsGranted, LedgerState, reply_of}
-use Rattle.coord_ledger.specs.machine.Log.{pending, settled_count, settled_world}
-use Rattle.coord_ledger.specs.machine.Runs.{run}
-use Rattle.coord_drill.specs.Answered.{flight_lines, kept_line}
-use Rattle.coord_drill.specs.Drill.{DrillState, flight_events, machine_of, seen_as}
-use Rattle.coord_drill.specs.Holding.{IsHeld, IsReady, IsReadyWith, claims_of, drill_of, state_of}
-use Rattle.coord_drill.specs.Moments.{Begins, Carries, Flies, Hands, IsRun}
-use Rattle.coord_drill.specs.Printed.{pending_line, refusal_line}
+use Rattle.coord_ledger.specs.Facade.{Claim, Driven, HandedTo, IsGranted, LedgerState, RefusesStep, claimed, ledger_verdict, pending, reply_of, run, settled_count, settled_world, with_accepted}
+use Rattle.coord_drill.specs.Facade.{Begins, Carries, DrillState, Flies, Hands, IsHeld, IsReady, IsReadyWith, IsRun, claims_of, drill_of, flight_events, flight_lines, kept_line, machine_of, pending_line, refusal_line, seen_as, state_of}
 use Rattle.coord_drill.specs.declared.asked.Asked.TheVariants.{Submit}
 use Rattle.coord_drill.specs.declared.drill.Drill.{Drill}
 use Rattle.coord_drill.proofs.does.Does.{driver_of, flown_after, flown_line, held_after, held_is, held_line, home_is, refused_after, refused_line, repeat_after, repeat_lines, state_is}

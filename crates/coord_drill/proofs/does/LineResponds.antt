@@ -1,7 +1,6 @@
 -- There always is a text that lines may print: the machine has an answer to each event that is not want of memory.
-use Rattle.std.proofs.Common.{◌≡◌, ◌≢◌, ℕ, ◌+◌, Bool, true, false, cond, List, [], ◌∷◌, ◌++◌, Option, Some, None, Result, Ok, Err, refl, sym, ap, ◌∙◌, subst, inl}
+use Rattle.std.proofs.Common.{◌≡◌, ◌≢◌, ℕ, ◌+◌, Bool, true, false, cond, List, [], ◌∷◌, ◌++◌, Option, Some, None, Result, Ok, Err, refl, sym, ap, ◌∙◌, subst, inl, is_some, map}
 use Rattle.std.specs.List.{AllByRecursion}
-use Rattle.std.specs.Prelude.{is_some, map}
 use Rattle.coord_lines.specs.Lines.{Line}
 use Rattle.coord_types.specs.declared.refusals.Refusal.{Refusal}
 use Rattle.coord_types.specs.declared.refusals.Refusal.TheVariants.{OutOfMemory}
@@ -13,16 +12,8 @@ use Rattle.coord_ledger.specs.declared.events.Answer.{Answer}
 use Rattle.coord_ledger.specs.declared.events.Answer.TheVariants.{Accepted, Begun, Committed, Finished, Nothing, Opened, Refused, Repeated}
 use Rattle.coord_ledger.specs.declared.events.Event.{Event}
 use Rattle.coord_ledger.specs.declared.events.Event.TheVariants as event
-use Rattle.coord_ledger.specs.machine.After.{after_submit}
-use Rattle.coord_ledger.specs.machine.Answers.{IsOneOf, kept_by, next_size, stays_home, to_submit, verdict_on}
-use Rattle.coord_ledger.specs.machine.Log.{accepted_count, front_world, settled_count, with_step}
-use Rattle.coord_ledger.specs.machine.Machine.{Machine}
-use Rattle.coord_ledger.specs.machine.Runs.{Answered}
-use Rattle.coord_drill.specs.Answered.{Responds, asked_lines}
-use Rattle.coord_drill.specs.Asked.{asked}
-use Rattle.coord_drill.specs.Drill.{DrillState, after_asked, flight_events, line_events, machine_of, step_events}
-use Rattle.coord_drill.specs.Drilled.{LineResponds, Prints, UnlessSkipped, asked_by, is_skipped}
-use Rattle.coord_drill.specs.Printed.{bad_line}
+use Rattle.coord_ledger.specs.Facade.{Answered, IsOneOf, Machine, accepted_count, after_submit, front_world, kept_by, next_size, settled_count, stays_home, to_submit, verdict_on, with_step}
+use Rattle.coord_drill.specs.Facade.{DrillState, LineResponds, Prints, Responds, UnlessSkipped, after_asked, asked, asked_by, asked_lines, bad_line, flight_events, is_skipped, line_events, machine_of, step_events}
 use Rattle.coord_drill.specs.declared.asked.Asked.{Asked}
 use Rattle.coord_drill.specs.declared.asked.Asked.TheVariants as ask
 use Rattle.coord_drill.specs.declared.request.Request.{Request}

@@ -1,8 +1,7 @@
 -- A run of the driver's events goes on, over a disk in memory.
-use Rattle.std.proofs.Common.{◌≡◌, ◌≢◌, ℕ, Bool, true, false, List, [], ◌∷◌, ◌++◌, Option, Some, Result, Ok, Err, IfOk, refl, sym, ◌∙◌, subst, append_assoc}
+use Rattle.std.proofs.Common.{◌≡◌, ◌≢◌, ℕ, Bool, true, false, List, [], ◌∷◌, ◌++◌, Option, Some, Result, Ok, Err, IfOk, refl, sym, ◌∙◌, subst, append_assoc, OnOk}
 use Rattle.std.proofs.lemmas.Bool.{false≢true}
 use Rattle.std.specs.List.{AllByRecursion}
-use Rattle.std.specs.Prelude.{OnOk}
 use Rattle.coord_disk.specs.Disks.History.{LeftSince}
 use Rattle.coord_disk.specs.Disks.Memory.{CrashesByChoice, clock_of, past_of, present_of}
 use Rattle.coord_disk.specs.Disks.MemoryLaws.{only_now}
@@ -14,23 +13,12 @@ use Rattle.coord_world.specs.protocol.Outputs.{again}
 use Rattle.coord_ledger.specs.declared.events.Answer.{Answer}
 use Rattle.coord_ledger.specs.declared.events.Answer.TheVariants.{Refused}
 use Rattle.coord_ledger.specs.declared.events.Event.{Event}
-use Rattle.coord_ledger.specs.ledger.Driven.{Beside, Driven, disk_driven, held}
-use Rattle.coord_ledger.specs.ledger.Driver.{HeldSurvives, HeldTouches}
-use Rattle.coord_ledger.specs.ledger.Follows.{Follows, FollowsTo}
-use Rattle.coord_ledger.specs.ledger.State.{LedgerState, started}
-use Rattle.coord_ledger.specs.machine.Consistent.{EventInRange, IsConsistent}
-use Rattle.coord_ledger.specs.machine.Log.{front_world, settled_world}
-use Rattle.coord_ledger.specs.machine.Machine.{Machine}
-use Rattle.coord_ledger.specs.machine.Runs.{run as after_run}
-use Rattle.coord_ledger.specs.promises.Headline.{found_by_crash, is_crash}
-use Rattle.coord_ledger.specs.promises.Moments.{touches_disk}
+use Rattle.coord_ledger.specs.Facade.{Beside, Driven, EventInRange, Follows, FollowsTo, HeldSurvives, HeldTouches, IsConsistent, LedgerState, Machine, disk_driven, found_by_crash, front_world, held, is_crash, run as after_run, settled_world, started, touches_disk}
 use Rattle.coord_ledger.proofs.drives.Drives.{drives_on}
 use Rattle.coord_ledger.proofs.drives.EachMoment.{met_aside}
 use Rattle.coord_drill.specs.Answered.{IsAnswered, asked_lines, shown_lines}
 use Rattle.coord_drill.specs.Drill.{DrillState, after_asked, line_events}
-use Rattle.coord_drill.specs.Holding.{IsMade, IsReady, Tells, drill_of, state_of}
-use Rattle.coord_drill.specs.Moments.{Begins, Carries, GoesOn, GoesOnTo, IsRun, Moves, MovesFrom}
-use Rattle.coord_drill.specs.Printed.{fault_line, idle_line, output_lines, refusal_line}
+use Rattle.coord_drill.specs.Facade.{Begins, Carries, GoesOn, GoesOnTo, IsMade, IsReady, IsRun, Moves, MovesFrom, Tells, drill_of, fault_line, idle_line, output_lines, refusal_line, state_of}
 use Rattle.coord_drill.specs.declared.asked.Asked.{Asked}
 use Rattle.coord_drill.specs.declared.asked.Asked.TheVariants as ask
 use Rattle.coord_drill.specs.declared.asked.Asked.TheVariants.{Version2}

@@ -3,16 +3,9 @@ use Rattle.std.proofs.Common.{◌≡◌, ℕ, ◌+◌, ◌≤◌, Bool, true, fa
 use Rattle.std.specs.Option.{option_map}
 use Rattle.coord_disk.specs.declared.memory.MemDisk.{MemDisk}
 use Rattle.coord_ledger.specs.declared.events.Answer.TheVariants.{Opened}
-use Rattle.coord_ledger.specs.ledger.Driven.{Driven, IsLeftByCrash, disk_driven}
-use Rattle.coord_ledger.specs.ledger.Driver.{disk_with}
-use Rattle.coord_ledger.specs.ledger.Follows.{flight_out}
-use Rattle.coord_ledger.specs.ledger.State.{Claim, started}
-use Rattle.coord_ledger.specs.machine.Answers.{IsOneOf, kept_by}
-use Rattle.coord_ledger.specs.machine.Consistent.{DoubtFits, IsConsistent}
-use Rattle.coord_ledger.specs.machine.Log.{log_over, settled_count, world_after}
+use Rattle.coord_ledger.specs.Facade.{Claim, DoubtFits, Driven, IsConsistent, IsLeftByCrash, IsOneOf, disk_driven, disk_with, flight_out, kept_by, log_over, settled_count, started, world_after}
 use Rattle.coord_ledger.proofs.machine.Logs.{count_after}
-use Rattle.coord_drill.specs.Drill.{after_asked}
-use Rattle.coord_drill.specs.Holding.{IsHeld, drill_of}
+use Rattle.coord_drill.specs.Facade.{IsHeld, after_asked, drill_of}
 use Rattle.coord_drill.specs.declared.asked.Asked.TheVariants.{Crash}
 use Rattle.coord_drill.proofs.does.Does.{crash_after, new_held}
 

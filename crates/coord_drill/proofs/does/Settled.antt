@@ -1,22 +1,16 @@
 -- What a flight settles: of each step the reply and the releases, in order, and the tickets behind.
-use Rattle.std.proofs.Common.{◌≡◌, ℕ, zero, suc, ◌+◌, ◌≤◌, ◌==◌, true, cond, List, [], ◌∷◌, ◌++◌, map, length, take, drop, Some, refl, sym, ap, ◌∙◌, subst, append-nil, append_assoc, arith, inl}
+use Rattle.std.proofs.Common.{◌≡◌, ℕ, zero, suc, ◌+◌, ◌≤◌, ◌==◌, true, cond, List, [], ◌∷◌, ◌++◌, map, length, take, drop, Some, refl, sym, ap, ◌∙◌, subst, append-nil, append_assoc, arith, inl, nat_le, slice_get}
 use Rattle.std.proofs.lemmas.Bool.Decides.{nat_tests}
 use Rattle.std.proofs.lemmas.List.{length-take}
 use Rattle.std.proofs.Math.Seq.{take-append_seam}
 use Rattle.std.specs.List.{AllByRecursion}
-use Rattle.std.specs.Prelude.{nat_le, slice_get}
 use Rattle.coord_types.specs.declared.outputs.Output.{Output}
 use Rattle.coord_types.specs.declared.steps.Step.{Step}
 use Rattle.coord_world.proofs.Facade.{by_test, fold-append, fold_counts, same_version}
-use Rattle.coord_world.specs.protocol.Next.{fold, next, reply}
-use Rattle.coord_world.specs.protocol.NumberedWorld.{World}
-use Rattle.coord_world.specs.protocol.Outputs.{again, outputs, outs}
+use Rattle.coord_world.specs.Facade.{World, again, fold, next, outputs, outs, reply}
 use Rattle.coord_ledger.specs.declared.release.Release.{Release}
-use Rattle.coord_ledger.specs.ledger.State.{Claim, IsCollectable, IsGranted}
-use Rattle.coord_ledger.specs.machine.After.{release_of, releases_of, resent}
-use Rattle.coord_ledger.specs.machine.Log.{Log, settled_world}
-use Rattle.coord_drill.specs.Holding.{behind, claims_of, collected_lines, left, released_lines, waiting}
-use Rattle.coord_drill.specs.Printed.{output_line, output_lines, reply_line, settled_lines}
+use Rattle.coord_ledger.specs.Facade.{Claim, IsCollectable, IsGranted, Log, release_of, releases_of, resent, settled_world}
+use Rattle.coord_drill.specs.Facade.{behind, claims_of, collected_lines, left, output_line, output_lines, released_lines, reply_line, settled_lines, waiting}
 
 -- ---- the releases of one step
 

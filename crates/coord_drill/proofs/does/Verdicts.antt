@@ -1,10 +1,8 @@
 -- A ledger never says to a step that memory lacks, and which answers do not tell so.
-use Rattle.std.proofs.Common.{◌≡◌, ◌≢◌, Bool, true, false, cond, [], ◌∷◌, Option, Some, None, Result, Ok, Err, refl, sym, ap, ◌∙◌}
+use Rattle.std.proofs.Common.{◌≡◌, ◌≢◌, Bool, true, false, cond, [], ◌∷◌, Option, Some, None, Result, Ok, Err, refl, sym, ap, ◌∙◌, ◌==◌, ◌&&◌}
 use Rattle.std.proofs.lemmas.Bool.{false≢true}
 use Rattle.std.specs.List.{AllByRecursion}
-use Rattle.std.specs.Prelude.{◌==◌, ◌&&◌}
-use Rattle.coord_types.specs.Command.{same_command}
-use Rattle.coord_types.specs.Table.{get}
+use Rattle.coord_types.specs.Facade.{get, same_command}
 use Rattle.coord_types.specs.declared.refusals.Refusal.{Refusal}
 use Rattle.coord_types.specs.declared.refusals.Refusal.TheVariants.{Exhausted, OutOfMemory}
 use Rattle.coord_types.specs.declared.steps.Command.{Command}
@@ -16,12 +14,10 @@ use Rattle.coord_link.specs.LaneMachine.{Lane, Tests, refused_or}
 use Rattle.coord_world.proofs.Facade.{by_test}
 use Rattle.coord_world.specs.declared.verdicts.Verdict.{Verdict}
 use Rattle.coord_world.specs.declared.verdicts.Verdict.TheVariants.{Fresh, Repeat}
-use Rattle.coord_world.specs.protocol.Acceptance.{accepts, against, against_command, against_data, against_receipt, is_exhausted, judged, lane, or_repeat}
-use Rattle.coord_world.specs.protocol.NumberedWorld.{World}
+use Rattle.coord_world.specs.Facade.{World, accepts, against, against_command, against_data, against_receipt, is_exhausted, judged, lane, or_repeat}
 use Rattle.coord_ledger.specs.declared.events.Answer.{Answer}
 use Rattle.coord_ledger.specs.declared.events.Answer.TheVariants.{Refused}
-use Rattle.coord_ledger.specs.machine.Log.{Log, front_world, settled_world}
-use Rattle.coord_ledger.specs.machine.Submits.{is_full, unless_full, verdict}
+use Rattle.coord_ledger.specs.Facade.{Log, front_world, is_full, settled_world, unless_full, verdict}
 
 -- Tests that compute stand for what differs from want of memory: with a world in scope `cc` costs a second each time.
 abbrev is_memory : Refusal → Bool

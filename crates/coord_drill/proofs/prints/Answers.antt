@@ -1,7 +1,6 @@
 -- What one read and one write did, by what is told of their answers.
-use Rattle.std.proofs.Common.{◌≡◌, inl, inr, ℕ, ◌≤◌, List, [], length, take, Option, Some, None, Result, Ok, Err, sym, ◌∙◌, subst, append-nil, arith}
+use Rattle.std.proofs.Common.{◌≡◌, inl, inr, ℕ, ◌≤◌, List, [], length, take, Option, Some, None, Result, Ok, Err, sym, ◌∙◌, subst, append-nil, arith, MatchResult}
 use Rattle.std.proofs.KnownBytes.{Appends-kept, Appends-nil}
-use Rattle.std.specs.Prelude.{MatchResult}
 use Rattle.std.specs.Io.{ReadsAtMost, WritesAtMost}
 use Rattle.std.specs.Io.KnownBytes.{Appends, Keeps, ReadConsumes, WriteAppends}
 use Rattle.coord_drill.specs.Faults.{TellsOfWrite}

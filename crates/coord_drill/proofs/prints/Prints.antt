@@ -5,9 +5,7 @@ use Rattle.std.proofs.KnownBytes.{Appends-trans, Consumes-trans, Consumes-whole}
 use Rattle.coord_lines.specs.Lines.{Line, extended, lines_on, before_line_feed, behind_line_feed, IsWithin}
 use Rattle.coord_lines.proofs.LinesOn.{lines_on-ended, lines_on-unended, extended-nothing}
 use Rattle.coord_drill.specs.declared.fault.Fault.{Fault}
-use Rattle.coord_drill.specs.Drill.{DrillState}
-use Rattle.coord_drill.specs.Drilled.{LineResponds, Prints, WritesFirstPart}
-use Rattle.coord_drill.specs.Faults.{IsOfDisk, IsOfWork, IsOfWriting, MayEndBy}
+use Rattle.coord_drill.specs.Facade.{DrillState, IsOfDisk, IsOfWork, IsOfWriting, LineResponds, MayEndBy, Prints, WritesFirstPart}
 use Rattle.coord_drill.proofs.prints.FirstParts.{first_part-longer, first_part-none}
 use Rattle.coord_drill.proofs.does.LineResponds.{line_somehow}
 

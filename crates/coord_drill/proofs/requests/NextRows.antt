@@ -1,6 +1,5 @@
 -- The rows of commands, read as orders of the operator.
-use Rattle.std.proofs.Common.{◌≡◌, Bool, true, false, cond, List, [], ◌∷◌, Some, map, refl}
-use Rattle.std.specs.Prelude.{bytes_eq}
+use Rattle.std.proofs.Common.{◌≡◌, Bool, true, false, cond, List, [], ◌∷◌, Some, map, refl, bytes_eq}
 use Rattle.coord_types.specs.declared.steps.Command.{Command}
 use Rattle.coord_drill.specs.declared.request.Request.TheVariants.{Next}
 use Rattle.coord_drill.specs.Format.{◌>>=◌, Read, Row, Word, read_by}

@@ -1,6 +1,5 @@
 //! What is said to tickets, and what is shown and sent again.
 
-ghost use Rattle.std.specs.Prelude.{◌≡◌};
 ghost use Rattle.coord_engine.specs.Calls.{CollectsAs};
 
 use super::Guarded;

@@ -1,22 +1,14 @@
 -- What a driver makes of each event follows the event machine.
-use Rattle.std.proofs.Common.{◌≡◌, ℕ, ◌≤◌, Bool, true, false, length, Some, Ok, Err, refl, sym, ap, ◌∙◌, subst}
-use Rattle.std.specs.Prelude.{Result, MatchResult, OnErr, IfOk, is_err, is_some}
+use Rattle.std.proofs.Common.{◌≡◌, ℕ, ◌≤◌, Bool, true, false, length, Some, Ok, Err, refl, sym, ap, ◌∙◌, subst, Result, MatchResult, OnErr, IfOk, is_err, is_some}
 use Rattle.std.proofs.lemmas.List.{length-map}
 use Rattle.coord_types.specs.declared.refusals.Refusal.{Refusal}
 use Rattle.coord_types.specs.declared.refusals.Refusal.TheVariants as why
 use Rattle.coord_types.specs.declared.refusals.Refusal.TheVariants.{OutOfMemory, Stopped}
-use Rattle.coord_world.specs.protocol.NumberedWorld.{World}
-use Rattle.coord_world.specs.protocol.Outputs.{again}
+use Rattle.coord_world.specs.Facade.{World, again}
 use Rattle.coord_ledger.specs.declared.events.Answer.{Answer}
 use Rattle.coord_ledger.specs.declared.events.Answer.TheVariants.{Refused, Shown}
 use Rattle.coord_ledger.specs.declared.events.Event.TheVariants.{Finish, Show}
-use Rattle.coord_ledger.specs.ledger.Calls.{RefusesFlight}
-use Rattle.coord_ledger.specs.ledger.Follows.{Follows, FollowsTo, Held, HoldsFlight}
-use Rattle.coord_ledger.specs.ledger.State.{FlightState}
-use Rattle.coord_ledger.specs.machine.After.{release_of, resent}
-use Rattle.coord_ledger.specs.machine.Consistent.{IsConsistent}
-use Rattle.coord_ledger.specs.machine.Log.{accepted_count, settled_count, settled_world}
-use Rattle.coord_ledger.specs.machine.Machine.{Machine}
+use Rattle.coord_ledger.specs.Facade.{FlightState, Follows, FollowsTo, Held, HoldsFlight, IsConsistent, Machine, RefusesFlight, accepted_count, release_of, resent, settled_count, settled_world}
 use Rattle.coord_view.specs.Shown as view
 use Rattle.coord_ledger.proofs.follows.FollowsFlights.{follows_not_finished}
 use Rattle.coord_ledger.proofs.follows.FollowsTickets.{follows_not_shown, follows_shown, follows_unshown, never_behind}

@@ -1,6 +1,5 @@
 -- A run that ends early: at an event, or behind the last one.
-use Rattle.std.proofs.Common.{◌≡◌, ◌⊎◌, ℕ, ◌<◌, Bool, true, List, [], ◌∷◌, length, take, get_or, Some, refl, sym, ap, ◌∙◌, subst, arith, inl, inr}
-use Rattle.std.specs.Prelude.{slice_get}
+use Rattle.std.proofs.Common.{◌≡◌, ◌⊎◌, ℕ, ◌<◌, Bool, true, List, [], ◌∷◌, length, take, get_or, Some, refl, sym, ap, ◌∙◌, subst, arith, inl, inr, slice_get}
 use Rattle.std.proofs.Math.Seq.{take-length}
 use Rattle.std.proofs.lemmas.Option.{slice_get_past, slice_get_within}
 use Rattle.coord_disk.specs.Model.Present.{Present}
@@ -10,14 +9,7 @@ use Rattle.coord_ledger.specs.declared.events.Event.TheVariants.{Crash}
 use Rattle.coord_ledger.specs.declared.release.Release.{Release}
 use Rattle.coord_ledger.specs.declared.trace.RunFaultKind.{RunFaultKind}
 use Rattle.coord_ledger.specs.declared.trace.RunFaultKind.TheVariants.{OutOfMemory, Store}
-use Rattle.coord_ledger.specs.ledger.Driver.{Drives, IsEventFault, IsLost, IsPromised, disk_held, model_of}
-use Rattle.coord_ledger.specs.ledger.Follows.{Follows, Held}
-use Rattle.coord_ledger.specs.ledger.State.{LedgerState, started}
-use Rattle.coord_ledger.specs.machine.Consistent.{IsConsistent}
-use Rattle.coord_ledger.specs.machine.Machine.{Machine}
-use Rattle.coord_ledger.specs.machine.Runs.{Answered, run}
-use Rattle.coord_ledger.specs.promises.Headline.{Broke, EachMoment, HasCause, IsCutShort, Promised, Survives}
-use Rattle.coord_ledger.specs.promises.Moments.{Reopens}
+use Rattle.coord_ledger.specs.Facade.{Answered, Broke, Drives, EachMoment, Follows, HasCause, Held, IsConsistent, IsCutShort, IsEventFault, IsLost, IsPromised, LedgerState, Machine, Promised, Reopens, Survives, disk_held, model_of, run, started}
 use Rattle.coord_ledger.proofs.drives.CutShort.{cut_before}
 use Rattle.coord_ledger.proofs.drives.Drives.{Underway, event_promised, event_there, model_there, same_model}
 

@@ -1,6 +1,5 @@
 -- An event that is cut short: each event has an answer that releases nothing.
-use Rattle.std.proofs.Common.{◌≡◌, ℕ, ◌+◌, List, [], ◌∷◌, ◌++◌, Option, Some, None, Ok, Err, refl, sym, ap, ◌∙◌, subst, append-nil, cond, inl, inr}
-use Rattle.std.specs.Prelude.{Result, is_some, map, nat_le}
+use Rattle.std.proofs.Common.{◌≡◌, ℕ, ◌+◌, List, [], ◌∷◌, ◌++◌, Option, Some, None, Ok, Err, refl, sym, ap, ◌∙◌, subst, append-nil, cond, inl, inr, Result, is_some, map, nat_le}
 use Rattle.coord_types.specs.declared.refusals.Refusal.TheVariants.{OutOfMemory, Stopped}
 use Rattle.coord_types.specs.declared.refusals.Refusal.{Refusal}
 use Rattle.coord_types.specs.declared.steps.Reply.{Reply}
@@ -16,13 +15,8 @@ use Rattle.coord_ledger.specs.declared.events.Event.TheVariants.{Submit, Begin, 
 use Rattle.coord_ledger.specs.declared.mark.Mark.{Mark}
 use Rattle.coord_ledger.specs.declared.mark.Mark.TheVariants.{New, Good, Torn}
 use Rattle.coord_ledger.specs.declared.release.Release.{Release}
-use Rattle.coord_ledger.specs.ledger.Follows.{Follows, FollowsTo, Held}
-use Rattle.coord_ledger.specs.machine.After.{after, after_finish, after_submit, finished}
-use Rattle.coord_ledger.specs.machine.Answers.{IsOneOf, answers, kept, kept_by, kept_with, next_size, stays_home, ticket, to_collect, to_commit, to_finish, to_submit, verdict_on, with_flight}
-use Rattle.coord_ledger.specs.machine.Log.{accepted_count, settled_count, settled_world}
-use Rattle.coord_ledger.specs.machine.Machine.{FlightOut, Machine, has_stopped}
+use Rattle.coord_ledger.specs.Facade.{FlightOut, Follows, FollowsTo, Held, IsCutShort, IsOneOf, Machine, accepted_count, after, after_finish, after_submit, answers, finished, has_stopped, kept, kept_by, kept_with, next_size, settled_count, settled_world, stays_home, ticket, to_collect, to_commit, to_finish, to_submit, verdict_on, with_flight}
 use Rattle.coord_view.specs.Shown.{shown}
-use Rattle.coord_ledger.specs.promises.Headline.{IsCutShort}
 
 -- an answer that releases nothing
 record Silent (s : Machine) (e : Event) : Type 0 where

@@ -1,24 +1,13 @@
 -- A run of events, from its first to its last: what a driver keeps before each event.
-use Rattle.std.proofs.Common.{◌≡◌, ◌⊎◌, ℕ, ◌+◌, ◌-◌, ◌<◌, Bool, true, false, List, [], ◌∷◌, ◌++◌, ◌≤◌, length, take, get_or, zero, suc, None, Some, refl, sym, ap, ◌∙◌, subst, arith, inl, inr}
+use Rattle.std.proofs.Common.{◌≡◌, ◌⊎◌, ℕ, ◌+◌, ◌-◌, ◌<◌, Bool, true, false, List, [], ◌∷◌, ◌++◌, ◌≤◌, length, take, get_or, zero, suc, None, Some, refl, sym, ap, ◌∙◌, subst, arith, inl, inr, IfSome, Option, slice_get}
 use Rattle.std.specs.List.{AllByRecursion}
 use Rattle.std.specs.Option.{option_map}
-use Rattle.std.specs.Prelude.{IfSome, Option, slice_get}
 use Rattle.std.proofs.lemmas.Option.{slice_get_read}
 use Rattle.coord_disk.specs.Model.Present.{Present}
 use Rattle.coord_store.proofs.Freshness.{take-push}
 use Rattle.coord_ledger.specs.declared.events.Answer.{Answer}
 use Rattle.coord_ledger.specs.declared.events.Event.{Event}
-use Rattle.coord_ledger.specs.ledger.Driven.{Driven, held, nothing_beside}
-use Rattle.coord_ledger.specs.ledger.Driver.{Drives, HeldSurvives, HeldTouches, IsPromised, disk_held, disk_with, model_of}
-use Rattle.coord_ledger.specs.ledger.Follows.{Follows, FollowsTo, Held, HoldsFlight, HoldsTickets, flight_out}
-use Rattle.coord_ledger.specs.ledger.State.{LedgerState, started}
-use Rattle.coord_ledger.specs.machine.After.{after}
-use Rattle.coord_ledger.specs.machine.Consistent.{DoubtFits, EventInRange, IsConsistent, IsConsistentLog}
-use Rattle.coord_ledger.specs.machine.Log.{Log}
-use Rattle.coord_ledger.specs.machine.Machine.{Machine}
-use Rattle.coord_ledger.specs.machine.Runs.{Answered, run}
-use Rattle.coord_ledger.specs.promises.Headline.{CrashPrefix, EachMoment, Promised, Touches, found_by_crash, is_crash}
-use Rattle.coord_ledger.specs.promises.Moments.{touches_disk}
+use Rattle.coord_ledger.specs.Facade.{Answered, CrashPrefix, DoubtFits, Driven, Drives, EachMoment, EventInRange, Follows, FollowsTo, Held, HeldSurvives, HeldTouches, HoldsFlight, HoldsTickets, IsConsistent, IsConsistentLog, IsPromised, LedgerState, Log, Machine, Promised, Touches, after, disk_held, disk_with, flight_out, found_by_crash, held, is_crash, model_of, nothing_beside, run, started, touches_disk}
 use Rattle.coord_ledger.proofs.machine.Consistent.{run_goes_on, stays_consistent}
 use Rattle.coord_ledger.proofs.drives.EachMoment.{moments_on}
 

@@ -1,6 +1,5 @@
 -- What a crash may leave at each moment of an event, and of a run.
-use Rattle.std.proofs.Common.{◌≡◌, ◌⊎◌, ℕ, ◌+◌, Bool, true, false, List, [], ◌∷◌, ◌++◌, length, Some, None, Result, Ok, Err, refl, sym, ap, ◌∙◌, subst, inl, inr}
-use Rattle.std.specs.Prelude.{IfSome, IsErrOf, MatchResult}
+use Rattle.std.proofs.Common.{◌≡◌, ◌⊎◌, ℕ, ◌+◌, Bool, true, false, List, [], ◌∷◌, ◌++◌, length, Some, None, Result, Ok, Err, refl, sym, ap, ◌∙◌, subst, inl, inr, IfSome, IsErrOf, MatchResult}
 use Rattle.std.specs.Option.{option_map}
 use Rattle.coord_disk.specs.Model.Moments.{LeavesOnly}
 use Rattle.coord_disk.specs.Model.Present.{Present, IsImage}
@@ -16,18 +15,7 @@ use Rattle.coord_ledger.specs.declared.events.Event.TheVariants.{Submit, Begin, 
 use Rattle.coord_ledger.specs.declared.mark.Mark.{Mark}
 use Rattle.coord_ledger.specs.declared.mark.Mark.TheVariants.{New, Good, Torn}
 use Rattle.coord_ledger.specs.laws.Commits.{CommitIsSafe}
-use Rattle.coord_ledger.specs.ledger.Driver.{HeldSurvives, HeldTouches, IsLost, IsReopened, disk_held, disk_with}
-use Rattle.coord_ledger.specs.ledger.Calls.{FlightGives, GivesFlown, LedgerGives}
-use Rattle.coord_ledger.specs.ledger.Follows.{Follows, GivesOneOf, Held, HoldsFlight, IsOut, flight_out}
-use Rattle.coord_ledger.specs.ledger.State.{FlightState, LedgerState}
-use Rattle.coord_ledger.specs.machine.After.{after, marked}
-use Rattle.coord_ledger.specs.machine.Answers.{IsOneOf, answers, kept, kept_by, to_commit, with_flight}
-use Rattle.coord_ledger.specs.machine.Consistent.{IsConsistent}
-use Rattle.coord_ledger.specs.machine.Log.{world_after}
-use Rattle.coord_ledger.specs.machine.Machine.{FlightOut, Machine}
-use Rattle.coord_ledger.specs.machine.Runs.{run}
-use Rattle.coord_ledger.specs.promises.Headline.{CrashPrefix, EachMoment, IsSafe, Survives, Touches, found_by_crash, is_crash}
-use Rattle.coord_ledger.specs.promises.Moments.{LeavesWithin, Reopens, touches_disk}
+use Rattle.coord_ledger.specs.Facade.{CrashPrefix, EachMoment, FlightGives, FlightOut, FlightState, Follows, GivesFlown, GivesOneOf, Held, HeldSurvives, HeldTouches, HoldsFlight, IsConsistent, IsLost, IsOneOf, IsOut, IsReopened, IsSafe, LeavesWithin, LedgerGives, LedgerState, Machine, Reopens, Survives, Touches, after, answers, disk_held, disk_with, flight_out, found_by_crash, is_crash, kept, kept_by, marked, run, to_commit, touches_disk, with_flight, world_after}
 use Rattle.coord_ledger.proofs.follows.FollowsCalls.{flight_gives, ledger_images}
 use Rattle.coord_ledger.proofs.machine.Consistent.{stays_consistent}
 use Rattle.coord_ledger.proofs.follows.FollowsCrashes.{given_follows}

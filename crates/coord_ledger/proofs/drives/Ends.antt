@@ -1,7 +1,6 @@
 -- The end of a run: the flight that was out has come back, and the headline holds.
-use Rattle.std.proofs.Common.{◌≡◌, ℕ, ◌++◌, Bool, true, List, Option, Some, None, refl, sym, ap, ◌∙◌, subst}
+use Rattle.std.proofs.Common.{◌≡◌, ℕ, ◌++◌, Bool, true, List, Option, Some, None, refl, sym, ap, ◌∙◌, subst, IfSome, length, take}
 use Rattle.std.specs.Option.{option_map}
-use Rattle.std.specs.Prelude.{IfSome, length, take}
 use Rattle.std.proofs.Math.Seq.{take-length}
 use Rattle.coord_disk.specs.Model.Present.{Present}
 use Rattle.coord_store.specs.Recovered.{Recovered}
@@ -10,17 +9,7 @@ use Rattle.coord_ledger.specs.declared.events.Event.{Event}
 use Rattle.coord_ledger.specs.declared.mark.Mark.{Mark}
 use Rattle.coord_ledger.specs.declared.mark.Mark.TheVariants.{New, Good, Torn}
 use Rattle.coord_ledger.specs.declared.release.Release.{Release}
-use Rattle.coord_ledger.specs.ledger.Calls.{LedgerGives, releases_in, taken_back}
-use Rattle.coord_ledger.specs.ledger.Driver.{Drives, brought_home, disk_held, disk_with}
-use Rattle.coord_ledger.specs.ledger.Follows.{Follows, Held, HoldsFlight, ImagesGive, flight_out}
-use Rattle.coord_ledger.specs.ledger.State.{FlightState, LedgerState, started}
-use Rattle.coord_ledger.specs.machine.After.{after_finish, finished}
-use Rattle.coord_ledger.specs.machine.Answers.{IsOneOf, kept, kept_by}
-use Rattle.coord_ledger.specs.machine.Consistent.{IsConsistent}
-use Rattle.coord_ledger.specs.machine.Log.{world_after}
-use Rattle.coord_ledger.specs.machine.Machine.{FlightOut, Machine}
-use Rattle.coord_ledger.specs.machine.Runs.{run}
-use Rattle.coord_ledger.specs.promises.Headline.{EachMoment, IsLeft, Promised, Ran, ended}
+use Rattle.coord_ledger.specs.Facade.{Drives, EachMoment, FlightOut, FlightState, Follows, Held, HoldsFlight, ImagesGive, IsConsistent, IsLeft, IsOneOf, LedgerGives, LedgerState, Machine, Promised, Ran, after_finish, brought_home, disk_held, disk_with, ended, finished, flight_out, kept, kept_by, releases_in, run, started, taken_back, world_after}
 use Rattle.coord_ledger.proofs.follows.FollowsCalls.{follows_returned, ledger_images}
 use Rattle.coord_ledger.proofs.drives.Drives.{Underway, same_model}
 use Rattle.coord_ledger.proofs.follows.FollowsCrashes.{images_follow}

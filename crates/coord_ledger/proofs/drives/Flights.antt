@@ -1,16 +1,11 @@
 -- What the calls of a ledger leave of its flight and its disk.
-use Rattle.std.proofs.Common.{◌≡◌, ◌⊎◌, Bool, true, false, length, take, Option, Some, None, Ok, Err, refl, sym, ap, ◌∙◌, subst, inl, inr}
-use Rattle.std.specs.Prelude.{Result, IfOk, IsSomeAnd, MatchResult}
+use Rattle.std.proofs.Common.{◌≡◌, ◌⊎◌, Bool, true, false, length, take, Option, Some, None, Ok, Err, refl, sym, ap, ◌∙◌, subst, inl, inr, Result, IfOk, IsSomeAnd, MatchResult}
 use Rattle.coord_types.specs.declared.limits.TheConstants.{MAX_BATCH_STEPS}
 use Rattle.coord_store.specs.declared.faults.CommitFault.{CommitFault}
 use Rattle.coord_store.specs.declared.faults.CommitFault.TheVariants as fault
 use Rattle.coord_ledger.specs.declared.events.Answer.TheVariants.{Failed}
 use Rattle.coord_ledger.specs.declared.mark.Mark.TheVariants.{New, Good, Torn}
-use Rattle.coord_ledger.specs.ledger.Calls.{keeps_store, next_flight, with_out}
-use Rattle.coord_ledger.specs.ledger.Driven.{CommitsTo, Driven, IsMarked}
-use Rattle.coord_ledger.specs.ledger.Follows.{IsOut}
-use Rattle.coord_ledger.specs.ledger.State.{FlightState, LedgerState}
-use Rattle.coord_ledger.specs.machine.Log.{pending}
+use Rattle.coord_ledger.specs.Facade.{CommitsTo, Driven, FlightState, IsMarked, IsOut, LedgerState, keeps_store, next_flight, pending, with_out}
 use Rattle.coord_ledger.proofs.follows.FollowsCalls.{next_is_out}
 use Rattle.coord_ledger.proofs.drives.EachMoment.{told}
 

@@ -1,6 +1,5 @@
 -- What a driver makes of any event, and of a crash.
-use Rattle.std.proofs.Common.{◌≡◌, ℕ, Bool, true, false, List, [], Option, Some, None, Ok, Err, refl, sym, ap, ◌∙◌, subst, inl, inr}
-use Rattle.std.specs.Prelude.{IfErr, IfOk, OnErr, Result}
+use Rattle.std.proofs.Common.{◌≡◌, ℕ, Bool, true, false, List, [], Option, Some, None, Ok, Err, refl, sym, ap, ◌∙◌, subst, inl, inr, IfErr, IfOk, OnErr, Result}
 use Rattle.std.specs.Option.{option_map}
 use Rattle.coord_disk.specs.Model.Present.{Present}
 use Rattle.coord_store.proofs.OneWorld.{recovered_is_one}
@@ -11,15 +10,7 @@ use Rattle.coord_ledger.specs.declared.events.Event.TheVariants.{Crash}
 use Rattle.coord_ledger.specs.declared.release.Release.{Release}
 use Rattle.coord_ledger.specs.declared.trace.RunFaultKind.{RunFaultKind}
 use Rattle.coord_ledger.specs.declared.trace.RunFaultKind.TheVariants.{OutOfMemory, Store}
-use Rattle.coord_ledger.specs.ledger.Driven.{Driven, IsLeftByCrash, at_home}
-use Rattle.coord_ledger.specs.ledger.Driver.{IsEventFault, IsPromised, IsReopenFault, IsReopened}
-use Rattle.coord_ledger.specs.ledger.Follows.{FollowsTo, Held, ImagesGive, flight_out}
-use Rattle.coord_ledger.specs.ledger.State.{LedgerState, ledger_over}
-use Rattle.coord_ledger.specs.machine.Answers.{kept, kept_by}
-use Rattle.coord_ledger.specs.machine.Consistent.{IsConsistent}
-use Rattle.coord_ledger.specs.machine.Log.{Log, settled_world, world_after}
-use Rattle.coord_ledger.specs.machine.Machine.{Machine}
-use Rattle.coord_ledger.specs.promises.Headline.{IsCutShort, wants_memory}
+use Rattle.coord_ledger.specs.Facade.{Driven, FollowsTo, Held, ImagesGive, IsConsistent, IsCutShort, IsEventFault, IsLeftByCrash, IsPromised, IsReopenFault, IsReopened, LedgerState, Log, Machine, at_home, flight_out, kept, kept_by, ledger_over, settled_world, wants_memory, world_after}
 use Rattle.coord_ledger.proofs.follows.FollowsCalls.{follows_crash}
 
 -- ---- the event that it was

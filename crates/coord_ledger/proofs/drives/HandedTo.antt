@@ -1,6 +1,5 @@
 -- What becomes of a step that is handed in.
-use Rattle.std.proofs.Common.{◌≡◌, ◌+◌, Option, Some, Ok, Err, sym, ap, ◌∙◌, subst, refl, ◌++◌, ◌∷◌, []}
-use Rattle.std.specs.Prelude.{Result, is_some}
+use Rattle.std.proofs.Common.{◌≡◌, ◌+◌, Option, Some, Ok, Err, sym, ap, ◌∙◌, subst, refl, ◌++◌, ◌∷◌, [], Result, is_some}
 use Rattle.coord_types.specs.declared.refusals.Refusal.{Refusal}
 use Rattle.coord_types.specs.declared.steps.Step.{Step}
 use Rattle.coord_world.specs.declared.verdicts.Verdict.{Verdict}
@@ -9,13 +8,7 @@ use Rattle.coord_ledger.specs.declared.events.Answer.TheVariants as answer
 use Rattle.coord_ledger.specs.declared.events.Event.TheVariants.{Submit}
 use Rattle.coord_ledger.specs.declared.handed.Handed.{Handed}
 use Rattle.coord_ledger.specs.declared.handed.Handed.TheVariants.{Accepted, Repeated}
-use Rattle.coord_ledger.specs.ledger.Calls.{HandedTo, RefusesStep, claimed, ledger_verdict, with_accepted}
-use Rattle.coord_ledger.specs.ledger.Driven.{Beside, answer_to, held, with_claim}
-use Rattle.coord_ledger.specs.ledger.Follows.{Follows, FollowsTo, Held, HoldsFlight}
-use Rattle.coord_ledger.specs.ledger.State.{Claim, FlightState, LedgerState}
-use Rattle.coord_ledger.specs.machine.Consistent.{IsConsistent, IsConsistentLog}
-use Rattle.coord_ledger.specs.machine.Log.{accepted_count}
-use Rattle.coord_ledger.specs.machine.Machine.{Machine}
+use Rattle.coord_ledger.specs.Facade.{Beside, Claim, FlightState, Follows, FollowsTo, HandedTo, Held, HoldsFlight, IsConsistent, IsConsistentLog, LedgerState, Machine, RefusesStep, accepted_count, answer_to, claimed, held, ledger_verdict, with_accepted, with_claim}
 use Rattle.coord_ledger.proofs.machine.ConsistentSteps.{reply_is}
 use Rattle.coord_ledger.proofs.follows.FollowsSteps.{follows_accepted, follows_no_room, follows_refused, follows_repeated, own_later}
 

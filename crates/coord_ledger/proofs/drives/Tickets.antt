@@ -1,9 +1,7 @@
 -- Tickets by their index, as they are collected and put back.
-use Rattle.std.proofs.Common.{◌≡◌, ℕ, zero, suc, ◌<◌, ◌≤◌, List, [], ◌∷◌, length, Option, None, refl, sym, ap, ◌∙◌, arith}
-use Rattle.std.specs.Prelude.{slice_set, slice_index_or}
+use Rattle.std.proofs.Common.{◌≡◌, ℕ, zero, suc, ◌<◌, ◌≤◌, List, [], ◌∷◌, length, Option, None, refl, sym, ap, ◌∙◌, arith, slice_set, slice_index_or}
 use Rattle.std.proofs.lemmas.List.{set-set, set-get_or}
-use Rattle.coord_ledger.specs.machine.After.{spent}
-use Rattle.coord_ledger.specs.machine.Answers.{ticket}
+use Rattle.coord_ledger.specs.Facade.{spent, ticket}
 
 pub ticket_past : {A : Type 0} (ts : List (Option A)) (i : ℕ) → length ts ≤ i → ticket ts i ≡ None
 ticket_past [] i past = refl

@@ -4,9 +4,7 @@ use Rattle.coord_node.specs.Steps.{kind}
 use Rattle.coord_types.specs.declared.steps.Reply.{Reply}
 use Rattle.coord_world.specs.protocol.NumberedWorld.{state}
 use Rattle.coord_ledger.specs.code.Holding.{kinds_of}
-use Rattle.coord_ledger.specs.ledger.State.{Claim, IsCollectable, IsInTrail, IsKeptBy}
-use Rattle.coord_ledger.specs.machine.Consistent.{IsConsistentLog}
-use Rattle.coord_ledger.specs.machine.Log.{Log, world_after}
+use Rattle.coord_ledger.specs.Facade.{Claim, IsCollectable, IsConsistentLog, IsInTrail, IsKeptBy, Log, world_after}
 use Rattle.coord_ledger.proofs.machine.ReplyKinds.{kinds_of-at}
 use Rattle.coord_ledger.proofs.machine.Logs.{count_after}
 

@@ -1,16 +1,9 @@
 -- The numbers and worlds of a ledger that follows the event machine are the machine's.
-use Rattle.std.proofs.Common.{◌≡◌, sym, ap, ◌∙◌, subst}
-use Rattle.std.specs.Prelude.{is_some}
+use Rattle.std.proofs.Common.{◌≡◌, sym, ap, ◌∙◌, subst, is_some}
 use Rattle.coord_types.specs.declared.steps.Step.{Step}
 use Rattle.coord_ledger.specs.declared.events.Answer.{Answer}
 use Rattle.coord_ledger.specs.declared.events.Event.{Event}
-use Rattle.coord_ledger.specs.ledger.Follows.{Follows, FollowsTo, Held}
-use Rattle.coord_ledger.specs.machine.After.{after}
-use Rattle.coord_ledger.specs.machine.Answers.{IsOneOf, answers, verdict_on}
-use Rattle.coord_ledger.specs.machine.Consistent.{IsConsistent, IsConsistentLog}
-use Rattle.coord_ledger.specs.machine.Log.{Log, accepted_count, pending, settled_count, settled_world}
-use Rattle.coord_ledger.specs.machine.Machine.{Machine, has_stopped}
-use Rattle.coord_ledger.specs.machine.Submits.{verdict}
+use Rattle.coord_ledger.specs.Facade.{Follows, FollowsTo, Held, IsConsistent, IsConsistentLog, IsOneOf, Log, Machine, accepted_count, after, answers, has_stopped, pending, settled_count, settled_world, verdict, verdict_on}
 use Rattle.coord_ledger.proofs.machine.Logs.{moved_accepted, moved_count, moved_is_consistent, moved_pending, moved_settled}
 use Rattle.coord_ledger.proofs.machine.Moved.{moved_verdict}
 

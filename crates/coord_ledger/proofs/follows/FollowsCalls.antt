@@ -5,22 +5,13 @@ use Rattle.coord_types.specs.declared.limits.TheConstants.{MAX_BATCH_STEPS}
 use Rattle.coord_disk.specs.Model.Present.{Present, IsImage}
 use Rattle.coord_store.proofs.OneWorld.{recovered_is_one}
 use Rattle.coord_store.specs.Recovered.{Recovered}
-use Rattle.coord_world.specs.protocol.Next.{fold}
-use Rattle.coord_world.specs.protocol.NumberedWorld.{World}
-use Rattle.coord_world.specs.protocol.Outputs.{outs}
+use Rattle.coord_world.specs.Facade.{World, fold, outs}
 use Rattle.coord_ledger.specs.declared.events.Answer.TheVariants.{Begun, Finished, Opened}
 use Rattle.coord_ledger.specs.declared.events.Event.TheVariants.{Begin, Finish, Crash}
 use Rattle.coord_ledger.specs.declared.mark.Mark.{Mark}
 use Rattle.coord_ledger.specs.declared.mark.Mark.TheVariants.{New, Good, Torn}
 use Rattle.coord_ledger.specs.declared.release.Release.{Release}
-use Rattle.coord_ledger.specs.ledger.Calls.{FlightGives, GivesFlown, GivesSettled, LedgerGives, keeps_store, next_flight, releases_in, taken_back, with_out}
-use Rattle.coord_ledger.specs.ledger.Follows.{Follows, FollowsTo, GivesOneOf, Held, ImagesGive, IsOut, flight_out}
-use Rattle.coord_ledger.specs.ledger.State.{FlightState, LedgerState, ledger_over}
-use Rattle.coord_ledger.specs.machine.After.{releases_of, settling_releases}
-use Rattle.coord_ledger.specs.machine.Answers.{kept, kept_by}
-use Rattle.coord_ledger.specs.machine.Consistent.{IsConsistent}
-use Rattle.coord_ledger.specs.machine.Log.{pending, settled_count, world_after}
-use Rattle.coord_ledger.specs.machine.Machine.{Machine}
+use Rattle.coord_ledger.specs.Facade.{FlightGives, FlightState, Follows, FollowsTo, GivesFlown, GivesOneOf, GivesSettled, Held, ImagesGive, IsConsistent, IsOut, LedgerGives, LedgerState, Machine, flight_out, keeps_store, kept, kept_by, ledger_over, next_flight, pending, releases_in, releases_of, settled_count, settling_releases, taken_back, with_out, world_after}
 use Rattle.coord_ledger.proofs.follows.FollowsCrashes.{follows_opened}
 use Rattle.coord_ledger.proofs.follows.FollowsFlights.{follows_begun, follows_good, follows_stopped, follows_unsettled}
 use Rattle.coord_ledger.proofs.machine.Logs.{world-add}

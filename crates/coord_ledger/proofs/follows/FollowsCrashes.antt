@@ -4,20 +4,13 @@ use Rattle.std.specs.Option.{option_map}
 use Rattle.std.proofs.lemmas.List.{take-take}
 use Rattle.coord_disk.specs.Model.Present.{Present}
 use Rattle.coord_store.specs.Recovered.{Recovered}
-use Rattle.coord_world.specs.protocol.Next.{fold}
-use Rattle.coord_world.specs.protocol.NumberedWorld.{World}
+use Rattle.coord_world.specs.Facade.{World, fold}
 use Rattle.coord_ledger.specs.declared.events.Answer.TheVariants.{Opened}
 use Rattle.coord_ledger.specs.declared.events.Event.TheVariants.{Crash}
 use Rattle.coord_ledger.specs.declared.mark.Mark.{Mark}
 use Rattle.coord_ledger.specs.declared.mark.Mark.TheVariants.{New, Good, Torn}
 use Rattle.coord_ledger.specs.declared.release.Release.{Release}
-use Rattle.coord_ledger.specs.ledger.Follows.{Follows, FollowsTo, GivesOneOf, Held, ImagesGive, flight_out}
-use Rattle.coord_ledger.specs.ledger.State.{ledger_over}
-use Rattle.coord_ledger.specs.machine.After.{crashed}
-use Rattle.coord_ledger.specs.machine.Answers.{IsOneOf, answers, kept, kept_by, kept_with}
-use Rattle.coord_ledger.specs.machine.Consistent.{IsConsistent}
-use Rattle.coord_ledger.specs.machine.Log.{Log, cut_to, log_over, moved, world_after}
-use Rattle.coord_ledger.specs.machine.Machine.{FlightOut, Machine}
+use Rattle.coord_ledger.specs.Facade.{FlightOut, Follows, FollowsTo, GivesOneOf, Held, ImagesGive, IsConsistent, IsOneOf, Log, Machine, answers, crashed, cut_to, flight_out, kept, kept_by, kept_with, ledger_over, log_over, moved, world_after}
 use Rattle.coord_ledger.proofs.machine.ConsistentFlights.{kept_more}
 use Rattle.coord_ledger.proofs.machine.Logs.{count_after, none_behind, world-add}
 

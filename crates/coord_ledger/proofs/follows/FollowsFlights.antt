@@ -1,6 +1,5 @@
 -- What a driver holds follows the event machine where a flight goes out and comes back.
-use Rattle.std.proofs.Common.{◌≡◌, ℕ, ◌+◌, false, true, List, [], ◌∷◌, ◌++◌, length, take, Option, Some, None, refl, sym, ap, ◌∙◌, subst, arith, inl, inr, cond}
-use Rattle.std.specs.Prelude.{◌||◌, ◌==◌, is_some, min}
+use Rattle.std.proofs.Common.{◌≡◌, ℕ, ◌+◌, false, true, List, [], ◌∷◌, ◌++◌, length, take, Option, Some, None, refl, sym, ap, ◌∙◌, subst, arith, inl, inr, cond, ◌||◌, ◌==◌, is_some, min}
 use Rattle.std.specs.Option.{option_map}
 use Rattle.coord_types.specs.declared.refusals.Refusal.TheVariants.{OutOfMemory}
 use Rattle.coord_world.specs.protocol.Outputs.{outs}
@@ -10,13 +9,7 @@ use Rattle.coord_ledger.specs.declared.events.Event.TheVariants.{Begin, Finish}
 use Rattle.coord_ledger.specs.declared.mark.Mark.{Mark}
 use Rattle.coord_ledger.specs.declared.mark.Mark.TheVariants.{New, Good, Torn}
 use Rattle.coord_ledger.specs.declared.release.Release.{Release}
-use Rattle.coord_ledger.specs.ledger.Follows.{Follows, FollowsTo, Held, HoldsFlight, HoldsTickets, IsOut, flight_out}
-use Rattle.coord_ledger.specs.ledger.State.{FlightState, LedgerState}
-use Rattle.coord_ledger.specs.machine.After.{after_finish, finished, releases_of, settling_releases}
-use Rattle.coord_ledger.specs.machine.Answers.{IsOneOf, answers, next_size, stays_home, to_finish, with_flight}
-use Rattle.coord_ledger.specs.machine.Consistent.{IsConsistent}
-use Rattle.coord_ledger.specs.machine.Log.{Log, settled_count, with_settled}
-use Rattle.coord_ledger.specs.machine.Machine.{Machine, has_stopped}
+use Rattle.coord_ledger.specs.Facade.{FlightState, Follows, FollowsTo, Held, HoldsFlight, HoldsTickets, IsConsistent, IsOneOf, IsOut, LedgerState, Log, Machine, after_finish, answers, finished, flight_out, has_stopped, next_size, releases_of, settled_count, settling_releases, stays_home, to_finish, with_flight, with_settled}
 use Rattle.coord_ledger.proofs.follows.Granted.{granted_settled, holds_later}
 use Rattle.coord_ledger.proofs.machine.Moved.{moved_more}
 use Rattle.coord_ledger.proofs.follows.Follows.{count_is, pending_is, settled_is, stays, stopped_is}

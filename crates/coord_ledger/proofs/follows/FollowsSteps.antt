@@ -1,6 +1,5 @@
 -- What a driver holds follows the event machine where a step is handed in.
-use Rattle.std.proofs.Common.{◌≡◌, ◌+◌, ◌≤◌, [], ◌∷◌, ◌++◌, length, take, Option, Some, None, Ok, Err, refl, sym, ap, ◌∙◌, subst, arith, inl, inr}
-use Rattle.std.specs.Prelude.{is_some, min}
+use Rattle.std.proofs.Common.{◌≡◌, ◌+◌, ◌≤◌, [], ◌∷◌, ◌++◌, length, take, Option, Some, None, Ok, Err, refl, sym, ap, ◌∙◌, subst, arith, inl, inr, is_some, min}
 use Rattle.std.proofs.lemmas.List.{length-take, take-append-le}
 use Rattle.coord_types.specs.declared.refusals.Refusal.{Refusal}
 use Rattle.coord_types.specs.declared.refusals.Refusal.TheVariants.{OutOfMemory}
@@ -11,15 +10,7 @@ use Rattle.coord_world.specs.declared.verdicts.Verdict.TheVariants.{Fresh, Repea
 use Rattle.coord_world.specs.protocol.Next.{fold}
 use Rattle.coord_ledger.specs.declared.events.Answer.TheVariants.{Accepted, Repeated, Refused}
 use Rattle.coord_ledger.specs.declared.events.Event.TheVariants.{Submit}
-use Rattle.coord_ledger.specs.ledger.Calls.{with_accepted}
-use Rattle.coord_ledger.specs.ledger.Follows.{Follows, FollowsTo, Held, HoldsFlight, HoldsTickets}
-use Rattle.coord_ledger.specs.ledger.State.{FlightState, LedgerState}
-use Rattle.coord_ledger.specs.machine.After.{after_submit}
-use Rattle.coord_ledger.specs.machine.Answers.{IsOneOf, to_submit, verdict_on}
-use Rattle.coord_ledger.specs.machine.Consistent.{IsConsistent, IsConsistentLog}
-use Rattle.coord_ledger.specs.machine.Log.{Log, accepted_count, pending, with_step}
-use Rattle.coord_ledger.specs.machine.Machine.{Machine}
-use Rattle.coord_ledger.specs.machine.Submits.{verdict}
+use Rattle.coord_ledger.specs.Facade.{FlightState, Follows, FollowsTo, Held, HoldsFlight, HoldsTickets, IsConsistent, IsConsistentLog, IsOneOf, LedgerState, Log, Machine, accepted_count, after_submit, pending, to_submit, verdict, verdict_on, with_accepted, with_step}
 use Rattle.coord_ledger.proofs.follows.Granted.{granted_later, granted_new, granted_repeat, holds_later, holds_push}
 use Rattle.coord_ledger.proofs.machine.Logs.{pending_with}
 use Rattle.coord_ledger.proofs.machine.Moved.{moved_step}

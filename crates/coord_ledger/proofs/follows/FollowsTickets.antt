@@ -1,6 +1,5 @@
 -- What a driver holds follows the event machine where replies are collected, packets sent again, and worlds shown.
-use Rattle.std.proofs.Common.{◌≡◌, ℕ, ◌≤◌, Bool, false, true, List, [], ◌∷◌, ◌++◌, length, Option, Some, None, refl, sym, ap, ◌∙◌, subst, arith, inl, inr, cond}
-use Rattle.std.specs.Prelude.{is_some, nat_le}
+use Rattle.std.proofs.Common.{◌≡◌, ℕ, ◌≤◌, Bool, false, true, List, [], ◌∷◌, ◌++◌, length, Option, Some, None, refl, sym, ap, ◌∙◌, subst, arith, inl, inr, cond, is_some, nat_le}
 use Rattle.std.proofs.lemmas.Bool.Decides.{nat_tests}
 use Rattle.coord_types.specs.declared.refusals.Refusal.TheVariants.{OutOfMemory, Stopped}
 use Rattle.coord_types.specs.declared.steps.Reply.{Reply}
@@ -9,13 +8,7 @@ use Rattle.coord_ledger.specs.declared.events.Answer.{Answer}
 use Rattle.coord_ledger.specs.declared.events.Answer.TheVariants.{Refused, NoTicket, Collected, Waiting, Resent, Shown}
 use Rattle.coord_ledger.specs.declared.events.Event.TheVariants.{Collect, Resend, Show}
 use Rattle.coord_ledger.specs.declared.release.Release.{Release}
-use Rattle.coord_ledger.specs.ledger.Follows.{Follows, FollowsTo, Held, HoldsTicket}
-use Rattle.coord_ledger.specs.ledger.State.{Claim, IsCollectable, IsGranted, reply_of}
-use Rattle.coord_ledger.specs.machine.After.{resent, spent}
-use Rattle.coord_ledger.specs.machine.Answers.{IsOneOf, answers, ticket, to_collect}
-use Rattle.coord_ledger.specs.machine.Consistent.{IsConsistent}
-use Rattle.coord_ledger.specs.machine.Log.{Log, accepted_count, settled_count, settled_world}
-use Rattle.coord_ledger.specs.machine.Machine.{Machine}
+use Rattle.coord_ledger.specs.Facade.{Claim, Follows, FollowsTo, Held, HoldsTicket, IsCollectable, IsConsistent, IsGranted, IsOneOf, Log, Machine, accepted_count, answers, reply_of, resent, settled_count, settled_world, spent, ticket, to_collect}
 use Rattle.coord_view.specs.Shown.{shown}
 use Rattle.coord_ledger.proofs.follows.Granted.{holds_at, holds_spent}
 use Rattle.coord_ledger.proofs.follows.Follows.{accepted_is, count_is, settled_is, stays, stopped_is}

@@ -1,12 +1,9 @@
 -- What steps gave out that are not settled.
-use Rattle.std.proofs.Common.{◌≡◌, ℕ, zero, suc, ◌+◌, ◌<◌, List, [], ◌∷◌, ◌++◌, map, length, take, drop, get_or, Vec, refl, sym, ap, ◌∙◌, append_assoc, append-nil, arith}
-use Rattle.std.specs.declared.alloc.Global.{Global}
+use Rattle.std.proofs.Common.{◌≡◌, ℕ, zero, suc, ◌+◌, ◌<◌, List, [], ◌∷◌, ◌++◌, map, length, take, drop, get_or, Vec, refl, sym, ap, ◌∙◌, append_assoc, append-nil, arith, Global}
 use Rattle.coord_store.proofs.Freshness.{take-push}
 use Rattle.coord_types.specs.declared.outputs.Output.{Output}
 use Rattle.coord_types.specs.declared.steps.Step.{Step}
-use Rattle.coord_world.specs.protocol.Next.{fold, next}
-use Rattle.coord_world.specs.protocol.NumberedWorld.{World}
-use Rattle.coord_world.specs.protocol.Outputs.{outputs, outs}
+use Rattle.coord_world.specs.Facade.{World, fold, next, outputs, outs}
 use Rattle.coord_ledger.specs.code.Holding.{listed, outputs_of, released_from}
 use Rattle.coord_ledger.specs.machine.After.{release_of, releases_of}
 

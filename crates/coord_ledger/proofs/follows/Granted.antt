@@ -1,6 +1,5 @@
 -- Tickets that are granted: they stay so, and a repeat's ticket is.
-use Rattle.std.proofs.Common.{◌≡◌, ℕ, zero, suc, ◌+◌, ◌<◌, Bool, List, [], ◌∷◌, ◌++◌, length, take, Option, Some, None, Ok, refl, sym, ap, ◌∙◌, arith, inl, inr}
-use Rattle.std.specs.Prelude.{slice_get}
+use Rattle.std.proofs.Common.{◌≡◌, ℕ, zero, suc, ◌+◌, ◌<◌, Bool, List, [], ◌∷◌, ◌++◌, length, take, Option, Some, None, Ok, refl, sym, ap, ◌∙◌, arith, inl, inr, slice_get}
 use Rattle.std.proofs.Math.Seq.{take-append_seam}
 use Rattle.std.proofs.lemmas.List.{take-append-le}
 use Rattle.std.proofs.lemmas.Option.{slice_get_within}
@@ -11,15 +10,8 @@ use Rattle.coord_types.specs.declared.steps.Step.{Step}
 use Rattle.coord_types.specs.declared.steps.Step.TheVariants.{Order}
 use Rattle.coord_world.proofs.Facade.{kept_reply_law}
 use Rattle.coord_world.specs.declared.verdicts.Verdict.TheVariants.{Fresh, Repeat}
-use Rattle.coord_world.specs.protocol.Next.{fold, next, reply}
-use Rattle.coord_world.specs.protocol.NumberedWorld.{World}
-use Rattle.coord_world.specs.protocol.Outputs.{StepOutcome, outs}
-use Rattle.coord_ledger.specs.ledger.Follows.{HoldsTicket, HoldsTickets}
-use Rattle.coord_ledger.specs.ledger.State.{Claim, IsGranted, reply_of}
-use Rattle.coord_ledger.specs.machine.After.{spent}
-use Rattle.coord_ledger.specs.machine.Answers.{ticket}
-use Rattle.coord_ledger.specs.machine.Log.{Log, accepted_count, with_settled, with_step}
-use Rattle.coord_ledger.specs.machine.Submits.{verdict}
+use Rattle.coord_world.specs.Facade.{StepOutcome, World, fold, next, outs, reply}
+use Rattle.coord_ledger.specs.Facade.{Claim, HoldsTicket, HoldsTickets, IsGranted, Log, accepted_count, reply_of, spent, ticket, verdict, with_settled, with_step}
 use Rattle.coord_ledger.proofs.machine.ConsistentSteps.{reply_is}
 use Rattle.coord_ledger.proofs.machine.Verdicts.{KeepsReply, verdict_repeats}
 

@@ -7,8 +7,7 @@ use Rattle.coord_batch.specs.Batches.{IsNumbered}
 use Rattle.coord_disk.specs.Model.Present.{Present, IsImage}
 use Rattle.coord_node.specs.Steps.{kind}
 use Rattle.coord_store.proofs.Freshness.{fold-push}
-use Rattle.coord_store.specs.Kept.{GivesEither, ImagesGive, Kept}
-use Rattle.coord_store.specs.Recovered.{AllFresh, Recovered}
+use Rattle.coord_store.specs.Facade.{AllFresh, GivesEither, ImagesGive, Kept, Recovered}
 use Rattle.coord_types.specs.declared.limits.TheConstants.{MAX_BATCH_STEPS}
 use Rattle.coord_types.specs.declared.outputs.Output.{Output}
 use Rattle.coord_types.specs.declared.steps.Kind.{Kind}
@@ -16,20 +15,11 @@ use Rattle.coord_types.specs.declared.steps.Step.{Step}
 use Rattle.coord_types.specs.declared.steps.Step.TheVariants.{Order, Take, Clear}
 use Rattle.coord_world.proofs.Facade.{fresh_number, itself, trail_keeps_worlds, verdict_fresh, verdict_kind}
 use Rattle.coord_world.specs.declared.verdicts.Verdict.TheVariants.{Fresh}
-use Rattle.coord_world.specs.protocol.Acceptance.{IsFresh}
-use Rattle.coord_world.specs.protocol.Legal.{Legal}
-use Rattle.coord_world.specs.protocol.Next.{fold, next}
-use Rattle.coord_world.specs.protocol.NumberedWorld.{World, state}
-use Rattle.coord_world.specs.protocol.Outputs.{outputs}
-use Rattle.coord_world.specs.protocol.Ranges.{StepInRange}
+use Rattle.coord_world.specs.Facade.{IsFresh, Legal, StepInRange, World, fold, next, outputs, state}
 use Rattle.coord_ledger.specs.code.Holding.{IsAway, IsCarried, IsFlight, IsHome, IsLedger, carried_torn, carried_world, disk_at, doubted, kinds_of, out_of, outputs_of}
 use Rattle.coord_ledger.specs.declared.mark.Mark.{Mark}
 use Rattle.coord_ledger.specs.declared.mark.Mark.TheVariants.{New, Good, Torn}
-use Rattle.coord_ledger.specs.ledger.Calls.{GivesFlown, GivesSettled}
-use Rattle.coord_ledger.specs.ledger.State.{FlightState}
-use Rattle.coord_ledger.specs.machine.Consistent.{FitsOut, IsConsistentLog}
-use Rattle.coord_ledger.specs.machine.Log.{Log, accepted_count, front_world, pending, settled_count, settled_world, with_settled, with_step, world_after}
-use Rattle.coord_ledger.specs.machine.Submits.{verdict}
+use Rattle.coord_ledger.specs.Facade.{FitsOut, FlightState, GivesFlown, GivesSettled, IsConsistentLog, Log, accepted_count, front_world, pending, settled_count, settled_world, verdict, with_settled, with_step, world_after}
 use Rattle.coord_ledger.proofs.follows.Given.{outputs_of-drop, outputs_of-push}
 use Rattle.coord_ledger.proofs.machine.ConsistentSteps.{accepted_stays}
 use Rattle.coord_ledger.proofs.machine.Verdicts.{verdict_accepts}

@@ -2,15 +2,11 @@
 use Rattle.std.proofs.Common.{[], ◌∷◌, refl, arith}
 use Rattle.std.specs.List.{AllByRecursion}
 use Rattle.std.proofs.lemmas.List.Elements.{All-nil}
-use Rattle.coord_world.specs.protocol.InTurn.{InTurn}
-use Rattle.coord_world.specs.protocol.Ranges.{StepInRange}
+use Rattle.coord_world.specs.Facade.{InTurn, StepInRange}
 use Rattle.coord_ledger.specs.declared.events.Event.{Event}
 use Rattle.coord_ledger.specs.declared.events.Event.TheVariants.{Submit, Begin, Commit, Finish, Collect, Resend, Show, Crash}
 use Rattle.coord_ledger.specs.laws.Laws.{AdoptedIsConsistent, RunGoesOn, RunIsConsistent, StaysConsistent}
-use Rattle.coord_ledger.specs.machine.After.{after}
-use Rattle.coord_ledger.specs.machine.Answers.{answers, kept, ticket, verdict_on}
-use Rattle.coord_ledger.specs.machine.Consistent.{EventInRange, IsConsistent}
-use Rattle.coord_ledger.specs.machine.Machine.{Machine}
+use Rattle.coord_ledger.specs.Facade.{EventInRange, IsConsistent, Machine, after, answers, kept, ticket, verdict_on}
 use Rattle.coord_ledger.proofs.machine.Lists.{each_one}
 use Rattle.coord_ledger.proofs.machine.ConsistentFlights.{all_begin, all_commit, all_crash, all_finish, all_keep_more}
 use Rattle.coord_ledger.proofs.machine.ConsistentSteps.{all_collect, all_show, all_submit, stays_again, ticket_fits}

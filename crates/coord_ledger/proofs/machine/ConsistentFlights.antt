@@ -1,6 +1,5 @@
 -- The machine stays consistent as flights go out and come back, and over a crash.
-use Rattle.std.proofs.Common.{◌≡◌, ℕ, ◌+◌, ◌-◌, ◌≤◌, false, List, [], ◌∷◌, map, length, Option, Some, None, refl, sym, subst, arith, cond}
-use Rattle.std.specs.Prelude.{is_some}
+use Rattle.std.proofs.Common.{◌≡◌, ℕ, ◌+◌, ◌-◌, ◌≤◌, false, List, [], ◌∷◌, map, length, Option, Some, None, refl, sym, subst, arith, cond, is_some}
 use Rattle.std.specs.List.{AllByRecursion}
 use Rattle.std.proofs.lemmas.Bool.Decides.{nat_tests}
 use Rattle.std.proofs.lemmas.List.{length-drop, take-take}
@@ -10,11 +9,7 @@ use Rattle.coord_ledger.specs.declared.events.Answer.TheVariants.{Begun, Nothing
 use Rattle.coord_ledger.specs.declared.events.Event.TheVariants.{Begin, Commit, Finish, Crash}
 use Rattle.coord_ledger.specs.declared.mark.Mark.{Mark}
 use Rattle.coord_ledger.specs.declared.mark.Mark.TheVariants.{New, Good, Torn}
-use Rattle.coord_ledger.specs.machine.After.{after, after_finish, crashed, finished, marked}
-use Rattle.coord_ledger.specs.machine.Answers.{IsOneOf, kept, kept_by, kept_with, next_size, stays_home, to_begin, to_commit, to_finish, with_flight}
-use Rattle.coord_ledger.specs.machine.Consistent.{DoubtFits, FlightFits, IsConsistent}
-use Rattle.coord_ledger.specs.machine.Log.{Log, cut_to, pending, settled_count, with_settled}
-use Rattle.coord_ledger.specs.machine.Machine.{FlightOut, Machine, has_stopped}
+use Rattle.coord_ledger.specs.Facade.{DoubtFits, FlightFits, FlightOut, IsConsistent, IsOneOf, Log, Machine, after, after_finish, crashed, cut_to, finished, has_stopped, kept, kept_by, kept_with, marked, next_size, pending, settled_count, stays_home, to_begin, to_commit, to_finish, with_flight, with_settled}
 use Rattle.coord_ledger.proofs.machine.Lists.{each_one}
 use Rattle.coord_ledger.proofs.machine.Logs.{log_stays}
 use Rattle.coord_ledger.proofs.machine.ConsistentTold.{told_releasing, told_same, told_settled}

@@ -1,6 +1,5 @@
 -- The machine stays consistent as steps are accepted, collected, sent again and shown.
-use Rattle.std.proofs.Common.{◌≡◌, ℕ, zero, suc, ◌+◌, ◌≤◌, Bool, List, [], ◌∷◌, ◌++◌, length, Option, Some, None, Ok, Err, refl, sym, subst, arith, cond}
-use Rattle.std.specs.Prelude.{nat_le, Result}
+use Rattle.std.proofs.Common.{◌≡◌, ℕ, zero, suc, ◌+◌, ◌≤◌, Bool, List, [], ◌∷◌, ◌++◌, length, Option, Some, None, Ok, Err, refl, sym, subst, arith, cond, nat_le, Result}
 use Rattle.std.specs.List.{AllByRecursion}
 use Rattle.std.proofs.lemmas.Bool.Decides.{nat_tests}
 use Rattle.std.proofs.lemmas.List.{length-append, take-append-le}
@@ -12,19 +11,11 @@ use Rattle.coord_types.specs.declared.steps.Step.{Step}
 use Rattle.coord_world.proofs.Facade.{by_test, verdict_fresh, verdict_kind}
 use Rattle.coord_world.specs.declared.verdicts.Verdict.{Verdict}
 use Rattle.coord_world.specs.declared.verdicts.Verdict.TheVariants.{Fresh, Repeat}
-use Rattle.coord_world.specs.protocol.Next.{reply}
-use Rattle.coord_world.specs.protocol.NumberedWorld.{World}
-use Rattle.coord_world.specs.protocol.Ranges.{StepInRange}
+use Rattle.coord_world.specs.Facade.{StepInRange, World, reply}
 use Rattle.coord_ledger.specs.declared.events.Answer.TheVariants.{Collected, Refused, Shown, Waiting}
 use Rattle.coord_ledger.specs.declared.events.Event.TheVariants.{Collect, Show}
-use Rattle.coord_ledger.specs.machine.After.{after, after_submit, resent, spent, with_ticket}
-use Rattle.coord_ledger.specs.machine.Answers.{ticket, to_collect, to_show, to_submit, verdict_on}
-use Rattle.coord_ledger.specs.machine.Consistent.{DoubtFits, FlightFits, IsConsistent, IsConsistentLog, TicketFits}
-use Rattle.coord_ledger.specs.machine.Log.{Log, accepted_count, front_world, settled_count, settled_world, with_step}
-use Rattle.coord_ledger.specs.machine.Machine.{FlightOut, Machine, has_stopped}
+use Rattle.coord_ledger.specs.Facade.{DoubtFits, FlightFits, FlightOut, IsConsistent, IsConsistentLog, IsReplyOf, Log, Machine, TicketFits, accepted_count, after, after_submit, front_world, has_stopped, resent, settled_count, settled_world, spent, ticket, to_collect, to_show, to_submit, verdict, verdict_on, with_step, with_ticket}
 use Rattle.coord_view.specs.Shown.{shown}
-use Rattle.coord_ledger.specs.machine.Submits.{verdict}
-use Rattle.coord_ledger.specs.promises.Headline.{IsReplyOf}
 use Rattle.coord_ledger.proofs.machine.Verdicts.{verdict_accepts, verdict_repeats}
 use Rattle.coord_ledger.proofs.machine.Lists.{all_both}
 use Rattle.coord_ledger.proofs.machine.Logs.{count_front, log_stays}

@@ -1,6 +1,5 @@
 -- What was released and collected stays true as the machine goes on.
-use Rattle.std.proofs.Common.{◌≡◌, ℕ, ◌+◌, ◌≤◌, List, [], ◌∷◌, ◌++◌, map, length, take, drop, sym, ap, ◌∙◌, subst, arith}
-use Rattle.std.specs.Prelude.{◌==◌, not, All}
+use Rattle.std.proofs.Common.{◌≡◌, ℕ, ◌+◌, ◌≤◌, List, [], ◌∷◌, ◌++◌, map, length, take, drop, sym, ap, ◌∙◌, subst, arith, ◌==◌, not, All}
 use Rattle.std.specs.List.{AllByRecursion}
 use Rattle.std.proofs.Math.Seq.{take-add}
 use Rattle.std.proofs.lemmas.List.{append-nil, length-drop, length-take-le}
@@ -10,15 +9,9 @@ use Rattle.coord_types.specs.declared.steps.Reply.{Reply}
 use Rattle.coord_types.specs.declared.steps.Step.{Step}
 use Rattle.coord_world.proofs.Facade.{released_grows, resend_law}
 use Rattle.coord_world.specs.laws.Release.{IsReleased}
-use Rattle.coord_world.specs.protocol.Next.{fold, next}
-use Rattle.coord_world.specs.protocol.NumberedWorld.{World}
-use Rattle.coord_world.specs.protocol.Outputs.{again, outputs, outs}
+use Rattle.coord_world.specs.Facade.{World, again, fold, next, outputs, outs}
 use Rattle.coord_ledger.specs.declared.release.Release.{Release}
-use Rattle.coord_ledger.specs.machine.After.{release_of, releases_of, resent, settling_releases}
-use Rattle.coord_ledger.specs.machine.Consistent.{IsConsistentLog, IsTold}
-use Rattle.coord_ledger.specs.machine.Log.{Log, pending, settled_count, settled_steps, settled_world, with_settled}
-use Rattle.coord_ledger.specs.promises.Headline.{IsReplyOf, IsTrulyAgain}
-use Rattle.coord_ledger.specs.promises.Parts.{IsPartOf, released_first}
+use Rattle.coord_ledger.specs.Facade.{IsConsistentLog, IsPartOf, IsReplyOf, IsTold, IsTrulyAgain, Log, pending, release_of, released_first, releases_of, resent, settled_count, settled_steps, settled_world, settling_releases, with_settled}
 use Rattle.coord_ledger.proofs.machine.Lists.{all_both, all_raised, part_before, part_both, part_self}
 use Rattle.coord_ledger.proofs.machine.Logs.{count_after}
 use Rattle.coord_ledger.proofs.machine.Releases.{again_bound, again_is_new, all_numbered, none_above, released_both}

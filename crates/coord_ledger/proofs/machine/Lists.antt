@@ -2,8 +2,7 @@
 use Rattle.std.proofs.Common.{ℕ, ◌≤◌, List, [], ◌∷◌, ◌++◌, inl, inr, refl, subst, sym, arith}
 use Rattle.std.proofs.lemmas.List.{append-nil}
 use Rattle.std.specs.List.{AllByRecursion}
-use Rattle.coord_ledger.specs.promises.Parts.{IsPartOf}
-use Rattle.coord_ledger.specs.machine.Answers.{IsOneOf}
+use Rattle.coord_ledger.specs.Facade.{IsOneOf, IsPartOf}
 
 -- what holds of all items holds of each
 pub each_one : {A : Type 0} (P : A → Type 0) (xs : List A) (a : A) → IsOneOf a xs → AllByRecursion P xs → P a

@@ -9,15 +9,10 @@ use Rattle.coord_store.proofs.Freshness.{fold-push, fresh-push}
 use Rattle.coord_store.specs.Recovered.{AllFresh}
 use Rattle.coord_world.proofs.Facade.{fold_counts, release_stays, trail_goes_on, trail_is_cut}
 use Rattle.coord_world.specs.laws.Trails.{IsTrail}
-use Rattle.coord_world.specs.protocol.Acceptance.{IsFresh, accepts}
-use Rattle.coord_world.specs.protocol.Next.{fold, next}
-use Rattle.coord_world.specs.protocol.NumberedWorld.{World}
-use Rattle.coord_world.specs.protocol.Ranges.{StepInRange}
+use Rattle.coord_world.specs.Facade.{IsFresh, StepInRange, World, accepts, fold, next}
 use Rattle.coord_ledger.specs.laws.Laws.{LogStays}
 use Rattle.coord_ledger.specs.laws.Moving.{MovedIsConsistent}
-use Rattle.coord_ledger.specs.machine.Consistent.{IsConsistentLog}
-use Rattle.coord_ledger.specs.machine.Log.{Log, accepted_count, cut_to, front_world, moved, pending, settled_count, settled_world, with_settled, with_step, world_after}
-use Rattle.coord_ledger.specs.machine.Submits.{is_full}
+use Rattle.coord_ledger.specs.Facade.{IsConsistentLog, Log, accepted_count, cut_to, front_world, is_full, moved, pending, settled_count, settled_world, with_settled, with_step, world_after}
 
 -- ---- counts
 

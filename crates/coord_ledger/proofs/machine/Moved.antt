@@ -1,6 +1,5 @@
 -- A machine whose base is moved along its settled steps gives the same answers.
-use Rattle.std.proofs.Common.{◌≡◌, ℕ, ◌+◌, ◌-◌, ◌≤◌, Bool, false, List, [], ◌∷◌, ◌++◌, map, length, take, drop, Option, Some, None, Ok, Err, refl, sym, ap, subst, arith, cond}
-use Rattle.std.specs.Prelude.{is_some, nat_le, Result, ◌||◌, ◌==◌, min}
+use Rattle.std.proofs.Common.{◌≡◌, ℕ, ◌+◌, ◌-◌, ◌≤◌, Bool, false, List, [], ◌∷◌, ◌++◌, map, length, take, drop, Option, Some, None, Ok, Err, refl, sym, ap, subst, arith, cond, is_some, nat_le, Result, ◌||◌, ◌==◌, min}
 use Rattle.std.specs.List.{AllByRecursion}
 use Rattle.std.proofs.lemmas.List.{drop-append-le, take-append-le, take-take}
 use Rattle.coord_types.specs.declared.limits.TheConstants.{MAX_BATCH_STEPS, MAX_PENDING}
@@ -11,9 +10,7 @@ use Rattle.coord_types.specs.declared.steps.Step.{Step}
 use Rattle.coord_world.proofs.Facade.{by_test}
 use Rattle.coord_world.specs.declared.verdicts.Verdict.{Verdict}
 use Rattle.coord_world.specs.declared.verdicts.Verdict.TheVariants.{Fresh, Repeat}
-use Rattle.coord_world.specs.protocol.Acceptance.{accepts}
-use Rattle.coord_world.specs.protocol.Next.{fold}
-use Rattle.coord_world.specs.protocol.Outputs.{again, outs}
+use Rattle.coord_world.specs.Facade.{accepts, again, fold, outs}
 use Rattle.coord_ledger.specs.declared.events.Answer.{Answer}
 use Rattle.coord_ledger.specs.declared.events.Answer.TheVariants.{Begun, Collected, NoFlight, Nothing, Opened, Refused, Resent, Shown, Waiting}
 use Rattle.coord_ledger.specs.declared.events.Event.{Event}
@@ -21,14 +18,8 @@ use Rattle.coord_ledger.specs.declared.events.Event.TheVariants.{Submit, Begin, 
 use Rattle.coord_ledger.specs.declared.mark.Mark.{Mark}
 use Rattle.coord_ledger.specs.declared.mark.Mark.TheVariants.{New, Good, Torn}
 use Rattle.coord_ledger.specs.laws.Moving.{CrashReopens, MovedAnswersAlike, MovedGoesOn, with_base_moved}
-use Rattle.coord_ledger.specs.machine.After.{after, after_finish, after_submit, crashed, finished, releases_of, resent}
-use Rattle.coord_ledger.specs.machine.Answers.{answers, kept_by, kept_with, ticket, to_collect, to_commit, to_finish, to_submit, stays_home, next_size, verdict_on, with_flight}
-use Rattle.coord_ledger.specs.machine.Consistent.{IsConsistent, IsConsistentLog}
-use Rattle.coord_ledger.specs.machine.Log.{Log, accepted_count, moved, pending, settled_count, settled_world, with_settled, with_step, world_after}
-use Rattle.coord_ledger.specs.machine.Machine.{FlightOut, Machine, has_stopped}
+use Rattle.coord_ledger.specs.Facade.{FlightOut, IsConsistent, IsConsistentLog, Log, Machine, accepted_count, after, after_finish, after_submit, answers, crashed, finished, has_stopped, is_crash, kept_by, kept_with, moved, next_size, pending, releases_of, resent, settled_count, settled_world, stays_home, ticket, to_collect, to_commit, to_finish, to_submit, unless_full, verdict, verdict_on, with_flight, with_settled, with_step, world_after}
 use Rattle.coord_view.specs.Shown.{shown}
-use Rattle.coord_ledger.specs.machine.Submits.{unless_full, verdict}
-use Rattle.coord_ledger.specs.promises.Headline.{is_crash}
 use Rattle.coord_ledger.proofs.machine.Lists.{each_one}
 use Rattle.coord_ledger.proofs.machine.Logs.{moved_accepted, moved_count, moved_front, moved_pending, moved_settled, none_behind}
 

@@ -1,17 +1,13 @@
 -- What settled steps release.
-use Rattle.std.proofs.Common.{◌≡◌, ℕ, ◌+◌, ◌≤◌, List, [], ◌∷◌, ◌++◌, map, length, refl, ap, ◌∙◌, arith}
-use Rattle.std.specs.Prelude.{not, ◌==◌}
+use Rattle.std.proofs.Common.{◌≡◌, ℕ, ◌+◌, ◌≤◌, List, [], ◌∷◌, ◌++◌, map, length, refl, ap, ◌∙◌, arith, not, ◌==◌}
 use Rattle.std.specs.List.{AllByRecursion}
 use Rattle.std.proofs.lemmas.Grind.{flat_map-append}
 use Rattle.std.proofs.lemmas.List.Elements.{filter-append}
 use Rattle.std.proofs.lemmas.Bool.Decides.{nat_tests}
 use Rattle.coord_types.specs.declared.outputs.Output.{Output}
 use Rattle.coord_types.specs.declared.steps.Step.{Step}
-use Rattle.coord_world.specs.protocol.Next.{next, fold, reply}
-use Rattle.coord_world.specs.protocol.NumberedWorld.{World}
-use Rattle.coord_world.specs.protocol.Outputs.{StepOutcome, outs, outputs}
-use Rattle.coord_ledger.specs.promises.Parts.{released_first}
-use Rattle.coord_ledger.specs.machine.After.{release_of, releases_of}
+use Rattle.coord_world.specs.Facade.{StepOutcome, World, fold, next, outputs, outs, reply}
+use Rattle.coord_ledger.specs.Facade.{release_of, released_first, releases_of}
 use Rattle.coord_ledger.proofs.machine.Lists.{all_both}
 
 -- steps one after the other

@@ -1,6 +1,5 @@
 -- What follows where the machine is consistent.
-use Rattle.std.proofs.Common.{◌≡◌, ℕ, ◌+◌, ◌≤◌, List, [], ◌∷◌, length, map, Option, Some, None, refl, ap, arith, cond, inl}
-use Rattle.std.specs.Prelude.{is_some, Result, Ok, Err}
+use Rattle.std.proofs.Common.{◌≡◌, ℕ, ◌+◌, ◌≤◌, List, [], ◌∷◌, length, map, Option, Some, None, refl, ap, arith, cond, inl, is_some, Result, Ok, Err}
 use Rattle.coord_types.specs.declared.refusals.Refusal.{Refusal}
 use Rattle.coord_types.specs.declared.refusals.Refusal.TheVariants.{OutOfMemory, Stopped}
 use Rattle.coord_types.specs.declared.steps.Reply.{Reply}
@@ -14,14 +13,8 @@ use Rattle.coord_ledger.specs.declared.mark.Mark.{Mark}
 use Rattle.coord_ledger.specs.declared.mark.Mark.TheVariants.{New, Good, Torn}
 use Rattle.coord_ledger.specs.declared.release.Release.{Release}
 use Rattle.coord_ledger.specs.laws.Laws.{FinishKeepsKept, HasAnswer, KeptIsSafe, PrefixFromImages}
-use Rattle.coord_ledger.specs.ledger.Follows.{GivesOneOf}
-use Rattle.coord_ledger.specs.machine.After.{after_finish, finished}
-use Rattle.coord_ledger.specs.machine.Answers.{IsOneOf, kept, kept_by, kept_with, next_size, stays_home, ticket, to_collect, to_commit, to_finish, to_submit, verdict_on, with_flight}
-use Rattle.coord_ledger.specs.machine.Consistent.{DoubtFits, IsConsistent}
-use Rattle.coord_ledger.specs.machine.Log.{accepted_count, settled_count, settled_world, world_after}
-use Rattle.coord_ledger.specs.machine.Machine.{FlightOut, Machine, has_stopped}
+use Rattle.coord_ledger.specs.Facade.{DoubtFits, FlightOut, GivesOneOf, IsConsistent, IsOneOf, Machine, Survives, accepted_count, after_finish, finished, has_stopped, kept, kept_by, kept_with, next_size, settled_count, settled_world, stays_home, ticket, to_collect, to_commit, to_finish, to_submit, verdict_on, with_flight, world_after}
 use Rattle.coord_view.specs.Shown.{shown}
-use Rattle.coord_ledger.specs.promises.Headline.{Survives}
 use Rattle.coord_ledger.proofs.machine.ConsistentFlights.{kept_more, no_doubt}
 use Rattle.coord_ledger.proofs.machine.Lists.{all_raised}
 use Rattle.coord_ledger.proofs.machine.Logs.{count_after}

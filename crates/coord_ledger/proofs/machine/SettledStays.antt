@@ -1,6 +1,5 @@
 -- The settled steps stay.
-use Rattle.std.proofs.Common.{◌≡◌, ℕ, ◌+◌, ◌-◌, ◌≤◌, List, [], ◌∷◌, map, length, Option, Some, None, Ok, Err, refl, sym, subst, arith, cond}
-use Rattle.std.specs.Prelude.{is_some, nat_le, Result}
+use Rattle.std.proofs.Common.{◌≡◌, ℕ, ◌+◌, ◌-◌, ◌≤◌, List, [], ◌∷◌, map, length, Option, Some, None, Ok, Err, refl, sym, subst, arith, cond, is_some, nat_le, Result}
 use Rattle.std.specs.List.{AllByRecursion}
 use Rattle.std.proofs.lemmas.List.{take-append-le, take-take}
 use Rattle.coord_types.specs.declared.refusals.Refusal.{Refusal}
@@ -17,11 +16,7 @@ use Rattle.coord_ledger.specs.declared.events.Event.TheVariants.{Submit, Begin, 
 use Rattle.coord_ledger.specs.declared.mark.Mark.{Mark}
 use Rattle.coord_ledger.specs.declared.mark.Mark.TheVariants.{New, Good, Torn}
 use Rattle.coord_ledger.specs.laws.Laws.{KeepsSettled, SettledStays}
-use Rattle.coord_ledger.specs.machine.After.{after, after_finish, after_submit, crashed, finished}
-use Rattle.coord_ledger.specs.machine.Answers.{answers, kept, next_size, stays_home, ticket, to_collect, to_commit, to_finish, to_submit, verdict_on, with_flight}
-use Rattle.coord_ledger.specs.machine.Consistent.{IsConsistent}
-use Rattle.coord_ledger.specs.machine.Log.{accepted_count, settled_count, settled_world}
-use Rattle.coord_ledger.specs.machine.Machine.{FlightOut, Machine, has_stopped}
+use Rattle.coord_ledger.specs.Facade.{FlightOut, IsConsistent, Machine, accepted_count, after, after_finish, after_submit, answers, crashed, finished, has_stopped, kept, next_size, settled_count, settled_world, stays_home, ticket, to_collect, to_commit, to_finish, to_submit, verdict_on, with_flight}
 use Rattle.coord_view.specs.Shown.{shown}
 use Rattle.coord_ledger.proofs.machine.ConsistentFlights.{KeepsMore, all_keep_more}
 use Rattle.coord_ledger.proofs.machine.Lists.{each_one}

@@ -1,10 +1,8 @@
 -- No step signals a node twice.
-use Rattle.std.proofs.Common.{◌≡◌, ◌≢◌, ℕ, ◌+◌, ◌≤◌, Bool, List, [], ◌∷◌, map, refl, ap, arith, cond, inl, inr}
-use Rattle.std.specs.Prelude.{count_by, ◌==◌, not}
+use Rattle.std.proofs.Common.{◌≡◌, ◌≢◌, ℕ, ◌+◌, ◌≤◌, Bool, List, [], ◌∷◌, map, refl, ap, arith, cond, inl, inr, count_by, ◌==◌, not}
 use Rattle.std.proofs.lemmas.Bool.Decides.{nat_tests}
 use Rattle.std.proofs.lemmas.List.Sums.{sum_by-append, sum_by-cons}
-use Rattle.coord_node.specs.Rules.{Transition, lost, request, transition}
-use Rattle.coord_node.specs.Steps.{transitions}
+use Rattle.coord_node.specs.Facade.{Transition, lost, request, transition, transitions}
 use Rattle.coord_types.specs.declared.outputs.Output.{Output}
 use Rattle.coord_types.specs.declared.outputs.Output.TheVariants.{Signalled}
 use Rattle.coord_types.specs.declared.steps.Command.TheVariants.{Add, Remove, Join, Drop, Reset, Confirm}
@@ -12,16 +10,10 @@ use Rattle.coord_types.specs.declared.steps.Step.{Step}
 use Rattle.coord_types.specs.declared.steps.Step.TheVariants.{Order, Take, Clear}
 use Rattle.coord_world.proofs.Facade.{EachFresh, by_test, fresh_order, same_or_apart, signals_given, trail_each_fresh, trail_is_cut}
 use Rattle.coord_world.specs.laws.Waves.{is_signal_of}
-use Rattle.coord_world.specs.protocol.Acceptance.{IsFresh}
-use Rattle.coord_world.specs.protocol.Next.{next}
-use Rattle.coord_world.specs.protocol.NumberedWorld.{World, state}
-use Rattle.coord_world.specs.protocol.Outputs.{outs, outputs, signals}
+use Rattle.coord_world.specs.Facade.{IsFresh, World, next, outputs, outs, signals, state}
 use Rattle.coord_ledger.specs.declared.release.Release.{Release}
 use Rattle.coord_ledger.specs.laws.Laws.{SignalsOnce}
-use Rattle.coord_ledger.specs.machine.After.{release_of, releases_of}
-use Rattle.coord_ledger.specs.machine.Log.{settled_steps}
-use Rattle.coord_ledger.specs.promises.Headline.{is_signal}
-use Rattle.coord_ledger.specs.promises.Parts.{IsPartOf, released_first}
+use Rattle.coord_ledger.specs.Facade.{IsPartOf, is_signal, release_of, released_first, releases_of, settled_steps}
 
 -- ---- one step
 

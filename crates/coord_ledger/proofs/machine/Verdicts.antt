@@ -6,8 +6,7 @@ use Rattle.std.specs.Prelude.{Result}
 use Rattle.coord_link.specs.LaneMachine.{Tests, refused_or}
 use Rattle.coord_node.specs.Steps.{kind}
 use Rattle.coord_types.proofs.Commands.{same_is}
-use Rattle.coord_types.specs.Command.{same_command}
-use Rattle.coord_types.specs.Table.{get}
+use Rattle.coord_types.specs.Facade.{get, same_command}
 use Rattle.coord_types.specs.declared.refusals.Refusal.{Refusal}
 use Rattle.coord_types.specs.declared.refusals.Refusal.TheVariants.{Exhausted, PendingFull}
 use Rattle.coord_types.specs.declared.steps.Command.{Command}
@@ -19,11 +18,9 @@ use Rattle.coord_types.specs.declared.steps.Step.TheVariants.{Order, Take, Clear
 use Rattle.coord_world.proofs.Facade.{by_test}
 use Rattle.coord_world.specs.declared.verdicts.Verdict.{Verdict}
 use Rattle.coord_world.specs.declared.verdicts.Verdict.TheVariants.{Fresh, Repeat}
-use Rattle.coord_world.specs.protocol.Acceptance.{accepts, against, is_exhausted, judged, or_repeat}
-use Rattle.coord_world.specs.protocol.NumberedWorld.{World, state}
+use Rattle.coord_world.specs.Facade.{World, accepts, against, is_exhausted, judged, or_repeat, state}
 use Rattle.coord_ledger.specs.laws.Laws.{SubmitOrder}
-use Rattle.coord_ledger.specs.machine.Log.{Log, front_world, settled_world}
-use Rattle.coord_ledger.specs.machine.Submits.{is_full, unless_full, verdict}
+use Rattle.coord_ledger.specs.Facade.{Log, front_world, is_full, settled_world, unless_full, verdict}
 
 -- ---- one list of tests
 

@@ -7,11 +7,8 @@ use Rattle.coord_types.specs.declared.limits.TheConstants.{MAX_BATCH_STEPS}
 use Rattle.coord_types.specs.declared.outputs.Output.{Output}
 use Rattle.coord_types.specs.declared.steps.Kind.{Kind}
 use Rattle.coord_types.specs.declared.steps.Step.{Step}
-use Rattle.coord_store.specs.Kept.{Kept}
-use Rattle.coord_store.specs.Recovered.{AllFresh}
-use Rattle.coord_world.specs.protocol.Next.{fold}
-use Rattle.coord_world.specs.protocol.NumberedWorld.{World}
-use Rattle.coord_world.specs.protocol.Outputs.{outs}
+use Rattle.coord_store.specs.Facade.{AllFresh, Kept}
+use Rattle.coord_world.specs.Facade.{World, fold, outs}
 use Rattle.coord_ledger.specs.declared.mark.Mark.{Mark}
 use Rattle.coord_ledger.specs.declared.mark.Mark.TheVariants.{New, Good, Torn}
 use Rattle.coord_ledger.specs.declared.release.Release.{Release}

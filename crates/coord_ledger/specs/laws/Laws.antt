@@ -12,9 +12,7 @@ use Rattle.coord_types.specs.declared.steps.Step.TheVariants.{Order, Take, Clear
 use Rattle.coord_world.specs.declared.verdicts.Verdict.{Verdict}
 use Rattle.coord_world.specs.declared.verdicts.Verdict.TheVariants.{Fresh}
 use Rattle.coord_world.specs.laws.Trails.{IsSound}
-use Rattle.coord_world.specs.protocol.Acceptance.{IsFresh, against, is_exhausted, or_repeat}
-use Rattle.coord_world.specs.protocol.NumberedWorld.{World, state}
-use Rattle.coord_world.specs.protocol.Ranges.{StepInRange}
+use Rattle.coord_world.specs.Facade.{IsFresh, StepInRange, World, against, is_exhausted, or_repeat, state}
 use Rattle.coord_ledger.specs.declared.events.Answer.{Answer}
 use Rattle.coord_ledger.specs.declared.events.Event.{Event}
 use Rattle.coord_ledger.specs.ledger.Follows.{ImagesGive}

@@ -13,8 +13,7 @@ use Rattle.coord_types.specs.declared.steps.Reply.{Reply}
 use Rattle.coord_types.specs.declared.steps.Step.TheVariants.{Order}
 use Rattle.coord_store.specs.declared.faults.CommitFault.TheVariants as fault
 use Rattle.coord_world.specs.laws.WorkedSteps.{order, take, data_out, two_linked}
-use Rattle.coord_world.specs.protocol.Next.{fold}
-use Rattle.coord_world.specs.protocol.NumberedWorld.{no_world}
+use Rattle.coord_world.specs.Facade.{fold, no_world}
 use Rattle.coord_ledger.specs.declared.events.Answer.{Answer}
 use Rattle.coord_ledger.specs.declared.events.Answer.TheVariants.{Accepted, Repeated, Refused, Begun, Nothing, Committed, Failed, Finished, NoFlight, NoTicket, Collected, Waiting, Resent, Shown, Opened}
 use Rattle.coord_ledger.specs.declared.events.Event.{Event}

@@ -7,13 +7,10 @@ use Rattle.coord_types.specs.declared.refusals.Refusal.TheVariants.{OutOfMemory,
 use Rattle.coord_types.specs.declared.steps.Kind.{Kind}
 use Rattle.coord_types.specs.declared.steps.Reply.{Reply}
 use Rattle.coord_types.specs.declared.steps.Step.{Step}
-use Rattle.coord_store.specs.Kept.{GivesEither}
-use Rattle.coord_store.specs.Recovered.{Recovered}
+use Rattle.coord_store.specs.Facade.{GivesEither, Recovered}
 use Rattle.coord_world.specs.declared.verdicts.Verdict.{Verdict}
 use Rattle.coord_world.specs.declared.verdicts.Verdict.TheVariants.{Fresh, Repeat}
-use Rattle.coord_world.specs.protocol.Next.{fold, reply}
-use Rattle.coord_world.specs.protocol.NumberedWorld.{World}
-use Rattle.coord_world.specs.protocol.Outputs.{outs}
+use Rattle.coord_world.specs.Facade.{World, fold, outs, reply}
 use Rattle.coord_ledger.specs.declared.handed.Handed.{Handed}
 use Rattle.coord_ledger.specs.declared.handed.Handed.TheVariants as handed
 use Rattle.coord_ledger.specs.declared.mark.Mark.{Mark}

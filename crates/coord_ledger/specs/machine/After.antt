@@ -7,8 +7,7 @@ use Rattle.coord_types.specs.declared.steps.Step.{Step}
 use Rattle.coord_store.specs.declared.faults.CommitFault.TheVariants as fault
 use Rattle.coord_world.specs.declared.verdicts.Verdict.{Verdict}
 use Rattle.coord_world.specs.declared.verdicts.Verdict.TheVariants.{Fresh, Repeat}
-use Rattle.coord_world.specs.protocol.NumberedWorld.{World}
-use Rattle.coord_world.specs.protocol.Outputs.{StepOutcome, again, outs}
+use Rattle.coord_world.specs.Facade.{StepOutcome, World, again, outs}
 use Rattle.coord_ledger.specs.declared.events.Answer.{Answer}
 use Rattle.coord_ledger.specs.declared.events.Answer.TheVariants.{Accepted, Repeated, Begun, Committed, Failed, Finished, Collected, Resent, Shown, Opened}
 use Rattle.coord_ledger.specs.declared.events.Event.{Event}

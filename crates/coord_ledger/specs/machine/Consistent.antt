@@ -6,9 +6,7 @@ use Rattle.coord_types.specs.declared.steps.Reply.{Reply}
 use Rattle.coord_types.specs.declared.steps.Step.{Step}
 use Rattle.coord_store.specs.Recovered.{AllFresh}
 use Rattle.coord_world.specs.laws.Trails.{IsTrail}
-use Rattle.coord_world.specs.protocol.NumberedWorld.{World}
-use Rattle.coord_world.specs.protocol.Outputs.{outs}
-use Rattle.coord_world.specs.protocol.Ranges.{StepInRange}
+use Rattle.coord_world.specs.Facade.{StepInRange, World, outs}
 use Rattle.coord_ledger.specs.declared.events.Event.{Event}
 use Rattle.coord_ledger.specs.declared.events.Event.TheVariants.{Submit}
 use Rattle.coord_ledger.specs.declared.release.Release.{Release}

@@ -1,8 +1,7 @@
 -- What was accepted since a base, and how much of that is settled.
 use Rattle.std.specs.Prelude.{ℕ, ◌+◌, ◌-◌, List, [], ◌∷◌, ◌++◌, length, take, drop}
 use Rattle.coord_types.specs.declared.steps.Step.{Step}
-use Rattle.coord_world.specs.protocol.Next.{fold}
-use Rattle.coord_world.specs.protocol.NumberedWorld.{World}
+use Rattle.coord_world.specs.Facade.{World, fold}
 
 pub record Log : Type 0 where
   pub base : World

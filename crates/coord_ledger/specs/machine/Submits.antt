@@ -1,5 +1,5 @@
 -- What a ledger says to a step: first whether it has stopped, then whether the step is a repeat, then whether too many steps are pending, and then as the front and the settled world accept it.
-use Rattle.std.specs.Prelude.{ℕ, nat_le, Bool, length, Result, Ok, Err, if◌then◌else◌}
+use Rattle.std.specs.Prelude.{nat_le, Bool, length, Result, Ok, Err, if◌then◌else◌}
 use Rattle.coord_types.specs.declared.limits.TheConstants.{MAX_PENDING}
 use Rattle.coord_types.specs.declared.refusals.Refusal.{Refusal}
 use Rattle.coord_types.specs.declared.refusals.Refusal.TheVariants.{Stopped, PendingFull}

@@ -21,14 +21,11 @@ use Rattle.coord_types.specs.Table.{get}
 use Rattle.coord_types.specs.declared.steps.Reply.{Reply}
 use Rattle.coord_types.specs.declared.steps.Session.{Session}
 use Rattle.coord_types.specs.declared.steps.Step.{Step}
-use Rattle.coord_store.specs.Recovered.{Recovered}
+use Rattle.coord_store.specs.Facade.{IsPassing, Recovered}
 use Rattle.coord_store.specs.declared.faults.CommitFault.TheVariants as fault
-use Rattle.coord_store.specs.Refused.{IsPassing}
 use Rattle.coord_world.specs.laws.Release.{IsReleased}
 use Rattle.coord_world.specs.laws.Waves.{is_signal_of}
-use Rattle.coord_world.specs.protocol.Legal.{Legal}
-use Rattle.coord_world.specs.protocol.NumberedWorld.{World}
-use Rattle.coord_world.specs.protocol.Outputs.{outs}
+use Rattle.coord_world.specs.Facade.{Legal, World, outs}
 use Rattle.coord_ledger.specs.declared.events.Answer.{Answer}
 use Rattle.coord_ledger.specs.declared.events.Answer.TheVariants.{Committed, Failed}
 use Rattle.coord_ledger.specs.declared.events.Event.{Event}

@@ -5,7 +5,7 @@ ghost use Rattle.coord_disk.specs.Model.Present.{IsImage};
 ghost use Rattle.coord_ledger.specs.declared.events.Answer.TheVariants.{Opened};
 ghost use Rattle.coord_ledger.specs.declared.events.Event.TheVariants.{Crash};
 ghost use Rattle.coord_ledger.specs.ledger.Driven.{Beside, IsLeftByCrash, after_crash, held, model_driven};
-ghost use Rattle.coord_ledger.specs.ledger.Driver.{HeldTouches, IsEventFault, IsLost, IsPromised, IsReopenFault, IsReopened};
+ghost use Rattle.coord_ledger.specs.ledger.Driver.{HeldTouches, IsEventFault, IsLost, IsReopenFault, IsReopened};
 ghost use Rattle.coord_ledger.specs.ledger.Follows.{Follows, FollowsTo};
 ghost use Rattle.coord_ledger.specs.machine.Consistent.{IsConsistent};
 ghost use Rattle.coord_ledger.specs.machine.Log.{settled_count};

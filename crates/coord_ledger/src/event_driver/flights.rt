@@ -1,6 +1,6 @@
 //! The events of a run that move the store: a flight goes out and comes back, and the disk crashes.
 
-ghost use Rattle.std.specs.Prelude.{◌≡◌, IfErr, IfOk, MatchResult, Some};
+ghost use Rattle.std.specs.Prelude.{◌≡◌, IfErr, MatchResult, Some};
 ghost use Rattle.coord_ledger.specs.declared.events.Event.TheVariants.{Begin, Finish};
 ghost use Rattle.coord_ledger.specs.declared.trace.RunFaultKind.TheVariants.{OutOfMemory};
 ghost use Rattle.coord_ledger.specs.ledger.Driver.{disk_held};

@@ -1,6 +1,6 @@
 //! What a run of events holds between two events.
 
-ghost use Rattle.std.specs.Prelude.{◌≡◌, IfOk, OnErr, None, Some};
+ghost use Rattle.std.specs.Prelude.{◌≡◌, IfOk, OnErr, Some};
 ghost use Rattle.coord_ledger.specs.declared.events.Event.TheVariants.{Submit, Collect, Resend, Show, Commit};
 ghost use Rattle.coord_ledger.specs.ledger.Driver.{HeldSurvives, HeldTouches, disk_held, model_of};
 ghost use Rattle.coord_ledger.specs.ledger.Follows.{Follows, FollowsTo};

@@ -1,6 +1,6 @@
 //! Flights go out, and come back.
 
-ghost use Rattle.std.specs.Prelude.{◌≡◌, ◌≢◌, ◌+◌, ◌↔◌, ◌≤◌, false, true, is_some, None, Ok, Some, drop, length, take, IfErr, IfOk, IsSomeAnd, IsTrue, MatchResult, OnErr, OnOk};
+ghost use Rattle.std.specs.Prelude.{◌≡◌, ◌≢◌, ◌+◌, ◌↔◌, ◌≤◌, false, true, is_some, None, Ok, Some, drop, length, take, IfErr, IfOk, IsSomeAnd, IsTrue, OnErr, OnOk};
 ghost use Rattle.coord_types.specs.declared.limits.TheConstants.{MAX_BATCH_STEPS};
 ghost use Rattle.coord_world.specs.protocol.Next.{fold};
 ghost use Rattle.coord_ledger.specs.ledger.Calls.{RefusesFlight, keeps_store, next_flight, releases_in, taken_back, with_out};

@@ -1,6 +1,5 @@
 -- What is known of an order that a world takes.
-use Rattle.std.proofs.Common.{◌≡◌, ◌≢◌, ℕ, ◌+◌, ◌≤◌, Bool, true, false, ◌||◌, not, Option, Some, None, refl, arith}
-use Rattle.std.specs.Prelude.{is_some}
+use Rattle.std.proofs.Common.{◌≡◌, ◌≢◌, ℕ, ◌+◌, ◌≤◌, Bool, true, false, ◌||◌, not, Option, Some, None, refl, arith, is_some}
 use Rattle.std.proofs.lemmas.Bool.Decides.{nat_tests}
 use Rattle.coord_types.specs.NodeSet as set
 use Rattle.coord_types.specs.NodeState.{NodeState}
@@ -9,8 +8,7 @@ use Rattle.coord_types.specs.declared.steps.Command.{Command}
 use Rattle.coord_types.specs.declared.steps.Command.TheVariants.{Add, Remove, Join, Drop, Reset, Confirm}
 use Rattle.coord_types.specs.declared.steps.Step.TheVariants.{Order}
 use Rattle.coord_node.specs.Rules.{is_empty}
-use Rattle.coord_world.specs.protocol.NumberedWorld.{World, state, is_linked}
-use Rattle.coord_world.specs.protocol.Acceptance.{IsFresh, is_full, is_unknown, against_command, last_number}
+use Rattle.coord_world.specs.Facade.{IsFresh, World, against_command, is_full, is_linked, is_unknown, last_number, state}
 use Rattle.coord_world.proofs.acceptance.IsFresh.{NoneHolds, tests_passed}
 
 -- two nodes that may be linked

@@ -9,8 +9,7 @@ use Rattle.coord_link.specs.LaneMachine.{Tests, refused_or}
 use Rattle.coord_node.specs.Steps.{kind}
 use Rattle.coord_world.specs.declared.verdicts.Verdict.{Verdict}
 use Rattle.coord_world.specs.declared.verdicts.Verdict.TheVariants.{Fresh}
-use Rattle.coord_world.specs.protocol.NumberedWorld.{World, state}
-use Rattle.coord_world.specs.protocol.Acceptance.{accepts, judged, against, is_exhausted, IsFresh}
+use Rattle.coord_world.specs.Facade.{IsFresh, World, accepts, against, is_exhausted, judged, state}
 use Rattle.coord_tables.proofs.Cases.{by_test}
 use Rattle.coord_world.proofs.acceptance.IsFresh.{not_a_repeat}
 use Rattle.coord_world.proofs.acceptance.FreshOverItself.{itself}

@@ -1,9 +1,7 @@
 -- What is known of a step that a world takes.
 use Rattle.std.proofs.Common.{◌≡◌, ℕ, ◌+◌, ◌^◌, ◌≤◌, true, false, ◌&&◌, List, [], ◌∷◌, Option, Some, None, Ok, Err, Result, refl, ap, arith, cond, eqb}
 use Rattle.std.proofs.lemmas.Bool.Decides.{nat_tests}
-use Rattle.coord_types.specs.Messages.{begins_with, same_msg}
-use Rattle.coord_types.specs.Table.{get}
-use Rattle.coord_types.specs.Command.{same_command}
+use Rattle.coord_types.specs.Facade.{begins_with, get, same_command, same_msg}
 use Rattle.coord_types.specs.declared.messages.Msg.{Msg}
 use Rattle.coord_types.specs.declared.messages.Msg.TheVariants as msg
 use Rattle.coord_types.specs.declared.packets.DataPacket.{DataPacket}
@@ -19,8 +17,7 @@ use Rattle.coord_link.specs.LaneMachine.{Lane, Tests, refused_or}
 use Rattle.coord_node.specs.Steps.{kind}
 use Rattle.coord_world.specs.declared.verdicts.Verdict.{Verdict}
 use Rattle.coord_world.specs.declared.verdicts.Verdict.TheVariants.{Fresh, Repeat}
-use Rattle.coord_world.specs.protocol.NumberedWorld.{World, state}
-use Rattle.coord_world.specs.protocol.Acceptance.{IsFresh, judged, is_exhausted, or_repeat, of_incarnation, against_data, against_receipt, against, lane}
+use Rattle.coord_world.specs.Facade.{IsFresh, World, against, against_data, against_receipt, is_exhausted, judged, lane, of_incarnation, or_repeat, state}
 use Rattle.coord_tables.proofs.Cases.{by_test}
 
 -- none of the tests holds

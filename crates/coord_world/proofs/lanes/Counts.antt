@@ -5,10 +5,8 @@ use Rattle.coord_types.specs.Table.{get}
 use Rattle.coord_types.specs.declared.messages.Msg.{Msg}
 use Rattle.coord_types.specs.declared.steps.Command.TheVariants.{Drop, Join}
 use Rattle.coord_link.specs.LaneMachine.{Lane, Counts, took, cleared, sent, new_lane}
-use Rattle.coord_node.specs.IdealRules.{added, is_link}
-use Rattle.coord_node.specs.Rules.{Transition}
-use Rattle.coord_world.specs.protocol.Next.{with_transition, on_lane, with_command, is_lane}
-use Rattle.coord_world.specs.protocol.NumberedWorld.{World}
+use Rattle.coord_node.specs.Facade.{Transition, added, is_link}
+use Rattle.coord_world.specs.Facade.{World, is_lane, on_lane, with_command, with_transition}
 use Rattle.coord_tables.proofs.Cases.{by_test}
 use Rattle.coord_world.proofs.lists.GetAfter.{lane_done, lane_on, lane_left, lane_made, each_changed, each_left, each_made}
 use Rattle.coord_world.proofs.lanes.Transit.{counts_cases, counts_from, counts-sent, counts-took}

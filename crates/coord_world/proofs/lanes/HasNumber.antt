@@ -5,9 +5,8 @@ use Rattle.std.proofs.lemmas.Option.{slice_get-get_or}
 use Rattle.coord_types.specs.Table.{Table, get, entries}
 use Rattle.coord_types.proofs.Tables.{get-entries}
 use Rattle.coord_link.specs.LaneMachine.{Lane}
-use Rattle.coord_world.specs.protocol.NumberedWorld.{World, pair_cmp, pair_cmp_total}
+use Rattle.coord_world.specs.Facade.{InRange, World, pair_cmp, pair_cmp_total}
 use Rattle.coord_world.specs.code.Fronts.{HasNumber}
-use Rattle.coord_world.specs.protocol.Ranges.{InRange}
 use Rattle.coord_tables.proofs.SortedEntries.{found}
 use Rattle.coord_tables.proofs.TableEntries.{is_true}
 

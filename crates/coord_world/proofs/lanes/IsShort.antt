@@ -1,17 +1,12 @@
 -- Lanes of sound worlds are short.
-use Rattle.std.proofs.Common.{◌≡◌, ℕ, ◌+◌, ◌≤◌, Bool, true, List, [], ◌∷◌, Some, length, sym, ap, ◌∙◌, subst, arith}
-use Rattle.std.specs.Prelude.{is_some}
+use Rattle.std.proofs.Common.{◌≡◌, ℕ, ◌+◌, ◌≤◌, Bool, true, List, [], ◌∷◌, Some, length, sym, ap, ◌∙◌, subst, arith, is_some}
 use Rattle.std.proofs.lemmas.Bool.Decides.{nat_tests}
-use Rattle.coord_types.specs.IdealWorld.{Ideal}
-use Rattle.coord_types.specs.Messages.{behind_front}
-use Rattle.coord_types.specs.NodeSet.{contains}
-use Rattle.coord_types.specs.Table.{get}
+use Rattle.coord_types.specs.Facade.{Ideal, behind_front, contains, get}
 use Rattle.coord_types.specs.declared.messages.Msg.{Msg}
 use Rattle.coord_types.specs.declared.messages.Msg.TheVariants.{Abort, Ack, Ready}
 use Rattle.coord_link.specs.LaneMachine.{Lane, transit}
 use Rattle.coord_world.specs.laws.Laws.{IsShort}
-use Rattle.coord_world.specs.protocol.Links.{aborts, acks, readies, one}
-use Rattle.coord_world.specs.protocol.NumberedWorld.{World, view, transit_or_none}
+use Rattle.coord_world.specs.Facade.{World, aborts, acks, one, readies, transit_or_none, view}
 use Rattle.coord_world.proofs.legal.Sound.{Sound}
 
 -- each message is of one of three kinds

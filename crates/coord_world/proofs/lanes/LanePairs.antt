@@ -1,14 +1,12 @@
 -- Lanes come in pairs: where each has its way back, and none goes from a node to itself, their number is even.
-use Rattle.std.proofs.Common.{◌≡◌, ◌≢◌, ℕ, ◌+◌, ◌≤◌, suc, zero, Bool, true, false, cond, None, refl, sym, ◌∙◌, ap, inl, inr, arith}
-use Rattle.std.specs.Prelude.{is_some}
+use Rattle.std.proofs.Common.{◌≡◌, ◌≢◌, ℕ, ◌+◌, ◌≤◌, suc, zero, Bool, true, false, cond, None, refl, sym, ◌∙◌, ap, inl, inr, arith, is_some}
 use Rattle.std.specs.Ordering.{eq_by_cmp}
 use Rattle.std.proofs.lemmas.Bool.Decides.{nat_tests}
 use Rattle.coord_types.specs.Table.{get, has, len, remove}
 use Rattle.coord_types.specs.declared.steps.Command.TheVariants.{Drop}
 use Rattle.coord_types.proofs.Tables.{get-remove}
 use Rattle.coord_node.specs.IdealRules.{is_link}
-use Rattle.coord_world.specs.protocol.Next.{with_command}
-use Rattle.coord_world.specs.protocol.NumberedWorld.{World, is_linked, pair_cmp}
+use Rattle.coord_world.specs.Facade.{World, is_linked, pair_cmp, with_command}
 use Rattle.coord_world.proofs.lists.GetAfter.{lane_left}
 use Rattle.coord_world.proofs.lists.TableLen.{len-remove, some_entry}
 

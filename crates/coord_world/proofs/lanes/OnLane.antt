@@ -6,8 +6,7 @@ use Rattle.std.specs.FinMap.{IsAntisymmetric}
 use Rattle.coord_types.specs.Table.{get, insert, change}
 use Rattle.coord_types.proofs.Tables.{get-insert, get-change, same_table, option_map}
 use Rattle.coord_link.specs.LaneMachine.{Lane}
-use Rattle.coord_world.specs.protocol.NumberedWorld.{World, pair_cmp}
-use Rattle.coord_world.specs.protocol.Next.{is_lane, on_lane}
+use Rattle.coord_world.specs.Facade.{World, is_lane, on_lane, pair_cmp}
 use Rattle.coord_tables.proofs.Found.{same_pair}
 
 pub antisymmetric : IsAntisymmetric pair_cmp

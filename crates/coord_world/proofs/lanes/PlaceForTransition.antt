@@ -2,22 +2,15 @@
 use Rattle.std.proofs.Common.{◌≡◌, ℕ, ◌+◌, ◌<◌, ◌≤◌, true, List, [], ◌∷◌, ◌++◌, Option, Some, cond, eqb, length, refl, ◌∙◌, ap, arith}
 use Rattle.std.proofs.lemmas.Bool.Decides.{nat_tests}
 use Rattle.std.proofs.lemmas.List.{length-append}
-use Rattle.coord_types.specs.NodeSet.{contains}
-use Rattle.coord_types.specs.Table.{get}
+use Rattle.coord_types.specs.Facade.{contains, get}
 use Rattle.coord_types.specs.declared.packets.DataPacket.{DataPacket}
 use Rattle.coord_types.specs.declared.steps.Command.TheVariants.{Drop, Reset}
 use Rattle.coord_types.specs.declared.steps.Step.{Step}
 use Rattle.coord_types.specs.declared.steps.Step.TheVariants.{Order, Take, Clear}
 use Rattle.coord_types.proofs.Tables.{option_map}
 use Rattle.coord_link.specs.LaneMachine.{Lane, sent, took}
-use Rattle.coord_node.specs.IdealRules.{added}
-use Rattle.coord_node.specs.Rules.{Transition, transition, lost, request}
-use Rattle.coord_node.specs.Steps.{transitions}
-use Rattle.coord_world.specs.protocol.Acceptance.{IsFresh}
-use Rattle.coord_world.specs.protocol.Legal.{Legal}
-use Rattle.coord_world.specs.protocol.Next.{with_transitions, with_transition, next, on_lane, with_command, prepared}
-use Rattle.coord_world.specs.protocol.NumberedWorld.{World, state}
-use Rattle.coord_world.specs.protocol.Ranges.{InRange}
+use Rattle.coord_node.specs.Facade.{Transition, added, lost, request, transition, transitions}
+use Rattle.coord_world.specs.Facade.{InRange, IsFresh, Legal, World, next, on_lane, prepared, state, with_command, with_transition, with_transitions}
 use Rattle.coord_tables.proofs.Cases.{by_test}
 use Rattle.coord_world.proofs.legal.NextKeepsLegal.{sound_after}
 use Rattle.coord_world.proofs.lists.GetAfter.{lane_done}

@@ -1,14 +1,11 @@
 -- A link that is dropped keeps a world sound.
 use Rattle.std.proofs.Common.{◌≡◌, ◌≢◌, ℕ, true, false, ◌&&◌, Option, Some, None, refl, sym, ap, ◌∙◌, subst, arith}
 use Rattle.std.proofs.lemmas.Bool.Decides.{nat_tests}
-use Rattle.coord_types.specs.NodeState.{NodeState}
+use Rattle.coord_types.specs.Facade.{Ideal, NodeState, contains}
 use Rattle.coord_types.specs.NodeSet as set
-use Rattle.coord_types.specs.NodeSet.{contains}
 use Rattle.coord_types.proofs.Sets.{len_zero}
 use Rattle.coord_types.specs.declared.messages.Mode.TheVariants.{Abort, Converge}
-use Rattle.coord_node.specs.IdealRules.{ideal_applied, without_link}
-use Rattle.coord_node.specs.Rules.{Transition, is_empty, is_parent, without, lost, idle}
-use Rattle.coord_types.specs.IdealWorld.{Ideal}
+use Rattle.coord_node.specs.Facade.{Transition, ideal_applied, idle, is_empty, is_parent, lost, without, without_link}
 use Rattle.coord_world.proofs.legal.TransitionKept.{LegalLinks, links_of, sound_of, links_kept, row_here, row_there}
 use Rattle.coord_tables.proofs.Cases.{by_test, everywhere}
 use Rattle.coord_world.proofs.transitions.NodeGoesOn.{goes_lost}

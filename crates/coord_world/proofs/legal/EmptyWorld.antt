@@ -1,15 +1,11 @@
 -- The world before any step is legal and in its ranges.
-use Rattle.std.proofs.Common.{◌≡◌, ℕ, ◌≤◌, false, None, sym, ◌∙◌, ap, arith}
-use Rattle.std.specs.Prelude.{is_some}
+use Rattle.std.proofs.Common.{◌≡◌, ℕ, ◌≤◌, false, None, sym, ◌∙◌, ap, arith, is_some}
 use Rattle.std.specs.Cmp.{nat_cmp_total}
-use Rattle.coord_types.specs.NodeSet.{contains}
-use Rattle.coord_types.specs.Table.{get}
+use Rattle.coord_types.specs.Facade.{contains, get}
 use Rattle.coord_types.proofs.Sets.{contains-empty}
 use Rattle.coord_types.proofs.Tables.{get-empty, len-empty}
 use Rattle.coord_link.specs.LaneMachine.{Lane}
-use Rattle.coord_world.specs.protocol.Legal.{Legal}
-use Rattle.coord_world.specs.protocol.NumberedWorld.{is_linked, no_world, pair_cmp_total, state_or_none}
-use Rattle.coord_world.specs.protocol.Ranges.{InRange}
+use Rattle.coord_world.specs.Facade.{InRange, Legal, is_linked, no_world, pair_cmp_total, state_or_none}
 
 module _ (version : ℕ) where
   -- no node

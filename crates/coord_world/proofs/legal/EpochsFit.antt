@@ -3,11 +3,7 @@ use Rattle.std.proofs.Common.{ℕ, ◌+◌, ◌≤◌, refl, arith}
 use Rattle.coord_types.specs.declared.steps.Command.TheVariants.{Add}
 use Rattle.coord_types.specs.declared.steps.Step.{Step}
 use Rattle.coord_types.specs.declared.steps.Step.TheVariants.{Order}
-use Rattle.coord_world.specs.protocol.Acceptance.{IsFresh}
-use Rattle.coord_world.specs.protocol.Legal.{Legal}
-use Rattle.coord_world.specs.protocol.Next.{next}
-use Rattle.coord_world.specs.protocol.NumberedWorld.{World}
-use Rattle.coord_world.specs.protocol.Ranges.{InRange}
+use Rattle.coord_world.specs.Facade.{InRange, IsFresh, Legal, World, next}
 use Rattle.coord_world.proofs.legal.SoundNode.{EpochsFit, epochs_fit}
 use Rattle.coord_world.proofs.ranges.EveryNode.{Adds, AllRows, Carries, brought_by, rows_next}
 use Rattle.coord_world.proofs.ranges.Brought.{brought_within, farthest_le}

@@ -1,12 +1,9 @@
 -- A link that is made keeps a world sound.
 use Rattle.std.proofs.Common.{◌≡◌, ◌≢◌, ℕ, Bool, true, false, [], refl, sym, ap, ◌∙◌, subst, arith, cond, eqb}
 use Rattle.std.proofs.lemmas.Bool.Decides.{nat_tests}
-use Rattle.coord_types.specs.IdealWorld.{Ideal}
-use Rattle.coord_types.specs.NodeSet.{contains}
-use Rattle.coord_types.specs.NodeState.{NodeState}
+use Rattle.coord_types.specs.Facade.{Ideal, NodeState, contains}
 use Rattle.coord_types.proofs.Sets.{contains-insert}
-use Rattle.coord_node.specs.IdealRules.{is_link, linked_up}
-use Rattle.coord_node.specs.Rules.{is_parent, with_neighbour}
+use Rattle.coord_node.specs.Facade.{is_link, is_parent, linked_up, with_neighbour}
 use Rattle.coord_world.proofs.legal.SoundNode.{SoundNode}
 use Rattle.coord_world.specs.protocol.Links.{end_of}
 use Rattle.coord_world.proofs.legal.TransitionKept.{LegalLinks, legal_end, links_of, sound_of}

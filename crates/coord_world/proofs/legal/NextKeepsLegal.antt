@@ -1,15 +1,10 @@
 -- A fresh step keeps a world legal.
 use Rattle.std.proofs.Common.{◌+◌, sym, ◌∙◌, subst}
 use Rattle.coord_types.specs.declared.steps.Step.{Step}
-use Rattle.coord_world.specs.protocol.Acceptance.{IsFresh}
+use Rattle.coord_world.specs.Facade.{InRange, IsFresh, Legal, World, link, next, state_or_none, view}
 use Rattle.coord_world.specs.laws.Laws.{NextKeepsLegal}
-use Rattle.coord_world.specs.protocol.Legal.{Legal}
-use Rattle.coord_world.specs.protocol.Links.{link}
 use Rattle.coord_world.proofs.legal.SoundLink.{legal_link}
 use Rattle.coord_world.proofs.legal.SoundNode.{SoundNode, legal_node}
-use Rattle.coord_world.specs.protocol.Next.{next}
-use Rattle.coord_world.specs.protocol.NumberedWorld.{World, view, state_or_none}
-use Rattle.coord_world.specs.protocol.Ranges.{InRange}
 use Rattle.coord_world.proofs.legal.EpochsFit.{epochs_next}
 use Rattle.coord_world.proofs.legal.SoundNext.{sound_next}
 use Rattle.coord_world.proofs.legal.Versions.{versions_view}

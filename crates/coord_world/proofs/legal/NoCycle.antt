@@ -1,14 +1,9 @@
 -- Along parents distances rise by one, so no chain of them comes back.
 use Rattle.std.proofs.Common.{◌≡◌, ℕ, ◌+◌, true, false, List, [], ◌∷◌, Option, Some, None, length, cond, eqb, refl, sym, ap, ◌∙◌, arith}
 use Rattle.std.proofs.lemmas.Bool.Decides.{nat_tests}
-use Rattle.coord_types.specs.NodeSet.{contains}
-use Rattle.coord_types.specs.NodeState.{NodeState}
-use Rattle.coord_types.specs.Table.{get}
+use Rattle.coord_types.specs.Facade.{NodeState, contains, get}
 use Rattle.coord_node.specs.Rules.{is_parent}
-use Rattle.coord_world.specs.protocol.Legal.{Legal}
-use Rattle.coord_world.specs.protocol.Links.{is_ready}
-use Rattle.coord_world.specs.protocol.NumberedWorld.{World, state, state_or_none, view}
-use Rattle.coord_world.specs.protocol.Ranges.{InRange}
+use Rattle.coord_world.specs.Facade.{InRange, Legal, World, is_ready, state, state_or_none, view}
 use Rattle.coord_world.specs.laws.Cycles.{IsAbove, IsChain, NoParentCycle}
 use Rattle.coord_world.proofs.legal.Sound.{Sound}
 use Rattle.coord_world.proofs.legal.SoundView.{sound_view}

@@ -1,10 +1,8 @@
 -- What stands where no node can be is Ready.
 use Rattle.std.proofs.Common.{◌≡◌, ℕ, ◌<◌, Option, Some, None, refl, ap, arith}
-use Rattle.coord_types.specs.NodeState.{NodeState}
-use Rattle.coord_types.specs.Table.{get}
+use Rattle.coord_types.specs.Facade.{NodeState, get}
 use Rattle.coord_types.specs.declared.messages.Mode.TheVariants.{Ready}
-use Rattle.coord_world.specs.protocol.NumberedWorld.{World, state, state_or_none}
-use Rattle.coord_world.specs.protocol.Ranges.{InRange}
+use Rattle.coord_world.specs.Facade.{InRange, World, state, state_or_none}
 
 module _ (w : World) (range : InRange w) (v : ℕ) where
   of_option : (o : Option NodeState) → get w.nodes v ≡ o → ((r : NodeState) → o ≡ Some r → ⊥) → (state w v).mode ≡ Ready

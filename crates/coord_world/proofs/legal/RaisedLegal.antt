@@ -1,20 +1,12 @@
 -- A quiet world of version 1 stays legal and in its ranges as one of version 2.
-use Rattle.std.proofs.Common.{◌≡◌, ℕ, ◌≤◌, true, false, Option, Some, None, refl, sym, ap, ◌∙◌, subst, arith}
-use Rattle.std.specs.Prelude.{is_some}
-use Rattle.std.specs.Ordering.{nat_cmp}
-use Rattle.coord_types.specs.NodeSet.{contains}
-use Rattle.coord_types.specs.NodeMask.{IsMaskable}
-use Rattle.coord_types.specs.NodeState.{NodeState}
-use Rattle.coord_types.specs.Table.{get, has}
+use Rattle.std.proofs.Common.{◌≡◌, ℕ, ◌≤◌, true, false, Option, Some, None, refl, sym, ap, ◌∙◌, subst, arith, is_some, nat_cmp}
+use Rattle.coord_types.specs.Facade.{IsMaskable, NodeState, contains, get, has}
 use Rattle.coord_types.proofs.Tables.{get-change, option_map}
 use Rattle.coord_node.specs.Rules.{is_parent}
 use Rattle.coord_tables.proofs.Found.{same_number}
 use Rattle.coord_world.specs.laws.Raised.{RaisedIsLegal, raised, raised_node}
 use Rattle.coord_world.specs.laws.Waves.{AllReady}
-use Rattle.coord_world.specs.protocol.Legal.{Legal, is_legal_node}
-use Rattle.coord_world.specs.protocol.Links.{link, aborts, is_abort, is_converge, is_ready}
-use Rattle.coord_world.specs.protocol.NumberedWorld.{World, is_linked, state, state_or_none, view}
-use Rattle.coord_world.specs.protocol.Ranges.{InRange, IsDistant, NodeInRange, farthest}
+use Rattle.coord_world.specs.Facade.{InRange, IsDistant, Legal, NodeInRange, World, aborts, farthest, is_abort, is_converge, is_legal_node, is_linked, is_ready, link, state, state_or_none, view}
 use Rattle.coord_world.proofs.legal.Sound.{Sound}
 use Rattle.coord_world.proofs.legal.SoundLink.{SoundLink, legal_link}
 use Rattle.coord_world.proofs.legal.SoundView.{sound_view}

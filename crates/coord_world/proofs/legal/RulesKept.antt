@@ -2,16 +2,13 @@
 use Rattle.std.proofs.Common.{◌≡◌, ◌≢◌, ℕ, true, false, List, ◌∷◌, ◌++◌, Option, Some, None, refl, ap, ◌∙◌, sym, subst, arith, eqb}
 use Rattle.std.proofs.lemmas.List.{append-nil}
 use Rattle.std.proofs.lemmas.Bool.Decides.{nat_tests}
-use Rattle.coord_types.specs.IdealWorld.{Ideal}
+use Rattle.coord_types.specs.Facade.{Ideal, NodeState, contains}
 use Rattle.coord_types.specs.NodeSet as set
-use Rattle.coord_types.specs.NodeSet.{contains}
-use Rattle.coord_types.specs.NodeState.{NodeState}
 use Rattle.coord_types.specs.declared.messages.Mode.TheVariants.{Abort, Converge}
 use Rattle.coord_types.specs.declared.messages.Msg.{Msg}
 use Rattle.coord_types.specs.declared.messages.Msg.TheVariants as msg
 use Rattle.coord_types.proofs.Sets.{contains-empty}
-use Rattle.coord_node.specs.IdealRules.{ideal_applied, added}
-use Rattle.coord_node.specs.Rules.{Transition, answer, carried, transition, finish, idle, is_empty, is_parent, kept, on_abort, on_ack, on_ready, request, wave_back, wave_on}
+use Rattle.coord_node.specs.Facade.{Transition, added, answer, carried, finish, ideal_applied, idle, is_empty, is_parent, kept, on_abort, on_ack, on_ready, request, transition, wave_back, wave_on}
 use Rattle.coord_world.specs.protocol.Links.{link, acks, is_abort, is_ready, strays}
 use Rattle.coord_world.proofs.legal.TransitionKept.{both_before, but_of, deed_kept, not_self}
 use Rattle.coord_world.proofs.transitions.LegalBoth.{LegalBoth, acked, acked_last, converges_near, passed_by, released, wave_ends, wave_meets, wave_reaches}

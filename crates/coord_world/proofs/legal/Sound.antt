@@ -1,7 +1,6 @@
 -- What legal worlds have in their views: legal nodes and links, and links as the nodes name them.
 use Rattle.std.proofs.Common.{◌≡◌, ℕ, true, false}
-use Rattle.coord_types.specs.IdealWorld.{Ideal}
-use Rattle.coord_types.specs.NodeSet.{contains}
+use Rattle.coord_types.specs.Facade.{Ideal, contains}
 use Rattle.coord_world.proofs.legal.SoundNode.{SoundNode}
 use Rattle.coord_world.specs.protocol.Links.{link}
 use Rattle.coord_world.proofs.legal.SoundLink.{SoundLink}

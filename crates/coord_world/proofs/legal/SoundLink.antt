@@ -1,6 +1,5 @@
 -- What the tests of a link say, as facts: the form in which the rules are proved to keep them.
-use Rattle.std.proofs.Common.{◌≡◌, ℕ, ◌+◌, ◌≤◌, Bool, true, false, ◌&&◌, ◌||◌, not, refl, arith}
-use Rattle.std.specs.Prelude.{◌==◌}
+use Rattle.std.proofs.Common.{◌≡◌, ℕ, ◌+◌, ◌≤◌, Bool, true, false, ◌&&◌, ◌||◌, not, refl, arith, ◌==◌}
 use Rattle.std.proofs.lemmas.Bool.Decides.{nat_tests}
 use Rattle.coord_world.specs.protocol.Links.{Link, LegalLink, one, aborts, acks, readies, readies_behind, strays, is_abort, is_converge, is_ready}
 

@@ -1,20 +1,14 @@
 -- A fresh step keeps the view sound.
-use Rattle.std.proofs.Common.{◌≡◌, ℕ, true, ◌∷◌, sym, ◌∙◌, ap, subst, arith}
-use Rattle.std.specs.Prelude.{is_some}
+use Rattle.std.proofs.Common.{◌≡◌, ℕ, true, ◌∷◌, sym, ◌∙◌, ap, subst, arith, is_some}
 use Rattle.std.proofs.lemmas.Bool.Decides.{nat_tests}
-use Rattle.coord_types.specs.NodeSet.{contains}
-use Rattle.coord_types.specs.Table.{get}
+use Rattle.coord_types.specs.Facade.{contains, get, no_node}
 use Rattle.coord_types.specs.declared.steps.Command.{Command}
 use Rattle.coord_types.specs.declared.steps.Command.TheVariants.{Add, Remove, Join, Drop, Reset, Confirm}
 use Rattle.coord_types.specs.declared.steps.Step.{Step}
 use Rattle.coord_types.specs.declared.steps.Step.TheVariants.{Order, Take, Clear}
-use Rattle.coord_types.specs.NodeState.{no_node}
 use Rattle.coord_types.proofs.Sets.{len-empty}
-use Rattle.coord_node.specs.IdealRules.{ideal_next}
-use Rattle.coord_node.specs.Rules.{is_empty}
-use Rattle.coord_world.specs.protocol.Acceptance.{IsFresh}
-use Rattle.coord_world.specs.protocol.Next.{next}
-use Rattle.coord_world.specs.protocol.NumberedWorld.{World, view, state, state_or_none, transit_or_none}
+use Rattle.coord_node.specs.Facade.{ideal_next, is_empty}
+use Rattle.coord_world.specs.Facade.{IsFresh, World, next, state, state_or_none, transit_or_none, view}
 use Rattle.coord_world.proofs.lanes.Counts.{AllCount}
 use Rattle.coord_world.proofs.legal.DropKept.{drop_kept}
 use Rattle.coord_world.proofs.acceptance.IsFresh.{fresh_take}

@@ -1,17 +1,14 @@
 -- What the tests of a node say, as facts: the form in which the rules are proved to keep them.
-use Rattle.std.proofs.Common.{◌≡◌, ℕ, ◌<◌, ◌≤◌, Bool, true, false, ◌&&◌, ◌||◌, not, List, [], ◌∷◌, Option, Some, None, refl, sym, ap, ◌∙◌, arith}
-use Rattle.std.specs.Prelude.{nat_eq, nat_le, ◌==◌}
+use Rattle.std.proofs.Common.{◌≡◌, ℕ, ◌<◌, ◌≤◌, Bool, true, false, ◌&&◌, ◌||◌, not, List, [], ◌∷◌, Option, Some, None, refl, sym, ap, ◌∙◌, arith, nat_eq, nat_le, ◌==◌}
 use Rattle.std.specs.List.{list_all, list_any}
 use Rattle.std.proofs.lemmas.Bool.Decides.{nat_tests}
 use Rattle.coord_types.specs.NodeSet as set
-use Rattle.coord_types.specs.NodeSet.{NodeSet}
-use Rattle.coord_types.specs.NodeState.{NodeState}
+use Rattle.coord_types.specs.Facade.{NodeSet, NodeState}
 use Rattle.coord_types.specs.declared.messages.Mode.{Mode}
 use Rattle.coord_types.specs.declared.messages.Mode.TheVariants.{Ready, Abort, Converge}
 use Rattle.coord_types.proofs.Sets.{contains-items}
 use Rattle.coord_node.specs.Rules.{is_empty, is_parent}
-use Rattle.coord_world.specs.protocol.Links.{is_abort, is_ready}
-use Rattle.coord_world.specs.protocol.Legal.{awaits_rightly, has_right_parent, is_parent_near, is_within, is_distance_right, is_legal_node}
+use Rattle.coord_world.specs.Facade.{awaits_rightly, has_right_parent, is_abort, is_distance_right, is_legal_node, is_parent_near, is_ready, is_within}
 use Rattle.coord_tables.proofs.Cases.{both}
 
 -- N by itself: what the rules keep of a node

@@ -1,13 +1,9 @@
 -- A legal world in its ranges has a sound view.
 use Rattle.std.proofs.Common.{◌≡◌, ℕ, Option, Some, None, refl, sym, ◌∙◌}
-use Rattle.coord_types.specs.NodeState.{NodeState}
-use Rattle.coord_types.specs.Table.{get}
-use Rattle.coord_world.specs.protocol.Legal.{Legal}
-use Rattle.coord_world.specs.protocol.Links.{link}
+use Rattle.coord_types.specs.Facade.{NodeState, get}
+use Rattle.coord_world.specs.Facade.{InRange, Legal, World, link, state, state_or_none, view}
 use Rattle.coord_world.proofs.legal.SoundLink.{sound_link}
 use Rattle.coord_world.proofs.legal.SoundNode.{SoundNode, sound_node}
-use Rattle.coord_world.specs.protocol.NumberedWorld.{World, view, state, state_or_none}
-use Rattle.coord_world.specs.protocol.Ranges.{InRange}
 use Rattle.coord_world.proofs.legal.StateKept.{new_legal}
 use Rattle.coord_world.proofs.legal.Sound.{Sound}
 

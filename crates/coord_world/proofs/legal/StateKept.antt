@@ -2,11 +2,9 @@
 use Rattle.std.proofs.Common.{◌≡◌, ℕ, true, ◌++◌, refl, sym, subst, arith}
 use Rattle.std.proofs.lemmas.Bool.Decides.{nat_tests}
 use Rattle.std.proofs.lemmas.List.{append-nil}
-use Rattle.coord_types.specs.IdealWorld.{Ideal}
-use Rattle.coord_types.specs.NodeState.{NodeState, new_node}
+use Rattle.coord_types.specs.Facade.{Ideal, NodeState, new_node}
 use Rattle.coord_types.proofs.Sets.{contains-empty, empty_of_len, len-empty}
-use Rattle.coord_node.specs.IdealRules.{ideal_applied, added, set_state}
-use Rattle.coord_node.specs.Rules.{idle, is_empty}
+use Rattle.coord_node.specs.Facade.{added, ideal_applied, idle, is_empty, set_state}
 use Rattle.coord_world.proofs.legal.SoundNode.{SoundNode}
 use Rattle.coord_world.specs.protocol.Links.{end_of}
 use Rattle.coord_world.proofs.legal.TransitionKept.{but_of, links_of, deed_kept}

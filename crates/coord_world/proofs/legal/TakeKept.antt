@@ -1,11 +1,9 @@
 -- A transition at the node that takes a message keeps the world sound, where it keeps the node's links legal.
 use Rattle.std.proofs.Common.{◌≡◌, ◌≢◌, ℕ, true, List, ◌∷◌, ◌++◌, refl, sym, ◌∙◌, subst, inl, inr, arith}
 use Rattle.std.proofs.lemmas.Bool.Decides.{nat_tests}
-use Rattle.coord_types.specs.IdealWorld.{Ideal}
-use Rattle.coord_types.specs.NodeSet.{contains}
+use Rattle.coord_types.specs.Facade.{Ideal, contains}
 use Rattle.coord_types.specs.declared.messages.Msg.{Msg}
-use Rattle.coord_node.specs.IdealRules.{ideal_applied, added, headed}
-use Rattle.coord_node.specs.Rules.{Transition}
+use Rattle.coord_node.specs.Facade.{Transition, added, headed, ideal_applied}
 use Rattle.coord_world.specs.protocol.Links.{Link, link, end_of}
 use Rattle.coord_world.proofs.legal.TransitionKept.{SoundBut, links_of, both_before, not_self, deed_kept, far_after}
 use Rattle.coord_tables.proofs.Cases.{same_or_apart}

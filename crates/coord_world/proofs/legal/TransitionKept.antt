@@ -1,11 +1,8 @@
 -- A transition at one node of a world keeps it sound, where it keeps the node's own links legal: the others stay.
 use Rattle.std.proofs.Common.{◌≡◌, ◌≢◌, ℕ, true, false, ◌++◌, refl, sym, ap, ◌∙◌, subst, arith}
 use Rattle.std.proofs.lemmas.Bool.Decides.{nat_tests}
-use Rattle.coord_types.specs.IdealWorld.{Ideal}
-use Rattle.coord_types.specs.NodeSet.{contains}
-use Rattle.coord_types.specs.NodeState.{NodeState}
-use Rattle.coord_node.specs.IdealRules.{ideal_applied, added}
-use Rattle.coord_node.specs.Rules.{Transition}
+use Rattle.coord_types.specs.Facade.{Ideal, NodeState, contains}
+use Rattle.coord_node.specs.Facade.{Transition, added, ideal_applied}
 use Rattle.coord_world.specs.protocol.Links.{Link, link, end_of, turned}
 use Rattle.coord_tables.proofs.Cases.{by_test, everywhere}
 use Rattle.coord_world.proofs.transitions.LegalBoth.{LegalBoth, LegalEnd}

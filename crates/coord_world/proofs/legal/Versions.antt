@@ -1,18 +1,12 @@
 -- Both ends of a link have one version: in a world in its ranges, and after a step that keeps all nodes and links.
 use Rattle.std.proofs.Common.{◌≡◌, ℕ, true, false, cond, eqb, refl, sym, ap, ◌∙◌, subst, arith}
 use Rattle.std.proofs.lemmas.Bool.Decides.{nat_tests}
-use Rattle.coord_types.specs.IdealWorld.{Ideal}
-use Rattle.coord_types.specs.NodeSet.{contains}
-use Rattle.coord_types.specs.NodeState.{NodeState}
+use Rattle.coord_types.specs.Facade.{Ideal, NodeState, contains}
 use Rattle.coord_types.specs.declared.steps.Command.TheVariants.{Add, Remove, Join, Drop, Reset, Confirm}
 use Rattle.coord_types.specs.declared.steps.Step.{Step}
 use Rattle.coord_types.specs.declared.steps.Step.TheVariants.{Order, Take, Clear}
-use Rattle.coord_node.specs.IdealRules.{ideal_next}
-use Rattle.coord_node.specs.Rules.{request, transition}
-use Rattle.coord_world.specs.protocol.Acceptance.{IsFresh}
-use Rattle.coord_world.specs.protocol.Next.{next}
-use Rattle.coord_world.specs.protocol.NumberedWorld.{World, is_linked, state, view}
-use Rattle.coord_world.specs.protocol.Ranges.{InRange}
+use Rattle.coord_node.specs.Facade.{ideal_next, request, transition}
+use Rattle.coord_world.specs.Facade.{InRange, IsFresh, World, is_linked, next, state, view}
 use Rattle.coord_world.specs.laws.Waves.{changes_topology}
 use Rattle.coord_world.proofs.lanes.Counts.{AllCount}
 use Rattle.coord_world.proofs.legal.Sound.{SameVersions}

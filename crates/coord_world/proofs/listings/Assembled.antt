@@ -1,23 +1,17 @@
 -- The world that fitting rows make is in its ranges, and has those rows.
-use Rattle.std.proofs.Common.{◌≡◌, ℕ, ◌≤◌, true, ◌||◌, List, [], ◌∷◌, Option, Some, None, map, cond, length, refl, sym, ap, ◌∙◌, subst, arith, T}
-use Rattle.std.specs.Prelude.{is_some}
+use Rattle.std.proofs.Common.{◌≡◌, ℕ, ◌≤◌, true, ◌||◌, List, [], ◌∷◌, Option, Some, None, map, cond, length, refl, sym, ap, ◌∙◌, subst, arith, T, is_some, nat_cmp}
 use Rattle.std.specs.Cmp.{nat_cmp_total}
 use Rattle.std.specs.List.{AllByRecursion}
-use Rattle.std.specs.Ordering.{nat_cmp}
 use Rattle.std.specs.FinMap.Entries.{find, is_sorted, is_sorted-where_key, same_entries}
-use Rattle.coord_types.specs.NodeMask.{IsMaskable}
+use Rattle.coord_types.specs.Facade.{IsMaskable, NodeState, contains, no_node}
 use Rattle.coord_types.specs.NodeSet as set
-use Rattle.coord_types.specs.NodeSet.{contains}
-use Rattle.coord_types.specs.NodeState.{NodeState, no_node}
 use Rattle.coord_types.specs.Table.{empty, entries, get}
 use Rattle.coord_types.proofs.Sets.{contains-empty, len-empty}
 use Rattle.coord_types.proofs.Tables as tables
 use Rattle.coord_types.proofs.Tables.{entries-from_sorted, get-empty, get-from_sorted, option_map}
 use Rattle.coord_link.specs.LaneMachine.{Lane}
 use Rattle.coord_world.specs.code.Assembly.{AreNodes, LinksRise, assembled, client_entry, node_entry, state_of}
-use Rattle.coord_world.specs.protocol.NumberedWorld.{is_linked, pair_cmp, pair_cmp_total, state, state_or_none}
-use Rattle.coord_world.specs.protocol.Rows.{by_client, by_id, client_row, goes_up, group_in, link_row, node_row, rows_of, HasEnds, LanesCarryWithin, LinkRowFits, NodeRowFits, RowIsDistant, Rows, RowsFit}
-use Rattle.coord_world.specs.protocol.Ranges.{CarryWithin, InRange, IsDistant, IsNode, LaneInRange, NodeInRange, SessionInRange, farthest}
+use Rattle.coord_world.specs.Facade.{CarryWithin, HasEnds, InRange, IsDistant, IsNode, LaneInRange, LanesCarryWithin, LinkRowFits, NodeInRange, NodeRowFits, RowIsDistant, Rows, RowsFit, SessionInRange, by_client, by_id, client_row, farthest, goes_up, group_in, is_linked, link_row, node_row, pair_cmp, pair_cmp_total, rows_of, state, state_or_none}
 use Rattle.coord_world.specs.declared.rows.parts.ClientRow.{ClientRow}
 use Rattle.coord_world.specs.declared.rows.parts.LinkRow.{LinkRow}
 use Rattle.coord_world.specs.declared.rows.parts.NodeRow.{NodeRow}

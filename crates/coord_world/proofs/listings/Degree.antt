@@ -1,6 +1,5 @@
 -- How many links stand in order between nodes that have so many neighbours, and so many lanes.
-use Rattle.std.proofs.Common.{◌≡◌, ℕ, ◌+◌, ◌<◌, ◌≤◌, true, false, List, [], ◌∷◌, None, cond, eqb, length, refl, sym, ap, ◌∙◌, arith}
-use Rattle.std.specs.Prelude.{is_some}
+use Rattle.std.proofs.Common.{◌≡◌, ℕ, ◌+◌, ◌<◌, ◌≤◌, true, false, List, [], ◌∷◌, None, cond, eqb, length, refl, sym, ap, ◌∙◌, arith, is_some}
 use Rattle.std.specs.List.{AllByRecursion}
 use Rattle.std.specs.Ordering.{eq_by_cmp}
 use Rattle.std.specs.FinMap.Entries.{below_all, is_sorted}
@@ -11,8 +10,7 @@ use Rattle.coord_types.specs.Table.{Table, get, has, len, remove}
 use Rattle.coord_types.proofs.Sets.{contains-remove}
 use Rattle.coord_types.proofs.Tables.{get-remove}
 use Rattle.coord_link.specs.LaneMachine.{Lane}
-use Rattle.coord_world.specs.protocol.NumberedWorld.{pair_cmp, pair_cmp_total}
-use Rattle.coord_world.specs.protocol.Rows.{by_ends, degree, is_end}
+use Rattle.coord_world.specs.Facade.{by_ends, degree, is_end, pair_cmp, pair_cmp_total}
 use Rattle.coord_world.specs.declared.rows.parts.LinkRow.{LinkRow}
 use Rattle.coord_tables.proofs.Cases.{by_test}
 use Rattle.coord_world.proofs.listings.WithLinks.{Turned}

@@ -1,14 +1,10 @@
 -- The rows of a raised world.
-use Rattle.std.proofs.Common.{◌≡◌, ℕ, List, [], ◌∷◌, map, refl, sym, ap, ◌∙◌}
-use Rattle.std.specs.Ordering.{nat_cmp}
+use Rattle.std.proofs.Common.{◌≡◌, ℕ, List, [], ◌∷◌, map, refl, sym, ap, ◌∙◌, nat_cmp}
 use Rattle.coord_types.specs.NodeState.{NodeState}
 use Rattle.coord_types.specs.Table.{change, changed_by, entries}
 use Rattle.coord_world.specs.laws.Raised.{raised, raised_node}
 use Rattle.coord_world.specs.laws.Waves.{AllReady}
-use Rattle.coord_world.specs.protocol.Legal.{Legal}
-use Rattle.coord_world.specs.protocol.NumberedWorld.{World}
-use Rattle.coord_world.specs.protocol.Ranges.{InRange}
-use Rattle.coord_world.specs.protocol.Rows.{Rows, RowsFit, node_row, rows_of}
+use Rattle.coord_world.specs.Facade.{InRange, Legal, Rows, RowsFit, World, node_row, rows_of}
 use Rattle.coord_world.proofs.legal.RaisedLegal.{raised_is_legal}
 use Rattle.coord_world.proofs.listings.RowsGiveWorld.{rows_give_world}
 use Rattle.coord_world.proofs.listings.RowsOfWorldFit.{rows_of_world_fit}

@@ -1,6 +1,5 @@
 -- Worlds in their ranges with the same rows are equal.
-use Rattle.std.proofs.Common.{◌≡◌, ℕ, true, List, [], ◌∷◌, Option, Some, None, map, cond, ltb, refl, sym, ap, ◌∙◌, subst, arith}
-use Rattle.std.specs.Prelude.{is_some, if◌then◌else◌}
+use Rattle.std.proofs.Common.{◌≡◌, ℕ, true, List, [], ◌∷◌, Option, Some, None, map, cond, ltb, refl, sym, ap, ◌∙◌, subst, arith, is_some, if◌then◌else◌}
 use Rattle.std.specs.FinMap.{nat_cmp-IsAntisymmetric}
 use Rattle.std.specs.FinMap.Entries.{find}
 use Rattle.std.specs.Ordering.{eq_by_cmp, nat_cmp}
@@ -12,9 +11,7 @@ use Rattle.coord_types.proofs.Sets.{same_nodes}
 use Rattle.coord_types.proofs.Tables.{get-change, get-entries, option_map, same_table}
 use Rattle.coord_link.specs.LaneMachine.{Lane}
 use Rattle.coord_world.specs.laws.Laws.{RowsGiveWorld}
-use Rattle.coord_world.specs.protocol.NumberedWorld.{World, pair_cmp, state, state_or_none}
-use Rattle.coord_world.specs.protocol.Rows.{by_id, client_row, goes_up, lane_or_none, link_row, node_row, rows_of}
-use Rattle.coord_world.specs.protocol.Ranges.{InRange}
+use Rattle.coord_world.specs.Facade.{InRange, World, by_id, client_row, goes_up, lane_or_none, link_row, node_row, pair_cmp, rows_of, state, state_or_none}
 use Rattle.coord_tables.proofs.Cases.{by_test, some_value}
 use Rattle.coord_world.proofs.listings.WithLinks.{find-ups, tied_pair, ups}
 use Rattle.coord_tables.proofs.Found.{same_number, same_pair}

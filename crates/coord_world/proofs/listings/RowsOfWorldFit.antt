@@ -1,25 +1,17 @@
 -- The rows of a world in its ranges fit together.
-use Rattle.std.proofs.Common.{◌≡◌, ℕ, ◌≤◌, Bool, true, false, List, [], ◌∷◌, Option, Some, None, map, cond, eqb, length, refl, sym, ap, ◌∙◌, subst, arith, Ordering}
-use Rattle.std.specs.Prelude.{is_some}
+use Rattle.std.proofs.Common.{◌≡◌, ℕ, ◌≤◌, Bool, true, false, List, [], ◌∷◌, Option, Some, None, map, cond, eqb, length, refl, sym, ap, ◌∙◌, subst, arith, Ordering, is_some, nat_cmp}
 use Rattle.std.specs.Cmp.{nat_cmp_total}
 use Rattle.std.specs.List.{AllByRecursion}
-use Rattle.std.specs.Ordering.{nat_cmp}
 use Rattle.std.specs.FinMap.Entries.{find, is_sorted, is_sorted-where_key}
 use Rattle.std.proofs.lemmas.Bool.Decides.{nat_tests}
-use Rattle.coord_types.specs.NodeMask.{IsMaskable}
+use Rattle.coord_types.specs.Facade.{IsMaskable, NodeState, contains, entries, get, has}
 use Rattle.coord_types.specs.NodeSet as set
-use Rattle.coord_types.specs.NodeSet.{contains}
-use Rattle.coord_types.specs.NodeState.{NodeState}
-use Rattle.coord_types.specs.Table.{entries, get, has}
 use Rattle.coord_types.proofs.Sets.{len-empty}
 use Rattle.coord_types.proofs.Tables.{get-entries, option_map}
 use Rattle.coord_link.specs.LaneMachine.{Lane}
 use Rattle.coord_world.specs.laws.Laws.{HasFewAborts, RowsHaveFewAborts, RowsOfWorldFit}
-use Rattle.coord_world.specs.protocol.Links.{aborts}
+use Rattle.coord_world.specs.Facade.{CarryWithin, InRange, LaneInRange, LanesCarryWithin, LinkRowFits, NodeRowFits, RowIsDistant, SessionInRange, World, aborts, by_ends, client_row, degree, farthest, goes_up, group_in, group_of, is_linked, lane_or_none, link_row, node_row, pair_cmp, pair_cmp_total, state, state_or_none}
 use Rattle.coord_world.proofs.lanes.IsShort.{lane_short}
-use Rattle.coord_world.specs.protocol.NumberedWorld.{World, is_linked, pair_cmp, pair_cmp_total, state, state_or_none}
-use Rattle.coord_world.specs.protocol.Rows.{by_ends, client_row, degree, goes_up, group_in, group_of, lane_or_none, link_row, node_row, LanesCarryWithin, LinkRowFits, NodeRowFits, RowIsDistant}
-use Rattle.coord_world.specs.protocol.Ranges.{CarryWithin, InRange, LaneInRange, SessionInRange, farthest}
 use Rattle.coord_world.specs.declared.rows.parts.LinkRow.{LinkRow}
 use Rattle.coord_tables.proofs.Cases.{by_test, some_value}
 use Rattle.coord_world.proofs.listings.Degree.{HasBoth, IsNear, degree_within, links_within}

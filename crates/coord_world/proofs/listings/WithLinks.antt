@@ -1,9 +1,7 @@
 -- The lanes and the neighbours that links make.
-use Rattle.std.proofs.Common.{◌≡◌, ℕ, ◌+◌, ◌<◌, ◌≤◌, Bool, true, false, ◌&&◌, ◌||◌, List, [], ◌∷◌, Option, Some, None, map, cond, eqb, length, refl, sym, ap, ◌∙◌, subst, arith}
-use Rattle.std.specs.Prelude.{is_some}
+use Rattle.std.proofs.Common.{◌≡◌, ℕ, ◌+◌, ◌<◌, ◌≤◌, Bool, true, false, ◌&&◌, ◌||◌, List, [], ◌∷◌, Option, Some, None, map, cond, eqb, length, refl, sym, ap, ◌∙◌, subst, arith, is_some, Equal}
 use Rattle.std.specs.List.{AllByRecursion}
 use Rattle.std.specs.Ordering.{eq_by_cmp, is_eq}
-use Rattle.std.specs.declared.cmp.Ordering.TheVariants.{Equal}
 use Rattle.std.specs.FinMap.Entries.{below_all, find, find-where_key, is_sorted, where_key}
 use Rattle.std.proofs.lemmas.Bool.Decides.{nat_tests}
 use Rattle.coord_types.specs.NodeSet as set
@@ -14,8 +12,7 @@ use Rattle.coord_types.proofs.Tables.{get-entries, get-insert}
 use Rattle.coord_link.specs.LaneMachine.{Lane}
 use Rattle.coord_node.specs.IdealRules.{is_link}
 use Rattle.coord_world.specs.code.Assembly.{near_with, with_links}
-use Rattle.coord_world.specs.protocol.NumberedWorld.{World, pair_cmp, pair_cmp_total}
-use Rattle.coord_world.specs.protocol.Rows.{by_ends, degree, goes_up, group_of, lane_or_none, link_row, HasEnds}
+use Rattle.coord_world.specs.Facade.{HasEnds, World, by_ends, degree, goes_up, group_of, lane_or_none, link_row, pair_cmp, pair_cmp_total}
 use Rattle.coord_world.specs.declared.rows.parts.LinkRow.{LinkRow}
 use Rattle.coord_world.specs.declared.rows.parts.NodeRow.{NodeRow}
 use Rattle.coord_tables.proofs.Cases.{by_test}

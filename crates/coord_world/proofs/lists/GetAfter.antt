@@ -6,12 +6,10 @@ use Rattle.coord_types.specs.Table as table
 use Rattle.coord_types.specs.Table.{get}
 use Rattle.coord_types.proofs.Tables.{get-insert, get-remove, get-change, option_map}
 use Rattle.coord_link.specs.LaneMachine.{Lane, sent, new_lane}
-use Rattle.coord_node.specs.IdealRules.{added, is_link}
-use Rattle.coord_node.specs.Rules.{Transition}
+use Rattle.coord_node.specs.Facade.{Transition, added, is_link}
 use Rattle.coord_types.specs.declared.steps.Command.TheVariants.{Join, Drop}
 use Rattle.coord_tables.proofs.Found.{same_pair}
-use Rattle.coord_world.specs.protocol.NumberedWorld.{World, pair_cmp}
-use Rattle.coord_world.specs.protocol.Next.{on_lane, with_transition, with_command, is_lane}
+use Rattle.coord_world.specs.Facade.{World, is_lane, on_lane, pair_cmp, with_command, with_transition}
 
 module _ (w : World) where
   -- a lane after a transition at u

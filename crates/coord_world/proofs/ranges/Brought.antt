@@ -3,9 +3,7 @@ use Rattle.std.proofs.Common.{ℕ, ◌+◌, ◌≤◌, cond, eqb, subst, arith}
 use Rattle.std.proofs.lemmas.Bool.Decides.{nat_tests}
 use Rattle.coord_types.specs.declared.steps.Step.{Step}
 use Rattle.coord_types.specs.declared.steps.Step.TheVariants.{Order, Take, Clear}
-use Rattle.coord_world.specs.protocol.Acceptance.{IsFresh}
-use Rattle.coord_world.specs.protocol.NumberedWorld.{World}
-use Rattle.coord_world.specs.protocol.Ranges.{CarryWithin, InRange, farthest}
+use Rattle.coord_world.specs.Facade.{CarryWithin, InRange, IsFresh, World, farthest}
 use Rattle.coord_world.proofs.acceptance.IsFresh.{fresh_take}
 use Rattle.coord_world.proofs.ranges.EveryNode.{brought_by}
 

@@ -1,24 +1,16 @@
 -- Distances stay in their ranges through a step, those of nodes and those that lanes carry.
-use Rattle.std.proofs.Common.{◌≡◌, ℕ, ◌+◌, ◌≤◌, true, List, [], ◌∷◌, ◌++◌, cond, eqb, refl, sym, ap, ◌∙◌, subst, arith}
+use Rattle.std.proofs.Common.{◌≡◌, ℕ, ◌+◌, ◌≤◌, true, List, [], ◌∷◌, ◌++◌, cond, eqb, refl, sym, ap, ◌∙◌, subst, arith, is_some}
 use Rattle.std.proofs.lemmas.Bool.Decides.{nat_tests}
-use Rattle.std.specs.Prelude.{is_some}
 use Rattle.coord_types.specs.NodeSet as set
-use Rattle.coord_types.specs.NodeState.{NodeState}
+use Rattle.coord_types.specs.Facade.{NodeState, behind_front, has}
 use Rattle.coord_types.specs.declared.messages.Msg.{Msg}
 use Rattle.coord_types.specs.declared.messages.Msg.TheVariants as msg
 use Rattle.coord_types.specs.declared.steps.Command.{Command}
 use Rattle.coord_types.specs.declared.steps.Command.TheVariants.{Add, Remove, Join, Drop, Reset, Confirm}
 use Rattle.coord_types.specs.declared.steps.Step.{Step}
 use Rattle.coord_types.specs.declared.steps.Step.TheVariants.{Order, Take, Clear}
-use Rattle.coord_types.specs.Messages.{behind_front}
-use Rattle.coord_types.specs.Table.{has}
-use Rattle.coord_node.specs.IdealRules.{added}
-use Rattle.coord_node.specs.Rules.{Transition, kept, lost, request, transition}
-use Rattle.coord_node.specs.Steps.{transitions}
-use Rattle.coord_world.specs.protocol.Acceptance.{IsFresh}
-use Rattle.coord_world.specs.protocol.Next.{next}
-use Rattle.coord_world.specs.protocol.NumberedWorld.{World, state}
-use Rattle.coord_world.specs.protocol.Ranges.{CarryWithin, InRange, IsDistant, brought, farthest}
+use Rattle.coord_node.specs.Facade.{Transition, added, kept, lost, request, transition, transitions}
+use Rattle.coord_world.specs.Facade.{CarryWithin, InRange, IsDistant, IsFresh, World, brought, farthest, next, state}
 use Rattle.coord_world.proofs.acceptance.FreshOrder.{Passes, fresh_order}
 use Rattle.coord_world.proofs.acceptance.IsFresh.{fresh_take}
 use Rattle.coord_world.proofs.lanes.EveryLane.{AllLanes, AllSend, LaneCarries, Makes, lanes_next}

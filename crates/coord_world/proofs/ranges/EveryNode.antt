@@ -1,21 +1,16 @@
 -- What every node keeps through a step, it keeps through each change of a node.
-use Rattle.std.proofs.Common.{◌≡◌, ℕ, ◌≤◌, true, Option, Some, None, refl, sym, ◌∙◌, ap, eqb, arith, subst}
-use Rattle.std.specs.Prelude.{is_some}
+use Rattle.std.proofs.Common.{◌≡◌, ℕ, ◌≤◌, true, Option, Some, None, refl, sym, ◌∙◌, ap, eqb, arith, subst, is_some}
 use Rattle.std.specs.Cmp.{nat_cmp_total}
 use Rattle.std.proofs.lemmas.Bool.Decides.{nat_tests}
 use Rattle.coord_types.specs.NodeSet as set
-use Rattle.coord_types.specs.NodeSet.{NodeSet}
-use Rattle.coord_types.specs.NodeState.{NodeState, new_node}
+use Rattle.coord_types.specs.Facade.{NodeSet, NodeState, new_node}
 use Rattle.coord_types.specs.Table.{Table, get, has, insert, remove}
 use Rattle.coord_types.specs.declared.steps.Command.{Command}
 use Rattle.coord_types.specs.declared.steps.Command.TheVariants.{Add, Remove, Join, Drop, Reset, Confirm}
 use Rattle.coord_types.specs.declared.steps.Step.{Step}
 use Rattle.coord_types.specs.declared.steps.Step.TheVariants.{Order, Take, Clear}
 use Rattle.coord_node.specs.Rules.{with_neighbour}
-use Rattle.coord_world.specs.protocol.Acceptance.{IsFresh}
-use Rattle.coord_world.specs.protocol.Next.{next}
-use Rattle.coord_world.specs.protocol.NumberedWorld.{World, state, state_or_none}
-use Rattle.coord_world.specs.protocol.Ranges.{InRange, brought}
+use Rattle.coord_world.specs.Facade.{InRange, IsFresh, World, brought, next, state, state_or_none}
 use Rattle.coord_world.proofs.transitions.NodeGoesOn.{Goes, goes_deed, goes_lost, goes_request}
 use Rattle.coord_world.proofs.acceptance.IsFresh.{fresh_take}
 use Rattle.coord_tables.proofs.Found.{get-set, get-unset}

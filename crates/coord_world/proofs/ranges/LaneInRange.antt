@@ -6,11 +6,8 @@ use Rattle.coord_types.specs.declared.steps.Command.TheVariants.{Join}
 use Rattle.coord_types.specs.declared.steps.Step.{Step}
 use Rattle.coord_types.specs.declared.steps.Step.TheVariants.{Order}
 use Rattle.coord_link.specs.LaneMachine.{Lane, new_lane}
-use Rattle.coord_node.specs.IdealRules.{is_link}
-use Rattle.coord_world.specs.protocol.Next.{next, with_command}
-use Rattle.coord_node.specs.Steps.{transitions}
-use Rattle.coord_world.specs.protocol.NumberedWorld.{World, state}
-use Rattle.coord_world.specs.protocol.Ranges.{InRange, LaneInRange}
+use Rattle.coord_node.specs.Facade.{is_link, transitions}
+use Rattle.coord_world.specs.Facade.{InRange, LaneInRange, World, next, state, with_command}
 use Rattle.coord_world.proofs.lanes.EveryLane.{AllLanes, Any, LaneCarries, Makes, all_any, lanes_next}
 use Rattle.coord_world.proofs.lists.GetAfter.{lane_made}
 

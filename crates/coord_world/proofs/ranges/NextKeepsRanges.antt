@@ -1,22 +1,16 @@
 -- A fresh step keeps the ranges of a world.
-use Rattle.std.proofs.Common.{◌≡◌, ℕ, ◌+◌, ◌≤◌, true, List, [], ◌∷◌, Option, Some, None, refl, sym, ◌∙◌, subst, arith}
-use Rattle.std.specs.Prelude.{is_some}
-use Rattle.coord_types.specs.NodeSet.{contains}
+use Rattle.std.proofs.Common.{◌≡◌, ℕ, ◌+◌, ◌≤◌, true, List, [], ◌∷◌, Option, Some, None, refl, sym, ◌∙◌, subst, arith, is_some}
+use Rattle.coord_types.specs.Facade.{NodeState, contains}
 use Rattle.std.proofs.lemmas.Bool.Decides.{nat_tests}
-use Rattle.coord_types.specs.NodeState.{NodeState}
 use Rattle.coord_types.specs.Table.{get, has, insert, len, remove}
 use Rattle.coord_types.specs.declared.steps.Command.TheVariants.{Add, Remove, Join, Drop, Reset, Confirm}
 use Rattle.coord_types.specs.declared.steps.Step.{Step}
 use Rattle.coord_types.specs.declared.steps.Step.TheVariants.{Order, Take, Clear}
 use Rattle.coord_types.proofs.Sets.{contains-empty}
 use Rattle.coord_link.specs.LaneMachine.{new_lane, took}
-use Rattle.coord_node.specs.Rules.{Transition, is_parent}
-use Rattle.coord_node.specs.Steps.{transitions, transitions_ordered}
-use Rattle.coord_world.specs.protocol.Acceptance.{IsFresh}
+use Rattle.coord_node.specs.Facade.{Transition, is_parent, transitions, transitions_ordered}
+use Rattle.coord_world.specs.Facade.{CarryWithin, InRange, IsDistant, IsFresh, IsNode, NodeInRange, World, farthest, is_linked, next, on_lane, state, state_or_none, view, with_command, with_transition, with_transitions}
 use Rattle.coord_world.specs.laws.Laws.{NextKeepsRanges}
-use Rattle.coord_world.specs.protocol.Next.{with_transitions, with_transition, next, on_lane, with_command}
-use Rattle.coord_world.specs.protocol.NumberedWorld.{World, is_linked, state, state_or_none, view}
-use Rattle.coord_world.specs.protocol.Ranges.{CarryWithin, InRange, IsDistant, IsNode, NodeInRange, farthest}
 use Rattle.coord_world.proofs.acceptance.IsFresh.{fresh_count}
 use Rattle.coord_world.proofs.ranges.OneGroup.{OneGroup, group_next}
 use Rattle.coord_world.proofs.ranges.LaneInRange.{inc_next, lane_ranges_next}

@@ -5,10 +5,7 @@ use Rattle.coord_types.specs.declared.steps.Command.TheVariants.{Add}
 use Rattle.coord_types.specs.declared.steps.Step.{Step}
 use Rattle.coord_types.specs.declared.steps.Step.TheVariants.{Order}
 use Rattle.coord_types.proofs.Sets.{len-empty}
-use Rattle.coord_world.specs.protocol.Acceptance.{IsFresh}
-use Rattle.coord_world.specs.protocol.Next.{next}
-use Rattle.coord_world.specs.protocol.NumberedWorld.{World}
-use Rattle.coord_world.specs.protocol.Ranges.{InRange, NodeInRange, StepInRange}
+use Rattle.coord_world.specs.Facade.{InRange, IsFresh, NodeInRange, StepInRange, World, next}
 use Rattle.coord_world.proofs.ranges.EveryNode.{Adds, AllRows, Carries, brought_by, rows_next}
 use Rattle.coord_world.proofs.lists.TableLen.{len-insert_le}
 

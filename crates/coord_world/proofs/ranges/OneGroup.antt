@@ -1,16 +1,12 @@
 -- A step keeps the groups of nodes, and so links stay within them.
 use Rattle.std.proofs.Common.{◌≡◌, ◌≢◌, ℕ, true, refl, sym, ◌∙◌, ap, arith}
 use Rattle.std.proofs.lemmas.Bool.Decides.{nat_tests}
-use Rattle.coord_types.specs.IdealWorld.{Ideal}
-use Rattle.coord_types.specs.NodeSet.{contains}
-use Rattle.coord_types.specs.NodeState.{NodeState, new_node, no_node}
+use Rattle.coord_types.specs.Facade.{Ideal, NodeState, contains, new_node, no_node}
 use Rattle.coord_types.specs.declared.steps.Command.TheVariants.{Add, Remove, Join, Drop, Reset, Confirm}
 use Rattle.coord_types.specs.declared.steps.Step.{Step}
 use Rattle.coord_types.specs.declared.steps.Step.TheVariants.{Order, Take, Clear}
-use Rattle.coord_node.specs.IdealRules.{ideal_applied, headed, ideal_next, linked_up, set_state}
-use Rattle.coord_node.specs.Rules.{Transition, transition, is_empty, request}
-use Rattle.coord_world.specs.protocol.Acceptance.{IsFresh}
-use Rattle.coord_world.specs.protocol.NumberedWorld.{World, view, state, state_or_none}
+use Rattle.coord_node.specs.Facade.{Transition, headed, ideal_applied, ideal_next, is_empty, linked_up, request, set_state, transition}
+use Rattle.coord_world.specs.Facade.{IsFresh, World, state, state_or_none, view}
 use Rattle.coord_world.proofs.transitions.NodeGoesOn.{goes_deed, goes_lost, goes_request}
 use Rattle.coord_world.proofs.legal.DropKept.{dropped}
 use Rattle.coord_world.proofs.legal.SoundNext.{new_alone}

@@ -11,12 +11,8 @@ use Rattle.coord_types.specs.declared.steps.Kind.TheVariants.{Started, Finished}
 use Rattle.coord_types.specs.declared.steps.Session.{Session}
 use Rattle.coord_types.specs.declared.steps.Step.{Step}
 use Rattle.coord_types.specs.declared.steps.Step.TheVariants.{Order, Take, Clear}
-use Rattle.coord_node.specs.Rules.{is_empty}
-use Rattle.coord_node.specs.Steps.{kind_of_request, kind_ordered}
-use Rattle.coord_world.specs.protocol.Acceptance.{IsFresh, last_number}
-use Rattle.coord_world.specs.protocol.Next.{next, reply}
-use Rattle.coord_world.specs.protocol.NumberedWorld.{World, state}
-use Rattle.coord_world.specs.protocol.Ranges.{InRange, SessionInRange, StepInRange, answers}
+use Rattle.coord_node.specs.Facade.{is_empty, kind_of_request, kind_ordered}
+use Rattle.coord_world.specs.Facade.{InRange, IsFresh, SessionInRange, StepInRange, World, answers, last_number, next, reply, state}
 use Rattle.coord_tables.proofs.Cases.{by_test}
 use Rattle.coord_tables.proofs.Found.{get-set}
 use Rattle.coord_world.proofs.lists.GetAfter.{each_made}

@@ -1,6 +1,5 @@
 -- The reply that is kept for a client is that of its last order.
-use Rattle.std.proofs.Common.{◌≡◌, ◌⊎◌, ℕ, List, [], ◌∷◌, Some, refl, ap, ◌∙◌, inl, inr, arith}
-use Rattle.std.specs.Prelude.{All}
+use Rattle.std.proofs.Common.{◌≡◌, ◌⊎◌, ℕ, List, [], ◌∷◌, Some, refl, ap, ◌∙◌, inl, inr, arith, All}
 use Rattle.std.proofs.lemmas.Bool.Decides.{nat_tests}
 use Rattle.std.proofs.lemmas.List.Elements.{All-cons, All-nil}
 use Rattle.coord_types.specs.Table.{get}
@@ -8,9 +7,7 @@ use Rattle.coord_types.specs.declared.steps.Command.{Command}
 use Rattle.coord_types.specs.declared.steps.Session.{Session}
 use Rattle.coord_types.specs.declared.steps.Step.{Step}
 use Rattle.coord_types.specs.declared.steps.Step.TheVariants.{Clear, Order, Take}
-use Rattle.coord_world.specs.protocol.Next.{fold, next, reply}
-use Rattle.coord_world.specs.protocol.NumberedWorld.{World}
-use Rattle.coord_world.specs.protocol.Outputs.{outputs}
+use Rattle.coord_world.specs.Facade.{World, fold, next, outputs, reply}
 use Rattle.coord_world.specs.laws.KeptReplies.{IsLastOrder, IsNotBy, KeptReplyLaw}
 use Rattle.coord_tables.proofs.Cases.{same_or_apart}
 use Rattle.coord_tables.proofs.Found.{get-set}

@@ -10,11 +10,8 @@ use Rattle.coord_types.specs.declared.steps.Step.{Step}
 use Rattle.coord_types.specs.declared.steps.Step.TheVariants.{Order, Take, Clear}
 use Rattle.coord_types.proofs.Tables.{option_map}
 use Rattle.coord_link.specs.LaneMachine.{Lane, cleared, new_lane, sent, took}
-use Rattle.coord_node.specs.IdealRules.{added, is_link}
-use Rattle.coord_node.specs.Rules.{Transition}
-use Rattle.coord_node.specs.Steps.{transitions, transitions_ordered}
-use Rattle.coord_world.specs.protocol.Next.{with_transitions, with_transition, is_lane, next, on_lane, with_command}
-use Rattle.coord_world.specs.protocol.NumberedWorld.{World, state}
+use Rattle.coord_node.specs.Facade.{Transition, added, is_link, transitions, transitions_ordered}
+use Rattle.coord_world.specs.Facade.{World, is_lane, next, on_lane, state, with_command, with_transition, with_transitions}
 use Rattle.coord_world.proofs.lists.GetAfter.{lane_done, lane_on, lane_left, lane_made}
 
 -- the lane from x to y after a step

@@ -6,9 +6,7 @@ use Rattle.coord_types.specs.declared.packets.DataPacket.{DataPacket}
 use Rattle.coord_types.specs.declared.packets.ReceiptPacket.{ReceiptPacket}
 use Rattle.coord_types.specs.declared.steps.Step.{Step}
 use Rattle.coord_link.specs.LaneMachine.{Lane, cleared, new_lane, sent, took}
-use Rattle.coord_world.specs.protocol.Acceptance.{IsFresh}
-use Rattle.coord_world.specs.protocol.Next.{fold, next}
-use Rattle.coord_world.specs.protocol.NumberedWorld.{World}
+use Rattle.coord_world.specs.Facade.{IsFresh, World, fold, next}
 use Rattle.coord_world.specs.laws.Trails.{IsSound}
 use Rattle.coord_world.proofs.acceptance.IsFresh.{fresh_take}
 use Rattle.coord_world.proofs.release.LaneAfterStep.{LaneStep, lane_step}

@@ -10,10 +10,7 @@ use Rattle.coord_types.specs.declared.packets.DataPacket.{DataPacket}
 use Rattle.coord_types.specs.declared.packets.ReceiptPacket.{ReceiptPacket}
 use Rattle.coord_types.specs.declared.steps.Step.{Step}
 use Rattle.coord_link.specs.LaneMachine.{Lane}
-use Rattle.coord_world.specs.protocol.Acceptance.{has_receipted, has_sent, lane}
-use Rattle.coord_world.specs.protocol.Next.{fold, next}
-use Rattle.coord_world.specs.protocol.NumberedWorld.{World}
-use Rattle.coord_world.specs.protocol.Outputs.{again, outputs}
+use Rattle.coord_world.specs.Facade.{World, again, fold, has_receipted, has_sent, lane, next, outputs}
 use Rattle.coord_world.specs.laws.Release.{IsReleased, ReleaseLaw, ResendLaw, TellsReleased, outputs_of}
 use Rattle.coord_world.specs.laws.Trails.{IsSound}
 use Rattle.coord_tables.proofs.Cases.{by_test}

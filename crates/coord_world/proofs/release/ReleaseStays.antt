@@ -11,9 +11,7 @@ use Rattle.coord_types.specs.declared.steps.Step.TheVariants.{Clear, Order, Take
 use Rattle.coord_link.specs.LaneMachine.{Lane, Tests, against_clear, against_take, refused_or}
 use Rattle.coord_world.specs.declared.verdicts.Verdict.{Verdict}
 use Rattle.coord_world.specs.declared.verdicts.Verdict.TheVariants.{Fresh}
-use Rattle.coord_world.specs.protocol.Acceptance.{IsFresh, accepts, against_data, against_receipt, has_receipted, has_sent, is_exhausted, lane}
-use Rattle.coord_world.specs.protocol.Next.{fold}
-use Rattle.coord_world.specs.protocol.NumberedWorld.{World}
+use Rattle.coord_world.specs.Facade.{IsFresh, World, accepts, against_data, against_receipt, fold, has_receipted, has_sent, is_exhausted, lane}
 use Rattle.coord_world.specs.laws.Release.{FreshWhereReleased, IsReleased, IsClearable, NamesReleased, IsTakeable, ReleaseStays, TellsReleased}
 use Rattle.coord_world.specs.laws.Trails.{IsSound}
 use Rattle.coord_tables.proofs.Cases.{by_test}

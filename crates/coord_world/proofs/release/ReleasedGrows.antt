@@ -3,9 +3,7 @@ use Rattle.std.proofs.Common.{◌≡◌, ℕ, zero, suc, ◌+◌, ◌≤◌, Lis
 use Rattle.std.proofs.lemmas.List.Elements.{Contains-append_cases, Contains-append_left, Contains-append_right}
 use Rattle.coord_types.specs.declared.outputs.Output.{Output}
 use Rattle.coord_types.specs.declared.steps.Step.{Step}
-use Rattle.coord_world.specs.protocol.Next.{fold, next}
-use Rattle.coord_world.specs.protocol.NumberedWorld.{World}
-use Rattle.coord_world.specs.protocol.Outputs.{outputs}
+use Rattle.coord_world.specs.Facade.{World, fold, next, outputs}
 use Rattle.coord_world.specs.laws.Release.{ReleasedFromBase, ReleasedGrows, outputs_of}
 use Rattle.coord_world.proofs.release.ReleaseLaw.{again_released}
 use Rattle.coord_world.proofs.release.Membership.{not_in_nil}

@@ -10,8 +10,7 @@ use Rattle.coord_types.specs.declared.packets.DataPacket.{DataPacket}
 use Rattle.coord_types.specs.declared.packets.ReceiptPacket.{ReceiptPacket}
 use Rattle.coord_types.proofs.Tables.{get-entries}
 use Rattle.coord_link.specs.LaneMachine.{Lane, is_front_taken}
-use Rattle.coord_world.specs.protocol.NumberedWorld.{World, pair_cmp, pair_cmp_total}
-use Rattle.coord_world.specs.protocol.Outputs.{again, again_by, all_again, all_sent, front_packet, receipt, sent_by}
+use Rattle.coord_world.specs.Facade.{World, again, again_by, all_again, all_sent, front_packet, pair_cmp, pair_cmp_total, receipt, sent_by}
 use Rattle.coord_world.specs.laws.Trails.{IsSound}
 use Rattle.coord_tables.proofs.Cases.{by_test}
 use Rattle.coord_tables.proofs.KeyedLists.{each_entry}

@@ -2,8 +2,7 @@
 use Rattle.std.proofs.Common.{◌≡◌, ◌⊎◌, ℕ, ◌+◌, true, false, List, [], ◌∷◌, ◌++◌, Option, Some, None, cond, refl, sym, ap, ◌∙◌, subst, inl, inr, Contains, arith}
 use Rattle.std.proofs.lemmas.Bool.Decides.{nat_tests}
 use Rattle.std.proofs.lemmas.List.Elements.{Contains-append_cases, Contains-append_left, Contains-append_right}
-use Rattle.coord_types.specs.Messages.{is_nil}
-use Rattle.coord_types.specs.Table.{entries, get}
+use Rattle.coord_types.specs.Facade.{entries, get, is_nil}
 use Rattle.coord_types.specs.declared.messages.Msg.{Msg}
 use Rattle.coord_types.specs.declared.outputs.Output.{Output}
 use Rattle.coord_types.specs.declared.outputs.Output.TheVariants.{Receipted, Signalled, Sent}
@@ -13,12 +12,8 @@ use Rattle.coord_types.specs.declared.steps.Step.{Step}
 use Rattle.coord_types.specs.declared.steps.Step.TheVariants.{Clear, Order, Take}
 use Rattle.coord_types.proofs.Tables.{get-entries}
 use Rattle.coord_link.specs.LaneMachine.{Lane, cleared, new_lane, sent, took}
-use Rattle.coord_node.specs.Rules.{Transition}
-use Rattle.coord_node.specs.Steps.{transitions}
-use Rattle.coord_world.specs.protocol.Acceptance.{IsFresh}
-use Rattle.coord_world.specs.protocol.Next.{next}
-use Rattle.coord_world.specs.protocol.NumberedWorld.{World, pair_cmp, state}
-use Rattle.coord_world.specs.protocol.Outputs.{all_sent, front_packet, had_front, outputs, receipt, receipts, sent_by, signals}
+use Rattle.coord_node.specs.Facade.{Transition, transitions}
+use Rattle.coord_world.specs.Facade.{IsFresh, World, all_sent, front_packet, had_front, next, outputs, pair_cmp, receipt, receipts, sent_by, signals, state}
 use Rattle.coord_world.specs.laws.Trails.{IsSound}
 use Rattle.coord_tables.proofs.Cases.{by_test}
 use Rattle.coord_world.proofs.lanes.Transit.{counts_cases}

@@ -1,15 +1,13 @@
 -- What is known of a packet that is refused for nothing but its release.
 use Rattle.std.proofs.Common.{◌≡◌, ℕ, ◌+◌, ◌≤◌, true, false, [], ◌∷◌, Option, Some, None, Ok, Err, Result, cond, refl, arith}
 use Rattle.std.proofs.lemmas.Bool.Decides.{nat_tests}
-use Rattle.coord_types.specs.Messages.{begins_with}
-use Rattle.coord_types.specs.Table.{get}
+use Rattle.coord_types.specs.Facade.{begins_with, get}
 use Rattle.coord_types.specs.declared.packets.DataPacket.{DataPacket}
 use Rattle.coord_types.specs.declared.packets.ReceiptPacket.{ReceiptPacket}
 use Rattle.coord_types.specs.declared.refusals.Refusal.{Refusal}
 use Rattle.coord_types.specs.declared.steps.Step.TheVariants.{Take}
 use Rattle.coord_link.specs.LaneMachine.{Lane, Tests, against_clear, against_take, refused_or}
-use Rattle.coord_world.specs.protocol.Acceptance.{IsFresh, against_data, lane, of_incarnation}
-use Rattle.coord_world.specs.protocol.NumberedWorld.{World}
+use Rattle.coord_world.specs.Facade.{IsFresh, World, against_data, lane, of_incarnation}
 use Rattle.coord_world.specs.laws.Release.{IsClearable, IsTakeable}
 use Rattle.coord_tables.proofs.Cases.{by_test}
 use Rattle.coord_world.proofs.acceptance.IsFresh.{NoneHolds, begins_is, tests_passed, with_incarnation}

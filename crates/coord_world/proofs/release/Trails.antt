@@ -1,15 +1,9 @@
 -- A trail, step by step.
-use Rattle.std.proofs.Common.{◌≡◌, ℕ, zero, suc, List, [], ◌∷◌, ◌++◌, take, drop, refl, sym, ap, subst, append-nil, arith}
-use Rattle.std.specs.Prelude.{All}
+use Rattle.std.proofs.Common.{◌≡◌, ℕ, zero, suc, List, [], ◌∷◌, ◌++◌, take, drop, refl, sym, ap, subst, append-nil, arith, All}
 use Rattle.std.proofs.lemmas.List.Elements.{All-head, All-tail, All-cons, All-nil}
 use Rattle.coord_types.specs.declared.steps.Step.{Step}
-use Rattle.coord_world.specs.protocol.Acceptance.{IsFresh}
-use Rattle.coord_world.specs.protocol.Next.{next, fold, reply}
-use Rattle.coord_world.specs.protocol.NumberedWorld.{World}
-use Rattle.coord_world.specs.protocol.Outputs.{outputs, outs}
-use Rattle.coord_world.specs.protocol.Ranges.{StepInRange}
+use Rattle.coord_world.specs.Facade.{InTurn, IsFresh, StepInRange, World, fold, next, outputs, outs, reply}
 use Rattle.coord_world.specs.laws.Trails.{IsTrail, IsSound, FoldCounts, TrailKeepsWorlds, TrailIsCut, TrailGoesOn}
-use Rattle.coord_world.specs.protocol.InTurn.{InTurn}
 use Rattle.coord_world.proofs.acceptance.FreshOverItself.{itself}
 use Rattle.coord_world.proofs.legal.NextKeepsLegal.{legal_next}
 use Rattle.coord_world.proofs.ranges.NextKeepsRanges.{ranges_next}

@@ -1,18 +1,15 @@
 -- What a step that a world is ready for asks of the program is there.
-use Rattle.std.proofs.Common.{◌≡◌, ℕ, ◌-◌, ◌^◌, ◌<◌, Some, IsSome, ap, ◌∙◌, arith, lit<}
-use Rattle.std.specs.Prelude.{is_some}
+use Rattle.std.proofs.Common.{◌≡◌, ℕ, ◌-◌, ◌^◌, ◌<◌, Some, IsSome, ap, ◌∙◌, arith, lit<, is_some}
 use Rattle.coord_types.specs.Table.{get, len}
 use Rattle.coord_types.specs.declared.packets.DataPacket.{DataPacket}
 use Rattle.coord_types.specs.declared.steps.Command.TheVariants.{Confirm, Join, Drop, Reset}
 use Rattle.coord_types.specs.declared.steps.Step.TheVariants.{Order, Take}
 use Rattle.coord_link.specs.LaneMachine.{Lane, took}
 use Rattle.coord_node.specs.Rules.{request, lost, transition}
-use Rattle.coord_world.specs.protocol.NumberedWorld.{World, state}
-use Rattle.coord_world.specs.protocol.Next.{on_lane, with_command, with_transition}
+use Rattle.coord_world.specs.Facade.{InRange, World, brought, on_lane, state, with_command, with_transition}
 use Rattle.coord_world.specs.code.Fronts.{AreNumbered}
 use Rattle.coord_world.specs.code.NodeSteps.{CanApply}
 use Rattle.coord_world.specs.code.Ready.{IsReadyFor}
-use Rattle.coord_world.specs.protocol.Ranges.{InRange, brought}
 use Rattle.coord_world.proofs.ranges.Brought.{brought_within, farthest_le}
 use Rattle.coord_world.proofs.acceptance.IsFresh.{fresh_take}
 use Rattle.coord_world.proofs.acceptance.FreshOrder.{fresh_order}

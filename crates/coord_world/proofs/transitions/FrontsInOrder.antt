@@ -1,17 +1,14 @@
 -- The new fronts of lanes are those at some keys in ascending order, where the lanes at all other keys have none.
-use Rattle.std.proofs.Common.{◌≡◌, ℕ, Bool, true, false, ◌&&◌, ◌||◌, List, [], ◌∷◌, ◌++◌, Option, Some, None, cond, eqb, refl, sym, ap, ◌∙◌, subst, arith, append_assoc}
+use Rattle.std.proofs.Common.{◌≡◌, ℕ, Bool, true, false, ◌&&◌, ◌||◌, List, [], ◌∷◌, ◌++◌, Option, Some, None, cond, eqb, refl, sym, ap, ◌∙◌, subst, arith, append_assoc, Ordering, Less, Equal, Greater}
 use Rattle.std.specs.List.{AllByRecursion}
 use Rattle.std.specs.Ordering.{eq_by_cmp, is_eq, is_lt, nat_cmp, ordering_reverse, ordering_then}
-use Rattle.std.specs.declared.cmp.Ordering.{Ordering}
-use Rattle.std.specs.declared.cmp.Ordering.TheVariants.{Less, Equal, Greater}
 use Rattle.std.specs.FinMap.Entries.{below_all, find, is_sorted}
 use Rattle.std.proofs.lemmas.Bool.Decides.{nat_tests}
 use Rattle.coord_types.specs.Table.{Table, entries, get}
 use Rattle.coord_types.proofs.Tables.{get-entries}
 use Rattle.coord_types.specs.declared.outputs.Output.{Output}
 use Rattle.coord_link.specs.LaneMachine.{Lane}
-use Rattle.coord_world.specs.protocol.NumberedWorld.{pair_cmp, pair_cmp_total}
-use Rattle.coord_world.specs.protocol.Outputs.{all_sent, sent_by}
+use Rattle.coord_world.specs.Facade.{all_sent, pair_cmp, pair_cmp_total, sent_by}
 use Rattle.coord_tables.proofs.Cases.{both}
 use Rattle.coord_tables.proofs.Found.{same_pair}
 use Rattle.coord_tables.proofs.KeyedLists.{each_entry, find-below}

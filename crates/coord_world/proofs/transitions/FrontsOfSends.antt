@@ -1,10 +1,7 @@
 -- A message becomes a new front where the queue is empty, so what a node sends makes its new fronts, and other lanes have none.
-use Rattle.std.proofs.Common.{◌≡◌, ℕ, ◌+◌, Bool, true, false, ◌&&◌, ◌||◌, List, [], ◌∷◌, ◌++◌, Option, Some, None, map, cond, eqb, refl, sym, ap, ◌∙◌, subst, arith}
-use Rattle.std.specs.Prelude.{nat_eq, nat_lt}
+use Rattle.std.proofs.Common.{◌≡◌, ℕ, ◌+◌, Bool, true, false, ◌&&◌, ◌||◌, List, [], ◌∷◌, ◌++◌, Option, Some, None, map, cond, eqb, refl, sym, ap, ◌∙◌, subst, arith, nat_eq, nat_lt, nat_cmp, Less}
 use Rattle.std.specs.List.{AllByRecursion, list_any}
 use Rattle.std.specs.List.Sorted.{IsStrictlySortedBy}
-use Rattle.std.specs.Ordering.{nat_cmp}
-use Rattle.std.specs.declared.cmp.Ordering.TheVariants.{Less}
 use Rattle.std.proofs.lemmas.Bool.Decides.{nat_tests}
 use Rattle.coord_types.specs.NodeSet as set
 use Rattle.coord_types.specs.Table.{Table, entries, get}
@@ -12,10 +9,8 @@ use Rattle.coord_types.proofs.Sets.{contains-items, items-sorted}
 use Rattle.coord_types.proofs.Tables.{option_map}
 use Rattle.coord_types.specs.declared.messages.Msg.{Msg}
 use Rattle.coord_link.specs.LaneMachine.{Lane, sent, took}
-use Rattle.coord_node.specs.IdealRules.{added}
-use Rattle.coord_node.specs.Rules.{Transition, sends_of}
-use Rattle.coord_world.specs.protocol.NumberedWorld.{pair_cmp, pair_cmp_total}
-use Rattle.coord_world.specs.protocol.Outputs.{all_sent, had_front, sent_by}
+use Rattle.coord_node.specs.Facade.{Transition, added, sends_of}
+use Rattle.coord_world.specs.Facade.{all_sent, had_front, pair_cmp, pair_cmp_total, sent_by}
 use Rattle.coord_world.specs.code.Fronts.{front_sent, fronts_sent}
 use Rattle.coord_tables.proofs.Cases.{by_test}
 use Rattle.coord_world.proofs.release.LaneAfterStep.{sent_none}

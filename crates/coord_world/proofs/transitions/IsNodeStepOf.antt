@@ -1,10 +1,7 @@
 -- A node step of the program is the transition that it stands for: its messages, sent one after the other, join the lanes.
-use Rattle.std.proofs.Common.{◌≡◌, ℕ, Bool, true, false, ◌&&◌, List, [], ◌∷◌, ◌++◌, map, length, ◌<◌, Option, Some, None, refl, sym, ap, ◌∙◌, subst, arith, cond, eqb}
-use Rattle.std.specs.Prelude.{nat_eq}
+use Rattle.std.proofs.Common.{◌≡◌, ℕ, Bool, true, false, ◌&&◌, List, [], ◌∷◌, ◌++◌, map, length, ◌<◌, Option, Some, None, refl, sym, ap, ◌∙◌, subst, arith, cond, eqb, nat_eq, nat_cmp, Less}
 use Rattle.std.specs.List.{AllByRecursion, list_any}
 use Rattle.std.specs.List.Sorted.{IsStrictlySortedBy}
-use Rattle.std.specs.Ordering.{nat_cmp}
-use Rattle.std.specs.declared.cmp.Ordering.TheVariants.{Less}
 use Rattle.std.proofs.lemmas.Bool.Decides.{nat_tests}
 use Rattle.coord_types.specs.NodeSet as set
 use Rattle.coord_types.specs.Table.{Table, get, change, insert}
@@ -12,11 +9,9 @@ use Rattle.coord_types.proofs.Sets.{contains-items, items-sorted}
 use Rattle.coord_types.proofs.Tables.{get-change, option_map, same_table}
 use Rattle.coord_types.specs.declared.messages.Msg.{Msg}
 use Rattle.coord_link.specs.LaneMachine.{Lane, sent}
-use Rattle.coord_node.specs.Rules.{Transition, sends_of}
-use Rattle.coord_node.specs.IdealRules.{added}
+use Rattle.coord_node.specs.Facade.{Transition, added, sends_of}
 use Rattle.coord_world.specs.declared.step.node_step.NodeStep.{NodeStep}
-use Rattle.coord_world.specs.protocol.NumberedWorld.{World, pair_cmp, pair_cmp_total}
-use Rattle.coord_world.specs.protocol.Next.{with_transition, is_lane}
+use Rattle.coord_world.specs.Facade.{World, is_lane, pair_cmp, pair_cmp_total, with_transition}
 use Rattle.coord_world.specs.code.Sends.{CanSend, sent_lane, sent_lanes}
 use Rattle.coord_world.specs.code.NodeSteps.{IsNodeStepOf, node_stepped}
 use Rattle.coord_tables.proofs.Cases.{by_test}

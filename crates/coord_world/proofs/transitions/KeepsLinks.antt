@@ -3,13 +3,11 @@ use Rattle.std.proofs.Common.{◌≡◌, ◌≢◌, ℕ, ◌+◌, Bool, true, fa
 use Rattle.std.proofs.lemmas.List.{append-nil}
 use Rattle.std.proofs.lemmas.Bool.Decides.{nat_tests, eqb_tells}
 use Rattle.coord_types.specs.NodeSet as set
-use Rattle.coord_types.specs.NodeSet.{NodeSet, contains}
-use Rattle.coord_types.specs.NodeState.{NodeState}
+use Rattle.coord_types.specs.Facade.{NodeSet, NodeState, contains}
 use Rattle.coord_types.specs.declared.messages.Mode.TheVariants.{Ready, Abort, Converge}
 use Rattle.coord_types.specs.declared.messages.Msg.TheVariants as msg
 use Rattle.coord_types.proofs.Sets.{contains-empty, len-empty}
-use Rattle.coord_node.specs.IdealRules.{added}
-use Rattle.coord_node.specs.Rules.{Transition, answer, carried, finish, idle, is_empty, is_parent, wave_back, wave_on, without, without_parent}
+use Rattle.coord_node.specs.Facade.{Transition, added, answer, carried, finish, idle, is_empty, is_parent, wave_back, wave_on, without, without_parent}
 use Rattle.coord_world.specs.protocol.Links.{Link, end_of, is_abort, is_ready}
 use Rattle.coord_world.proofs.transitions.LegalBoth.{LegalBoth, finishes, converges_up, converges_far, wave_goes_on}
 use Rattle.coord_world.proofs.transitions.RuleCases.{acked_by, cut_from}

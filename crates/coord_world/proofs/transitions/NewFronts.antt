@@ -1,11 +1,8 @@
 -- The new fronts of a step stand on the lanes that it touches: those that it sends on, and the one that it clears.
-use Rattle.std.proofs.Common.{◌≡◌, ◌≢◌, ℕ, ◌+◌, Bool, true, false, List, [], ◌∷◌, ◌++◌, Option, Some, None, cond, eqb, refl, sym, ap, ◌∙◌, subst, arith, append-nil}
-use Rattle.std.specs.Prelude.{◌==◌, nat_lt, is_some}
+use Rattle.std.proofs.Common.{◌≡◌, ◌≢◌, ℕ, ◌+◌, Bool, true, false, List, [], ◌∷◌, ◌++◌, Option, Some, None, cond, eqb, refl, sym, ap, ◌∙◌, subst, arith, append-nil, ◌==◌, nat_lt, is_some}
 use Rattle.std.proofs.lemmas.Bool.Decides.{nat_tests}
 use Rattle.coord_types.specs.NodeSet as set
-use Rattle.coord_types.specs.NodeState.{NodeState}
-use Rattle.coord_types.specs.Messages.{behind_front}
-use Rattle.coord_types.specs.Table.{Table, entries, get}
+use Rattle.coord_types.specs.Facade.{NodeState, Table, behind_front, entries, get}
 use Rattle.coord_types.proofs.Sets.{contains-empty, contains-remove, items-sorted}
 use Rattle.coord_types.proofs.Tables.{option_map}
 use Rattle.coord_types.specs.declared.messages.Msg.{Msg}
@@ -13,11 +10,8 @@ use Rattle.coord_types.specs.declared.steps.Command.TheVariants.{Add, Remove, Jo
 use Rattle.coord_types.specs.declared.steps.Step.{Step}
 use Rattle.coord_types.specs.declared.steps.Step.TheVariants.{Order, Take, Clear}
 use Rattle.coord_link.specs.LaneMachine.{Lane, cleared, new_lane, sent, took}
-use Rattle.coord_node.specs.IdealRules.{added, is_link}
-use Rattle.coord_node.specs.Rules.{Transition, lost, request, sends_of, transition, without, without_parent}
-use Rattle.coord_world.specs.protocol.NumberedWorld.{World, pair_cmp_total, state}
-use Rattle.coord_world.specs.protocol.Next.{with_transition, is_lane, next, on_lane, with_command}
-use Rattle.coord_world.specs.protocol.Outputs.{all_sent, had_front, sent_by}
+use Rattle.coord_node.specs.Facade.{Transition, added, is_link, lost, request, sends_of, transition, without, without_parent}
+use Rattle.coord_world.specs.Facade.{World, all_sent, had_front, is_lane, next, on_lane, pair_cmp_total, sent_by, state, with_command, with_transition}
 use Rattle.coord_world.specs.code.Fronts.{by_lesser, front_behind, fronts_sent, new_fronts, packets_of}
 use Rattle.coord_world.specs.code.Ready.{IsReadyFor}
 use Rattle.coord_tables.proofs.Cases.{by_test}

@@ -6,8 +6,7 @@ use Rattle.coord_types.specs.declared.messages.Mode.{Mode}
 use Rattle.coord_types.specs.declared.messages.Mode.TheVariants.{Ready, Abort, Converge}
 use Rattle.coord_types.specs.declared.steps.Kind.{Kind}
 use Rattle.coord_types.specs.declared.steps.Kind.TheVariants.{Started, Finished, Joined}
-use Rattle.coord_node.specs.Rules.{Transition, acknowledged, answer, finish, idle, is_empty, is_parent, kept, lost, lost_in, on_abort, on_abort_in, on_ack, on_ready, on_ready_in, request, request_in, wave_back, wave_on, without}
-use Rattle.coord_node.specs.Steps.{kind_of_request}
+use Rattle.coord_node.specs.Facade.{Transition, acknowledged, answer, finish, idle, is_empty, is_parent, kept, kind_of_request, lost, lost_in, on_abort, on_abort_in, on_ack, on_ready, on_ready_in, request, request_in, wave_back, wave_on, without}
 use Rattle.coord_world.specs.protocol.Links.{is_converge, is_ready}
 use Rattle.coord_tables.proofs.Cases.{by_test}
 

@@ -1,18 +1,13 @@
 -- The view of a world after each change of the world.
-use Rattle.std.proofs.Common.{◌≡◌, ℕ, ◌+◌, ◌≤◌, ◌&&◌, ◌++◌, Option, Some, None, refl, sym, ap, ◌∙◌, arith, cond, eqb, subst}
-use Rattle.std.specs.Prelude.{is_some}
+use Rattle.std.proofs.Common.{◌≡◌, ℕ, ◌+◌, ◌≤◌, ◌&&◌, ◌++◌, Option, Some, None, refl, sym, ap, ◌∙◌, arith, cond, eqb, subst, is_some}
 use Rattle.std.proofs.lemmas.Bool.Decides.{nat_tests}
 use Rattle.coord_types.specs.Table as table
-use Rattle.coord_types.specs.Table.{get}
-use Rattle.coord_types.specs.NodeState.{NodeState, no_node}
-use Rattle.coord_types.specs.Messages.{behind_front}
+use Rattle.coord_types.specs.Facade.{NodeState, behind_front, get, no_node}
 use Rattle.coord_types.specs.declared.steps.Command.TheVariants.{Drop, Join}
 use Rattle.coord_types.proofs.Tables.{option_map}
 use Rattle.coord_link.specs.LaneMachine.{Lane, sent, took, cleared, transit, new_lane}
-use Rattle.coord_node.specs.IdealRules.{ideal_applied, added, without_link, headed, is_link, linked_up, set_state}
-use Rattle.coord_node.specs.Rules.{Transition, with_neighbour}
-use Rattle.coord_world.specs.protocol.Next.{with_transition, on_lane, with_state, with_command, is_lane}
-use Rattle.coord_world.specs.protocol.NumberedWorld.{World, view, state, state_or_none, transit_or_none}
+use Rattle.coord_node.specs.Facade.{Transition, added, headed, ideal_applied, is_link, linked_up, set_state, with_neighbour, without_link}
+use Rattle.coord_world.specs.Facade.{World, is_lane, on_lane, state, state_or_none, transit_or_none, view, with_command, with_state, with_transition}
 use Rattle.coord_tables.proofs.Cases.{by_test}
 use Rattle.coord_world.proofs.lanes.Counts.{AllCount, it_is, was_taken}
 use Rattle.coord_tables.proofs.Found.{get-set, get-unset}

@@ -5,11 +5,8 @@ use Rattle.coord_types.specs.declared.steps.Step.{Step}
 use Rattle.coord_types.specs.declared.steps.Step.TheVariants.{Order, Take, Clear}
 use Rattle.coord_types.specs.NodeState.{new_node}
 use Rattle.coord_link.specs.LaneMachine.{took}
-use Rattle.coord_node.specs.IdealRules.{ideal_applied, ideal_next}
-use Rattle.coord_node.specs.Rules.{transition, request, lost}
-use Rattle.coord_world.specs.protocol.Acceptance.{IsFresh}
-use Rattle.coord_world.specs.protocol.Next.{next, with_transition, on_lane, with_command}
-use Rattle.coord_world.specs.protocol.NumberedWorld.{World, view, state}
+use Rattle.coord_node.specs.Facade.{ideal_applied, ideal_next, lost, request, transition}
+use Rattle.coord_world.specs.Facade.{IsFresh, World, next, on_lane, state, view, with_command, with_transition}
 use Rattle.coord_world.proofs.lanes.Counts.{AllCount, counts_done, counts_left, counts_made, counts_took, counts_cleared}
 use Rattle.coord_world.proofs.acceptance.IsFresh.{fresh_take, fresh_clear}
 use Rattle.coord_world.proofs.view.ViewAfter.{view_set, view_unset, view_left, view_made, view_done, view_took, view_cleared}

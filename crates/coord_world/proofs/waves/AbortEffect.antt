@@ -1,19 +1,14 @@
 -- What an Abort that is taken does to a wave.
-use Rattle.std.proofs.Common.{◌≡◌, ◌≢◌, ℕ, ◌≤◌, true, false, List, [], ◌∷◌, ◌++◌, Some, refl, sym, ap, ◌∙◌, arith}
-use Rattle.std.specs.Prelude.{count_by}
+use Rattle.std.proofs.Common.{◌≡◌, ◌≢◌, ℕ, ◌≤◌, true, false, List, [], ◌∷◌, ◌++◌, Some, refl, sym, ap, ◌∙◌, arith, count_by}
 use Rattle.std.proofs.lemmas.Bool.Decides.{nat_tests}
-use Rattle.coord_types.specs.IdealWorld.{Ideal}
+use Rattle.coord_types.specs.Facade.{Ideal, NodeSet, NodeState, contains}
 use Rattle.coord_types.specs.NodeSet as set
-use Rattle.coord_types.specs.NodeSet.{NodeSet, contains}
-use Rattle.coord_types.specs.NodeState.{NodeState}
 use Rattle.coord_types.specs.declared.messages.Mode.TheVariants.{Ready}
 use Rattle.coord_types.specs.declared.messages.Msg.{Msg}
 use Rattle.coord_types.specs.declared.messages.Msg.TheVariants as msg
 use Rattle.coord_types.specs.declared.steps.Kind.TheVariants.{Taken}
-use Rattle.coord_node.specs.IdealRules.{added, headed}
-use Rattle.coord_node.specs.Rules.{Transition, is_empty, kept, on_abort, wave_on, wave_back, answer}
-use Rattle.coord_world.specs.protocol.Links.{aborts, is_ready}
-use Rattle.coord_world.specs.protocol.Outputs.{signals}
+use Rattle.coord_node.specs.Facade.{Transition, added, answer, headed, is_empty, kept, on_abort, wave_back, wave_on}
+use Rattle.coord_world.specs.Facade.{aborts, is_ready, signals}
 use Rattle.coord_world.specs.laws.Waves.{is_signal_of}
 use Rattle.coord_world.proofs.legal.TransitionKept.{not_self, row_here, row_there}
 use Rattle.coord_world.proofs.waves.Calm.{calm_take, same_places}

@@ -1,15 +1,12 @@
 -- What an Ack that is taken does to a wave.
 use Rattle.std.proofs.Common.{◌≡◌, ℕ, true, List, ◌∷◌, Some, None, refl, sym, ap, ◌∙◌, arith, inl}
 use Rattle.std.proofs.lemmas.Bool.Decides.{nat_tests}
-use Rattle.coord_types.specs.IdealWorld.{Ideal}
-use Rattle.coord_types.specs.NodeSet.{contains}
-use Rattle.coord_types.specs.NodeState.{NodeState}
+use Rattle.coord_types.specs.Facade.{Ideal, NodeState, contains}
 use Rattle.coord_types.specs.declared.messages.Mode.TheVariants.{Abort, Converge}
 use Rattle.coord_types.specs.declared.messages.Msg.{Msg}
 use Rattle.coord_types.specs.declared.messages.Msg.TheVariants as msg
 use Rattle.coord_types.proofs.Sets.{contains-empty}
-use Rattle.coord_node.specs.IdealRules.{headed}
-use Rattle.coord_node.specs.Rules.{Transition, on_ack, finish, idle, answer, is_parent}
+use Rattle.coord_node.specs.Facade.{Transition, answer, finish, headed, idle, is_parent, on_ack}
 use Rattle.coord_world.specs.protocol.Links.{is_abort, is_ready}
 use Rattle.coord_world.proofs.waves.AbortEffect.{TakeEffect}
 use Rattle.coord_world.proofs.legal.TransitionKept.{row_here, row_there}

@@ -1,16 +1,11 @@
 -- How often the nodes that are connected with the initiator signal, phase by phase.
 use Rattle.std.proofs.Common.{◌≡◌, ℕ, ◌+◌, true, false, List, [], ◌∷◌, ◌++◌, refl, ap, ◌∙◌, subst, inl, inr, arith}
 use Rattle.std.proofs.lemmas.Bool.Decides.{nat_tests}
-use Rattle.coord_types.specs.IdealWorld.{Ideal}
-use Rattle.coord_types.specs.NodeSet.{contains}
+use Rattle.coord_types.specs.Facade.{Ideal, contains}
 use Rattle.coord_types.specs.declared.steps.Kind.{Kind}
 use Rattle.coord_types.specs.declared.steps.Step.{Step}
-use Rattle.coord_node.specs.Rules.{is_empty}
-use Rattle.coord_node.specs.Steps.{kind}
-use Rattle.coord_world.specs.protocol.Links.{is_ready}
-use Rattle.coord_world.specs.protocol.Next.{next}
-use Rattle.coord_world.specs.protocol.NumberedWorld.{World, view, state, is_linked}
-use Rattle.coord_world.specs.protocol.Outputs.{outs}
+use Rattle.coord_node.specs.Facade.{is_empty, kind}
+use Rattle.coord_world.specs.Facade.{World, is_linked, is_ready, next, outs, state, view}
 use Rattle.coord_world.specs.laws.Waves.{Connected, signals_of, started, started_by}
 use Rattle.coord_tables.proofs.Cases.{same_or_apart}
 use Rattle.coord_world.proofs.waves.Effect.{Effect}

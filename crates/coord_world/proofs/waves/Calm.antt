@@ -1,12 +1,10 @@
 -- Transitions that send no Abort, and what they leave on the way.
 use Rattle.std.proofs.Common.{◌≡◌, ℕ, ◌≤◌, true, List, [], ◌∷◌, arith}
 use Rattle.std.proofs.lemmas.Bool.Decides.{nat_tests}
-use Rattle.coord_types.specs.IdealWorld.{Ideal}
-use Rattle.coord_types.specs.Messages.{behind_front}
+use Rattle.coord_types.specs.Facade.{Ideal, behind_front}
 use Rattle.coord_types.specs.declared.messages.Msg.{Msg}
 use Rattle.coord_types.specs.declared.messages.Msg.TheVariants as msg
-use Rattle.coord_node.specs.IdealRules.{ideal_applied, added, headed}
-use Rattle.coord_node.specs.Rules.{Transition}
+use Rattle.coord_node.specs.Facade.{Transition, added, headed, ideal_applied}
 use Rattle.coord_world.specs.protocol.Links.{aborts, is_ready}
 use Rattle.coord_world.proofs.legal.TakeKept.{after_take}
 use Rattle.coord_tables.proofs.Cases.{everywhere}

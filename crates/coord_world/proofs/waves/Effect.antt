@@ -1,8 +1,6 @@
 -- What a step does to a wave.
 use Rattle.std.proofs.Common.{◌≡◌, ◌≢◌, ◌⊎◌, ℕ, ◌≤◌, true, false, List, [], ◌∷◌, Some, None, eqb}
-use Rattle.coord_types.specs.IdealWorld.{Ideal}
-use Rattle.coord_types.specs.NodeSet.{contains}
-use Rattle.coord_types.specs.NodeState.{NodeState}
+use Rattle.coord_types.specs.Facade.{Ideal, NodeState, contains}
 use Rattle.coord_types.specs.declared.messages.Mode.TheVariants.{Ready, Abort, Converge}
 use Rattle.coord_types.specs.declared.steps.Kind.{Kind}
 use Rattle.coord_types.specs.declared.steps.Kind.TheVariants.{Finished}

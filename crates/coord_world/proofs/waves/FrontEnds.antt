@@ -1,14 +1,11 @@
 -- The first phase of a wave ends where the initiator finishes: then no node is Abort, and each connected one was reached.
 use Rattle.std.proofs.Common.{◌≡◌, ◌≢◌, ℕ, ◌+◌, true, false, List, [], ◌∷◌, Some, refl, sym, ap, ◌∙◌, subst, inl, inr, arith}
 use Rattle.std.proofs.lemmas.Bool.Decides.{nat_tests, eqb_tells}
-use Rattle.coord_types.specs.IdealWorld.{Ideal}
-use Rattle.coord_types.specs.NodeSet.{contains}
-use Rattle.coord_types.specs.NodeState.{NodeState}
+use Rattle.coord_types.specs.Facade.{Ideal, NodeState, contains}
 use Rattle.coord_types.specs.declared.messages.Mode.{Mode}
 use Rattle.coord_types.specs.declared.messages.Mode.TheVariants.{Ready, Abort, Converge}
 use Rattle.coord_node.specs.Rules.{is_empty, is_parent}
-use Rattle.coord_world.specs.protocol.Links.{is_abort, is_ready}
-use Rattle.coord_world.specs.protocol.NumberedWorld.{World, is_linked}
+use Rattle.coord_world.specs.Facade.{World, is_abort, is_linked, is_ready}
 use Rattle.coord_world.specs.laws.Waves.{Connected}
 use Rattle.coord_tables.proofs.Cases.{by_test, everywhere, same_or_apart}
 use Rattle.coord_world.proofs.waves.Effect.{Finishes, Hears, Signals}

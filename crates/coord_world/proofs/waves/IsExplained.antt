@@ -1,19 +1,13 @@
 -- Each signal of a wave is of a node that is connected with the initiator, or comes with the reply Finished.
-use Rattle.std.proofs.Common.{◌≡◌, ◌≢◌, ◌⊎◌, ℕ, ◌≤◌, true, false, List, [], ◌∷◌, ◌++◌, sym, ap, ◌∙◌, subst, inl, inr, arith}
-use Rattle.std.specs.Prelude.{All}
+use Rattle.std.proofs.Common.{◌≡◌, ◌≢◌, ◌⊎◌, ℕ, ◌≤◌, true, false, List, [], ◌∷◌, ◌++◌, sym, ap, ◌∙◌, subst, inl, inr, arith, All}
 use Rattle.std.proofs.lemmas.Bool.Decides.{nat_tests}
 use Rattle.std.proofs.lemmas.List.Elements.{All-cons, All-nil}
-use Rattle.coord_types.specs.IdealWorld.{Ideal}
-use Rattle.coord_types.specs.NodeSet.{contains}
-use Rattle.coord_types.specs.NodeState.{NodeState}
+use Rattle.coord_types.specs.Facade.{Ideal, NodeState, contains}
 use Rattle.coord_types.specs.declared.steps.Kind.{Kind}
 use Rattle.coord_types.specs.declared.steps.Kind.TheVariants.{Finished}
 use Rattle.coord_types.specs.declared.steps.Step.{Step}
 use Rattle.coord_node.specs.Steps.{kind}
-use Rattle.coord_world.specs.protocol.Links.{is_ready}
-use Rattle.coord_world.specs.protocol.Next.{next, reply}
-use Rattle.coord_world.specs.protocol.NumberedWorld.{World, view, state, is_linked}
-use Rattle.coord_world.specs.protocol.Outputs.{StepOutcome, outs, outputs}
+use Rattle.coord_world.specs.Facade.{StepOutcome, World, is_linked, is_ready, next, outputs, outs, reply, state, view}
 use Rattle.coord_world.specs.laws.Waves.{Connected, IsExplained, started, started_by}
 use Rattle.coord_tables.proofs.Cases.{everywhere, same_or_apart}
 use Rattle.coord_world.proofs.waves.Effect.{Effect, SamePlace}

@@ -1,9 +1,7 @@
 -- The last phase of a wave: once no node is Abort, each node that isn't Ready signals once more.
 use Rattle.std.proofs.Common.{◌≡◌, ℕ, ◌+◌, ◌≤◌, true, false, not, List, [], sym, ap, ◌∙◌, subst, inl, inr, arith}
 use Rattle.std.proofs.lemmas.Bool.Decides.{nat_tests}
-use Rattle.coord_types.specs.IdealWorld.{Ideal}
-use Rattle.coord_types.specs.NodeSet.{contains}
-use Rattle.coord_types.specs.NodeState.{NodeState}
+use Rattle.coord_types.specs.Facade.{Ideal, NodeState, contains}
 use Rattle.coord_types.specs.declared.steps.Kind.{Kind}
 use Rattle.coord_node.specs.Rules.{is_empty}
 use Rattle.coord_world.specs.protocol.Links.{aborts, is_abort, is_ready, one}

@@ -1,8 +1,7 @@
 -- A wave signals each node that it reaches exactly once.
 use Rattle.std.proofs.Common.{◌≡◌, ℕ, true, sym, ap, ◌∙◌, subst, arith}
 use Rattle.std.proofs.lemmas.Bool.Decides.{nat_tests}
-use Rattle.coord_world.specs.protocol.Links.{is_ready}
-use Rattle.coord_world.specs.protocol.NumberedWorld.{view}
+use Rattle.coord_world.specs.Facade.{is_ready, view}
 use Rattle.coord_world.specs.laws.Waves.{OncePerWave, started, Connected}
 use Rattle.coord_world.proofs.waves.IsExplained.{explained}
 use Rattle.coord_world.proofs.waves.Front.{among}

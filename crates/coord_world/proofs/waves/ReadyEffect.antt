@@ -1,15 +1,12 @@
 -- What a Ready that is taken does to a wave.
 use Rattle.std.proofs.Common.{◌≡◌, ℕ, true, List, ◌∷◌, Option, Some, None, refl, ap, arith, inr}
 use Rattle.std.proofs.lemmas.Bool.Decides.{nat_tests}
-use Rattle.coord_types.specs.IdealWorld.{Ideal}
-use Rattle.coord_types.specs.NodeSet.{contains}
-use Rattle.coord_types.specs.NodeState.{NodeState}
+use Rattle.coord_types.specs.Facade.{Ideal, NodeState, contains}
 use Rattle.coord_types.specs.declared.messages.Mode.TheVariants.{Converge}
 use Rattle.coord_types.specs.declared.messages.Msg.{Msg}
 use Rattle.coord_types.specs.declared.messages.Msg.TheVariants as msg
 use Rattle.coord_types.proofs.Sets.{contains-empty}
-use Rattle.coord_node.specs.IdealRules.{headed}
-use Rattle.coord_node.specs.Rules.{Transition, on_ready, finish, idle, is_parent}
+use Rattle.coord_node.specs.Facade.{Transition, finish, headed, idle, is_parent, on_ready}
 use Rattle.coord_world.specs.protocol.Links.{readies, is_ready}
 use Rattle.coord_world.proofs.waves.AbortEffect.{TakeEffect}
 use Rattle.coord_world.proofs.legal.TransitionKept.{row_here, row_there}

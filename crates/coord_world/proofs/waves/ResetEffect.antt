@@ -1,18 +1,14 @@
 -- What an order to reset does to a wave.
-use Rattle.std.proofs.Common.{◌≡◌, ℕ, true, false, [], ◌∷◌, None, refl, sym, ap, ◌∙◌, arith}
-use Rattle.std.specs.Prelude.{count_by}
+use Rattle.std.proofs.Common.{◌≡◌, ℕ, true, false, [], ◌∷◌, None, refl, sym, ap, ◌∙◌, arith, count_by}
 use Rattle.std.proofs.lemmas.Bool.Decides.{nat_tests}
-use Rattle.coord_types.specs.IdealWorld.{Ideal}
-use Rattle.coord_types.specs.NodeState.{NodeState}
+use Rattle.coord_types.specs.Facade.{Ideal, NodeState}
 use Rattle.coord_types.specs.declared.messages.Mode.TheVariants.{Ready}
 use Rattle.coord_types.specs.declared.steps.Command.TheVariants.{Reset}
 use Rattle.coord_types.specs.declared.steps.Kind.{Kind}
 use Rattle.coord_types.specs.declared.steps.Kind.TheVariants.{Started, Finished, Joined}
 use Rattle.coord_types.specs.declared.steps.Step.TheVariants.{Order}
 use Rattle.coord_types.proofs.Sets.{contains-empty}
-use Rattle.coord_node.specs.IdealRules.{ideal_applied, added}
-use Rattle.coord_node.specs.Rules.{Transition, is_empty, request, wave_on, finish, idle}
-use Rattle.coord_node.specs.Steps.{kind_of_request}
+use Rattle.coord_node.specs.Facade.{Transition, added, finish, ideal_applied, idle, is_empty, kind_of_request, request, wave_on}
 use Rattle.coord_world.specs.protocol.Outputs.{signals}
 use Rattle.coord_world.specs.laws.Waves.{is_signal_of, started_by}
 use Rattle.coord_world.proofs.legal.TransitionKept.{row_here, row_there}

@@ -1,6 +1,5 @@
 -- How many signals of a node are among the outputs of a step.
-use Rattle.std.proofs.Common.{◌≡◌, ℕ, ◌+◌, ◌≤◌, List, [], ◌∷◌, ◌++◌, Option, refl, ◌∙◌, arith, cond, ◌⊎◌}
-use Rattle.std.specs.Prelude.{All, count_by}
+use Rattle.std.proofs.Common.{◌≡◌, ℕ, ◌+◌, ◌≤◌, List, [], ◌∷◌, ◌++◌, Option, refl, ◌∙◌, arith, cond, ◌⊎◌, All, count_by}
 use Rattle.std.proofs.lemmas.Bool.Decides.{nat_tests}
 use Rattle.std.proofs.lemmas.List.Elements.{All-cons, All-nil}
 use Rattle.std.proofs.lemmas.List.Sums.{sum_by-append, sum_by-cons}
@@ -14,9 +13,7 @@ use Rattle.coord_types.specs.declared.steps.Step.{Step}
 use Rattle.coord_types.specs.declared.steps.Step.TheVariants.{Order, Take, Clear}
 use Rattle.coord_node.specs.Steps.{transitions}
 use Rattle.coord_link.specs.LaneMachine.{Lane}
-use Rattle.coord_world.specs.protocol.Next.{next, reply}
-use Rattle.coord_world.specs.protocol.NumberedWorld.{World, state, pair_cmp_total}
-use Rattle.coord_world.specs.protocol.Outputs.{StepOutcome, all_sent, had_front, outputs, outs, receipts, sent_by, signals, front_packet}
+use Rattle.coord_world.specs.Facade.{StepOutcome, World, all_sent, front_packet, had_front, next, outputs, outs, pair_cmp_total, receipts, reply, sent_by, signals, state}
 use Rattle.coord_world.specs.laws.Waves.{Connected, IsExplained, is_signal_of, signals_of}
 use Rattle.coord_tables.proofs.Cases.{by_test}
 use Rattle.coord_world.proofs.waves.StepEffect.{signals_in}

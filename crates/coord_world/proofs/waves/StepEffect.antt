@@ -1,23 +1,14 @@
 -- What a fresh step that keeps all nodes and links does to a wave.
-use Rattle.std.proofs.Common.{◌≡◌, ℕ, true, false, List, [], ◌∷◌, refl, sym, ◌∙◌, ap, subst, arith}
-use Rattle.std.specs.Prelude.{count_by, is_some}
+use Rattle.std.proofs.Common.{◌≡◌, ℕ, true, false, List, [], ◌∷◌, refl, sym, ◌∙◌, ap, subst, arith, count_by, is_some}
 use Rattle.std.proofs.lemmas.Bool.Decides.{nat_tests}
-use Rattle.coord_types.specs.IdealWorld.{Ideal}
-use Rattle.coord_types.specs.NodeSet.{contains}
-use Rattle.coord_types.specs.NodeState.{NodeState}
-use Rattle.coord_types.specs.Table.{get}
+use Rattle.coord_types.specs.Facade.{Ideal, NodeState, contains, get}
 use Rattle.coord_types.specs.declared.messages.Msg.{Msg}
 use Rattle.coord_types.specs.declared.messages.Msg.TheVariants as msg
 use Rattle.coord_types.specs.declared.steps.Command.TheVariants.{Add, Remove, Join, Drop, Reset, Confirm}
 use Rattle.coord_types.specs.declared.steps.Step.{Step}
 use Rattle.coord_types.specs.declared.steps.Step.TheVariants.{Order, Take, Clear}
-use Rattle.coord_node.specs.IdealRules.{ideal_next, set_state}
-use Rattle.coord_node.specs.Rules.{transition}
-use Rattle.coord_node.specs.Steps.{transitions, kind}
-use Rattle.coord_world.specs.protocol.Acceptance.{IsFresh}
-use Rattle.coord_world.specs.protocol.Next.{next}
-use Rattle.coord_world.specs.protocol.NumberedWorld.{World, view, state, transit_or_none}
-use Rattle.coord_world.specs.protocol.Outputs.{signals}
+use Rattle.coord_node.specs.Facade.{ideal_next, kind, set_state, transition, transitions}
+use Rattle.coord_world.specs.Facade.{IsFresh, World, next, signals, state, transit_or_none, view}
 use Rattle.coord_world.specs.laws.Waves.{changes_topology, is_signal_of, started_by}
 use Rattle.coord_world.proofs.waves.AbortEffect.{TakeEffect, abort_effect}
 use Rattle.coord_world.proofs.waves.AckEffect.{ack_effect}

@@ -1,14 +1,10 @@
 -- What is known of each step of a list of steps in turn that keeps all nodes and links.
-use Rattle.std.proofs.Common.{◌≡◌, ℕ, false, List, [], ◌∷◌, ◌++◌, refl, sym, ap, ◌∙◌}
-use Rattle.std.specs.Prelude.{All}
+use Rattle.std.proofs.Common.{◌≡◌, ℕ, false, List, [], ◌∷◌, ◌++◌, refl, sym, ap, ◌∙◌, All}
 use Rattle.std.proofs.lemmas.List.Elements.{All-head, All-tail}
 use Rattle.coord_types.proofs.Sets.{same_nodes}
 use Rattle.coord_types.specs.declared.steps.Step.{Step}
 use Rattle.coord_node.specs.Rules.{is_empty}
-use Rattle.coord_world.specs.protocol.Acceptance.{IsFresh}
-use Rattle.coord_world.specs.protocol.Next.{next, fold}
-use Rattle.coord_world.specs.protocol.NumberedWorld.{World, view, state}
-use Rattle.coord_world.specs.protocol.InTurn.{InTurn}
+use Rattle.coord_world.specs.Facade.{InTurn, IsFresh, World, fold, next, state, view}
 use Rattle.coord_world.specs.laws.Waves.{AllReady, changes_topology}
 use Rattle.coord_world.proofs.lanes.Counts.{AllCount}
 use Rattle.coord_world.proofs.waves.FrontGoesOn.{SameNear}

@@ -8,8 +8,7 @@ use Rattle.coord_types.specs.Table as table
 use Rattle.coord_types.specs.NodeSet as set
 use Rattle.coord_types.specs.NodeState.{NodeState}
 use Rattle.coord_types.specs.declared.messages.Mode.TheVariants.{Ready}
-use Rattle.coord_world.specs.protocol.Next.{fold}
-use Rattle.coord_world.specs.protocol.NumberedWorld.{World, no_world, state_or_none}
+use Rattle.coord_world.specs.Facade.{World, fold, no_world, state_or_none}
 use Rattle.coord_world.specs.laws.WorkedSteps.{StoredWave, two_linked, one_reset}
 use Rattle.coord_world.specs.laws.Trails.{IsTrail}
 use Rattle.coord_world.specs.laws.Waves.{AllReady, changes_topology, started}

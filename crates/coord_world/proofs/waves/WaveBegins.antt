@@ -1,15 +1,10 @@
 -- Until the wave begins every node is Ready, and none that is connected with the initiator signals.
 use Rattle.std.proofs.Common.{◌≡◌, ℕ, true, false, List, [], ◌∷◌, ◌++◌, sym, ap, ◌∙◌, subst, arith}
-use Rattle.coord_types.specs.IdealWorld.{Ideal}
-use Rattle.coord_types.specs.NodeSet.{contains}
+use Rattle.coord_types.specs.Facade.{Ideal, contains}
 use Rattle.coord_types.specs.declared.steps.Kind.{Kind}
 use Rattle.coord_types.specs.declared.steps.Step.{Step}
-use Rattle.coord_node.specs.Rules.{is_empty}
-use Rattle.coord_node.specs.Steps.{kind}
-use Rattle.coord_world.specs.protocol.Links.{is_abort, is_ready}
-use Rattle.coord_world.specs.protocol.Next.{next}
-use Rattle.coord_world.specs.protocol.NumberedWorld.{World, view, state, is_linked}
-use Rattle.coord_world.specs.protocol.Outputs.{outs}
+use Rattle.coord_node.specs.Facade.{is_empty, kind}
+use Rattle.coord_world.specs.Facade.{World, is_abort, is_linked, is_ready, next, outs, state, view}
 use Rattle.coord_world.specs.laws.Waves.{AllReady, Connected, signals_of, started, started_by}
 use Rattle.coord_world.proofs.waves.Effect.{Effect, Starts, Silent}
 use Rattle.coord_world.proofs.waves.Front.{mode_is_ready}

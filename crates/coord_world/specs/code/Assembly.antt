@@ -3,9 +3,7 @@ use Rattle.std.specs.Prelude.{◌≡◌, ℕ, ◌+◌, ◌-◌, ◌<◌, ◌==�
 use Rattle.std.specs.List.{AllByRecursion, flat_map, range_with_len}
 use Rattle.std.specs.FinMap.Entries.{find, is_sorted}
 use Rattle.coord_types.specs.NodeSet as set
-use Rattle.coord_types.specs.NodeSet.{NodeSet}
-use Rattle.coord_types.specs.NodeState.{NodeState}
-use Rattle.coord_types.specs.StepRanges.{IsNode}
+use Rattle.coord_types.specs.Facade.{IsNode, NodeSet, NodeState}
 use Rattle.coord_types.specs.Table.{Table, empty, from_sorted, insert}
 use Rattle.coord_types.specs.declared.limits.TheConstants.{MAX_NODES}
 use Rattle.coord_types.specs.declared.steps.Session.{Session}

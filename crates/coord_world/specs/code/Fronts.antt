@@ -1,7 +1,6 @@
 -- The new fronts of a step, lane by lane: only what the step sends, or clears, makes one.
 use Rattle.std.specs.Prelude.{◌≡◌, ℕ, ◌-◌, ◌^◌, ◌<◌, nat_lt, List, [], ◌∷◌, ◌++◌, Option, Some, None, if◌then◌else◌}
-use Rattle.coord_types.specs.Messages.{is_nil, behind_front}
-use Rattle.coord_types.specs.Table.{Table, get}
+use Rattle.coord_types.specs.Facade.{Table, behind_front, get, is_nil}
 use Rattle.coord_types.specs.declared.messages.Msg.{Msg}
 use Rattle.coord_types.specs.declared.outputs.Output.{Output}
 use Rattle.coord_types.specs.declared.outputs.Output.TheVariants.{Sent}

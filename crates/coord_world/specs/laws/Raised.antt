@@ -1,7 +1,6 @@
 -- A world of version 1 in which every node is Ready, as one of version 2.
 use Rattle.std.specs.Prelude.{◌≡◌, ℕ}
-use Rattle.coord_types.specs.NodeState.{NodeState}
-use Rattle.coord_types.specs.Table.{change}
+use Rattle.coord_types.specs.Facade.{NodeState, change}
 use Rattle.coord_world.specs.laws.Waves.{AllReady}
 use Rattle.coord_world.specs.protocol.Legal.{Legal}
 use Rattle.coord_world.specs.protocol.NumberedWorld.{World}

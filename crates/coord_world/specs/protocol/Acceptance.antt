@@ -2,9 +2,7 @@
 use Rattle.std.specs.Prelude.{◌≡◌, ℕ, ◌+◌, ◌*◌, ◌==◌, ◌&&◌, ◌||◌, not, nat_le, nat_lt, Bool, false, true, [], ◌∷◌, ◌++◌, Option, Some, None, Result, Ok, if◌then◌else◌}
 use Rattle.coord_types.specs.NodeSet as set
 use Rattle.coord_types.specs.Table.{get, has, len}
-use Rattle.coord_types.specs.NodeState.{NodeState}
-use Rattle.coord_types.specs.Messages.{is_nil}
-use Rattle.coord_types.specs.Command.{same_command}
+use Rattle.coord_types.specs.Facade.{NodeState, is_nil, same_command}
 use Rattle.coord_types.specs.declared.limits.TheConstants.{MAX_DEGREE, MAX_LINKS, MAX_STEPS}
 use Rattle.coord_types.specs.declared.packets.DataPacket.{DataPacket}
 use Rattle.coord_types.specs.declared.packets.ReceiptPacket.{ReceiptPacket}
@@ -16,8 +14,7 @@ use Rattle.coord_types.specs.declared.steps.Session.{Session}
 use Rattle.coord_types.specs.declared.refusals.Refusal.{Refusal}
 use Rattle.coord_types.specs.declared.refusals.Refusal.TheVariants.{Exhausted, OutOfTurn, NumberReused, UnknownNode, NodeExists, HasLinks, SameNode, OtherGroup, LinkExists, NoLink, DegreeFull, LinksFull, BadEpoch, NotReleased}
 use Rattle.coord_link.specs.LaneMachine.{Lane, Tests, refused_or, against_take, against_clear}
-use Rattle.coord_node.specs.Rules.{is_empty}
-use Rattle.coord_node.specs.Steps.{kind}
+use Rattle.coord_node.specs.Facade.{is_empty, kind}
 use Rattle.coord_world.specs.declared.verdicts.Verdict.{Verdict}
 use Rattle.coord_world.specs.declared.verdicts.Verdict.TheVariants.{Fresh, Repeat}
 use Rattle.coord_world.specs.protocol.NumberedWorld.{World, state, is_linked}

@@ -1,13 +1,11 @@
 -- The predicates B to H over the two ends of a link and what is on the way between them, each a test. Predicate A, over a lane, stands in the lane machine.
 use Rattle.std.specs.Prelude.{◌≡◌, ℕ, ◌+◌, ◌==◌, nat_le, Bool, true, false, ◌&&◌, ◌||◌, not, List, [], ◌∷◌, if◌then◌else◌}
 use Rattle.coord_types.specs.NodeSet as set
-use Rattle.coord_types.specs.NodeState.{NodeState}
-use Rattle.coord_types.specs.NodeSet.{NodeSet}
+use Rattle.coord_types.specs.Facade.{Ideal, NodeState}
 use Rattle.coord_types.specs.declared.messages.Mode.{Mode}
 use Rattle.coord_types.specs.declared.messages.Mode.TheVariants.{Ready, Abort, Converge}
 use Rattle.coord_types.specs.declared.messages.Msg.{Msg}
 use Rattle.coord_types.specs.declared.messages.Msg.TheVariants as msg
-use Rattle.coord_types.specs.IdealWorld.{Ideal}
 use Rattle.coord_node.specs.Rules.{carried, is_parent}
 
 -- one end of a link: whether it awaits the other end, whether that is its parent, its distance, and what an Abort from it carries

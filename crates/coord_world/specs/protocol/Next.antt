@@ -8,9 +8,7 @@ use Rattle.coord_types.specs.declared.steps.Step.{Step}
 use Rattle.coord_types.specs.declared.steps.Step.TheVariants.{Order, Take, Clear}
 use Rattle.coord_types.specs.declared.steps.Reply.{Reply}
 use Rattle.coord_link.specs.LaneMachine.{Lane, new_lane, sent, took, cleared}
-use Rattle.coord_node.specs.Rules.{Transition, with_neighbour}
-use Rattle.coord_node.specs.Steps.{transitions, kind}
-use Rattle.coord_node.specs.IdealRules.{added}
+use Rattle.coord_node.specs.Facade.{Transition, added, kind, transitions, with_neighbour}
 use Rattle.coord_world.specs.protocol.NumberedWorld.{World, state}
 
 abbrev pub is_lane : ℕ × ℕ → ℕ → ℕ → Bool

@@ -4,9 +4,7 @@ use Rattle.std.specs.Cmp.{nat_cmp_total}
 use Rattle.std.specs.Coded.{Coded, code_by, coded×, coded_ℕ}
 use Rattle.std.proofs.Common.{refl}
 use Rattle.coord_types.specs.Table as table
-use Rattle.coord_types.specs.Table.{Table, get, has, code}
-use Rattle.coord_types.specs.NodeState.{NodeState, no_node, state_code}
-use Rattle.coord_types.specs.IdealWorld.{Ideal}
+use Rattle.coord_types.specs.Facade.{Ideal, NodeState, Table, code, get, has, no_node, state_code}
 use Rattle.coord_types.specs.declared.messages.Msg.{Msg}
 use Rattle.coord_types.specs.declared.steps.Session.{Session}
 use Rattle.coord_types.specs.contracts.steps.Session as session

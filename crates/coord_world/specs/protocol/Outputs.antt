@@ -1,7 +1,6 @@
 -- What a step gives out, and what is sent again.
 use Rattle.std.specs.Prelude.{ℕ, ◌+◌, ◌==◌, ◌&&◌, Bool, false, not, List, [], ◌∷◌, ◌++◌, Option, Some, None, if◌then◌else◌}
-use Rattle.coord_types.specs.Table.{Table, get, entries}
-use Rattle.coord_types.specs.Messages.{is_nil}
+use Rattle.coord_types.specs.Facade.{Table, entries, get, is_nil}
 use Rattle.coord_types.specs.declared.messages.Msg.{Msg}
 use Rattle.coord_types.specs.declared.packets.DataPacket.{DataPacket}
 use Rattle.coord_types.specs.declared.packets.ReceiptPacket.{ReceiptPacket}
@@ -10,8 +9,7 @@ use Rattle.coord_types.specs.declared.steps.Step.TheVariants.{Order, Take, Clear
 use Rattle.coord_types.specs.declared.outputs.Output.{Output}
 use Rattle.coord_types.specs.declared.outputs.Output.TheVariants.{Receipted, Signalled, Sent}
 use Rattle.coord_types.specs.declared.steps.Reply.{Reply}
-use Rattle.coord_node.specs.Rules.{Transition}
-use Rattle.coord_node.specs.Steps.{transitions}
+use Rattle.coord_node.specs.Facade.{Transition, transitions}
 use Rattle.coord_link.specs.LaneMachine.{Lane, is_front_taken}
 use Rattle.coord_world.specs.protocol.NumberedWorld.{World, state, pair_cmp_total}
 use Rattle.coord_world.specs.protocol.Next.{next, reply}

@@ -2,9 +2,8 @@
 use Rattle.std.specs.Prelude.{◌≡◌, ℕ, ◌*◌, ◌==◌, ◌≤◌, Bool, true, false, List, Some, length, if◌then◌else◌}
 use Rattle.std.specs.List.{AllByRecursion}
 use Rattle.coord_types.specs.NodeSet as set
-use Rattle.coord_types.specs.NodeMask.{IsMaskable}
+use Rattle.coord_types.specs.Facade.{IsMaskable, NodeState}
 use Rattle.coord_types.specs.Table.{get, has, len}
-use Rattle.coord_types.specs.NodeState.{NodeState}
 pub use Rattle.coord_types.specs.StepRanges.{IsNode, CommandInRange, StepInRange}
 use Rattle.coord_types.specs.declared.limits.TheConstants.{MAX_CLIENTS, MAX_DEGREE, MAX_GROUPS, MAX_LINKS, MAX_NODES, MAX_STEPS}
 use Rattle.coord_types.specs.declared.messages.Mode.TheVariants.{Ready}

@@ -3,9 +3,7 @@ use Rattle.std.specs.Prelude.{◌≡◌, ℕ, ◌+◌, ◌≤◌, ◌<◌, ◌==
 use Rattle.std.specs.Ordering.{nat_cmp}
 use Rattle.std.specs.List.{AllByRecursion}
 use Rattle.std.specs.FinMap.Entries.{is_sorted, where_key, find}
-use Rattle.coord_types.specs.NodeMask.{IsMaskable}
-use Rattle.coord_types.specs.NodeState.{NodeState}
-use Rattle.coord_types.specs.Table.{get, entries}
+use Rattle.coord_types.specs.Facade.{IsMaskable, NodeState, entries, get}
 use Rattle.coord_types.specs.declared.limits.TheConstants.{MAX_DEGREE, MAX_GROUPS, MAX_LINKS, MAX_NODES, MAX_STEPS}
 use Rattle.coord_types.specs.declared.steps.Session.{Session}
 use Rattle.coord_link.specs.LaneMachine.{Lane, new_lane}

@@ -11,7 +11,7 @@ ghost use Rattle.coord_world.specs.protocol.NumberedWorld.{state};
 ghost use Rattle.coord_world.specs.protocol.Next.{with_transitions, with_transition, on_lane, with_command};
 ghost use Rattle.coord_world.specs.protocol.Outputs.{receipt, signals};
 ghost use Rattle.coord_world.specs.protocol.Ranges.{brought};
-ghost use Rattle.coord_world.specs.code.Fronts.{AreNumbered, by_lesser, front_behind, fronts_ordered, fronts_sent};
+ghost use Rattle.coord_world.specs.code.Fronts.{AreNumbered, front_behind, fronts_ordered, fronts_sent};
 ghost use Rattle.coord_world.specs.code.NodeSteps.{CanApply};
 ghost use Rattle.coord_world.specs.code.Ready.{IsReadyFor};
 

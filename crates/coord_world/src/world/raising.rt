@@ -1,13 +1,12 @@
 //! A world of version 1 in which nothing goes on, as one of version 2.
 
-ghost use Rattle.std.specs.Prelude.{◌≡◌, ◌<◌, ◌≤◌, ℕ, not, false, None, IfOk, IfSome};
+ghost use Rattle.std.specs.Prelude.{◌≡◌, ◌<◌, ℕ, not, false, None, IfOk, IfSome};
 ghost use Rattle.coord_types.specs.declared.messages.Mode.TheVariants.{Ready};
 ghost use Rattle.coord_world.specs.laws.Raised.{raised};
 ghost use Rattle.coord_world.specs.laws.Waves.{AllReady};
 ghost use Rattle.coord_world.specs.protocol.Legal.{Legal};
 ghost use Rattle.coord_world.specs.protocol.Links.{is_ready};
 ghost use Rattle.coord_world.specs.protocol.NumberedWorld.{state};
-ghost use Rattle.coord_world.specs.protocol.Ranges.{InRange};
 ghost use Rattle.coord_world.specs.protocol.Rows.{listed};
 
 use super::World;

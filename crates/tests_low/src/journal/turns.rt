@@ -51,15 +51,16 @@ const FILLED_EXACTLY: [Stay<'static>; 1] = [(
     ],
 )];
 
-/// Into the second half and back.
-const MOVED: [Stay<'static>; 7] = [
+/// Into the second half and back, and with no opening between a move and the next body.
+const MOVED: [Stay<'static>; 8] = [
     ((1, 0), &[Append(23, 32_718)]),
     ((1, 1), &[Replace(2, 32_754)]),
     ((2, 0), &[Append(23, 32_726)]),
     ((2, 1), &[Append(23, 32_698)]),
     ((2, 2), &[Replace(3, 32_754)]),
     ((3, 0), &[Append(23, 32_726)]),
-    ((3, 1), &[]),
+    ((3, 1), &[Replace(4, 32_754), Append(23, 32_726)]),
+    ((4, 1), &[]),
 ];
 
 /// They stand behind calls, so that a proof that hands them on does not carry them.

@@ -1,4 +1,4 @@
-use Rattle.std.proofs.Common.{◌++◌, [], take, arith, rules, refl, sym, ap, ◌∙◌, subst, append_assoc, length-append, length-take-le}
+use Rattle.std.proofs.Common.{◌++◌, [], take, arith, rules, refl, sym, ap, ◌∙◌, append_assoc, length-append, length-take-le}
 use Rattle.coord_lines.specs.Lines.{lines_of, lines_on}
 use Rattle.coord_lines.proofs.LinesOn.{lines_on-empty}
 use Rattle.coord_admin.specs.Replies.{reply_lines}

@@ -1,8 +1,7 @@
-use Rattle.std.proofs.Common.{◌++◌, [], ◌∷◌, Some, rules, refl, sym, ap, ◌∙◌, subst, append_assoc, append-nil}
+use Rattle.std.proofs.Common.{◌++◌, [], ◌∷◌, Some, rules, refl, sym, ap, ◌∙◌, append_assoc, append-nil}
 use Rattle.std.specs.Option.{option_copied}
 use Rattle.coord_lines.specs.Lines.{lines_on}
 use Rattle.coord_lines.proofs.LinesOn.{lines_on-unended}
-use Rattle.coord_admin.specs.Replies.{reply_line, reply_lines}
 use Rattle.coord_admin.proofs.Stream.{all-one, broken-line, closed-at, line_ended, told-one}
 use Rattle.coord_admin.proofs.session.take.Goals as goal
 

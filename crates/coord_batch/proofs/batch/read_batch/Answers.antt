@@ -1,8 +1,5 @@
-use Rattle.coord_batch.specs.Decoding.{is_version}
-use Rattle.std.proofs.Common.{◌≡◌, true, Result, Ok, Err, arith}
-use Rattle.std.specs.Prelude.{IfOk}
-use Rattle.coord_batch.specs.Batches.{IsBatch, content, pair}
-use Rattle.coord_batch.specs.Steps.{batch}
+use Rattle.coord_batch.specs.Facade.{IsBatch, batch, content, is_version, pair}
+use Rattle.std.proofs.Common.{◌≡◌, true, Result, Ok, Err, arith, IfOk}
 use Rattle.coord_batch.specs.declared.batch.Batch.{Batch}
 use Rattle.coord_batch.specs.declared.fault.CodecFault.{CodecFault}
 use Rattle.coord_batch.proofs.Batched.{batch_fits, batch_in_range}

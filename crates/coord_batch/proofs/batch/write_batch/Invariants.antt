@@ -1,8 +1,7 @@
 use Rattle.std.proofs.Common.{◌≡◌, ◌++◌, length, take}
 use Rattle.std.specs.List.{flat_map, AllByRecursion}
 use Rattle.std.specs.Int.{w16, w64, to_be_bytes}
-use Rattle.coord_batch.specs.Batches.{StepFits}
-use Rattle.coord_batch.specs.Steps.{step}
+use Rattle.coord_batch.specs.Facade.{StepFits, step}
 use Rattle.coord_batch.proofs.batch.write_batch.Given as goal
 
 abbrev pub invariant-loop-step : goal.invariant-loop-step

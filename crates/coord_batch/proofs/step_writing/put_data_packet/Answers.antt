@@ -1,4 +1,4 @@
-use Rattle.std.proofs.Common.{◌≡◌, ◌-◌, ◌^◌, Result, Ok, Err, OnOk, ◌++◌, ◌∷◌, ap, ◌∙◌, append_assoc}
+use Rattle.std.proofs.Common.{◌-◌, Result, Ok, Err, OnOk, ◌++◌, ◌∷◌, ap, ◌∙◌, append_assoc}
 use Rattle.std.specs.Int.{w64, to_be_bytes}
 use Rattle.coord_batch.specs.Fields.{message, node}
 use Rattle.coord_batch.specs.Steps.{data_packet}

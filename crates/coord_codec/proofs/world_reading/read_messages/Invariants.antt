@@ -1,6 +1,5 @@
 use Rattle.std.proofs.Common.{◌≡◌, ◌≤◌, ◌-◌, [], length}
-use Rattle.coord_batch.specs.Fields.{message}
-use Rattle.coord_batch.specs.Format.{items_at}
+use Rattle.coord_batch.specs.Facade.{items_at, message}
 use Rattle.coord_codec.proofs.world_reading.read_messages.Given as goal
 
 abbrev pub invariant-loop : goal.invariant-loop

@@ -1,7 +1,6 @@
 use Rattle.std.proofs.Common.{◌≡◌, ◌+◌, drop, length}
 use Rattle.std.specs.FinMap.Entries.{where_key}
-use Rattle.coord_world.specs.protocol.NumberedWorld.{pair_cmp}
-use Rattle.coord_world.specs.protocol.Rows.{goes_up}
+use Rattle.coord_world.specs.Facade.{goes_up, pair_cmp}
 use Rattle.coord_codec.proofs.world_writing.count_up.Given as goal
 
 abbrev pub invariant-loop-entry : goal.invariant-loop-entry

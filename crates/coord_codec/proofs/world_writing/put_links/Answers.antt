@@ -5,9 +5,8 @@ use Rattle.std.proofs.lemmas.List.{drop_all, drop_more, length-map}
 use Rattle.std.specs.FinMap.Entries.{where_key}
 use Rattle.std.specs.List.{flat_map}
 use Rattle.coord_link.specs.LaneMachine.{Lane}
-use Rattle.coord_world.specs.protocol.NumberedWorld.{pair_cmp}
+use Rattle.coord_world.specs.Facade.{goes_up, pair_cmp, rows_of}
 use Rattle.coord_world.specs.protocol.Rows as rows
-use Rattle.coord_world.specs.protocol.Rows.{goes_up, rows_of}
 use Rattle.coord_world.proofs.Facade.{rows_of_world_fit}
 use Rattle.coord_batch.specs.Fields.{how_many}
 use Rattle.coord_codec.specs.ByNumber.{row_of_lane}

@@ -1,8 +1,7 @@
 use Rattle.std.proofs.Common.{◌≡◌, [], ◌∷◌, ◌++◌, refl, ap, ◌∙◌, append_assoc}
 use Rattle.std.proofs.lemmas.Result.{on_ok_weaker}
 use Rattle.std.specs.Int.{w64, to_be_bytes}
-use Rattle.coord_types.specs.NodeMask.{mask_of}
-use Rattle.coord_types.specs.NodeState.{mode_number}
+use Rattle.coord_types.specs.Facade.{mask_of, mode_number}
 use Rattle.coord_batch.specs.Fields.{at_most, distance, group, node}
 use Rattle.coord_codec.specs.Worlds.{mask, mode, most_distance, node_row, parent, parent_number}
 use Rattle.coord_codec.proofs.world_writing.put_node_row.Goals as goal

@@ -6,8 +6,7 @@ use Rattle.coord_types.specs.declared.refusals.Refusal.{Refusal}
 use Rattle.coord_types.specs.declared.refusals.Refusal.TheVariants.{PendingFull}
 use Rattle.coord_commands.specs.declared.fault.Fault.{Fault}
 use Rattle.coord_commands.specs.declared.fault.Fault.TheVariants.{OutOfMemory, Refused}
-use Rattle.coord_world.specs.protocol.Acceptance.{accepts}
-use Rattle.coord_world.specs.protocol.NumberedWorld.{World, no_world}
+use Rattle.coord_world.specs.Facade.{World, accepts, no_world}
 use Rattle.coord_commands.specs.Founding.{RefusesToBegin, founder, numbered}
 use Rattle.coord_commands.proofs.Submitted.{refused_next, submitted_push}
 use Rattle.coord_commands.proofs.founding.submit_all.Goals as goal

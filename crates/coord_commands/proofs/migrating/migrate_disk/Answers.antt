@@ -1,8 +1,6 @@
 use Rattle.std.proofs.Common.{◌≡◌, ◌⊎◌, ◌∙◌, List, ℕ, true, inr, ap, subst, string_bytes}
 use Rattle.coord_disk.specs.Model.Present.{IsImage, Present}
-use Rattle.coord_store.specs.Kept.{GivesEither, Kept, has_stopped}
-use Rattle.coord_store.specs.Migrating.{risen}
-use Rattle.coord_store.specs.Recovered.{Recovered}
+use Rattle.coord_store.specs.Facade.{GivesEither, Kept, Recovered, has_stopped, risen}
 use Rattle.coord_world.specs.protocol.NumberedWorld.{World}
 use Rattle.coord_commands.proofs.Raising.{either_of, fault_of, going_on, if_both, if_present, line_of}
 use Rattle.coord_commands.proofs.migrating.migrate_disk.Goals as goal

@@ -1,5 +1,4 @@
-use Rattle.std.proofs.Common.{subst, take, ◌≡◌}
-use Rattle.std.specs.Prelude.{IfSome}
+use Rattle.std.proofs.Common.{subst, take, ◌≡◌, IfSome}
 use Rattle.coord_commands.proofs.SaidBytes.{up_to}
 use Rattle.coord_commands.specs.declared.topology.TheConstants.{MOST_BYTES}
 use Rattle.coord_commands.proofs.topology.front_of.Goals as goal

@@ -1,5 +1,4 @@
-use Rattle.std.proofs.Common.{◌≡◌, Err, subst}
-use Rattle.std.specs.Prelude.{IfErr}
+use Rattle.std.proofs.Common.{◌≡◌, Err, subst, IfErr}
 use Rattle.coord_commands.proofs.SaidBytes.{of_front}
 use Rattle.coord_commands.specs.Topology.{said_by}
 use Rattle.coord_commands.specs.declared.fault.Fault.TheVariants.{Topology}

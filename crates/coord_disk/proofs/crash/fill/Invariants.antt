@@ -1,5 +1,4 @@
-use Rattle.std.proofs.Common.{◌≡◌, ◌<◌, ◌≤◌, ℕ, length}
-use Rattle.std.specs.Prelude.{slice_get, if◌then◌else◌, Some}
+use Rattle.std.proofs.Common.{◌≡◌, ◌<◌, ◌≤◌, ℕ, length, slice_get, if◌then◌else◌, Some}
 use Rattle.coord_disk.specs.Disks.Filled.{is_loose, loose_below, repeated}
 use Rattle.coord_disk.specs.Disks.History.{past_with, present_after}
 use Rattle.coord_disk.proofs.crash.fill.Given as goal

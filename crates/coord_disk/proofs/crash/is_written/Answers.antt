@@ -1,5 +1,4 @@
-use Rattle.std.proofs.Common.{◌≡◌, ◌∙◌, ℕ, ◌+◌, ◌-◌, Bool, sym, ap, arith, rules, length, take}
-use Rattle.std.specs.Prelude.{◌||◌, ◌&&◌, nat_le, nat_lt}
+use Rattle.std.proofs.Common.{◌≡◌, ◌∙◌, ℕ, ◌+◌, ◌-◌, Bool, sym, ap, arith, rules, length, take, ◌||◌, ◌&&◌, nat_le, nat_lt}
 use Rattle.coord_disk.specs.Disks.History.{replayed}
 use Rattle.coord_disk.specs.Model.Present.{is_within, whole}
 use Rattle.coord_disk.proofs.Replays.{synced_within, wrote_within}

@@ -1,5 +1,4 @@
-use Rattle.std.proofs.Common.{◌≡◌, ◌∙◌, ◌⊎◌, ℕ, ◌+◌, ◌-◌, ◌<◌, ◌≤◌, Bool, List, ◌++◌, refl, sym, ap, arith, rules, length, take, drop}
-use Rattle.std.specs.Prelude.{◌||◌, ◌&&◌, min, nat_le, nat_lt, false, slice_get}
+use Rattle.std.proofs.Common.{◌≡◌, ◌∙◌, ℕ, ◌+◌, ◌-◌, ◌≤◌, Bool, List, ◌++◌, refl, sym, ap, arith, rules, length, take, drop, ◌||◌, min, false, slice_get}
 use Rattle.std.proofs.lemmas.List.{take_all}
 use Rattle.coord_disk.specs.declared.history.Entry.{Entry}
 use Rattle.coord_disk.specs.Disks.History.{replayed}

@@ -1,5 +1,4 @@
-use Rattle.std.proofs.Common.{◌≡◌, ◌<◌, ◌≤◌, ℕ, List, length, take}
-use Rattle.std.specs.Prelude.{slice_get, false}
+use Rattle.std.proofs.Common.{◌≡◌, ◌<◌, ◌≤◌, ℕ, List, length, take, slice_get, false}
 use Rattle.coord_disk.specs.Disks.History.{replayed}
 use Rattle.coord_disk.specs.Model.Present.{IsImage, is_within, whole}
 use Rattle.coord_disk.proofs.history.copy_written.Given as goal

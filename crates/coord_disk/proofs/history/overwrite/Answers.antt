@@ -1,5 +1,4 @@
-use Rattle.std.proofs.Common.{◌≡◌, ◌∙◌, ◌+◌, ◌-◌, ◌<◌, max, length, ap, sym, refl, arith, rules, List, ℕ, ◌++◌, take, drop}
-use Rattle.std.specs.Prelude.{replicate}
+use Rattle.std.proofs.Common.{◌≡◌, ◌∙◌, ◌+◌, ◌-◌, ◌<◌, max, length, ap, sym, arith, rules, ◌++◌, take, drop, replicate}
 use Rattle.std.proofs.lemmas.List.{with_items_is}
 use Rattle.coord_disk.proofs.Overwritten.{in_place, length_overwritten}
 use Rattle.coord_disk.proofs.history.overwrite.Goals as goal

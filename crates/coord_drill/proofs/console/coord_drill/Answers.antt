@@ -3,8 +3,7 @@ use Rattle.std.proofs.lemmas.Result.{IfErr-weaker}
 use Rattle.std.proofs.KnownBytes.{Consumes-nil}
 use Rattle.coord_lines.specs.Lines.{lines_of}
 use Rattle.coord_world.specs.protocol.NumberedWorld.{no_world}
-use Rattle.coord_drill.specs.Drill.{drill_over}
-use Rattle.coord_drill.specs.Faults.{IsOfDisk}
+use Rattle.coord_drill.specs.Facade.{IsOfDisk, drill_over}
 use Rattle.coord_drill.proofs.prints.FirstParts.{first_part-none}
 use Rattle.coord_drill.proofs.does.LineResponds.{prints_somehow}
 use Rattle.coord_drill.proofs.prints.Prints.{disk_is_work}

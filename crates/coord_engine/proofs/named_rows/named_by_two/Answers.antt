@@ -1,5 +1,4 @@
-use Rattle.std.proofs.Common.{suc, zero, [], ◌∷◌, arith}
-use Rattle.std.specs.Prelude.{All}
+use Rattle.std.proofs.Common.{suc, zero, [], ◌∷◌, arith, All}
 use Rattle.std.proofs.lemmas.List.Sorted.{IsPermutation-append_comm}
 use Rattle.coord_ledger.specs.declared.ticket.Note.{Note}
 use Rattle.coord_engine.specs.Named.{IsAscending}

@@ -1,9 +1,8 @@
-use Rattle.std.proofs.Common.{arith}
+use Rattle.std.proofs.Common.{arith, [], ◌∷◌}
 use Rattle.std.proofs.lemmas.List.Sorted.{sum_by-IsPermutation}
 use Rattle.coord_ledger.specs.declared.ticket.Note.{Note}
 use Rattle.coord_engine.specs.Named.{all_notes, notes_of}
 use Rattle.coord_engine.specs.WorkedNames.{first, second, third_note}
-use Rattle.std.specs.Prelude.{[], ◌∷◌}
 use Rattle.coord_engine.proofs.named_rows.not_one_short.Goals as goal
 
 -- one note isn't as many as two

@@ -1,6 +1,5 @@
-use Rattle.std.proofs.Common.{◌≡◌, ◌∙◌, ℕ, List, length, take, drop, ap, sym, subst, arith}
+use Rattle.std.proofs.Common.{◌≡◌, ◌∙◌, ℕ, List, length, take, drop, ap, sym, subst, arith, vec_len}
 use Rattle.std.proofs.lemmas.List.{take_all, take_at}
-use Rattle.std.specs.Prelude.{vec_len}
 use Rattle.coord_disk.specs.Model.Moments.{Elapses, LeavesOnly}
 use Rattle.coord_disk.specs.Model.Present.{FitsNoMore, IsImage, Present}
 use Rattle.coord_disk.proofs.MomentLemmas.{started, goes_on}

@@ -1,6 +1,5 @@
 use Rattle.std.proofs.Common.{◌∙◌, List, ℕ, subst, sym}
-use Rattle.coord_journal.specs.Faults.{RefusesOpen}
-use Rattle.coord_journal.specs.Text.{IsText}
+use Rattle.coord_journal.specs.Facade.{IsText, RefusesOpen}
 use Rattle.coord_journal.proofs.opening.open.Goals as goal
 
 pub returns-in-Ok-read_text-clause-only : goal.returns-in-Ok-read_text-clause-only

@@ -1,8 +1,6 @@
-use Rattle.std.proofs.Common.{◌≡◌, ◌-◌, ◌≤◌, ℕ, List, length, take, drop, ap, subst, sym, arith}
+use Rattle.std.proofs.Common.{◌≡◌, ◌-◌, ◌≤◌, ℕ, List, length, take, drop, ap, subst, sym, arith, min}
 use Rattle.std.proofs.lemmas.List.{take_rest}
-use Rattle.std.specs.Prelude.{min}
-use Rattle.coord_journal.specs.Contents.{content_of}
-use Rattle.coord_journal.specs.Half.{IsHalf, half_number}
+use Rattle.coord_journal.specs.Facade.{IsHalf, content_of, half_number}
 use Rattle.coord_journal.proofs.Halves.{half_used}
 use Rattle.coord_journal.proofs.Texts.{made, refused, refuses, text_same}
 use Rattle.coord_journal.proofs.opening.read_text.Goals as goal

@@ -1,6 +1,5 @@
 use Rattle.std.proofs.Common.{◌≡◌, ◌≢◌, List, ℕ, [], ◌++◌, refl, sym, subst, get_or, arith, rules}
-use Rattle.coord_journal.specs.Contents.{bodies}
-use Rattle.coord_journal.specs.Text.{IsOpened, ReadsAs, BeginsWithBody}
+use Rattle.coord_journal.specs.Facade.{BeginsWithBody, IsOpened, ReadsAs, bodies}
 use Rattle.coord_journal.specs.declared.layout.TheConstants.{MAX_BODY}
 use Rattle.coord_journal.proofs.Reading.{some, nothing, opened_more, same_behind, empty, small_body}
 use Rattle.coord_journal.proofs.read.read_batches.Goals as goal

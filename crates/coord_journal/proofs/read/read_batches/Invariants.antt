@@ -1,6 +1,5 @@
 use Rattle.std.proofs.Common.{◌≡◌, ◌++◌, ℕ, List, length}
-use Rattle.coord_journal.specs.Contents.{bodies}
-use Rattle.coord_journal.specs.Text.{IsOpened, ReadsAs}
+use Rattle.coord_journal.specs.Facade.{IsOpened, ReadsAs, bodies}
 use Rattle.coord_journal.proofs.read.read_batches.Given as goal
 
 -- what was read stands in front of the rest, and whatever all of it reads as, the rest reads as something

@@ -1,5 +1,4 @@
-use Rattle.std.proofs.Common.{◌≡◌, ◌∙◌, inl, ap, subst}
-use Rattle.std.specs.Prelude.{OnOk}
+use Rattle.std.proofs.Common.{◌≡◌, ◌∙◌, inl, ap, subst, OnOk}
 use Rattle.coord_disk.specs.Model.Present.{Torn, overwritten, whole}
 use Rattle.coord_disk.proofs.MomentLemmas.{weaker, and_then}
 use Rattle.coord_journal.specs.Turns.{TornInTurn}

@@ -1,9 +1,5 @@
-use Rattle.std.proofs.Common.{◌≡◌, ◌+◌, [], length, false, Ok, Err, refl, sym, ap, ◌∙◌, subst, arith, rules}
-use Rattle.std.specs.Prelude.{OnOk, Result, is_err}
-use Rattle.coord_ledger.specs.ledger.Driven.{Driven}
-use Rattle.coord_ledger.specs.ledger.Driver.{IsEventFault, model_of}
-use Rattle.coord_ledger.specs.ledger.State.{started}
-use Rattle.coord_ledger.specs.promises.Headline.{IsCutShort, Ran}
+use Rattle.std.proofs.Common.{◌≡◌, ◌+◌, [], length, false, Ok, Err, refl, sym, ap, ◌∙◌, subst, arith, rules, OnOk, Result, is_err}
+use Rattle.coord_ledger.specs.Facade.{Driven, IsCutShort, IsEventFault, Ran, model_of, started}
 use Rattle.coord_ledger.proofs.drives.BreaksOff.{broke_after, broke_first, broke_meeting, caused}
 use Rattle.coord_ledger.proofs.drives.Drives.{Underway, underway_first, underway_on}
 use Rattle.coord_ledger.proofs.drives.Ends.{ran_all}

@@ -1,5 +1,4 @@
-use Rattle.std.proofs.Common.{◌≡◌, ◌+◌, ◌≤◌}
-use Rattle.std.specs.Prelude.{vec_capacity, vec_len}
+use Rattle.std.proofs.Common.{◌≡◌, ◌+◌, ◌≤◌, vec_capacity, vec_len}
 use Rattle.std.specs.Vec.Iter.{into_iter_len}
 use Rattle.coord_server.proofs.crew.start_workers.Given as goal
 

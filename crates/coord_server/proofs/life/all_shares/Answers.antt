@@ -1,5 +1,4 @@
-use Rattle.std.proofs.Common.{◌≡◌, ◌++◌, subst}
-use Rattle.std.specs.Prelude.{IfOk}
+use Rattle.std.proofs.Common.{◌≡◌, ◌++◌, subst, IfOk}
 use Rattle.coord_server.specs.Ending.{AddsWorkers}
 use Rattle.coord_server.proofs.life.all_shares.Goals as goal
 

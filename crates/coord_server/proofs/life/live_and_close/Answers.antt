@@ -1,6 +1,5 @@
-use Rattle.std.proofs.Common.{◌≡◌, arith}
+use Rattle.std.proofs.Common.{◌≡◌, arith, vec_len}
 use Rattle.std.proofs.lemmas.Result.{IfOk-weaker}
-use Rattle.std.specs.Prelude.{vec_len}
 use Rattle.coord_engine.specs.State.{based_on}
 use Rattle.coord_server.proofs.Ends.{lived}
 use Rattle.coord_server.proofs.Starts.{are_all, counted}

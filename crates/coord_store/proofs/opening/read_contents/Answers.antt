@@ -1,7 +1,6 @@
 use Rattle.std.proofs.Common.{⊎_elim, inl, inr, ap, subst}
 use Rattle.coord_journal.specs.Contents.{bodies, content_of}
-use Rattle.coord_store.specs.Recovered.{Replays}
-use Rattle.coord_store.specs.Refused.{RefusesReplay}
+use Rattle.coord_store.specs.Facade.{RefusesReplay, Replays}
 use Rattle.coord_store.proofs.Refusing.{replay_refused}
 use Rattle.coord_store.proofs.opening.read_contents.Goals as goal
 

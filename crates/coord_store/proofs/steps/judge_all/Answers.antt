@@ -1,8 +1,6 @@
 use Rattle.std.proofs.Common.{◌≡◌, true, take, drop, ◌+◌, refl, inr, sym, ap, subst, ◌∙◌, arith}
 use Rattle.std.proofs.lemmas.List.{length-take-le}
-use Rattle.coord_world.specs.protocol.Acceptance.{IsFresh}
-use Rattle.coord_world.specs.protocol.Next.{next}
-use Rattle.coord_world.specs.protocol.NumberedWorld.{World}
+use Rattle.coord_world.specs.Facade.{IsFresh, World, next}
 use Rattle.coord_store.specs.Recovered.{AllFresh}
 use Rattle.coord_store.proofs.Freshness.{fold-take, fresh-push, split_at, take-push}
 use Rattle.coord_store.proofs.steps.judge_all.Goals as goal

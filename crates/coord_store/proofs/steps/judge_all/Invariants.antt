@@ -1,6 +1,5 @@
 use Rattle.std.proofs.Common.{◌≡◌, take}
-use Rattle.coord_world.specs.protocol.Legal.{Legal}
-use Rattle.coord_world.specs.protocol.Next.{fold}
+use Rattle.coord_world.specs.Facade.{Legal, fold}
 use Rattle.coord_store.specs.Recovered.{AllFresh}
 use Rattle.coord_store.proofs.steps.judge_all.Given as goal
 

@@ -1,8 +1,6 @@
 use Rattle.std.proofs.Common.{◌≡◌, IfSome, Option, sym, subst}
 use Rattle.coord_world.specs.laws.Trails.{IsSound}
-use Rattle.coord_world.specs.protocol.Legal.{Legal}
-use Rattle.coord_world.specs.protocol.Next.{fold}
-use Rattle.coord_world.specs.protocol.NumberedWorld.{World}
+use Rattle.coord_world.specs.Facade.{Legal, World, fold}
 use Rattle.coord_store.proofs.Freshness.{all_brought, each_fresh, led_soundly}
 use Rattle.coord_store.proofs.steps.led_to.Goals as goal
 

@@ -2,9 +2,7 @@ use Rattle.std.proofs.Common.{take, sym, ap, subst, ◌∙◌, arith}
 use Rattle.std.specs.List.{AllByRecursion}
 use Rattle.std.proofs.lemmas.List.{take_all}
 use Rattle.coord_batch.specs.Batches.{BringsRightly}
-use Rattle.coord_world.specs.protocol.Acceptance.{IsFresh}
-use Rattle.coord_world.specs.protocol.Next.{next}
-use Rattle.coord_world.specs.protocol.NumberedWorld.{World}
+use Rattle.coord_world.specs.Facade.{IsFresh, World, next}
 use Rattle.coord_store.proofs.Freshness.{all-push, brings_rightly, fold-take, fold_version, fresh_over_itself, take-push}
 use Rattle.coord_store.proofs.steps.take_all.Goals as goal
 

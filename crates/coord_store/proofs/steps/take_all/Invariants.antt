@@ -1,8 +1,7 @@
 use Rattle.std.proofs.Common.{◌≡◌, take}
 use Rattle.std.specs.List.{AllByRecursion}
 use Rattle.coord_batch.specs.Batches.{BringsRightly}
-use Rattle.coord_world.specs.protocol.Legal.{Legal}
-use Rattle.coord_world.specs.protocol.Next.{fold}
+use Rattle.coord_world.specs.Facade.{Legal, fold}
 use Rattle.coord_store.proofs.steps.take_all.Given as goal
 
 abbrev pub invariant-loop-step : goal.invariant-loop-step

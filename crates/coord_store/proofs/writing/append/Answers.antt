@@ -3,8 +3,7 @@ use Rattle.coord_disk.specs.Model.Moments.{LeavesOnly}
 use Rattle.coord_disk.proofs.MomentLemmas.{weaker}
 use Rattle.coord_journal.specs.Text.{with_batch}
 use Rattle.coord_journal.specs.declared.journal.Journal.{Journal}
-use Rattle.coord_store.specs.Faults.{commit_fault_of}
-use Rattle.coord_store.specs.Kept.{IsOnlyWorld}
+use Rattle.coord_store.specs.Facade.{IsOnlyWorld, commit_fault_of}
 use Rattle.coord_store.proofs.Holding.{appending_gives, begun, gives-push}
 use Rattle.coord_store.proofs.writing.append.Goals as goal
 

@@ -1,5 +1,4 @@
-use Rattle.std.proofs.Common.{◌≡◌, ◌<◌, ℕ}
-use Rattle.std.specs.Prelude.{slice_get}
+use Rattle.std.proofs.Common.{◌≡◌, ◌<◌, ℕ, slice_get}
 use Rattle.coord_tables.proofs.equality.is_same_list.Given as goal
 
 abbrev pub invariant-loop-i : goal.invariant-loop-i

@@ -1,6 +1,5 @@
 use Rattle.std.proofs.Common.{◌≡◌, ◌-◌, []}
-use Rattle.coord_batch.specs.Format.{items_at}
-use Rattle.coord_batch.specs.Steps.{step}
+use Rattle.coord_batch.specs.Facade.{items_at, step}
 use Rattle.coord_batch.proofs.input.Input.step_list.Given as goal
 
 abbrev pub invariant-loop : goal.invariant-loop

@@ -2,9 +2,7 @@ use Rattle.std.proofs.Common.{◌≡◌, ◌∙◌, List, ap, sym, subst, length
 use Rattle.coord_store.specs.Recovered.{AllFresh}
 use Rattle.coord_types.specs.Table.{get}
 use Rattle.coord_types.specs.declared.steps.Step.{Step}
-use Rattle.coord_world.specs.protocol.Acceptance.{last_number}
-use Rattle.coord_world.specs.protocol.Next.{fold}
-use Rattle.coord_world.specs.protocol.NumberedWorld.{World, no_world}
+use Rattle.coord_world.specs.Facade.{World, fold, last_number, no_world}
 use Rattle.coord_commands.specs.Founding.{founder}
 use Rattle.coord_commands.proofs.OneClient.{none_yet}
 use Rattle.coord_commands.proofs.founding.Founding.new.Goals as goal

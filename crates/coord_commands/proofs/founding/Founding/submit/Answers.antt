@@ -4,9 +4,7 @@ use Rattle.coord_store.specs.Recovered.{AllFresh}
 use Rattle.coord_types.specs.Table.{get}
 use Rattle.coord_types.specs.declared.steps.Step.{Step}
 use Rattle.coord_types.specs.declared.steps.Step.TheVariants.{Order}
-use Rattle.coord_world.specs.protocol.Acceptance.{IsFresh, last_number}
-use Rattle.coord_world.specs.protocol.Next.{fold, next}
-use Rattle.coord_world.specs.protocol.NumberedWorld.{World, no_world}
+use Rattle.coord_world.specs.Facade.{IsFresh, World, fold, last_number, next, no_world}
 use Rattle.coord_commands.specs.Founding.{founder}
 use Rattle.coord_commands.proofs.OneClient.{last_after, no_repeat}
 use Rattle.coord_commands.proofs.founding.Founding.submit.Goals as goal

@@ -1,9 +1,7 @@
 use Rattle.std.proofs.Common.{◌++◌, ◌+◌, [], rules}
 use Rattle.std.proofs.lemmas.Result.{IfErr-weaker}
 use Rattle.coord_lines.specs.Lines.{lines_on}
-use Rattle.coord_drill.specs.Drilled.{Prints}
-use Rattle.coord_drill.specs.Faults.{IsOfWork, IsOfWriting}
-use Rattle.coord_drill.specs.Holding.{state_of}
+use Rattle.coord_drill.specs.Facade.{IsOfWork, IsOfWriting, Prints, state_of}
 use Rattle.coord_drill.proofs.does.LineResponds.{prints_somehow}
 use Rattle.coord_drill.proofs.prints.Prints.{prints-so_far, put_cut, put_failed, put_printed, writing_is_work}
 use Rattle.coord_drill.proofs.console.Console.answer.Goals as goal

@@ -1,7 +1,6 @@
 use Rattle.std.proofs.Common.{◌+◌, rules, string_bytes}
 use Rattle.std.proofs.lemmas.Result.{IfErr-weaker}
-use Rattle.coord_drill.specs.Faults.{IsOfDisk, IsOfWork, IsOfWriting}
-use Rattle.coord_drill.specs.Holding.{state_of}
+use Rattle.coord_drill.specs.Facade.{IsOfDisk, IsOfWork, IsOfWriting, state_of}
 use Rattle.coord_drill.proofs.prints.Prints.{disk_is_work, line_failed, line_unwritten, writing_is_work}
 use Rattle.coord_drill.proofs.console.Console.end_line.Goals as goal
 

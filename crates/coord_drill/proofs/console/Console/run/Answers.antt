@@ -2,9 +2,7 @@ use Rattle.std.proofs.Common.{ℕ, List, ◌++◌, ◌+◌, [], take, arith, rul
 use Rattle.std.proofs.KnownBytes.{Appends-nil, Appends-trans, Consumes-nil, Consumes-trans, Consumes-kept}
 use Rattle.std.specs.Io.KnownBytes.{IsAtEnd}
 use Rattle.coord_lines.specs.Lines.{lines_on}
-use Rattle.coord_drill.specs.Drilled.{Prints, WritesFirstPart}
-use Rattle.coord_drill.specs.Faults.{IsOfWork}
-use Rattle.coord_drill.specs.Holding.{state_of}
+use Rattle.coord_drill.specs.Facade.{IsOfWork, Prints, WritesFirstPart, state_of}
 use Rattle.coord_drill.proofs.prints.FirstParts.{first_part-after, first_part-whole}
 use Rattle.coord_drill.proofs.does.LineResponds.{prints_somehow}
 use Rattle.coord_drill.proofs.prints.Prints.{prints-so_far, prints-whole, Consumes-none, IfErr-with}

@@ -1,8 +1,7 @@
 use Rattle.std.proofs.Common.{◌≤◌, ◌+◌, ◌*◌, ℕ, List, ◌++◌, length}
 use Rattle.std.specs.Io.KnownBytes.{Appends, Consumes}
 use Rattle.coord_lines.specs.Lines.{lines_on}
-use Rattle.coord_drill.specs.Drilled.{Prints}
-use Rattle.coord_drill.specs.Holding.{IsReady, state_of}
+use Rattle.coord_drill.specs.Facade.{IsReady, Prints, state_of}
 use Rattle.coord_drill.proofs.console.Console.run.Given as goal
 
 -- what was read and written so far, and what may still be printed for the rest

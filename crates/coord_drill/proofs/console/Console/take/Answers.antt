@@ -2,8 +2,7 @@ use Rattle.std.proofs.Common.{◌++◌, ◌+◌, ◌<◌, [], Some, length, arit
 use Rattle.std.proofs.KnownBytes.{Appends-trans}
 use Rattle.coord_lines.specs.Lines.{lines_on}
 use Rattle.coord_lines.proofs.LinesOn.{behind-shorter}
-use Rattle.coord_drill.specs.Drilled.{Prints}
-use Rattle.coord_drill.specs.Holding.{state_of}
+use Rattle.coord_drill.specs.Facade.{Prints, state_of}
 use Rattle.coord_drill.proofs.prints.FirstParts.{first_part-after, first_part-longer}
 use Rattle.coord_drill.proofs.does.LineResponds.{prints_somehow}
 use Rattle.coord_drill.proofs.prints.Prints.{piece_part, prints-ended, prints-so_far, prints-unended}

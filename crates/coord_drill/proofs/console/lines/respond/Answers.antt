@@ -1,7 +1,5 @@
 use Rattle.std.proofs.lemmas.Result.{IfErr-weaker}
-use Rattle.coord_drill.specs.Asked.{asked}
-use Rattle.coord_drill.specs.Faults.{IsOfDisk, MayEnd, opens_disk}
-use Rattle.coord_drill.specs.Holding.{front_of}
+use Rattle.coord_drill.specs.Facade.{IsOfDisk, MayEnd, asked, front_of, opens_disk}
 use Rattle.coord_drill.proofs.prints.Prints.{ends_as_disk}
 use Rattle.coord_drill.proofs.console.lines.respond.Goals as goal
 

@@ -4,9 +4,7 @@ use Rattle.coord_disk.specs.declared.memory.MemDisk.{MemDisk}
 use Rattle.coord_ledger.specs.declared.events.Answer.TheVariants.{Opened}
 use Rattle.coord_ledger.specs.declared.events.Event.TheVariants as event
 use Rattle.coord_ledger.specs.ledger.Driven.{after_crash}
-use Rattle.coord_drill.specs.Drill.{after_asked}
-use Rattle.coord_drill.specs.Holding.{IsReadyWith, drill_of}
-use Rattle.coord_drill.specs.Printed.{opened_line}
+use Rattle.coord_drill.specs.Facade.{IsReadyWith, after_asked, drill_of, opened_line}
 use Rattle.coord_drill.specs.declared.asked.Asked.TheVariants.{Crash}
 use Rattle.coord_drill.proofs.does.ReopenedTo.{crash_held, crash_leaves, has_model, home_left, opened_count}
 use Rattle.coord_drill.proofs.does.Does.{crash_line, held_is, home_is}

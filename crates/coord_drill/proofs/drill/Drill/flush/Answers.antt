@@ -1,7 +1,6 @@
 use Rattle.std.proofs.Common.{◌≡◌, ◌++◌, ap, ◌∙◌, append_assoc, rules, string_bytes}
 use Rattle.coord_ledger.specs.machine.Log.{settled_world}
-use Rattle.coord_drill.specs.Holding.{state_of}
-use Rattle.coord_drill.specs.Printed.{count_line}
+use Rattle.coord_drill.specs.Facade.{count_line, state_of}
 use Rattle.coord_drill.proofs.does.Flushes.{flushes}
 use Rattle.coord_drill.proofs.drill.Drill.flush.Goals as goal
 

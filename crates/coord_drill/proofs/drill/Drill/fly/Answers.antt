@@ -1,7 +1,6 @@
 use Rattle.std.proofs.Common.{◌≡◌, ◌++◌, Some, ap, ◌∙◌, sym, subst, refl, rules, string_bytes}
 use Rattle.coord_disk.specs.declared.memory.MemDisk.{MemDisk}
-use Rattle.coord_ledger.specs.ledger.State.{LedgerState}
-use Rattle.coord_ledger.specs.machine.Log.{settled_world}
+use Rattle.coord_ledger.specs.Facade.{LedgerState, settled_world}
 use Rattle.coord_drill.specs.Holding.{AreGranted, IsReadyWith, flown_lines, left_by}
 use Rattle.coord_drill.proofs.does.Does.{held_is, home_is}
 use Rattle.coord_drill.proofs.does.FlownTo.{flies, flown_granted, flown_held, flown_home}

@@ -1,12 +1,9 @@
-use Rattle.std.proofs.Common.{true, Ok, ◌≡◌, ◌≢◌, ◌∷◌, ◌++◌, [], refl, ap, ◌∙◌, rules, sym, subst, string_bytes}
+use Rattle.std.proofs.Common.{Ok, ◌≡◌, ◌≢◌, ◌++◌, refl, ap, ◌∙◌, rules, sym, subst, string_bytes}
 use Rattle.std.proofs.lemmas.Result.{on_ok_weaker}
 use Rattle.coord_disk.specs.declared.memory.MemDisk.{MemDisk}
 use Rattle.coord_types.specs.declared.refusals.Refusal.TheVariants.{OutOfMemory}
-use Rattle.coord_ledger.specs.ledger.State.{IsGranted, LedgerState, reply_of}
-use Rattle.coord_ledger.specs.machine.Log.{settled_count}
-use Rattle.coord_drill.specs.Answered.{kept_line}
-use Rattle.coord_drill.specs.Moments.{Hands}
-use Rattle.coord_drill.specs.Printed.{pending_line, refusal_line}
+use Rattle.coord_ledger.specs.Facade.{IsGranted, LedgerState, reply_of, settled_count}
+use Rattle.coord_drill.specs.Facade.{Hands, kept_line, pending_line, refusal_line}
 use Rattle.coord_drill.proofs.does.HandedTo.{accepted_ready, carries_flight, carries_pending, carries_refusal, carries_repeat, kept_ready, repeated_granted}
 use Rattle.coord_drill.proofs.does.Moments.{on_ok_both}
 use Rattle.coord_drill.proofs.drill.Drill.submit.Goals as goal

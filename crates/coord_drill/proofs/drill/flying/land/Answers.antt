@@ -2,10 +2,8 @@ use Rattle.std.proofs.Common.{[], ◌∷◌, subst}
 use Rattle.coord_ledger.specs.declared.events.Answer.{Answer}
 use Rattle.coord_ledger.specs.declared.events.Answer.TheVariants.{Finished}
 use Rattle.coord_ledger.specs.declared.events.Event.TheVariants.{Commit, Finish}
-use Rattle.coord_ledger.specs.ledger.Driven.{CommitsTo}
-use Rattle.coord_ledger.specs.machine.Log.{settled_count}
-use Rattle.coord_drill.specs.Drill.{landing_events}
-use Rattle.coord_drill.specs.Moments.{GoesOnTo}
+use Rattle.coord_ledger.specs.Facade.{CommitsTo, settled_count}
+use Rattle.coord_drill.specs.Facade.{GoesOnTo, landing_events}
 use Rattle.coord_drill.proofs.does.FlownTo.{lands_failed, lands_settled}
 use Rattle.coord_drill.proofs.does.Moments.{goes_then, run_on}
 use Rattle.coord_drill.proofs.drill.flying.land.Goals as goal

@@ -2,10 +2,7 @@ use Rattle.std.proofs.Common.{[], ◌∷◌, refl, subst}
 use Rattle.std.proofs.lemmas.Result.{IfOk-weaker}
 use Rattle.coord_ledger.specs.declared.events.Answer.TheVariants.{Begun}
 use Rattle.coord_ledger.specs.declared.events.Event.TheVariants.{Begin}
-use Rattle.coord_ledger.specs.ledger.Driven.{SendsOut, nothing_beside}
-use Rattle.coord_ledger.specs.ledger.State.{started}
-use Rattle.coord_ledger.specs.machine.Answers.{IsOneOf, next_size, to_begin}
-use Rattle.coord_ledger.specs.machine.Log.{settled_count}
+use Rattle.coord_ledger.specs.Facade.{IsOneOf, SendsOut, next_size, nothing_beside, settled_count, started, to_begin}
 use Rattle.coord_drill.specs.Moments.{GoesOnTo}
 use Rattle.coord_drill.proofs.does.FlownTo.{begun_size, flown_by, flown_to, is_back}
 use Rattle.coord_drill.proofs.does.Moments.{if_ok_both, run_aside}

@@ -1,8 +1,7 @@
 use Rattle.std.proofs.Common.{Ok, refl, ap, ◌∙◌, subst}
 use Rattle.coord_ledger.specs.declared.events.Answer.TheVariants.{Finished}
 use Rattle.coord_ledger.specs.declared.events.Event.TheVariants.{Finish}
-use Rattle.coord_ledger.specs.ledger.Driven.{FinishesTo, LandsTo, with_releases}
-use Rattle.coord_ledger.specs.machine.Log.{settled_count}
+use Rattle.coord_ledger.specs.Facade.{FinishesTo, LandsTo, settled_count, with_releases}
 use Rattle.coord_drill.proofs.does.Moments.{run_aside}
 use Rattle.coord_drill.proofs.drill.flying.take_back.Goals as goal
 

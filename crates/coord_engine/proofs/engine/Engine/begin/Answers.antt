@@ -1,8 +1,6 @@
 use Rattle.std.proofs.Common.{◌≡◌, Some, length, true, false, sym, subst, ◌∙◌}
-use Rattle.coord_ledger.specs.ledger.Calls.{keeps_store, next_flight, with_out}
-use Rattle.coord_ledger.specs.ledger.State.{FlightState}
-use Rattle.coord_engine.specs.State.{based_on, CanHold, with_ledger}
-use Rattle.coord_engine.specs.Threads.{Leaves}
+use Rattle.coord_ledger.specs.Facade.{FlightState, keeps_store, next_flight, with_out}
+use Rattle.coord_engine.specs.Facade.{CanHold, Leaves, based_on, with_ledger}
 use Rattle.coord_engine.proofs.Flights.{goes, is_flight, is_refused, of_flight, of_none, stays}
 use Rattle.coord_engine.proofs.Moments.{then}
 use Rattle.coord_engine.proofs.engine.Engine.begin.Goals as goal

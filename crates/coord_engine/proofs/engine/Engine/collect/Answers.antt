@@ -1,7 +1,6 @@
 use Rattle.std.proofs.Common.{◌≡◌, sym, subst, ◌∙◌}
 use Rattle.coord_ledger.specs.ledger.State.{IsCollectable, reply_of}
-use Rattle.coord_engine.specs.Calls.{RefusesTicket}
-use Rattle.coord_engine.specs.State.{based_on, CanHold}
+use Rattle.coord_engine.specs.Facade.{CanHold, RefusesTicket, based_on}
 use Rattle.coord_engine.proofs.Moments.{then}
 use Rattle.coord_engine.proofs.engine.Engine.collect.Goals as goal
 

@@ -1,8 +1,6 @@
 use Rattle.std.proofs.Common.{◌≡◌, length, subst}
-use Rattle.coord_ledger.specs.ledger.Calls.{taken_back}
-use Rattle.coord_ledger.specs.ledger.Follows.{IsOut}
-use Rattle.coord_engine.specs.Flights.{ComesBack}
-use Rattle.coord_engine.specs.State.{based_on, CanHold, with_ledger}
+use Rattle.coord_ledger.specs.Facade.{IsOut, taken_back}
+use Rattle.coord_engine.specs.Facade.{CanHold, ComesBack, based_on, with_ledger}
 use Rattle.coord_engine.proofs.Moments.{then}
 use Rattle.coord_engine.proofs.engine.Engine.end.Goals as goal
 

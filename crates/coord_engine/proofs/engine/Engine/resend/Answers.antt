@@ -1,6 +1,5 @@
 use Rattle.std.proofs.Common.{sym, subst, ◌∙◌}
-use Rattle.coord_engine.specs.State.{based_on, CanHold}
-use Rattle.coord_engine.specs.Threads.{SendsAgain}
+use Rattle.coord_engine.specs.Facade.{CanHold, SendsAgain, based_on}
 use Rattle.coord_engine.proofs.Moments.{on_ok}
 use Rattle.coord_engine.proofs.engine.Engine.resend.Goals as goal
 

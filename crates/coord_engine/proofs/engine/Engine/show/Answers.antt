@@ -1,6 +1,5 @@
 use Rattle.std.proofs.Common.{sym, subst, ◌∙◌}
-use Rattle.coord_engine.specs.State.{based_on, CanHold}
-use Rattle.coord_engine.specs.Threads.{RefusesShow, Shows}
+use Rattle.coord_engine.specs.Facade.{CanHold, RefusesShow, Shows, based_on}
 use Rattle.coord_engine.proofs.Moments.{on_err, on_ok}
 use Rattle.coord_engine.proofs.Showing.{LedgerShows, told}
 use Rattle.coord_engine.proofs.engine.Engine.show.Goals as goal

@@ -1,9 +1,7 @@
-use Rattle.std.proofs.Common.{◌≡◌, ◌+◌, ◌-◌, ℕ, List, drop, length, refl, sym, ap, subst, arith, ◌∙◌}
+use Rattle.std.proofs.Common.{◌≡◌, ◌+◌, ◌-◌, ℕ, List, drop, length, refl, sym, ap, subst, arith, ◌∙◌, All, Contains}
 use Rattle.std.proofs.lemmas.List.{length-drop}
-use Rattle.std.specs.Prelude.{All, Contains}
 use Rattle.coord_types.specs.declared.steps.Step.{Step}
-use Rattle.coord_engine.specs.Named.{all_notes, notes_of}
-use Rattle.coord_engine.specs.State.{GuardedState}
+use Rattle.coord_engine.specs.Facade.{GuardedState, all_notes, notes_of}
 use Rattle.coord_engine.proofs.guarded.Guarded.are_noted.Goals as goal
 
 pub returns : goal.returns

@@ -1,9 +1,7 @@
-use Rattle.std.proofs.Common.{◌≡◌, ◌+◌, false, drop, length, refl, rules, sym, ap, subst, arith}
+use Rattle.std.proofs.Common.{◌≡◌, ◌+◌, false, drop, length, refl, rules, sym, ap, subst, arith, is_none, sum_by}
 use Rattle.std.proofs.lemmas.Bool.{false≢true}
 use Rattle.std.proofs.lemmas.List.{length-drop}
-use Rattle.std.specs.Prelude.{is_none, sum_by}
-use Rattle.coord_engine.specs.Named.{AreNoted, IsNamed}
-use Rattle.coord_engine.specs.State.{GuardedState}
+use Rattle.coord_engine.specs.Facade.{AreNoted, GuardedState, IsNamed}
 use Rattle.coord_engine.proofs.Naming.{named, named_noted}
 use Rattle.coord_engine.proofs.Since.{since}
 use Rattle.coord_engine.proofs.guarded.Guarded.close.Goals as goal

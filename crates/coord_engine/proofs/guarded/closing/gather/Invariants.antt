@@ -1,5 +1,4 @@
-use Rattle.std.proofs.Common.{◌≡◌, ◌+◌, length}
-use Rattle.std.specs.Prelude.{sum_by}
+use Rattle.std.proofs.Common.{◌≡◌, ◌+◌, length, sum_by}
 use Rattle.coord_engine.proofs.guarded.closing.gather.Given as goal
 
 abbrev pub invariant-loop-share : goal.invariant-loop-share

@@ -2,9 +2,7 @@ use Rattle.std.proofs.Common.{◌≡◌, ◌+◌, ◌-◌, List, ℕ, [], ◌∷
 use Rattle.coord_disk.specs.Model.Present.{overwritten, whole}
 use Rattle.coord_disk.proofs.MomentLemmas.{started, weaker}
 use Rattle.coord_disk.proofs.TornWrites.{whole_image}
-use Rattle.coord_journal.specs.Half.{half_number}
-use Rattle.coord_journal.specs.Text.{IsText, IsEitherText, half_start, without_batch}
-use Rattle.coord_journal.specs.Turns.{TornInTurn}
+use Rattle.coord_journal.specs.Facade.{IsEitherText, IsText, TornInTurn, half_number, half_start, without_batch}
 use Rattle.coord_journal.proofs.Replaced.{length_block, replace_torn, replaced}
 use Rattle.coord_journal.proofs.journal.Journal.replace.Goals as goal
 

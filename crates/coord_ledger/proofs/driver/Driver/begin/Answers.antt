@@ -3,9 +3,7 @@ use Rattle.coord_types.specs.declared.refusals.Refusal.TheVariants.{OutOfMemory}
 use Rattle.coord_ledger.specs.declared.events.Answer.{Answer}
 use Rattle.coord_ledger.specs.declared.events.Answer.TheVariants.{Begun, Nothing, Refused}
 use Rattle.coord_ledger.specs.declared.events.Event.TheVariants.{Begin}
-use Rattle.coord_ledger.specs.ledger.Driven.{Driven, SendsOut, at_home, held}
-use Rattle.coord_ledger.specs.ledger.Follows.{Follows, FollowsTo, HoldsFlight}
-use Rattle.coord_ledger.specs.ledger.State.{FlightState, LedgerState}
+use Rattle.coord_ledger.specs.Facade.{Driven, FlightState, Follows, FollowsTo, HoldsFlight, LedgerState, SendsOut, at_home, held}
 use Rattle.coord_ledger.proofs.follows.FollowsCalls.{follows_next}
 use Rattle.coord_ledger.proofs.follows.FollowsFlights.{follows_not_begun, follows_nothing}
 use Rattle.coord_ledger.proofs.drives.Flights.{begun_err, begun_none, begun_some, begun_to, departs_own}

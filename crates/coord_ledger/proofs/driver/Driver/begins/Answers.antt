@@ -1,9 +1,5 @@
-use Rattle.std.proofs.Common.{◌+◌, ◌≤◌, length, ap, subst}
-use Rattle.std.specs.Prelude.{IfSome}
-use Rattle.coord_ledger.specs.ledger.Driven.{Driven, nothing_beside}
-use Rattle.coord_ledger.specs.ledger.Follows.{HoldsFlight}
-use Rattle.coord_ledger.specs.ledger.State.{LedgerState}
-use Rattle.coord_ledger.specs.machine.Consistent.{IsConsistentLog}
+use Rattle.std.proofs.Common.{◌+◌, ◌≤◌, length, ap, subst, IfSome}
+use Rattle.coord_ledger.specs.Facade.{Driven, HoldsFlight, IsConsistentLog, LedgerState, nothing_beside}
 use Rattle.coord_ledger.proofs.drives.Drives.{drives_first}
 use Rattle.coord_ledger.proofs.driver.Driver.begins.Goals as goal
 

@@ -1,10 +1,7 @@
 use Rattle.std.proofs.Common.{◌≡◌, Some, false, refl, sym, ap, ◌∙◌, subst}
 use Rattle.coord_ledger.specs.declared.events.Answer.{Answer}
 use Rattle.coord_ledger.specs.declared.events.Event.TheVariants.{Commit}
-use Rattle.coord_ledger.specs.ledger.Driver.{HeldTouches, disk_with}
-use Rattle.coord_ledger.specs.ledger.Driven.{CommitsTo, Driven, disk_driven, held}
-use Rattle.coord_ledger.specs.promises.Headline.{found_by_crash}
-use Rattle.coord_ledger.specs.promises.Moments.{touches_disk}
+use Rattle.coord_ledger.specs.Facade.{CommitsTo, Driven, HeldTouches, disk_driven, disk_with, found_by_crash, held, touches_disk}
 use Rattle.coord_ledger.proofs.drives.EachMoment.{commit_touches, held_untouched, told}
 use Rattle.coord_ledger.proofs.drives.Flights.{committed}
 use Rattle.coord_ledger.proofs.driver.Driver.commit.Goals as goal

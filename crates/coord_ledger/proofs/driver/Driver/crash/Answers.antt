@@ -3,9 +3,7 @@ use Rattle.std.specs.Option.{option_map}
 use Rattle.coord_world.specs.protocol.NumberedWorld.{World}
 use Rattle.coord_ledger.specs.declared.events.Answer.TheVariants.{Opened}
 use Rattle.coord_ledger.specs.declared.events.Event.TheVariants.{Crash}
-use Rattle.coord_ledger.specs.ledger.Driven.{Driven, IsLeftByCrash, after_crash, at_home, disk_driven, held, model_driven}
-use Rattle.coord_ledger.specs.ledger.Follows.{FollowsTo, flight_out}
-use Rattle.coord_ledger.specs.machine.Answers.{kept_by}
+use Rattle.coord_ledger.specs.Facade.{Driven, FollowsTo, IsLeftByCrash, after_crash, at_home, disk_driven, flight_out, held, kept_by, model_driven}
 use Rattle.coord_ledger.proofs.follows.FollowsCrashes.{images_follow}
 use Rattle.coord_ledger.proofs.drives.FollowsTo.{crash_fault, follows_reopened, left_by_crash, some_is}
 use Rattle.coord_ledger.proofs.drives.EachMoment.{crash_lost, crash_touches}

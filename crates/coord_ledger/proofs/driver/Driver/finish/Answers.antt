@@ -1,8 +1,7 @@
 use Rattle.std.proofs.Common.{Some, Ok, sym, ap, ◌∙◌, subst}
 use Rattle.coord_ledger.specs.declared.events.Answer.TheVariants.{Refused}
 use Rattle.coord_ledger.specs.declared.events.Event.TheVariants.{Finish}
-use Rattle.coord_ledger.specs.ledger.Driven.{Driven, FinishesTo, held}
-use Rattle.coord_ledger.specs.ledger.Follows.{Follows, FollowsTo}
+use Rattle.coord_ledger.specs.Facade.{Driven, FinishesTo, Follows, FollowsTo, held}
 use Rattle.coord_ledger.proofs.follows.FollowsCalls.{follows_returned}
 use Rattle.coord_ledger.proofs.drives.Answers.{follows_unfinished}
 use Rattle.coord_ledger.proofs.driver.Driver.finish.Goals as goal

@@ -1,11 +1,6 @@
-use Rattle.std.proofs.Common.{◌≡◌, true, Option, Some, None, sym, subst}
-use Rattle.std.specs.Prelude.{IfSome}
+use Rattle.std.proofs.Common.{◌≡◌, true, Option, Some, None, sym, subst, IfSome}
 use Rattle.std.specs.Option.{option_map}
-use Rattle.coord_ledger.specs.ledger.Calls.{LedgerGives}
-use Rattle.coord_ledger.specs.ledger.Driven.{Driven}
-use Rattle.coord_ledger.specs.ledger.Follows.{HoldsFlight, ImagesGive, flight_out}
-use Rattle.coord_ledger.specs.ledger.State.{FlightState}
-use Rattle.coord_ledger.specs.machine.Answers.{kept_by}
+use Rattle.coord_ledger.specs.Facade.{Driven, FlightState, HoldsFlight, ImagesGive, LedgerGives, flight_out, kept_by}
 use Rattle.coord_ledger.proofs.follows.FollowsCalls.{flight_images, ledger_images}
 use Rattle.coord_ledger.proofs.driver.Driver.into_disk.Goals as goal
 

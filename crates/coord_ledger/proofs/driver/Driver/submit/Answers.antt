@@ -1,7 +1,5 @@
 use Rattle.std.proofs.Common.{sym, ap, ◌∙◌, subst}
-use Rattle.coord_ledger.specs.ledger.Driven.{Driven, disk_driven, held}
-use Rattle.coord_ledger.specs.ledger.Driver.{disk_with}
-use Rattle.coord_ledger.specs.ledger.Follows.{Follows}
+use Rattle.coord_ledger.specs.Facade.{Driven, Follows, disk_driven, disk_with, held}
 use Rattle.coord_ledger.proofs.drives.HandedTo.{follows_handed, submitted}
 use Rattle.coord_ledger.proofs.driver.Driver.submit.Goals as goal
 

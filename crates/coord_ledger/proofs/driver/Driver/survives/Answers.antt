@@ -1,8 +1,5 @@
-use Rattle.std.proofs.Common.{true, sym, ap, ◌∙◌, subst}
-use Rattle.std.specs.Prelude.{◌≡◌, IfSome}
-use Rattle.coord_ledger.specs.ledger.Calls.{LedgerGives}
-use Rattle.coord_ledger.specs.ledger.Driven.{Driven, held}
-use Rattle.coord_ledger.specs.ledger.State.{LedgerState}
+use Rattle.std.proofs.Common.{true, sym, ap, ◌∙◌, subst, ◌≡◌, IfSome}
+use Rattle.coord_ledger.specs.Facade.{Driven, LedgerGives, LedgerState, held}
 use Rattle.coord_ledger.proofs.drives.EachMoment.{flight_survives, home_survives}
 use Rattle.coord_ledger.proofs.driver.Driver.survives.Goals as goal
 

@@ -1,8 +1,7 @@
 use Rattle.std.proofs.Common.{◌≡◌, ◌+◌, ◌≤◌, ℕ, Bool, List, Option, None, length, true, sym, ap, ◌∙◌, subst}
 use Rattle.coord_disk.specs.Model.Present.{Present}
 use Rattle.coord_journal.specs.Text.{HasPlaceIn, IsTextIn}
-use Rattle.coord_store.specs.Kept.{Kept}
-use Rattle.coord_store.specs.Recovered.{IsBody}
+use Rattle.coord_store.specs.Facade.{IsBody, Kept}
 use Rattle.coord_types.specs.declared.steps.Step.{Step}
 use Rattle.coord_world.specs.protocol.NumberedWorld.{World}
 use Rattle.coord_ledger.specs.code.Holding.{IsFlight, carried_torn, carried_world}

@@ -1,6 +1,5 @@
 use Rattle.std.proofs.Common.{◌≡◌, true, subst}
-use Rattle.coord_ledger.specs.ledger.Calls.{FlightGives}
-use Rattle.coord_ledger.specs.ledger.State.{FlightState}
+use Rattle.coord_ledger.specs.Facade.{FlightGives, FlightState}
 use Rattle.coord_ledger.proofs.follows.Kept.{flown_gives}
 use Rattle.coord_ledger.proofs.flight.Flight.images_give_world.Goals as goal
 

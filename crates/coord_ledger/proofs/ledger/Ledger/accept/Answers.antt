@@ -1,10 +1,8 @@
 use Rattle.std.proofs.Common.{◌≡◌, ◌++◌, ◌∷◌, [], Ok, sym, ap, ◌∙◌, subst}
 use Rattle.coord_world.specs.declared.verdicts.Verdict.TheVariants.{Fresh}
 use Rattle.coord_ledger.specs.code.Holding.{listed}
-use Rattle.coord_ledger.specs.ledger.Calls.{ledger_verdict}
-use Rattle.coord_ledger.specs.ledger.State.{LedgerState}
+use Rattle.coord_ledger.specs.Facade.{LedgerState, Log, ledger_verdict}
 use Rattle.coord_ledger.proofs.follows.Given.{listed-push}
-use Rattle.coord_ledger.specs.machine.Log.{Log}
 use Rattle.coord_ledger.proofs.follows.IsOut.{same_accepted}
 use Rattle.coord_ledger.proofs.follows.Kept.{fresh_front, legal_front, took_step}
 use Rattle.coord_ledger.proofs.ledger.Ledger.accept.Goals as goal

@@ -1,6 +1,5 @@
 use Rattle.std.proofs.Common.{ap, ◌∙◌}
-use Rattle.coord_ledger.specs.ledger.State.{LedgerState}
-use Rattle.coord_ledger.specs.machine.Log.{accepted_count}
+use Rattle.coord_ledger.specs.Facade.{LedgerState, accepted_count}
 use Rattle.coord_ledger.proofs.follows.Kept.{counts_front}
 use Rattle.coord_ledger.proofs.ledger.Ledger.accepted_count.Goals as goal
 

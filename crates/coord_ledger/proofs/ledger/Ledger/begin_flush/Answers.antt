@@ -3,8 +3,7 @@ use Rattle.std.proofs.lemmas.List.{length-drop, length-take}
 use Rattle.coord_types.specs.declared.limits.TheConstants.{MAX_BATCH_STEPS}
 use Rattle.coord_store.specs.Kept.{Kept}
 use Rattle.coord_ledger.specs.code.Holding.{disk_at}
-use Rattle.coord_ledger.specs.ledger.State.{LedgerState}
-use Rattle.coord_ledger.specs.machine.Log.{pending}
+use Rattle.coord_ledger.specs.Facade.{LedgerState, pending}
 use Rattle.coord_ledger.proofs.ledger.Ledger.begin_flush.Goals as goal
 
 has_disk : {D : Type 0} (store : Option (Kept D)) → is_some store ≡ true → is_some (disk_at store) ≡ true

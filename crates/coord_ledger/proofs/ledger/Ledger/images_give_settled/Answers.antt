@@ -1,7 +1,5 @@
 use Rattle.std.proofs.Common.{◌≡◌, true, IfSome, subst}
-use Rattle.coord_ledger.specs.ledger.Calls.{LedgerGives}
-use Rattle.coord_ledger.specs.ledger.State.{LedgerState}
-use Rattle.coord_ledger.specs.machine.Log.{Log}
+use Rattle.coord_ledger.specs.Facade.{LedgerGives, LedgerState, Log}
 use Rattle.coord_ledger.proofs.follows.Kept.{store_gives}
 use Rattle.coord_ledger.proofs.ledger.Ledger.images_give_settled.Goals as goal
 

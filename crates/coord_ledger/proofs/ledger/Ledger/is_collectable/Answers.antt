@@ -1,6 +1,5 @@
 use Rattle.std.proofs.Common.{◌≤◌, ap, subst, sym, arith}
-use Rattle.coord_ledger.specs.ledger.State.{Claim, IsCollectable, LedgerState}
-use Rattle.coord_ledger.specs.machine.Log.{Log}
+use Rattle.coord_ledger.specs.Facade.{Claim, IsCollectable, LedgerState, Log}
 use Rattle.coord_ledger.proofs.follows.Collectable.{kept_collectable, old_kept}
 use Rattle.coord_ledger.proofs.ledger.Ledger.is_collectable.Goals as goal
 

@@ -1,7 +1,5 @@
 use Rattle.std.proofs.Common.{◌≡◌, ◌+◌, false, is_some, length, take, unwrap_or, drop, sym, ap, ◌∙◌, subst, rules, arith}
-use Rattle.coord_ledger.specs.ledger.Follows.{IsOut}
-use Rattle.coord_ledger.specs.ledger.State.{FlightState, LedgerState}
-use Rattle.coord_ledger.specs.machine.Log.{Log, settled_count}
+use Rattle.coord_ledger.specs.Facade.{FlightState, IsOut, LedgerState, Log, settled_count}
 use Rattle.coord_ledger.proofs.follows.IsOut.{flight_of, ledger_of, own_is, own_steps}
 use Rattle.coord_ledger.proofs.ledger.Ledger.is_own.Goals as goal
 

@@ -3,8 +3,7 @@ use Rattle.std.proofs.lemmas.List.{length-drop, length-take, take_min}
 use Rattle.coord_types.specs.declared.limits.TheConstants.{MAX_BATCH_STEPS}
 use Rattle.coord_types.specs.declared.steps.Step.{Step}
 use Rattle.coord_world.specs.protocol.Next.{fold}
-use Rattle.coord_ledger.specs.ledger.State.{LedgerState}
-use Rattle.coord_ledger.specs.machine.Log.{Log, pending, settled_world}
+use Rattle.coord_ledger.specs.Facade.{LedgerState, Log, pending, settled_world}
 use Rattle.coord_ledger.proofs.ledger.Ledger.next_flown.Goals as goal
 
 -- the steps that go out are the first of those that are pending

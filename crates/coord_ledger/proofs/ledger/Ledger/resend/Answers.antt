@@ -1,8 +1,6 @@
 use Rattle.std.proofs.Common.{◌++◌, map, ap, ◌∙◌}
 use Rattle.coord_world.specs.protocol.Outputs.{again}
-use Rattle.coord_ledger.specs.ledger.State.{LedgerState}
-use Rattle.coord_ledger.specs.machine.After.{release_of}
-use Rattle.coord_ledger.specs.machine.Log.{settled_world}
+use Rattle.coord_ledger.specs.Facade.{LedgerState, release_of, settled_world}
 use Rattle.coord_ledger.proofs.ledger.Ledger.resend.Goals as goal
 
 pub returns : goal.returns

@@ -4,8 +4,7 @@ use Rattle.coord_store.specs.Kept.{Kept}
 use Rattle.coord_world.specs.protocol.Next.{fold}
 use Rattle.coord_ledger.specs.code.Holding.{IsHome, IsLedger, disk_at, listed}
 use Rattle.coord_ledger.specs.declared.mark.Mark.TheVariants.{New}
-use Rattle.coord_ledger.specs.ledger.State.{LedgerState}
-use Rattle.coord_ledger.specs.machine.Log.{Log, pending, settled_world}
+use Rattle.coord_ledger.specs.Facade.{LedgerState, Log, pending, settled_world}
 use Rattle.coord_ledger.proofs.follows.Kept.{flies, sent_away}
 use Rattle.coord_ledger.proofs.follows.IsOut.{same_away, same_flight}
 use Rattle.coord_ledger.proofs.ledger.Ledger.send_out.Goals as goal

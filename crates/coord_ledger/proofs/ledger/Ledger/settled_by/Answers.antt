@@ -2,9 +2,7 @@ use Rattle.std.proofs.Common.{◌+◌, rules, ◌≡◌, length, unwrap_or, sym,
 use Rattle.coord_world.specs.protocol.Next.{fold}
 use Rattle.coord_ledger.specs.code.Holding.{carried_world, listed}
 use Rattle.coord_ledger.specs.declared.mark.Mark.TheVariants.{Good}
-use Rattle.coord_ledger.specs.ledger.Follows.{IsOut}
-use Rattle.coord_ledger.specs.ledger.State.{FlightState, LedgerState}
-use Rattle.coord_ledger.specs.machine.Log.{Log, settled_count}
+use Rattle.coord_ledger.specs.Facade.{FlightState, IsOut, LedgerState, Log, settled_count}
 use Rattle.coord_ledger.proofs.follows.IsOut.{given_within, gives_out, ledger_of}
 use Rattle.coord_ledger.proofs.ledger.Ledger.settled_by.Goals as goal
 

@@ -1,6 +1,5 @@
 use Rattle.std.proofs.Common.{ap, ◌∙◌}
-use Rattle.coord_ledger.specs.ledger.State.{LedgerState}
-use Rattle.coord_ledger.specs.machine.Log.{settled_count}
+use Rattle.coord_ledger.specs.Facade.{LedgerState, settled_count}
 use Rattle.coord_ledger.proofs.follows.Kept.{counts_settled}
 use Rattle.coord_ledger.proofs.ledger.Ledger.settled_count.Goals as goal
 

@@ -1,10 +1,7 @@
 use Rattle.std.proofs.Common.{IfOk, arith, ap, ◌∙◌, ◌≡◌, length, take, sym, subst}
 use Rattle.coord_store.specs.Recovered.{AllFresh}
-use Rattle.coord_world.specs.protocol.Legal.{Legal}
-use Rattle.coord_world.specs.protocol.Next.{fold}
-use Rattle.coord_world.specs.protocol.NumberedWorld.{World}
-use Rattle.coord_ledger.specs.ledger.State.{LedgerState}
-use Rattle.coord_ledger.specs.machine.Log.{Log, pending, settled_world}
+use Rattle.coord_world.specs.Facade.{Legal, World, fold}
+use Rattle.coord_ledger.specs.Facade.{LedgerState, Log, pending, settled_world}
 use Rattle.coord_ledger.proofs.follows.Kept.{fresh_next, front_behind, legal_settled}
 use Rattle.coord_ledger.proofs.ledger.Ledger.world_behind.Goals as goal
 

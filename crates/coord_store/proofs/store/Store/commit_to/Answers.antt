@@ -1,11 +1,9 @@
 use Rattle.std.proofs.Common.{◌≡◌, ◌≢◌, ℕ, ◌+◌, ◌≤◌, List, length, true, None, inl, rules, sym, ap, ◌∙◌, subst}
 use Rattle.coord_disk.specs.Model.Moments.{LeavesOnly}
 use Rattle.coord_disk.proofs.MomentLemmas.{weaker}
-use Rattle.coord_journal.specs.Journal.{HasRoomFor}
-use Rattle.coord_journal.specs.Text.{HasPlaceIn, IsTextIn}
+use Rattle.coord_journal.specs.Facade.{HasPlaceIn, HasRoomFor, IsTextIn}
 use Rattle.coord_store.specs.Faults.{failed_in}
-use Rattle.coord_store.specs.Kept.{GivesEither, Holds, IsKept, IsOnlyWorld, Kept}
-use Rattle.coord_store.specs.Recovered.{IsBody, Takes}
+use Rattle.coord_store.specs.Facade.{GivesEither, Holds, IsBody, IsKept, IsOnlyWorld, Kept, Takes}
 use Rattle.coord_store.specs.declared.faults.CommitFault.TheVariants.{Device}
 use Rattle.coord_world.specs.protocol.Next.{fold}
 use Rattle.coord_store.proofs.Holding.{begun, as_long, has_room, in_half, kept_on, kept_torn, none_of}

@@ -1,7 +1,6 @@
 use Rattle.std.proofs.Common.{ℕ, List, sym, ◌∙◌, subst}
 use Rattle.coord_world.specs.protocol.NumberedWorld.{World, no_world}
-use Rattle.coord_journal.specs.Contents.{content_of}
-use Rattle.coord_journal.specs.Text.{Content, without_batch}
+use Rattle.coord_journal.specs.Facade.{Content, content_of, without_batch}
 use Rattle.coord_store.specs.Recovered.{Gives}
 use Rattle.coord_store.proofs.Refusing.{made_refused}
 use Rattle.coord_store.proofs.store.Store.create.Goals as goal

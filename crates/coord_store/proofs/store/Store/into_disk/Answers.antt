@@ -1,6 +1,5 @@
 use Rattle.std.proofs.Common.{◌≡◌, true, None, sym, subst}
-use Rattle.coord_store.specs.Kept.{Kept}
-use Rattle.coord_store.specs.Recovered.{Recovered}
+use Rattle.coord_store.specs.Facade.{Kept, Recovered}
 use Rattle.coord_store.proofs.Holding.{image_gives}
 use Rattle.coord_store.proofs.store.Store.into_disk.Goals as goal
 

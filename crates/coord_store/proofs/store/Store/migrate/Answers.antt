@@ -2,8 +2,7 @@ use Rattle.std.proofs.Common.{◌≡◌, ◌≢◌, eqb, cond, inl, sym, ap, ◌
 use Rattle.std.proofs.lemmas.Bool.Decides.{nat_tests}
 use Rattle.coord_disk.specs.Model.Moments.{LeavesOnly}
 use Rattle.coord_disk.proofs.MomentLemmas.{weaker}
-use Rattle.coord_store.specs.Kept.{GivesEither}
-use Rattle.coord_store.specs.Migrating.{risen}
+use Rattle.coord_store.specs.Facade.{GivesEither, risen}
 use Rattle.coord_store.specs.declared.faults.StoreFault.TheVariants as fault
 use Rattle.coord_world.specs.laws.Raised.{raised}
 use Rattle.coord_world.specs.protocol.NumberedWorld.{World}

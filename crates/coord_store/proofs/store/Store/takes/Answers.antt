@@ -1,6 +1,5 @@
 use Rattle.std.proofs.Common.{◌≢◌, ⊎_elim, rules, sym, ap, ◌∙◌, subst}
-use Rattle.coord_store.specs.Kept.{Kept}
-use Rattle.coord_store.specs.Recovered.{AllFresh}
+use Rattle.coord_store.specs.Facade.{AllFresh, Kept}
 use Rattle.coord_store.specs.declared.faults.StoreFault.TheVariants.{OutOfMemory}
 use Rattle.coord_store.proofs.Exclusion.{unstopped}
 use Rattle.coord_store.proofs.store.Store.takes.Goals as goal

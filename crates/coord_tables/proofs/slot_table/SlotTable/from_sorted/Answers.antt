@@ -1,7 +1,6 @@
-use Rattle.std.proofs.Common.{◌≡◌, ◌+◌, ◌<◌, [], suc, Some, length, refl, sym, ap, ◌∙◌, arith, slice_get, take}
+use Rattle.std.proofs.Common.{◌≡◌, ◌+◌, ◌<◌, [], suc, Some, length, refl, sym, ap, ◌∙◌, arith, slice_get, take, nat_cmp}
 use Rattle.std.proofs.lemmas.Option.{slice_get-get_or}
 use Rattle.std.specs.Cmp.{nat_cmp_total}
-use Rattle.std.specs.Ordering.{nat_cmp}
 use Rattle.coord_types.specs.Table as table
 use Rattle.coord_tables.proofs.SortedEntries.{put_next, sorted-take}
 use Rattle.coord_tables.proofs.TableEntries.{from_sorted-none, from_sorted-put}

@@ -1,7 +1,6 @@
-use Rattle.std.proofs.Common.{◌≡◌, refl, ap, ◌∙◌, map, arith}
+use Rattle.std.proofs.Common.{◌≡◌, refl, ap, ◌∙◌, map, arith, nat_cmp}
 use Rattle.std.proofs.lemmas.Result.{IfOk-weaker}
 use Rattle.std.specs.Cmp.{nat_cmp_total}
-use Rattle.std.specs.Ordering.{nat_cmp}
 use Rattle.std.specs.FinMap.Entries.{is_sorted}
 use Rattle.coord_types.specs.Table.{from_sorted}
 use Rattle.coord_tables.proofs.KeyedLists.{sorted-keys}

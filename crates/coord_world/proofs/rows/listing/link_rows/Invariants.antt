@@ -2,8 +2,7 @@ use Rattle.std.proofs.Common.{◌≡◌, ℕ, List, ◌++◌, drop, map}
 use Rattle.std.specs.FinMap.Entries.{where_key}
 use Rattle.coord_types.specs.Table.{Table}
 use Rattle.coord_link.specs.LaneMachine.{Lane}
-use Rattle.coord_world.specs.protocol.NumberedWorld.{no_world, pair_cmp, pair_cmp_total}
-use Rattle.coord_world.specs.protocol.Rows.{goes_up, link_row}
+use Rattle.coord_world.specs.Facade.{goes_up, link_row, no_world, pair_cmp, pair_cmp_total}
 use Rattle.coord_world.specs.declared.rows.parts.LinkRow.{LinkRow}
 use Rattle.coord_world.proofs.rows.listing.link_rows.Given as goal
 

@@ -1,7 +1,6 @@
 use Rattle.std.proofs.Common.{◌++◌, ap, ◌∙◌}
 use Rattle.coord_node.specs.Steps.{transitions}
-use Rattle.coord_world.specs.protocol.NumberedWorld.{state}
-use Rattle.coord_world.specs.protocol.Outputs.{receipts, signals}
+use Rattle.coord_world.specs.Facade.{receipts, signals, state}
 use Rattle.coord_world.proofs.transitions.NewFronts.{fronts_are}
 use Rattle.coord_world.proofs.tables.Tables.apply.Goals as goal
 

@@ -2,8 +2,7 @@ use Rattle.std.proofs.Common.{ap, sym, ◌∙◌}
 use Rattle.std.specs.Option.{option_copied}
 use Rattle.coord_types.specs.Table.{get, insert}
 use Rattle.coord_link.specs.LaneMachine.{cleared}
-use Rattle.coord_world.specs.protocol.NumberedWorld.{World}
-use Rattle.coord_world.specs.protocol.Next.{on_lane}
+use Rattle.coord_world.specs.Facade.{World, on_lane}
 use Rattle.coord_world.proofs.lanes.OnLane.{on_lane_absent, on_lane_there}
 use Rattle.coord_world.proofs.tables.Tables.clear_front.Goals as goal
 

@@ -3,8 +3,7 @@ use Rattle.coord_types.specs.NodeSet as set
 use Rattle.coord_types.specs.Table.{get}
 use Rattle.coord_link.specs.LaneMachine.{Lane}
 use Rattle.coord_node.specs.Rules.{transition}
-use Rattle.coord_world.specs.protocol.NumberedWorld.{World, state}
-use Rattle.coord_world.specs.protocol.Next.{with_transition}
+use Rattle.coord_world.specs.Facade.{World, state, with_transition}
 use Rattle.coord_world.proofs.transitions.IsNodeStepOf.{act_done, act_room}
 use Rattle.coord_world.proofs.tables.Tables.deliver.Goals as goal
 

@@ -4,8 +4,7 @@ use Rattle.coord_types.specs.Table.{get}
 use Rattle.coord_types.specs.declared.steps.Command.TheVariants.{Drop}
 use Rattle.coord_link.specs.LaneMachine.{Lane}
 use Rattle.coord_node.specs.Rules.{Transition, lost}
-use Rattle.coord_world.specs.protocol.NumberedWorld.{World, state}
-use Rattle.coord_world.specs.protocol.Next.{with_transition, with_command}
+use Rattle.coord_world.specs.Facade.{World, state, with_command, with_transition}
 use Rattle.coord_tables.proofs.Found.{set_stays}
 use Rattle.coord_world.proofs.transitions.IsNodeStepOf.{act_done, act_room}
 use Rattle.coord_world.proofs.tables.Tables.drop_link.Goals as goal

@@ -1,7 +1,5 @@
 use Rattle.std.proofs.Common.{sym, subst}
-use Rattle.coord_world.specs.protocol.Acceptance.{IsFresh}
-use Rattle.coord_world.specs.protocol.Legal.{Legal}
-use Rattle.coord_world.specs.protocol.Ranges.{InRange}
+use Rattle.coord_world.specs.Facade.{InRange, IsFresh, Legal}
 use Rattle.coord_world.proofs.legal.NextKeepsLegal.{legal_next}
 use Rattle.coord_world.proofs.ranges.NextKeepsRanges.{ranges_next}
 use Rattle.coord_world.proofs.world.World.apply.Goals as goal

@@ -1,6 +1,5 @@
 use Rattle.std.proofs.Common.{ap, sym, ◌∙◌, subst}
-use Rattle.coord_world.specs.protocol.Rows.{listed, rows_of}
-use Rattle.coord_world.specs.protocol.Ranges.{InRange}
+use Rattle.coord_world.specs.Facade.{InRange, listed, rows_of}
 use Rattle.coord_world.proofs.listings.Assembled.{assembled_in_range, rows_assembled}
 use Rattle.coord_world.proofs.world.World.assemble.Goals as goal
 

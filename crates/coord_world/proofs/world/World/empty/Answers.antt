@@ -1,6 +1,5 @@
 use Rattle.std.proofs.Common.{sym, subst}
-use Rattle.coord_world.specs.protocol.Legal.{Legal}
-use Rattle.coord_world.specs.protocol.Ranges.{InRange}
+use Rattle.coord_world.specs.Facade.{InRange, Legal}
 use Rattle.coord_world.proofs.legal.EmptyWorld.{no_world_in_range, no_world_legal}
 use Rattle.coord_world.proofs.world.World.empty.Goals as goal
 

@@ -1,7 +1,6 @@
 use Rattle.std.proofs.Common.{◌≡◌, sym, ◌∙◌, subst}
 use Rattle.coord_node.specs.Steps.{kind}
-use Rattle.coord_world.specs.protocol.Acceptance.{IsFresh}
-use Rattle.coord_world.specs.protocol.NumberedWorld.{state}
+use Rattle.coord_world.specs.Facade.{IsFresh, state}
 use Rattle.coord_world.proofs.acceptance.FreshVerdict.{verdict_fresh, verdict_fresh_itself, verdict_kind}
 use Rattle.coord_world.proofs.world.World.judge.Goals as goal
 

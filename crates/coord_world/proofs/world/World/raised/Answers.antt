@@ -1,9 +1,6 @@
-use Rattle.std.proofs.Common.{◌≡◌, ◌∙◌, Result, Ok, Err, ap, sym, subst}
-use Rattle.std.specs.Prelude.{IfOk}
+use Rattle.std.proofs.Common.{◌≡◌, ◌∙◌, Result, Ok, Err, ap, sym, subst, IfOk}
 use Rattle.coord_world.specs.laws.Raised.{raised}
-use Rattle.coord_world.specs.protocol.Legal.{Legal}
-use Rattle.coord_world.specs.protocol.NumberedWorld.{World}
-use Rattle.coord_world.specs.protocol.Rows.{RowsFit}
+use Rattle.coord_world.specs.Facade.{Legal, RowsFit, World}
 use Rattle.coord_world.proofs.legal.RaisedLegal.{raised_is_legal}
 use Rattle.coord_world.proofs.listings.RaisedRows.{raised_fit, raised_given, second}
 use Rattle.coord_world.proofs.world.World.raised.Goals as goal

@@ -1,10 +1,6 @@
 use Rattle.std.proofs.Common.{sym, subst, ap, ◌∙◌}
 use Rattle.coord_ledger.specs.declared.events.Event.TheVariants.{Commit}
-use Rattle.coord_ledger.specs.ledger.Driven.{Beside, held}
-use Rattle.coord_ledger.specs.ledger.Driver.{HeldTouches, model_of}
-use Rattle.coord_ledger.specs.ledger.Follows.{Follows, Held}
-use Rattle.coord_ledger.specs.promises.Headline.{found_by_crash}
-use Rattle.coord_ledger.specs.promises.Moments.{touches_disk}
+use Rattle.coord_ledger.specs.Facade.{Beside, Follows, Held, HeldTouches, found_by_crash, held, model_of, touches_disk}
 use Rattle.coord_ledger.proofs.event_driver.run.Run.commit.Goals as goal
 
 pub returns-clause-answered : goal.returns-clause-answered

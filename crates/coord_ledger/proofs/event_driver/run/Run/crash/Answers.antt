@@ -1,9 +1,7 @@
 use Rattle.std.proofs.Common.{true, sym, ap, ◌∙◌, subst}
 use Rattle.coord_ledger.specs.declared.events.Answer.TheVariants.{Opened}
 use Rattle.coord_ledger.specs.declared.events.Event.TheVariants.{Crash}
-use Rattle.coord_ledger.specs.ledger.Driven.{Beside, after_crash, held}
-use Rattle.coord_ledger.specs.ledger.Driver.{HeldTouches, IsEventFault, IsLost, model_of}
-use Rattle.coord_ledger.specs.ledger.Follows.{Follows, FollowsTo, Held}
+use Rattle.coord_ledger.specs.Facade.{Beside, Follows, FollowsTo, Held, HeldTouches, IsEventFault, IsLost, after_crash, held, model_of}
 use Rattle.coord_ledger.proofs.drives.CutShort.{cut_before}
 use Rattle.coord_ledger.proofs.drives.FollowsTo.{crash_on}
 use Rattle.coord_ledger.proofs.event_driver.run.Run.crash.Goals as goal

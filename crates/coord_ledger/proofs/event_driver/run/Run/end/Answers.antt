@@ -1,6 +1,5 @@
 use Rattle.std.proofs.Common.{refl, sym, subst}
-use Rattle.coord_ledger.specs.ledger.Driver.{Drives}
-use Rattle.coord_ledger.specs.ledger.Follows.{Held}
+use Rattle.coord_ledger.specs.Facade.{Drives, Held}
 use Rattle.coord_ledger.proofs.drives.Ends.{ran_home}
 use Rattle.coord_ledger.proofs.event_driver.run.Run.end.Goals as goal
 

@@ -1,10 +1,6 @@
-use Rattle.std.proofs.Common.{refl, sym, ap, ◌∙◌, subst}
-use Rattle.std.specs.Prelude.{MatchResult}
+use Rattle.std.proofs.Common.{refl, sym, ap, ◌∙◌, subst, MatchResult}
 use Rattle.coord_ledger.specs.declared.events.Event.TheVariants.{Begin, Collect, Commit, Finish, Resend, Show, Submit}
-use Rattle.coord_ledger.specs.ledger.Driver.{HeldTouches, IsLost, disk_held, model_of}
-use Rattle.coord_ledger.specs.ledger.Follows.{Held}
-use Rattle.coord_ledger.specs.promises.Headline.{IsCutShort, found_by_crash, wants_memory}
-use Rattle.coord_ledger.specs.promises.Moments.{touches_disk}
+use Rattle.coord_ledger.specs.Facade.{Held, HeldTouches, IsCutShort, IsLost, disk_held, found_by_crash, model_of, touches_disk, wants_memory}
 use Rattle.coord_ledger.proofs.drives.CutShort.{cut_before}
 use Rattle.coord_ledger.proofs.drives.FollowsTo.{if_err_map, memory_fault, met, met_cut, on_err_map}
 use Rattle.coord_ledger.proofs.drives.EachMoment.{lost_as_held, match_map, met_aside, met_commit}

@@ -1,8 +1,7 @@
 use Rattle.std.proofs.Common.{◌∷◌, ◌++◌, [], Some, Ok, sym, ap, ◌∙◌, subst}
 use Rattle.coord_ledger.specs.declared.events.Answer.TheVariants.{Accepted, Refused, Repeated}
 use Rattle.coord_ledger.specs.declared.events.Event.TheVariants.{Submit}
-use Rattle.coord_ledger.specs.ledger.Driven.{Beside, answer_to, held, with_claim}
-use Rattle.coord_ledger.specs.ledger.Follows.{Follows, FollowsTo, Held}
+use Rattle.coord_ledger.specs.Facade.{Beside, Follows, FollowsTo, Held, answer_to, held, with_claim}
 use Rattle.coord_ledger.proofs.event_driver.run.Run.submit.Goals as goal
 
 pub returns-in-Ok-Accepted-clause-answered : goal.returns-in-Ok-Accepted-clause-answered

@@ -1,6 +1,5 @@
 use Rattle.std.proofs.Common.{sym, subst}
-use Rattle.coord_ledger.specs.ledger.Driver.{HeldSurvives}
-use Rattle.coord_ledger.specs.ledger.Follows.{Follows, Held}
+use Rattle.coord_ledger.specs.Facade.{Follows, Held, HeldSurvives}
 use Rattle.coord_ledger.proofs.event_driver.run.Run.survives.Goals as goal
 
 pub returns : goal.returns
