@@ -57,6 +57,21 @@ fn the_file_is_read(rt: HostRuntime) -> Result<(), Fail> {
     Ok(())
 }
 
+/// Whether a file that says nothing has no node, no link and the usual half.
+fn is_usual(alloc: Global) -> Result<bool, ConfigFault> {
+    let topology = read_topology(alloc, "")?;
+    let is_empty = topology.nodes.is_empty() && topology.links.is_empty();
+    let is_usual = is_empty && topology.half == 65_536;
+    drop(topology);
+    Ok(is_usual)
+}
+
+#[test]
+fn a_file_that_says_nothing_has_the_usual_half(rt: HostRuntime) -> Result<(), Fail> {
+    assert!(rt; is_usual(rt.alloc())?);
+    Ok(())
+}
+
 const ANSWERS: [(&str, u8); 25] = [
     ("", 0),
     ("half = 65536 # the usual size\r\nnode = []\r\n", 0),

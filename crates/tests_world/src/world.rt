@@ -147,7 +147,7 @@ fn is_finished(world: &mut World) -> Result<bool, AllocError>
     Ok(took && cleared)
 }
 
-fn comes_back(alloc: Global) -> Result<bool, AllocError> {
+fn comes_back_ready(alloc: Global) -> Result<bool, AllocError> {
     let mut world = asked(alloc)?;
     let finished = is_finished(&mut world);
     drop(world);
@@ -156,7 +156,7 @@ fn comes_back(alloc: Global) -> Result<bool, AllocError> {
 
 #[test]
 fn a_reset_goes_out_and_comes_back(rt: HostRuntime) -> Result<(), Fail> {
-    assert!(rt; goes_out(rt.alloc())? && comes_back(rt.alloc())?);
+    assert!(rt; goes_out(rt.alloc())? && comes_back_ready(rt.alloc())?);
     Ok(())
 }
 
@@ -253,6 +253,50 @@ fn is_put_together(alloc: Global) -> Result<bool, Fail> {
 #[test]
 fn a_world_is_copied_and_comes_back(rt: HostRuntime) -> Result<(), Fail> {
     assert!(rt; is_copied(rt.alloc())? && is_put_together(rt.alloc())?);
+    Ok(())
+}
+
+/// Whether a world is the same once it is put together again from its rows.
+fn comes_back(alloc: Global, world: &World) -> Result<bool, Fail>
+    requires { Legal world.now }
+{
+    let back = World::assemble(alloc, world.parts()?)?;
+    let is_same = back == *world;
+    drop(back);
+    Ok(is_same)
+}
+
+fn knows_first(world: &World) -> bool {
+    let Some(last) = world.last(client()) else {
+        return false;
+    };
+    last.number == 1
+}
+
+/// Whether the last order of a client is known from the first on, and a world comes back in which
+/// node 64 is linked with two others.
+fn is_linked_and_back(alloc: Global, world: &mut World) -> Result<bool, Fail>
+    requires { Legal world.old }
+{
+    let _ = takes(world, &order(1, Command::Add(id(1), group())))?;
+    let is_known = knows_first(world);
+    let _ = takes(world, &order(2, Command::Add(id(2), group())))?;
+    let _ = takes(world, &order(3, Command::Add(id(64), group())))?;
+    let _ = takes(world, &order(4, Command::Join(id(1), id(64))))?;
+    let is_linked = takes(world, &order(5, Command::Join(id(2), id(64))))?;
+    Ok(is_known && is_linked && comes_back(alloc, world)?)
+}
+
+fn are_links_back(alloc: Global) -> Result<bool, Fail> {
+    let mut world = World::empty(alloc, version());
+    let is_back = is_linked_and_back(alloc, &mut world);
+    drop(world);
+    is_back
+}
+
+#[test]
+fn the_links_of_node_64_come_back(rt: HostRuntime) -> Result<(), Fail> {
+    assert!(rt; are_links_back(rt.alloc())?);
     Ok(())
 }
 
