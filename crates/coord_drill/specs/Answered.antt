@@ -1,5 +1,5 @@
 -- What a drill prints to what is asked of it. Each line comes from the call of the ledger that it tells of.
-use Rattle.std.specs.Prelude.{◌≡◌, ◌≢◌, ℕ, nat_le, List, [], ◌∷◌, ◌++◌, take, is_some, Option, Some, None, Result, Ok, Err, if◌then◌else◌}
+use Rattle.std.specs.Prelude.{◌≡◌, ◌≢◌, ℕ, nat_le, List, [], ◌∷◌, ◌++◌, take, Option, Some, None, Result, Ok, Err, if◌then◌else◌}
 use Rattle.std.specs.List.{AllByRecursion}
 use Rattle.coord_types.specs.declared.refusals.Refusal.{Refusal}
 use Rattle.coord_types.specs.declared.refusals.Refusal.TheVariants.{OutOfMemory, Stopped}
@@ -11,7 +11,7 @@ use Rattle.coord_world.specs.declared.verdicts.Verdict.TheVariants.{Fresh, Repea
 use Rattle.coord_world.specs.protocol.Outputs.{again, outs}
 use Rattle.coord_ledger.specs.declared.events.Answer.{Answer}
 use Rattle.coord_ledger.specs.declared.events.Answer.TheVariants.{Accepted, Begun, Committed, Failed, Opened, Refused, Repeated}
-use Rattle.coord_ledger.specs.Facade.{Answered, Log, accepted_count, front_world, next_size, pending, settled_count, settled_world, verdict_on, with_step}
+use Rattle.coord_ledger.specs.Facade.{Answered, Log, accepted_count, front_world, has_stopped, next_size, pending, settled_count, settled_world, verdict, with_step}
 use Rattle.coord_view.specs.Printed.{view_lines}
 use Rattle.coord_view.specs.Shown.{shown}
 use Rattle.coord_drill.specs.Asked.{asked}
@@ -42,15 +42,15 @@ repeat_line count (Err refusal) = []
 
 abbrev pub step_lines : DrillState → Step → List Answer → List ℕ
 step_lines s x (Accepted n ∷ given) = if s.holds then pending_line n else flight_lines (with_step s.log x) given
-step_lines s x (Repeated n ∷ given) = repeat_line (settled_count s.log) (verdict_on (machine_of s) x)
+step_lines s x (Repeated n ∷ given) = repeat_line (settled_count s.log) (verdict s.log x)
 step_lines s x (Refused refusal ∷ given) = refusal_line refusal
 step_lines s x given = []
 
 -- ---- all that may be asked
 
 -- the settled world, unless the ledger has stopped
-abbrev pub shown_lines : Log → Option ℕ → List ℕ
-shown_lines log doubt = if is_some doubt then refusal_line Stopped else view_lines (shown (accepted_count log) (settled_world log))
+abbrev pub shown_lines : Log → List ℕ
+shown_lines log = if has_stopped log then refusal_line Stopped else view_lines (shown (accepted_count log) (settled_world log))
 
 abbrev pub opened_lines : List Answer → List ℕ
 opened_lines (Opened count ∷ given) = opened_line count
@@ -62,7 +62,7 @@ asked_lines s (Refuse refusal) given = refusal_line refusal
 asked_lines s Nothing given = idle_line
 asked_lines s Resend given = output_lines (settled_world s.log).version (again (settled_world s.log))
 asked_lines s Check given = fault_line (first (faults (front_world s.log)))
-asked_lines s Show given = shown_lines s.log s.doubt
+asked_lines s Show given = shown_lines s.log
 asked_lines s Hold given = []
 asked_lines s Flush given = flight_lines s.log given ++ count_line (settled_world (after_asked s Flush given).log).count
 asked_lines s Crash given = opened_lines given

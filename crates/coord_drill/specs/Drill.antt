@@ -1,9 +1,9 @@
 -- The state of a drill, and what becomes of it.
 --
--- A drill is the event machine, of which only the log and the doubt are seen here: it holds a ticket for each pending
--- step. A line is a few events of the machine. Where the machine may give several answers to one of these, memory, the
+-- A drill is the event machine, of which only the log is seen here: it holds a ticket for each pending step. A line is a
+-- few events of the machine. Where the machine may give several answers to one of these, memory, the
 -- device or the crash has chosen, and the answer tells what was chosen.
-use Rattle.std.specs.Prelude.{ℕ, Bool, false, true, List, [], ◌∷◌, Option, None, if◌then◌else◌}
+use Rattle.std.specs.Prelude.{ℕ, Bool, false, true, List, [], ◌∷◌, if◌then◌else◌}
 use Rattle.coord_types.specs.declared.steps.Step.{Step}
 use Rattle.coord_world.specs.protocol.NumberedWorld.{World, no_world}
 use Rattle.coord_ledger.specs.declared.events.Answer.{Answer}
@@ -11,23 +11,22 @@ use Rattle.coord_ledger.specs.declared.events.Answer.TheVariants.{Accepted, Begu
 use Rattle.coord_ledger.specs.declared.events.Event.{Event}
 use Rattle.coord_ledger.specs.declared.events.Event.TheVariants as event
 use Rattle.coord_ledger.specs.laws.Moving.{with_base_moved}
-use Rattle.coord_ledger.specs.Facade.{Log, Machine, adopted, front_world, run}
+use Rattle.coord_ledger.specs.Facade.{Log, Machine, adopted, front_world, machine_over, run}
 use Rattle.coord_drill.specs.declared.asked.Asked.{Asked}
 use Rattle.coord_drill.specs.declared.asked.Asked.TheVariants.{Submit, Hold, Flush, Crash, Version2}
 
 pub record DrillState : Type 0 where
   pub log : Log
-  pub doubt : Option ℕ  -- it has stopped, and so many steps behind the settled ones are on the disk, or none of them
   pub holds : Bool  -- accepted steps are not settled at once
   pub has_begun : Bool  -- a step was accepted, be it lost since
 
 -- what is seen of a machine
 abbrev pub seen_as : Machine → Bool → Bool → DrillState
-seen_as m holds begun = record { log = m.log; doubt = m.doubt; holds = holds; has_begun = begun }
+seen_as m holds begun = record { log = m.log; holds = holds; has_begun = begun }
 
 -- the machine before a line: no flight is out of it, and nothing was given out in this line
 abbrev pub machine_of : DrillState → Machine
-machine_of s = record { log = s.log; flight = None; doubt = s.doubt; tickets = []; seen = 0; released = []; replied = [] }
+machine_of s = machine_over s.log
 
 -- over a ledger of this world, that goes on
 abbrev pub drill_over : World → DrillState

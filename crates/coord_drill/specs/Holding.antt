@@ -46,10 +46,10 @@ HasDisk d present = (v : Driven MemDisk) × (disk : MemDisk) × (d.driver ≡ So
 
 -- the state of a drill over this ledger
 abbrev pub drill_of : LedgerState MemDisk → Bool → Bool → DrillState
-drill_of l holds begun = record { log = l.log; doubt = l.doubt; holds = holds; has_begun = begun }
+drill_of l holds begun = record { log = l.log; holds = holds; has_begun = begun }
 
 abbrev pub state_of : Drill → DrillState
-state_of d = record { log = option_map_or (λ v. v.ledger.log) d.driver (log_over (no_world 1)); doubt = option_map_or (λ v. v.ledger.doubt) d.driver None; holds = d.holds; has_begun = d.has_begun }
+state_of d = record { log = option_map_or (λ v. v.ledger.log) d.driver (log_over (no_world 1)); holds = d.holds; has_begun = d.has_begun }
 
 abbrev pub front_of : Drill → World
 front_of d = front_world (state_of d).log

@@ -7,7 +7,7 @@ use Rattle.coord_world.specs.declared.verdicts.Verdict.{Verdict}
 use Rattle.coord_world.specs.declared.verdicts.Verdict.TheVariants.{Fresh, Repeat}
 use Rattle.coord_world.specs.protocol.Next.{reply}
 use Rattle.coord_ledger.specs.declared.ticket.Note.{Note}
-use Rattle.coord_ledger.specs.Facade.{Claim, IsCollectable, LedgerState, claimed, front_world, ledger_verdict, reply_of, settled_count, with_accepted}
+use Rattle.coord_ledger.specs.Facade.{Claim, IsCollectable, LedgerState, claimed, front_world, verdict, reply_of, settled_count, with_accepted}
 use Rattle.coord_engine.specs.State.{GuardedState}
 use Rattle.coord_engine.specs.declared.collected.Collected.{Collected}
 use Rattle.coord_engine.specs.declared.collected.Collected.TheVariants.{Settled, Refused, Waiting}
@@ -18,7 +18,7 @@ note_of claim = record { step = claim.step; what = claim.what }
 
 -- what is said to a step, memory aside: none is accepted once the engine is finishing
 abbrev pub engine_verdict : {D : Type 0} → GuardedState D → Step → Result Verdict Refusal
-engine_verdict g s = if g.finishing then Err Stopped else ledger_verdict g.ledger s
+engine_verdict g s = if g.finishing then Err Stopped else verdict g.ledger.log s
 
 -- what submitting a step changes
 pub record LedgerAndNotes (D : Type 0) : Type 0 where
@@ -36,11 +36,11 @@ AnswersStep s (Err why) before (Err refusal) after = ((refusal ≡ why) ⊎ (ref
 -- why there will be no reply to a ticket: a step with its number is settled, but isn't the ticket's; or its step will not be settled any more
 abbrev pub RefusesTicket : {D : Type 0} → LedgerState D → Claim → Refusal → Type 0
 RefusesTicket l claim Stranger = (claim.step ≤ settled_count l.log) × ¬ IsCollectable l.log claim
-RefusesTicket l claim Stopped = (settled_count l.log < claim.step) × (is_some l.doubt ≡ true)
+RefusesTicket l claim Stopped = (settled_count l.log < claim.step) × (is_some l.log.doubt ≡ true)
 RefusesTicket l claim refusal = ⊥
 
 -- what is said to a ticket: its reply once its step is settled, that there will be none, or that it has to wait
 abbrev pub CollectsAs : {D : Type 0} → LedgerState D → Claim → Collected → Type 0
 CollectsAs l claim (Settled reply) = (reply ≡ reply_of claim) × IsCollectable l.log claim
 CollectsAs l claim (Refused refusal back) = (back ≡ claim) × RefusesTicket l claim refusal
-CollectsAs l claim (Waiting back) = (back ≡ claim) × (settled_count l.log < claim.step) × (is_some l.doubt ≡ false)
+CollectsAs l claim (Waiting back) = (back ≡ claim) × (settled_count l.log < claim.step) × (is_some l.log.doubt ≡ false)

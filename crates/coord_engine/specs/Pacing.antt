@@ -16,7 +16,7 @@ pending_count g = length (pending g.ledger.log)
 
 -- nothing will be flushed any more: the ledger has stopped, or nothing is pending and nothing more is accepted
 abbrev pub is_over : {D : Type 0} → GuardedState D → Bool
-is_over g = is_some g.ledger.doubt || (g.finishing && nat_eq (pending_count g) 0)
+is_over g = is_some g.ledger.log.doubt || (g.finishing && nat_eq (pending_count g) 0)
 
 -- nothing can be flushed yet: nothing is pending, or a flight is out
 abbrev pub is_idle : {D : Type 0} → GuardedState D → Bool

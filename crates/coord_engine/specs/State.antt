@@ -42,7 +42,7 @@ pub record CanHold {D : Type 0} (b : Basis D) (g : GuardedState D) : Type 0 wher
   pub shares : g.given ≤ most_shares
   pub out : IfSome g.ledger.out (FitsOut g.ledger.log)
   pub home : is_some g.ledger.out ≡ is_none g.ledger.disk
-  pub doubt : IfSome g.ledger.doubt (λ size. (1 ≤ size) × (g.ledger.log.settled + size ≤ length g.ledger.log.trail) × (g.ledger.out ≡ None))
+  pub doubt : IfSome g.ledger.log.doubt (λ size. (1 ≤ size) × (g.ledger.log.settled + size ≤ length g.ledger.log.trail) × (g.ledger.out ≡ None))
   pub images : IfSome g.ledger.disk (λ disk. b.keeps_model disk ≡ true → LedgerGives b.present g.ledger disk)
 
 -- the engine was just made over this ledger

@@ -26,11 +26,11 @@ Submits {D} s answer notes later g = (l : LedgerState D) × AnswersStep s (engin
 
 -- the settled world was shown to a caller that had seen so much of it
 abbrev pub Shows : {D : Type 0} → Shown → ℕ → ℕ → GuardedState D → Type 0
-Shows view seen later g = (is_some g.ledger.doubt ≡ false) × (seen ≤ settled_count g.ledger.log) × (view ≡ shown (accepted_count g.ledger.log) (settled_world g.ledger.log)) × (later ≡ settled_count g.ledger.log)
+Shows view seen later g = (is_some g.ledger.log.doubt ≡ false) × (seen ≤ settled_count g.ledger.log) × (view ≡ shown (accepted_count g.ledger.log) (settled_world g.ledger.log)) × (later ≡ settled_count g.ledger.log)
 
 -- or it was not, for this reason
 abbrev pub RefusesShow : {D : Type 0} → Refusal → ℕ → GuardedState D → Type 0
-RefusesShow Stopped seen g = is_some g.ledger.doubt ≡ true
+RefusesShow Stopped seen g = is_some g.ledger.log.doubt ≡ true
 RefusesShow (Behind settled) seen g = (settled ≡ settled_count g.ledger.log) × (settled < seen)
 RefusesShow OutOfMemory seen g = Unit {0}
 RefusesShow refusal seen g = ⊥
@@ -52,4 +52,4 @@ abbrev pub Closes : {D : Type 0} → Kept D → World → List Step → ℕ → 
 Closes store base trail settled shares g =
     MayClose g shares
     × (base ≡ g.ledger.log.base) × (trail ≡ g.ledger.log.trail) × (settled ≡ settled_count g.ledger.log)
-    × (g.ledger.disk ≡ Some store.disk) × (store.world ≡ settled_world g.ledger.log) × (has_stopped store ≡ is_some g.ledger.doubt)
+    × (g.ledger.disk ≡ Some store.disk) × (store.world ≡ settled_world g.ledger.log) × (has_stopped store ≡ is_some g.ledger.log.doubt)

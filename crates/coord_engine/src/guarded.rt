@@ -64,7 +64,7 @@ impl<D: Disk, L: Origin> Model for Guarded<D, L> {
         × (length g.ledger.log.trail ≡ g.start + g.book.total)
         × (g.ledger.log.base ≡ L.base) × (g.start ≡ length L.before) ×
         (take g.start g.ledger.log.trail ≡ L.before)
-        × IfSome g.ledger.doubt (λ _. g.ledger.out ≡ None) };
+        × IfSome g.ledger.log.doubt (λ _. g.ledger.out ≡ None) };
 }
 
 impl<D: Disk, L: Origin> Guarded<D, L> {

@@ -1,14 +1,14 @@
 -- The definitions in which the proofs and the crates above speak of this crate.
-pub use Rattle.coord_ledger.specs.machine.Log.{Log, accepted_count, cut_to, front_world, log_over, moved, pending, settled_count, settled_steps, settled_world, with_settled, with_step, world_after}
+pub use Rattle.coord_ledger.specs.machine.Log.{Log, accepted_count, cut_to, front_world, has_stopped, log_over, moved, pending, settled_count, settled_steps, settled_world, with_doubt, with_settled, with_step, world_after}
 pub use Rattle.coord_ledger.specs.machine.Submits.{is_full, unless_full, verdict}
-pub use Rattle.coord_ledger.specs.machine.Machine.{FlightOut, Machine, adopted, has_stopped}
-pub use Rattle.coord_ledger.specs.machine.Answers.{IsOneOf, answers, kept, kept_by, kept_with, next_size, stays_home, ticket, to_begin, to_collect, to_commit, to_finish, to_show, to_submit, verdict_on, with_flight}
-pub use Rattle.coord_ledger.specs.machine.After.{after, after_finish, after_submit, crashed, finished, marked, release_of, releases_of, resent, settling_releases, spent, with_ticket}
+pub use Rattle.coord_ledger.specs.machine.Machine.{FlightOut, Machine, adopted, machine_over}
+pub use Rattle.coord_ledger.specs.machine.Answers.{IsOneOf, answers, kept, kept_by, kept_with, next_size, stays_home, ticket, to_begin, to_collect, to_commit, to_finish, to_show, to_submit, with_flight}
+pub use Rattle.coord_ledger.specs.machine.After.{after, after_finish, after_submit, crashed, finished, log_back, marked, release_of, released_back, releases_of, resent, settling_releases, spent, with_ticket}
 pub use Rattle.coord_ledger.specs.machine.Runs.{Answered, run}
 pub use Rattle.coord_ledger.specs.machine.Consistent.{DoubtFits, EventInRange, FitsOut, FlightFits, IsConsistent, IsConsistentLog, IsTold, TicketFits}
 pub use Rattle.coord_ledger.specs.ledger.State.{Claim, FlightState, IsCollectable, IsGranted, IsInTrail, IsKeptBy, LedgerState, ledger_over, reply_of, started}
 pub use Rattle.coord_ledger.specs.ledger.Follows.{Follows, FollowsTo, GivesOneOf, Held, HoldsFlight, HoldsTicket, HoldsTickets, ImagesGive, IsOut, flight_out}
-pub use Rattle.coord_ledger.specs.ledger.Calls.{FlightGives, GivesFlown, GivesSettled, HandedTo, LedgerGives, RefusesFlight, RefusesStep, claimed, keeps_store, ledger_verdict, next_flight, releases_in, taken_back, with_accepted, with_out}
+pub use Rattle.coord_ledger.specs.ledger.Calls.{FlightGives, GivesFlown, GivesSettled, HandedTo, LedgerGives, RefusesFlight, RefusesStep, claimed, keeps_store, next_flight, releases_in, taken_back, with_accepted, with_out}
 pub use Rattle.coord_ledger.specs.ledger.Driver.{Drives, HeldSurvives, HeldTouches, IsEventFault, IsLost, IsPromised, IsReopenFault, IsReopened, brought_home, disk_held, disk_with, model_of}
 pub use Rattle.coord_ledger.specs.ledger.Driven.{Beside, CommitsTo, Driven, FinishesTo, IsLeftByCrash, IsMarked, LandsTo, SendsOut, after_crash, answer_to, at_home, disk_driven, held, model_driven, nothing_beside, with_claim, with_releases}
 pub use Rattle.coord_ledger.specs.promises.Parts.{IsPartOf, released_first}

@@ -93,7 +93,7 @@ impl<D: CrashDisk> Driver<D> {
         ensures disk { disk_driven self ≡ Some result }
         ensures images { ImagesGive (D.keeps_model result) (D.present result) self.ledger.log
             (kept_by self.ledger.log.settled
-            (option_map flight_out self.flight) self.ledger.doubt) }
+            (option_map flight_out self.flight) self.ledger.log.doubt) }
     {
         let Driver { ledger, flight } = self;
         match flight {

@@ -37,7 +37,7 @@ pub fn run_events<D: CrashDisk>(
     events: &[Event],
 ) -> Result<(Trace, Ledger<D>), RunFault>
     requires home { ledger.out ≡ None }
-    requires going { ledger.doubt ≡ None }
+    requires going { ledger.log.doubt ≡ None }
 
     // A run that is answered: the main theorem, and the ledger that is left.
     ensures ran { IfOk result (λ r. (before : D) → (after : D) → ledger.disk ≡ Some before →

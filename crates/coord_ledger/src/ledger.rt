@@ -23,8 +23,8 @@ use std::collections::VecDeque;
 use std::marker::Model;
 
 /// What was accepted since a base world, and how much of it is settled on the disk. Contracts see
-/// `LedgerState` (`specs/ledger/State.antt`): its log, how many steps are out, the steps in doubt
-/// once it has stopped, and the disk while the store is at home.
+/// `LedgerState` (`specs/ledger/State.antt`): its log, with the steps in doubt once it has stopped,
+/// how many steps are out, and the disk while the store is at home.
 ///
 /// It keeps all steps since it was adopted, at most 1,024 of them not settled, and beside them the
 /// front world, after all of them, the settled world, and what each step that is not settled gave out.
@@ -58,9 +58,9 @@ impl<D: Disk> Model for Ledger<D> {
         base = l.base;
         trail = l.trail.items;
         settled = l.done;
+        doubt = l.doubt;
       };
       out = out_of l.store l.out;
-      doubt = l.doubt;
       disk = disk_at l.store;
     } };
 
@@ -68,7 +68,8 @@ impl<D: Disk> Model for Ledger<D> {
       base = l.base;
       trail = l.trail.items;
       settled = l.done;
-    }) l.kinds.items (listed l.given.items) l.front l.settled l.out l.doubt l.store };
+      doubt = l.doubt;
+    }) l.kinds.items (listed l.given.items) l.front l.settled l.out l.store };
 }
 
 /// Three copies of a world: what is the base, the front and the settled world at first.
@@ -162,7 +163,7 @@ impl<D: Disk> Ledger<D> {
     /// Whether the device failed in a flight that has come back. Then nothing more is accepted or
     /// flushed.
     pub fn stopped(&self) -> bool
-        ensures { result ≡ is_some self.now.doubt }
+        ensures { result ≡ is_some self.now.log.doubt }
     {
         self.doubt.is_some()
     }
@@ -181,7 +182,7 @@ impl<D: Disk> Ledger<D> {
     pub fn close(self) -> Result<Store<D>, Self>
         ensures home { IfOk result (λ store. self.disk ≡ Some store.disk) }
         ensures world { IfOk result (λ store. store.world ≡ settled_world self.log) }
-        ensures stopped { IfOk result (λ store. has_stopped store ≡ is_some self.doubt) }
+        ensures stopped { IfOk result (λ store. has_stopped store ≡ is_some self.log.doubt) }
         ensures out { IfErr result (λ ledger. (ledger ≡ self) × (self.disk ≡ None)) }
     {
         let (store, _base, _trail, _count) = self.into_parts()?;

@@ -60,7 +60,7 @@ fn choosing(disk: MemDisk, choice: Result<Choice, AllocError>) -> Result<MemDisk
 /// A ledger over the store on this device.
 pub(crate) fn opened<D: Disk>(alloc: Global, disk: D) -> Result<Ledger<D>, Fail>
     ensures home { IfOk result (λ ledger. ledger.out ≡ None) }
-    ensures going { IfOk result (λ ledger. ledger.doubt ≡ None) }
+    ensures going { IfOk result (λ ledger. ledger.log.doubt ≡ None) }
 {
     match Store::open(alloc, disk) {
         Ok(store) => match Ledger::adopt(alloc, store) {

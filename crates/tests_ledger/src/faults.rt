@@ -6,7 +6,7 @@ use crate::devices::{OPENING, device, made, opened};
 use crate::runs::{are, ran};
 use crate::scene::Scene;
 use coord_disk::{BlipDisk, CrashDisk, FailingDisk, FuseDisk, MemDisk, Rule};
-use coord_ledger::{Event, RunFault, RunFaultKind, Trace, run_events};
+use coord_ledger::{Driver, Event, RunFault, RunFaultKind, Trace, run_events};
 use coord_store::{CommitFault, Store, StoreFault};
 use std::alloc::Global;
 use std::test::Fail;
@@ -193,5 +193,35 @@ fn breaks_off_at_the_crash(alloc: Global) -> Result<bool, Fail> {
 #[test]
 fn a_run_breaks_off_at_a_crash_that_is_not_opened(rt: HostRuntime) -> Result<(), Fail> {
     assert!(rt; breaks_off_at_the_crash(rt.alloc())?);
+    Ok(())
+}
+
+// Whether a ledger without steps is opened on this device.
+fn opens<D: CrashDisk>(alloc: Global, disk: D) -> Result<bool, Fail> {
+    let ledger = opened(alloc, disk)?;
+    let is_new = ledger.accepted_count() == 0;
+    drop(ledger);
+    Ok(is_new)
+}
+
+// The opening behind a crash meets a call that fails, and gives the device back as it was.
+fn is_given_back(alloc: Global) -> Result<bool, Fail> {
+    let ledger = opened(alloc, BlipDisk::new(made(alloc)?, OPENING))?;
+    match Driver::over(ledger).crash(alloc) {
+        Ok((_, driver)) => {
+            drop(driver.into_disk());
+            Ok(false)
+        }
+        Err((RunFaultKind::Store(StoreFault::Device), disk)) => opens(alloc, disk),
+        Err((_, disk)) => {
+            drop(disk);
+            Err(StoreFault::OutOfMemory)?
+        }
+    }
+}
+
+#[test]
+fn a_device_that_is_not_opened_comes_back_as_it_was(rt: HostRuntime) -> Result<(), Fail> {
+    assert!(rt; is_given_back(rt.alloc())?);
     Ok(())
 }

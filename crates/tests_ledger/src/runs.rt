@@ -17,7 +17,7 @@ pub(crate) fn led<D: CrashDisk>(
     events: &[Event],
 ) -> Result<(Trace, Ledger<D>), Fail>
     requires home { ledger.out ≡ None }
-    requires going { ledger.doubt ≡ None }
+    requires going { ledger.log.doubt ≡ None }
 {
     match run_events(alloc, ledger, events) {
         Ok(led) => Ok(led),

@@ -10,7 +10,7 @@ use Rattle.coord_world.specs.declared.verdicts.Verdict.TheVariants.{Fresh, Repea
 use Rattle.coord_world.specs.protocol.NumberedWorld.{World, no_world}
 use Rattle.coord_ledger.specs.declared.events.Answer.{Answer}
 use Rattle.coord_ledger.specs.declared.events.Answer.TheVariants.{Accepted, Opened, Refused, Repeated}
-use Rattle.coord_ledger.specs.Facade.{Claim, Driven, LedgerState, Machine, after_submit, crashed, ledger_over, log_over, run, settled_count, verdict_on, with_step, world_after}
+use Rattle.coord_ledger.specs.Facade.{Claim, Driven, LedgerState, Machine, after_submit, crashed, ledger_over, log_over, run, settled_count, verdict, with_step, world_after}
 use Rattle.coord_ledger.proofs.machine.Moved.{crash_reopens}
 use Rattle.coord_drill.specs.Answered.{asked_lines, flight_lines, kept_line, repeat_line}
 use Rattle.coord_drill.specs.Drill.{DrillState, after_asked, flight_events, from_settled, machine_of, seen_as}
@@ -21,7 +21,7 @@ use Rattle.coord_drill.specs.declared.drill.Drill.{Drill}
 -- ---- drills over a ledger
 
 pub state_is : (d : Drill) (v : Driven MemDisk) → d.driver ≡ Some v → state_of d ≡ drill_of v.ledger d.holds d.has_begun
-state_is d v is = ap (λ o. record { log = option_map_or (λ (k : Driven MemDisk). k.ledger.log) o (log_over (no_world 1)); doubt = option_map_or (λ (k : Driven MemDisk). k.ledger.doubt) o None; holds = d.holds; has_begun = d.has_begun }) is
+state_is d v is = ap (λ o. record { log = option_map_or (λ (k : Driven MemDisk). k.ledger.log) o (log_over (no_world 1)); holds = d.holds; has_begun = d.has_begun }) is
 
 pub driver_of : (d : Drill) → IsReady d → (v : Driven MemDisk) × (d.driver ≡ Some v)
 driver_of d ready = by_driver d.driver refl ready
@@ -44,36 +44,36 @@ new_held l w disk claims is none = subst (λ cs. IsHeld l cs) (sym none) (subst 
 
 module _ (s : DrillState) (x : Step) where
   -- what the machine is after a step was accepted: the log has it, and a ticket was given
-  accepted : (k : Kind) (n : ℕ) → verdict_on (machine_of s) x ≡ Ok (Fresh k) →
-      after_submit (machine_of s) x (verdict_on (machine_of s) x) (Accepted n) ≡ record (machine_of s) { log = with_step s.log x; tickets = Some (record { step = n; kind = k }) ∷ [] }
+  accepted : (k : Kind) (n : ℕ) → verdict s.log x ≡ Ok (Fresh k) →
+      after_submit (machine_of s) x (verdict s.log x) (Accepted n) ≡ record (machine_of s) { log = with_step s.log x; tickets = Some (record { step = n; kind = k }) ∷ [] }
   accepted k n is = ap (λ v. after_submit (machine_of s) x v (Accepted n)) is
 
   pub held_line : (n : ℕ) → s.holds ≡ true → asked_lines s (Submit x) (Accepted n ∷ []) ≡ pending_line n
   unfolding asked_lines
   held_line n is = ap (λ b. cond b (pending_line n) []) is
 
-  pub held_after : (k : Kind) (n : ℕ) → verdict_on (machine_of s) x ≡ Ok (Fresh k) → s.holds ≡ true → after_asked s (Submit x) (Accepted n ∷ []) ≡ record { log = with_step s.log x; doubt = s.doubt; holds = s.holds; has_begun = true }
+  pub held_after : (k : Kind) (n : ℕ) → verdict s.log x ≡ Ok (Fresh k) → s.holds ≡ true → after_asked s (Submit x) (Accepted n ∷ []) ≡ record { log = with_step s.log x; holds = s.holds; has_begun = true }
   unfolding after_asked
   held_after k n fresh is =
-      let m = after_submit (machine_of s) x (verdict_on (machine_of s) x) (Accepted n) in
+      let m = after_submit (machine_of s) x (verdict s.log x) (Accepted n) in
       ap (λ b. seen_as (run m (cond b [] (flight_events [])) []) s.holds true) is ∙ ap (λ m. seen_as m s.holds true) (accepted k n fresh)
 
   pub flown_line : (n : ℕ) (given : List Answer) → s.holds ≡ false → asked_lines s (Submit x) (Accepted n ∷ given) ≡ flight_lines (with_step s.log x) given
   unfolding asked_lines
   flown_line n given is = ap (λ b. cond b (pending_line n) (flight_lines (with_step s.log x) given)) is
 
-  pub flown_after : (k : Kind) (n : ℕ) (given : List Answer) → verdict_on (machine_of s) x ≡ Ok (Fresh k) → s.holds ≡ false →
+  pub flown_after : (k : Kind) (n : ℕ) (given : List Answer) → verdict s.log x ≡ Ok (Fresh k) → s.holds ≡ false →
       after_asked s (Submit x) (Accepted n ∷ given) ≡ seen_as (run (record (machine_of s) { log = with_step s.log x; tickets = Some (record { step = n; kind = k }) ∷ [] }) (flight_events given) given) s.holds true
   unfolding after_asked
   flown_after k n given fresh is =
-      let m = after_submit (machine_of s) x (verdict_on (machine_of s) x) (Accepted n) in
+      let m = after_submit (machine_of s) x (verdict s.log x) (Accepted n) in
       ap (λ b. seen_as (run m (cond b [] (flight_events given)) given) s.holds true) is ∙ ap (λ m. seen_as (run m (flight_events given) given) s.holds true) (accepted k n fresh)
 
-  pub repeat_lines : (r : Reply) (n : ℕ) → verdict_on (machine_of s) x ≡ Ok (Repeat r) → asked_lines s (Submit x) (Repeated n ∷ []) ≡ kept_line (settled_count s.log) r
+  pub repeat_lines : (r : Reply) (n : ℕ) → verdict s.log x ≡ Ok (Repeat r) → asked_lines s (Submit x) (Repeated n ∷ []) ≡ kept_line (settled_count s.log) r
   unfolding asked_lines
   repeat_lines r n is = ap (repeat_line (settled_count s.log)) is
 
-  pub repeat_after : (r : Reply) (n : ℕ) → verdict_on (machine_of s) x ≡ Ok (Repeat r) → after_asked s (Submit x) (Repeated n ∷ []) ≡ s
+  pub repeat_after : (r : Reply) (n : ℕ) → verdict s.log x ≡ Ok (Repeat r) → after_asked s (Submit x) (Repeated n ∷ []) ≡ s
   unfolding after_asked
   repeat_after r n is = ap (λ v. seen_as (after_submit (machine_of s) x v (Repeated n)) s.holds s.has_begun) is
 
@@ -81,7 +81,7 @@ module _ (s : DrillState) (x : Step) where
   unfolding asked_lines
   refused_line e = refl
 
-  pub refused_after : (e : Refusal) → verdict_on (machine_of s) x ≡ Err e → after_asked s (Submit x) (Refused e ∷ []) ≡ s
+  pub refused_after : (e : Refusal) → verdict s.log x ≡ Err e → after_asked s (Submit x) (Refused e ∷ []) ≡ s
   unfolding after_asked
   refused_after e is = ap (λ v. seen_as (after_submit (machine_of s) x v (Refused e)) s.holds s.has_begun) is
 
@@ -92,7 +92,7 @@ unfolding asked_lines
 crash_line s count = refl
 
 -- after a crash that keeps n steps it is over their world
-pub crash_after : (s : DrillState) (n : ℕ) → after_asked s Crash (Opened (s.log.base.count + n) ∷ []) ≡ record { log = log_over (world_after s.log n); doubt = None; holds = false; has_begun = s.has_begun }
+pub crash_after : (s : DrillState) (n : ℕ) → after_asked s Crash (Opened (s.log.base.count + n) ∷ []) ≡ record { log = log_over (world_after s.log n); holds = false; has_begun = s.has_begun }
 unfolding after_asked
 crash_after s n =
     let back : s.log.base.count + n - s.log.base.count ≡ n = omega arith in

@@ -17,7 +17,7 @@ use Rattle.coord_ledger.specs.declared.events.Event.TheVariants.{Begin}
 use Rattle.coord_ledger.specs.declared.mark.Mark.{Mark}
 use Rattle.coord_ledger.specs.declared.mark.Mark.TheVariants.{New, Good, Torn}
 use Rattle.coord_ledger.specs.declared.release.Release.{Release}
-use Rattle.coord_ledger.specs.Facade.{Claim, CommitsTo, Driven, FlightState, IsGranted, IsMarked, IsOneOf, LandsTo, LedgerState, Log, Machine, at_home, has_stopped, next_flight, next_size, pending, releases_in, releases_of, run, settled_count, settled_world, settling_releases, stays_home, taken_back, to_begin, with_out, with_settled}
+use Rattle.coord_ledger.specs.Facade.{Claim, CommitsTo, Driven, FlightState, IsGranted, IsMarked, IsOneOf, LandsTo, LedgerState, Log, Machine, at_home, next_flight, next_size, pending, releases_in, releases_of, run, settled_count, settled_world, settling_releases, stays_home, taken_back, to_begin, with_out, with_settled}
 use Rattle.coord_types.specs.declared.limits.TheConstants.{MAX_BATCH_STEPS}
 use Rattle.coord_drill.specs.Facade.{AreGranted, DrillState, Flies, FlownTo, GoesBy, GoesOnTo, IsHeld, IsReady, LandsAs, claims_of, collected_lines, drill_of, flight_events, flight_lines, flown_answers, flown_lines, landed_answers, landing_events, left_by, machine_of, seen_as, settled_lines, waiting}
 use Rattle.coord_drill.specs.declared.drill.Drill.{Drill}
@@ -91,7 +91,7 @@ flown_home l r new to = ap (λ (d : Driven MemDisk). d.flight) to.is
 
 -- as many steps are out as the machine sends
 pub begun_size : (m : Machine) (b : ℕ) → IsOneOf (Begun b) (to_begin m) → b ≡ next_size m.log
-begun_size m b one = by_home (stays_home (has_stopped m) (is_some m.flight) m.log) one
+begun_size m b one = by_home (stays_home (is_some m.flight) m.log) one
   where
     by_home : (home : Bool) → IsOneOf (Begun b) (cond home (Nothing ∷ []) (Begun (next_size m.log) ∷ Refused OutOfMemory ∷ [])) → b ≡ next_size m.log
     by_home true (inl same) = cc

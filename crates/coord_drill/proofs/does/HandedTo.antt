@@ -1,5 +1,5 @@
 -- What a step that is handed in makes of a drill: its tickets, and what is printed.
-use Rattle.std.proofs.Common.{◌≡◌, ◌≢◌, ℕ, true, false, cond, List, Option, Some, [], ◌∷◌, ◌++◌, drop, Result, Ok, Err, refl, sym, ap, ◌∙◌, subst, arith, is_some}
+use Rattle.std.proofs.Common.{◌≡◌, ◌≢◌, ℕ, true, false, cond, List, Option, Some, [], ◌∷◌, ◌++◌, drop, Result, Ok, Err, refl, sym, ap, ◌∙◌, subst, arith}
 use Rattle.std.proofs.lemmas.List.{drop-append-le, length-append, take-append-le}
 use Rattle.coord_disk.specs.declared.memory.MemDisk.{MemDisk}
 use Rattle.coord_types.specs.declared.refusals.Refusal.{Refusal}
@@ -14,7 +14,7 @@ use Rattle.coord_ledger.proofs.follows.Granted.{granted_repeat}
 use Rattle.coord_ledger.specs.declared.events.Answer.TheVariants as answer
 use Rattle.coord_ledger.specs.declared.events.Event.TheVariants as event
 use Rattle.coord_ledger.specs.declared.handed.Handed.TheVariants.{Accepted, Repeated}
-use Rattle.coord_ledger.specs.Facade.{Claim, Driven, HandedTo, IsGranted, LedgerState, RefusesStep, claimed, ledger_verdict, pending, reply_of, run, settled_count, settled_world, with_accepted}
+use Rattle.coord_ledger.specs.Facade.{Claim, Driven, HandedTo, IsGranted, LedgerState, RefusesStep, claimed, pending, reply_of, run, settled_count, settled_world, verdict, with_accepted}
 use Rattle.coord_drill.specs.Facade.{Begins, Carries, DrillState, Flies, Hands, IsHeld, IsReady, IsReadyWith, IsRun, claims_of, drill_of, flight_events, flight_lines, kept_line, machine_of, pending_line, refusal_line, seen_as, state_of}
 use Rattle.coord_drill.specs.declared.asked.Asked.TheVariants.{Submit}
 use Rattle.coord_drill.specs.declared.drill.Drill.{Drill}
@@ -57,7 +57,7 @@ accepted_held l new claims x t held to =
 
 pub repeated_granted : (l new : LedgerState MemDisk) (x : Step) (t : Claim) → HandedTo l x (Ok (Repeated t)) new → IsGranted new.log t
 repeated_granted l new x t to =
-    subst (λ (m : LedgerState MemDisk). IsGranted m.log t) (sym to.now) (subst (IsGranted l.log) (sym to.claims) (granted_repeat (is_some l.doubt) l.log x to.kept to.judged))
+    subst (λ (m : LedgerState MemDisk). IsGranted m.log t) (sym to.now) (subst (IsGranted l.log) (sym to.claims) (granted_repeat l.log x to.kept to.judged))
 
 -- ---- the drill then, and what is printed
 
@@ -97,7 +97,7 @@ module _ (d : Drill) (v w : Driven MemDisk) (x : Step) (is : d.driver ≡ Some v
       carries_refusal e hands begun other =
           let to = hands.handed in
           carries d new v w (Submit x) (answer.Refused e ∷ []) (refusal_line e) is now ready refl (hands.moments v.ledger [] [] (begins_at d.driver v is begins)) (other_refusal e other, tt) (sym (refused_line s x e))
-          ((λ i. drill_of (to.now i) (holds i) (begun i)) ∙ sym (refused_after s x e (refused_said e (ledger_verdict v.ledger x) to.why other)))
+          ((λ i. drill_of (to.now i) (holds i) (begun i)) ∙ sym (refused_after s x e (refused_said e (verdict v.ledger.log x) to.why other)))
 
     -- a step that is settled at once, by the drill that holds its ticket: the machine has given that before its flight
     pub carries_flight : (mid : Drill) (t : Claim) (told : List ℕ) → mid.driver ≡ Some w → mid.holds ≡ d.holds → mid.has_begun ≡ true → d.holds ≡ false → IsReady new → Hands v x (Ok (Accepted t)) w → Flies mid told new → Carries d (Submit x) told new

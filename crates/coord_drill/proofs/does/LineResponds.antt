@@ -1,5 +1,5 @@
 -- There always is a text that lines may print: the machine has an answer to each event that is not want of memory.
-use Rattle.std.proofs.Common.{◌≡◌, ◌≢◌, ℕ, ◌+◌, Bool, true, false, cond, List, [], ◌∷◌, ◌++◌, Option, Some, None, Result, Ok, Err, refl, sym, ap, ◌∙◌, subst, inl, is_some, map}
+use Rattle.std.proofs.Common.{◌≡◌, ◌≢◌, ℕ, ◌+◌, Bool, true, false, cond, List, [], ◌∷◌, ◌++◌, Option, Some, None, Result, Ok, Err, refl, sym, ap, ◌∙◌, subst, inl, map}
 use Rattle.std.specs.List.{AllByRecursion}
 use Rattle.coord_lines.specs.Lines.{Line}
 use Rattle.coord_types.specs.declared.refusals.Refusal.{Refusal}
@@ -12,7 +12,7 @@ use Rattle.coord_ledger.specs.declared.events.Answer.{Answer}
 use Rattle.coord_ledger.specs.declared.events.Answer.TheVariants.{Accepted, Begun, Committed, Finished, Nothing, Opened, Refused, Repeated}
 use Rattle.coord_ledger.specs.declared.events.Event.{Event}
 use Rattle.coord_ledger.specs.declared.events.Event.TheVariants as event
-use Rattle.coord_ledger.specs.Facade.{Answered, IsOneOf, Machine, accepted_count, after_submit, front_world, kept_by, next_size, settled_count, stays_home, to_submit, verdict_on, with_step}
+use Rattle.coord_ledger.specs.Facade.{Answered, IsOneOf, Machine, accepted_count, after_submit, front_world, kept_by, next_size, settled_count, stays_home, to_submit, verdict, with_step}
 use Rattle.coord_drill.specs.Facade.{DrillState, LineResponds, Prints, Responds, UnlessSkipped, after_asked, asked, asked_by, asked_lines, bad_line, flight_events, is_skipped, line_events, machine_of, step_events}
 use Rattle.coord_drill.specs.declared.asked.Asked.{Asked}
 use Rattle.coord_drill.specs.declared.asked.Asked.TheVariants as ask
@@ -36,12 +36,12 @@ none s = record { given = []; answered = tt; with_memory = tt }
 
 -- a flight stays home, or goes out and is committed
 may_fly : (s : DrillState) (tickets : List (Option Reply)) → May (record (machine_of s) { tickets = tickets }) flight_events
-may_fly s tickets = by_home (stays_home (is_some s.doubt) false s.log) refl
+may_fly s tickets = by_home (stays_home false s.log) refl
   where
     m : Machine
     m = record (machine_of s) { tickets = tickets }
 
-    by_home : (home : Bool) → stays_home (is_some s.doubt) false s.log ≡ home → May m flight_events
+    by_home : (home : Bool) → stays_home false s.log ≡ home → May m flight_events
     by_home true is = record {
       given = Nothing ∷ [];
       answered = (subst (λ b. IsOneOf Nothing (cond b (Nothing ∷ []) (Begun (next_size s.log) ∷ Refused OutOfMemory ∷ []))) (sym is) (inl refl), tt);
@@ -57,11 +57,11 @@ may_fly s tickets = by_home (stays_home (is_some s.doubt) false s.log) refl
 
 module _ (s : DrillState) (x : Step) where
   -- what the machine may answer to the step and to the events behind it, by what it says to the step
-  may_say : (v : Result Verdict Refusal) (a : Answer) → verdict_on (machine_of s) x ≡ v → IsOneOf a (to_submit (accepted_count s.log + 1) v) → (es : List Event) (given : List Answer) → Answered (after_submit (machine_of s) x v a) es given → Answered (machine_of s) (event.Submit x ∷ es) (a ∷ given)
+  may_say : (v : Result Verdict Refusal) (a : Answer) → verdict s.log x ≡ v → IsOneOf a (to_submit (accepted_count s.log + 1) v) → (es : List Event) (given : List Answer) → Answered (after_submit (machine_of s) x v a) es given → Answered (machine_of s) (event.Submit x ∷ es) (a ∷ given)
   may_say v a is one es given rest =
       subst (λ w. IsOneOf a (to_submit (accepted_count s.log + 1) w) × Answered (after_submit (machine_of s) x w a) es given) (sym is) (one, rest)
 
-  may_step : (holds : Bool) (v : Result Verdict Refusal) → verdict_on (machine_of s) x ≡ v → May (machine_of s) (step_events holds x)
+  may_step : (holds : Bool) (v : Result Verdict Refusal) → verdict s.log x ≡ v → May (machine_of s) (step_events holds x)
   may_step true (Ok (Fresh k)) is =
       let n = accepted_count s.log + 1 in
       record { given = Accepted n ∷ []; answered = may_say (Ok (Fresh k)) (Accepted n) is (inl refl) [] [] tt; with_memory = (no_refusal _ refl, tt) }
@@ -76,18 +76,18 @@ module _ (s : DrillState) (x : Step) where
       }
   may_step holds (Ok (Repeat r)) is = record { given = Repeated r.step ∷ []; answered = may_say (Ok (Repeat r)) (Repeated r.step) is (inl refl) [] [] tt; with_memory = (no_refusal _ refl, tt) }
   may_step holds (Err e) is =
-      let other = other_refusal e (λ memory. never_memory (is_some s.doubt) s.log x (is ∙ ap (λ w. Err w) memory)) in
+      let other = other_refusal e (λ memory. never_memory s.log x (is ∙ ap (λ w. Err w) memory)) in
       record { given = Refused e ∷ []; answered = may_say (Err e) (Refused e) is (inl refl) [] [] tt; with_memory = (other, tt) }
 
 may_crash : (s : DrillState) → May (machine_of s) (λ given. event.Crash ∷ [])
-may_crash s = record { given = Opened (s.log.base.count + s.log.settled) ∷ []; answered = (by_doubt s.doubt, tt); with_memory = (no_refusal _ refl, tt) }
+may_crash s = record { given = Opened (s.log.base.count + s.log.settled) ∷ []; answered = (by_doubt s.log.doubt, tt); with_memory = (no_refusal _ refl, tt) }
   where
     by_doubt : (o : Option ℕ) → IsOneOf (Opened (s.log.base.count + s.log.settled)) (map (λ n. Opened (s.log.base.count + n)) (kept_by s.log.settled None o))
     by_doubt None = inl refl
     by_doubt (Some b) = inl refl
 
 may_line : (s : DrillState) (a : Asked) → May (machine_of s) (line_events s.holds a)
-may_line s (ask.Submit x) = may_step s x s.holds (verdict_on (machine_of s) x) refl
+may_line s (ask.Submit x) = may_step s x s.holds (verdict s.log x) refl
 may_line s ask.Flush = may_fly s []
 may_line s ask.Crash = may_crash s
 may_line s (ask.Refuse e) = none s

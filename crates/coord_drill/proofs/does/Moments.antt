@@ -135,7 +135,7 @@ pub tells_resent : (d : Drill) (old text : List ℕ) → IsReady d → Begins d.
 unfolding asked_lines after_asked
 tells_resent d old text ready begins is = still d ask.Resend old text _ ready begins refl refl is refl (λ s. refl)
 
-pub tells_show : (d : Drill) (old text : List ℕ) → IsReady d → Begins d.driver → text ≡ old ++ shown_lines (state_of d).log (state_of d).doubt → Tells old text (λ told. Carries d ask.Show told d)
+pub tells_show : (d : Drill) (old text : List ℕ) → IsReady d → Begins d.driver → text ≡ old ++ shown_lines (state_of d).log → Tells old text (λ told. Carries d ask.Show told d)
 unfolding asked_lines after_asked
 tells_show d old text ready begins is = still d ask.Show old text _ ready begins refl refl is refl (λ s. refl)
 

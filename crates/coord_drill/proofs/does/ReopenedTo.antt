@@ -23,8 +23,8 @@ home_left v new left = ap (λ (d : Driven MemDisk). d.flight) left.is
 pub opened_count : (v new : Driven MemDisk) (left : IsLeftByCrash v new) → v.flight ≡ None → IsConsistent (started v.ledger) → settled_count new.ledger.log ≡ v.ledger.log.base.count + left.steps
 opened_count v new left home is =
     let log = v.ledger.log in
-    let one = subst (λ o. IsOneOf left.steps (kept_by log.settled (option_map flight_out o) v.ledger.doubt)) home left.allowed in
-    ap (λ (d : Driven MemDisk). settled_count d.ledger.log) left.is ∙ count_is (by_doubt v.ledger.doubt one is.doubt)
+    let one = subst (λ o. IsOneOf left.steps (kept_by log.settled (option_map flight_out o) v.ledger.log.doubt)) home left.allowed in
+    ap (λ (d : Driven MemDisk). settled_count d.ledger.log) left.is ∙ count_is (by_doubt v.ledger.log.doubt one is.doubt)
   where
     by_doubt : (o : Option ℕ) → IsOneOf left.steps (kept_by v.ledger.log.settled None o) → DoubtFits v.ledger.log None o → left.steps ≤ length v.ledger.log.trail
     by_doubt None (inl same) fits = omega (arith, same, is.log.within)

@@ -4,7 +4,7 @@ use Rattle.std.proofs.lemmas.Bool.{false≢true}
 use Rattle.std.specs.List.{AllByRecursion}
 use Rattle.coord_types.specs.Facade.{get, same_command}
 use Rattle.coord_types.specs.declared.refusals.Refusal.{Refusal}
-use Rattle.coord_types.specs.declared.refusals.Refusal.TheVariants.{Exhausted, OutOfMemory}
+use Rattle.coord_types.specs.declared.refusals.Refusal.TheVariants.{Exhausted, OutOfMemory, Stopped}
 use Rattle.coord_types.specs.declared.steps.Command.{Command}
 use Rattle.coord_types.specs.declared.steps.Command.TheVariants.{Add, Remove, Join, Drop, Reset, Confirm}
 use Rattle.coord_types.specs.declared.steps.Session.{Session}
@@ -17,7 +17,7 @@ use Rattle.coord_world.specs.declared.verdicts.Verdict.TheVariants.{Fresh, Repea
 use Rattle.coord_world.specs.Facade.{World, accepts, against, against_command, against_data, against_receipt, is_exhausted, judged, lane, or_repeat}
 use Rattle.coord_ledger.specs.declared.events.Answer.{Answer}
 use Rattle.coord_ledger.specs.declared.events.Answer.TheVariants.{Refused}
-use Rattle.coord_ledger.specs.Facade.{Log, front_world, is_full, settled_world, unless_full, verdict}
+use Rattle.coord_ledger.specs.Facade.{Log, front_world, has_stopped, is_full, settled_world, unless_full, verdict}
 
 -- Tests that compute stand for what differs from want of memory: with a world in scope `cc` costs a second each time.
 abbrev is_memory : Refusal → Bool
@@ -76,12 +76,14 @@ full_other false (Ok (Fresh k)) other = refl
 full_other true (Err e) other = refl
 full_other false (Err e) other = other
 
-verdict_other : (stopped : Bool) (log : Log) (x : Step) → lacks (verdict stopped log x) ≡ false
-verdict_other true log x = refl
-verdict_other false log x = full_other (is_full log) _ (accepts_other (front_world log) (settled_world log) x)
+verdict_other : (log : Log) (x : Step) → lacks (verdict log x) ≡ false
+verdict_other log x =
+    by_test (has_stopped log) (λ b. lacks (cond b (Err Stopped) (unless_full (is_full log) (accepts (front_world log) (settled_world log) x))) ≡ false)
+    (λ _. refl)
+    (λ _. full_other (is_full log) _ (accepts_other (front_world log) (settled_world log) x))
 
-pub never_memory : (stopped : Bool) (log : Log) (x : Step) → verdict stopped log x ≢ Err OutOfMemory
-never_memory stopped log x same = false≢true (sym (verdict_other stopped log x) ∙ ap lacks same)
+pub never_memory : (log : Log) (x : Step) → verdict log x ≢ Err OutOfMemory
+never_memory log x same = false≢true (sym (verdict_other log x) ∙ ap lacks same)
 
 -- ---- answers
 

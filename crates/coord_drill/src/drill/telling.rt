@@ -92,7 +92,7 @@ impl Drill {
 /// Prints what a ledger shows.
 fn print_shown(ledger: &Ledger<MemDisk>, text: &mut String) -> Result<(), Fault>
     ensures printed { OnOk result (string_bytes text.new ≡
-        string_bytes text.old ++ shown_lines ledger.now.log ledger.now.doubt) }
+        string_bytes text.old ++ shown_lines ledger.now.log) }
     ensures fault { IfErr result IsOfMemory }
 {
     match ledger.show(&mut Seen::new()) {

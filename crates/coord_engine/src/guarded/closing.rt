@@ -65,7 +65,7 @@ impl<D: Disk, L: Origin> Guarded<D, L> {
             IsSince L.base L.before shares.items closed.base closed.trail.items) }
         ensures store { IfOk result (λ closed. (self.ledger.disk ≡ Some closed.store.disk) ×
             (closed.store.world ≡ settled_world self.ledger.log) ×
-            (has_stopped closed.store ≡ is_some self.ledger.doubt)) }
+            (has_stopped closed.store ≡ is_some self.ledger.log.doubt)) }
         ensures log { IfOk result (λ closed. (closed.base ≡ self.ledger.log.base) ×
             (closed.trail.items ≡ self.ledger.log.trail) ×
             (closed.settled ≡ settled_count self.ledger.log)) }

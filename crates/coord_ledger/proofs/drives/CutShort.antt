@@ -15,7 +15,7 @@ use Rattle.coord_ledger.specs.declared.events.Event.TheVariants.{Submit, Begin, 
 use Rattle.coord_ledger.specs.declared.mark.Mark.{Mark}
 use Rattle.coord_ledger.specs.declared.mark.Mark.TheVariants.{New, Good, Torn}
 use Rattle.coord_ledger.specs.declared.release.Release.{Release}
-use Rattle.coord_ledger.specs.Facade.{FlightOut, Follows, FollowsTo, Held, IsCutShort, IsOneOf, Machine, accepted_count, after, after_finish, after_submit, answers, finished, has_stopped, kept, kept_by, kept_with, next_size, settled_count, settled_world, stays_home, ticket, to_collect, to_commit, to_finish, to_submit, verdict_on, with_flight}
+use Rattle.coord_ledger.specs.Facade.{FlightOut, Follows, FollowsTo, Held, IsCutShort, IsOneOf, Machine, accepted_count, after, after_finish, after_submit, answers, finished, has_stopped, kept, kept_by, kept_with, next_size, settled_count, settled_world, stays_home, ticket, to_collect, to_commit, to_finish, to_submit, verdict, with_flight}
 use Rattle.coord_view.specs.Shown.{shown}
 
 -- an answer that releases nothing
@@ -93,9 +93,9 @@ silent_crash s f o is = by_flight f o is
     by_flight (Some f) o is = by_mark f.size f.mark is
 
 silent : (s : Machine) (e : Event) → Silent s e
-silent s (Submit x) = let one = silent_submit s x (verdict_on s x) in record { answer = one.answer; allowed = one.allowed; silent = one.silent }
+silent s (Submit x) = let one = silent_submit s x (verdict s.log x) in record { answer = one.answer; allowed = one.allowed; silent = one.silent }
 silent s Begin =
-    by_test (stays_home (has_stopped s) (is_some s.flight) s.log) (λ b. ((a : Answer) → IsOneOf a (cond b (Nothing ∷ []) (Begun (next_size s.log) ∷ Refused OutOfMemory ∷ [])) → IsOneOf a (answers s Begin)) → Silent s Begin)
+    by_test (stays_home (is_some s.flight) s.log) (λ b. ((a : Answer) → IsOneOf a (cond b (Nothing ∷ []) (Begun (next_size s.log) ∷ Refused OutOfMemory ∷ [])) → IsOneOf a (answers s Begin)) → Silent s Begin)
     (λ _ on. record { answer = Nothing; allowed = on Nothing (inl refl); silent = refl })
     (λ _ on. record { answer = Refused OutOfMemory; allowed = on (Refused OutOfMemory) (inr (inl refl)); silent = refl })
     (λ a one. one)
@@ -104,11 +104,11 @@ silent s Finish = silent_finish s s.flight refl
 silent s (Collect i) = silent_collect s i (ticket s.tickets i) refl
 silent s Resend = record { answer = Refused OutOfMemory; allowed = inr (inl refl); silent = refl }
 silent s Show =
-    by_test (has_stopped s) (λ b. ((a : Answer) → IsOneOf a (cond b (Refused Stopped ∷ []) (Shown (shown (accepted_count s.log) (settled_world s.log)) ∷ Refused OutOfMemory ∷ [])) → IsOneOf a (answers s Show)) → Silent s Show)
+    by_test (has_stopped s.log) (λ b. ((a : Answer) → IsOneOf a (cond b (Refused Stopped ∷ []) (Shown (shown (accepted_count s.log) (settled_world s.log)) ∷ Refused OutOfMemory ∷ [])) → IsOneOf a (answers s Show)) → Silent s Show)
     (λ _ on. record { answer = Refused Stopped; allowed = on (Refused Stopped) (inl refl); silent = refl })
     (λ _ on. record { answer = Refused OutOfMemory; allowed = on (Refused OutOfMemory) (inr (inl refl)); silent = refl })
     (λ a one. one)
-silent s Crash = silent_crash s s.flight s.doubt refl
+silent s Crash = silent_crash s s.flight s.log.doubt refl
 
 -- nothing of the event was released
 pub cut_before : {D : Type 0} (h : Held D) (s : Machine) (e : Event) → Follows h s → IsCutShort s e h.released

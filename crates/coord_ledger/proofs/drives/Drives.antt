@@ -23,7 +23,7 @@ doubt_fits log (Some b) doubted = doubted.1
 
 module _ {D : Type 0} (present : D → Present) (clock : D → ℕ) (left_since : D → ℕ → List ℕ → Type 0) (crashes : D → D → Type 0) where
   -- a run begins where no flight is out
-  pub drives_first : (keeps_model : D → Bool) (first : D) (d : Driven D) → d.flight ≡ None → HoldsFlight d.ledger d.flight → IsConsistentLog d.ledger.log → IfSome d.ledger.doubt (λ b. (1 ≤ b) × (d.ledger.log.settled + b ≤ length d.ledger.log.trail)) → d.ledger.disk ≡ Some first →
+  pub drives_first : (keeps_model : D → Bool) (first : D) (d : Driven D) → d.flight ≡ None → HoldsFlight d.ledger d.flight → IsConsistentLog d.ledger.log → IfSome d.ledger.log.doubt (λ b. (1 ≤ b) × (d.ledger.log.settled + b ≤ length d.ledger.log.trail)) → d.ledger.disk ≡ Some first →
       ((s : Machine) → IsConsistent s → Follows (held d nothing_beside) s → HeldSurvives keeps_model present (held d nothing_beside) s) → Drives present clock left_since crashes (keeps_model first) first d.ledger [] [] (held d nothing_beside)
   drives_first keeps_model first d none own log_is doubted home survives =
       let log = d.ledger.log in
@@ -31,7 +31,7 @@ module _ {D : Type 0} (present : D → Present) (clock : D → ℕ) (left_since 
       record {
         log = log_is;
         flight = tt;
-        doubt = doubt_fits log d.ledger.doubt doubted;
+        doubt = doubt_fits log d.ledger.log.doubt doubted;
         seen = omega arith;
         tickets = tt;
         told = record { released_settled = tt; once = tt; again = tt; replied_settled = tt; truly = tt };
@@ -41,8 +41,7 @@ module _ {D : Type 0} (present : D → Present) (clock : D → ℕ) (left_since 
       record {
         by = 0;
         within = omega arith;
-        log = λ i. record { base = log.base; trail = log.trail; settled = sym all i };
-        doubt = refl;
+        log = λ i. record log { settled = sym all i };
         flight = ap (option_map flight_out) none;
         own = own;
         tickets = tt;
@@ -79,7 +78,7 @@ module _ {D : Type 0} (present : D → Present) (clock : D → ℕ) (left_since 
     pub drives : (before : D) → start.disk ≡ Some before → Promised (keeps_model before) events (Drives present clock left_since crashes (keeps_model before) before start (take at events) given h)
 
   -- before the first event
-  pub underway_first : (keeps_model : D → Bool) (start : LedgerState D) (events : List Event) (given : List Answer) (h : Held D) → start.out ≡ None → start.doubt ≡ None → IsConsistentLog start.log →
+  pub underway_first : (keeps_model : D → Bool) (start : LedgerState D) (events : List Event) (given : List Answer) (h : Held D) → start.out ≡ None → start.log.doubt ≡ None → IsConsistentLog start.log →
       h.ledger ≡ start → h.flight ≡ None → h.claims ≡ [] → h.seen ≡ 0 → h.released ≡ [] → given ≡ [] → ((s : Machine) → IsConsistent s → Follows h s → HeldSurvives keeps_model present h s) → Underway keeps_model start events 0 given h
   underway_first keeps_model start events given h home going log_is its none claims seen released unanswered survives =
       let is : IsConsistent (started start) =
@@ -96,8 +95,7 @@ module _ {D : Type 0} (present : D → Present) (clock : D → ℕ) (left_since 
       record {
         by = 0;
         within = omega arith;
-        log = ap (λ (l : LedgerState D). l.log) its ∙ (λ i. record { base = start.log.base; trail = start.log.trail; settled = sym all i });
-        doubt = ap (λ (l : LedgerState D). l.doubt) its;
+        log = ap (λ (l : LedgerState D). l.log) its ∙ (λ i. record start.log { settled = sym all i });
         flight = ap (option_map flight_out) none;
         own = subst (HoldsFlight h.ledger) (sym none) (ap (λ (l : LedgerState D). l.out) its ∙ home);
         tickets = subst (λ cs. HoldsTickets h.ledger.log cs []) (sym claims) tt;

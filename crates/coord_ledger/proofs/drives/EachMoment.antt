@@ -34,7 +34,7 @@ commit_is_safe s b is out = (safe s.log.settled (inl refl), safe (s.log.settled 
   where
     safe : (n : ℕ) → IsOneOf n (s.log.settled ∷ (s.log.settled + b) ∷ []) → IsSafe s (world_after s.log n)
     safe n one =
-        let may : IsOneOf n (kept (after s Commit (Failed fault.Device))) = subst (λ o. IsOneOf n (kept_by s.log.settled (marked Torn o) s.doubt)) (sym out) one in
+        let may : IsOneOf n (kept (after s Commit (Failed fault.Device))) = subst (λ o. IsOneOf n (kept_by s.log.settled (marked Torn o) s.log.doubt)) (sym out) one in
         let of_torn = kept_is_safe (after s Commit (Failed fault.Device)) n (torn_is_consistent s b is out) may in
         record { legal = of_torn.legal; released = of_torn.released; replied = of_torn.replied; accepted = of_torn.accepted }
 
@@ -55,7 +55,6 @@ module _ {D : Type 0} (h : Held D) (s : Machine) (f : FlightState D) (is : IsCon
         by = follows.by;
         within = follows.within;
         log = follows.log;
-        doubt = follows.doubt;
         flight = ap (marked Torn) (sym (out New new));
         own = its;
         tickets = follows.tickets;
@@ -70,7 +69,7 @@ module _ {D : Type 0} (h : Held D) (s : Machine) (f : FlightState D) (is : IsCon
   only_survives new bytes gives =
       given_survives s bytes is
       (given_follows h s bytes follows
-      (subst (λ o. GivesOneOf h.ledger.log (kept_by h.ledger.log.settled (option_map flight_out o) h.ledger.doubt) bytes) (sym holds)
+      (subst (λ o. GivesOneOf h.ledger.log (kept_by h.ledger.log.settled (option_map flight_out o) h.ledger.log.doubt) bytes) (sym holds)
       (flight_gives h.ledger f bytes own (subst (λ m. GivesFlown m f.world f.steps bytes) (sym new) gives))))
 
 -- ---- between two events
@@ -83,7 +82,7 @@ module _ {D : Type 0} (keeps_model : D → Bool) (present : D → Present) (h : 
       let given = gives (ap keeps_model same ∙ on) image (subst (λ d. IsImage (present d) image) (sym same) here) in
       given_survives s image is
       (given_follows h s image follows
-      (subst (λ o. GivesOneOf h.ledger.log (kept_by h.ledger.log.settled (option_map flight_out o) h.ledger.doubt) image) (sym holds)
+      (subst (λ o. GivesOneOf h.ledger.log (kept_by h.ledger.log.settled (option_map flight_out o) h.ledger.log.doubt) image) (sym holds)
       (flight_gives h.ledger f image (subst (HoldsFlight h.ledger) holds follows.own) given)))
 
   -- with the store at home
@@ -93,7 +92,7 @@ module _ {D : Type 0} (keeps_model : D → Bool) (present : D → Present) (h : 
       let each = subst (λ o. IfSome o (λ d. keeps_model d ≡ true → LedgerGives present h.ledger d)) at_home gives in
       given_survives s image is
       (given_follows h s image follows
-      (subst (λ o. GivesOneOf h.ledger.log (kept_by h.ledger.log.settled (option_map flight_out o) h.ledger.doubt) image) (sym none)
+      (subst (λ o. GivesOneOf h.ledger.log (kept_by h.ledger.log.settled (option_map flight_out o) h.ledger.log.doubt) image) (sym none)
       (ledger_images h.ledger disk (keeps_model disk) present each on image here)))
 
 -- ---- an event

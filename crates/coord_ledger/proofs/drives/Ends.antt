@@ -10,7 +10,8 @@ use Rattle.coord_ledger.specs.declared.mark.Mark.{Mark}
 use Rattle.coord_ledger.specs.declared.mark.Mark.TheVariants.{New, Good, Torn}
 use Rattle.coord_ledger.specs.declared.release.Release.{Release}
 use Rattle.coord_ledger.specs.Facade.{Drives, EachMoment, FlightOut, FlightState, Follows, Held, HoldsFlight, ImagesGive, IsConsistent, IsLeft, IsOneOf, LedgerGives, LedgerState, Machine, Promised, Ran, after_finish, brought_home, disk_held, disk_with, ended, finished, flight_out, kept, kept_by, releases_in, run, started, taken_back, world_after}
-use Rattle.coord_ledger.proofs.follows.FollowsCalls.{follows_returned, ledger_images}
+use Rattle.coord_ledger.proofs.follows.FollowsCalls.{ledger_images}
+use Rattle.coord_ledger.proofs.follows.FollowsFlights.{follows_back}
 use Rattle.coord_ledger.proofs.drives.Drives.{Underway, same_model}
 use Rattle.coord_ledger.proofs.follows.FollowsCrashes.{images_follow}
 use Rattle.coord_ledger.proofs.machine.Safe.{finish_keeps_kept, prefix_from_images}
@@ -32,7 +33,7 @@ is_back {D} h s is follows = by_flight h.flight refl
     by_flight None none = record { held = h; ledger = refl; home = none; follows = subst (Follows h) (sym (ap (finished s) (sym follows.flight ∙ ap (option_map flight_out) none))) follows }
     by_flight (Some f) out =
         let back = taken_back h.ledger (length f.steps) f.mark f.disk in
-        let to = follows_returned h s f back (releases_in f f.mark) is follows out (subst (HoldsFlight h.ledger) out follows.own) refl refl in
+        let to = follows_back h s is follows f out back (releases_in f f.mark) refl refl in
         record { held = record h { ledger = back; flight = None; released = h.released ++ releases_in f f.mark }; ledger = refl; home = refl; follows = to.follows }
 
 is_left : {D : Type 0} (l : LedgerState D) (t : Machine) → IsBack l t → IsLeft t l
@@ -41,7 +42,6 @@ is_left {D} l t back =
       by = back.follows.by;
       within = back.follows.within;
       log = ap (λ (m : LedgerState D). m.log) back.ledger ∙ back.follows.log;
-      doubt = ap (λ (m : LedgerState D). m.doubt) back.ledger ∙ back.follows.doubt;
       home = ap (λ (m : LedgerState D). m.out) back.ledger ∙ subst (HoldsFlight back.held.ledger) back.home back.follows.own;
     }
 
@@ -58,12 +58,12 @@ same_worlds s (Some f) n = by_mark f.mark
     by_mark Torn = refl
 
 -- the images of a ledger at home give what the machine may keep
-home_images : {D : Type 0} (l : LedgerState D) (s : Machine) (keeps_model : Bool) (present : Present) → IsConsistent s → IsBack l (ended s) → ImagesGive keeps_model present l.log (kept_by l.log.settled None l.doubt) → ImagesGive keeps_model present s.log (kept s)
+home_images : {D : Type 0} (l : LedgerState D) (s : Machine) (keeps_model : Bool) (present : Present) → IsConsistent s → IsBack l (ended s) → ImagesGive keeps_model present l.log (kept_by l.log.settled None l.log.doubt) → ImagesGive keeps_model present s.log (kept s)
 home_images {D} l s keeps_model present is back images model image here =
     let t = ended s in
-    let of_held : ImagesGive keeps_model present back.held.ledger.log (kept_by back.held.ledger.log.settled (option_map flight_out back.held.flight) back.held.ledger.doubt) =
-    subst (λ o. ImagesGive keeps_model present back.held.ledger.log (kept_by back.held.ledger.log.settled o back.held.ledger.doubt)) (sym (ap (option_map flight_out) back.home))
-    (subst (λ (m : LedgerState D). ImagesGive keeps_model present m.log (kept_by m.log.settled None m.doubt)) back.ledger images) in
+    let of_held : ImagesGive keeps_model present back.held.ledger.log (kept_by back.held.ledger.log.settled (option_map flight_out back.held.flight) back.held.ledger.log.doubt) =
+    subst (λ o. ImagesGive keeps_model present back.held.ledger.log (kept_by back.held.ledger.log.settled o back.held.ledger.log.doubt)) (sym (ap (option_map flight_out) back.home))
+    (subst (λ (m : LedgerState D). ImagesGive keeps_model present m.log (kept_by m.log.settled None m.log.doubt)) back.ledger images) in
     let one = images_follow back.held t keeps_model present back.follows of_held model image here in
     record {
       steps = one.steps;

@@ -60,7 +60,7 @@ follows_reopened {D} s keeps_model present clock left_since crashes before l rel
 
 -- and is over a world that the crash may leave
 pub left_by_crash : {D : Type 0} (d : Driven D) (keeps_model : D → Bool) (present : D → Present) (clock : D → ℕ) (left_since : D → ℕ → List ℕ → Type 0) (crashes : D → D → Type 0) (before : D) (l : LedgerState D) → keeps_model before ≡ true →
-    ImagesGive (keeps_model before) (present before) d.ledger.log (kept_by d.ledger.log.settled (option_map flight_out d.flight) d.ledger.doubt) → IsReopened keeps_model present clock left_since crashes before l → IsLeftByCrash d (at_home l)
+    ImagesGive (keeps_model before) (present before) d.ledger.log (kept_by d.ledger.log.settled (option_map flight_out d.flight) d.ledger.log.doubt) → IsReopened keeps_model present clock left_since crashes before l → IsLeftByCrash d (at_home l)
 left_by_crash {D} d keeps_model present clock left_since crashes before l keeps images opened =
     let from = opened.from keeps in
     let one = images keeps from.image from.allowed in

@@ -1,5 +1,5 @@
 -- What becomes of a step that is handed in.
-use Rattle.std.proofs.Common.{◌≡◌, ◌+◌, Option, Some, Ok, Err, sym, ap, ◌∙◌, subst, refl, ◌++◌, ◌∷◌, [], Result, is_some}
+use Rattle.std.proofs.Common.{◌≡◌, ◌+◌, Option, Some, Ok, Err, sym, ap, ◌∙◌, subst, refl, ◌++◌, ◌∷◌, [], Result}
 use Rattle.coord_types.specs.declared.refusals.Refusal.{Refusal}
 use Rattle.coord_types.specs.declared.steps.Step.{Step}
 use Rattle.coord_world.specs.declared.verdicts.Verdict.{Verdict}
@@ -8,7 +8,7 @@ use Rattle.coord_ledger.specs.declared.events.Answer.TheVariants as answer
 use Rattle.coord_ledger.specs.declared.events.Event.TheVariants.{Submit}
 use Rattle.coord_ledger.specs.declared.handed.Handed.{Handed}
 use Rattle.coord_ledger.specs.declared.handed.Handed.TheVariants.{Accepted, Repeated}
-use Rattle.coord_ledger.specs.Facade.{Beside, Claim, FlightState, Follows, FollowsTo, HandedTo, Held, HoldsFlight, IsConsistent, IsConsistentLog, LedgerState, Machine, RefusesStep, accepted_count, answer_to, claimed, held, ledger_verdict, with_accepted, with_claim}
+use Rattle.coord_ledger.specs.Facade.{Beside, Claim, FlightState, Follows, FollowsTo, HandedTo, Held, HoldsFlight, IsConsistent, IsConsistentLog, LedgerState, Machine, RefusesStep, accepted_count, answer_to, claimed, held, verdict, with_accepted, with_claim}
 use Rattle.coord_ledger.proofs.machine.ConsistentSteps.{reply_is}
 use Rattle.coord_ledger.proofs.follows.FollowsSteps.{follows_accepted, follows_no_room, follows_refused, follows_repeated, own_later}
 
@@ -34,7 +34,7 @@ pub follows_handed : {D : Type 0} (l new : LedgerState D) (f : Option (FlightSta
 follows_handed {D} l new f b s x (Ok (Accepted t)) is follows to =
     let log = l.log in
     let claim : Claim = record { step = accepted_count log + 1; what = x; kind = to.kind } in
-    let one : t ≡ claim = to.claims ∙ ap (claimed x) (reply_is (is_some l.doubt) log x to.kind to.judged) in
+    let one : t ≡ claim = to.claims ∙ ap (claimed x) (reply_is log x to.kind to.judged) in
     subst (λ m. FollowsTo {D = D} s (Submit x) (answer.Accepted t.step) (held (record { ledger = m; flight = f }) (record { claims = b.claims ++ Some t ∷ []; seen = b.seen; released = b.released }))) (sym to.now)
     (subst (λ (c : Claim). FollowsTo {D = D} s (Submit x) (answer.Accepted c.step) (held (record { ledger = with_accepted l x; flight = f }) (record { claims = b.claims ++ Some c ∷ []; seen = b.seen; released = b.released }))) (sym one)
     (follows_accepted (held (record { ledger = l; flight = f }) b) s is follows x to.kind to.judged))
@@ -43,12 +43,12 @@ follows_handed {D} l new f b s x (Ok (Repeated t)) is follows to =
     (subst (λ (c : Claim). FollowsTo {D = D} s (Submit x) (answer.Repeated c.step) (held (record { ledger = l; flight = f }) (record { claims = b.claims ++ Some c ∷ []; seen = b.seen; released = b.released }))) (sym to.claims)
     (follows_repeated (held (record { ledger = l; flight = f }) b) s is follows x to.kept to.judged))
 follows_handed {D} l new f b s x (Err e) is follows to =
-    subst (λ m. FollowsTo {D = D} s (Submit x) (answer.Refused e) (held (record { ledger = m; flight = f }) b)) (sym to.now) (by_verdict (ledger_verdict l x) refl to.why)
+    subst (λ m. FollowsTo {D = D} s (Submit x) (answer.Refused e) (held (record { ledger = m; flight = f }) b)) (sym to.now) (by_verdict (verdict l.log x) refl to.why)
   where
     h : Held D
     h = held (record { ledger = l; flight = f }) b
 
-    by_verdict : (v : Result Verdict Refusal) → ledger_verdict l x ≡ v → RefusesStep e v → FollowsTo s (Submit x) (answer.Refused e) h
+    by_verdict : (v : Result Verdict Refusal) → verdict l.log x ≡ v → RefusesStep e v → FollowsTo s (Submit x) (answer.Refused e) h
     by_verdict (Ok (Fresh k)) judged why = subst (λ w. FollowsTo s (Submit x) (answer.Refused w) h) (sym why) (follows_no_room h s is follows x k judged)
     by_verdict (Ok (Repeat r)) judged why = absurd why
     by_verdict (Err w) judged why = subst (λ w. FollowsTo s (Submit x) (answer.Refused w) h) (sym why) (follows_refused h s is follows x w judged)

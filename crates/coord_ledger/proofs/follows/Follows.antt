@@ -1,9 +1,9 @@
 -- The numbers and worlds of a ledger that follows the event machine are the machine's.
-use Rattle.std.proofs.Common.{◌≡◌, sym, ap, ◌∙◌, subst, is_some}
+use Rattle.std.proofs.Common.{◌≡◌, sym, ap, ◌∙◌, subst}
 use Rattle.coord_types.specs.declared.steps.Step.{Step}
 use Rattle.coord_ledger.specs.declared.events.Answer.{Answer}
 use Rattle.coord_ledger.specs.declared.events.Event.{Event}
-use Rattle.coord_ledger.specs.Facade.{Follows, FollowsTo, Held, IsConsistent, IsConsistentLog, IsOneOf, Log, Machine, accepted_count, after, answers, has_stopped, pending, settled_count, settled_world, verdict, verdict_on}
+use Rattle.coord_ledger.specs.Facade.{Follows, FollowsTo, Held, IsConsistent, IsConsistentLog, IsOneOf, Log, Machine, accepted_count, after, answers, has_stopped, pending, settled_count, settled_world, verdict}
 use Rattle.coord_ledger.proofs.machine.Logs.{moved_accepted, moved_count, moved_is_consistent, moved_pending, moved_settled}
 use Rattle.coord_ledger.proofs.machine.Moved.{moved_verdict}
 
@@ -26,11 +26,11 @@ module _ {D : Type 0} (h : Held D) (s : Machine) (is : IsConsistent s) (follows 
   pub pending_is : pending h.ledger.log ≡ pending s.log
   pending_is = ap pending follows.log ∙ moved_pending s.log follows.by follows.within
 
-  pub stopped_is : is_some h.ledger.doubt ≡ has_stopped s
-  stopped_is = ap is_some follows.doubt
+  pub stopped_is : has_stopped h.ledger.log ≡ has_stopped s.log
+  stopped_is = ap has_stopped follows.log
 
-  pub verdict_is : (x : Step) → verdict (is_some h.ledger.doubt) h.ledger.log x ≡ verdict_on s x
-  verdict_is x = (λ i. verdict (stopped_is i) (follows.log i) x) ∙ moved_verdict (has_stopped s) s.log follows.by follows.within is.log x
+  pub verdict_is : (x : Step) → verdict h.ledger.log x ≡ verdict s.log x
+  verdict_is x = ap (λ g. verdict g x) follows.log ∙ moved_verdict s.log follows.by follows.within is.log x
 
   -- whatever an event leaves as it was
   pub stays : (e : Event) (a : Answer) → IsOneOf a (answers s e) → after s e a ≡ s → FollowsTo s e a h

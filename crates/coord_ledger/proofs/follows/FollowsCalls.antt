@@ -1,22 +1,22 @@
 -- What the calls of a ledger and of a flight make of them follows the event machine.
-use Rattle.std.proofs.Common.{◌≡◌, ℕ, zero, suc, ◌+◌, Bool, true, false, List, [], ◌∷◌, ◌++◌, length, take, Option, Some, None, refl, sym, ap, ◌∙◌, subst, append-nil, inl, inr}
+use Rattle.std.proofs.Common.{◌≡◌, ℕ, zero, suc, ◌+◌, Bool, true, false, List, [], ◌∷◌, length, take, Option, Some, None, refl, sym, ap, ◌∙◌, subst, inl, inr}
 use Rattle.std.proofs.lemmas.List.{length-take}
 use Rattle.coord_types.specs.declared.limits.TheConstants.{MAX_BATCH_STEPS}
 use Rattle.coord_disk.specs.Model.Present.{Present, IsImage}
 use Rattle.coord_store.proofs.OneWorld.{recovered_is_one}
 use Rattle.coord_store.specs.Recovered.{Recovered}
-use Rattle.coord_world.specs.Facade.{World, fold, outs}
-use Rattle.coord_ledger.specs.declared.events.Answer.TheVariants.{Begun, Finished, Opened}
-use Rattle.coord_ledger.specs.declared.events.Event.TheVariants.{Begin, Finish, Crash}
+use Rattle.coord_world.specs.Facade.{World, fold}
+use Rattle.coord_ledger.specs.declared.events.Answer.TheVariants.{Begun, Opened}
+use Rattle.coord_ledger.specs.declared.events.Event.TheVariants.{Begin, Crash}
 use Rattle.coord_ledger.specs.declared.mark.Mark.{Mark}
 use Rattle.coord_ledger.specs.declared.mark.Mark.TheVariants.{New, Good, Torn}
 use Rattle.coord_ledger.specs.declared.release.Release.{Release}
-use Rattle.coord_ledger.specs.Facade.{FlightGives, FlightState, Follows, FollowsTo, GivesFlown, GivesOneOf, GivesSettled, Held, ImagesGive, IsConsistent, IsOut, LedgerGives, LedgerState, Machine, flight_out, keeps_store, kept, kept_by, ledger_over, next_flight, pending, releases_in, releases_of, settled_count, settling_releases, taken_back, with_out, world_after}
+use Rattle.coord_ledger.specs.Facade.{FlightGives, FlightState, Follows, FollowsTo, GivesFlown, GivesOneOf, GivesSettled, Held, ImagesGive, IsConsistent, IsOut, LedgerGives, LedgerState, Machine, flight_out, keeps_store, kept, kept_by, ledger_over, next_flight, pending, with_out, world_after}
 use Rattle.coord_ledger.proofs.follows.FollowsCrashes.{follows_opened}
-use Rattle.coord_ledger.proofs.follows.FollowsFlights.{follows_begun, follows_good, follows_stopped, follows_unsettled}
+use Rattle.coord_ledger.proofs.follows.FollowsFlights.{follows_begun}
 use Rattle.coord_ledger.proofs.machine.Logs.{world-add}
 
--- ---- flights go out and come back
+-- ---- flights go out
 
 -- the flight that goes out next is the ledger's own
 pub next_is_out : {D : Type 0} (l : LedgerState D) (disk : D) → IsOut (with_out l (length (take MAX_BATCH_STEPS (pending l.log)))) (next_flight l.log disk)
@@ -34,37 +34,13 @@ follows_next h s f left is follows goes flies leaves =
     let steps : f.steps ≡ take MAX_BATCH_STEPS (pending log) = ap (λ (g : FlightState _). g.steps) flies in
     let same : left ≡ with_out h.ledger (length (take MAX_BATCH_STEPS (pending log))) = leaves ∙ ap (λ l. with_out h.ledger (length l)) steps in
     let own : IsOut left f = subst (λ l. IsOut l f) (sym same) (subst (IsOut (with_out h.ledger (length (take MAX_BATCH_STEPS (pending log))))) (sym flies) (next_is_out h.ledger f.disk)) in
-    follows_begun h s is follows f left goes (ap (λ (l : LedgerState _). l.log) leaves) (ap (λ (l : LedgerState _). l.doubt) leaves) own (ap (λ (g : FlightState _). g.mark) flies) (ap length steps ∙ length-take MAX_BATCH_STEPS (pending log))
-
--- what a flight of its own releases
-own_releases : {D : Type 0} (l : LedgerState D) (f : FlightState D) → IsOut l f → releases_of (outs f.world f.steps) ≡ settling_releases l.log (length f.steps)
-own_releases l f own = λ i. releases_of (outs (own.world i) (own.steps i))
-
-pub follows_returned : {D : Type 0} (h : Held D) (s : Machine) (f : FlightState D) (back : LedgerState D) (releases : List Release) → IsConsistent s → Follows h s → h.flight ≡ Some f → IsOut h.ledger f → back ≡ taken_back h.ledger (length f.steps) f.mark f.disk → releases ≡ releases_in f f.mark →
-    FollowsTo s Finish (Finished (settled_count back.log)) (record h { ledger = back; flight = None; released = h.released ++ releases })
-follows_returned {D} h s f back releases is follows holds own returns gives = by_mark f.mark refl
-  where
-    by_mark : (m : Mark) → f.mark ≡ m → FollowsTo s Finish (Finished (settled_count back.log)) (record h { ledger = back; flight = None; released = h.released ++ releases })
-    by_mark New mark =
-        let now : back ≡ taken_back h.ledger (length f.steps) New f.disk = returns ∙ ap (λ m. taken_back h.ledger (length f.steps) m f.disk) mark in
-        let none : releases ≡ [] = gives ∙ ap (releases_in f) mark in
-        subst (λ rs. FollowsTo s Finish (Finished (settled_count back.log)) (record h { ledger = back; flight = None; released = rs })) (sym (ap (λ l. h.released ++ l) none ∙ append-nil h.released))
-        (follows_unsettled h s is follows f holds back mark (ap (λ (l : LedgerState D). l.log) now) (ap (λ (l : LedgerState D). l.doubt) now) (ap (λ (l : LedgerState D). l.out) now))
-    by_mark Good mark =
-        let now : back ≡ taken_back h.ledger (length f.steps) Good f.disk = returns ∙ ap (λ m. taken_back h.ledger (length f.steps) m f.disk) mark in
-        let all : releases ≡ settling_releases h.ledger.log (length f.steps) = gives ∙ ap (releases_in f) mark ∙ own_releases h.ledger f own in
-        follows_good h s is follows f holds back (h.released ++ releases) mark (ap (λ (l : LedgerState D). l.log) now) (ap (λ (l : LedgerState D). l.doubt) now) (ap (λ (l : LedgerState D). l.out) now) (ap (λ l. h.released ++ l) all)
-    by_mark Torn mark =
-        let now : back ≡ taken_back h.ledger (length f.steps) Torn f.disk = returns ∙ ap (λ m. taken_back h.ledger (length f.steps) m f.disk) mark in
-        let none : releases ≡ [] = gives ∙ ap (releases_in f) mark in
-        subst (λ rs. FollowsTo s Finish (Finished (settled_count back.log)) (record h { ledger = back; flight = None; released = rs })) (sym (ap (λ l. h.released ++ l) none ∙ append-nil h.released))
-        (follows_stopped h s is follows f holds back mark (ap (λ (l : LedgerState D). l.log) now) (ap (λ (l : LedgerState D). l.doubt) now) (ap (λ (l : LedgerState D). l.out) now))
+    follows_begun h s is follows f left goes (ap (λ (l : LedgerState _). l.log) leaves) own (ap (λ (g : FlightState _). g.mark) flies) (ap length steps ∙ length-take MAX_BATCH_STEPS (pending log))
 
 -- ---- images
 
 -- of a ledger's disk, while its store is at home
-pub ledger_images : {D : Type 0} (l : LedgerState D) (disk : D) (keeps_model : Bool) (present : D → Present) → (keeps_model ≡ true → LedgerGives present l disk) → ImagesGive keeps_model (present disk) l.log (kept_by l.log.settled None l.doubt)
-ledger_images l disk keeps_model present gives model image here = by_doubt l.doubt (gives model image here)
+pub ledger_images : {D : Type 0} (l : LedgerState D) (disk : D) (keeps_model : Bool) (present : D → Present) → (keeps_model ≡ true → LedgerGives present l disk) → ImagesGive keeps_model (present disk) l.log (kept_by l.log.settled None l.log.doubt)
+ledger_images l disk keeps_model present gives model image here = by_doubt l.log.doubt (gives model image here)
   where
     by_doubt : (o : Option ℕ) → GivesSettled l.log o image → GivesOneOf l.log (kept_by l.log.settled None o) image
     by_doubt None given = record { steps = l.log.settled; allowed = inl refl; recovered = given }
@@ -72,20 +48,20 @@ ledger_images l disk keeps_model present gives model image here = by_doubt l.dou
     by_doubt (Some b) (inr given) = record { steps = l.log.settled + b; allowed = inr (inl refl); recovered = given }
 
 -- what bytes give of a flight's world, they give of its ledger's log
-pub flight_gives : {D : Type 0} (l : LedgerState D) (f : FlightState D) (image : List ℕ) → IsOut l f → GivesFlown f.mark f.world f.steps image → GivesOneOf l.log (kept_by l.log.settled (Some (flight_out f)) l.doubt) image
+pub flight_gives : {D : Type 0} (l : LedgerState D) (f : FlightState D) (image : List ℕ) → IsOut l f → GivesFlown f.mark f.world f.steps image → GivesOneOf l.log (kept_by l.log.settled (Some (flight_out f)) l.log.doubt) image
 flight_gives l f image own gives = by_mark f.mark gives
   where
     all : fold f.world f.steps ≡ world_after l.log (l.log.settled + length f.steps)
     all = (λ i. fold (own.world i) (own.steps i)) ∙ sym (world-add l.log l.log.settled (length f.steps))
 
-    by_mark : (m : Mark) → GivesFlown m f.world f.steps image → GivesOneOf l.log (kept_by l.log.settled (Some (record { size = length f.steps; mark = m })) l.doubt) image
+    by_mark : (m : Mark) → GivesFlown m f.world f.steps image → GivesOneOf l.log (kept_by l.log.settled (Some (record { size = length f.steps; mark = m })) l.log.doubt) image
     by_mark New given = record { steps = l.log.settled; allowed = inl refl; recovered = subst (Recovered image) own.world given }
     by_mark Good given = record { steps = l.log.settled + length f.steps; allowed = inl refl; recovered = subst (Recovered image) all given }
     by_mark Torn (inl given) = record { steps = l.log.settled; allowed = inl refl; recovered = subst (Recovered image) own.world given }
     by_mark Torn (inr given) = record { steps = l.log.settled + length f.steps; allowed = inr (inl refl); recovered = subst (Recovered image) all given }
 
 -- of the disk of a flight that is out
-pub flight_images : {D : Type 0} (l : LedgerState D) (f : FlightState D) (keeps_model : Bool) (present : D → Present) → IsOut l f → (keeps_model ≡ true → FlightGives present f) → ImagesGive keeps_model (present f.disk) l.log (kept_by l.log.settled (Some (flight_out f)) l.doubt)
+pub flight_images : {D : Type 0} (l : LedgerState D) (f : FlightState D) (keeps_model : Bool) (present : D → Present) → IsOut l f → (keeps_model ≡ true → FlightGives present f) → ImagesGive keeps_model (present f.disk) l.log (kept_by l.log.settled (Some (flight_out f)) l.log.doubt)
 flight_images l f keeps_model present own gives model image here = flight_gives l f image own (gives model image here)
 
 -- ---- crash

@@ -29,7 +29,6 @@ follows_opened {D} s released n w disk is given one world =
         by = n;
         within = omega arith;
         log = over_is world;
-        doubt = refl;
         flight = refl;
         own = refl;
         tickets = tt;
@@ -46,7 +45,7 @@ follows_opened {D} s released n w disk is given one world =
     over_is : w ≡ world_after s.log n → log_over w ≡ moved (cut_to s.log n) n
     over_is world =
         let none : n - n ≡ 0 = omega arith in
-        λ i. record { base = (world ∙ ap (fold s.log.base) (sym (take-take n n s.log.trail (omega arith)))) i; trail = sym (none_behind n s.log.trail) i; settled = sym none i }
+        λ i. record { base = (world ∙ ap (fold s.log.base) (sym (take-take n n s.log.trail (omega arith)))) i; trail = sym (none_behind n s.log.trail) i; settled = sym none i; doubt = None }
 
 -- numbers that are greater by c
 kept_on : (c d n : ℕ) (f : Option FlightOut) (o : Option ℕ) → IsOneOf n (kept_by d f o) → IsOneOf (c + n) (kept_by (c + d) f o)
@@ -77,20 +76,20 @@ kept_on c d n f o one = by_flight f o one
 
 -- what bytes give of the ledger's log, they give of the machine's
 pub given_follows : {D : Type 0} (h : Held D) (s : Machine) (image : List ℕ) → Follows h s →
-    GivesOneOf h.ledger.log (kept_by h.ledger.log.settled (option_map flight_out h.flight) h.ledger.doubt) image → GivesOneOf s.log (kept s) image
+    GivesOneOf h.ledger.log (kept_by h.ledger.log.settled (option_map flight_out h.flight) h.ledger.log.doubt) image → GivesOneOf s.log (kept s) image
 given_follows h s image follows given =
     let by = follows.by in
     let n = given.steps in
     let settled : h.ledger.log.settled ≡ s.log.settled - by = ap (λ (g : Log). g.settled) follows.log in
-    let same : kept_by h.ledger.log.settled (option_map flight_out h.flight) h.ledger.doubt ≡ kept_by (s.log.settled - by) s.flight s.doubt = λ i. kept_by (settled i) (follows.flight i) (follows.doubt i) in
+    let same : kept_by h.ledger.log.settled (option_map flight_out h.flight) h.ledger.log.doubt ≡ kept_by (s.log.settled - by) s.flight s.log.doubt = λ i. kept_by (settled i) (follows.flight i) ((ap (λ (g : Log). g.doubt) follows.log) i) in
     let there : by + (s.log.settled - by) ≡ s.log.settled = omega (arith, follows.within) in
     record {
       steps = by + n;
-      allowed = subst (λ d. IsOneOf (by + n) (kept_by d s.flight s.doubt)) there (kept_on by (s.log.settled - by) n s.flight s.doubt (subst (IsOneOf n) same given.allowed));
+      allowed = subst (λ d. IsOneOf (by + n) (kept_by d s.flight s.log.doubt)) there (kept_on by (s.log.settled - by) n s.flight s.log.doubt (subst (IsOneOf n) same given.allowed));
       recovered = subst (Recovered image) (ap (λ g. world_after g n) follows.log ∙ sym (world-add s.log by n)) given.recovered;
     }
 
 -- so do the images of a disk
 pub images_follow : {D : Type 0} (h : Held D) (s : Machine) (keeps_model : Bool) (present : Present) → Follows h s →
-    ImagesGive keeps_model present h.ledger.log (kept_by h.ledger.log.settled (option_map flight_out h.flight) h.ledger.doubt) → ImagesGive keeps_model present s.log (kept s)
+    ImagesGive keeps_model present h.ledger.log (kept_by h.ledger.log.settled (option_map flight_out h.flight) h.ledger.log.doubt) → ImagesGive keeps_model present s.log (kept s)
 images_follow h s keeps_model present follows gives model image here = given_follows h s image follows (gives model image here)

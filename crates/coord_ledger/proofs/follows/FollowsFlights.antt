@@ -1,5 +1,5 @@
 -- What a driver holds follows the event machine where a flight goes out and comes back.
-use Rattle.std.proofs.Common.{◌≡◌, ℕ, ◌+◌, false, true, List, [], ◌∷◌, ◌++◌, length, take, Option, Some, None, refl, sym, ap, ◌∙◌, subst, arith, inl, inr, cond, ◌||◌, ◌==◌, is_some, min}
+use Rattle.std.proofs.Common.{◌≡◌, ◌+◌, ◌≤◌, false, true, List, [], ◌∷◌, ◌++◌, length, take, Option, Some, None, append-nil, refl, sym, ap, ◌∙◌, subst, arith, inl, inr, cond, ◌||◌, ◌==◌, is_some, min}
 use Rattle.std.specs.Option.{option_map}
 use Rattle.coord_types.specs.declared.refusals.Refusal.TheVariants.{OutOfMemory}
 use Rattle.coord_world.specs.protocol.Outputs.{outs}
@@ -9,9 +9,9 @@ use Rattle.coord_ledger.specs.declared.events.Event.TheVariants.{Begin, Finish}
 use Rattle.coord_ledger.specs.declared.mark.Mark.{Mark}
 use Rattle.coord_ledger.specs.declared.mark.Mark.TheVariants.{New, Good, Torn}
 use Rattle.coord_ledger.specs.declared.release.Release.{Release}
-use Rattle.coord_ledger.specs.Facade.{FlightState, Follows, FollowsTo, Held, HoldsFlight, HoldsTickets, IsConsistent, IsOneOf, IsOut, LedgerState, Log, Machine, after_finish, answers, finished, flight_out, has_stopped, next_size, releases_of, settled_count, settling_releases, stays_home, to_finish, with_flight, with_settled}
-use Rattle.coord_ledger.proofs.follows.Granted.{granted_settled, holds_later}
-use Rattle.coord_ledger.proofs.machine.Moved.{moved_more}
+use Rattle.coord_ledger.specs.Facade.{FlightState, Follows, FollowsTo, Held, HoldsFlight, HoldsTickets, IsConsistent, IsOneOf, IsOut, LedgerState, Log, Machine, answers, finished, flight_out, log_back, next_size, released_back, releases_in, releases_of, settled_count, stays_home, taken_back, to_finish, with_flight}
+use Rattle.coord_ledger.proofs.follows.Granted.{granted_back, holds_later}
+use Rattle.coord_ledger.proofs.machine.Moved.{moved_back}
 use Rattle.coord_ledger.proofs.follows.Follows.{count_is, pending_is, settled_is, stays, stopped_is}
 
 module _ {D : Type 0} (h : Held D) (s : Machine) (is : IsConsistent s) (follows : Follows h s) where
@@ -24,7 +24,7 @@ module _ {D : Type 0} (h : Held D) (s : Machine) (is : IsConsistent s) (follows 
   out_is None none = ap is_some none
   out_is (Some f) own = ap is_some own.size
 
-  home_is : stays_home (is_some h.ledger.doubt) (is_some h.ledger.out) log ≡ stays_home (has_stopped s) (is_some s.flight) s.log
+  home_is : stays_home (is_some h.ledger.out) log ≡ stays_home (is_some s.flight) s.log
   home_is =
       let out : is_some h.ledger.out ≡ is_some s.flight = out_is h.flight follows.own ∙ ap is_some follows.flight in
       λ i. stopped_is h s is follows i || out i || (length (pending_is h s is follows i) == 0)
@@ -33,10 +33,10 @@ module _ {D : Type 0} (h : Held D) (s : Machine) (is : IsConsistent s) (follows 
   abbrev departed : FlightState D → LedgerState D → Held D
   departed f left = record h { ledger = left; flight = Some f }
 
-  pub follows_begun : (f : FlightState D) (left : LedgerState D) → stays_home (is_some h.ledger.doubt) (is_some h.ledger.out) log ≡ false → left.log ≡ log → left.doubt ≡ h.ledger.doubt → IsOut left f → f.mark ≡ New → length f.steps ≡ next_size log →
+  pub follows_begun : (f : FlightState D) (left : LedgerState D) → stays_home (is_some h.ledger.out) log ≡ false → left.log ≡ log → IsOut left f → f.mark ≡ New → length f.steps ≡ next_size log →
       FollowsTo s Begin (Begun (length f.steps)) (departed f left)
-  follows_begun f left goes same_log same_doubt own new size =
-      let free : stays_home (has_stopped s) (is_some s.flight) s.log ≡ false = sym home_is ∙ goes in
+  follows_begun f left goes same_log own new size =
+      let free : stays_home (is_some s.flight) s.log ≡ false = sym home_is ∙ goes in
       let next : length f.steps ≡ next_size s.log = size ∙ ap (λ l. min 256 (length l)) (pending_is h s is follows) in
       record {
         allowed = subst (λ b. IsOneOf (Begun (length f.steps)) (cond b (Nothing ∷ []) (Begun (next_size s.log) ∷ Refused OutOfMemory ∷ []))) (sym free) (inl (ap Begun next));
@@ -44,7 +44,6 @@ module _ {D : Type 0} (h : Held D) (s : Machine) (is : IsConsistent s) (follows 
           by = follows.by;
           within = follows.within;
           log = same_log ∙ follows.log;
-          doubt = same_doubt ∙ follows.doubt;
           flight = ap (λ m. Some (record { size = length f.steps; mark = m })) new;
           own = own;
           tickets = subst (λ g. HoldsTickets g h.claims s.tickets) (sym same_log) follows.tickets;
@@ -53,11 +52,11 @@ module _ {D : Type 0} (h : Held D) (s : Machine) (is : IsConsistent s) (follows 
         };
       }
 
-  pub follows_nothing : stays_home (is_some h.ledger.doubt) (is_some h.ledger.out) log ≡ true → FollowsTo s Begin Nothing h
+  pub follows_nothing : stays_home (is_some h.ledger.out) log ≡ true → FollowsTo s Begin Nothing h
   follows_nothing home =
       stays h s is follows Begin Nothing (subst (λ b. IsOneOf Nothing (cond b (Nothing ∷ []) (Begun (next_size s.log) ∷ Refused OutOfMemory ∷ []))) (sym (sym home_is ∙ home)) (inl refl)) refl
 
-  pub follows_not_begun : stays_home (is_some h.ledger.doubt) (is_some h.ledger.out) log ≡ false → FollowsTo s Begin (Refused OutOfMemory) h
+  pub follows_not_begun : stays_home (is_some h.ledger.out) log ≡ false → FollowsTo s Begin (Refused OutOfMemory) h
   follows_not_begun goes =
       stays h s is follows Begin (Refused OutOfMemory) (subst (λ b. IsOneOf (Refused OutOfMemory) (cond b (Nothing ∷ []) (Begun (next_size s.log) ∷ Refused OutOfMemory ∷ []))) (sym (sym home_is ∙ goes)) (inr (inl refl))) refl
 
@@ -71,66 +70,45 @@ module _ {D : Type 0} (h : Held D) (s : Machine) (is : IsConsistent s) (follows 
     own = subst (HoldsFlight h.ledger) holds follows.own
 
     -- an answer that its mark allows
-    may_finish : (a : Answer) (m : Mark) → f.mark ≡ m → IsOneOf a (to_finish (settled_count s.log) (length f.steps) m) → IsOneOf a (answers s Finish)
-    may_finish a m mark one =
-        subst (λ o. IsOneOf a (with_flight o (λ g. to_finish (settled_count s.log) g.size g.mark))) (sym out) (subst (λ x. IsOneOf a (to_finish (settled_count s.log) (length f.steps) x)) (sym mark) one)
+    may_finish : (a : Answer) → IsOneOf a (to_finish (settled_count s.log) (length f.steps) f.mark) → IsOneOf a (answers s Finish)
+    may_finish a one = subst (λ o. IsOneOf a (with_flight o (λ g. to_finish (settled_count s.log) g.size g.mark))) (sym out) one
 
-    finished_is : (m : Mark) → f.mark ≡ m → finished s s.flight ≡ after_finish s (length f.steps) m
-    finished_is m mark = ap (finished s) out ∙ ap (after_finish s (length f.steps)) mark
+    -- what it settles and releases by this mark
+    counted : (m : Mark) → IsOneOf (Finished (settled_count (log_back log (length f.steps) m))) (to_finish (settled_count s.log) (length f.steps) m)
+    counted New = inl (ap Finished (count_is h s is follows))
+    counted Good = inl (ap Finished (omega (arith, count_is h s is follows)))
+    counted Torn = inl (ap Finished (count_is h s is follows))
 
-    -- what is held once it is back
-    abbrev returned : LedgerState D → List Release → Held D
-    returned back released = record h { ledger = back; flight = None; released = released }
+    no_less : (m : Mark) → follows.by ≤ (log_back s.log (length f.steps) m).settled
+    no_less New = follows.within
+    no_less Good = omega (arith, follows.within)
+    no_less Torn = follows.within
 
-    pub follows_good : (back : LedgerState D) (released : List Release) → f.mark ≡ Good → back.log ≡ with_settled log (length f.steps) → back.doubt ≡ h.ledger.doubt → back.out ≡ None → released ≡ h.released ++ settling_releases log (length f.steps) →
-        FollowsTo s Finish (Finished (settled_count back.log)) (returned back released)
-    follows_good back released mark same_log same_doubt home given =
+    gives : (m : Mark) → h.released ++ releases_in f m ≡ released_back s.released s.log (length f.steps) m
+    gives New = append-nil h.released ∙ follows.released
+    gives Good = λ i. follows.released i ++ releases_of (outs ((own.world ∙ settled_is h s is follows) i) ((own.steps ∙ ap (take (length f.steps)) (pending_is h s is follows)) i))
+    gives Torn = append-nil h.released ∙ follows.released
+
+    -- it is back
+    pub follows_back : (back : LedgerState D) (releases : List Release) → back ≡ taken_back h.ledger (length f.steps) f.mark f.disk → releases ≡ releases_in f f.mark →
+        FollowsTo s Finish (Finished (settled_count back.log)) (record h { ledger = back; flight = None; released = h.released ++ releases })
+    follows_back back releases taken given =
         let b = length f.steps in
-        let count : settled_count back.log ≡ settled_count s.log + b = ap settled_count same_log ∙ omega (arith, count_is h s is follows) in
-        let more : settling_releases log b ≡ settling_releases s.log b = λ i. releases_of (outs (settled_is h s is follows i) (take b (pending_is h s is follows i))) in
+        let same_log = ap (λ (l : LedgerState D). l.log) taken in
+        let later = record h { ledger = back; flight = None; released = h.released ++ releases } in
         record {
-          allowed = may_finish (Finished (settled_count back.log)) Good mark (inl (ap Finished count));
-          follows = subst (Follows (returned back released)) (sym (finished_is Good mark)) (record {
+          allowed = may_finish (Finished (settled_count back.log)) (subst (λ g. IsOneOf (Finished (settled_count g)) (to_finish (settled_count s.log) b f.mark)) (sym same_log) (counted f.mark));
+          follows = subst (Follows later) (sym (ap (finished s) out)) (record {
             by = follows.by;
-            within = omega (arith, follows.within);
-            log = same_log ∙ ap (λ g. with_settled g b) follows.log ∙ moved_more s.log follows.by b follows.within;
-            doubt = same_doubt ∙ follows.doubt;
+            within = no_less f.mark;
+            log = same_log ∙ ap (λ g. log_back g b f.mark) follows.log ∙ moved_back s.log follows.by b f.mark follows.within;
             flight = refl;
-            own = home;
-            tickets = subst (λ g. HoldsTickets g h.claims s.tickets) (sym same_log) (holds_later log (with_settled log b) h.claims s.tickets (granted_settled log b) follows.tickets);
+            own = ap (λ (l : LedgerState D). l.out) taken;
+            tickets = subst (λ g. HoldsTickets g h.claims s.tickets) (sym same_log) (holds_later log (log_back log b f.mark) h.claims s.tickets (granted_back log b f.mark) follows.tickets);
             seen = follows.seen;
-            released = given ∙ (λ i. follows.released i ++ more i);
+            released = ap (λ l. h.released ++ l) given ∙ gives f.mark;
           });
         }
 
-    -- it was not committed, or torn
-    follows_back : (back : LedgerState D) (doubt : Option ℕ) (t : Machine) → t ≡ record s { flight = None; doubt = doubt } → back.log ≡ log → back.doubt ≡ doubt → back.out ≡ None → Follows (returned back h.released) t
-    follows_back back doubt t now same_log same_doubt home =
-        subst (Follows (returned back h.released)) (sym now) (record {
-          by = follows.by;
-          within = follows.within;
-          log = same_log ∙ follows.log;
-          doubt = same_doubt;
-          flight = refl;
-          own = home;
-          tickets = subst (λ g. HoldsTickets g h.claims s.tickets) (sym same_log) follows.tickets;
-          seen = follows.seen;
-          released = follows.released;
-        })
-
-    pub follows_unsettled : (back : LedgerState D) → f.mark ≡ New → back.log ≡ log → back.doubt ≡ h.ledger.doubt → back.out ≡ None → FollowsTo s Finish (Finished (settled_count back.log)) (returned back h.released)
-    follows_unsettled back mark same_log same_doubt home =
-        record {
-          allowed = may_finish (Finished (settled_count back.log)) New mark (inl (ap Finished (ap settled_count same_log ∙ count_is h s is follows)));
-          follows = follows_back back s.doubt (finished s s.flight) (finished_is New mark) same_log (same_doubt ∙ follows.doubt) home;
-        }
-
-    pub follows_stopped : (back : LedgerState D) → f.mark ≡ Torn → back.log ≡ log → back.doubt ≡ Some (length f.steps) → back.out ≡ None → FollowsTo s Finish (Finished (settled_count back.log)) (returned back h.released)
-    follows_stopped back mark same_log doubt home =
-        record {
-          allowed = may_finish (Finished (settled_count back.log)) Torn mark (inl (ap Finished (ap settled_count same_log ∙ count_is h s is follows)));
-          follows = follows_back back (Some (length f.steps)) (finished s s.flight) (finished_is Torn mark) same_log doubt home;
-        }
-
     pub follows_not_finished : f.mark ≡ Good → FollowsTo s Finish (Refused OutOfMemory) h
-    follows_not_finished mark = stays h s is follows Finish (Refused OutOfMemory) (may_finish (Refused OutOfMemory) Good mark (inr (inl refl))) refl
+    follows_not_finished mark = stays h s is follows Finish (Refused OutOfMemory) (may_finish (Refused OutOfMemory) (subst (λ m. IsOneOf (Refused OutOfMemory) (to_finish (settled_count s.log) (length f.steps) m)) (sym mark) (inr (inl refl)))) refl

@@ -1,5 +1,5 @@
 -- What a driver holds follows the event machine where a step is handed in.
-use Rattle.std.proofs.Common.{◌≡◌, ◌+◌, ◌≤◌, [], ◌∷◌, ◌++◌, length, take, Option, Some, None, Ok, Err, refl, sym, ap, ◌∙◌, subst, arith, inl, inr, is_some, min}
+use Rattle.std.proofs.Common.{◌≡◌, ◌+◌, ◌≤◌, [], ◌∷◌, ◌++◌, length, take, Option, Some, None, Ok, Err, refl, sym, ap, ◌∙◌, subst, arith, inl, inr, min}
 use Rattle.std.proofs.lemmas.List.{length-take, take-append-le}
 use Rattle.coord_types.specs.declared.refusals.Refusal.{Refusal}
 use Rattle.coord_types.specs.declared.refusals.Refusal.TheVariants.{OutOfMemory}
@@ -10,7 +10,7 @@ use Rattle.coord_world.specs.declared.verdicts.Verdict.TheVariants.{Fresh, Repea
 use Rattle.coord_world.specs.protocol.Next.{fold}
 use Rattle.coord_ledger.specs.declared.events.Answer.TheVariants.{Accepted, Repeated, Refused}
 use Rattle.coord_ledger.specs.declared.events.Event.TheVariants.{Submit}
-use Rattle.coord_ledger.specs.Facade.{FlightState, Follows, FollowsTo, Held, HoldsFlight, HoldsTickets, IsConsistent, IsConsistentLog, IsOneOf, LedgerState, Log, Machine, accepted_count, after_submit, pending, to_submit, verdict, verdict_on, with_accepted, with_step}
+use Rattle.coord_ledger.specs.Facade.{FlightState, Follows, FollowsTo, Held, HoldsFlight, HoldsTickets, IsConsistent, IsConsistentLog, IsOneOf, LedgerState, Log, Machine, accepted_count, after_submit, pending, to_submit, verdict, with_accepted, with_step}
 use Rattle.coord_ledger.proofs.follows.Granted.{granted_later, granted_new, granted_repeat, holds_later, holds_push}
 use Rattle.coord_ledger.proofs.machine.Logs.{pending_with}
 use Rattle.coord_ledger.proofs.machine.Moved.{moved_step}
@@ -37,9 +37,9 @@ module _ {D : Type 0} (h : Held D) (s : Machine) (is : IsConsistent s) (follows 
   abbrev accepted : Step → Kind → Held D
   accepted x k = record h { ledger = record h.ledger { log = with_step log x }; claims = h.claims ++ Some (record { step = accepted_count log + 1; what = x; kind = k }) ∷ [] }
 
-  pub follows_accepted : (x : Step) (k : Kind) → verdict (is_some h.ledger.doubt) log x ≡ Ok (Fresh k) → FollowsTo s (Submit x) (Accepted (accepted_count log + 1)) (accepted x k)
+  pub follows_accepted : (x : Step) (k : Kind) → verdict log x ≡ Ok (Fresh k) → FollowsTo s (Submit x) (Accepted (accepted_count log + 1)) (accepted x k)
   follows_accepted x k judged =
-      let on : verdict_on s x ≡ Ok (Fresh k) = sym (verdict_is h s is follows x) ∙ judged in
+      let on : verdict s.log x ≡ Ok (Fresh k) = sym (verdict_is h s is follows x) ∙ judged in
       let number = accepted_count log + 1 in
       let tickets : HoldsTickets (with_step log x) h.claims s.tickets = holds_later log (with_step log x) h.claims s.tickets (granted_later log x) follows.tickets in
       record {
@@ -48,10 +48,9 @@ module _ {D : Type 0} (h : Held D) (s : Machine) (is : IsConsistent s) (follows 
           by = follows.by;
           within = follows.within;
           log = ap (λ g. with_step g x) follows.log ∙ moved_step s.log follows.by x (omega (arith, follows.within, is.log.within));
-          doubt = follows.doubt;
           flight = follows.flight;
           own = own_later h.ledger x h.flight (log_consistent h s is follows) follows.own;
-          tickets = holds_push (with_step log x) h.claims s.tickets (record { step = number; what = x; kind = k }) (record { step = number; kind = k }) refl (granted_new (is_some h.ledger.doubt) log x k judged) tickets;
+          tickets = holds_push (with_step log x) h.claims s.tickets (record { step = number; what = x; kind = k }) (record { step = number; kind = k }) refl (granted_new log x k judged) tickets;
           seen = follows.seen;
           released = follows.released;
         });
@@ -61,30 +60,29 @@ module _ {D : Type 0} (h : Held D) (s : Machine) (is : IsConsistent s) (follows 
   abbrev repeated : Step → Reply → Held D
   repeated x r = record h { claims = h.claims ++ Some (record { step = r.step; what = x; kind = r.kind }) ∷ [] }
 
-  pub follows_repeated : (x : Step) (r : Reply) → verdict (is_some h.ledger.doubt) log x ≡ Ok (Repeat r) → FollowsTo s (Submit x) (Repeated r.step) (repeated x r)
+  pub follows_repeated : (x : Step) (r : Reply) → verdict log x ≡ Ok (Repeat r) → FollowsTo s (Submit x) (Repeated r.step) (repeated x r)
   follows_repeated x r judged =
-      let on : verdict_on s x ≡ Ok (Repeat r) = sym (verdict_is h s is follows x) ∙ judged in
+      let on : verdict s.log x ≡ Ok (Repeat r) = sym (verdict_is h s is follows x) ∙ judged in
       record {
         allowed = subst (λ v. IsOneOf (Repeated r.step) (to_submit (accepted_count s.log + 1) v)) (sym on) (inl refl);
         follows = subst (λ v. Follows (repeated x r) (after_submit s x v (Repeated r.step))) (sym on) (record {
           by = follows.by;
           within = follows.within;
           log = follows.log;
-          doubt = follows.doubt;
           flight = follows.flight;
           own = follows.own;
-          tickets = holds_push log h.claims s.tickets (record { step = r.step; what = x; kind = r.kind }) r refl (granted_repeat (is_some h.ledger.doubt) log x r judged) follows.tickets;
+          tickets = holds_push log h.claims s.tickets (record { step = r.step; what = x; kind = r.kind }) r refl (granted_repeat log x r judged) follows.tickets;
           seen = follows.seen;
           released = follows.released;
         });
       }
 
-  pub follows_refused : (x : Step) (e : Refusal) → verdict (is_some h.ledger.doubt) log x ≡ Err e → FollowsTo s (Submit x) (Refused e) h
+  pub follows_refused : (x : Step) (e : Refusal) → verdict log x ≡ Err e → FollowsTo s (Submit x) (Refused e) h
   follows_refused x e judged =
-      let on : verdict_on s x ≡ Err e = sym (verdict_is h s is follows x) ∙ judged in
+      let on : verdict s.log x ≡ Err e = sym (verdict_is h s is follows x) ∙ judged in
       stays h s is follows (Submit x) (Refused e) (subst (λ v. IsOneOf (Refused e) (to_submit (accepted_count s.log + 1) v)) (sym on) (inl refl)) (ap (λ v. after_submit s x v (Refused e)) on)
 
-  pub follows_no_room : (x : Step) (k : Kind) → verdict (is_some h.ledger.doubt) log x ≡ Ok (Fresh k) → FollowsTo s (Submit x) (Refused OutOfMemory) h
+  pub follows_no_room : (x : Step) (k : Kind) → verdict log x ≡ Ok (Fresh k) → FollowsTo s (Submit x) (Refused OutOfMemory) h
   follows_no_room x k judged =
-      let on : verdict_on s x ≡ Ok (Fresh k) = sym (verdict_is h s is follows x) ∙ judged in
+      let on : verdict s.log x ≡ Ok (Fresh k) = sym (verdict_is h s is follows x) ∙ judged in
       stays h s is follows (Submit x) (Refused OutOfMemory) (subst (λ v. IsOneOf (Refused OutOfMemory) (to_submit (accepted_count s.log + 1) v)) (sym on) (inr (inl refl))) (ap (λ v. after_submit s x v (Refused OutOfMemory)) on)

@@ -48,7 +48,6 @@ module _ {D : Type 0} (h : Held D) (s : Machine) (is : IsConsistent s) (follows 
             by = follows.by;
             within = follows.within;
             log = follows.log;
-            doubt = follows.doubt;
             flight = follows.flight;
             own = follows.own;
             tickets = holds_spent log h.claims s.tickets i follows.tickets;
@@ -76,7 +75,6 @@ module _ {D : Type 0} (h : Held D) (s : Machine) (is : IsConsistent s) (follows 
           by = follows.by;
           within = follows.within;
           log = follows.log;
-          doubt = follows.doubt;
           flight = follows.flight;
           own = follows.own;
           tickets = follows.tickets;
@@ -89,10 +87,10 @@ module _ {D : Type 0} (h : Held D) (s : Machine) (is : IsConsistent s) (follows 
   pub never_behind : h.seen ≤ settled_count h.ledger.log
   never_behind = omega (arith, follows.seen, is.seen, count_is h s is follows)
 
-  may_show : (b : Bool) (a : Answer) → is_some h.ledger.doubt ≡ b → IsOneOf a (cond b (Refused Stopped ∷ []) (Shown (shown (accepted_count s.log) (settled_world s.log)) ∷ Refused OutOfMemory ∷ [])) → IsOneOf a (answers s Show)
+  may_show : (b : Bool) (a : Answer) → is_some h.ledger.log.doubt ≡ b → IsOneOf a (cond b (Refused Stopped ∷ []) (Shown (shown (accepted_count s.log) (settled_world s.log)) ∷ Refused OutOfMemory ∷ [])) → IsOneOf a (answers s Show)
   may_show b a stopped one = subst (λ x. IsOneOf a (cond x (Refused Stopped ∷ []) (Shown (shown (accepted_count s.log) (settled_world s.log)) ∷ Refused OutOfMemory ∷ []))) (sym stopped ∙ stopped_is h s is follows) one
 
-  pub follows_shown : is_some h.ledger.doubt ≡ false → FollowsTo s Show (Shown (shown (accepted_count log) (settled_world log))) (record h { seen = settled_count log })
+  pub follows_shown : is_some h.ledger.log.doubt ≡ false → FollowsTo s Show (Shown (shown (accepted_count log) (settled_world log))) (record h { seen = settled_count log })
   follows_shown going =
       record {
         allowed = may_show false (Shown (shown (accepted_count log) (settled_world log))) going (inl (λ i. Shown (shown (accepted_is h s is follows i) (settled_is h s is follows i))));
@@ -100,7 +98,6 @@ module _ {D : Type 0} (h : Held D) (s : Machine) (is : IsConsistent s) (follows 
           by = follows.by;
           within = follows.within;
           log = follows.log;
-          doubt = follows.doubt;
           flight = follows.flight;
           own = follows.own;
           tickets = follows.tickets;
@@ -109,8 +106,8 @@ module _ {D : Type 0} (h : Held D) (s : Machine) (is : IsConsistent s) (follows 
         };
       }
 
-  pub follows_not_shown : is_some h.ledger.doubt ≡ true → FollowsTo s Show (Refused Stopped) h
+  pub follows_not_shown : is_some h.ledger.log.doubt ≡ true → FollowsTo s Show (Refused Stopped) h
   follows_not_shown stopped = stays h s is follows Show (Refused Stopped) (may_show true (Refused Stopped) stopped (inl refl)) refl
 
-  pub follows_unshown : is_some h.ledger.doubt ≡ false → FollowsTo s Show (Refused OutOfMemory) h
+  pub follows_unshown : is_some h.ledger.log.doubt ≡ false → FollowsTo s Show (Refused OutOfMemory) h
   follows_unshown going = stays h s is follows Show (Refused OutOfMemory) (may_show false (Refused OutOfMemory) going (inr (inl refl))) refl

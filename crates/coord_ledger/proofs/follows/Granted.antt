@@ -1,5 +1,5 @@
 -- Tickets that are granted: they stay so, and a repeat's ticket is.
-use Rattle.std.proofs.Common.{◌≡◌, ℕ, zero, suc, ◌+◌, ◌<◌, Bool, List, [], ◌∷◌, ◌++◌, length, take, Option, Some, None, Ok, refl, sym, ap, ◌∙◌, arith, inl, inr, slice_get}
+use Rattle.std.proofs.Common.{◌≡◌, ℕ, zero, suc, ◌+◌, ◌<◌, List, [], ◌∷◌, ◌++◌, length, take, Option, Some, None, Ok, refl, sym, ap, ◌∙◌, arith, inl, inr, slice_get}
 use Rattle.std.proofs.Math.Seq.{take-append_seam}
 use Rattle.std.proofs.lemmas.List.{take-append-le}
 use Rattle.std.proofs.lemmas.Option.{slice_get_within}
@@ -11,7 +11,9 @@ use Rattle.coord_types.specs.declared.steps.Step.TheVariants.{Order}
 use Rattle.coord_world.proofs.Facade.{kept_reply_law}
 use Rattle.coord_world.specs.declared.verdicts.Verdict.TheVariants.{Fresh, Repeat}
 use Rattle.coord_world.specs.Facade.{StepOutcome, World, fold, next, outs, reply}
-use Rattle.coord_ledger.specs.Facade.{Claim, HoldsTicket, HoldsTickets, IsGranted, Log, accepted_count, reply_of, spent, ticket, verdict, with_settled, with_step}
+use Rattle.coord_ledger.specs.declared.mark.Mark.{Mark}
+use Rattle.coord_ledger.specs.declared.mark.Mark.TheVariants.{New, Good, Torn}
+use Rattle.coord_ledger.specs.Facade.{Claim, HoldsTicket, HoldsTickets, IsGranted, Log, accepted_count, reply_of, log_back, spent, ticket, verdict, with_step}
 use Rattle.coord_ledger.proofs.machine.ConsistentSteps.{reply_is}
 use Rattle.coord_ledger.proofs.machine.Verdicts.{KeepsReply, verdict_repeats}
 
@@ -45,23 +47,26 @@ granted_later log x claim (inl at) =
     inl (record { place = at.place; there = slice_get-append log.trail (x ∷ []) at.place claim.what at.there; answered = ap (λ l. reply (fold log.base l) claim.what) same ∙ at.answered })
 granted_later log x claim (inr kept) = inr kept
 
--- more steps settled
-pub granted_settled : (log : Log) (b : ℕ) (claim : Claim) → IsGranted log claim → IsGranted (with_settled log b) claim
-granted_settled log b claim (inl at) = inl (record { place = at.place; there = at.there; answered = at.answered })
-granted_settled log b claim (inr kept) = inr kept
+-- a flight of b steps is back
+pub granted_back : (log : Log) (b : ℕ) (mark : Mark) (claim : Claim) → IsGranted log claim → IsGranted (log_back log b mark) claim
+granted_back log b New claim granted = granted
+granted_back log b Good claim (inl at) = inl (record { place = at.place; there = at.there; answered = at.answered })
+granted_back log b Good claim (inr kept) = inr kept
+granted_back log b Torn claim (inl at) = inl (record { place = at.place; there = at.there; answered = at.answered })
+granted_back log b Torn claim (inr kept) = inr kept
 
 -- the ticket of the step that is accepted
-pub granted_new : (stopped : Bool) (log : Log) (x : Step) (k : Kind) → verdict stopped log x ≡ Ok (Fresh k) → IsGranted (with_step log x) (record { step = accepted_count log + 1; what = x; kind = k })
-granted_new stopped log x k judged =
+pub granted_new : (log : Log) (x : Step) (k : Kind) → verdict log x ≡ Ok (Fresh k) → IsGranted (with_step log x) (record { step = accepted_count log + 1; what = x; kind = k })
+granted_new log x k judged =
     inl (record {
       place = length log.trail;
       there = slice_get-middle log.trail [] x;
-      answered = ap (λ l. reply (fold log.base l) x) (take-append_seam log.trail (x ∷ [])) ∙ reply_is stopped log x k judged;
+      answered = ap (λ l. reply (fold log.base l) x) (take-append_seam log.trail (x ∷ [])) ∙ reply_is log x k judged;
     })
 
 -- that of a repeat
-pub granted_repeat : (stopped : Bool) (log : Log) (x : Step) (r : Reply) → verdict stopped log x ≡ Ok (Repeat r) → IsGranted log (record { step = r.step; what = x; kind = r.kind })
-granted_repeat stopped log x r judged = by_law (verdict_repeats stopped log x r judged)
+pub granted_repeat : (log : Log) (x : Step) (r : Reply) → verdict log x ≡ Ok (Repeat r) → IsGranted log (record { step = r.step; what = x; kind = r.kind })
+granted_repeat log x r judged = by_law (verdict_repeats log x r judged)
   where
     claim : Claim
     claim = record { step = r.step; what = x; kind = r.kind }

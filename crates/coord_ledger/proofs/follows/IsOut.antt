@@ -9,15 +9,15 @@ use Rattle.coord_world.specs.Facade.{World, fold, outs}
 use Rattle.coord_ledger.specs.code.Holding.{IsCarried, IsLedger, disk_at, listed, out_of, outputs_of, released_from}
 use Rattle.coord_ledger.specs.declared.mark.Mark.{Mark}
 use Rattle.coord_ledger.specs.declared.mark.Mark.TheVariants.{New, Good, Torn}
-use Rattle.coord_ledger.specs.Facade.{FlightState, IsOut, LedgerState, Log, pending, releases_of, settled_count, settled_world, with_accepted, with_out, with_settled}
+use Rattle.coord_ledger.specs.Facade.{FlightState, IsOut, LedgerState, Log, pending, releases_of, settled_count, settled_world, with_accepted, with_doubt, with_out, with_settled}
 use Rattle.coord_ledger.proofs.follows.Given.{listed-length, outputs_of-length, outputs_of-take, released_are}
 use Rattle.coord_ledger.proofs.follows.Kept.{back_good, back_new, back_torn}
 use Rattle.coord_ledger.proofs.machine.Logs.{count_after}
 
 module _ {D : Type 0} where
   -- what a ledger and a flight are to contracts, of their parts
-  abbrev pub ledger_of : Log → ℕ → Option ℕ → Option (Kept D) → LedgerState D
-  ledger_of log out doubt store = record { log = log; out = out_of store out; doubt = doubt; disk = disk_at store }
+  abbrev pub ledger_of : Log → ℕ → Option (Kept D) → LedgerState D
+  ledger_of log out store = record { log = log; out = out_of store out; disk = disk_at store }
 
   abbrev pub flight_of : ℕ → List Step → World → Mark → Kept D → FlightState D
   flight_of first steps world mark kept = record { first = first; steps = steps; world = world; mark = mark; disk = kept.disk }
@@ -26,45 +26,44 @@ module _ {D : Type 0} where
   pub same_flight : (a b : ℕ) (xs ys : List Step) (v w : World) (mark : Mark) (kept : Kept D) → a ≡ b → xs ≡ ys → v ≡ w → flight_of a xs v mark kept ≡ flight_of b ys w mark kept
   same_flight a b xs ys v w mark kept p q r = ap (λ n. flight_of n xs v mark kept) p ∙ ap (λ l. flight_of b l v mark kept) q ∙ ap (λ x. flight_of b ys x mark kept) r
 
-  pub same_away : (log : Log) (out n m : ℕ) (doubt : Option ℕ) (store later : Option (Kept D)) (l : LedgerState D) → ledger_of log out doubt store ≡ l → later ≡ None → n ≡ m → ledger_of log n doubt later ≡ with_out l m
-  same_away log out n m doubt store (Some kept) l seen gone same = cc
-  same_away log out n m doubt store None l seen gone same = let away : Option (Kept D) = None in ap (λ k. ledger_of log k doubt away) same ∙ ap (λ (x : LedgerState D). with_out x m) seen
+  pub same_away : (log : Log) (out n m : ℕ) (store later : Option (Kept D)) (l : LedgerState D) → ledger_of log out store ≡ l → later ≡ None → n ≡ m → ledger_of log n later ≡ with_out l m
+  same_away log out n m store (Some kept) l seen gone same = cc
+  same_away log out n m store None l seen gone same = let away : Option (Kept D) = None in ap (λ k. ledger_of log k away) same ∙ ap (λ (x : LedgerState D). with_out x m) seen
 
-  pub same_accepted : (log : Log) (out : ℕ) (doubt : Option ℕ) (store : Option (Kept D)) (l : LedgerState D) (s : Step) (longer : List Step) → ledger_of log out doubt store ≡ l → longer ≡ log.trail ++ s ∷ [] → ledger_of (record { base = log.base; trail = longer; settled = log.settled }) out doubt store ≡ with_accepted l s
-  same_accepted log out doubt store l s longer seen is =
-      ap (λ t. ledger_of (record { base = log.base; trail = t; settled = log.settled }) out doubt store) is ∙ ap (λ (x : LedgerState D). with_accepted x s) seen
+  pub same_accepted : (log : Log) (out : ℕ) (store : Option (Kept D)) (l : LedgerState D) (s : Step) (longer : List Step) → ledger_of log out store ≡ l → longer ≡ log.trail ++ s ∷ [] → ledger_of (record log { trail = longer }) out store ≡ with_accepted l s
+  same_accepted log out store l s longer seen is = ap (λ t. ledger_of (record log { trail = t }) out store) is ∙ ap (λ (x : LedgerState D). with_accepted x s) seen
 
   -- a ledger of which a flight is out
-  away_of : (log : Log) (kinds : List Kind) (given : List (List Output)) (front settled : World) (out n : ℕ) (doubt : Option ℕ) (store : Option (Kept D)) → IsLedger log kinds given front settled out doubt store → out_of store out ≡ Some n
-      → IsLedger {D = D} log kinds given front settled n doubt None
-  away_of log kinds given front settled out n doubt None is flown = let same : out ≡ n = cc in subst (λ m. IsLedger {D = D} log kinds given front settled m doubt None) same is
-  away_of log kinds given front settled out n doubt (Some kept) is flown = cc
+  away_of : (log : Log) (kinds : List Kind) (given : List (List Output)) (front settled : World) (out n : ℕ) (store : Option (Kept D)) → IsLedger log kinds given front settled out store → out_of store out ≡ Some n
+      → IsLedger {D = D} log kinds given front settled n None
+  away_of log kinds given front settled out n None is flown = let same : out ≡ n = cc in subst (λ m. IsLedger {D = D} log kinds given front settled m None) same is
+  away_of log kinds given front settled out n (Some kept) is flown = cc
 
-  module _ (log : Log) (kinds : List Kind) (given : List (List Output)) (front settled : World) (out : ℕ) (doubt : Option ℕ) (store : Option (Kept D)) (l : LedgerState D) (seen : ledger_of log out doubt store ≡ l) (is : IsLedger log kinds given front settled out doubt store) (f : FlightState D) (kept : Kept D) (later : Option (Kept D)) (carried : IsCarried f kept) (own : IsOut l f) (home : later ≡ Some kept) where
-    parts : IsOut (ledger_of log out doubt store) f
+  module _ (log : Log) (kinds : List Kind) (given : List (List Output)) (front settled : World) (out : ℕ) (store : Option (Kept D)) (l : LedgerState D) (seen : ledger_of log out store ≡ l) (is : IsLedger log kinds given front settled out store) (f : FlightState D) (kept : Kept D) (later : Option (Kept D)) (carried : IsCarried f kept) (own : IsOut l f) (home : later ≡ Some kept) where
+    parts : IsOut (ledger_of log out store) f
     parts = subst (λ x. IsOut x f) (sym seen) own
 
-    away : IsLedger {D = D} log kinds given front settled (length f.steps) doubt None
-    away = away_of log kinds given front settled out (length f.steps) doubt store is parts.size
+    away : IsLedger {D = D} log kinds given front settled (length f.steps) None
+    away = away_of log kinds given front settled out (length f.steps) store is parts.size
 
-    pub took_torn : (n : ℕ) → n ≡ length f.steps → f.mark ≡ Torn → IsLedger log kinds given front settled out (Some n) later
+    pub took_torn : (n : ℕ) → n ≡ length f.steps → f.mark ≡ Torn → IsLedger (with_doubt log n) kinds given front settled out later
     took_torn n size torn =
-        subst (λ o. IsLedger log kinds given front settled out (Some n) o) (sym home)
-        (subst (λ m. IsLedger log kinds given front settled out (Some m) (Some kept)) (sym size) (back_torn log kinds given front settled (length f.steps) out doubt kept f away carried torn parts.world refl parts.steps))
+        subst (λ o. IsLedger (with_doubt log n) kinds given front settled out o) (sym home)
+        (subst (λ m. IsLedger (with_doubt log m) kinds given front settled out (Some kept)) (sym size) (back_torn log kinds given front settled (length f.steps) out kept f away carried torn parts.world refl parts.steps))
 
-    pub took_new : f.mark ≡ New → IsLedger log kinds given front settled out doubt later
-    took_new new = subst (λ o. IsLedger log kinds given front settled out doubt o) (sym home) (back_new log kinds given front settled (length f.steps) out doubt kept f away carried new parts.world)
+    pub took_new : f.mark ≡ New → IsLedger log kinds given front settled out later
+    took_new new = subst (λ o. IsLedger log kinds given front settled out o) (sym home) (back_new log kinds given front settled (length f.steps) out kept f away carried new parts.world)
 
-    pub took_good : (n : ℕ) (left : List (List Output)) (led : World) → n ≡ length f.steps → f.mark ≡ Good → left ≡ drop n given → led ≡ fold f.world f.steps → IsLedger (with_settled log n) kinds left front led out doubt later
+    pub took_good : (n : ℕ) (left : List (List Output)) (led : World) → n ≡ length f.steps → f.mark ≡ Good → left ≡ drop n given → led ≡ fold f.world f.steps → IsLedger (with_settled log n) kinds left front led out later
     took_good n left led size good rest folded =
-        subst (λ o. IsLedger (with_settled log n) kinds left front led out doubt o) (sym home)
-        (subst (λ m. IsLedger (with_settled log m) kinds left front led out doubt (Some kept)) (sym size)
-        (back_good log kinds given left front settled led (length f.steps) out doubt kept f away carried good parts.world refl parts.steps (rest ∙ ap (λ m. drop m given) size) folded))
+        subst (λ o. IsLedger (with_settled log n) kinds left front led out o) (sym home)
+        (subst (λ m. IsLedger (with_settled log m) kinds left front led out (Some kept)) (sym size)
+        (back_good log kinds given left front settled led (length f.steps) out kept f away carried good parts.world refl parts.steps (rest ∙ ap (λ m. drop m given) size) folded))
 
   -- ---- whether it is the own one
 
-  module _ (log : Log) (kinds : List Kind) (given : List (List Output)) (front settled : World) (out : ℕ) (doubt : Option ℕ) (store : Option (Kept D)) (is : IsLedger log kinds given front settled out doubt store) (first : ℕ) (steps : List Step) (world : World) (mark : Mark) (kept : Kept D) where
-    pub own_is : is_some store ≡ false → length steps ≡ out → first ≡ settled_count log + 1 → world ≡ settled → steps ≡ take out (drop log.settled log.trail) → IsOut (ledger_of log out doubt store) (flight_of first steps world mark kept)
+  module _ (log : Log) (kinds : List Kind) (given : List (List Output)) (front settled : World) (out : ℕ) (store : Option (Kept D)) (is : IsLedger log kinds given front settled out store) (first : ℕ) (steps : List Step) (world : World) (mark : Mark) (kept : Kept D) where
+    pub own_is : is_some store ≡ false → length steps ≡ out → first ≡ settled_count log + 1 → world ≡ settled → steps ≡ take out (drop log.settled log.trail) → IsOut (ledger_of log out store) (flight_of first steps world mark kept)
     own_is gone size number at same = record {
       size = out_is store gone ∙ ap Some (sym size);
       first = number;
@@ -76,19 +75,19 @@ module _ {D : Type 0} where
         out_is None gone = refl
         out_is (Some kept) gone = cc
 
-    pub own_steps : length steps ≡ out → IsOut (ledger_of log out doubt store) (flight_of first steps world mark kept) → steps ≡ take out (drop log.settled log.trail)
+    pub own_steps : length steps ≡ out → IsOut (ledger_of log out store) (flight_of first steps world mark kept) → steps ≡ take out (drop log.settled log.trail)
     own_steps size own = own.steps ∙ ap (λ n. take n (pending log)) size
 
   -- ---- what it releases
 
-  module _ (log : Log) (kinds : List Kind) (front settled : World) (out : ℕ) (doubt : Option ℕ) (store : Option (Kept D)) (f : FlightState D) (own : IsOut (ledger_of log out doubt store) f) where
+  module _ (log : Log) (kinds : List Kind) (front settled : World) (out : ℕ) (store : Option (Kept D)) (f : FlightState D) (own : IsOut (ledger_of log out store) f) where
     -- its steps have given something out, each
-    pub given_within : (vs : List (Vec Output Global)) → IsLedger log kinds (listed vs) front settled out doubt store → length f.steps ≤ length vs
+    pub given_within : (vs : List (Vec Output Global)) → IsLedger log kinds (listed vs) front settled out store → length f.steps ≤ length vs
     given_within vs is =
         omega (arith, listed-length vs, ap length is.given_is, outputs_of-length (pending log) (settled_world log), ap length own.steps, length-take (length f.steps) (pending log))
 
     -- and that is what it releases
-    pub gives_out : (given : List (List Output)) (first size : ℕ) → IsLedger log kinds given front settled out doubt store → first ≡ settled_count log + 1 → size ≡ length f.steps → released_from first (take size given) ≡ releases_of (outs f.world f.steps)
+    pub gives_out : (given : List (List Output)) (first size : ℕ) → IsLedger log kinds given front settled out store → first ≡ settled_count log + 1 → size ≡ length f.steps → released_from first (take size given) ≡ releases_of (outs f.world f.steps)
     gives_out given first size is number all =
         let w = settled_world log in
         let steps : take size (pending log) ≡ f.steps = ap (λ n. take n (pending log)) all ∙ sym own.steps in

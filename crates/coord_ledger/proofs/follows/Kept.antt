@@ -1,5 +1,5 @@
 -- What the types of a ledger and of a flight keep, through each call.
-use Rattle.std.proofs.Common.{◌≡◌, ℕ, ◌+◌, ◌≤◌, Bool, true, false, List, [], ◌∷◌, ◌++◌, length, take, drop, Option, Some, None, IfSome, IfNone, Ok, is_some, inl, inr, ⊎_elim, refl, sym, ap, ◌∙◌, subst, arith}
+use Rattle.std.proofs.Common.{◌≡◌, ℕ, ◌+◌, ◌≤◌, Bool, true, List, [], ◌∷◌, ◌++◌, length, take, drop, Option, Some, None, IfSome, IfNone, Ok, inl, inr, ⊎_elim, refl, sym, ap, ◌∙◌, subst, arith}
 use Rattle.std.proofs.Math.Seq.{take-length}
 use Rattle.std.proofs.lemmas.List.{drop-drop, length-append, length-drop, length-take, take-append-le}
 use Rattle.std.specs.List.{AllByRecursion}
@@ -19,12 +19,12 @@ use Rattle.coord_world.specs.Facade.{IsFresh, Legal, StepInRange, World, fold, n
 use Rattle.coord_ledger.specs.code.Holding.{IsAway, IsCarried, IsFlight, IsHome, IsLedger, carried_torn, carried_world, disk_at, doubted, kinds_of, out_of, outputs_of}
 use Rattle.coord_ledger.specs.declared.mark.Mark.{Mark}
 use Rattle.coord_ledger.specs.declared.mark.Mark.TheVariants.{New, Good, Torn}
-use Rattle.coord_ledger.specs.Facade.{FitsOut, FlightState, GivesFlown, GivesSettled, IsConsistentLog, Log, accepted_count, front_world, pending, settled_count, settled_world, verdict, with_settled, with_step, world_after}
+use Rattle.coord_ledger.specs.Facade.{FitsOut, FlightState, GivesFlown, GivesSettled, IsConsistentLog, Log, accepted_count, front_world, pending, settled_count, settled_world, verdict, with_doubt, with_settled, with_step, world_after}
 use Rattle.coord_ledger.proofs.follows.Given.{outputs_of-drop, outputs_of-push}
 use Rattle.coord_ledger.proofs.machine.ConsistentSteps.{accepted_stays}
 use Rattle.coord_ledger.proofs.machine.Verdicts.{verdict_accepts}
 use Rattle.coord_ledger.proofs.machine.ReplyKinds.{kinds_of-length, kinds_of-push}
-use Rattle.coord_ledger.proofs.machine.Logs.{count_after, count_front, fresh_first, front_is, log_stays, pending_with, world-add}
+use Rattle.coord_ledger.proofs.machine.Logs.{count_after, count_front, doubted_stays, fresh_first, front_is, log_stays, pending_with, world-add}
 
 -- an order that is fresh is numbered from 1
 numbered_one : (w settled : World) (s : Step) → IsFresh w settled s → IsNumbered s
@@ -37,10 +37,10 @@ numbered [] settled w fresh = tt
 numbered (s ∷ steps) settled w fresh = (numbered_one w settled s fresh.0, numbered steps settled (next w s) fresh.1)
 
 -- no step of a flight goes away
-away_with : (log : Log) (s : Step) (out : ℕ) → IsAway log out None → IsAway (with_step log s) out None
+away_with : (log : Log) (s : Step) (out : ℕ) → IsAway log out → IsAway (with_step log s) out
 away_with log s out away = record {
   fits = record { some = away.fits.some; most = away.fits.most; within = omega (arith, away.fits.within, length-append log.trail (s ∷ [])) };
-  going = refl;
+  going = away.going;
 }
 
 -- the next steps are not too many
@@ -65,20 +65,20 @@ given_behind log n given same =
 module _ {D : Type 0} where
   -- ---- one step more
 
-  module _ (log : Log) (s : Step) where
-    home_with : (kept : Kept D) → log.settled ≤ length log.trail → IsHome log None kept → IsHome (with_step log s) None kept
-    home_with kept le home = record { world_is = home.world_is ∙ sym (ap (fold log.base) (take-append-le log.settled log.trail (s ∷ []) le)); torn_is = home.torn_is }
+  module _ (log : Log) (s : Step) (going : log.doubt ≡ None) where
+    home_with : (kept : Kept D) → log.settled ≤ length log.trail → IsHome log kept → IsHome (with_step log s) kept
+    home_with kept le home = record { world_is = home.world_is ∙ sym (ap (fold log.base) (take-append-le log.settled log.trail (s ∷ []) le)); torn_is = home.torn_is ∙ ap (doubted log) going ∙ sym (ap (doubted (with_step log s)) going) }
 
-    if_home_with : (store : Option (Kept D)) → log.settled ≤ length log.trail → IfSome store (IsHome log None) → IfSome store (IsHome (with_step log s) None)
+    if_home_with : (store : Option (Kept D)) → log.settled ≤ length log.trail → IfSome store (IsHome log) → IfSome store (IsHome (with_step log s))
     if_home_with None le home = tt
     if_home_with (Some kept) le home = home_with kept le home
 
-    if_away_with : (store : Option (Kept D)) (out : ℕ) → IfNone store (IsAway log out None) → IfNone store (IsAway (with_step log s) out None)
+    if_away_with : (store : Option (Kept D)) (out : ℕ) → IfNone store (IsAway log out) → IfNone store (IsAway (with_step log s) out)
     if_away_with None out away = away_with log s out away
     if_away_with (Some kept) out away = tt
 
-    pub accepted : (kinds : List Kind) (given : List (List Output)) (front settled : World) (out : ℕ) (store : Option (Kept D)) (k : Kind) → IsLedger {D = D} log kinds given front settled out None store → IsConsistentLog (with_step log s)
-        → k ≡ kind (state front) s → IsLedger (with_step log s) (kinds ++ k ∷ []) (given ++ outputs front s ∷ []) (next front s) settled out None store
+    pub accepted : (kinds : List Kind) (given : List (List Output)) (front settled : World) (out : ℕ) (store : Option (Kept D)) (k : Kind) → IsLedger {D = D} log kinds given front settled out store → IsConsistentLog (with_step log s)
+        → k ≡ kind (state front) s → IsLedger (with_step log s) (kinds ++ k ∷ []) (given ++ outputs front s ∷ []) (next front s) settled out store
     accepted kinds given front settled out store k is consistent same =
         let le = is.consistent.within in
         record {
@@ -87,7 +87,7 @@ module _ {D : Type 0} where
           given_is = given_with log s given front le is.consistent is.given_is is.front_is;
           front_is = ap (λ w. next w s) is.front_is ∙ sym (fold-push log.trail log.base s);
           settled_is = is.settled_is ∙ sym (ap (fold log.base) (take-append-le log.settled log.trail (s ∷ []) le));
-          doubt_within = tt;
+          doubt_within = subst (λ o. IfSome o (λ b. (1 ≤ b) × (log.settled + b ≤ length (with_step log s).trail))) (sym going) tt;
           home = if_home_with store le is.home;
           away = if_away_with store out is.away;
         }
@@ -95,9 +95,9 @@ module _ {D : Type 0} where
   -- ---- flights
 
   -- the next steps go out
-  pub flies : (log : Log) (kinds : List Kind) (given : List (List Output)) (front settled : World) (out : ℕ) (doubt : Option ℕ) (kept : Kept D) (steps : List Step) (later : World) → IsLedger log kinds given front settled out doubt (Some kept) → doubt ≡ None
+  pub flies : (log : Log) (kinds : List Kind) (given : List (List Output)) (front settled : World) (out : ℕ) (kept : Kept D) (steps : List Step) (later : World) → IsLedger log kinds given front settled out (Some kept) → log.doubt ≡ None
       → steps ≡ take MAX_BATCH_STEPS (pending log) → later ≡ fold (settled_world log) steps → 1 ≤ length steps → IsFlight steps kept.world (Some later) New kept
-  flies log kinds given front settled out doubt kept steps later is going same led some =
+  flies log kinds given front settled out kept steps later is going same led some =
       let w = settled_world log in
       let world = kept.world in
       let here : world ≡ w = is.home.world_is in
@@ -114,15 +114,15 @@ module _ {D : Type 0} where
       }
 
   -- the store is away with them
-  pub sent_away : (log : Log) (kinds : List Kind) (given : List (List Output)) (front settled : World) (out n : ℕ) (doubt : Option ℕ) (store later : Option (Kept D)) (steps : List Step) → IsLedger log kinds given front settled out doubt store → doubt ≡ None → steps ≡ take MAX_BATCH_STEPS (pending log) → 1 ≤ length steps
-      → later ≡ None → n ≡ length steps → IsLedger log kinds given front settled n doubt later
-  sent_away log kinds given front settled out n doubt store later steps is going same some gone size =
+  pub sent_away : (log : Log) (kinds : List Kind) (given : List (List Output)) (front settled : World) (out n : ℕ) (store later : Option (Kept D)) (steps : List Step) → IsLedger log kinds given front settled out store → log.doubt ≡ None → steps ≡ take MAX_BATCH_STEPS (pending log) → 1 ≤ length steps
+      → later ≡ None → n ≡ length steps → IsLedger log kinds given front settled n later
+  sent_away log kinds given front settled out n store later steps is going same some gone size =
       let fits : FitsOut log n = record {
         some = omega (arith, some, size);
         most = omega (arith, size, ap length same, length_next (pending log));
         within = omega (arith, size, ap length same, length-take MAX_BATCH_STEPS (pending log), length-drop log.settled log.trail, is.consistent.within);
       } in
-      subst (λ o. IsLedger log kinds given front settled n doubt o) (sym gone) (record {
+      subst (λ o. IsLedger log kinds given front settled n o) (sym gone) (record {
         consistent = is.consistent;
         kinds_are = is.kinds_are;
         given_is = is.given_is;
@@ -134,12 +134,12 @@ module _ {D : Type 0} where
       })
 
   -- a flight comes back that was torn
-  pub back_torn : (log : Log) (kinds : List Kind) (given : List (List Output)) (front settled : World) (out any : ℕ) (doubt : Option ℕ) (kept : Kept D) (f : FlightState D) → IsLedger {D = D} log kinds given front settled out doubt None → IsCarried f kept → f.mark ≡ Torn
-      → f.world ≡ settled_world log → out ≡ length f.steps → f.steps ≡ take (length f.steps) (pending log) → IsLedger log kinds given front settled any (Some (length f.steps)) (Some kept)
-  back_torn log kinds given front settled out any doubt kept f is carried torn at size same =
+  pub back_torn : (log : Log) (kinds : List Kind) (given : List (List Output)) (front settled : World) (out any : ℕ) (kept : Kept D) (f : FlightState D) → IsLedger {D = D} log kinds given front settled out None → IsCarried f kept → f.mark ≡ Torn
+      → f.world ≡ settled_world log → out ≡ length f.steps → f.steps ≡ take (length f.steps) (pending log) → IsLedger (with_doubt log (length f.steps)) kinds given front settled any (Some kept)
+  back_torn log kinds given front settled out any kept f is carried torn at size same =
       let flown : fold f.world f.steps ≡ world_after log (log.settled + length f.steps) = ap (λ w. fold w f.steps) at ∙ ap (fold (settled_world log)) same ∙ sym (world-add log log.settled (length f.steps)) in
       record {
-        consistent = is.consistent;
+        consistent = doubted_stays log (length f.steps) is.consistent;
         kinds_are = is.kinds_are;
         given_is = is.given_is;
         front_is = is.front_is;
@@ -153,9 +153,9 @@ module _ {D : Type 0} where
       }
 
   -- one that was not committed
-  pub back_new : (log : Log) (kinds : List Kind) (given : List (List Output)) (front settled : World) (out any : ℕ) (doubt : Option ℕ) (kept : Kept D) (f : FlightState D) → IsLedger {D = D} log kinds given front settled out doubt None → IsCarried f kept → f.mark ≡ New → f.world ≡ settled_world log
-      → IsLedger log kinds given front settled any doubt (Some kept)
-  back_new log kinds given front settled out any doubt kept f is carried new at =
+  pub back_new : (log : Log) (kinds : List Kind) (given : List (List Output)) (front settled : World) (out any : ℕ) (kept : Kept D) (f : FlightState D) → IsLedger {D = D} log kinds given front settled out None → IsCarried f kept → f.mark ≡ New → f.world ≡ settled_world log
+      → IsLedger log kinds given front settled any (Some kept)
+  back_new log kinds given front settled out any kept f is carried new at =
       record {
         consistent = is.consistent;
         kinds_are = is.kinds_are;
@@ -171,9 +171,9 @@ module _ {D : Type 0} where
       }
 
   -- one that was committed
-  pub back_good : (log : Log) (kinds : List Kind) (given left : List (List Output)) (front settled later : World) (out any : ℕ) (doubt : Option ℕ) (kept : Kept D) (f : FlightState D) → IsLedger {D = D} log kinds given front settled out doubt None → IsCarried f kept → f.mark ≡ Good
-      → f.world ≡ settled_world log → out ≡ length f.steps → f.steps ≡ take (length f.steps) (pending log) → left ≡ drop (length f.steps) given → later ≡ fold f.world f.steps → IsLedger (with_settled log (length f.steps)) kinds left front later any doubt (Some kept)
-  back_good log kinds given left front settled later out any doubt kept f is carried good at size same rest led =
+  pub back_good : (log : Log) (kinds : List Kind) (given left : List (List Output)) (front settled later : World) (out any : ℕ) (kept : Kept D) (f : FlightState D) → IsLedger {D = D} log kinds given front settled out None → IsCarried f kept → f.mark ≡ Good
+      → f.world ≡ settled_world log → out ≡ length f.steps → f.steps ≡ take (length f.steps) (pending log) → left ≡ drop (length f.steps) given → later ≡ fold f.world f.steps → IsLedger (with_settled log (length f.steps)) kinds left front later any (Some kept)
+  back_good log kinds given left front settled later out any kept f is carried good at size same rest led =
       let n = length f.steps in
       let within : log.settled + n ≤ length log.trail = omega (arith, is.away.fits.within, size) in
       let flown : fold f.world f.steps ≡ settled_world (with_settled log n) = ap (λ w. fold w f.steps) at ∙ ap (fold (settled_world log)) same ∙ sym (world-add log log.settled n) in
@@ -204,16 +204,19 @@ module _ {D : Type 0} where
       ⊎_elim (λ given. inl (subst (Recovered image) is given)) (λ other. let same : other.0 ≡ later = cc (torn, other.1) in inr (subst (Recovered image) same other.2)) (gives image here)
 
   -- those of a ledger's store at home
-  home_gives : (present : D → Present) (log : Log) (doubt : Option ℕ) (kept : Kept D) → IsHome log doubt kept → ImagesGive present kept → (image : List ℕ) → IsImage (present kept.disk) image → GivesSettled log doubt image
-  home_gives present log None kept home = one_gives present kept (settled_world log) home.world_is home.torn_is
-  home_gives present log (Some b) kept home = either_gives present kept (settled_world log) (world_after log (log.settled + b)) home.world_is home.torn_is
+  home_gives : (present : D → Present) (log : Log) (kept : Kept D) → IsHome log kept → ImagesGive present kept → (image : List ℕ) → IsImage (present kept.disk) image → GivesSettled log log.doubt image
+  home_gives present log kept home = by_doubt log.doubt home.torn_is
+    where
+      by_doubt : (o : Option ℕ) → kept.torn ≡ doubted log o → ImagesGive present kept → (image : List ℕ) → IsImage (present kept.disk) image → GivesSettled log o image
+      by_doubt None = one_gives present kept (settled_world log) home.world_is
+      by_doubt (Some b) = either_gives present kept (settled_world log) (world_after log (log.settled + b)) home.world_is
 
-  pub store_gives : (keeps_model : D → Bool) (present : D → Present) (log : Log) (doubt : Option ℕ) (store : Option (Kept D)) (kept : Kept D) → store ≡ Some kept → IfSome store (IsHome log doubt) → (keeps_model kept.disk ≡ true → ImagesGive present kept)
-      → IfSome (disk_at store) (λ d. keeps_model d ≡ true → (image : List ℕ) → IsImage (present d) image → GivesSettled log doubt image)
-  store_gives keeps_model present log doubt None kept is home gives = tt
-  store_gives keeps_model present log doubt (Some own) kept is home gives =
+  pub store_gives : (keeps_model : D → Bool) (present : D → Present) (log : Log) (store : Option (Kept D)) (kept : Kept D) → store ≡ Some kept → IfSome store (IsHome log) → (keeps_model kept.disk ≡ true → ImagesGive present kept)
+      → IfSome (disk_at store) (λ d. keeps_model d ≡ true → (image : List ℕ) → IsImage (present d) image → GivesSettled log log.doubt image)
+  store_gives keeps_model present log None kept is home gives = tt
+  store_gives keeps_model present log (Some own) kept is home gives =
       let same : kept ≡ own = cc in
-      λ on. home_gives present log doubt own home (subst (λ k. keeps_model k.disk ≡ true → ImagesGive present k) same gives on)
+      λ on. home_gives present log own home (subst (λ k. keeps_model k.disk ≡ true → ImagesGive present k) same gives on)
 
   -- those of a flight's
   pub flown_gives : (present : D → Present) (steps : List Step) (world : World) (next : Option World) (mark : Mark) (kept : Kept D) → IsFlight steps world next mark kept → ImagesGive present kept → (image : List ℕ) → IsImage (present kept.disk) image → GivesFlown mark world steps image
@@ -222,61 +225,64 @@ module _ {D : Type 0} where
   flown_gives present steps world next Torn kept flight = either_gives present kept world (fold world steps) flight.world_is flight.torn_is
 
   -- a ledger that has stopped has its store back
-  pub stopped_is_home : (log : Log) (kinds : List Kind) (given : List (List Output)) (front settled : World) (out : ℕ) (doubt : Option ℕ) (store : Option (Kept D)) → IsLedger log kinds given front settled out doubt store → IfSome doubt (λ _. out_of store out ≡ None)
-  stopped_is_home log kinds given front settled out None store is = tt
-  stopped_is_home log kinds given front settled out (Some b) None is = let none : Some b ≡ None = is.away.going in cc
-  stopped_is_home log kinds given front settled out (Some b) (Some kept) is = refl
+  pub stopped_is_home : (log : Log) (kinds : List Kind) (given : List (List Output)) (front settled : World) (out : ℕ) (store : Option (Kept D)) → IsLedger log kinds given front settled out store → IfSome log.doubt (λ _. out_of store out ≡ None)
+  stopped_is_home log kinds given front settled out None is = subst (λ o. IfSome o (λ _. out_of {D = D} None out ≡ None)) (sym is.away.going) tt
+  stopped_is_home log kinds given front settled out (Some kept) is = by_doubt log.doubt
+    where
+      by_doubt : (o : Option ℕ) → IfSome o (λ _. out_of (Some kept) out ≡ None)
+      by_doubt None = tt
+      by_doubt (Some b) = refl
 
   -- ---- what the front takes
 
-  pub legal_front : (log : Log) (kinds : List Kind) (given : List (List Output)) (front settled : World) (out : ℕ) (doubt : Option ℕ) (store : Option (Kept D)) → IsLedger log kinds given front settled out doubt store → Legal front
-  legal_front log kinds given front settled out doubt store is =
+  pub legal_front : (log : Log) (kinds : List Kind) (given : List (List Output)) (front settled : World) (out : ℕ) (store : Option (Kept D)) → IsLedger log kinds given front settled out store → Legal front
+  legal_front log kinds given front settled out store is =
       subst Legal (ap (fold log.base) (take-length log.trail) ∙ sym is.front_is) (trail_keeps_worlds log.base log.trail (length log.trail) is.consistent.trail).legal
 
-  pub legal_settled : (log : Log) (kinds : List Kind) (given : List (List Output)) (front settled : World) (out : ℕ) (doubt : Option ℕ) (store : Option (Kept D)) → IsLedger log kinds given front settled out doubt store → Legal settled
-  legal_settled log kinds given front settled out doubt store is =
+  pub legal_settled : (log : Log) (kinds : List Kind) (given : List (List Output)) (front settled : World) (out : ℕ) (store : Option (Kept D)) → IsLedger log kinds given front settled out store → Legal settled
+  legal_settled log kinds given front settled out store is =
       subst Legal (sym is.settled_is) (trail_keeps_worlds log.base log.trail log.settled is.consistent.trail).legal
 
-  pub fresh_front : (log : Log) (kinds : List Kind) (given : List (List Output)) (front settled : World) (out : ℕ) (doubt : Option ℕ) (store : Option (Kept D)) (s : Step) (k : Kind) → IsLedger log kinds given front settled out doubt store
-      → verdict (is_some doubt) log s ≡ Ok (Fresh k) → IsFresh front front s
-  fresh_front log kinds given front settled out doubt store s k is said =
-      let fresh = verdict_fresh (front_world log) (settled_world log) s k (verdict_accepts (is_some doubt) log s k said).fresh in
+  pub fresh_front : (log : Log) (kinds : List Kind) (given : List (List Output)) (front settled : World) (out : ℕ) (store : Option (Kept D)) (s : Step) (k : Kind) → IsLedger log kinds given front settled out store
+      → verdict log s ≡ Ok (Fresh k) → IsFresh front front s
+  fresh_front log kinds given front settled out store s k is said =
+      let fresh = verdict_fresh (front_world log) (settled_world log) s k (verdict_accepts log s k said).fresh in
       subst (λ w. IsFresh w w s) (sym is.front_is) (itself (front_world log) (settled_world log) s fresh)
 
   -- the next steps are fresh over the settled world
-  pub fresh_next : (log : Log) (kinds : List Kind) (given : List (List Output)) (front settled : World) (out : ℕ) (doubt : Option ℕ) (store : Option (Kept D)) (steps : List Step) → IsLedger log kinds given front settled out doubt store → steps ≡ take (length steps) (pending log)
+  pub fresh_next : (log : Log) (kinds : List Kind) (given : List (List Output)) (front settled : World) (out : ℕ) (store : Option (Kept D)) (steps : List Step) → IsLedger log kinds given front settled out store → steps ≡ take (length steps) (pending log)
       → AllFresh settled settled steps
-  fresh_next log kinds given front settled out doubt store steps is same =
+  fresh_next log kinds given front settled out store steps is same =
       let w = settled_world log in
       subst (AllFresh settled settled) (sym same) (subst (λ v. AllFresh v v (take (length steps) (pending log))) (sym is.settled_is) (fresh_first (length steps) (pending log) w w is.consistent.fresh))
 
   -- and where no others are behind them, they lead to the front
-  pub front_behind : (log : Log) (kinds : List Kind) (given : List (List Output)) (front settled : World) (out : ℕ) (doubt : Option ℕ) (store : Option (Kept D)) (steps : List Step) → IsLedger log kinds given front settled out doubt store → steps ≡ take (length steps) (pending log)
+  pub front_behind : (log : Log) (kinds : List Kind) (given : List (List Output)) (front settled : World) (out : ℕ) (store : Option (Kept D)) (steps : List Step) → IsLedger log kinds given front settled out store → steps ≡ take (length steps) (pending log)
       → length steps ≡ length (pending log) → front ≡ fold (settled_world log) steps
-  front_behind log kinds given front settled out doubt store steps is same all =
+  front_behind log kinds given front settled out store steps is same all =
       is.front_is ∙ sym (front_is log is.consistent) ∙ ap (fold (settled_world log)) (sym (same ∙ ap (λ n. take n (pending log)) all ∙ take-length (pending log)))
 
   -- with a step that was judged fresh
-  pub took_step : (base : World) (trail : List Step) (done : ℕ) (kinds : List Kind) (given : List (List Output)) (front settled : World) (out : ℕ) (doubt : Option ℕ) (store : Option (Kept D)) (s : Step) (k : Kind) (longer : List Step) (more : List Kind) (also : List (List Output)) (later : World)
-      → IsLedger (record { base = base; trail = trail; settled = done }) kinds given front settled out doubt store → verdict (is_some doubt) (record { base = base; trail = trail; settled = done }) s ≡ Ok (Fresh k) → StepInRange s
-      → longer ≡ trail ++ s ∷ [] → more ≡ kinds ++ k ∷ [] → also ≡ given ++ outputs front s ∷ [] → later ≡ next front s → IsLedger (record { base = base; trail = longer; settled = done }) more also later settled out doubt store
-  took_step base trail done kinds given front settled out (Some b) store s k longer more also later is said named t m g w = cc
-  took_step base trail done kinds given front settled out None store s k longer more also later is said named t m g w =
-      let log : Log = record { base = base; trail = trail; settled = done } in
-      let kind_is : k ≡ kind (state front) s = verdict_kind (front_world log) (settled_world log) s k (verdict_accepts false log s k said).fresh ∙ ap (λ v. kind (state v) s) (sym is.front_is) in
-      let now = accepted log s kinds given front settled out store k is (accepted_stays false log s k is.consistent named said) kind_is in
-      subst (λ l. IsLedger (record { base = base; trail = l; settled = done }) more also later settled out None store) (sym t)
-      (subst (λ l. IsLedger (with_step log s) l also later settled out None store) (sym m)
-      (subst (λ l. IsLedger (with_step log s) (kinds ++ k ∷ []) l later settled out None store) (sym g)
-      (subst (λ v. IsLedger (with_step log s) (kinds ++ k ∷ []) (given ++ outputs front s ∷ []) v settled out None store) (sym w) now)))
+  pub took_step : (base : World) (trail : List Step) (done : ℕ) (doubt : Option ℕ) (kinds : List Kind) (given : List (List Output)) (front settled : World) (out : ℕ) (store : Option (Kept D)) (s : Step) (k : Kind) (longer : List Step) (more : List Kind) (also : List (List Output)) (later : World)
+      → IsLedger (record { base = base; trail = trail; settled = done; doubt = doubt }) kinds given front settled out store → verdict (record { base = base; trail = trail; settled = done; doubt = doubt }) s ≡ Ok (Fresh k) → StepInRange s
+      → longer ≡ trail ++ s ∷ [] → more ≡ kinds ++ k ∷ [] → also ≡ given ++ outputs front s ∷ [] → later ≡ next front s → IsLedger (record { base = base; trail = longer; settled = done; doubt = doubt }) more also later settled out store
+  took_step base trail done (Some b) kinds given front settled out store s k longer more also later is said named t m g w = cc
+  took_step base trail done None kinds given front settled out store s k longer more also later is said named t m g w =
+      let log : Log = record { base = base; trail = trail; settled = done; doubt = None } in
+      let kind_is : k ≡ kind (state front) s = verdict_kind (front_world log) (settled_world log) s k (verdict_accepts log s k said).fresh ∙ ap (λ v. kind (state v) s) (sym is.front_is) in
+      let now = accepted log s refl kinds given front settled out store k is (accepted_stays log s k is.consistent named said) kind_is in
+      subst (λ l. IsLedger (record log { trail = l }) more also later settled out store) (sym t)
+      (subst (λ l. IsLedger (with_step log s) l also later settled out store) (sym m)
+      (subst (λ l. IsLedger (with_step log s) (kinds ++ k ∷ []) l later settled out store) (sym g)
+      (subst (λ v. IsLedger (with_step log s) (kinds ++ k ∷ []) (given ++ outputs front s ∷ []) v settled out store) (sym w) now)))
 
   -- ---- counts
 
-  pub counts_settled : (log : Log) (kinds : List Kind) (given : List (List Output)) (front settled : World) (out : ℕ) (doubt : Option ℕ) (store : Option (Kept D)) → IsLedger log kinds given front settled out doubt store → settled.count ≡ settled_count log
-  counts_settled log kinds given front settled out doubt store is = ap (λ (w : World). w.count) is.settled_is ∙ count_after log log.settled is.consistent.within
+  pub counts_settled : (log : Log) (kinds : List Kind) (given : List (List Output)) (front settled : World) (out : ℕ) (store : Option (Kept D)) → IsLedger log kinds given front settled out store → settled.count ≡ settled_count log
+  counts_settled log kinds given front settled out store is = ap (λ (w : World). w.count) is.settled_is ∙ count_after log log.settled is.consistent.within
 
-  pub counts_front : (log : Log) (kinds : List Kind) (given : List (List Output)) (front settled : World) (out : ℕ) (doubt : Option ℕ) (store : Option (Kept D)) → IsLedger log kinds given front settled out doubt store → front.count ≡ accepted_count log
-  counts_front log kinds given front settled out doubt store is = ap (λ (w : World). w.count) is.front_is ∙ count_front log
+  pub counts_front : (log : Log) (kinds : List Kind) (given : List (List Output)) (front settled : World) (out : ℕ) (store : Option (Kept D)) → IsLedger log kinds given front settled out store → front.count ≡ accepted_count log
+  counts_front log kinds given front settled out store is = ap (λ (w : World). w.count) is.front_is ∙ count_front log
 
-  pub kinds_within : (log : Log) (kinds : List Kind) (given : List (List Output)) (front settled : World) (out : ℕ) (doubt : Option ℕ) (store : Option (Kept D)) → IsLedger log kinds given front settled out doubt store → length kinds ≡ length log.trail
-  kinds_within log kinds given front settled out doubt store is = ap length is.kinds_are ∙ kinds_of-length log.trail log.base
+  pub kinds_within : (log : Log) (kinds : List Kind) (given : List (List Output)) (front settled : World) (out : ℕ) (store : Option (Kept D)) → IsLedger log kinds given front settled out store → length kinds ≡ length log.trail
+  kinds_within log kinds given front settled out store is = ap length is.kinds_are ∙ kinds_of-length log.trail log.base

@@ -6,20 +6,20 @@ use Rattle.coord_world.specs.Facade.{InTurn, StepInRange}
 use Rattle.coord_ledger.specs.declared.events.Event.{Event}
 use Rattle.coord_ledger.specs.declared.events.Event.TheVariants.{Submit, Begin, Commit, Finish, Collect, Resend, Show, Crash}
 use Rattle.coord_ledger.specs.laws.Laws.{AdoptedIsConsistent, RunGoesOn, RunIsConsistent, StaysConsistent}
-use Rattle.coord_ledger.specs.Facade.{EventInRange, IsConsistent, Machine, after, answers, kept, ticket, verdict_on}
+use Rattle.coord_ledger.specs.Facade.{EventInRange, IsConsistent, Machine, after, answers, kept, ticket, verdict}
 use Rattle.coord_ledger.proofs.machine.Lists.{each_one}
 use Rattle.coord_ledger.proofs.machine.ConsistentFlights.{all_begin, all_commit, all_crash, all_finish, all_keep_more}
 use Rattle.coord_ledger.proofs.machine.ConsistentSteps.{all_collect, all_show, all_submit, stays_again, ticket_fits}
 
 all_stay : (s : Machine) (e : Event) → EventInRange e → IsConsistent s → AllByRecursion (λ a. IsConsistent (after s e a)) (answers s e)
-all_stay s (Submit x) named is = all_submit s x (verdict_on s x) is named refl
+all_stay s (Submit x) named is = all_submit s x (verdict s.log x) is named refl
 all_stay s Begin named is = all_begin s is
 all_stay s Commit named is = all_commit s s.flight is
 all_stay s Finish named is = all_finish s s.flight is refl
 all_stay s (Collect i) named is = all_collect s i (ticket s.tickets i) is (ticket_fits s.log.base s.log.trail s.tickets i is.tickets)
 all_stay s Resend named is = (stays_again s is, (is, tt))
 all_stay s Show named is = all_show s is
-all_stay s Crash named is = all_crash s (kept s) is (all_keep_more s s.flight s.doubt is.log.within is.flight is.doubt)
+all_stay s Crash named is = all_crash s (kept s) is (all_keep_more s s.flight s.log.doubt is.log.within is.flight is.doubt)
 
 pub stays_consistent : StaysConsistent
 stays_consistent s e a named is one = each_one (λ a. IsConsistent (after s e a)) (answers s e) a one (all_stay s e named is)

@@ -9,26 +9,26 @@ use Rattle.coord_ledger.specs.declared.events.Answer.TheVariants.{Begun, Nothing
 use Rattle.coord_ledger.specs.declared.events.Event.TheVariants.{Begin, Commit, Finish, Crash}
 use Rattle.coord_ledger.specs.declared.mark.Mark.{Mark}
 use Rattle.coord_ledger.specs.declared.mark.Mark.TheVariants.{New, Good, Torn}
-use Rattle.coord_ledger.specs.Facade.{DoubtFits, FlightFits, FlightOut, IsConsistent, IsOneOf, Log, Machine, after, after_finish, crashed, cut_to, finished, has_stopped, kept, kept_by, kept_with, marked, next_size, pending, settled_count, stays_home, to_begin, to_commit, to_finish, with_flight, with_settled}
+use Rattle.coord_ledger.specs.Facade.{DoubtFits, FlightFits, FlightOut, IsConsistent, IsOneOf, Log, Machine, after, after_finish, crashed, cut_to, finished, kept, kept_by, kept_with, marked, next_size, pending, settled_count, stays_home, to_begin, to_commit, to_finish, with_doubt, with_flight, with_settled}
 use Rattle.coord_ledger.proofs.machine.Lists.{each_one}
-use Rattle.coord_ledger.proofs.machine.Logs.{log_stays}
+use Rattle.coord_ledger.proofs.machine.Logs.{doubted_stays, log_stays}
 use Rattle.coord_ledger.proofs.machine.ConsistentTold.{told_releasing, told_same, told_settled}
 
 -- ---- flights
 
-stays_flight : (s : Machine) (f : Option FlightOut) → IsConsistent s → FlightFits s.log f → DoubtFits s.log f s.doubt → IsConsistent (record s { flight = f })
+stays_flight : (s : Machine) (f : Option FlightOut) → IsConsistent s → FlightFits s.log f → DoubtFits s.log f s.log.doubt → IsConsistent (record s { flight = f })
 stays_flight s f is fits doubt = record { log = is.log; flight = fits; doubt = doubt; seen = is.seen; tickets = is.tickets; told = is.told }
 
 pub all_begin : (s : Machine) → IsConsistent s → AllByRecursion (λ a. IsConsistent (after s Begin a)) (to_begin s)
 all_begin s is =
-    by_test (stays_home (has_stopped s) (is_some s.flight) s.log)
+    by_test (stays_home (is_some s.flight) s.log)
     (λ b. AllByRecursion (λ a. IsConsistent (after s Begin a)) (cond b (Nothing ∷ []) (Begun (next_size s.log) ∷ Refused OutOfMemory ∷ [])))
     (λ _. (is, tt))
     (λ free.
     let f : FlightOut = record { size = next_size s.log; mark = New } in
     let rest : length (pending s.log) ≡ length s.log.trail - s.log.settled = length-drop s.log.settled s.log.trail in
     let some : 1 ≤ length (pending s.log) = grind (arith, nat_tests, free) in
-    (stays_flight s (Some f) is (record { some = grind (arith, some); most = grind (arith, some); within = grind (arith, some, rest, is.log.within) }) (going s.log f s.doubt (grind (arith, nat_tests, free))), (is, tt)))
+    (stays_flight s (Some f) is (record { some = grind (arith, some); most = grind (arith, some); within = grind (arith, some, rest, is.log.within) }) (going s.log f s.log.doubt (grind (arith, nat_tests, free))), (is, tt)))
   where
     going : (log : Log) (f : FlightOut) (o : Option ℕ) → is_some o ≡ false → DoubtFits log (Some f) o
     going log f None none = tt
@@ -49,7 +49,7 @@ all_commit s (Some f) is = by_mark f.mark
     doubts log m (Some g) (Some b) h = h
 
     with_mark : (m : Mark) → IsConsistent (record s { flight = marked m s.flight })
-    with_mark m = stays_flight s (marked m s.flight) is (fits s.log m s.flight is.flight) (doubts s.log m s.flight s.doubt is.doubt)
+    with_mark m = stays_flight s (marked m s.flight) is (fits s.log m s.flight is.flight) (doubts s.log m s.flight s.log.doubt is.doubt)
 
     by_mark : (m : Mark) → AllByRecursion (λ a. IsConsistent (after s Commit a)) (to_commit m)
     by_mark New = (with_mark Good, (with_mark Torn, (is, tt)))
@@ -61,7 +61,7 @@ pub no_doubt : (log : Log) (f : FlightOut) (o : Option ℕ) → DoubtFits log (S
 no_doubt log f None fits = refl
 no_doubt log f (Some b) fits = absurd fits
 
-stays_settled : (s : Machine) (b : ℕ) → IsConsistent s → s.log.settled + b ≤ length s.log.trail → s.doubt ≡ None → IsConsistent (after_finish s b Good)
+stays_settled : (s : Machine) (b : ℕ) → IsConsistent s → s.log.settled + b ≤ length s.log.trail → s.log.doubt ≡ None → IsConsistent (after_finish s b Good)
 stays_settled s b is le none =
     record {
       log = log_stays.settled s.log b is.log le;
@@ -73,7 +73,14 @@ stays_settled s b is le none =
     }
 
 stays_torn : (s : Machine) (b : ℕ) → IsConsistent s → s.log.settled + b ≤ length s.log.trail → IsConsistent (after_finish s b Torn)
-stays_torn s b is le = record { log = is.log; flight = tt; doubt = le; seen = is.seen; tickets = is.tickets; told = is.told }
+stays_torn s b is le = record {
+  log = doubted_stays s.log b is.log;
+  flight = tt;
+  doubt = le;
+  seen = is.seen;
+  tickets = is.tickets;
+  told = told_same s.log (with_doubt s.log b) s.released s.replied refl refl refl is.told;
+}
 
 pub all_finish : (s : Machine) (f : Option FlightOut) → IsConsistent s → s.flight ≡ f → AllByRecursion (λ a. IsConsistent (after s Finish a)) (with_flight f (λ g. to_finish (settled_count s.log) g.size g.mark))
 all_finish s None is out = (is, tt)
@@ -82,8 +89,8 @@ all_finish s (Some f) is out = by_mark f.mark refl
     fits : FlightFits s.log (Some f)
     fits = subst (FlightFits s.log) out is.flight
 
-    none : s.doubt ≡ None
-    none = no_doubt s.log f s.doubt (subst (λ o. DoubtFits s.log o s.doubt) out is.doubt)
+    none : s.log.doubt ≡ None
+    none = no_doubt s.log f s.log.doubt (subst (λ o. DoubtFits s.log o s.log.doubt) out is.doubt)
 
     back : (m : Mark) → f.mark ≡ m → IsConsistent (after_finish s f.size m) → IsConsistent (finished s s.flight)
     back m e is = subst (λ o. IsConsistent (finished s o)) (sym out) (subst (λ x. IsConsistent (after_finish s f.size x)) (sym e) is)
@@ -118,7 +125,7 @@ all_keep_more s (Some f) o within fits doubt = by_mark f.mark
     by_mark Torn = (none, (all, tt))
 
 pub kept_more : (s : Machine) (n : ℕ) → IsConsistent s → IsOneOf n (kept s) → KeepsMore s n
-kept_more s n is one = each_one (KeepsMore s) (kept s) n one (all_keep_more s s.flight s.doubt is.log.within is.flight is.doubt)
+kept_more s n is one = each_one (KeepsMore s) (kept s) n one (all_keep_more s s.flight s.log.doubt is.log.within is.flight is.doubt)
 
 stays_crashed : (s : Machine) (k : ℕ) → IsConsistent s → s.log.settled + k ≤ length s.log.trail → IsConsistent (crashed s (s.log.settled + k))
 stays_crashed s k is le =

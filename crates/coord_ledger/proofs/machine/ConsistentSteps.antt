@@ -1,5 +1,5 @@
 -- The machine stays consistent as steps are accepted, collected, sent again and shown.
-use Rattle.std.proofs.Common.{◌≡◌, ℕ, zero, suc, ◌+◌, ◌≤◌, Bool, List, [], ◌∷◌, ◌++◌, length, Option, Some, None, Ok, Err, refl, sym, subst, arith, cond, nat_le, Result}
+use Rattle.std.proofs.Common.{◌≡◌, ℕ, zero, suc, ◌+◌, ◌≤◌, List, [], ◌∷◌, ◌++◌, length, Option, Some, None, Ok, Err, refl, sym, subst, arith, cond, nat_le, Result}
 use Rattle.std.specs.List.{AllByRecursion}
 use Rattle.std.proofs.lemmas.Bool.Decides.{nat_tests}
 use Rattle.std.proofs.lemmas.List.{length-append, take-append-le}
@@ -14,7 +14,7 @@ use Rattle.coord_world.specs.declared.verdicts.Verdict.TheVariants.{Fresh, Repea
 use Rattle.coord_world.specs.Facade.{StepInRange, World, reply}
 use Rattle.coord_ledger.specs.declared.events.Answer.TheVariants.{Collected, Refused, Shown, Waiting}
 use Rattle.coord_ledger.specs.declared.events.Event.TheVariants.{Collect, Show}
-use Rattle.coord_ledger.specs.Facade.{DoubtFits, FlightFits, FlightOut, IsConsistent, IsConsistentLog, IsReplyOf, Log, Machine, TicketFits, accepted_count, after, after_submit, front_world, has_stopped, resent, settled_count, settled_world, spent, ticket, to_collect, to_show, to_submit, verdict, verdict_on, with_step, with_ticket}
+use Rattle.coord_ledger.specs.Facade.{DoubtFits, FlightFits, FlightOut, IsConsistent, IsConsistentLog, IsReplyOf, Log, Machine, TicketFits, accepted_count, after, after_submit, front_world, has_stopped, resent, settled_count, settled_world, spent, ticket, to_collect, to_show, to_submit, verdict, with_step, with_ticket}
 use Rattle.coord_view.specs.Shown.{shown}
 use Rattle.coord_ledger.proofs.machine.Verdicts.{verdict_accepts, verdict_repeats}
 use Rattle.coord_ledger.proofs.machine.Lists.{all_both}
@@ -61,34 +61,34 @@ stays_step s x is log =
     record {
       log = log;
       flight = flight_later s.log (with_step s.log x) s.flight refl longer is.flight;
-      doubt = doubt_later s.log (with_step s.log x) s.flight s.doubt refl longer is.doubt;
+      doubt = doubt_later s.log (with_step s.log x) s.flight s.log.doubt refl longer is.doubt;
       seen = is.seen;
       tickets = tickets_later s.log.base s.log.trail (x ∷ []) s.tickets is.tickets;
       told = told_same s.log (with_step s.log x) s.released s.replied refl refl (take-append-le s.log.settled s.log.trail (x ∷ []) is.log.within) is.told;
     }
 
 -- the reply to the step that is accepted
-pub reply_is : (stopped : Bool) (log : Log) (x : Step) (k : Kind) → verdict stopped log x ≡ Ok (Fresh k) → reply (front_world log) x ≡ record { step = accepted_count log + 1; kind = k }
-reply_is stopped log x k is =
+pub reply_is : (log : Log) (x : Step) (k : Kind) → verdict log x ≡ Ok (Fresh k) → reply (front_world log) x ≡ record { step = accepted_count log + 1; kind = k }
+reply_is log x k is =
     let count : (front_world log).count + 1 ≡ accepted_count log + 1 = omega (arith, count_front log) in
-    let same = sym (verdict_kind (front_world log) (settled_world log) x k (verdict_accepts stopped log x k is).fresh) in
+    let same = sym (verdict_kind (front_world log) (settled_world log) x k (verdict_accepts log x k is).fresh) in
     λ i. record { step = count i; kind = same i }
 
 -- the log with it
-pub accepted_stays : (stopped : Bool) (log : Log) (x : Step) (k : Kind) → IsConsistentLog log → StepInRange x → verdict stopped log x ≡ Ok (Fresh k) → IsConsistentLog (with_step log x)
-accepted_stays stopped log x k is named judged =
-    let accepted = verdict_accepts stopped log x k judged in
+pub accepted_stays : (log : Log) (x : Step) (k : Kind) → IsConsistentLog log → StepInRange x → verdict log x ≡ Ok (Fresh k) → IsConsistentLog (with_step log x)
+accepted_stays log x k is named judged =
+    let accepted = verdict_accepts log x k judged in
     log_stays.accepted log x is named accepted.room (verdict_fresh (front_world log) (settled_world log) x k accepted.fresh)
 
-pub all_submit : (s : Machine) (x : Step) (v : Result Verdict Refusal) → IsConsistent s → StepInRange x → verdict_on s x ≡ v → AllByRecursion (λ a. IsConsistent (after_submit s x v a)) (to_submit (accepted_count s.log + 1) v)
+pub all_submit : (s : Machine) (x : Step) (v : Result Verdict Refusal) → IsConsistent s → StepInRange x → verdict s.log x ≡ v → AllByRecursion (λ a. IsConsistent (after_submit s x v a)) (to_submit (accepted_count s.log + 1) v)
 all_submit s x (Ok (Fresh k)) is named judged = (
   stays_ticket (record s { log = with_step s.log x }) (record { step = accepted_count s.log + 1; kind = k })
-      (stays_step s x is (accepted_stays (has_stopped s) s.log x k is.log named judged))
-      (subst (IsReplyOf s.log.base (s.log.trail ++ x ∷ [])) (reply_is (has_stopped s) s.log x k judged) (reply_last s.log.base s.log.trail x)),
+      (stays_step s x is (accepted_stays s.log x k is.log named judged))
+      (subst (IsReplyOf s.log.base (s.log.trail ++ x ∷ [])) (reply_is s.log x k judged) (reply_last s.log.base s.log.trail x)),
   (is, tt),
 )
 all_submit s x (Ok (Repeat r)) is named judged =
-    let keeps = verdict_repeats (has_stopped s) s.log x r judged in
+    let keeps = verdict_repeats s.log x r judged in
     (stays_ticket s r is (subst (IsReplyOf s.log.base s.log.trail) keeps.reply (kept_reply s.log.base s.log.trail keeps.client keeps.last keeps.there)), tt)
 all_submit s x (Err e) is named judged = (is, tt)
 
@@ -116,6 +116,6 @@ stays_again s is = record { log = is.log; flight = is.flight; doubt = is.doubt; 
 
 pub all_show : (s : Machine) → IsConsistent s → AllByRecursion (λ a. IsConsistent (after s Show a)) (to_show s)
 all_show s is =
-    by_test (has_stopped s) (λ b. AllByRecursion (λ a. IsConsistent (after s Show a)) (cond b (Refused Stopped ∷ []) (Shown (shown (accepted_count s.log) (settled_world s.log)) ∷ Refused OutOfMemory ∷ [])))
+    by_test (has_stopped s.log) (λ b. AllByRecursion (λ a. IsConsistent (after s Show a)) (cond b (Refused Stopped ∷ []) (Shown (shown (accepted_count s.log) (settled_world s.log)) ∷ Refused OutOfMemory ∷ [])))
     (λ _. (is, tt))
     (λ _. (record { log = is.log; flight = is.flight; doubt = is.doubt; seen = omega arith; tickets = is.tickets; told = is.told }, (is, tt)))

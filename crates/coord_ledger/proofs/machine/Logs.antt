@@ -12,7 +12,7 @@ use Rattle.coord_world.specs.laws.Trails.{IsTrail}
 use Rattle.coord_world.specs.Facade.{IsFresh, StepInRange, World, accepts, fold, next}
 use Rattle.coord_ledger.specs.laws.Laws.{LogStays}
 use Rattle.coord_ledger.specs.laws.Moving.{MovedIsConsistent}
-use Rattle.coord_ledger.specs.Facade.{IsConsistentLog, Log, accepted_count, cut_to, front_world, is_full, moved, pending, settled_count, settled_world, with_settled, with_step, world_after}
+use Rattle.coord_ledger.specs.Facade.{IsConsistentLog, Log, accepted_count, cut_to, front_world, is_full, moved, pending, settled_count, settled_world, with_doubt, with_settled, with_step, world_after}
 
 -- ---- counts
 
@@ -112,6 +112,11 @@ module _ (log : Log) (b : ℕ) (is : IsConsistentLog log) (le : log.settled + b 
             (subst (λ v. AllFresh v v (drop b steps)) (sym (world-add log log.settled b))
             (subst (λ l. AllFresh (fold w l) (fold w (take b steps)) (drop b steps)) (take-take b b steps (omega arith)) later));
       }
+
+-- ---- in doubt
+
+pub doubted_stays : (log : Log) (b : ℕ) → IsConsistentLog log → IsConsistentLog (with_doubt log b)
+doubted_stays log b is = record { trail = is.trail; within = is.within; few = is.few; fresh = is.fresh }
 
 -- ---- the first steps alone
 

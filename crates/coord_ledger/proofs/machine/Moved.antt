@@ -1,5 +1,5 @@
 -- A machine whose base is moved along its settled steps gives the same answers.
-use Rattle.std.proofs.Common.{◌≡◌, ℕ, ◌+◌, ◌-◌, ◌≤◌, Bool, false, List, [], ◌∷◌, ◌++◌, map, length, take, drop, Option, Some, None, Ok, Err, refl, sym, ap, subst, arith, cond, is_some, nat_le, Result, ◌||◌, ◌==◌, min}
+use Rattle.std.proofs.Common.{◌≡◌, ℕ, ◌+◌, ◌-◌, ◌≤◌, false, List, [], ◌∷◌, ◌++◌, map, length, take, drop, Option, Some, None, Ok, Err, refl, sym, ap, subst, arith, cond, is_some, nat_le, Result, ◌||◌, ◌==◌, min}
 use Rattle.std.specs.List.{AllByRecursion}
 use Rattle.std.proofs.lemmas.List.{drop-append-le, take-append-le, take-take}
 use Rattle.coord_types.specs.declared.limits.TheConstants.{MAX_BATCH_STEPS, MAX_PENDING}
@@ -18,7 +18,7 @@ use Rattle.coord_ledger.specs.declared.events.Event.TheVariants.{Submit, Begin, 
 use Rattle.coord_ledger.specs.declared.mark.Mark.{Mark}
 use Rattle.coord_ledger.specs.declared.mark.Mark.TheVariants.{New, Good, Torn}
 use Rattle.coord_ledger.specs.laws.Moving.{CrashReopens, MovedAnswersAlike, MovedGoesOn, with_base_moved}
-use Rattle.coord_ledger.specs.Facade.{FlightOut, IsConsistent, IsConsistentLog, Log, Machine, accepted_count, after, after_finish, after_submit, answers, crashed, finished, has_stopped, is_crash, kept_by, kept_with, moved, next_size, pending, releases_of, resent, settled_count, settled_world, stays_home, ticket, to_collect, to_commit, to_finish, to_submit, unless_full, verdict, verdict_on, with_flight, with_settled, with_step, world_after}
+use Rattle.coord_ledger.specs.Facade.{FlightOut, IsConsistent, IsConsistentLog, Log, Machine, accepted_count, after, after_finish, after_submit, answers, crashed, finished, has_stopped, is_crash, kept_by, kept_with, log_back, moved, next_size, pending, releases_of, resent, settled_count, settled_world, stays_home, ticket, to_collect, to_commit, to_finish, to_submit, unless_full, verdict, with_flight, with_settled, with_step, world_after}
 use Rattle.coord_view.specs.Shown.{shown}
 use Rattle.coord_ledger.proofs.machine.Lists.{each_one}
 use Rattle.coord_ledger.proofs.machine.Logs.{moved_accepted, moved_count, moved_front, moved_pending, moved_settled, none_behind}
@@ -44,22 +44,28 @@ kept_counts c d f o c' d' e = by_flight f o
     by_flight (Some f) o = by_mark f.size f.mark
 
 -- the verdict on a step
-pub moved_verdict : (stopped : Bool) (log : Log) (n : ℕ) (le : n ≤ log.settled) (is : IsConsistentLog log) (x : Step) → verdict stopped (moved log n) x ≡ verdict stopped log x
-moved_verdict stopped log n le is x =
-    λ i. cond stopped (Err Stopped) (unless_full (nat_le MAX_PENDING (length (moved_pending log n le i))) (accepts (moved_front log n le is i) (moved_settled log n le i) x))
+pub moved_verdict : (log : Log) (n : ℕ) (le : n ≤ log.settled) (is : IsConsistentLog log) (x : Step) → verdict (moved log n) x ≡ verdict log x
+moved_verdict log n le is x =
+    λ i. cond (has_stopped log) (Err Stopped) (unless_full (nat_le MAX_PENDING (length (moved_pending log n le i))) (accepts (moved_front log n le is i) (moved_settled log n le i) x))
 
 -- a step more
 pub moved_step : (log : Log) (n : ℕ) (x : Step) → n ≤ length log.trail → with_step (moved log n) x ≡ moved (with_step log x) n
 moved_step log n x le =
     let begins : take n (log.trail ++ x ∷ []) ≡ take n log.trail = take-append-le n log.trail (x ∷ []) le in
     let ends : drop n (log.trail ++ x ∷ []) ≡ drop n log.trail ++ x ∷ [] = drop-append-le n log.trail (x ∷ []) le in
-    λ i. record { base = fold log.base (sym begins i); trail = sym ends i; settled = log.settled - n }
+    λ i. record { base = fold log.base (sym begins i); trail = sym ends i; settled = log.settled - n; doubt = log.doubt }
 
 -- more steps settled
-pub moved_more : (log : Log) (n b : ℕ) → n ≤ log.settled → with_settled (moved log n) b ≡ moved (with_settled log b) n
+moved_more : (log : Log) (n b : ℕ) → n ≤ log.settled → with_settled (moved log n) b ≡ moved (with_settled log b) n
 moved_more log n b le =
     let more : log.settled - n + b ≡ log.settled + b - n = omega (arith, le) in
-    λ i. record { base = world_after log n; trail = drop n log.trail; settled = more i }
+    λ i. record { base = world_after log n; trail = drop n log.trail; settled = more i; doubt = log.doubt }
+
+-- a flight that is back
+pub moved_back : (log : Log) (n b : ℕ) (mark : Mark) → n ≤ log.settled → log_back (moved log n) b mark ≡ moved (log_back log b mark) n
+moved_back log n b New le = refl
+moved_back log n b Good le = moved_more log n b le
+moved_back log n b Torn le = refl
 
 module _ (s : Machine) (n : ℕ) (is : IsConsistent s) (le : n ≤ s.log.settled) where
   accepted : accepted_count (moved s.log n) ≡ accepted_count s.log
@@ -74,18 +80,18 @@ module _ (s : Machine) (n : ℕ) (is : IsConsistent s) (le : n ≤ s.log.settled
   count : settled_count (moved s.log n) ≡ settled_count s.log
   count = moved_count s.log n le is.log
 
-  judged : (x : Step) → verdict_on (with_base_moved s n) x ≡ verdict_on s x
-  judged x = moved_verdict (has_stopped s) s.log n le is.log x
+  judged : (x : Step) → verdict (moved s.log n) x ≡ verdict s.log x
+  judged x = moved_verdict s.log n le is.log x
 
   alike : (e : Event) → answers (with_base_moved s n) e ≡ answers s e
   alike (Submit x) = λ i. to_submit (accepted i + 1) (judged x i)
-  alike Begin = λ i. cond (has_stopped s || is_some s.flight || (length (waiting i) == 0)) (Nothing ∷ []) (Begun (min MAX_BATCH_STEPS (length (waiting i))) ∷ Refused OutOfMemory ∷ [])
+  alike Begin = λ i. cond (has_stopped s.log || is_some s.flight || (length (waiting i) == 0)) (Nothing ∷ []) (Begun (min MAX_BATCH_STEPS (length (waiting i))) ∷ Refused OutOfMemory ∷ [])
   alike Commit = refl
   alike Finish = λ i. with_flight s.flight (λ f. to_finish (count i) f.size f.mark)
   alike (Collect j) = λ i. to_collect (count i) (ticket s.tickets j)
   alike Resend = λ i. Resent (length (again (settled i))) ∷ Refused OutOfMemory ∷ []
-  alike Show = λ i. cond (has_stopped s) (Refused Stopped ∷ []) (Shown (shown (accepted i) (settled i)) ∷ Refused OutOfMemory ∷ [])
-  alike Crash = kept_counts s.log.base.count s.log.settled s.flight s.doubt (moved s.log n).base.count (s.log.settled - n) count
+  alike Show = λ i. cond (has_stopped s.log) (Refused Stopped ∷ []) (Shown (shown (accepted i) (settled i)) ∷ Refused OutOfMemory ∷ [])
+  alike Crash = kept_counts s.log.base.count s.log.settled s.flight s.log.doubt (moved s.log n).base.count (s.log.settled - n) count
 
   on_submit : (x : Step) (v : Result Verdict Refusal) → AllByRecursion (λ a. after_submit (with_base_moved s n) x v a ≡ with_base_moved (after_submit s x v a) n) (to_submit (accepted_count s.log + 1) v)
   on_submit x (Ok (Fresh k)) =
@@ -125,9 +131,9 @@ module _ (s : Machine) (n : ℕ) (is : IsConsistent s) (le : n ≤ s.log.settled
 
   on_event : (e : Event) → is_crash e ≡ false → AllByRecursion (λ a. after (with_base_moved s n) e a ≡ with_base_moved (after s e a) n) (answers s e)
   on_event (Submit x) calm =
-      subst (λ u. AllByRecursion (λ a. after_submit (with_base_moved s n) x u a ≡ with_base_moved (after_submit s x (verdict_on s x) a) n) (to_submit (accepted_count s.log + 1) (verdict_on s x))) (sym (judged x)) (on_submit x (verdict_on s x))
+      subst (λ u. AllByRecursion (λ a. after_submit (with_base_moved s n) x u a ≡ with_base_moved (after_submit s x (verdict s.log x) a) n) (to_submit (accepted_count s.log + 1) (verdict s.log x))) (sym (judged x)) (on_submit x (verdict s.log x))
   on_event Begin calm =
-      by_test (stays_home (has_stopped s) (is_some s.flight) s.log)
+      by_test (stays_home (is_some s.flight) s.log)
       (λ b. AllByRecursion (λ a. after (with_base_moved s n) Begin a ≡ with_base_moved (after s Begin a) n) (cond b (Nothing ∷ []) (Begun (next_size s.log) ∷ Refused OutOfMemory ∷ [])))
       (λ _. (refl, tt)) (λ _. (refl, (refl, tt)))
   on_event Commit calm = on_flight Commit s.flight (λ f. to_commit f.mark) refl (λ f. on_committed f.mark)
@@ -135,7 +141,7 @@ module _ (s : Machine) (n : ℕ) (is : IsConsistent s) (le : n ≤ s.log.settled
   on_event (Collect j) calm = on_collect j (ticket s.tickets j)
   on_event Resend calm = ((λ i. record (with_base_moved s n) { released = s.released ++ resent (settled i) }), (refl, tt))
   on_event Show calm =
-      by_test (has_stopped s)
+      by_test (has_stopped s.log)
       (λ b. AllByRecursion (λ a. after (with_base_moved s n) Show a ≡ with_base_moved (after s Show a) n) (cond b (Refused Stopped ∷ []) (Shown (shown (accepted_count s.log) (settled_world s.log)) ∷ Refused OutOfMemory ∷ [])))
       (λ _. (refl, tt)) (λ _. ((λ i. record (with_base_moved s n) { seen = count i }), (refl, tt)))
   on_event Crash calm = let no : ⊥ = cc in absurd no
@@ -149,4 +155,4 @@ moved_goes_on s n e a is le calm one = each_one (λ b. after (with_base_moved s 
 pub crash_reopens : CrashReopens
 crash_reopens s n =
     let none : n - n ≡ 0 = omega arith in
-    λ i. record (crashed s n) { log = record { base = fold s.log.base (take-take n n s.log.trail (omega arith) i); trail = none_behind n s.log.trail i; settled = none i } }
+    λ i. record (crashed s n) { log = record { base = fold s.log.base (take-take n n s.log.trail (omega arith) i); trail = none_behind n s.log.trail i; settled = none i; doubt = None } }

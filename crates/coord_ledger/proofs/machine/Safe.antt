@@ -13,7 +13,7 @@ use Rattle.coord_ledger.specs.declared.mark.Mark.{Mark}
 use Rattle.coord_ledger.specs.declared.mark.Mark.TheVariants.{New, Good, Torn}
 use Rattle.coord_ledger.specs.declared.release.Release.{Release}
 use Rattle.coord_ledger.specs.laws.Laws.{FinishKeepsKept, HasAnswer, KeptIsSafe, PrefixFromImages}
-use Rattle.coord_ledger.specs.Facade.{DoubtFits, FlightOut, GivesOneOf, IsConsistent, IsOneOf, Machine, Survives, accepted_count, after_finish, finished, has_stopped, kept, kept_by, kept_with, next_size, settled_count, settled_world, stays_home, ticket, to_collect, to_commit, to_finish, to_submit, verdict_on, with_flight, world_after}
+use Rattle.coord_ledger.specs.Facade.{DoubtFits, FlightOut, GivesOneOf, IsConsistent, IsOneOf, Machine, Survives, accepted_count, after_finish, finished, has_stopped, kept, kept_by, kept_with, next_size, settled_count, settled_world, stays_home, ticket, to_collect, to_commit, to_finish, to_submit, verdict, with_flight, world_after}
 use Rattle.coord_view.specs.Shown.{shown}
 use Rattle.coord_ledger.proofs.machine.ConsistentFlights.{kept_more, no_doubt}
 use Rattle.coord_ledger.proofs.machine.Lists.{all_raised}
@@ -36,14 +36,14 @@ kept_is_safe s n is one =
     }
 
 -- a flight that comes back changes nothing of that
-finish_keeps : (s : Machine) (f : Option FlightOut) → s.flight ≡ f → DoubtFits s.log f s.doubt → kept (finished s f) ≡ kept_by s.log.settled f s.doubt
-finish_keeps s None is fits = ap (λ o. kept_by s.log.settled o s.doubt) is
+finish_keeps : (s : Machine) (f : Option FlightOut) → s.flight ≡ f → DoubtFits s.log f s.log.doubt → kept (finished s f) ≡ kept_by s.log.settled f s.log.doubt
+finish_keeps s None is fits = ap (λ o. kept_by s.log.settled o s.log.doubt) is
 finish_keeps s (Some f) is fits = by_mark f.mark
   where
-    none : s.doubt ≡ None
-    none = no_doubt s.log f s.doubt fits
+    none : s.log.doubt ≡ None
+    none = no_doubt s.log f s.log.doubt fits
 
-    by_mark : (m : Mark) → kept (after_finish s f.size m) ≡ kept_by s.log.settled (Some (record { size = f.size; mark = m })) s.doubt
+    by_mark : (m : Mark) → kept (after_finish s f.size m) ≡ kept_by s.log.settled (Some (record { size = f.size; mark = m })) s.log.doubt
     by_mark New = ap (kept_by s.log.settled None) none
     by_mark Good = ap (kept_by (s.log.settled + f.size) None) none
     by_mark Torn = refl
@@ -98,12 +98,12 @@ answer_crash s (Some f) o = by_mark f.mark
     by_mark Torn = (Opened (s.log.base.count + s.log.settled), inl refl)
 
 pub has_answer : HasAnswer
-has_answer s (Submit x) = answer_submit (accepted_count s.log + 1) (verdict_on s x)
+has_answer s (Submit x) = answer_submit (accepted_count s.log + 1) (verdict s.log x)
 has_answer s Begin =
-    by_test (stays_home (has_stopped s) (is_some s.flight) s.log) (λ b. IsAnswered (cond b (Nothing ∷ []) (Begun (next_size s.log) ∷ Refused OutOfMemory ∷ []))) (λ _. (_, inl refl)) (λ _. (_, inl refl))
+    by_test (stays_home (is_some s.flight) s.log) (λ b. IsAnswered (cond b (Nothing ∷ []) (Begun (next_size s.log) ∷ Refused OutOfMemory ∷ []))) (λ _. (_, inl refl)) (λ _. (_, inl refl))
 has_answer s Commit = answer_flight s.flight (λ f. to_commit f.mark) (λ f. answer_commit f.mark)
 has_answer s Finish = answer_flight s.flight (λ f. to_finish (settled_count s.log) f.size f.mark) (λ f. answer_finish (settled_count s.log) f.size f.mark)
 has_answer s (Collect i) = answer_collect (settled_count s.log) (ticket s.tickets i)
 has_answer s Resend = (_, inl refl)
-has_answer s Show = by_test (has_stopped s) (λ b. IsAnswered (cond b (Refused Stopped ∷ []) (Shown (shown (accepted_count s.log) (settled_world s.log)) ∷ Refused OutOfMemory ∷ []))) (λ _. (_, inl refl)) (λ _. (_, inl refl))
-has_answer s Crash = answer_crash s s.flight s.doubt
+has_answer s Show = by_test (has_stopped s.log) (λ b. IsAnswered (cond b (Refused Stopped ∷ []) (Shown (shown (accepted_count s.log) (settled_world s.log)) ∷ Refused OutOfMemory ∷ []))) (λ _. (_, inl refl)) (λ _. (_, inl refl))
+has_answer s Crash = answer_crash s s.flight s.log.doubt

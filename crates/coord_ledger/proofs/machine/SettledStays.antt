@@ -16,7 +16,7 @@ use Rattle.coord_ledger.specs.declared.events.Event.TheVariants.{Submit, Begin, 
 use Rattle.coord_ledger.specs.declared.mark.Mark.{Mark}
 use Rattle.coord_ledger.specs.declared.mark.Mark.TheVariants.{New, Good, Torn}
 use Rattle.coord_ledger.specs.laws.Laws.{KeepsSettled, SettledStays}
-use Rattle.coord_ledger.specs.Facade.{FlightOut, IsConsistent, Machine, accepted_count, after, after_finish, after_submit, answers, crashed, finished, has_stopped, kept, next_size, settled_count, settled_world, stays_home, ticket, to_collect, to_commit, to_finish, to_submit, verdict_on, with_flight}
+use Rattle.coord_ledger.specs.Facade.{FlightOut, IsConsistent, Machine, accepted_count, after, after_finish, after_submit, answers, crashed, finished, has_stopped, kept, next_size, settled_count, settled_world, stays_home, ticket, to_collect, to_commit, to_finish, to_submit, verdict, with_flight}
 use Rattle.coord_view.specs.Shown.{shown}
 use Rattle.coord_ledger.proofs.machine.ConsistentFlights.{KeepsMore, all_keep_more}
 use Rattle.coord_ledger.proofs.machine.Lists.{each_one}
@@ -71,9 +71,9 @@ keeps_crash s [] all = tt
 keeps_crash s (n ∷ ns) all = (crash_keeps s n all.0, keeps_crash s ns all.1)
 
 all_keep : (s : Machine) (e : Event) → IsConsistent s → AllByRecursion (λ a. KeepsSettled s (after s e a)) (answers s e)
-all_keep s (Submit x) is = keeps_submit s x (verdict_on s x) is.log.within
+all_keep s (Submit x) is = keeps_submit s x (verdict s.log x) is.log.within
 all_keep s Begin is =
-    by_test (stays_home (has_stopped s) (is_some s.flight) s.log)
+    by_test (stays_home (is_some s.flight) s.log)
     (λ b. AllByRecursion (λ a. KeepsSettled s (after s Begin a)) (cond b (Nothing ∷ []) (Begun (next_size s.log) ∷ Refused OutOfMemory ∷ [])))
     (λ _. (same s, tt)) (λ _. (record { base = refl; settled = omega arith; steps = refl }, (same s, tt)))
 all_keep s Commit is = keeps_flight s Commit s.flight (λ f. to_commit f.mark) (same s) (λ f. keeps_commit s f.mark)
@@ -81,9 +81,9 @@ all_keep s Finish is = keeps_flight s Finish s.flight (λ f. to_finish (settled_
 all_keep s (Collect i) is = keeps_collect s i (ticket s.tickets i)
 all_keep s Resend is = (record { base = refl; settled = omega arith; steps = refl }, (same s, tt))
 all_keep s Show is =
-    by_test (has_stopped s) (λ b. AllByRecursion (λ a. KeepsSettled s (after s Show a)) (cond b (Refused Stopped ∷ []) (Shown (shown (accepted_count s.log) (settled_world s.log)) ∷ Refused OutOfMemory ∷ [])))
+    by_test (has_stopped s.log) (λ b. AllByRecursion (λ a. KeepsSettled s (after s Show a)) (cond b (Refused Stopped ∷ []) (Shown (shown (accepted_count s.log) (settled_world s.log)) ∷ Refused OutOfMemory ∷ [])))
     (λ _. (same s, tt)) (λ _. (record { base = refl; settled = omega arith; steps = refl }, (same s, tt)))
-all_keep s Crash is = keeps_crash s (kept s) (all_keep_more s s.flight s.doubt is.log.within is.flight is.doubt)
+all_keep s Crash is = keeps_crash s (kept s) (all_keep_more s s.flight s.log.doubt is.log.within is.flight is.doubt)
 
 pub settled_stays : SettledStays
 settled_stays s e a is one = each_one (λ a. KeepsSettled s (after s e a)) (answers s e) a one (all_keep s e is)

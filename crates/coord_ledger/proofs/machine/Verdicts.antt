@@ -8,7 +8,7 @@ use Rattle.coord_node.specs.Steps.{kind}
 use Rattle.coord_types.proofs.Commands.{same_is}
 use Rattle.coord_types.specs.Facade.{get, same_command}
 use Rattle.coord_types.specs.declared.refusals.Refusal.{Refusal}
-use Rattle.coord_types.specs.declared.refusals.Refusal.TheVariants.{Exhausted, PendingFull}
+use Rattle.coord_types.specs.declared.refusals.Refusal.TheVariants.{Exhausted, PendingFull, Stopped}
 use Rattle.coord_types.specs.declared.steps.Command.{Command}
 use Rattle.coord_types.specs.declared.steps.Kind.{Kind}
 use Rattle.coord_types.specs.declared.steps.Reply.{Reply}
@@ -19,8 +19,8 @@ use Rattle.coord_world.proofs.Facade.{by_test}
 use Rattle.coord_world.specs.declared.verdicts.Verdict.{Verdict}
 use Rattle.coord_world.specs.declared.verdicts.Verdict.TheVariants.{Fresh, Repeat}
 use Rattle.coord_world.specs.Facade.{World, accepts, against, is_exhausted, judged, or_repeat, state}
-use Rattle.coord_ledger.specs.laws.Laws.{SubmitOrder}
-use Rattle.coord_ledger.specs.Facade.{Log, front_world, is_full, settled_world, unless_full, verdict}
+use Rattle.coord_ledger.specs.laws.Laws.{SubmitOrder, judged_in_order, unless_repeat}
+use Rattle.coord_ledger.specs.Facade.{Log, front_world, has_stopped, is_full, settled_world, unless_full, verdict}
 
 -- ---- one list of tests
 
@@ -35,15 +35,17 @@ behind_repeat full None n x v = refl
 behind_repeat full (Some o) n x v =
     by_test ((o.number == n) && same_command o.command x) (λ b. unless_full full (cond b (Ok (Repeat o.reply)) v) ≡ cond b (Ok (Repeat o.reply)) (unless_full full v)) (λ _. refl) (λ _. refl)
 
-pub submit_order : SubmitOrder
-submit_order true log s = refl
-submit_order false log (Order c n x) =
+going_order : (log : Log) (s : Step) → unless_full (is_full log) (accepts (front_world log) (settled_world log) s) ≡ unless_repeat (front_world log) s (judged_in_order log s)
+going_order log (Order c n x) =
     let front = front_world log in
     let s = Order c n x in
     behind_repeat (is_full log) (get front.sessions c) n x (judged front (settled_world log) s)
     ∙ ap (or_repeat (get front.sessions c) n x) (full_first (is_full log) (kind (state front) s) ((is_exhausted front, Exhausted) ∷ against front (settled_world log) s))
-submit_order false log (Take p) = full_first (is_full log) (kind (state (front_world log)) (Take p)) ((is_exhausted (front_world log), Exhausted) ∷ against (front_world log) (settled_world log) (Take p))
-submit_order false log (Clear p) = full_first (is_full log) (kind (state (front_world log)) (Clear p)) ((is_exhausted (front_world log), Exhausted) ∷ against (front_world log) (settled_world log) (Clear p))
+going_order log (Take p) = full_first (is_full log) (kind (state (front_world log)) (Take p)) ((is_exhausted (front_world log), Exhausted) ∷ against (front_world log) (settled_world log) (Take p))
+going_order log (Clear p) = full_first (is_full log) (kind (state (front_world log)) (Clear p)) ((is_exhausted (front_world log), Exhausted) ∷ against (front_world log) (settled_world log) (Clear p))
+
+pub submit_order : SubmitOrder
+submit_order log s = ap (cond (has_stopped log) (Err Stopped)) (going_order log s)
 
 -- ---- what a verdict tells
 
@@ -52,9 +54,8 @@ pub record IsAccepted (log : Log) (s : Step) (k : Kind) : Type 0 where
   pub room : is_full log ≡ false
   pub fresh : accepts (front_world log) (settled_world log) s ≡ Ok (Fresh k)
 
-pub verdict_accepts : (stopped : Bool) (log : Log) (s : Step) (k : Kind) → verdict stopped log s ≡ Ok (Fresh k) → IsAccepted log s k
-verdict_accepts true log s k is = cc
-verdict_accepts false log s k is = let both = passes (is_full log) (accepts (front_world log) (settled_world log) s) is in record { room = both.0; fresh = both.1 }
+pub verdict_accepts : (log : Log) (s : Step) (k : Kind) → verdict log s ≡ Ok (Fresh k) → IsAccepted log s k
+verdict_accepts log s k is = by_stop (has_stopped log) is
   where
     passes : (full : Bool) (v : Result Verdict Refusal) → unless_full full v ≡ Ok (Fresh k) → (full ≡ false) × (v ≡ Ok (Fresh k))
     passes full (Ok (Repeat r)) is = cc
@@ -62,6 +63,10 @@ verdict_accepts false log s k is = let both = passes (is_full log) (accepts (fro
     passes false (Ok (Fresh j)) is = (refl, is)
     passes true (Err e) is = cc
     passes false (Err e) is = cc
+
+    by_stop : (stopped : Bool) → cond stopped (Err Stopped) (unless_full (is_full log) (accepts (front_world log) (settled_world log) s)) ≡ Ok (Fresh k) → IsAccepted log s k
+    by_stop true is = cc
+    by_stop false is = let both = passes (is_full log) (accepts (front_world log) (settled_world log) s) is in record { room = both.0; fresh = both.1 }
 
 -- a repeat is one for the front world
 repeat_passes : (full : Bool) (v : Result Verdict Refusal) (r : Reply) → unless_full full v ≡ Ok (Repeat r) → v ≡ Ok (Repeat r)
@@ -114,6 +119,9 @@ accepted_repeat front settled (Order c n x) r is = by_session (get front.session
 accepted_repeat front settled (Take p) r is = absurd (never_repeats (kind (state front) (Take p)) r ((is_exhausted front, Exhausted) ∷ against front settled (Take p)) is)
 accepted_repeat front settled (Clear p) r is = absurd (never_repeats (kind (state front) (Clear p)) r ((is_exhausted front, Exhausted) ∷ against front settled (Clear p)) is)
 
-pub verdict_repeats : (stopped : Bool) (log : Log) (s : Step) (r : Reply) → verdict stopped log s ≡ Ok (Repeat r) → KeepsReply (front_world log) s r
-verdict_repeats true log s r is = cc
-verdict_repeats false log s r is = accepted_repeat (front_world log) (settled_world log) s r (repeat_passes (is_full log) (accepts (front_world log) (settled_world log) s) r is)
+pub verdict_repeats : (log : Log) (s : Step) (r : Reply) → verdict log s ≡ Ok (Repeat r) → KeepsReply (front_world log) s r
+verdict_repeats log s r is = by_stop (has_stopped log) is
+  where
+    by_stop : (stopped : Bool) → cond stopped (Err Stopped) (unless_full (is_full log) (accepts (front_world log) (settled_world log) s)) ≡ Ok (Repeat r) → KeepsReply (front_world log) s r
+    by_stop true is = cc
+    by_stop false is = accepted_repeat (front_world log) (settled_world log) s r (repeat_passes (is_full log) (accepts (front_world log) (settled_world log) s) r is)

@@ -58,24 +58,24 @@ doubted log None = None
 doubted log (Some b) = Some (world_after log (log.settled + b))
 
 -- a store at home has the settled world
-pub record IsHome {D : Type 0} (log : Log) (doubt : Option ℕ) (kept : Kept D) : Type 0 where
+pub record IsHome {D : Type 0} (log : Log) (kept : Kept D) : Type 0 where
   pub world_is : kept.world ≡ settled_world log
-  pub torn_is : kept.torn ≡ doubted log doubt
+  pub torn_is : kept.torn ≡ doubted log log.doubt
 
 -- while it is away, so many of the next steps are out, and the ledger goes on
-pub record IsAway (log : Log) (out : ℕ) (doubt : Option ℕ) : Type 0 where
+pub record IsAway (log : Log) (out : ℕ) : Type 0 where
   pub fits : FitsOut log out
-  pub going : doubt ≡ None
+  pub going : log.doubt ≡ None
 
-pub record IsLedger {D : Type 0} (log : Log) (kinds : List Kind) (given : List (List Output)) (front settled : World) (out : ℕ) (doubt : Option ℕ) (store : Option (Kept D)) : Type 0 where
+pub record IsLedger {D : Type 0} (log : Log) (kinds : List Kind) (given : List (List Output)) (front settled : World) (out : ℕ) (store : Option (Kept D)) : Type 0 where
   pub consistent : IsConsistentLog log
   pub kinds_are : kinds ≡ kinds_of log.base log.trail
   pub given_is : given ≡ outputs_of (settled_world log) (pending log)
   pub front_is : front ≡ front_world log
   pub settled_is : settled ≡ settled_world log
-  pub doubt_within : IfSome doubt (λ b. (1 ≤ b) × (log.settled + b ≤ length log.trail))
-  pub home : IfSome store (IsHome log doubt)
-  pub away : IfNone store (IsAway log out doubt)
+  pub doubt_within : IfSome log.doubt (λ b. (1 ≤ b) × (log.settled + b ≤ length log.trail))
+  pub home : IfSome store (IsHome log)
+  pub away : IfNone store (IsAway log out)
 
 -- ---- a flight
 

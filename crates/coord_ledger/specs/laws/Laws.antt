@@ -19,7 +19,7 @@ use Rattle.coord_ledger.specs.ledger.Follows.{ImagesGive}
 use Rattle.coord_ledger.specs.machine.After.{after, finished}
 use Rattle.coord_ledger.specs.machine.Answers.{IsOneOf, answers, kept}
 use Rattle.coord_ledger.specs.machine.Consistent.{EventInRange, IsConsistent, IsConsistentLog}
-use Rattle.coord_ledger.specs.machine.Log.{Log, cut_to, front_world, settled_world, with_settled, with_step, world_after}
+use Rattle.coord_ledger.specs.machine.Log.{Log, cut_to, front_world, has_stopped, settled_world, with_settled, with_step, world_after}
 use Rattle.coord_ledger.specs.machine.Machine.{Machine, adopted}
 use Rattle.coord_ledger.specs.machine.Runs.{Answered, run}
 use Rattle.coord_ledger.specs.machine.Submits.{is_full, verdict}
@@ -39,7 +39,7 @@ judged_in_order log s = refused_or (Fresh (kind (state (front_world log)) s)) ((
 
 -- a step is refused by the first that applies: Stopped, unless it is a repeat by the first of these tests
 abbrev pub SubmitOrder : Type 0
-SubmitOrder = (stopped : Bool) (log : Log) (s : Step) → verdict stopped log s ≡ (if stopped then Err Stopped else unless_repeat (front_world log) s (judged_in_order log s))
+SubmitOrder = (log : Log) (s : Step) → verdict log s ≡ (if has_stopped log then Err Stopped else unless_repeat (front_world log) s (judged_in_order log s))
 
 -- ---- logs
 

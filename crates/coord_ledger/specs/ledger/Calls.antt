@@ -18,7 +18,7 @@ use Rattle.coord_ledger.specs.declared.mark.Mark.TheVariants.{New, Good, Torn}
 use Rattle.coord_ledger.specs.declared.release.Release.{Release}
 use Rattle.coord_ledger.specs.ledger.Follows.{IsOut}
 use Rattle.coord_ledger.specs.ledger.State.{Claim, FlightState, LedgerState}
-use Rattle.coord_ledger.specs.machine.After.{doubt_back, log_back, releases_of}
+use Rattle.coord_ledger.specs.machine.After.{log_back, releases_of}
 use Rattle.coord_ledger.specs.machine.Answers.{stays_home}
 use Rattle.coord_ledger.specs.machine.Log.{Log, front_world, pending, settled_count, settled_world, with_step, world_after}
 use Rattle.coord_ledger.specs.machine.Submits.{verdict}
@@ -27,13 +27,9 @@ use Rattle.coord_ledger.specs.machine.Submits.{verdict}
 abbrev pub claimed : Step → Reply → Claim
 claimed what reply = record { step = reply.step; what = what; kind = reply.kind }
 
--- what it says to a step, memory aside
-abbrev pub ledger_verdict : {D : Type 0} → LedgerState D → Step → Result Verdict Refusal
-ledger_verdict l s = verdict (is_some l.doubt) l.log s
-
 -- with one more step accepted
 abbrev pub with_accepted : {D : Type 0} → LedgerState D → Step → LedgerState D
-with_accepted l s = record { log = with_step l.log s; out = l.out; doubt = l.doubt; disk = l.disk }
+with_accepted l s = record l { log = with_step l.log s }
 
 -- the claim of the ticket that was given
 abbrev pub claim_of : Handed → Claim
@@ -49,20 +45,20 @@ RefusesStep refusal (Err why) = refusal ≡ why
 -- a fresh step is accepted
 pub record IsAccepted {D : Type 0} (l : LedgerState D) (s : Step) (claim : Claim) (new : LedgerState D) : Type 0 where
   pub kind : Kind
-  pub judged : ledger_verdict l s ≡ Ok (Fresh kind)
+  pub judged : verdict l.log s ≡ Ok (Fresh kind)
   pub claims : claim ≡ claimed s (reply (front_world l.log) s)
   pub now : new ≡ with_accepted l s
 
 -- a repeat is no step
 pub record IsRepeated {D : Type 0} (l : LedgerState D) (s : Step) (claim : Claim) (new : LedgerState D) : Type 0 where
   pub kept : Reply
-  pub judged : ledger_verdict l s ≡ Ok (Repeat kept)
+  pub judged : verdict l.log s ≡ Ok (Repeat kept)
   pub claims : claim ≡ claimed s kept
   pub now : new ≡ l
 
 -- another is refused
 pub record IsRefused {D : Type 0} (l : LedgerState D) (s : Step) (refusal : Refusal) (new : LedgerState D) : Type 0 where
-  pub why : RefusesStep refusal (ledger_verdict l s)
+  pub why : RefusesStep refusal (verdict l.log s)
   pub now : new ≡ l
 
 -- a step that is handed in
@@ -73,7 +69,7 @@ HandedTo l s (Err refusal) new = IsRefused l s refusal new
 
 -- no flight goes out of it
 abbrev pub keeps_store : {D : Type 0} → LedgerState D → Bool
-keeps_store l = stays_home (is_some l.doubt) (is_some l.out) l.log
+keeps_store l = stays_home (is_some l.out) l.log
 
 -- the flight that goes out next, with this disk
 abbrev pub next_flight : {D : Type 0} → Log → D → FlightState D
@@ -81,11 +77,11 @@ next_flight log disk = record { first = settled_count log + 1; steps = take MAX_
 
 -- its store is out with so many steps
 abbrev pub with_out : {D : Type 0} → LedgerState D → ℕ → LedgerState D
-with_out l n = record { log = l.log; out = Some n; doubt = l.doubt; disk = None }
+with_out l n = record l { out = Some n; disk = None }
 
 -- a flight of n steps is back
 abbrev pub taken_back : {D : Type 0} → LedgerState D → ℕ → Mark → D → LedgerState D
-taken_back l n mark disk = record { log = log_back l.log n mark; out = None; doubt = doubt_back l.doubt n mark; disk = Some disk }
+taken_back l n mark disk = record { log = log_back l.log n mark; out = None; disk = Some disk }
 
 -- what a flight releases when it is taken back
 abbrev pub releases_in : {D : Type 0} → FlightState D → Mark → List Release
@@ -116,4 +112,4 @@ GivesSettled log (Some b) bytes = GivesEither (settled_world log) (world_after l
 
 -- so does each image of a ledger's disk, while its store is at home
 abbrev pub LedgerGives : {D : Type 0} → (D → Present) → LedgerState D → D → Type 0
-LedgerGives present l disk = (image : List ℕ) → IsImage (present disk) image → GivesSettled l.log l.doubt image
+LedgerGives present l disk = (image : List ℕ) → IsImage (present disk) image → GivesSettled l.log l.log.doubt image

@@ -122,6 +122,6 @@ after_crash b = record { claims = []; seen = 0; released = b.released }
 -- made anew over a world that a crash may leave
 pub record IsLeftByCrash {D : Type 0} (d new : Driven D) : Type 0 where
   pub steps : ℕ
-  pub allowed : IsOneOf steps (kept_by d.ledger.log.settled (option_map flight_out d.flight) d.ledger.doubt)
+  pub allowed : IsOneOf steps (kept_by d.ledger.log.settled (option_map flight_out d.flight) d.ledger.log.doubt)
   pub disk : D
   pub is : new ≡ at_home (ledger_over (world_after d.ledger.log steps) disk)

@@ -67,7 +67,6 @@ pub record Follows {D : Type 0} (h : Held D) (s : Machine) : Type 0 where
   pub by : ℕ
   pub within : by ≤ s.log.settled
   pub log : h.ledger.log ≡ moved s.log by
-  pub doubt : h.ledger.doubt ≡ s.doubt
   pub flight : option_map flight_out h.flight ≡ s.flight
   pub own : HoldsFlight h.ledger h.flight
   pub tickets : HoldsTickets h.ledger.log h.claims s.tickets

@@ -1,5 +1,5 @@
 -- A ledger, a flight and a ticket as contracts see them.
-use Rattle.std.specs.Prelude.{◌≡◌, ◌⊎◌, ℕ, ◌≤◌, List, [], Option, Some, None, slice_get}
+use Rattle.std.specs.Prelude.{◌≡◌, ◌⊎◌, ℕ, ◌≤◌, List, Option, Some, None, slice_get}
 use Rattle.coord_types.specs.Table.{get}
 use Rattle.coord_types.specs.declared.steps.Kind.{Kind}
 use Rattle.coord_types.specs.declared.steps.Reply.{Reply}
@@ -9,12 +9,11 @@ use Rattle.coord_types.specs.declared.steps.Step.TheVariants.{Order}
 use Rattle.coord_world.specs.Facade.{World, reply}
 use Rattle.coord_ledger.specs.declared.mark.Mark.{Mark}
 use Rattle.coord_ledger.specs.machine.Log.{Log, log_over, settled_count, world_after}
-use Rattle.coord_ledger.specs.machine.Machine.{Machine}
+use Rattle.coord_ledger.specs.machine.Machine.{Machine, machine_over}
 
 pub record LedgerState (D : Type 0) : Type 0 where
   pub log : Log
   pub out : Option ℕ  -- how many steps are out in a flight
-  pub doubt : Option ℕ  -- it has stopped, and so many steps behind the settled ones are on the disk, or none of them
   pub disk : Option D  -- the store's; None while it is out
 
 pub record FlightState (D : Type 0) : Type 0 where
@@ -26,11 +25,11 @@ pub record FlightState (D : Type 0) : Type 0 where
 
 -- a ledger that was just made of a store with this world and disk
 abbrev pub ledger_over : {D : Type 0} → World → D → LedgerState D
-ledger_over w disk = record { log = log_over w; out = None; doubt = None; disk = Some disk }
+ledger_over w disk = record { log = log_over w; out = None; disk = Some disk }
 
 -- the event machine at the start of a run
 abbrev pub started : {D : Type 0} → LedgerState D → Machine
-started l = record { log = l.log; flight = None; doubt = l.doubt; tickets = []; seen = 0; released = []; replied = [] }
+started l = machine_over l.log
 
 -- what a ticket claims: that this step has this number, and is answered with this kind
 pub record Claim : Type 0 where

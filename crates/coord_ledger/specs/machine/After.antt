@@ -15,9 +15,9 @@ use Rattle.coord_ledger.specs.declared.events.Event.TheVariants.{Submit, Begin, 
 use Rattle.coord_ledger.specs.declared.mark.Mark.{Mark}
 use Rattle.coord_ledger.specs.declared.mark.Mark.TheVariants.{New, Good, Torn}
 use Rattle.coord_ledger.specs.declared.release.Release.{Release}
-use Rattle.coord_ledger.specs.machine.Answers.{verdict_on}
-use Rattle.coord_ledger.specs.machine.Log.{Log, cut_to, pending, settled_count, settled_world, with_settled, with_step}
+use Rattle.coord_ledger.specs.machine.Log.{Log, cut_to, pending, settled_count, settled_world, with_doubt, with_settled, with_step}
 use Rattle.coord_ledger.specs.machine.Machine.{FlightOut, Machine}
+use Rattle.coord_ledger.specs.machine.Submits.{verdict}
 
 -- ---- what is released
 
@@ -50,17 +50,11 @@ abbrev pub marked : Mark → Option FlightOut → Option FlightOut
 marked mark None = None
 marked mark (Some f) = Some (record { size = f.size; mark = mark })
 
--- a flight of b steps is back: one that was committed settles its steps
+-- a flight of b steps is back: one that was committed settles its steps, and a torn one leaves them in doubt
 abbrev pub log_back : Log → ℕ → Mark → Log
 log_back log b New = log
 log_back log b Good = with_settled log b
-log_back log b Torn = log
-
--- a torn one stops the ledger
-abbrev pub doubt_back : Option ℕ → ℕ → Mark → Option ℕ
-doubt_back doubt b New = doubt
-doubt_back doubt b Good = doubt
-doubt_back doubt b Torn = Some b
+log_back log b Torn = with_doubt log b
 
 -- and what is settled is released
 abbrev pub released_back : List Release → Log → ℕ → Mark → List Release
@@ -69,7 +63,7 @@ released_back released log b Good = released ++ settling_releases log b
 released_back released log b Torn = released
 
 abbrev pub after_finish : Machine → ℕ → Mark → Machine
-after_finish s b mark = record s { log = log_back s.log b mark; flight = None; doubt = doubt_back s.doubt b mark; released = released_back s.released s.log b mark }
+after_finish s b mark = record s { log = log_back s.log b mark; flight = None; released = released_back s.released s.log b mark }
 
 abbrev pub finished : Machine → Option FlightOut → Machine
 finished s None = s
@@ -82,11 +76,11 @@ spent (t ∷ ts) (suc i) = t ∷ spent ts i
 
 -- the trail is cut to its first n steps, and all else but what was given out is gone
 abbrev pub crashed : Machine → ℕ → Machine
-crashed s n = record s { log = cut_to s.log n; flight = None; doubt = None; tickets = []; seen = 0 }
+crashed s n = record s { log = cut_to s.log n; flight = None; tickets = []; seen = 0 }
 
 -- an answer that isn't named here leaves all as it was
 abbrev pub after : Machine → Event → Answer → Machine
-after s (Submit x) answer = after_submit s x (verdict_on s x) answer
+after s (Submit x) answer = after_submit s x (verdict s.log x) answer
 after s Begin (Begun b) = record s { flight = Some (record { size = b; mark = New }) }
 after s Commit Committed = record s { flight = marked Good s.flight }
 after s Commit (Failed fault.Device) = record s { flight = marked Torn s.flight }

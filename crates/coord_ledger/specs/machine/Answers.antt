@@ -4,7 +4,6 @@ use Rattle.coord_types.specs.declared.limits.TheConstants.{MAX_BATCH_STEPS}
 use Rattle.coord_types.specs.declared.refusals.Refusal.{Refusal}
 use Rattle.coord_types.specs.declared.refusals.Refusal.TheVariants.{Stopped, OutOfMemory}
 use Rattle.coord_types.specs.declared.steps.Reply.{Reply}
-use Rattle.coord_types.specs.declared.steps.Step.{Step}
 use Rattle.coord_store.specs.declared.faults.CommitFault.TheVariants as fault
 use Rattle.coord_world.specs.declared.verdicts.Verdict.{Verdict}
 use Rattle.coord_world.specs.declared.verdicts.Verdict.TheVariants.{Fresh, Repeat}
@@ -15,17 +14,14 @@ use Rattle.coord_ledger.specs.declared.events.Event.{Event}
 use Rattle.coord_ledger.specs.declared.events.Event.TheVariants.{Submit, Begin, Commit, Finish, Collect, Resend, Show, Crash}
 use Rattle.coord_ledger.specs.declared.mark.Mark.{Mark}
 use Rattle.coord_ledger.specs.declared.mark.Mark.TheVariants.{New, Good, Torn}
-use Rattle.coord_ledger.specs.machine.Log.{Log, accepted_count, pending, settled_count, settled_world}
-use Rattle.coord_ledger.specs.machine.Machine.{FlightOut, Machine, has_stopped}
+use Rattle.coord_ledger.specs.machine.Log.{Log, accepted_count, has_stopped, pending, settled_count, settled_world}
+use Rattle.coord_ledger.specs.machine.Machine.{FlightOut, Machine}
 use Rattle.coord_view.specs.Shown.{shown}
 use Rattle.coord_ledger.specs.machine.Submits.{verdict}
 
 abbrev pub IsOneOf : {A : Type 0} → A → List A → Type 0
 IsOneOf x [] = ⊥
 IsOneOf x (y ∷ ys) = (x ≡ y) ⊎ IsOneOf x ys
-
-abbrev pub verdict_on : Machine → Step → Result Verdict Refusal
-verdict_on s x = verdict (has_stopped s) s.log x
 
 -- a fresh step gets the next number, and a repeat that of its step
 abbrev pub to_submit : ℕ → Result Verdict Refusal → List Answer
@@ -38,11 +34,11 @@ abbrev pub next_size : Log → ℕ
 next_size log = min MAX_BATCH_STEPS (length (pending log))
 
 -- no flight goes out: it has stopped, one is out, or nothing is pending
-abbrev pub stays_home : Bool → Bool → Log → Bool
-stays_home stopped is_out log = stopped || is_out || (length (pending log) == 0)
+abbrev pub stays_home : Bool → Log → Bool
+stays_home is_out log = has_stopped log || is_out || (length (pending log) == 0)
 
 abbrev pub to_begin : Machine → List Answer
-to_begin s = if stays_home (has_stopped s) (is_some s.flight) s.log then Nothing ∷ [] else Begun (next_size s.log) ∷ Refused OutOfMemory ∷ []
+to_begin s = if stays_home (is_some s.flight) s.log then Nothing ∷ [] else Begun (next_size s.log) ∷ Refused OutOfMemory ∷ []
 
 abbrev pub to_commit : Mark → List Answer
 to_commit New = Committed ∷ Failed fault.Device ∷ Failed fault.OutOfMemory ∷ []
@@ -71,7 +67,7 @@ to_collect count None = NoTicket ∷ []
 to_collect count (Some reply) = (if nat_le reply.step count then Collected reply else Waiting) ∷ []
 
 abbrev pub to_show : Machine → List Answer
-to_show s = if has_stopped s then Refused Stopped ∷ [] else Shown (shown (accepted_count s.log) (settled_world s.log)) ∷ Refused OutOfMemory ∷ []
+to_show s = if has_stopped s.log then Refused Stopped ∷ [] else Shown (shown (accepted_count s.log) (settled_world s.log)) ∷ Refused OutOfMemory ∷ []
 
 -- how many steps a crash may keep where d are settled and b more are out with this mark
 abbrev pub kept_with : ℕ → ℕ → Mark → List ℕ
@@ -87,11 +83,11 @@ kept_by d (Some f) doubt = kept_with d f.size f.mark
 
 -- how many steps of the trail a crash may keep
 abbrev pub kept : Machine → List ℕ
-kept s = kept_by s.log.settled s.flight s.doubt
+kept s = kept_by s.log.settled s.flight s.log.doubt
 
 -- all that an event may be answered
 abbrev pub answers : Machine → Event → List Answer
-answers s (Submit x) = to_submit (accepted_count s.log + 1) (verdict_on s x)
+answers s (Submit x) = to_submit (accepted_count s.log + 1) (verdict s.log x)
 answers s Begin = to_begin s
 answers s Commit = with_flight s.flight (λ f. to_commit f.mark)
 answers s Finish = with_flight s.flight (λ f. to_finish (settled_count s.log) f.size f.mark)

@@ -56,7 +56,7 @@ pub record IsTold (log : Log) (released : List Release) (replied : List Reply) :
 pub record IsConsistent (s : Machine) : Type 0 where
   pub log : IsConsistentLog s.log
   pub flight : FlightFits s.log s.flight
-  pub doubt : DoubtFits s.log s.flight s.doubt
+  pub doubt : DoubtFits s.log s.flight s.log.doubt
   pub seen : s.seen ≤ settled_count s.log
   pub tickets : AllByRecursion (TicketFits s.log.base s.log.trail) s.tickets
   pub told : IsTold s.log s.released s.replied

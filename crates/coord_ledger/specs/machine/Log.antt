@@ -1,5 +1,5 @@
--- What was accepted since a base, and how much of that is settled.
-use Rattle.std.specs.Prelude.{ℕ, ◌+◌, ◌-◌, List, [], ◌∷◌, ◌++◌, length, take, drop}
+-- What was accepted since a base, how much of that is settled, and what is in doubt.
+use Rattle.std.specs.Prelude.{ℕ, ◌+◌, ◌-◌, Bool, List, [], ◌∷◌, ◌++◌, length, take, drop, Option, Some, None, is_some}
 use Rattle.coord_types.specs.declared.steps.Step.{Step}
 use Rattle.coord_world.specs.Facade.{World, fold}
 
@@ -7,6 +7,7 @@ pub record Log : Type 0 where
   pub base : World
   pub trail : List Step  -- the accepted steps since the base
   pub settled : ℕ  -- how many of them are settled
+  pub doubt : Option ℕ  -- it has stopped, and so many steps behind the settled ones are on the disk, or none of them
 
 -- the world after the first n steps
 abbrev pub world_after : Log → ℕ → World
@@ -34,22 +35,29 @@ settled_steps log = take log.settled log.trail
 abbrev pub pending : Log → List Step
 pending log = drop log.settled log.trail
 
+abbrev pub has_stopped : Log → Bool
+has_stopped log = is_some log.doubt
+
 -- no step since this world
 abbrev pub log_over : World → Log
-log_over w = record { base = w; trail = []; settled = 0 }
+log_over w = record { base = w; trail = []; settled = 0; doubt = None }
 
 -- one more step is accepted
 abbrev pub with_step : Log → Step → Log
-with_step log s = record { base = log.base; trail = log.trail ++ s ∷ []; settled = log.settled }
+with_step log s = record log { trail = log.trail ++ s ∷ [] }
 
 -- the next b steps are settled
 abbrev pub with_settled : Log → ℕ → Log
-with_settled log b = record { base = log.base; trail = log.trail; settled = log.settled + b }
+with_settled log b = record log { settled = log.settled + b }
 
--- the first n steps alone, all of them settled
+-- whether the next b steps are on the disk isn't known: it stops
+abbrev pub with_doubt : Log → ℕ → Log
+with_doubt log b = record log { doubt = Some b }
+
+-- the first n steps alone, all of them settled, and none in doubt
 abbrev pub cut_to : Log → ℕ → Log
-cut_to log n = record { base = log.base; trail = take n log.trail; settled = n }
+cut_to log n = record { base = log.base; trail = take n log.trail; settled = n; doubt = None }
 
 -- the same steps seen from the world after the first n of them
 abbrev pub moved : Log → ℕ → Log
-moved log n = record { base = world_after log n; trail = drop n log.trail; settled = log.settled - n }
+moved log n = record log { base = world_after log n; trail = drop n log.trail; settled = log.settled - n }

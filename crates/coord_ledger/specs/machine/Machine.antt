@@ -1,5 +1,5 @@
 -- The state of the event machine.
-use Rattle.std.specs.Prelude.{ℕ, Bool, List, [], Option, None, is_some}
+use Rattle.std.specs.Prelude.{ℕ, List, [], Option, None}
 use Rattle.coord_types.specs.declared.steps.Reply.{Reply}
 use Rattle.coord_world.specs.protocol.NumberedWorld.{World}
 use Rattle.coord_ledger.specs.declared.mark.Mark.{Mark}
@@ -14,15 +14,15 @@ pub record FlightOut : Type 0 where
 pub record Machine : Type 0 where
   pub log : Log
   pub flight : Option FlightOut
-  pub doubt : Option ℕ  -- it has stopped, and so many steps behind the settled ones are on the disk, or none of them
   pub tickets : List (Option Reply)  -- in the order in which they were given; None once one was collected
   pub seen : ℕ  -- the settled count that was shown last
   pub released : List Release  -- all that ever was released, in order
   pub replied : List Reply  -- all that ever was collected, in order
 
-abbrev pub has_stopped : Machine → Bool
-has_stopped s = is_some s.doubt
+-- a log of which no flight is out, and of which nothing was given out
+abbrev pub machine_over : Log → Machine
+machine_over log = record { log = log; flight = None; tickets = []; seen = 0; released = []; replied = [] }
 
 -- a ledger that was just made of a store of this world
 abbrev pub adopted : World → Machine
-adopted w = record { log = log_over w; flight = None; doubt = None; tickets = []; seen = 0; released = []; replied = [] }
+adopted w = machine_over (log_over w)

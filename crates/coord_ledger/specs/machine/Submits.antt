@@ -7,7 +7,7 @@ use Rattle.coord_types.specs.declared.steps.Step.{Step}
 use Rattle.coord_world.specs.declared.verdicts.Verdict.{Verdict}
 use Rattle.coord_world.specs.declared.verdicts.Verdict.TheVariants.{Fresh, Repeat}
 use Rattle.coord_world.specs.protocol.Acceptance.{accepts}
-use Rattle.coord_ledger.specs.machine.Log.{Log, front_world, pending, settled_world}
+use Rattle.coord_ledger.specs.machine.Log.{Log, front_world, has_stopped, pending, settled_world}
 
 -- no more steps may be pending
 abbrev pub is_full : Log → Bool
@@ -19,5 +19,5 @@ unless_full full (Ok (Repeat reply)) = Ok (Repeat reply)
 unless_full full (Ok (Fresh kind)) = if full then Err PendingFull else Ok (Fresh kind)
 unless_full full (Err refusal) = if full then Err PendingFull else Err refusal
 
-abbrev pub verdict : Bool → Log → Step → Result Verdict Refusal
-verdict stopped log s = if stopped then Err Stopped else unless_full (is_full log) (accepts (front_world log) (settled_world log) s)
+abbrev pub verdict : Log → Step → Result Verdict Refusal
+verdict log s = if has_stopped log then Err Stopped else unless_full (is_full log) (accepts (front_world log) (settled_world log) s)

@@ -135,7 +135,6 @@ pub record IsLeft {D : Type 0} (s : Machine) (l : LedgerState D) : Type 0 where
   pub by : ℕ
   pub within : by ≤ s.log.settled
   pub log : l.log ≡ moved s.log by
-  pub doubt : l.doubt ≡ s.doubt
   pub home : l.out ≡ None
 
 -- A run from a ledger at home that hasn't stopped, on a disk that it has led from one state to another: the answers are

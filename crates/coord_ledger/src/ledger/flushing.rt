@@ -65,7 +65,7 @@ impl<D: Disk> Ledger<D> {
     /// Sends the store out with the next steps, which lead to this world.
     fn send_out(&mut self, steps: Vec<Step>, later: World) -> Flight<D>
         requires home { is_some self.old.disk ≡ true }
-        requires going { self.old.doubt ≡ None }
+        requires going { self.old.log.doubt ≡ None }
         requires next { steps.items ≡ take MAX_BATCH_STEPS (pending self.old.log) }
         requires some { 1 ≤ length steps.items }
         requires led { later ≡ fold (settled_world self.old.log) steps.items }

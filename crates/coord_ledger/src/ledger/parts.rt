@@ -31,7 +31,7 @@ impl<D: Disk> Ledger<D> {
     pub fn into_parts(self) -> Result<(Store<D>, World, Vec<Step>, u64), Self>
         ensures home { IfOk result (λ parts. self.disk ≡ Some parts.0.disk) }
         ensures world { IfOk result (λ parts. parts.0.world ≡ settled_world self.log) }
-        ensures stopped { IfOk result (λ parts. has_stopped parts.0 ≡ is_some self.doubt) }
+        ensures stopped { IfOk result (λ parts. has_stopped parts.0 ≡ is_some self.log.doubt) }
         ensures base { IfOk result (λ parts. parts.1 ≡ self.log.base) }
         ensures trail { IfOk result (λ parts. parts.2.items ≡ self.log.trail) }
         ensures settled { IfOk result (λ parts. parts.3 ≡ settled_count self.log) }
@@ -78,9 +78,9 @@ impl<D: Disk> Ledger<D> {
     pub fn log_is_consistent(&self)
         ensures log { IsConsistentLog self.now.log }
         ensures out { IfSome self.now.out (FitsOut self.now.log) }
-        ensures doubted { IfSome self.now.doubt (λ size. (1 ≤ size) ×
+        ensures doubted { IfSome self.now.log.doubt (λ size. (1 ≤ size) ×
             (self.now.log.settled + size ≤ length self.now.log.trail)) }
-        ensures stopped { IfSome self.now.doubt (λ _. self.now.out ≡ None) }
+        ensures stopped { IfSome self.now.log.doubt (λ _. self.now.out ≡ None) }
         ensures home { is_some self.now.out ≡ is_none self.now.disk }
     {
         let _ = &self.base;

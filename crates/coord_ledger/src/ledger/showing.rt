@@ -30,10 +30,10 @@ impl<D: Disk> Ledger<D> {
     /// of `Stopped`, `Behind` (with the settled count) and `OutOfMemory` refuses. What the caller
     /// has seen becomes the settled count.
     pub fn show(&self, seen: &mut Seen) -> Result<View, Refusal>
-        ensures stopped { is_some self.now.doubt ≡ true → result ≡ Err Refusal.Stopped }
-        ensures behind { is_some self.now.doubt ≡ false → settled_count self.now.log < seen.old →
+        ensures stopped { is_some self.now.log.doubt ≡ true → result ≡ Err Refusal.Stopped }
+        ensures behind { is_some self.now.log.doubt ≡ false → settled_count self.now.log < seen.old →
             result ≡ Err (Refusal.Behind (settled_count self.now.log)) }
-        ensures shown { is_some self.now.doubt ≡ false → seen.old ≤ settled_count self.now.log →
+        ensures shown { is_some self.now.log.doubt ≡ false → seen.old ≤ settled_count self.now.log →
             MatchResult result (λ view.
             (view ≡ shown (accepted_count self.now.log) (settled_world self.now.log)) ×
             (seen.new ≡ settled_count self.now.log)) (λ refusal. refusal ≡ OutOfMemory) }

@@ -6,8 +6,9 @@ ghost use Rattle.coord_types.specs.declared.refusals.Refusal.{Refusal as Why};
 ghost use Rattle.coord_types.specs.declared.steps.Kind.{Kind as Sort};
 ghost use Rattle.coord_types.specs.declared.steps.Reply.{Reply as Answered};
 ghost use Rattle.coord_world.specs.protocol.Next.{reply};
-ghost use Rattle.coord_ledger.specs.ledger.Calls.{HandedTo, claimed, ledger_verdict, with_accepted};
+ghost use Rattle.coord_ledger.specs.ledger.Calls.{HandedTo, claimed, with_accepted};
 ghost use Rattle.coord_ledger.specs.machine.Log.{front_world};
+ghost use Rattle.coord_ledger.specs.machine.Submits.{verdict};
 
 use super::Ledger;
 use crate::{Handed, Ticket};
@@ -19,7 +20,7 @@ use std::alloc::AllocError;
 impl<D: Disk> Ledger<D> {
     /// What it says to a step, memory aside.
     fn judge(&self, step: &Step) -> Result<Verdict, Refusal>
-        ensures { result ≡ ledger_verdict self.now step.now }
+        ensures { result ≡ verdict self.now.log step.now }
     {
         if self.doubt.is_some() {
             return Err(Refusal::Stopped);
@@ -36,7 +37,7 @@ impl<D: Disk> Ledger<D> {
 
     /// Adds a step that is fresh, to be answered with this kind, and gives its reply.
     fn accept(&mut self, step: Step, kind: Kind) -> Result<Reply, AllocError>
-        requires { ledger_verdict self.old step ≡ Ok (Verdict.Fresh kind) }
+        requires { verdict self.old.log step ≡ Ok (Verdict.Fresh kind) }
         ensures accepted { IfOk result (λ _. self.new ≡ with_accepted self.old step) }
         ensures replied { IfOk result (λ r. r ≡ reply (front_world self.old.log) step) }
         ensures err { OnErr result (self.new ≡ self.old) }
@@ -76,14 +77,14 @@ impl<D: Disk> Ledger<D> {
     /// settled; a repeat comes before it), `Exhausted`, the step's own refusals in the order of
     /// `World::judge`, and `OutOfMemory`.
     pub fn submit(&mut self, step: Step) -> Result<Ticket, Refusal>
-        ensures fresh { (kind : Sort) → ledger_verdict self.old step ≡ Ok (Verdict.Fresh kind) →
+        ensures fresh { (kind : Sort) → verdict self.old.log step ≡ Ok (Verdict.Fresh kind) →
             MatchResult result (λ ticket.
             (ticket ≡ claimed step (reply (front_world self.old.log) step)) ×
             (self.new ≡ with_accepted self.old step)) (λ refusal. refusal ≡ OutOfMemory) }
         ensures repeated { (kept : Answered) →
-            ledger_verdict self.old step ≡ Ok (Verdict.Repeat kept) →
+            verdict self.old.log step ≡ Ok (Verdict.Repeat kept) →
             IsOkAnd result (λ ticket. (ticket ≡ claimed step kept) × (self.new ≡ self.old)) }
-        ensures refused { (why : Why) → ledger_verdict self.old step ≡ Err why → result ≡ Err why }
+        ensures refused { (why : Why) → verdict self.old.log step ≡ Err why → result ≡ Err why }
         ensures unchanged { OnErr result (self.new ≡ self.old) }
     {
         Ok(self.hand_in(step)?.ticket())

@@ -10,5 +10,5 @@ returns g c first home =
     drives_first g.D.Disk.present g.D.Disk.clock g.D.Disk.left_since g.D.CrashDisk.crashes g.D.Disk.keeps_model first d c.requires
     (subst (λ (x : Driven g.row.D.Denot). HoldsFlight x.ledger x.flight) c.self.view_is c.self.invariant)
     (subst (λ (l : LedgerState g.row.D.Denot). IsConsistentLog l.log) same c.log_is_consistent.ensures.log)
-    (subst (λ (l : LedgerState g.row.D.Denot). IfSome l.doubt (λ b. (1 ≤ b) × (l.log.settled + b ≤ length l.log.trail))) same c.log_is_consistent.ensures.doubted)
+    (subst (λ (l : LedgerState g.row.D.Denot). IfSome l.log.doubt (λ b. (1 ≤ b) × (l.log.settled + b ≤ length l.log.trail))) same c.log_is_consistent.ensures.doubted)
     home (c.survives.ensures nothing_beside)

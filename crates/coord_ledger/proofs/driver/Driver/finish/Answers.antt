@@ -2,7 +2,7 @@ use Rattle.std.proofs.Common.{Some, Ok, sym, ap, ◌∙◌, subst}
 use Rattle.coord_ledger.specs.declared.events.Answer.TheVariants.{Refused}
 use Rattle.coord_ledger.specs.declared.events.Event.TheVariants.{Finish}
 use Rattle.coord_ledger.specs.Facade.{Driven, FinishesTo, Follows, FollowsTo, held}
-use Rattle.coord_ledger.proofs.follows.FollowsCalls.{follows_returned}
+use Rattle.coord_ledger.proofs.follows.FollowsFlights.{follows_back}
 use Rattle.coord_ledger.proofs.drives.Answers.{follows_unfinished}
 use Rattle.coord_ledger.proofs.driver.Driver.finish.Goals as goal
 
@@ -10,7 +10,7 @@ pub returns-in-Ok-clause-answered : goal.returns-in-Ok-clause-answered
 returns-in-Ok-clause-answered g c b s is follows =
     let inside : Follows _ s = subst (λ (d : Driven g.row.D.Denot). Follows (held d b) s) (sym c.self.view_is) follows in
     subst (λ (d : Driven g.row.D.Denot). FinishesTo s b (Ok (Some c.in-Ok.releases)) d) (sym c.over-in-Ok.ensures)
-    (follows_returned _ s c.in-Some.flight c.end_flush.new.self c.in-Ok.releases is inside c.in-Some.is c.in-Ok.ensures.own c.in-Ok.ensures.taken c.in-Ok.ensures.released)
+    (follows_back _ s is inside c.in-Some.flight c.in-Some.is c.end_flush.new.self c.in-Ok.releases c.in-Ok.ensures.taken c.in-Ok.ensures.released)
 
 pub returns-in-Err-clause-answered : goal.returns-in-Err-clause-answered
 returns-in-Err-clause-answered g c b s is follows =

@@ -5,7 +5,7 @@ use Rattle.coord_ledger.proofs.ledger.Ledger.is_collectable.Goals as goal
 
 pub returns-then-ticket-count : goal.returns-then-ticket-count
 returns-then-ticket-count g c =
-    let log : Log = record { base = c.self.inside.base; trail = c.self.inside.trail.items; settled = c.self.inside.done } in
+    let log : Log = record { base = c.self.inside.base; trail = c.self.inside.trail.items; settled = c.self.inside.done; doubt = c.self.inside.doubt } in
     let claim = c.args.ticket.now in
     let step = ap (λ (x : Claim). x.step) c.ticket.view_is in
     let old : claim.step ≤ c.self.inside.base.count = omega (arith, step, c.if-ticket-count.true, c.count.ensures) in

@@ -6,11 +6,11 @@ use Rattle.coord_ledger.proofs.ledger.Ledger.is_settled.Goals as goal
 
 pub stands_at-requires-clause-in_kinds : goal.stands_at-requires-clause-in_kinds
 stands_at-requires-clause-in_kinds g c =
-    omega (arith, c.if-place-self.false, c.self.invariant.consistent.within, kinds_within _ _ _ _ _ _ _ _ c.self.invariant, ap length c.deref-2.ensures.value)
+    omega (arith, c.if-place-self.false, c.self.invariant.consistent.within, kinds_within _ _ _ _ _ _ _ c.self.invariant, ap length c.deref-2.ensures.value)
 
 pub returns : goal.returns
 returns g c =
-    let log : Log = record { base = c.self.inside.base; trail = c.self.inside.trail.items; settled = c.self.inside.done } in
+    let log : Log = record { base = c.self.inside.base; trail = c.self.inside.trail.items; settled = c.self.inside.done; doubt = c.self.inside.doubt } in
     let claim = c.args.ticket.now in
     let place = c.ticket.inside.step - c.count.result - 1 in
     let is = c.self.invariant.consistent in

@@ -18,7 +18,7 @@ module _ (log : Log) (n : ℕ) (items trail : List Step) (size : n ≡ min MAX_B
 
 pub world_behind-requires : goal.world_behind-requires
 world_behind-requires g c =
-    let log : Log = record { base = c.self.inside.base; trail = c.self.inside.trail.items; settled = c.self.inside.done } in
+    let log : Log = record { base = c.self.inside.base; trail = c.self.inside.trail.items; settled = c.self.inside.done; doubt = c.self.inside.doubt } in
     let items = c.in_ok-steps.steps.items in
     let size : c.min-size.result ≡ min MAX_BATCH_STEPS (length (pending log)) = omega (arith, length-drop c.self.inside.done c.self.inside.trail.items) in
     let next = sent_first log c.min-size.result items c.deref.result.now size c.deref.ensures.value (c.in_ok-steps.ensures.items ∙ c.next_steps.ensures) in
@@ -27,7 +27,7 @@ world_behind-requires g c =
 
 pub returns-in-Ok-clause-steps : goal.returns-in-Ok-clause-steps
 returns-in-Ok-clause-steps g c =
-    let log : Log = record { base = c.self.inside.base; trail = c.self.inside.trail.items; settled = c.self.inside.done } in
+    let log : Log = record { base = c.self.inside.base; trail = c.self.inside.trail.items; settled = c.self.inside.done; doubt = c.self.inside.doubt } in
     let size : c.min-size.result ≡ min MAX_BATCH_STEPS (length (pending log)) = omega (arith, length-drop c.self.inside.done c.self.inside.trail.items) in
     sent log c.min-size.result c.in_ok-steps.steps.items c.deref.result.now size c.deref.ensures.value (c.in_ok-steps.ensures.items ∙ c.next_steps.ensures) ∙ ap (λ (l : LedgerState g.row.D.Denot). take MAX_BATCH_STEPS (pending l.log)) c.self.view_is
 

@@ -21,29 +21,29 @@ unreachable-requires g c =
 
 pub invariant_of-result : goal.invariant_of-result
 invariant_of-result g c =
-    let log : Log = record { base = c.self.inside.base; trail = c.self.inside.trail.items; settled = c.self.inside.done } in
+    let log : Log = record { base = c.self.inside.base; trail = c.self.inside.trail.items; settled = c.self.inside.done; doubt = c.self.inside.doubt } in
     let there : c.self.inside.store ≡ Some c.in-Some.store = search rules in
-    let going = ap (λ (l : LedgerState g.row.D.Denot). l.doubt) c.self.view_is ∙ c.requires.going in
+    let going = ap (λ (l : LedgerState g.row.D.Denot). l.log.doubt) c.self.view_is ∙ c.requires.going in
     let same = c.requires.next ∙ sym (ap (λ (l : LedgerState g.row.D.Denot). take MAX_BATCH_STEPS (pending l.log)) c.self.view_is) in
     let led = c.requires.led ∙ sym (ap (λ (l : LedgerState g.row.D.Denot). fold (settled_world l.log) c.args.steps.items) c.self.view_is) in
-    let P : Option (Kept g.row.D.Denot) → Type 0 = λ o. IsLedger log c.self.inside.kinds.items (listed c.self.inside.given.items) c.self.inside.front c.self.inside.settled c.self.inside.out c.self.inside.doubt o in
-    flies log _ _ _ _ _ _ _ _ _ (subst P there c.self.invariant) going same led c.requires.some
+    let P : Option (Kept g.row.D.Denot) → Type 0 = λ o. IsLedger log c.self.inside.kinds.items (listed c.self.inside.given.items) c.self.inside.front c.self.inside.settled c.self.inside.out o in
+    flies log _ _ _ _ _ _ _ _ (subst P there c.self.invariant) going same led c.requires.some
 
 pub invariant_of-self : goal.invariant_of-self
 invariant_of-self g c =
-    let log : Log = record { base = c.self.inside.base; trail = c.self.inside.trail.items; settled = c.self.inside.done } in
-    let going = ap (λ (l : LedgerState g.row.D.Denot). l.doubt) c.self.view_is ∙ c.requires.going in
+    let log : Log = record { base = c.self.inside.base; trail = c.self.inside.trail.items; settled = c.self.inside.done; doubt = c.self.inside.doubt } in
+    let going = ap (λ (l : LedgerState g.row.D.Denot). l.log.doubt) c.self.view_is ∙ c.requires.going in
     let same = c.requires.next ∙ sym (ap (λ (l : LedgerState g.row.D.Denot). take MAX_BATCH_STEPS (pending l.log)) c.self.view_is) in
     let gone : c.take.new.self ≡ None = search rules in
     let size : c.len-size.result ≡ length c.args.steps.items = search rules in
-    sent_away log _ _ _ _ _ _ _ _ _ _ c.self.invariant going same c.requires.some gone size
+    sent_away log _ _ _ _ _ _ _ _ _ c.self.invariant going same c.requires.some gone size
 
 pub returns-clause-flight : goal.returns-clause-flight
 returns-clause-flight g c =
-    let log : Log = record { base = c.self.inside.base; trail = c.self.inside.trail.items; settled = c.self.inside.done } in
+    let log : Log = record { base = c.self.inside.base; trail = c.self.inside.trail.items; settled = c.self.inside.done; doubt = c.self.inside.doubt } in
     let there : c.self.inside.store ≡ Some c.in-Some.store = search rules in
-    let P : Option (Kept g.row.D.Denot) → Type 0 = λ o. IfSome o (IsHome log c.self.inside.doubt) in
-    let at_home : IsHome log c.self.inside.doubt c.in-Some.store = subst P there c.self.invariant.home in
+    let P : Option (Kept g.row.D.Denot) → Type 0 = λ o. IfSome o (IsHome log) in
+    let at_home : IsHome log c.in-Some.store = subst P there c.self.invariant.home in
     let world = at_home.world_is ∙ ap (λ (l : LedgerState g.row.D.Denot). settled_world l.log) c.self.view_is in
     same_flight _ _ _ _ _ _ New c.in-Some.store (ap (λ n. n + 1) c.settled_count-first.ensures.value) c.requires.next world
 
@@ -54,7 +54,7 @@ returns-clause-disk g c =
 
 pub returns-clause-out : goal.returns-clause-out
 returns-clause-out g c =
-    let log : Log = record { base = c.self.inside.base; trail = c.self.inside.trail.items; settled = c.self.inside.done } in
+    let log : Log = record { base = c.self.inside.base; trail = c.self.inside.trail.items; settled = c.self.inside.done; doubt = c.self.inside.doubt } in
     let gone : c.take.new.self ≡ None = search rules in
     let size : c.len-size.result ≡ length c.args.steps.items = search rules in
-    same_away log c.self.inside.out _ _ c.self.inside.doubt c.self.inside.store c.take.new.self _ c.self.view_is gone size
+    same_away log c.self.inside.out _ _ c.self.inside.store c.take.new.self _ c.self.view_is gone size
