@@ -1,4 +1,3 @@
 -- What is printed of all that was read.
 pub mod FirstParts
-pub mod Answers
 pub mod Prints

@@ -6,7 +6,6 @@ pub mod Moments
 pub mod Naming
 pub mod Notes
 pub mod PacketNotes
-pub mod Pending
 mod Puts
 pub mod Showing
 pub mod Since

@@ -1,5 +1,5 @@
 -- Packets that wait, tried one after the other.
-use Rattle.std.proofs.Common.{◌≡◌, true, false, List, [], ◌∷◌, drop, length, Option, Some, None, Result, refl, sym, ap, subst, inl, inr, slice_get}
+use Rattle.std.proofs.Common.{◌≡◌, true, List, [], ◌∷◌, Option, Some, None, Result, refl, sym, ap, subst, inl, slice_get}
 use Rattle.coord_types.specs.declared.packets.Packet.{Packet}
 use Rattle.coord_types.specs.declared.refusals.Refusal.{Refusal}
 use Rattle.coord_engine.specs.Facade.{BenchMoves, TriesAll, has_to_wait, step_of}
@@ -9,19 +9,6 @@ some_is d None = d
 some_is d (Some x) = x
 
 module _ {S : Type 0} (b : BenchMoves S) where
-  pub tries_on : (s m : S) (waiting : List Packet) (p : Packet) (answer : Result (Unit {0}) Refusal) → slice_get waiting 0 ≡ Some p → b.submits s (step_of p) answer m → has_to_wait answer ≡ false
-      → (t : S) (left : List Packet) → TriesAll b m (drop 1 waiting) t left → TriesAll b s waiting t left
-  tries_on s m [] p answer is submitted goes t left more = cc
-  tries_on s m (q ∷ waiting) p answer is submitted goes t left more = (m, answer, subst (λ x. b.submits s (step_of x) answer m) (sym (ap (some_is p) is)) submitted, inr (goes, more))
-
   pub tries_stuck : (s m : S) (waiting : List Packet) (p : Packet) (answer : Result (Unit {0}) Refusal) → slice_get waiting 0 ≡ Some p → b.submits s (step_of p) answer m → has_to_wait answer ≡ true → TriesAll b s waiting m waiting
   tries_stuck s m [] p answer is submitted stays = cc
   tries_stuck s m (q ∷ waiting) p answer is submitted stays = (m, answer, subst (λ x. b.submits s (step_of x) answer m) (sym (ap (some_is p) is)) submitted, inl (stays, refl, refl))
-
-  pub tries_none : (s : S) (waiting : List Packet) → slice_get waiting 0 ≡ None → TriesAll b s waiting s waiting
-  tries_none s [] is = (refl, refl)
-  tries_none s (q ∷ waiting) is = cc
-
-  pub tries_no_more : (s : S) (waiting : List Packet) → length waiting ≡ 0 → TriesAll b s waiting s waiting
-  tries_no_more s [] is = (refl, refl)
-  tries_no_more s (q ∷ waiting) is = cc

@@ -5,7 +5,7 @@ use Rattle.std.proofs.KnownBytes.{Appends-trans, Consumes-trans, Consumes-whole}
 use Rattle.coord_lines.specs.Lines.{Line, extended, lines_on, before_line_feed, behind_line_feed, IsWithin}
 use Rattle.coord_lines.proofs.LinesOn.{lines_on-ended, lines_on-unended, extended-nothing}
 use Rattle.coord_drill.specs.declared.fault.Fault.{Fault}
-use Rattle.coord_drill.specs.Facade.{DrillState, IsOfDisk, IsOfWork, IsOfWriting, LineResponds, MayEndBy, Prints, WritesFirstPart}
+use Rattle.coord_drill.specs.Facade.{DrillState, IsOfDisk, IsOfWork, LineResponds, MayEndBy, Prints, WritesFirstPart}
 use Rattle.coord_drill.proofs.prints.FirstParts.{first_part-longer, first_part-none}
 use Rattle.coord_drill.proofs.does.LineResponds.{line_somehow}
 
@@ -72,10 +72,6 @@ pub disk_is_work : (fault : Fault) → IsOfDisk fault → IsOfWork fault
 disk_is_work fault (inl memory) = ((λ same. cc), (λ same. cc))
 disk_is_work fault (inr device) = ((λ same. cc), (λ same. cc))
 
-pub writing_is_work : (fault : Fault) → IsOfWriting fault → IsOfWork fault
-writing_is_work fault (inl memory) = ((λ same. cc), (λ same. cc))
-writing_is_work fault (inr write) = ((λ same. cc), (λ same. cc))
-
 -- what is asked ends as work on the disk does, at most
 pub ends_as_disk : (opens : Bool) (fault : Fault) → MayEndBy opens fault → IsOfDisk fault
 ends_as_disk true fault of = of
@@ -102,18 +98,3 @@ module _ (r : Result (Unit {0}) Fault) (items : List ℕ) (Piece : List ℕ → 
   -- so is what was written of it
   pub put_cut : (a b : Option (List ℕ)) → WritesFirstPart a b items → (text : List ℕ) × Piece text × WritesFirstPart a b text
   put_cut a b part = (put_first.0, put_first.1, subst (WritesFirstPart a b) (sym put_first.2.1) (first_part-longer a b items put_first.2.0 part))
-
-  -- where it was written whole, that is what was to be printed
-  pub put_printed : (a b : Option (List ℕ)) → Appends a b items → OnOk r ((text : List ℕ) × Appends a b text × ((more rest : List ℕ) → Rest more rest → Whole more (text ++ rest)))
-  put_printed a b h = of_result r printed
-    where
-      of_result : (r : Result (Unit {0}) Fault) → OnOk r ((text : List ℕ) × Appends (Some []) (Some items) text × ((more rest : List ℕ) → Rest more rest → Whole more (text ++ rest))) → OnOk r ((text : List ℕ) × Appends a b text × ((more rest : List ℕ) → Rest more rest → Whole more (text ++ rest)))
-      of_result (Ok x) done = (items, h, λ more rest may. subst (λ t. Whole more (t ++ rest)) (sym done.1) (done.2 more rest may))
-      of_result (Err e) done = tt
-
-  pub put_failed : (a b : Option (List ℕ)) → Appends a b items → OnErr r ((text : List ℕ) × Piece text × WritesFirstPart a b text)
-  put_failed a b h = of_result r
-    where
-      of_result : (r : Result (Unit {0}) Fault) → OnErr r ((text : List ℕ) × Piece text × WritesFirstPart a b text)
-      of_result (Ok x) = tt
-      of_result (Err e) = (put_first.0, put_first.1, (items, h, put_first.2))

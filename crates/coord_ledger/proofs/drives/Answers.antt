@@ -1,5 +1,5 @@
 -- What a driver makes of each event follows the event machine.
-use Rattle.std.proofs.Common.{◌≡◌, ℕ, ◌≤◌, Bool, true, false, length, Some, Ok, Err, refl, sym, ap, ◌∙◌, subst, Result, MatchResult, OnErr, IfOk, is_err, is_some}
+use Rattle.std.proofs.Common.{◌≡◌, ℕ, ◌≤◌, Bool, true, false, length, Ok, Err, refl, sym, ap, ◌∙◌, subst, Result, MatchResult, OnErr, IfOk, is_err, is_some}
 use Rattle.std.proofs.lemmas.List.{length-map}
 use Rattle.coord_types.specs.declared.refusals.Refusal.{Refusal}
 use Rattle.coord_types.specs.declared.refusals.Refusal.TheVariants as why
@@ -7,10 +7,9 @@ use Rattle.coord_types.specs.declared.refusals.Refusal.TheVariants.{OutOfMemory,
 use Rattle.coord_world.specs.Facade.{World, again}
 use Rattle.coord_ledger.specs.declared.events.Answer.{Answer}
 use Rattle.coord_ledger.specs.declared.events.Answer.TheVariants.{Refused, Shown}
-use Rattle.coord_ledger.specs.declared.events.Event.TheVariants.{Finish, Show}
-use Rattle.coord_ledger.specs.Facade.{FlightState, Follows, FollowsTo, Held, HoldsFlight, IsConsistent, Machine, RefusesFlight, accepted_count, release_of, resent, settled_count, settled_world}
+use Rattle.coord_ledger.specs.declared.events.Event.TheVariants.{Show}
+use Rattle.coord_ledger.specs.Facade.{Follows, FollowsTo, Held, IsConsistent, Machine, accepted_count, release_of, resent, settled_count, settled_world}
 use Rattle.coord_view.specs.Shown as view
-use Rattle.coord_ledger.proofs.follows.FollowsFlights.{follows_not_finished}
 use Rattle.coord_ledger.proofs.follows.FollowsTickets.{follows_not_shown, follows_shown, follows_unshown, never_behind}
 
 -- what a show is answered
@@ -65,31 +64,3 @@ ok_gives (Ok a) fine x = x
 ok_gives (Err e) fine x = let no : ⊥ = cc in absurd no
 
 -- ---- finish
-
--- a flight of its own is kept out by want of memory alone
-pub follows_unfinished : {D : Type 0} (h : Held D) (s : Machine) (f : FlightState D) (e : Refusal) → IsConsistent s → Follows h s → h.flight ≡ Some f → RefusesFlight h.ledger f e → FollowsTo s Finish (Refused e) h
-follows_unfinished h s f e is follows holds refuses = by_reason e refuses
-  where
-    by_reason : (e : Refusal) → RefusesFlight h.ledger f e → FollowsTo s Finish (Refused e) h
-    by_reason (why.Behind _) reason = elim reason [ ]
-    by_reason why.Stranger reason = absurd (reason (subst (HoldsFlight h.ledger) holds follows.own))
-    by_reason why.OutOfMemory reason = follows_not_finished h s is follows f holds reason.1
-    by_reason (why.Stopped) reason = absurd reason
-    by_reason (why.Exhausted) reason = absurd reason
-    by_reason (why.OutOfTurn) reason = absurd reason
-    by_reason (why.NumberReused) reason = absurd reason
-    by_reason (why.UnknownNode) reason = absurd reason
-    by_reason (why.NodeExists) reason = absurd reason
-    by_reason (why.HasLinks) reason = absurd reason
-    by_reason (why.SameNode) reason = absurd reason
-    by_reason (why.OtherGroup) reason = absurd reason
-    by_reason (why.LinkExists) reason = absurd reason
-    by_reason (why.NoLink) reason = absurd reason
-    by_reason (why.DegreeFull) reason = absurd reason
-    by_reason (why.LinksFull) reason = absurd reason
-    by_reason (why.BadEpoch) reason = absurd reason
-    by_reason (why.Old) reason = absurd reason
-    by_reason (why.Early) reason = absurd reason
-    by_reason (why.Differs) reason = absurd reason
-    by_reason (why.NotReleased) reason = absurd reason
-    by_reason (why.PendingFull) reason = absurd reason

@@ -1,5 +1,5 @@
 -- What a driver makes of any event, and of a crash.
-use Rattle.std.proofs.Common.{◌≡◌, ℕ, Bool, true, false, List, [], Option, Some, None, Ok, Err, refl, sym, ap, ◌∙◌, subst, inl, inr, IfErr, IfOk, OnErr, Result}
+use Rattle.std.proofs.Common.{◌≡◌, ℕ, Bool, true, false, List, [], Option, Some, None, Ok, Err, refl, sym, ap, ◌∙◌, subst, inl, inr, IfOk, OnErr, Result}
 use Rattle.std.specs.Option.{option_map}
 use Rattle.coord_disk.specs.Model.Present.{Present}
 use Rattle.coord_store.proofs.OneWorld.{recovered_is_one}
@@ -10,7 +10,7 @@ use Rattle.coord_ledger.specs.declared.events.Event.TheVariants.{Crash}
 use Rattle.coord_ledger.specs.declared.release.Release.{Release}
 use Rattle.coord_ledger.specs.declared.trace.RunFaultKind.{RunFaultKind}
 use Rattle.coord_ledger.specs.declared.trace.RunFaultKind.TheVariants.{OutOfMemory, Store}
-use Rattle.coord_ledger.specs.Facade.{Driven, FollowsTo, Held, ImagesGive, IsConsistent, IsCutShort, IsEventFault, IsLeftByCrash, IsPromised, IsReopenFault, IsReopened, LedgerState, Log, Machine, at_home, flight_out, kept, kept_by, ledger_over, settled_world, wants_memory, world_after}
+use Rattle.coord_ledger.specs.Facade.{Driven, FollowsTo, Held, ImagesGive, IsConsistent, IsCutShort, IsEventFault, IsLeftByCrash, IsPromised, IsReopenFault, IsReopened, LedgerState, Log, Machine, at_home, flight_out, kept, kept_by, ledger_over, settled_world, world_after}
 use Rattle.coord_ledger.proofs.follows.FollowsCalls.{follows_crash}
 
 -- ---- the event that it was
@@ -28,13 +28,6 @@ met_cut {D} s e what r answer h new x released cut says err event held given =
 pub on_err_map : {A E X Y : Type 0} (r : Result A E) → (X → Y) → OnErr r X → OnErr r Y
 on_err_map (Ok a) f x = tt
 on_err_map (Err e) f x = f x
-
-pub if_err_map : {A E : Type 0} {P Q : E → Type 0} (r : Result A E) → ((e : E) → P e → Q e) → IfErr r P → IfErr r Q
-if_err_map (Ok a) f p = tt
-if_err_map (Err e) f p = f e p
-
-pub memory_fault : (model : Option Bool) (e : Event) (k : RunFaultKind) → k ≡ OutOfMemory → wants_memory e ≡ true → IsEventFault model e k
-memory_fault model e k is wants = subst (IsEventFault model e) (sym is) wants
 
 -- ---- a crash
 

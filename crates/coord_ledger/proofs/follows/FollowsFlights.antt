@@ -109,6 +109,3 @@ module _ {D : Type 0} (h : Held D) (s : Machine) (is : IsConsistent s) (follows 
             released = ap (λ l. h.released ++ l) given ∙ gives f.mark;
           });
         }
-
-    pub follows_not_finished : f.mark ≡ Good → FollowsTo s Finish (Refused OutOfMemory) h
-    follows_not_finished mark = stays h s is follows Finish (Refused OutOfMemory) (may_finish (Refused OutOfMemory) (subst (λ m. IsOneOf (Refused OutOfMemory) (to_finish (settled_count s.log) (length f.steps) m)) (sym mark) (inr (inl refl)))) refl

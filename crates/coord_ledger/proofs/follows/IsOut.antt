@@ -1,5 +1,5 @@
 -- A flight that is the ledger's own, and how the ledger takes it back.
-use Rattle.std.proofs.Common.{◌≡◌, ℕ, ◌+◌, ◌++◌, ◌∷◌, [], false, List, ◌≤◌, length, take, drop, Option, Some, None, Vec, is_some, refl, sym, ap, ◌∙◌, subst, arith, Global}
+use Rattle.std.proofs.Common.{◌≡◌, ℕ, ◌+◌, false, List, ◌≤◌, length, take, drop, Option, Some, None, Vec, is_some, refl, sym, ap, ◌∙◌, subst, arith, Global}
 use Rattle.std.proofs.lemmas.List.{length-take}
 use Rattle.coord_store.specs.Kept.{Kept}
 use Rattle.coord_types.specs.declared.outputs.Output.{Output}
@@ -8,10 +8,10 @@ use Rattle.coord_types.specs.declared.steps.Step.{Step}
 use Rattle.coord_world.specs.Facade.{World, fold, outs}
 use Rattle.coord_ledger.specs.code.Holding.{IsCarried, IsLedger, disk_at, listed, out_of, outputs_of, released_from}
 use Rattle.coord_ledger.specs.declared.mark.Mark.{Mark}
-use Rattle.coord_ledger.specs.declared.mark.Mark.TheVariants.{New, Good, Torn}
-use Rattle.coord_ledger.specs.Facade.{FlightState, IsOut, LedgerState, Log, pending, releases_of, settled_count, settled_world, with_accepted, with_doubt, with_out, with_settled}
+use Rattle.coord_ledger.specs.declared.mark.Mark.TheVariants.{Good, Torn}
+use Rattle.coord_ledger.specs.Facade.{FlightState, IsOut, LedgerState, Log, pending, releases_of, settled_count, settled_world, with_doubt, with_settled}
 use Rattle.coord_ledger.proofs.follows.Given.{listed-length, outputs_of-length, outputs_of-take, released_are}
-use Rattle.coord_ledger.proofs.follows.Kept.{back_good, back_new, back_torn}
+use Rattle.coord_ledger.proofs.follows.Kept.{back_good, back_torn}
 use Rattle.coord_ledger.proofs.machine.Logs.{count_after}
 
 module _ {D : Type 0} where
@@ -21,17 +21,6 @@ module _ {D : Type 0} where
 
   abbrev pub flight_of : ℕ → List Step → World → Mark → Kept D → FlightState D
   flight_of first steps world mark kept = record { first = first; steps = steps; world = world; mark = mark; disk = kept.disk }
-
-  -- equal in all their parts
-  pub same_flight : (a b : ℕ) (xs ys : List Step) (v w : World) (mark : Mark) (kept : Kept D) → a ≡ b → xs ≡ ys → v ≡ w → flight_of a xs v mark kept ≡ flight_of b ys w mark kept
-  same_flight a b xs ys v w mark kept p q r = ap (λ n. flight_of n xs v mark kept) p ∙ ap (λ l. flight_of b l v mark kept) q ∙ ap (λ x. flight_of b ys x mark kept) r
-
-  pub same_away : (log : Log) (out n m : ℕ) (store later : Option (Kept D)) (l : LedgerState D) → ledger_of log out store ≡ l → later ≡ None → n ≡ m → ledger_of log n later ≡ with_out l m
-  same_away log out n m store (Some kept) l seen gone same = cc
-  same_away log out n m store None l seen gone same = let away : Option (Kept D) = None in ap (λ k. ledger_of log k away) same ∙ ap (λ (x : LedgerState D). with_out x m) seen
-
-  pub same_accepted : (log : Log) (out : ℕ) (store : Option (Kept D)) (l : LedgerState D) (s : Step) (longer : List Step) → ledger_of log out store ≡ l → longer ≡ log.trail ++ s ∷ [] → ledger_of (record log { trail = longer }) out store ≡ with_accepted l s
-  same_accepted log out store l s longer seen is = ap (λ t. ledger_of (record log { trail = t }) out store) is ∙ ap (λ (x : LedgerState D). with_accepted x s) seen
 
   -- a ledger of which a flight is out
   away_of : (log : Log) (kinds : List Kind) (given : List (List Output)) (front settled : World) (out n : ℕ) (store : Option (Kept D)) → IsLedger log kinds given front settled out store → out_of store out ≡ Some n
@@ -50,9 +39,6 @@ module _ {D : Type 0} where
     took_torn n size torn =
         subst (λ o. IsLedger (with_doubt log n) kinds given front settled out o) (sym home)
         (subst (λ m. IsLedger (with_doubt log m) kinds given front settled out (Some kept)) (sym size) (back_torn log kinds given front settled (length f.steps) out kept f away carried torn parts.world refl parts.steps))
-
-    pub took_new : f.mark ≡ New → IsLedger log kinds given front settled out later
-    took_new new = subst (λ o. IsLedger log kinds given front settled out o) (sym home) (back_new log kinds given front settled (length f.steps) out kept f away carried new parts.world)
 
     pub took_good : (n : ℕ) (left : List (List Output)) (led : World) → n ≡ length f.steps → f.mark ≡ Good → left ≡ drop n given → led ≡ fold f.world f.steps → IsLedger (with_settled log n) kinds left front led out later
     took_good n left led size good rest folded =

@@ -1,13 +1,12 @@
 -- What the types of a ledger and of a flight keep, through each call.
-use Rattle.std.proofs.Common.{◌≡◌, ℕ, ◌+◌, ◌≤◌, Bool, true, List, [], ◌∷◌, ◌++◌, length, take, drop, Option, Some, None, IfSome, IfNone, Ok, inl, inr, ⊎_elim, refl, sym, ap, ◌∙◌, subst, arith}
+use Rattle.std.proofs.Common.{◌≡◌, ℕ, ◌+◌, ◌≤◌, List, [], ◌∷◌, ◌++◌, length, take, drop, Option, Some, None, IfSome, IfNone, Ok, refl, sym, ap, ◌∙◌, subst, arith}
 use Rattle.std.proofs.Math.Seq.{take-length}
 use Rattle.std.proofs.lemmas.List.{drop-drop, length-append, length-drop, length-take, take-append-le}
 use Rattle.std.specs.List.{AllByRecursion}
 use Rattle.coord_batch.specs.Batches.{IsNumbered}
-use Rattle.coord_disk.specs.Model.Present.{Present, IsImage}
 use Rattle.coord_node.specs.Steps.{kind}
 use Rattle.coord_store.proofs.Freshness.{fold-push}
-use Rattle.coord_store.specs.Facade.{AllFresh, GivesEither, ImagesGive, Kept, Recovered}
+use Rattle.coord_store.specs.Facade.{AllFresh, Kept}
 use Rattle.coord_types.specs.declared.limits.TheConstants.{MAX_BATCH_STEPS}
 use Rattle.coord_types.specs.declared.outputs.Output.{Output}
 use Rattle.coord_types.specs.declared.steps.Kind.{Kind}
@@ -16,10 +15,9 @@ use Rattle.coord_types.specs.declared.steps.Step.TheVariants.{Order, Take, Clear
 use Rattle.coord_world.proofs.Facade.{fresh_number, itself, trail_keeps_worlds, verdict_fresh, verdict_kind}
 use Rattle.coord_world.specs.declared.verdicts.Verdict.TheVariants.{Fresh}
 use Rattle.coord_world.specs.Facade.{IsFresh, Legal, StepInRange, World, fold, next, outputs, state}
-use Rattle.coord_ledger.specs.code.Holding.{IsAway, IsCarried, IsFlight, IsHome, IsLedger, carried_torn, carried_world, disk_at, doubted, kinds_of, out_of, outputs_of}
-use Rattle.coord_ledger.specs.declared.mark.Mark.{Mark}
+use Rattle.coord_ledger.specs.code.Holding.{IsAway, IsCarried, IsFlight, IsHome, IsLedger, carried_torn, carried_world, doubted, kinds_of, outputs_of}
 use Rattle.coord_ledger.specs.declared.mark.Mark.TheVariants.{New, Good, Torn}
-use Rattle.coord_ledger.specs.Facade.{FitsOut, FlightState, GivesFlown, GivesSettled, IsConsistentLog, Log, accepted_count, front_world, pending, settled_count, settled_world, verdict, with_doubt, with_settled, with_step, world_after}
+use Rattle.coord_ledger.specs.Facade.{FitsOut, FlightState, IsConsistentLog, Log, accepted_count, front_world, pending, settled_count, settled_world, verdict, with_doubt, with_settled, with_step, world_after}
 use Rattle.coord_ledger.proofs.follows.Given.{outputs_of-drop, outputs_of-push}
 use Rattle.coord_ledger.proofs.machine.ConsistentSteps.{accepted_stays}
 use Rattle.coord_ledger.proofs.machine.Verdicts.{verdict_accepts}
@@ -152,24 +150,6 @@ module _ {D : Type 0} where
         away = tt;
       }
 
-  -- one that was not committed
-  pub back_new : (log : Log) (kinds : List Kind) (given : List (List Output)) (front settled : World) (out any : ℕ) (kept : Kept D) (f : FlightState D) → IsLedger {D = D} log kinds given front settled out None → IsCarried f kept → f.mark ≡ New → f.world ≡ settled_world log
-      → IsLedger log kinds given front settled any (Some kept)
-  back_new log kinds given front settled out any kept f is carried new at =
-      record {
-        consistent = is.consistent;
-        kinds_are = is.kinds_are;
-        given_is = is.given_is;
-        front_is = is.front_is;
-        settled_is = is.settled_is;
-        doubt_within = is.doubt_within;
-        home = record {
-          world_is = carried.world_is ∙ ap (λ m. carried_world m f.world f.steps) new ∙ at;
-          torn_is = carried.torn_is ∙ ap (λ m. carried_torn m f.world f.steps) new ∙ sym (ap (doubted log) is.away.going);
-        };
-        away = tt;
-      }
-
   -- one that was committed
   pub back_good : (log : Log) (kinds : List Kind) (given left : List (List Output)) (front settled later : World) (out any : ℕ) (kept : Kept D) (f : FlightState D) → IsLedger {D = D} log kinds given front settled out None → IsCarried f kept → f.mark ≡ Good
       → f.world ≡ settled_world log → out ≡ length f.steps → f.steps ≡ take (length f.steps) (pending log) → left ≡ drop (length f.steps) given → later ≡ fold f.world f.steps → IsLedger (with_settled log (length f.steps)) kinds left front later any (Some kept)
@@ -191,47 +171,6 @@ module _ {D : Type 0} where
         };
         away = tt;
       }
-
-  -- ---- images
-
-  -- those of a store that goes on give its world
-  one_gives : (present : D → Present) (kept : Kept D) (w : World) → kept.world ≡ w → kept.torn ≡ None → ImagesGive present kept → (image : List ℕ) → IsImage (present kept.disk) image → Recovered image w
-  one_gives present kept w is none gives image here = ⊎_elim (λ given. subst (Recovered image) is given) (λ other. let no : ⊥ = cc (none, other.1) in absurd no) (gives image here)
-
-  -- after a torn commit one of two
-  either_gives : (present : D → Present) (kept : Kept D) (w later : World) → kept.world ≡ w → kept.torn ≡ Some later → ImagesGive present kept → (image : List ℕ) → IsImage (present kept.disk) image → GivesEither w later image
-  either_gives present kept w later is torn gives image here =
-      ⊎_elim (λ given. inl (subst (Recovered image) is given)) (λ other. let same : other.0 ≡ later = cc (torn, other.1) in inr (subst (Recovered image) same other.2)) (gives image here)
-
-  -- those of a ledger's store at home
-  home_gives : (present : D → Present) (log : Log) (kept : Kept D) → IsHome log kept → ImagesGive present kept → (image : List ℕ) → IsImage (present kept.disk) image → GivesSettled log log.doubt image
-  home_gives present log kept home = by_doubt log.doubt home.torn_is
-    where
-      by_doubt : (o : Option ℕ) → kept.torn ≡ doubted log o → ImagesGive present kept → (image : List ℕ) → IsImage (present kept.disk) image → GivesSettled log o image
-      by_doubt None = one_gives present kept (settled_world log) home.world_is
-      by_doubt (Some b) = either_gives present kept (settled_world log) (world_after log (log.settled + b)) home.world_is
-
-  pub store_gives : (keeps_model : D → Bool) (present : D → Present) (log : Log) (store : Option (Kept D)) (kept : Kept D) → store ≡ Some kept → IfSome store (IsHome log) → (keeps_model kept.disk ≡ true → ImagesGive present kept)
-      → IfSome (disk_at store) (λ d. keeps_model d ≡ true → (image : List ℕ) → IsImage (present d) image → GivesSettled log log.doubt image)
-  store_gives keeps_model present log None kept is home gives = tt
-  store_gives keeps_model present log (Some own) kept is home gives =
-      let same : kept ≡ own = cc in
-      λ on. home_gives present log own home (subst (λ k. keeps_model k.disk ≡ true → ImagesGive present k) same gives on)
-
-  -- those of a flight's
-  pub flown_gives : (present : D → Present) (steps : List Step) (world : World) (next : Option World) (mark : Mark) (kept : Kept D) → IsFlight steps world next mark kept → ImagesGive present kept → (image : List ℕ) → IsImage (present kept.disk) image → GivesFlown mark world steps image
-  flown_gives present steps world next New kept flight = one_gives present kept world flight.world_is flight.torn_is
-  flown_gives present steps world next Good kept flight = one_gives present kept (fold world steps) flight.world_is flight.torn_is
-  flown_gives present steps world next Torn kept flight = either_gives present kept world (fold world steps) flight.world_is flight.torn_is
-
-  -- a ledger that has stopped has its store back
-  pub stopped_is_home : (log : Log) (kinds : List Kind) (given : List (List Output)) (front settled : World) (out : ℕ) (store : Option (Kept D)) → IsLedger log kinds given front settled out store → IfSome log.doubt (λ _. out_of store out ≡ None)
-  stopped_is_home log kinds given front settled out None is = subst (λ o. IfSome o (λ _. out_of {D = D} None out ≡ None)) (sym is.away.going) tt
-  stopped_is_home log kinds given front settled out (Some kept) is = by_doubt log.doubt
-    where
-      by_doubt : (o : Option ℕ) → IfSome o (λ _. out_of (Some kept) out ≡ None)
-      by_doubt None = tt
-      by_doubt (Some b) = refl
 
   -- ---- what the front takes
 

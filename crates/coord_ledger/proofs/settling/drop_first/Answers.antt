@@ -1,11 +1,7 @@
 use Rattle.std.proofs.Common.{◌≡◌, drop, ap, ◌∙◌, arith}
-use Rattle.std.proofs.lemmas.List.{drop-drop}
 use Rattle.coord_ledger.specs.code.Holding.{listed}
 use Rattle.coord_ledger.proofs.follows.Given.{listed-drop}
 use Rattle.coord_ledger.proofs.settling.drop_first.Goals as goal
-
-pub loop-place-preserved : goal.loop-place-preserved
-loop-place-preserved c = c.pop_front.ensures.rest ∙ ap (drop 1) c.loop-place.invariant ∙ drop-drop 1 c.loop-place._place c.args.given.now.items
 
 pub returns : goal.returns
 returns c =

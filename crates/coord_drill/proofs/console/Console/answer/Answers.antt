@@ -1,9 +1,8 @@
 use Rattle.std.proofs.Common.{◌++◌, ◌+◌, [], rules}
-use Rattle.std.proofs.lemmas.Result.{IfErr-weaker}
 use Rattle.coord_lines.specs.Lines.{lines_on}
-use Rattle.coord_drill.specs.Facade.{IsOfWork, IsOfWriting, Prints, state_of}
+use Rattle.coord_drill.specs.Facade.{Prints, state_of}
 use Rattle.coord_drill.proofs.does.LineResponds.{prints_somehow}
-use Rattle.coord_drill.proofs.prints.Prints.{prints-so_far, put_cut, put_failed, put_printed, writing_is_work}
+use Rattle.coord_drill.proofs.prints.Prints.{prints-so_far, put_cut}
 use Rattle.coord_drill.proofs.console.Console.answer.Goals as goal
 
 pub returns-in_err-write_text-clause-failed : goal.returns-in_err-write_text-clause-failed
@@ -16,26 +15,3 @@ returns-in_err-write_text-clause-failed g c =
     (prints-so_far (state_of old.drill) (old.number + 1) old.line piece) (prints_somehow (state_of new.drill) (new.number + 1) (lines_on new.line []))
     (rw c.new-text.ensures.items at c.take-taken.ensures.printed) (rw c.new-text.ensures.items at c.take-taken.ensures.failed) _ _ (rw c.deref.ensures.value at c.in_err-write_text.ensures.err) in
     search rules
-
-pub returns-clause-printed : goal.returns-clause-printed
-returns-clause-printed g c =
-    let old = c.args.self.now in
-    let new = c.take-taken.new.self in
-    let piece = c.args.piece.now in
-    put_printed c.take-taken.result c.take-taken.new.writer.items (Prints (state_of old.drill) (old.number + 1) (lines_on old.line piece))
-    (λ more. Prints (state_of old.drill) (old.number + 1) (lines_on old.line (piece ++ more))) (λ more. Prints (state_of new.drill) (new.number + 1) (lines_on new.line more))
-    (prints-so_far (state_of old.drill) (old.number + 1) old.line piece) (prints_somehow (state_of new.drill) (new.number + 1) (lines_on new.line []))
-    (rw c.new-text.ensures.items at c.take-taken.ensures.printed) (rw c.new-text.ensures.items at c.take-taken.ensures.failed) _ _ (rw c.deref.ensures.value at c.in_ok-write_text.ensures.ok)
-
-pub returns-clause-failed : goal.returns-clause-failed
-returns-clause-failed g c =
-    let old = c.args.self.now in
-    let new = c.take-taken.new.self in
-    let piece = c.args.piece.now in
-    put_failed c.take-taken.result c.take-taken.new.writer.items (Prints (state_of old.drill) (old.number + 1) (lines_on old.line piece))
-    (λ more. Prints (state_of old.drill) (old.number + 1) (lines_on old.line (piece ++ more))) (λ more. Prints (state_of new.drill) (new.number + 1) (lines_on new.line more))
-    (prints-so_far (state_of old.drill) (old.number + 1) old.line piece) (prints_somehow (state_of new.drill) (new.number + 1) (lines_on new.line []))
-    (rw c.new-text.ensures.items at c.take-taken.ensures.printed) (rw c.new-text.ensures.items at c.take-taken.ensures.failed) _ _ (rw c.deref.ensures.value at c.in_ok-write_text.ensures.ok)
-
-pub returns-in_err-write_text-clause-fault : goal.returns-in_err-write_text-clause-fault
-returns-in_err-write_text-clause-fault g c = IfErr-weaker c.from_residual.result IsOfWriting IsOfWork writing_is_work (search rules)

@@ -7,9 +7,6 @@ use Rattle.coord_drill.proofs.does.Does.{driver_of, new_held}
 use Rattle.coord_drill.proofs.does.Moments.{carries_made}
 use Rattle.coord_drill.proofs.drill.Drill.begin_version_2.Goals as goal
 
-pub over-driver-requires : goal.over-driver-requires
-over-driver-requires c = ap (λ l. l.out) c.in_ok-new_ledger.ensures.made.adopted
-
 pub returns-clause-ready : goal.returns-clause-ready
 returns-clause-ready c =
     let made = c.in_ok-new_ledger.ensures.made in

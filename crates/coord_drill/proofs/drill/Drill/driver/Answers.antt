@@ -1,11 +1,7 @@
 use Rattle.std.proofs.Common.{◌≡◌, Some, sym, subst, rules}
 use Rattle.coord_ledger.specs.ledger.Driven.{nothing_beside}
 use Rattle.coord_drill.specs.Moments.{Begins}
-use Rattle.coord_drill.proofs.does.Does.{home_is}
 use Rattle.coord_drill.proofs.drill.Drill.driver.Goals as goal
-
-pub begins-requires : goal.begins-requires
-begins-requires c = home_is c.args.self.now c.in-Some.driver (search rules) c.requires.ready
 
 pub returns-clause-begins : goal.returns-clause-begins
 returns-clause-begins c =

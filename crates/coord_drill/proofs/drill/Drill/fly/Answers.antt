@@ -2,12 +2,9 @@ use Rattle.std.proofs.Common.{◌≡◌, ◌++◌, Some, ap, ◌∙◌, sym, sub
 use Rattle.coord_disk.specs.declared.memory.MemDisk.{MemDisk}
 use Rattle.coord_ledger.specs.Facade.{LedgerState, settled_world}
 use Rattle.coord_drill.specs.Holding.{AreGranted, IsReadyWith, flown_lines, left_by}
-use Rattle.coord_drill.proofs.does.Does.{held_is, home_is}
+use Rattle.coord_drill.proofs.does.Does.{held_is}
 use Rattle.coord_drill.proofs.does.FlownTo.{flies, flown_granted, flown_held, flown_home}
 use Rattle.coord_drill.proofs.drill.Drill.fly.Goals as goal
-
-pub send_out-requires : goal.send_out-requires
-send_out-requires c = record { home = home_is c.args.self.now c.in-Some.driver (search rules) c.requires.ready }
 
 pub print_flown-printed-requires : goal.print_flown-printed-requires
 print_flown-printed-requires c =

@@ -1,13 +1,10 @@
-use Rattle.std.proofs.Common.{◌≡◌, None, ap, ◌∙◌, false, refl, sym, subst}
+use Rattle.std.proofs.Common.{◌≡◌, None, ap, ◌∙◌, refl, sym, subst}
 use Rattle.coord_disk.specs.declared.memory.MemDisk.{MemDisk}
 use Rattle.coord_world.specs.protocol.NumberedWorld.{no_world}
 use Rattle.coord_ledger.specs.ledger.Driven.{Driven}
-use Rattle.coord_drill.specs.Holding.{IsHeld, drill_of}
+use Rattle.coord_drill.specs.Holding.{IsHeld}
 use Rattle.coord_drill.proofs.does.Does.{new_held}
 use Rattle.coord_drill.proofs.drill.Drill.new.Goals as goal
-
-pub over-requires : goal.over-requires
-over-requires c = ap (λ l. l.out) c.in_ok-new_ledger.ensures.made.adopted
 
 pub returns-clause-ready : goal.returns-clause-ready
 returns-clause-ready c =
@@ -19,7 +16,3 @@ pub returns-clause-disk : goal.returns-clause-disk
 returns-clause-disk c =
     let made = c.in_ok-new_ledger.ensures.made in
     (c.over.result, made.disk, refl, ap (λ (v : Driven MemDisk). v.ledger.disk) c.over.ensures ∙ ap (λ l. l.disk) made.adopted, made.present)
-
-pub returns-clause-state : goal.returns-clause-state
-returns-clause-state c =
-    ap (λ (v : Driven MemDisk). drill_of v.ledger false false) c.over.ensures ∙ ap (λ l. drill_of l false false) c.in_ok-new_ledger.ensures.made.adopted

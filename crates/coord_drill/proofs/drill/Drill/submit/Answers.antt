@@ -66,13 +66,6 @@ returns-in_ok-print_refusal-in-Err-clause-told c =
     let text : string_bytes c.print_refusal.new.text ≡ string_bytes c.args.text.now ++ refusal_line e = search rules in
     (refusal_line e, (text, carries_refusal c.args.self.now v w c.args.step (search rules) c.requires.ready _ c.driver.ensures.begins refl refl e hands refl other))
 
-pub returns-in_ok-print_kept-in-Ok-Repeated-clause-ready : goal.returns-in_ok-print_kept-in-Ok-Repeated-clause-ready
-returns-in_ok-print_kept-in-Ok-Repeated-clause-ready c =
-    let v = c.in-Some.driver in
-    let w = c.hand_in.new.driver in
-    let hands = subst (λ r. Hands v c.args.step r w) (c.in-Ok-Repeated.is ∙ ap Ok c.in-Ok-Repeated.field-0-is) c.hand_in.ensures in
-    kept_ready c.args.self.now v w c.args.step (search rules) c.requires.ready c.reserve.new.self.items hands.flight hands.handed.now (search rules)
-
 pub returns-in_ok-print_refusal-in-Err-clause-ready : goal.returns-in_ok-print_refusal-in-Err-clause-ready
 returns-in_ok-print_refusal-in-Err-clause-ready c =
     let v = c.in-Some.driver in

@@ -1,16 +1,7 @@
-use Rattle.std.proofs.Common.{sym, ap, ◌∙◌, subst}
-use Rattle.coord_ledger.specs.Facade.{Driven, Follows, disk_driven, disk_with, held}
-use Rattle.coord_ledger.proofs.drives.HandedTo.{follows_handed, submitted}
+use Rattle.std.proofs.Common.{sym, subst}
+use Rattle.coord_ledger.specs.Facade.{Driven, Follows, held}
+use Rattle.coord_ledger.proofs.drives.HandedTo.{follows_handed}
 use Rattle.coord_ledger.proofs.driver.Driver.submit.Goals as goal
-
-pub invariant_of-self : goal.invariant_of-self
-invariant_of-self g c =
-    (submitted c.self.inside.ledger c.hand_in.new.self c.self.inside.flight c.args.step c.hand_in.result c.log_is_consistent.ensures.log c.self.invariant c.hand_in.ensures).own
-
-pub returns-clause-disk : goal.returns-clause-disk
-returns-clause-disk g c =
-    let same = (submitted c.self.inside.ledger c.hand_in.new.self c.self.inside.flight c.args.step c.hand_in.result c.log_is_consistent.ensures.log c.self.invariant c.hand_in.ensures).disk in
-    ap (λ d. disk_with d c.self.inside.flight) same ∙ ap disk_driven c.self.view_is
 
 pub returns-clause-answered : goal.returns-clause-answered
 returns-clause-answered g c b s is follows =

@@ -10,16 +10,6 @@ returns-in-Err-clause-cause g c on each =
     let one = each (g.D.Disk.present c.crash.result).read (c.crash.ensures.image on) in
     c.in-Err.ensures.only one.0 (c.crash.ensures.model ∙ on) one.1
 
-pub returns-in-Err-clause-lost : goal.returns-in-Err-clause-lost
-returns-in-Err-clause-lost g c on = record {
-  taken = c.crash.result;
-  crash = c.crash.ensures.crashes;
-  image = c.crash.ensures.image on;
-  synced = c.crash.ensures.synced on;
-  opening = c.in-Err.ensures.any_moment_refused (c.crash.ensures.model ∙ on);
-  each = λ bytes here. subst (IsImage (g.D.Disk.present c.args.disk)) (sym (whole_image (g.D.Disk.present c.crash.result).read (g.D.Disk.present c.crash.result) (c.crash.ensures.synced on) bytes here)) (c.crash.ensures.image on);
-}
-
 pub returns-in-Err-adopt-clause-lost : goal.returns-in-Err-adopt-clause-lost
 returns-in-Err-adopt-clause-lost g c on = record {
   taken = c.crash.result;

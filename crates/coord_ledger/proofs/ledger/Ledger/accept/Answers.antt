@@ -1,9 +1,8 @@
 use Rattle.std.proofs.Common.{◌≡◌, ◌++◌, ◌∷◌, [], Ok, sym, ap, ◌∙◌, subst}
 use Rattle.coord_world.specs.declared.verdicts.Verdict.TheVariants.{Fresh}
 use Rattle.coord_ledger.specs.code.Holding.{listed}
-use Rattle.coord_ledger.specs.Facade.{LedgerState, Log, verdict}
+use Rattle.coord_ledger.specs.Facade.{LedgerState, verdict}
 use Rattle.coord_ledger.proofs.follows.Given.{listed-push}
-use Rattle.coord_ledger.proofs.follows.IsOut.{same_accepted}
 use Rattle.coord_ledger.proofs.follows.Kept.{fresh_front, legal_front, took_step}
 use Rattle.coord_ledger.proofs.ledger.Ledger.accept.Goals as goal
 
@@ -22,9 +21,3 @@ invariant_of-self-2 g c =
     let kinds = c.push_reserved-2.ensures.items ∙ ap (λ l. l ++ c.args.kind ∷ []) (c.reserve-2.ensures.items) in
     let given = ap listed (c.push_back_reserved.ensures.items ∙ ap (λ l. l ++ c.in_ok-outcome.outcome.outputs ∷ []) c.reserve-3.ensures.items) ∙ listed-push c.self.inside.given.items c.in_ok-outcome.outcome.outputs ∙ ap (λ l. listed c.self.inside.given.items ++ l ∷ []) c.in_ok-outcome.ensures.outputs in
     took_step _ _ _ _ _ _ _ _ _ _ c.args.step c.args.kind _ _ _ _ c.self.invariant (subst P (sym c.self.view_is) c.requires) c.within_ranges.ensures trail kinds given c.in_ok-outcome.ensures.world
-
-pub returns-clause-accepted : goal.returns-clause-accepted
-returns-clause-accepted g c =
-    let log : Log = record { base = c.self.inside.base; trail = c.self.inside.trail.items; settled = c.self.inside.done; doubt = c.self.inside.doubt } in
-    let trail = c.push_reserved.ensures.items ∙ ap (λ l. l ++ c.args.step ∷ []) (c.reserve.ensures.items) in
-    same_accepted log c.self.inside.out c.self.inside.store _ c.args.step _ c.self.view_is trail

@@ -1,9 +1,8 @@
-use Rattle.std.proofs.Common.{◌≡◌, ℕ, List, length, take, drop, min, sym, ap, ◌∙◌, subst, arith}
-use Rattle.std.proofs.lemmas.List.{length-drop, length-take, take_min}
+use Rattle.std.proofs.Common.{◌≡◌, ℕ, List, length, take, drop, min, ap, ◌∙◌, arith}
+use Rattle.std.proofs.lemmas.List.{length-drop, take_min}
 use Rattle.coord_types.specs.declared.limits.TheConstants.{MAX_BATCH_STEPS}
 use Rattle.coord_types.specs.declared.steps.Step.{Step}
-use Rattle.coord_world.specs.protocol.Next.{fold}
-use Rattle.coord_ledger.specs.Facade.{LedgerState, Log, pending, settled_world}
+use Rattle.coord_ledger.specs.Facade.{LedgerState, Log, pending}
 use Rattle.coord_ledger.proofs.ledger.Ledger.next_flown.Goals as goal
 
 -- the steps that go out are the first of those that are pending
@@ -11,25 +10,8 @@ module _ (log : Log) (n : ℕ) (items trail : List Step) (size : n ≡ min MAX_B
   sent : items ≡ take MAX_BATCH_STEPS (pending log)
   sent = is ∙ ap (λ l. take n (drop log.settled l)) there ∙ ap (λ m. take m (pending log)) size ∙ take_min MAX_BATCH_STEPS (pending log)
 
-  sent_first : items ≡ take (length items) (pending log)
-  sent_first =
-      let many : min MAX_BATCH_STEPS (length (pending log)) ≡ length items = omega (arith, ap length sent, length-take MAX_BATCH_STEPS (pending log)) in
-      sent ∙ sym (take_min MAX_BATCH_STEPS (pending log)) ∙ ap (λ m. take m (pending log)) many
-
-pub world_behind-requires : goal.world_behind-requires
-world_behind-requires g c =
-    let log : Log = record { base = c.self.inside.base; trail = c.self.inside.trail.items; settled = c.self.inside.done; doubt = c.self.inside.doubt } in
-    let items = c.in_ok-steps.steps.items in
-    let size : c.min-size.result ≡ min MAX_BATCH_STEPS (length (pending log)) = omega (arith, length-drop c.self.inside.done c.self.inside.trail.items) in
-    let next = sent_first log c.min-size.result items c.deref.result.now size c.deref.ensures.value (c.in_ok-steps.ensures.items ∙ c.next_steps.ensures) in
-    let P : List Step → Type 0 = λ l. l ≡ take (length l) (pending c.args.self.now.log) in
-    subst P (sym c.deref-2.ensures.value) (subst (λ (l : LedgerState g.row.D.Denot). items ≡ take (length items) (pending l.log)) c.self.view_is next)
-
 pub returns-in-Ok-clause-steps : goal.returns-in-Ok-clause-steps
 returns-in-Ok-clause-steps g c =
     let log : Log = record { base = c.self.inside.base; trail = c.self.inside.trail.items; settled = c.self.inside.done; doubt = c.self.inside.doubt } in
     let size : c.min-size.result ≡ min MAX_BATCH_STEPS (length (pending log)) = omega (arith, length-drop c.self.inside.done c.self.inside.trail.items) in
     sent log c.min-size.result c.in_ok-steps.steps.items c.deref.result.now size c.deref.ensures.value (c.in_ok-steps.ensures.items ∙ c.next_steps.ensures) ∙ ap (λ (l : LedgerState g.row.D.Denot). take MAX_BATCH_STEPS (pending l.log)) c.self.view_is
-
-pub returns-in-Ok-clause-world : goal.returns-in-Ok-clause-world
-returns-in-Ok-clause-world g c = c.in-Ok.ensures ∙ ap (fold (settled_world c.args.self.now.log)) c.deref-2.ensures.value

@@ -1,23 +1,11 @@
-use Rattle.std.proofs.Common.{◌≡◌, ◌+◌, Option, None, Some, true, is_some, IfSome, length, take, sym, ap, ◌∙◌, subst, rules}
+use Rattle.std.proofs.Common.{◌≡◌, Option, None, Some, length, take, sym, ap, ◌∙◌, subst, rules}
 use Rattle.coord_types.specs.declared.limits.TheConstants.{MAX_BATCH_STEPS}
 use Rattle.coord_store.specs.Kept.{Kept}
 use Rattle.coord_world.specs.protocol.Next.{fold}
-use Rattle.coord_ledger.specs.code.Holding.{IsHome, IsLedger, disk_at, listed}
-use Rattle.coord_ledger.specs.declared.mark.Mark.TheVariants.{New}
+use Rattle.coord_ledger.specs.code.Holding.{IsLedger, listed}
 use Rattle.coord_ledger.specs.Facade.{LedgerState, Log, pending, settled_world}
 use Rattle.coord_ledger.proofs.follows.Kept.{flies, sent_away}
-use Rattle.coord_ledger.proofs.follows.IsOut.{same_away, same_flight}
 use Rattle.coord_ledger.proofs.ledger.Ledger.send_out.Goals as goal
-
-no_disk : {D : Type 0} (store : Option (Kept D)) → store ≡ None → is_some (disk_at store) ≡ true → ⊥
-no_disk None none home = cc
-no_disk (Some kept) none home = cc
-
-pub unreachable-requires : goal.unreachable-requires
-unreachable-requires g c =
-    let none : c.self.inside.store ≡ None = sym c.take.ensures.value ∙ c.in-None.is in
-    let home = ap (λ (l : LedgerState g.row.D.Denot). is_some l.disk) c.self.view_is ∙ c.requires.home in
-    absurd (no_disk c.self.inside.store none home)
 
 pub invariant_of-result : goal.invariant_of-result
 invariant_of-result g c =
@@ -37,24 +25,3 @@ invariant_of-self g c =
     let gone : c.take.new.self ≡ None = search rules in
     let size : c.len-size.result ≡ length c.args.steps.items = search rules in
     sent_away log _ _ _ _ _ _ _ _ _ c.self.invariant going same c.requires.some gone size
-
-pub returns-clause-flight : goal.returns-clause-flight
-returns-clause-flight g c =
-    let log : Log = record { base = c.self.inside.base; trail = c.self.inside.trail.items; settled = c.self.inside.done; doubt = c.self.inside.doubt } in
-    let there : c.self.inside.store ≡ Some c.in-Some.store = search rules in
-    let P : Option (Kept g.row.D.Denot) → Type 0 = λ o. IfSome o (IsHome log) in
-    let at_home : IsHome log c.in-Some.store = subst P there c.self.invariant.home in
-    let world = at_home.world_is ∙ ap (λ (l : LedgerState g.row.D.Denot). settled_world l.log) c.self.view_is in
-    same_flight _ _ _ _ _ _ New c.in-Some.store (ap (λ n. n + 1) c.settled_count-first.ensures.value) c.requires.next world
-
-pub returns-clause-disk : goal.returns-clause-disk
-returns-clause-disk g c =
-    let there : c.self.inside.store ≡ Some c.in-Some.store = search rules in
-    sym (ap (λ (l : LedgerState g.row.D.Denot). l.disk) c.self.view_is) ∙ ap (λ (o : Option (Kept g.row.D.Denot)). disk_at o) there
-
-pub returns-clause-out : goal.returns-clause-out
-returns-clause-out g c =
-    let log : Log = record { base = c.self.inside.base; trail = c.self.inside.trail.items; settled = c.self.inside.done; doubt = c.self.inside.doubt } in
-    let gone : c.take.new.self ≡ None = search rules in
-    let size : c.len-size.result ≡ length c.args.steps.items = search rules in
-    same_away log c.self.inside.out _ _ c.self.inside.store c.take.new.self _ c.self.view_is gone size

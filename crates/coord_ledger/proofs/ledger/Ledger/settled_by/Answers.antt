@@ -1,7 +1,5 @@
-use Rattle.std.proofs.Common.{◌+◌, rules, ◌≡◌, length, unwrap_or, sym, ap, ◌∙◌, subst, arith}
-use Rattle.coord_world.specs.protocol.Next.{fold}
-use Rattle.coord_ledger.specs.code.Holding.{carried_world, listed}
-use Rattle.coord_ledger.specs.declared.mark.Mark.TheVariants.{Good}
+use Rattle.std.proofs.Common.{◌+◌, rules, ◌≡◌, length, sym, ap, ◌∙◌, subst, arith}
+use Rattle.coord_ledger.specs.code.Holding.{listed}
 use Rattle.coord_ledger.specs.Facade.{FlightState, IsOut, LedgerState, Log, settled_count}
 use Rattle.coord_ledger.proofs.follows.IsOut.{given_within, gives_out, ledger_of}
 use Rattle.coord_ledger.proofs.ledger.Ledger.settled_by.Goals as goal
@@ -12,13 +10,6 @@ released-requires-clause-within g c =
     let l : LedgerState g.row.D.Denot = ledger_of log c.self.inside.out c.self.inside.store in
     let own : IsOut l c.args.flight.now = subst (λ x. IsOut x c.args.flight.now) (sym c.self.view_is) c.requires.own in
     omega (arith, given_within log _ _ _ _ _ c.args.flight.now own c.self.inside.given.items c.self.invariant, ap (λ (f : FlightState g.row.D.Denot). length f.steps) c.flight.view_is)
-
-pub returns-in-Ok-clause-world : goal.returns-in-Ok-clause-world
-returns-in-Ok-clause-world g c =
-    let f = c.flight.inside in
-    let begun = unwrap_or f.before f.store.world in
-    let good : f.mark ≡ Good = ap (λ (x : FlightState g.row.D.Denot). x.mark) c.flight.view_is ∙ c.requires.good in
-    c.in_ok-world.ensures ∙ c.world.ensures ∙ c.flight.invariant.world_is ∙ ap (λ m. carried_world m begun f.steps.items) good ∙ ap (λ (x : FlightState g.row.D.Denot). fold x.world x.steps) c.flight.view_is
 
 pub returns-in-Ok-clause-released : goal.returns-in-Ok-clause-released
 returns-in-Ok-clause-released g c =

@@ -1,7 +1,7 @@
 use Rattle.std.proofs.Common.{◌≡◌, ◌≢◌, ◌∙◌, refl, sym, rules}
 use Rattle.coord_ledger.specs.declared.mark.Mark.{Mark}
 use Rattle.coord_ledger.specs.declared.mark.Mark.TheVariants.{New, Good, Torn}
-use Rattle.coord_ledger.proofs.follows.IsOut.{took_new, took_torn}
+use Rattle.coord_ledger.proofs.follows.IsOut.{took_torn}
 use Rattle.coord_ledger.proofs.ledger.Ledger.take_back.Goals as goal
 
 neither : (m n : Mark) → n ≡ m → n ≢ Torn → m ≢ Good → m ≡ New
@@ -13,8 +13,3 @@ pub invariant_of-self : goal.invariant_of-self
 invariant_of-self g c =
     let torn : c.into_parts-size.result.1 ≡ Torn = search rules in
     took_torn _ _ _ _ _ _ _ _ c.self.view_is c.self.invariant _ _ _ c.into_parts-size.ensures.store c.requires.own c.replace.ensures.after c.into_parts-size.result.0 c.into_parts-size.ensures.size (sym c.into_parts-size.ensures.mark ∙ torn)
-
-pub invariant_of-self-else-eq : goal.invariant_of-self-else-eq
-invariant_of-self-else-eq g c =
-    let other : c.into_parts-size.result.1 ≢ Torn = search rules in
-    took_new _ _ _ _ _ _ _ _ c.self.view_is c.self.invariant _ _ _ c.into_parts-size.ensures.store c.requires.own c.replace.ensures.after (neither _ _ c.into_parts-size.ensures.mark other c.requires.uncommitted)

@@ -1,6 +1,6 @@
-use Rattle.std.proofs.Common.{sym, subst, ap, ◌∙◌}
+use Rattle.std.proofs.Common.{sym, subst}
 use Rattle.coord_ledger.specs.declared.events.Event.TheVariants.{Commit}
-use Rattle.coord_ledger.specs.Facade.{Beside, Follows, Held, HeldTouches, found_by_crash, held, model_of, touches_disk}
+use Rattle.coord_ledger.specs.Facade.{Beside, Follows, Held, HeldTouches, found_by_crash, held, touches_disk}
 use Rattle.coord_ledger.proofs.event_driver.run.Run.commit.Goals as goal
 
 pub returns-clause-answered : goal.returns-clause-answered
@@ -12,6 +12,3 @@ returns-clause-disk g c s is follows =
     let b : Beside = record { claims = c.self.inside.tickets.items; seen = c.self.inside.seen; released = c.self.inside.released.items } in
     subst (λ (h : Held g.row.D.Denot). HeldTouches g.D.Disk.keeps_model g.D.Disk.present g.D.Disk.clock g.D.Disk.left_since g.D.CrashDisk.crashes (found_by_crash s Commit c.commit.result) (touches_disk Commit c.commit.result) Commit h (held c.commit.new.self b)) c.self.view_is
     (c.commit.ensures.disk b s is (subst (λ (h : Held g.row.D.Denot). Follows h s) (sym c.self.view_is) follows))
-
-pub returns-clause-model : goal.returns-clause-model
-returns-clause-model g c = c.commit.ensures.model ∙ ap (model_of g.D.Disk.keeps_model) c.self.view_is

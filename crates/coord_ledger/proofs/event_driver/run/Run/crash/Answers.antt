@@ -1,7 +1,7 @@
 use Rattle.std.proofs.Common.{true, sym, ap, ◌∙◌, subst}
 use Rattle.coord_ledger.specs.declared.events.Answer.TheVariants.{Opened}
 use Rattle.coord_ledger.specs.declared.events.Event.TheVariants.{Crash}
-use Rattle.coord_ledger.specs.Facade.{Beside, Follows, FollowsTo, Held, HeldTouches, IsEventFault, IsLost, after_crash, held, model_of}
+use Rattle.coord_ledger.specs.Facade.{Beside, Follows, FollowsTo, Held, HeldTouches, IsLost, after_crash, held, model_of}
 use Rattle.coord_ledger.proofs.drives.CutShort.{cut_before}
 use Rattle.coord_ledger.proofs.drives.FollowsTo.{crash_on}
 use Rattle.coord_ledger.proofs.event_driver.run.Run.crash.Goals as goal
@@ -21,16 +21,9 @@ returns-in-Ok-clause-disk g c s is follows =
     subst (λ (h : Held g.row.D.Denot). HeldTouches g.D.Disk.keeps_model g.D.Disk.present g.D.Disk.clock g.D.Disk.left_since g.D.CrashDisk.crashes s true Crash h (held c.in-Ok.driver (after_crash b))) c.self.view_is
     (c.in-Ok.ensures.disk b s is (subst (λ (h : Held g.row.D.Denot). Follows h s) (sym c.self.view_is) follows))
 
-pub returns-in-Ok-clause-model : goal.returns-in-Ok-clause-model
-returns-in-Ok-clause-model g c = c.in-Ok.ensures.model ∙ ap (model_of g.D.Disk.keeps_model) c.self.view_is
-
 pub returns-in-Err-clause-answered : goal.returns-in-Err-clause-answered
 returns-in-Err-clause-answered g c s is follows promised =
     cut_before _ s Crash (subst (λ (h : Held g.row.D.Denot). Follows h s) (sym c.self.view_is) follows)
-
-pub returns-in-Err-clause-cause : goal.returns-in-Err-clause-cause
-returns-in-Err-clause-cause g c =
-    subst (λ (h : Held g.row.D.Denot). IsEventFault (model_of g.D.Disk.keeps_model h) Crash c.in-Err.kind) c.self.view_is c.in-Err.ensures.cause
 
 pub returns-in-Err-clause-disk : goal.returns-in-Err-clause-disk
 returns-in-Err-clause-disk g c s is follows =

@@ -1,23 +1,11 @@
 use Rattle.std.proofs.Common.{refl, sym, ap, ◌∙◌, subst, MatchResult}
 use Rattle.coord_ledger.specs.declared.events.Event.TheVariants.{Begin, Collect, Commit, Finish, Resend, Show, Submit}
-use Rattle.coord_ledger.specs.Facade.{Held, HeldTouches, IsCutShort, IsLost, disk_held, found_by_crash, model_of, touches_disk, wants_memory}
+use Rattle.coord_ledger.specs.Facade.{Held, HeldTouches, IsCutShort, IsLost, disk_held, found_by_crash, touches_disk}
 use Rattle.coord_ledger.proofs.drives.CutShort.{cut_before}
-use Rattle.coord_ledger.proofs.drives.FollowsTo.{if_err_map, memory_fault, met, met_cut, on_err_map}
+use Rattle.coord_ledger.proofs.drives.FollowsTo.{met, met_cut, on_err_map}
 use Rattle.coord_ledger.proofs.drives.EachMoment.{lost_as_held, match_map, met_aside, met_commit}
 use Rattle.coord_ledger.proofs.event_driver.run.Run.meet.Goals as goal
 use Rattle.coord_ledger.proofs.event_driver.run.Run.meet.Goals.{in-Submit, in-Commit, in-Collect, in-Resend, in-Show}
-
-pub returns-in-Finish-clause-cause : goal.returns-in-Finish-clause-cause
-returns-in-Finish-clause-cause g c = if_err_map c.finish.result (λ broken is. memory_fault (model_of g.D.Disk.keeps_model c.args.self) c.args.event broken.kind is (ap wants_memory c.in-Finish.is)) c.finish.ensures.kind
-
-pub returns-in-Err-clause-cause : goal.returns-in-Err-clause-cause
-returns-in-Err-clause-cause g c = elim c.match-event.branch [
-  | in-Submit w ↦ memory_fault (model_of g.D.Disk.keeps_model c.args.self) c.args.event c.lose.result.kind c.lose.ensures.kind (ap wants_memory w.in-Submit.is)
-  | in-Commit w ↦ let no : ⊥ = cc (w.answer-is, c.in-Err.is) in absurd no
-  | in-Collect w ↦ let no : ⊥ = cc (w.answer-is, c.in-Err.is) in absurd no
-  | in-Resend w ↦ memory_fault (model_of g.D.Disk.keeps_model c.args.self) c.args.event c.lose.result.kind c.lose.ensures.kind (ap wants_memory w.in-Resend.is)
-  | in-Show w ↦ let no : ⊥ = cc (w.answer-is, c.in-Err.is) in absurd no
-]
 
 pub returns-in-Ok-clause-answered : goal.returns-in-Ok-clause-answered
 returns-in-Ok-clause-answered g c s is follows promised = elim c.match-event.branch [
@@ -52,15 +40,6 @@ returns-in-Ok-clause-disk g c s is follows = elim c.match-event.branch [
   | in-Collect w ↦ met_aside g.D.Disk.present g.D.Disk.clock g.D.Disk.left_since g.D.CrashDisk.crashes g.D.Disk.keeps_model g.met.D.Disk.only_now s c.args.event (Collect w.in-Collect.index) c.in-Ok.answer c.args.self c.match-event.held w.in-Collect.is refl refl (ap disk_held w.held-is ∙ w.collect.ensures.disk) (c.survives.ensures s is follows)
   | in-Resend w ↦ met_aside g.D.Disk.present g.D.Disk.clock g.D.Disk.left_since g.D.CrashDisk.crashes g.D.Disk.keeps_model g.met.D.Disk.only_now s c.args.event Resend c.in-Ok.answer c.args.self c.match-event.held w.in-Resend.is refl refl (ap disk_held w.held-is ∙ w.resend-answer.ensures.disk) (c.survives.ensures s is follows)
   | in-Show w ↦ met_aside g.D.Disk.present g.D.Disk.clock g.D.Disk.left_since g.D.CrashDisk.crashes g.D.Disk.keeps_model g.met.D.Disk.only_now s c.args.event Show c.in-Ok.answer c.args.self c.match-event.held w.in-Show.is refl refl (ap disk_held w.held-is ∙ w.show.ensures.disk) (c.survives.ensures s is follows)
-]
-
-pub returns-in-Err-clause-disk : goal.returns-in-Err-clause-disk
-returns-in-Err-clause-disk g c s is follows = elim c.match-event.branch [
-  | in-Submit w ↦ lost_as_held g.D.Disk.present g.D.Disk.clock g.D.Disk.left_since g.D.CrashDisk.crashes g.D.Disk.keeps_model s c.args.event c.args.self c.lose.result.disk (sym (ap disk_held w.held-is ∙ w.submit-answer.ensures.disk) ∙ c.lose.ensures.disk)
-  | in-Commit w ↦ let no : ⊥ = cc (w.answer-is, c.in-Err.is) in absurd no
-  | in-Collect w ↦ lost_as_held g.D.Disk.present g.D.Disk.clock g.D.Disk.left_since g.D.CrashDisk.crashes g.D.Disk.keeps_model s c.args.event c.args.self c.lose.result.disk (sym (ap disk_held w.held-is ∙ w.collect.ensures.disk) ∙ c.lose.ensures.disk)
-  | in-Resend w ↦ lost_as_held g.D.Disk.present g.D.Disk.clock g.D.Disk.left_since g.D.CrashDisk.crashes g.D.Disk.keeps_model s c.args.event c.args.self c.lose.result.disk (sym (ap disk_held w.held-is ∙ w.resend-answer.ensures.disk) ∙ c.lose.ensures.disk)
-  | in-Show w ↦ lost_as_held g.D.Disk.present g.D.Disk.clock g.D.Disk.left_since g.D.CrashDisk.crashes g.D.Disk.keeps_model s c.args.event c.args.self c.lose.result.disk (sym (ap disk_held w.held-is ∙ w.show.ensures.disk) ∙ c.lose.ensures.disk)
 ]
 
 pub returns-in-Begin-clause-disk : goal.returns-in-Begin-clause-disk
