@@ -1,5 +1,5 @@
 -- A server of which no fault is told was closed by a line.
-use Rattle.std.proofs.Common.{◌≡◌, ℕ, zero, suc, ◌+◌, List, [], ◌∷◌, ◌++◌, All, length, Bool, true, false, Option, Some, None, refl, sym, ap, ◌∙◌, subst, append-nil, append_assoc, arith, drop}
+use Rattle.std.proofs.Common.{◌≡◌, ℕ, zero, suc, ◌+◌, List, [], ◌∷◌, ◌++◌, All, length, Bool, true, false, Option, Some, None, refl, sym, ap, ◌∙◌, subst, append_assoc, arith, drop}
 use Rattle.std.proofs.lemmas.List.Elements.{All-push}
 use Rattle.coord_engine.specs.Facade.{AtSomeMoment, Basis, Closes, IsNamed, IsOfPacket, IsSince, based_on}
 use Rattle.coord_types.specs.declared.steps.Step.{Step}
@@ -14,13 +14,6 @@ use Rattle.coord_server.specs.Lives.{HasLived, HasLivedToClose, IsOver, Lives, R
 use Rattle.coord_server.specs.declared.fault.ServerFault.{ServerFault}
 use Rattle.coord_server.specs.declared.left.Left.{Left}
 use Rattle.coord_server.specs.declared.left.Left.TheVariants.{Resting, Ended}
-
-pub going_if_none : (stopped : Bool) (served : Option ServerFault) (is_broken : Bool) → fault_at_end stopped served is_broken ≡ None → stopped ≡ false
-going_if_none false served is_broken none = refl
-going_if_none true served is_broken none = absurd cc
-
-pub adds_no_worker : (first : List (List Note)) → AddsWorkers first first
-adds_no_worker first = ([], sym (append-nil first), λ k d within. absurd (omega arith))
 
 pub adds_worker : (first all later : List (List Note)) (notes : List Note) → AddsWorkers first all → later ≡ all ++ notes ∷ [] → All IsOfPacket notes → AddsWorkers first later
 adds_worker first all later notes added pushed packets = (added.0 ++ notes ∷ [], pushed ∙ ap (λ l. l ++ notes ∷ []) added.1 ∙ append_assoc first added.0 (notes ∷ []), All-push (All IsOfPacket) added.0 notes added.2 packets)

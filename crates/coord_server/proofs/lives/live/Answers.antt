@@ -1,10 +1,7 @@
-use Rattle.std.proofs.Common.{zero, refl, sym, subst}
+use Rattle.std.proofs.Common.{sym, subst}
 use Rattle.coord_server.specs.Lives.{HasLived}
 use Rattle.coord_server.proofs.Ends.{lives_end, lives_next}
 use Rattle.coord_server.proofs.lives.live.Goals as goal
-
-pub loop-init : goal.loop-init
-loop-init g c = (tt, tt, (zero, (refl, refl)), c.requires.going)
 
 pub loop-preserved : goal.loop-preserved
 loop-preserved g c =

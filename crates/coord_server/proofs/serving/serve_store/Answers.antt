@@ -1,17 +1,10 @@
-use Rattle.std.proofs.Common.{◌≡◌, false, sym, subst}
+use Rattle.std.proofs.Common.{sym, subst}
 use Rattle.std.proofs.lemmas.Result.{IfOk-weaker}
 use Rattle.std.specs.Prelude.{⊤}
 use Rattle.coord_store.specs.Kept.{has_stopped}
-use Rattle.coord_server.specs.Lives.{EndsOneHistory, HasLivedToClose}
-use Rattle.coord_server.proofs.Ends.{closed_lives, going_if_none}
+use Rattle.coord_server.specs.Lives.{HasLivedToClose}
+use Rattle.coord_server.proofs.Ends.{closed_lives}
 use Rattle.coord_server.proofs.serving.serve_store.Goals as goal
-
-pub returns-clause-going : goal.returns-clause-going
-returns-clause-going g c =
-    let ended = c.in_ok-ended.ended in
-    IfOk-weaker c.closed_of.result _ _
-    (λ closed is. subst (λ k. has_stopped k.store ≡ false) (sym is.0) (going_if_none (has_stopped ended.closed.store) ended.served ended.is_broken is.1))
-    c.closed_of.ensures.closed
 
 pub returns-clause-lives : goal.returns-clause-lives
 returns-clause-lives g c =
@@ -19,10 +12,4 @@ returns-clause-lives g c =
     IfOk-weaker c.closed_of.result _ _
     (λ closed is. subst (λ k. HasLivedToClose g.D.Disk.keeps_model g.D.Disk.present c.args.store.world k.store k.base k.trail.items k.settled) (sym is.0)
     (closed_lives g.D.Disk.keeps_model g.D.Disk.present (λ _ _ _. ⊤) (has_stopped ended.closed.store) ended.served ended.is_broken c.args.store.world c.new-callers.result ended.callers ended.closed.store ended.closed.base ended.closed.trail.items ended.closed.settled is.1 c.in_ok-ended.ensures.lives))
-    c.closed_of.ensures.closed
-
-pub returns-clause-whole : goal.returns-clause-whole
-returns-clause-whole g c =
-    IfOk-weaker c.closed_of.result _ _
-    (λ closed is. subst (λ k. EndsOneHistory c.args.store.world k.store k.base k.trail.items k.settled) (sym is.0) c.in_ok-ended.ensures.whole)
     c.closed_of.ensures.closed
