@@ -13,10 +13,7 @@ pub gives_up : {D : Type 0} (b : Basis D) (s : Step) (claim : Claim) (refusal : 
 gives_up b s claim refusal before after accepted told =
     inr (claim, accepted, record { state = told.state; held = told.held; so = (refl, told.so) })
 
-shows_from : {D : Type 0} (b : Basis D) (r : Result Shown Refusal) (before after : ℕ) → IfOk r (λ view. AtSomeMoment b (Shows {D = D} view before after)) → IfErr r (λ refusal. AtSomeMoment b (RefusesShow {D = D} refusal before)) → OnErr r (after ≡ before) → ShowsTo b r before after
-shows_from b (Ok view) before after shown refused unseen = shown
-shows_from b (Err refusal) before after shown refused unseen = (refused, unseen)
-
--- so much was seen, by another name
-pub shows : {D : Type 0} (b : Basis D) (r : Result Shown Refusal) (seen before after : ℕ) → seen ≡ before → IfOk r (λ view. AtSomeMoment b (Shows {D = D} view seen after)) → IfErr r (λ refusal. AtSomeMoment b (RefusesShow {D = D} refusal seen)) → OnErr r (after ≡ seen) → ShowsTo b r before after
-shows b r seen before after same shown refused unseen = subst (λ n. ShowsTo b r n after) same (shows_from b r seen after shown refused unseen)
+-- what was shown, or why it was not
+pub shows : {D : Type 0} (b : Basis D) (r : Result Shown Refusal) (before after : ℕ) → IfOk r (λ view. AtSomeMoment b (Shows {D = D} view before after)) → IfErr r (λ refusal. AtSomeMoment b (RefusesShow {D = D} refusal before)) → OnErr r (after ≡ before) → ShowsTo b r before after
+shows b (Ok view) before after shown refused unseen = shown
+shows b (Err refusal) before after shown refused unseen = (refused, unseen)
