@@ -3,7 +3,6 @@ pub mod Does
 pub mod HandedTo
 pub mod FlownTo
 pub mod Settled
-pub mod ReopenedTo
 pub mod Verdicts
 pub mod LineResponds
 pub mod Moments

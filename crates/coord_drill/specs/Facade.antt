@@ -1,9 +1,24 @@
 -- The definitions in which the proofs and the crates above speak of this crate.
+pub use Rattle.coord_disk.specs.declared.memory.MemDisk.{MemDisk}
+pub use Rattle.coord_types.specs.declared.refusals.Refusal.{Refusal}
+pub use Rattle.coord_types.specs.declared.steps.Reply.{Reply}
+pub use Rattle.coord_types.specs.declared.steps.Step.{Step}
+pub use Rattle.coord_world.specs.declared.verdicts.Verdict.{Verdict}
+pub use Rattle.coord_world.specs.declared.verdicts.Verdict.TheVariants.{Fresh, Repeat}
+pub use Rattle.coord_ledger.specs.declared.events.Answer.{Answer}
+pub use Rattle.coord_ledger.specs.declared.events.Event.{Event}
+pub use Rattle.coord_ledger.specs.declared.events.Answer.TheVariants.{Accepted, Begun, Committed, Finished, Nothing, Opened, Refused, Repeated}
+pub use Rattle.coord_ledger.specs.declared.release.Release.{Release}
+pub use Rattle.coord_drill.specs.declared.asked.Asked.{Asked}
+pub use Rattle.coord_drill.specs.declared.request.Request.{Request}
+pub use Rattle.coord_drill.specs.declared.drill.Drill.{Drill}
+pub use Rattle.coord_drill.specs.declared.fault.Fault.{Fault}
+pub use Rattle.coord_drill.specs.declared.drill.flying.Flown.{Flown}
 pub use Rattle.coord_drill.specs.Faults.{IsOfDisk, IsOfWork, IsOfWriting, MayEnd, MayEndBy, opens_disk}
 pub use Rattle.coord_drill.specs.Asked.{asked}
 pub use Rattle.coord_drill.specs.Drill.{DrillState, after_asked, drill_over, flight_events, landing_events, line_events, machine_of, seen_as, step_events}
 pub use Rattle.coord_drill.specs.Printed.{bad_line, count_line, fault_line, idle_line, opened_line, output_line, output_lines, pending_line, refusal_line, reply_line, settled_lines}
 pub use Rattle.coord_drill.specs.Answered.{Responds, asked_lines, flight_lines, kept_line}
 pub use Rattle.coord_drill.specs.Drilled.{LineResponds, Prints, UnlessSkipped, WritesFirstPart, asked_by, is_skipped}
-pub use Rattle.coord_drill.specs.Holding.{AreGranted, FlownTo, IsHeld, IsMade, IsReady, IsReadyWith, LandsAs, Tells, behind, claims_of, collected_lines, drill_of, flown_answers, flown_lines, front_of, landed_answers, left, left_by, released_lines, state_of, waiting}
+pub use Rattle.coord_drill.specs.Holding.{AreGranted, FlownTo, IsHeld, IsMade, IsReady, IsReadyWith, Lands, Settles, Tells, behind, claims_of, collected_lines, drill_of, flown_answers, flown_lines, front_of, landed_answers, left, left_by, released_lines, state_of, waiting}
 pub use Rattle.coord_drill.specs.Moments.{Begins, Carries, Flies, GoesBy, GoesOn, GoesOnTo, Hands, IsRun, Moves, MovesFrom}

@@ -1,5 +1,5 @@
 -- What the code holds: a ledger with its store at home, and a ticket for each pending step; and what it prints of these.
-use Rattle.std.specs.Prelude.{◌≡◌, ℕ, ◌==◌, ◌≤◌, nat_le, List, [], ◌∷◌, ◌++◌, length, Option, Some, None, if◌then◌else◌, Bool}
+use Rattle.std.specs.Prelude.{◌≡◌, ℕ, ◌-◌, ◌==◌, nat_le, List, [], ◌∷◌, ◌++◌, Option, Some, None, if◌then◌else◌, Bool}
 use Rattle.std.specs.List.{AllByRecursion}
 use Rattle.std.specs.Option.{option_map_or}
 use Rattle.coord_disk.specs.Disks.Memory.{present_of}
@@ -10,10 +10,8 @@ use Rattle.coord_types.specs.declared.steps.Step.{Step}
 use Rattle.coord_world.specs.Facade.{World, next, no_world, reply}
 use Rattle.coord_ledger.specs.declared.events.Answer.{Answer}
 use Rattle.coord_ledger.specs.declared.events.Answer.TheVariants.{Begun, Committed, Failed, Finished, Nothing}
-use Rattle.coord_ledger.specs.declared.mark.Mark.{Mark}
-use Rattle.coord_ledger.specs.declared.mark.Mark.TheVariants.{Good}
 use Rattle.coord_ledger.specs.declared.release.Release.{Release}
-use Rattle.coord_ledger.specs.Facade.{Claim, Driven, IsGranted, IsMarked, LedgerState, Log, at_home, claimed, front_world, ledger_over, log_over, next_size, pending, reply_of, settled_world, settling_releases, taken_back, with_out}
+use Rattle.coord_ledger.specs.Facade.{Claim, Driven, IsGranted, LedgerState, Log, claimed, front_world, ledger_over, log_over, pending, reply_of, settled_world, settling_releases}
 use Rattle.coord_drill.specs.Drill.{DrillState}
 use Rattle.coord_drill.specs.Printed.{commit_line, output_line, reply_line}
 use Rattle.coord_drill.specs.declared.drill.Drill.{Drill}
@@ -26,11 +24,9 @@ abbrev pub claims_of : World → List Step → List Claim
 claims_of w [] = []
 claims_of w (s ∷ ss) = claimed s (reply w s) ∷ claims_of (next w s) ss
 
-pub record IsHeld (l : LedgerState MemDisk) (claims : List Claim) : Type 0 where
-  pub home : l.out ≡ None
-  pub here : (disk : MemDisk) × (l.disk ≡ Some disk)
-  pub within : l.log.settled ≤ length l.log.trail
-  pub tickets : claims ≡ claims_of (settled_world l.log) (pending l.log)
+-- a ticket for each pending step
+abbrev pub IsHeld : LedgerState MemDisk → List Claim → Type 0
+IsHeld l claims = claims ≡ claims_of (settled_world l.log) (pending l.log)
 
 -- a drill holds these, and no flight is out; it goes without only once it has ended with a fault
 abbrev pub IsReadyWith : Option (Driven MemDisk) → List Claim → Type 0
@@ -62,23 +58,21 @@ pub record IsMade (version : ℕ) (l : LedgerState MemDisk) : Type 0 where
   pub adopted : l ≡ ledger_over (no_world version) disk
   pub present : present_of disk ≡ made HALF_SIZE version
 
--- what is told of a flight that is back with this mark, where its steps release all of these
-abbrev pub IsTold : Flown → List Release → Mark → Type 0
-IsTold flown.Nothing all mark = ⊥
-IsTold (flown.Settled releases) all mark = (mark ≡ Good) × (releases ≡ all)
-IsTold (flown.Failed fault) all mark = IsMarked (Failed fault) mark
+-- its steps are settled: the base stays, and what is released is what they give
+pub record Settles (old : Log) (releases : List Release) (new : Log) : Type 0 where
+  pub base : new.base ≡ old.base
+  pub released : releases ≡ settling_releases old (new.settled - old.settled)
 
--- a new flight of n steps, which release all of these, is committed and comes back
-pub record LandsAs (l : LedgerState MemDisk) (n : ℕ) (all : List Release) (r : Flown) (d : Driven MemDisk) : Type 0 where
-  pub disk : MemDisk
-  pub mark : Mark
-  pub told : IsTold r all mark
-  pub is : d ≡ at_home (taken_back l n mark disk)
+-- a flight that was out lands so
+abbrev pub Lands : Log → Flown → Log → Type 0
+Lands old flown.Nothing new = ⊥
+Lands old (flown.Settled releases) new = Settles old releases new
+Lands old (flown.Failed fault) new = new.base ≡ old.base
 
 -- the next steps go out in one, if they may
-abbrev pub FlownTo : LedgerState MemDisk → Flown → Driven MemDisk → Type 0
-FlownTo l flown.Nothing d = d ≡ at_home l
-FlownTo l r d = LandsAs (with_out l (next_size l.log)) (next_size l.log) (settling_releases l.log (next_size l.log)) r d
+abbrev pub FlownTo : Log → Flown → Log → Type 0
+FlownTo old flown.Nothing new = new ≡ old
+FlownTo old r new = Lands old r new
 
 -- what the commit of a flight and its return were answered, where so many steps are settled then
 abbrev pub landed_answers : Flown → ℕ → List Answer

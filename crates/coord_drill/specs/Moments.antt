@@ -31,7 +31,9 @@ use Rattle.coord_drill.specs.declared.drill.Drill.{Drill}
 -- these events with these answers are a run from a ledger at home, that has come to what is driven
 pub record IsRun (l : LedgerState MemDisk) (events : List Event) (given : List Answer) (d : Driven MemDisk) : Type 0 where
   pub beside : Beside
-  pub drives : (first : MemDisk) → l.disk ≡ Some first → Drives present_of clock_of (λ disk. LeftSince (past_of disk)) CrashesByChoice true first l events given (held d beside)
+  pub first : MemDisk
+  pub home : l.disk ≡ Some first
+  pub drives : Drives present_of clock_of (λ disk. LeftSince (past_of disk)) CrashesByChoice true first l events given (held d beside)
 
 -- a run may begin at what a drill holds
 abbrev pub Begins : Option (Driven MemDisk) → Type 0

@@ -11,6 +11,7 @@ pub mod ConsistentFlights
 pub mod Consistent
 pub mod SettledStays
 pub mod Safe
+pub mod Silent
 pub mod Moved
 pub mod SignalsOnce
 pub mod WorkedRuns

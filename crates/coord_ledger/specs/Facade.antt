@@ -1,4 +1,22 @@
--- The definitions in which the proofs and the crates above speak of this crate.
+-- The definitions and types in which the proofs and the crates above speak of this crate.
+pub use Rattle.coord_types.specs.declared.outputs.Output.{Output}
+pub use Rattle.coord_types.specs.declared.refusals.Refusal.{Refusal}
+pub use Rattle.coord_types.specs.declared.steps.Kind.{Kind}
+pub use Rattle.coord_types.specs.declared.steps.Reply.{Reply}
+pub use Rattle.coord_types.specs.declared.steps.Session.{Session}
+pub use Rattle.coord_types.specs.declared.steps.Step.{Step}
+pub use Rattle.coord_world.specs.declared.verdicts.Verdict.{Verdict}
+pub use Rattle.coord_world.specs.declared.verdicts.Verdict.TheVariants.{Fresh, Repeat}
+pub use Rattle.coord_ledger.specs.declared.events.Answer.{Answer}
+pub use Rattle.coord_ledger.specs.declared.events.Answer.TheVariants.{Accepted, Begun, Collected, Committed, Failed, Finished, NoFlight, NoTicket, Nothing, Opened, Refused, Repeated, Resent, Shown, Waiting}
+pub use Rattle.coord_ledger.specs.declared.events.Event.{Event}
+pub use Rattle.coord_ledger.specs.declared.events.Event.TheVariants.{Begin, Collect, Commit, Crash, Finish, Resend, Show, Submit}
+pub use Rattle.coord_ledger.specs.declared.handed.Handed.{Handed}
+pub use Rattle.coord_ledger.specs.declared.mark.Mark.{Mark}
+pub use Rattle.coord_ledger.specs.declared.mark.Mark.TheVariants.{Good, New, Torn}
+pub use Rattle.coord_ledger.specs.declared.release.Release.{Release}
+pub use Rattle.coord_ledger.specs.declared.ticket.Note.{Note}
+pub use Rattle.coord_ledger.specs.declared.trace.RunFaultKind.{RunFaultKind}
 pub use Rattle.coord_ledger.specs.machine.Log.{Log, accepted_count, cut_to, front_world, has_stopped, log_over, moved, pending, settled_count, settled_steps, settled_world, with_doubt, with_settled, with_step, world_after}
 pub use Rattle.coord_ledger.specs.machine.Submits.{is_full, unless_full, verdict}
 pub use Rattle.coord_ledger.specs.machine.Machine.{FlightOut, Machine, adopted, machine_over}
@@ -10,7 +28,7 @@ pub use Rattle.coord_ledger.specs.ledger.State.{Claim, FlightState, IsCollectabl
 pub use Rattle.coord_ledger.specs.ledger.Follows.{Follows, FollowsTo, GivesOneOf, Held, HoldsFlight, HoldsTicket, HoldsTickets, ImagesGive, IsOut, flight_out}
 pub use Rattle.coord_ledger.specs.ledger.Calls.{FlightGives, GivesFlown, GivesSettled, HandedTo, LedgerGives, RefusesFlight, RefusesStep, claimed, keeps_store, next_flight, releases_in, taken_back, with_accepted, with_out}
 pub use Rattle.coord_ledger.specs.ledger.Driver.{Drives, HeldSurvives, HeldTouches, IsEventFault, IsLost, IsPromised, IsReopenFault, IsReopened, brought_home, disk_held, disk_with, model_of}
-pub use Rattle.coord_ledger.specs.ledger.Driven.{Beside, CommitsTo, Driven, FinishesTo, IsLeftByCrash, IsMarked, LandsTo, SendsOut, after_crash, answer_to, at_home, disk_driven, held, model_driven, nothing_beside, with_claim, with_releases}
+pub use Rattle.coord_ledger.specs.ledger.Driven.{Beside, Driven, FinishesTo, IsAnew, MayBegin, after_crash, answer_to, at_home, disk_driven, held, model_driven, nothing_beside, with_claim, with_releases}
 pub use Rattle.coord_ledger.specs.promises.Parts.{IsPartOf, released_first}
 pub use Rattle.coord_ledger.specs.promises.Moments.{LeavesWithin, Reopens, touches_disk}
 pub use Rattle.coord_ledger.specs.promises.Headline.{Broke, CrashPrefix, EachMoment, HasCause, IsCutShort, IsLeft, IsReplyOf, IsSafe, IsTrulyAgain, Promised, Ran, Survives, Touches, ended, found_by_crash, is_crash, is_signal, wants_memory}

@@ -1,9 +1,9 @@
 //! The driver of a ledger.
 
-ghost use Rattle.std.specs.Prelude.{◌≡◌, [], IfErr, IfOk, None, Some};
+ghost use Rattle.std.specs.Prelude.{◌≡◌, IfErr, IfOk, None, Some};
 ghost use Rattle.std.specs.Option.{option_map};
-ghost use Rattle.coord_ledger.specs.ledger.Driven.{Beside, at_home, disk_driven, held, nothing_beside};
-ghost use Rattle.coord_ledger.specs.ledger.Driver.{Drives, HeldSurvives, brought_home};
+ghost use Rattle.coord_ledger.specs.ledger.Driven.{Beside, MayBegin, at_home, disk_driven, held};
+ghost use Rattle.coord_ledger.specs.ledger.Driver.{HeldSurvives, brought_home};
 ghost use Rattle.coord_ledger.specs.ledger.Follows.{Follows, ImagesGive, flight_out};
 ghost use Rattle.coord_ledger.specs.machine.Answers.{kept_by};
 ghost use Rattle.coord_ledger.specs.machine.Consistent.{IsConsistent};
@@ -23,8 +23,9 @@ use std::marker::Model;
 ///
 /// Each call is an event of the event machine, whatever the holder has beside it (`answered`): what
 /// it is answered is one of the machine's answers, and what is held then follows the machine. It
-/// says what it does to the disk at each of its moments (`disk`), and what becomes of the ledger.
-/// Replies, resends and views are the ledger's own calls, which change nothing: [`Driver::ledger`].
+/// says what it does to the disk at each of its moments (`disk`), and how much of the ledger's log
+/// stays, so that a holder reads the ledger off the machine. Replies, resends and views are the
+/// ledger's own calls, which change nothing: [`Driver::ledger`].
 ///
 /// Contracts see `Driven` (`specs/ledger/Driven.antt`); its type keeps that the flight is the
 /// ledger's own.
@@ -76,13 +77,11 @@ impl<D: CrashDisk> Driver<D> {
         }
     }
 
-    /// Does nothing: its contract is that a run of events may begin here: it is what is kept of a run
-    /// before its first event (`Drives`).
+    /// Does nothing: its contract is that a run of events may begin here, where no flight is out: it is
+    /// what is kept of a run before its first event (`Drives`), from the ledger's disk on.
     pub fn begins(&self)
         requires { self.now.flight ≡ None }
-        ensures { (first : D) → self.now.ledger.disk ≡ Some first →
-            Drives D.present D.clock D.left_since D.crashes
-            (D.keeps_model first) first self.now.ledger [] [] (held self.now nothing_beside) }
+        ensures { MayBegin D.keeps_model D.present D.clock D.left_since D.crashes self.now }
     {
         self.ledger.log_is_consistent();
         self.survives();

@@ -37,7 +37,6 @@ pub fn run_events<D: CrashDisk>(
     events: &[Event],
 ) -> Result<(Trace, Ledger<D>), RunFault>
     requires home { ledger.out ≡ None }
-    requires going { ledger.log.doubt ≡ None }
 
     // A run that is answered: the main theorem, and the ledger that is left.
     ensures ran { IfOk result (λ r. (before : D) → (after : D) → ledger.disk ≡ Some before →
@@ -57,14 +56,14 @@ pub fn run_events<D: CrashDisk>(
     ensures cause { IfErr result (λ fault. (before : D) → ledger.disk ≡ Some before →
         HasCause (D.keeps_model before) events.now fault.at fault.kind) }
 {
-    ledger.log_is_consistent();
+    let driver = Driver::over(ledger);
+    driver.begins();
     let mut held = Run {
-        driver: Driver::over(ledger),
+        driver,
         tickets: Vec::new(alloc),
         seen: Seen::new(),
         released: Vec::new(alloc),
     };
-    held.survives();
     let mut answers = Vec::new(alloc);
     if answers.reserve(events.len()).is_err() {
         return Err(held.lose().at(0, answers));

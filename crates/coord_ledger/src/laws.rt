@@ -7,48 +7,57 @@ ghost use Rattle.coord_ledger.specs.laws.Moving.{CrashReopens, MovedAnswersAlike
 
 /// The first refusal that applies: Stopped; unless it is a repeat, PendingFull; then Exhausted, and
 /// the step's own in the order of their numbers.
+#[tactic(auto, using(crate::proofs::machine::Verdicts::submit_order))]
 pub fn submit_order()
     ensures { SubmitOrder }
 {}
 
 /// Accepting, settling and cutting keep a log consistent: each pending step stays fresh as more are
 /// settled.
+#[tactic(auto, using(crate::proofs::machine::Logs::log_stays))]
 pub fn log_stays()
     ensures { LogStays }
 {}
 
 /// Each event has an answer.
+#[tactic(auto, using(crate::proofs::machine::Silent::has_answer))]
 pub fn has_answer()
     ensures { HasAnswer }
 {}
 
 /// The settled steps stay, in a crash too.
+#[tactic(auto, using(crate::proofs::machine::SettledStays::settled_stays))]
 pub fn settled_stays()
     ensures { SettledStays }
 {}
 
 /// A ledger that was just made of a store is consistent.
+#[tactic(auto, using(crate::proofs::machine::Consistent::adopted_is_consistent))]
 pub fn adopted_is_consistent()
     ensures { AdoptedIsConsistent }
 {}
 
 /// An event leaves a ledger consistent, whatever it is answered.
+#[tactic(auto, using(crate::proofs::machine::Consistent::stays_consistent))]
 pub fn stays_consistent()
     ensures { StaysConsistent }
 {}
 
 /// So does a run of events.
+#[tactic(auto, using(crate::proofs::machine::Consistent::run_is_consistent))]
 pub fn run_is_consistent()
     ensures { RunIsConsistent }
 {}
 
 /// Runs grow by one event at a time.
+#[tactic(auto, using(crate::proofs::machine::Consistent::run_goes_on))]
 pub fn run_goes_on()
     ensures { RunGoesOn }
 {}
 
 /// Whatever a crash may keep is a legal world, with every step of which anything was told, and with
 /// no step that was not accepted.
+#[tactic(auto, using(crate::proofs::machine::Safe::kept_is_safe))]
 pub fn kept_is_safe()
     ensures { KeptIsSafe }
 {}
@@ -70,21 +79,25 @@ pub fn finish_keeps_kept()
 {}
 
 /// The headline, from what a store says of its images.
+#[tactic(auto, using(crate::proofs::machine::Safe::prefix_from_images))]
 pub fn prefix_from_images()
     ensures { PrefixFromImages }
 {}
 
 /// A log stays consistent where its base moves along its settled steps.
+#[tactic(auto, using(crate::proofs::machine::Logs::moved_is_consistent))]
 pub fn moved_is_consistent()
     ensures { MovedIsConsistent }
 {}
 
 /// A ledger answers as one whose base is moved along the settled steps, as it is after a crash.
+#[tactic(auto, using(crate::proofs::machine::Moved::moved_answers_alike))]
 pub fn moved_answers_alike()
     ensures { MovedAnswersAlike }
 {}
 
 /// And it stays such a ledger, until a crash.
+#[tactic(auto, using(crate::proofs::machine::Moved::moved_goes_on))]
 pub fn moved_goes_on()
     ensures { MovedGoesOn }
 {}

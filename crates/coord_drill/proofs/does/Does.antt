@@ -1,22 +1,15 @@
 -- What flights, steps and crashes print, and what becomes of the drill, by the answers to their events.
-use Rattle.std.proofs.Common.{◌≡◌, ℕ, ◌+◌, ◌-◌, true, false, cond, List, [], ◌∷◌, Ok, Err, Option, Some, None, refl, sym, ap, ◌∙◌, subst, arith}
+use Rattle.std.proofs.Common.{Bool, ◌≡◌, ℕ, true, false, cond, List, [], ◌∷◌, Ok, Err, Option, Some, None, refl, sym, ap, ◌∙◌, subst}
 use Rattle.std.specs.Option.{option_map_or}
-use Rattle.coord_disk.specs.declared.memory.MemDisk.{MemDisk}
-use Rattle.coord_types.specs.declared.refusals.Refusal.{Refusal}
 use Rattle.coord_types.specs.declared.steps.Kind.{Kind}
-use Rattle.coord_types.specs.declared.steps.Reply.{Reply}
-use Rattle.coord_types.specs.declared.steps.Step.{Step}
-use Rattle.coord_world.specs.declared.verdicts.Verdict.TheVariants.{Fresh, Repeat}
 use Rattle.coord_world.specs.protocol.NumberedWorld.{World, no_world}
-use Rattle.coord_ledger.specs.declared.events.Answer.{Answer}
-use Rattle.coord_ledger.specs.declared.events.Answer.TheVariants.{Accepted, Opened, Refused, Repeated}
-use Rattle.coord_ledger.specs.Facade.{Claim, Driven, LedgerState, Machine, after_submit, crashed, ledger_over, log_over, run, settled_count, verdict, with_step, world_after}
-use Rattle.coord_ledger.proofs.machine.Moved.{crash_reopens}
+use Rattle.coord_ledger.specs.declared.events.Event.TheVariants as event
+use Rattle.coord_ledger.specs.Facade.{Claim, Driven, IsAnew, LedgerState, after_submit, held, ledger_over, log_over, pending, run as after_run, settled_count, settled_world, started, verdict, with_step}
+use Rattle.coord_ledger.proofs.follows.Follows.{log_behind}
 use Rattle.coord_drill.specs.Answered.{asked_lines, flight_lines, kept_line, repeat_line}
-use Rattle.coord_drill.specs.Drill.{DrillState, after_asked, flight_events, from_settled, machine_of, seen_as}
-use Rattle.coord_drill.specs.Facade.{IsHeld, IsReady, IsReadyWith, drill_of, opened_line, pending_line, refusal_line, state_of}
+use Rattle.coord_drill.specs.Drill.{DrillState, after_asked, flight_events, machine_of, seen_as}
 use Rattle.coord_drill.specs.declared.asked.Asked.TheVariants.{Crash, Submit}
-use Rattle.coord_drill.specs.declared.drill.Drill.{Drill}
+use Rattle.coord_drill.specs.Facade.{Accepted, Answer, Drill, Fresh, IsHeld, IsReady, IsReadyWith, IsRun, MemDisk, Opened, Refusal, Refused, Repeat, Repeated, Reply, Step, claims_of, drill_of, opened_line, pending_line, refusal_line, state_of}
 
 -- ---- drills over a ledger
 
@@ -38,7 +31,7 @@ home_is d v is ready = (subst (λ o. IsReadyWith o d.tickets.items) is ready).0
 
 -- nothing is pending in a ledger that was just made
 pub new_held : (l : LedgerState MemDisk) (w : World) (disk : MemDisk) (claims : List Claim) → l ≡ ledger_over w disk → claims ≡ [] → IsHeld l claims
-new_held l w disk claims is none = subst (λ cs. IsHeld l cs) (sym none) (subst (λ m. IsHeld m []) (sym is) (record { home = refl; here = (disk, refl); within = omega arith; tickets = refl }))
+new_held l w disk claims is none = none ∙ ap (λ (m : LedgerState MemDisk). claims_of (settled_world m.log) (pending m.log)) (sym is)
 
 -- ---- steps
 
@@ -56,18 +49,18 @@ module _ (s : DrillState) (x : Step) where
   unfolding after_asked
   held_after k n fresh is =
       let m = after_submit (machine_of s) x (verdict s.log x) (Accepted n) in
-      ap (λ b. seen_as (run m (cond b [] (flight_events [])) []) s.holds true) is ∙ ap (λ m. seen_as m s.holds true) (accepted k n fresh)
+      ap (λ b. seen_as (after_run m (cond b [] (flight_events [])) []) s.holds true) is ∙ ap (λ m. seen_as m s.holds true) (accepted k n fresh)
 
   pub flown_line : (n : ℕ) (given : List Answer) → s.holds ≡ false → asked_lines s (Submit x) (Accepted n ∷ given) ≡ flight_lines (with_step s.log x) given
   unfolding asked_lines
   flown_line n given is = ap (λ b. cond b (pending_line n) (flight_lines (with_step s.log x) given)) is
 
   pub flown_after : (k : Kind) (n : ℕ) (given : List Answer) → verdict s.log x ≡ Ok (Fresh k) → s.holds ≡ false →
-      after_asked s (Submit x) (Accepted n ∷ given) ≡ seen_as (run (record (machine_of s) { log = with_step s.log x; tickets = Some (record { step = n; kind = k }) ∷ [] }) (flight_events given) given) s.holds true
+      after_asked s (Submit x) (Accepted n ∷ given) ≡ seen_as (after_run (record (machine_of s) { log = with_step s.log x; tickets = Some (record { step = n; kind = k }) ∷ [] }) (flight_events given) given) s.holds true
   unfolding after_asked
   flown_after k n given fresh is =
       let m = after_submit (machine_of s) x (verdict s.log x) (Accepted n) in
-      ap (λ b. seen_as (run m (cond b [] (flight_events given)) given) s.holds true) is ∙ ap (λ m. seen_as (run m (flight_events given) given) s.holds true) (accepted k n fresh)
+      ap (λ b. seen_as (after_run m (cond b [] (flight_events given)) given) s.holds true) is ∙ ap (λ m. seen_as (after_run m (flight_events given) given) s.holds true) (accepted k n fresh)
 
   pub repeat_lines : (r : Reply) (n : ℕ) → verdict s.log x ≡ Ok (Repeat r) → asked_lines s (Submit x) (Repeated n ∷ []) ≡ kept_line (settled_count s.log) r
   unfolding asked_lines
@@ -91,9 +84,10 @@ pub crash_line : (s : DrillState) (count : ℕ) → opened_line count ≡ asked_
 unfolding asked_lines
 crash_line s count = refl
 
--- after a crash that keeps n steps it is over their world
-pub crash_after : (s : DrillState) (n : ℕ) → after_asked s Crash (Opened (s.log.base.count + n) ∷ []) ≡ record { log = log_over (world_after s.log n); holds = false; has_begun = s.has_begun }
+-- it is seen from the world that was opened
+pub crash_after : (v w : Driven MemDisk) (holds begun : Bool) (count : ℕ) → IsRun v.ledger (event.Crash ∷ []) (Opened count ∷ []) w → IsAnew w → drill_of w.ledger false begun ≡ after_asked (drill_of v.ledger holds begun) Crash (Opened count ∷ [])
 unfolding after_asked
-crash_after s n =
-    let back : s.log.base.count + n - s.log.base.count ≡ n = omega arith in
-    ap (λ k. seen_as (from_settled (crashed (machine_of s) k)) false s.has_begun) back ∙ ap (λ (m : Machine). seen_as m false s.has_begun) (crash_reopens (machine_of s) n)
+crash_after v w holds begun count run anew =
+    let m = after_run (started v.ledger) (event.Crash ∷ []) (Opened count ∷ []) in
+    let none = ap (λ (d : Driven MemDisk). d.ledger.log.settled) anew.is in
+    ap (λ g. record { log = g; holds = false; has_begun = begun }) (log_behind (held w run.beside) m run.drives.consistent run.drives.follows none)

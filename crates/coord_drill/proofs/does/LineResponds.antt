@@ -2,21 +2,11 @@
 use Rattle.std.proofs.Common.{◌≡◌, ◌≢◌, ℕ, ◌+◌, Bool, true, false, cond, List, [], ◌∷◌, ◌++◌, Option, Some, None, Result, Ok, Err, refl, sym, ap, ◌∙◌, subst, inl, map}
 use Rattle.std.specs.List.{AllByRecursion}
 use Rattle.coord_lines.specs.Lines.{Line}
-use Rattle.coord_types.specs.declared.refusals.Refusal.{Refusal}
 use Rattle.coord_types.specs.declared.refusals.Refusal.TheVariants.{OutOfMemory}
-use Rattle.coord_types.specs.declared.steps.Reply.{Reply}
-use Rattle.coord_types.specs.declared.steps.Step.{Step}
-use Rattle.coord_world.specs.declared.verdicts.Verdict.{Verdict}
-use Rattle.coord_world.specs.declared.verdicts.Verdict.TheVariants.{Fresh, Repeat}
-use Rattle.coord_ledger.specs.declared.events.Answer.{Answer}
-use Rattle.coord_ledger.specs.declared.events.Answer.TheVariants.{Accepted, Begun, Committed, Finished, Nothing, Opened, Refused, Repeated}
-use Rattle.coord_ledger.specs.declared.events.Event.{Event}
 use Rattle.coord_ledger.specs.declared.events.Event.TheVariants as event
 use Rattle.coord_ledger.specs.Facade.{Answered, IsOneOf, Machine, accepted_count, after_submit, front_world, kept_by, next_size, settled_count, stays_home, to_submit, verdict, with_step}
-use Rattle.coord_drill.specs.Facade.{DrillState, LineResponds, Prints, Responds, UnlessSkipped, after_asked, asked, asked_by, asked_lines, bad_line, flight_events, is_skipped, line_events, machine_of, step_events}
-use Rattle.coord_drill.specs.declared.asked.Asked.{Asked}
 use Rattle.coord_drill.specs.declared.asked.Asked.TheVariants as ask
-use Rattle.coord_drill.specs.declared.request.Request.{Request}
+use Rattle.coord_drill.specs.Facade.{Accepted, Answer, Asked, Begun, Committed, DrillState, Event, Finished, Fresh, LineResponds, Nothing, Opened, Prints, Refusal, Refused, Repeat, Repeated, Reply, Request, Responds, Step, UnlessSkipped, Verdict, after_asked, asked, asked_by, asked_lines, bad_line, flight_events, is_skipped, line_events, machine_of, step_events}
 use Rattle.coord_drill.proofs.does.Verdicts.{never_memory, no_refusal, other_refusal}
 
 -- ---- answers
@@ -90,13 +80,7 @@ may_line : (s : DrillState) (a : Asked) → May (machine_of s) (line_events s.ho
 may_line s (ask.Submit x) = may_step s x s.holds (verdict s.log x) refl
 may_line s ask.Flush = may_fly s []
 may_line s ask.Crash = may_crash s
-may_line s (ask.Refuse e) = none s
-may_line s ask.Nothing = none s
-may_line s ask.Resend = none s
-may_line s ask.Check = none s
-may_line s ask.Show = none s
-may_line s ask.Hold = none s
-may_line s ask.Version2 = none s
+may_line s other = none s
 
 -- ---- lines
 

@@ -5,12 +5,10 @@ use Rattle.std.proofs.lemmas.List.{length-take}
 use Rattle.std.proofs.Math.Seq.{take-append_seam}
 use Rattle.std.specs.List.{AllByRecursion}
 use Rattle.coord_types.specs.declared.outputs.Output.{Output}
-use Rattle.coord_types.specs.declared.steps.Step.{Step}
 use Rattle.coord_world.proofs.Facade.{by_test, fold-append, fold_counts, same_version}
 use Rattle.coord_world.specs.Facade.{World, again, fold, next, outputs, outs, reply}
-use Rattle.coord_ledger.specs.declared.release.Release.{Release}
 use Rattle.coord_ledger.specs.Facade.{Claim, IsCollectable, IsGranted, Log, release_of, releases_of, resent, settled_world}
-use Rattle.coord_drill.specs.Facade.{behind, claims_of, collected_lines, left, output_line, output_lines, released_lines, reply_line, settled_lines, waiting}
+use Rattle.coord_drill.specs.Facade.{Release, Step, behind, claims_of, collected_lines, left, output_line, output_lines, released_lines, reply_line, settled_lines, waiting}
 
 -- ---- the releases of one step
 

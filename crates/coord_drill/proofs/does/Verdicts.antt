@@ -3,20 +3,15 @@ use Rattle.std.proofs.Common.{◌≡◌, ◌≢◌, Bool, true, false, cond, [],
 use Rattle.std.proofs.lemmas.Bool.{false≢true}
 use Rattle.std.specs.List.{AllByRecursion}
 use Rattle.coord_types.specs.Facade.{get, same_command}
-use Rattle.coord_types.specs.declared.refusals.Refusal.{Refusal}
 use Rattle.coord_types.specs.declared.refusals.Refusal.TheVariants.{Exhausted, OutOfMemory, Stopped}
 use Rattle.coord_types.specs.declared.steps.Command.{Command}
 use Rattle.coord_types.specs.declared.steps.Command.TheVariants.{Add, Remove, Join, Drop, Reset, Confirm}
 use Rattle.coord_types.specs.declared.steps.Session.{Session}
-use Rattle.coord_types.specs.declared.steps.Step.{Step}
 use Rattle.coord_types.specs.declared.steps.Step.TheVariants.{Order, Take, Clear}
 use Rattle.coord_link.specs.LaneMachine.{Lane, Tests, refused_or}
 use Rattle.coord_world.proofs.Facade.{by_test}
-use Rattle.coord_world.specs.declared.verdicts.Verdict.{Verdict}
-use Rattle.coord_world.specs.declared.verdicts.Verdict.TheVariants.{Fresh, Repeat}
 use Rattle.coord_world.specs.Facade.{World, accepts, against, against_command, against_data, against_receipt, is_exhausted, judged, lane, or_repeat}
-use Rattle.coord_ledger.specs.declared.events.Answer.{Answer}
-use Rattle.coord_ledger.specs.declared.events.Answer.TheVariants.{Refused}
+use Rattle.coord_drill.specs.Facade.{Answer, Fresh, Refusal, Refused, Repeat, Step, Verdict}
 use Rattle.coord_ledger.specs.Facade.{Log, front_world, has_stopped, is_full, settled_world, unless_full, verdict}
 
 -- Tests that compute stand for what differs from want of memory: with a world in scope `cc` costs a second each time.

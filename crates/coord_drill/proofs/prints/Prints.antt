@@ -4,8 +4,7 @@ use Rattle.std.specs.Io.KnownBytes.{Appends, Consumes, IsAtEnd}
 use Rattle.std.proofs.KnownBytes.{Appends-trans, Consumes-trans, Consumes-whole}
 use Rattle.coord_lines.specs.Lines.{Line, extended, lines_on, before_line_feed, behind_line_feed, IsWithin}
 use Rattle.coord_lines.proofs.LinesOn.{lines_on-ended, lines_on-unended, extended-nothing}
-use Rattle.coord_drill.specs.declared.fault.Fault.{Fault}
-use Rattle.coord_drill.specs.Facade.{DrillState, IsOfDisk, IsOfWork, LineResponds, MayEndBy, Prints, WritesFirstPart}
+use Rattle.coord_drill.specs.Facade.{DrillState, Fault, IsOfDisk, IsOfWork, LineResponds, MayEndBy, Prints, WritesFirstPart}
 use Rattle.coord_drill.proofs.prints.FirstParts.{first_part-longer, first_part-none}
 use Rattle.coord_drill.proofs.does.LineResponds.{line_somehow}
 

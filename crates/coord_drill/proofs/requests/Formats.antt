@@ -1,6 +1,6 @@
 -- What is spelled of a format is read so, whatever words stand behind it, and no word of it holds a space: a law of each way of making formats.
 use Rattle.std.proofs.Common.{◌≡◌, Bool, true, false, cond, not, ◌&&◌, List, [], ◌∷◌, ◌++◌, length, Option, Some, None, refl, sym, ap, ◌∙◌, subst, append_assoc, arith, bytes_eq}
-use Rattle.std.specs.List.{All, position_or_len, join_with_byte}
+use Rattle.std.specs.List.{All, AllByRecursion, position_or_len, join_with_byte}
 use Rattle.std.proofs.lemmas.Option.{none-some}
 use Rattle.std.proofs.lemmas.List.Splits.{slice_split_at, slice_split_none}
 use Rattle.std.proofs.lemmas.List.Sums.{fails_before_first}
@@ -120,10 +120,21 @@ other_parts : (b c : Bool) → (not b && c) ≡ true → (b ≡ false) × (c ≡
 other_parts true c e = absurd cc
 other_parts false c e = (refl, e)
 
+both_true : (b c : Bool) → (b && c) ≡ true → (b ≡ true) × (c ≡ true)
+both_true true c e = (refl, e)
+both_true false c e = absurd cc
+
+abbrev pub are_apart : {A : Type 0} → List (Row A) → Bool
+are_apart [] = true
+are_apart (r ∷ rs) = is_other r rs && are_apart rs
+
+abbrev pub IsRow : {A : Type 0} → Row A → Type 0
+IsRow r = IsFormat r.fields × IsPlain r.verb
+
 -- rows of different verbs
-abbrev pub IsTable : {A : Type 0} → List (Row A) → Type 0
-IsTable [] = Unit {0}
-IsTable (r ∷ rs) = IsFormat r.fields × IsPlain r.verb × (is_other r rs ≡ true) × IsTable rs
+pub record IsTable {A : Type 0} (rows : List (Row A)) : Type 0 where
+  pub each : AllByRecursion IsRow rows
+  pub apart : are_apart rows ≡ true
 
 -- the row that a spelling is of
 pub record Found (A : Type 0) (rows : List (Row A)) (x : A) (ws rest : List Word) : Type 0 where
@@ -162,11 +173,14 @@ module _ {A : Type 0} where
 
   pub found_by : (rows : List (Row A)) → IsTable rows → (x : A) (ws rest : List Word) → spell_by rows x ≡ Some ws → Found A rows x ws rest
   found_by [] table x ws rest e = absurd (none-some ws e)
-  found_by (r ∷ rs) table x ws rest e = by (λ f. found_by rs table.3 x ws rest f) (r.fields.spell x) refl e
+  found_by (r ∷ rs) table x ws rest e = by (λ f. found_by rs (record { each = table.each.1; apart = others.1 }) x ws rest f) (r.fields.spell x) refl e
     where
+      others : (is_other r rs ≡ true) × (are_apart rs ≡ true)
+      others = both_true (is_other r rs) (are_apart rs) table.apart
+
       by : (spell_by rs x ≡ Some ws → Found A rs x ws rest) → (o : Option (List Word)) → r.fields.spell x ≡ o → or_else (o >>= λ vs. Some (r.verb ∷ vs)) (spell_by rs x) ≡ Some ws → Found A (r ∷ rs) x ws rest
-      by later None f g = found_later r rs x ws rest table.2 (later g)
-      by later (Some vs) f g = let same : r.verb ∷ vs ≡ ws = cc in found_here r rs x vs ws rest table.0 table.1 f same
+      by later None f g = found_later r rs x ws rest others.0 (later g)
+      by later (Some vs) f g = let same : r.verb ∷ vs ≡ ws = cc in found_here r rs x vs ws rest table.each.0.0 table.each.0.1 f same
 
   pub one_of_format : (rows : List (Row A)) → IsTable rows → IsFormat (one_of rows)
   one_of_format rows table = record {

@@ -1,7 +1,7 @@
 -- A line that is spelled is read so.
 use Rattle.std.proofs.Common.{◌≡◌, ℕ, List, [], ◌∷◌, Option, Some, None, refl, sym, ap, ◌∙◌, append-nil}
 use Rattle.std.specs.List.{join_with_byte}
-use Rattle.coord_drill.specs.declared.request.Request.{Request}
+use Rattle.coord_drill.specs.Facade.{Request}
 use Rattle.coord_drill.specs.Format.{◌>>=◌, Word, one_of, read_by, read_first}
 use Rattle.coord_drill.specs.Grammar.{words_of, requests, request_of, spelled, all_read}
 use Rattle.coord_drill.specs.Laws.{SpelledIsRead}

@@ -35,29 +35,7 @@ confirm_parts _ x e = absurd (none-some x e)
 -- the verbs of commands differ, and each row is read as it is spelled
 pub commands_table : IsTable commands
 unfolding commands
-commands_table = (
-  by_parts _ _ add_parts (both node_format group_format),
-  refl,
-  refl,
-  (
-    by_parts _ _ remove_parts node_format,
-    refl,
-    refl,
-    (
-      by_parts _ _ join_parts (both node_format node_format),
-      refl,
-      refl,
-      (
-        by_parts _ _ drop_parts (both node_format node_format),
-        refl,
-        refl,
-        (
-          by_parts _ _ reset_parts node_format,
-          refl,
-          refl,
-          (by_parts _ _ confirm_parts (both node_format number_format), refl, refl, tt),
-        ),
-      ),
-    ),
-  ),
-)
+commands_table = record {
+  each = ((by_parts _ _ add_parts (both node_format group_format), refl), ((by_parts _ _ remove_parts node_format, refl), ((by_parts _ _ join_parts (both node_format node_format), refl), ((by_parts _ _ drop_parts (both node_format node_format), refl), ((by_parts _ _ reset_parts node_format, refl), ((by_parts _ _ confirm_parts (both node_format number_format), refl), tt))))));
+  apart = refl;
+}

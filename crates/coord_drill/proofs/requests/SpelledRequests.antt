@@ -1,14 +1,15 @@
 -- What is spelled of a request is read so: the rows of the table of requests.
-use Rattle.std.proofs.Common.{◌≡◌, ℕ, not, ◌&&◌, List, [], ◌∷◌, map, Some, None, refl, ap, ◌∙◌, bytes_eq}
+use Rattle.std.proofs.Common.{◌≡◌, ℕ, List, [], ◌∷◌, map, Some, None, refl}
+use Rattle.std.specs.List.{AllByRecursion}
 use Rattle.std.proofs.lemmas.Option.{none-some}
 use Rattle.coord_types.specs.declared.messages.Msg.{Msg}
 use Rattle.coord_types.specs.declared.messages.Msg.TheVariants.{Abort, Ack, Ready}
 use Rattle.coord_types.specs.declared.steps.Command.{Command}
-use Rattle.coord_drill.specs.declared.request.Request.{Request}
+use Rattle.coord_drill.specs.Facade.{Request}
 use Rattle.coord_drill.specs.declared.request.Request.TheVariants.{Next, Order, Take, Clear, Data, Receipt, Resend, Check, Show, Hold, Flush, Crash, Version2}
 use Rattle.coord_drill.specs.Format.{Row}
 use Rattle.coord_drill.specs.Grammar.{commands, next_row, messages, order_fields, data_fields, receipt_fields, version_fields, other_requests, requests}
-use Rattle.coord_drill.proofs.requests.Formats.{IsFormat, nothing_format, made_of, both, by_parts, is_other, IsTable, one_of_format}
+use Rattle.coord_drill.proofs.requests.Formats.{IsFormat, IsRow, IsTable, nothing_format, made_of, both, by_parts, one_of_format}
 use Rattle.coord_drill.proofs.requests.SpelledFields.{distance_format, number_format, node_format, client_format, two_format}
 use Rattle.coord_drill.proofs.requests.SpelledCommands.{commands_table}
 
@@ -17,15 +18,10 @@ next_parts : (y : Request) (x : Command) → (elim y [ Next c ↦ Some c | _ ↦
 next_parts (Next c) x e = made_of Next c x e
 next_parts _ x e = absurd (none-some x e)
 
--- these rows keep their verbs
-next_row-is_other : (r : Row Command) (rows : List (Row Command)) → is_other (next_row r) (map next_row rows) ≡ is_other r rows
-next_row-is_other r [] = refl
-next_row-is_other r (s ∷ ss) = ap (λ b. not (bytes_eq s.verb r.verb) && b) (next_row-is_other r ss)
-
 -- the rows of the commands are rows of requests
-next_table : (rows : List (Row Command)) → IsTable rows → IsTable (map next_row rows)
-next_table [] h = tt
-next_table (r ∷ rs) h = (by_parts _ _ next_parts h.0, h.1, next_row-is_other r rs ∙ h.2, next_table rs h.3)
+next_rows : (rows : List (Row Command)) → AllByRecursion IsRow rows → AllByRecursion IsRow (map next_row rows)
+next_rows [] h = tt
+next_rows (r ∷ rs) h = ((by_parts _ _ next_parts h.0.0, h.0.1), next_rows rs h.1)
 
 order_parts : (y : Request) (x : ℕ × (ℕ × Command)) → (elim y [ Order c n o ↦ Some (c, (n, o)) | _ ↦ None ]) ≡ Some x → Order x.0 x.1.0 x.1.1 ≡ y
 order_parts (Order c n o) x e = made_of (λ p. Order p.0 p.1.0 p.1.1) (c, (n, o)) x e
@@ -58,12 +54,10 @@ ready_parts _ x e = absurd (none-some x e)
 -- the names of messages differ, and each row is read as it is spelled
 messages_table : (version : ℕ) → IsTable (messages version)
 unfolding messages
-messages_table version = (
-  by_parts _ _ abort_parts (distance_format version),
-  refl,
-  refl,
-  (by_parts _ _ ack_parts nothing_format, refl, refl, (by_parts _ _ ready_parts nothing_format, refl, refl, tt)),
-)
+messages_table version = record {
+  each = ((by_parts _ _ abort_parts (distance_format version), refl), ((by_parts _ _ ack_parts nothing_format, refl), ((by_parts _ _ ready_parts nothing_format, refl), tt)));
+  apart = refl;
+}
 
 data_parts : (y : Request) (x : ℕ × (ℕ × (ℕ × (ℕ × Msg)))) → (elim y [ Data d ↦ Some (d.from, (d.to, (d.inc, (d.number, d.msg)))) | _ ↦ None ]) ≡ Some x
     → Data (record { from = x.0; to = x.1.0; inc = x.1.1.0; number = x.1.1.1.0; msg = x.1.1.1.1 }) ≡ y
@@ -119,49 +113,7 @@ version_format = by_parts _ _ version_parts two_format
 -- so do those of requests
 pub requests_table : (version : ℕ) → IsTable (requests version)
 unfolding other_requests commands
-requests_table version = (
-  order_format,
-  refl,
-  refl,
-  (
-    by_parts _ _ take_parts (both node_format node_format),
-    refl,
-    refl,
-    (
-      by_parts _ _ clear_parts (both node_format node_format),
-      refl,
-      refl,
-      (
-        data_format version,
-        refl,
-        refl,
-        (
-          receipt_format,
-          refl,
-          refl,
-          (
-            by_parts _ _ resend_parts nothing_format,
-            refl,
-            refl,
-            (
-              by_parts _ _ check_parts nothing_format,
-              refl,
-              refl,
-              (
-                by_parts _ _ show_parts nothing_format,
-                refl,
-                refl,
-                (
-                  by_parts _ _ hold_parts nothing_format,
-                  refl,
-                  refl,
-                  (by_parts _ _ flush_parts nothing_format, refl, refl, (by_parts _ _ crash_parts nothing_format, refl, refl, (version_format, refl, refl, next_table commands commands_table))),
-                ),
-              ),
-            ),
-          ),
-        ),
-      ),
-    ),
-  ),
-)
+requests_table version = record {
+  each = ((order_format, refl), ((by_parts _ _ take_parts (both node_format node_format), refl), ((by_parts _ _ clear_parts (both node_format node_format), refl), ((data_format version, refl), ((receipt_format, refl), ((by_parts _ _ resend_parts nothing_format, refl), ((by_parts _ _ check_parts nothing_format, refl), ((by_parts _ _ show_parts nothing_format, refl), ((by_parts _ _ hold_parts nothing_format, refl), ((by_parts _ _ flush_parts nothing_format, refl), ((by_parts _ _ crash_parts nothing_format, refl), ((version_format, refl), next_rows commands commands_table.each))))))))))));
+  apart = refl;
+}

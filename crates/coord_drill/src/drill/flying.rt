@@ -1,21 +1,14 @@
 //! Flights: pending steps are settled, and what they gave out is printed.
 
-ghost use Rattle.std.specs.Prelude.{◌≡◌, ◌≤◌, ◌∷◌, ◌++◌, ℕ, List, [], None, Ok, Some, OnOk, IfOk, IfSome, IfNone, length, string_bytes, IfErr};
+ghost use Rattle.std.specs.Prelude.{◌≡◌, ◌≤◌, ◌-◌, ◌∷◌, ◌++◌, ℕ, List, [], None, OnOk, IfOk, IfSome, IfNone, string_bytes, IfErr};
 ghost use Rattle.std.specs.List.{AllByRecursion};
-ghost use Rattle.coord_disk.specs.declared.memory.MemDisk.{MemDisk as Disk};
-ghost use Rattle.coord_world.specs.protocol.Outputs.{outs};
 ghost use Rattle.coord_ledger.specs.declared.events.Answer.TheVariants.{Finished};
 ghost use Rattle.coord_ledger.specs.declared.events.Event.TheVariants.{Finish};
-ghost use Rattle.coord_ledger.specs.declared.mark.Mark.TheVariants.{New};
 ghost use Rattle.coord_ledger.specs.declared.release.Release.{Release as Row};
-ghost use Rattle.coord_ledger.specs.ledger.Driven.{LandsTo};
-ghost use Rattle.coord_ledger.specs.ledger.State.{FlightState, IsGranted, reply_of};
-ghost use Rattle.coord_ledger.specs.machine.After.{releases_of};
-ghost use Rattle.coord_ledger.specs.machine.Answers.{next_size};
-ghost use Rattle.coord_ledger.specs.machine.Log.{settled_count, settled_world};
+ghost use Rattle.coord_ledger.specs.Facade.{IsGranted, next_size, reply_of, settled_count, settled_world, settling_releases};
 ghost use Rattle.coord_drill.specs.Drill.{landing_events};
 ghost use Rattle.coord_drill.specs.Faults.{IsOfMemory};
-ghost use Rattle.coord_drill.specs.Holding.{AreGranted, FlownTo, IsReady, LandsAs, Tells, behind, collected_lines, flown_answers, flown_lines, landed_answers, left, left_by, released_lines, waiting};
+ghost use Rattle.coord_drill.specs.Holding.{AreGranted, FlownTo, IsReady, Lands, Tells, behind, collected_lines, flown_answers, flown_lines, landed_answers, left, left_by, released_lines, waiting};
 ghost use Rattle.coord_drill.specs.Moments.{Carries, Flies, GoesBy, GoesOnTo};
 ghost use Rattle.coord_drill.specs.declared.asked.Asked.TheVariants.{Flush};
 ghost use Rattle.coord_drill.specs.declared.fault.Fault.TheVariants.{OutOfMemory};
@@ -69,6 +62,7 @@ impl Drill {
             Flies self.old told self.new)) }
         ensures fault { IfErr result IsOfMemory }
     {
+        self.driver();
         let Some(driver) = self.driver.take() else {
             unreachable!()
         };
@@ -102,7 +96,7 @@ fn print_flown(
 /// Sends the next steps out, commits them, and takes the flight back.
 fn send_out(driver: Driver<MemDisk>) -> Result<Landing, Fault>
     requires home { driver.flight ≡ None }
-    ensures flown { IfOk result (λ r. FlownTo driver.ledger r.flown r.driver) }
+    ensures flown { IfOk result (λ r. FlownTo driver.ledger.log r.flown r.driver.ledger.log) }
     ensures moments { IfOk result (λ r. GoesBy driver
         (flown_answers r.flown (next_size driver.ledger.log) (settled_count r.driver.ledger.log))
         r.driver) }
@@ -124,9 +118,7 @@ fn send_out(driver: Driver<MemDisk>) -> Result<Landing, Fault>
 
 /// Commits the flight that is out, and takes it back.
 fn land(driver: Driver<MemDisk>) -> Result<Landing, Fault>
-    ensures landed { IfOk result (λ r. (f : FlightState Disk) → driver.flight ≡ Some f →
-        f.mark ≡ New → LandsAs driver.ledger (length f.steps)
-        (releases_of (outs f.world f.steps)) r.flown r.driver) }
+    ensures lands { IfOk result (λ r. Lands driver.ledger.log r.flown r.driver.ledger.log) }
     ensures moments { IfOk result (λ r. GoesOnTo driver landing_events
         (landed_answers r.flown (settled_count r.driver.ledger.log)) r.driver) }
     ensures fault { IfErr result IsOfMemory }
@@ -156,8 +148,9 @@ fn land(driver: Driver<MemDisk>) -> Result<Landing, Fault>
 
 /// Takes the flight that is out back. Where there is no memory for what it releases, all is lost.
 fn take_back(driver: Driver<MemDisk>) -> Result<(Releases, Driver<MemDisk>), Fault>
-    ensures landed { IfOk result (λ r. (f : FlightState Disk) → driver.flight ≡ Some f →
-        LandsTo driver.ledger f (Ok (Some r.0)) r.1) }
+    ensures base { IfOk result (λ r. r.1.ledger.log.base ≡ driver.ledger.log.base) }
+    ensures released { IfOk result (λ r. r.0 ≡ settling_releases driver.ledger.log
+        (r.1.ledger.log.settled - driver.ledger.log.settled)) }
     ensures moments { IfOk result (λ r. GoesOnTo driver (Finish ∷ [])
         (Finished (settled_count r.1.ledger.log) ∷ []) r.1) }
     ensures fault { IfErr result IsOfMemory }

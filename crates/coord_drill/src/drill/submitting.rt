@@ -1,8 +1,7 @@
 //! Steps are handed in.
 
 ghost use Rattle.std.specs.Prelude.{◌≡◌, ◌++◌, OnOk, string_bytes, IfErr};
-ghost use Rattle.coord_ledger.specs.ledger.State.{IsGranted, reply_of};
-ghost use Rattle.coord_ledger.specs.machine.Log.{settled_count};
+ghost use Rattle.coord_ledger.specs.Facade.{IsGranted, reply_of, settled_count};
 ghost use Rattle.coord_drill.specs.Answered.{kept_line};
 ghost use Rattle.coord_drill.specs.Faults.{IsOfMemory};
 ghost use Rattle.coord_drill.specs.Holding.{IsReady, Tells};

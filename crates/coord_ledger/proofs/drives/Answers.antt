@@ -1,14 +1,9 @@
 -- What a driver makes of each event follows the event machine.
 use Rattle.std.proofs.Common.{◌≡◌, ℕ, ◌≤◌, Bool, true, false, length, Ok, Err, refl, sym, ap, ◌∙◌, subst, Result, MatchResult, OnErr, IfOk, is_err, is_some}
 use Rattle.std.proofs.lemmas.List.{length-map}
-use Rattle.coord_types.specs.declared.refusals.Refusal.{Refusal}
-use Rattle.coord_types.specs.declared.refusals.Refusal.TheVariants as why
+use Rattle.coord_ledger.specs.Facade.{Answer, Follows, FollowsTo, Held, IsConsistent, Machine, Refusal, Refused, Show, Shown, accepted_count, release_of, resent, settled_count, settled_world}
 use Rattle.coord_types.specs.declared.refusals.Refusal.TheVariants.{OutOfMemory, Stopped}
 use Rattle.coord_world.specs.Facade.{World, again}
-use Rattle.coord_ledger.specs.declared.events.Answer.{Answer}
-use Rattle.coord_ledger.specs.declared.events.Answer.TheVariants.{Refused, Shown}
-use Rattle.coord_ledger.specs.declared.events.Event.TheVariants.{Show}
-use Rattle.coord_ledger.specs.Facade.{Follows, FollowsTo, Held, IsConsistent, Machine, accepted_count, release_of, resent, settled_count, settled_world}
 use Rattle.coord_view.specs.Shown as view
 use Rattle.coord_ledger.proofs.follows.FollowsTickets.{follows_not_shown, follows_shown, follows_unshown, never_behind}
 
@@ -62,5 +57,3 @@ err_gives (Err e) failed x = x
 pub ok_gives : {A E X : Type 0} (r : Result A E) → is_err r ≡ false → IfOk r (λ _. X) → X
 ok_gives (Ok a) fine x = x
 ok_gives (Err e) fine x = let no : ⊥ = cc in absurd no
-
--- ---- finish

@@ -3,13 +3,8 @@ use Rattle.std.proofs.Common.{◌≡◌, ◌⊎◌, ℕ, ◌<◌, Bool, true, Li
 use Rattle.std.proofs.Math.Seq.{take-length}
 use Rattle.std.proofs.lemmas.Option.{slice_get_past, slice_get_within}
 use Rattle.coord_disk.specs.Model.Present.{Present}
-use Rattle.coord_ledger.specs.declared.events.Answer.{Answer}
-use Rattle.coord_ledger.specs.declared.events.Event.{Event}
-use Rattle.coord_ledger.specs.declared.events.Event.TheVariants.{Crash}
-use Rattle.coord_ledger.specs.declared.release.Release.{Release}
-use Rattle.coord_ledger.specs.declared.trace.RunFaultKind.{RunFaultKind}
+use Rattle.coord_ledger.specs.Facade.{Answer, Answered, Broke, Crash, Drives, EachMoment, Event, Follows, HasCause, Held, IsConsistent, IsCutShort, IsEventFault, IsLost, IsPromised, LedgerState, Machine, Promised, Release, Reopens, RunFaultKind, Survives, disk_held, model_of, run, started}
 use Rattle.coord_ledger.specs.declared.trace.RunFaultKind.TheVariants.{OutOfMemory, Store}
-use Rattle.coord_ledger.specs.Facade.{Answered, Broke, Drives, EachMoment, Follows, HasCause, Held, IsConsistent, IsCutShort, IsEventFault, IsLost, IsPromised, LedgerState, Machine, Promised, Reopens, Survives, disk_held, model_of, run, started}
 use Rattle.coord_ledger.proofs.drives.CutShort.{cut_before}
 use Rattle.coord_ledger.proofs.drives.Drives.{Underway, event_promised, event_there, model_there, same_model}
 

@@ -5,9 +5,7 @@ use Rattle.std.specs.Option.{option_map}
 use Rattle.std.proofs.lemmas.Option.{slice_get_read}
 use Rattle.coord_disk.specs.Model.Present.{Present}
 use Rattle.coord_store.proofs.Freshness.{take-push}
-use Rattle.coord_ledger.specs.declared.events.Answer.{Answer}
-use Rattle.coord_ledger.specs.declared.events.Event.{Event}
-use Rattle.coord_ledger.specs.Facade.{Answered, CrashPrefix, DoubtFits, Driven, Drives, EachMoment, EventInRange, Follows, FollowsTo, Held, HeldSurvives, HeldTouches, HoldsFlight, HoldsTickets, IsConsistent, IsConsistentLog, IsPromised, LedgerState, Log, Machine, Promised, Touches, after, disk_held, disk_with, flight_out, found_by_crash, held, is_crash, model_of, nothing_beside, run, started, touches_disk}
+use Rattle.coord_ledger.specs.Facade.{Answer, Claim, CrashPrefix, DoubtFits, Driven, Drives, Event, EventInRange, Follows, FollowsTo, Held, HeldSurvives, HeldTouches, HoldsFlight, IsConsistent, IsConsistentLog, IsPromised, LedgerState, Log, Machine, MayBegin, Promised, Release, Touches, after, at_home, disk_held, disk_with, flight_out, found_by_crash, held, is_crash, model_of, nothing_beside, run, started, touches_disk}
 use Rattle.coord_ledger.proofs.machine.Consistent.{run_goes_on, stays_consistent}
 use Rattle.coord_ledger.proofs.drives.EachMoment.{moments_on}
 
@@ -78,41 +76,19 @@ module _ {D : Type 0} (present : D → Present) (clock : D → ℕ) (left_since 
     pub drives : (before : D) → start.disk ≡ Some before → Promised (keeps_model before) events (Drives present clock left_since crashes (keeps_model before) before start (take at events) given h)
 
   -- before the first event
-  pub underway_first : (keeps_model : D → Bool) (start : LedgerState D) (events : List Event) (given : List Answer) (h : Held D) → start.out ≡ None → start.log.doubt ≡ None → IsConsistentLog start.log →
-      h.ledger ≡ start → h.flight ≡ None → h.claims ≡ [] → h.seen ≡ 0 → h.released ≡ [] → given ≡ [] → ((s : Machine) → IsConsistent s → Follows h s → HeldSurvives keeps_model present h s) → Underway keeps_model start events 0 given h
-  underway_first keeps_model start events given h home going log_is its none claims seen released unanswered survives =
-      let is : IsConsistent (started start) =
+  pub underway_first : (keeps_model : D → Bool) (start : LedgerState D) (events : List Event) (given : List Answer) (d : Driven D) (claims : List (Option Claim)) (seen : ℕ) (released : List Release) → d ≡ at_home start →
+      MayBegin keeps_model present clock left_since crashes d → claims ≡ [] → seen ≡ 0 → released ≡ [] → given ≡ [] →
+      Underway keeps_model start events 0 given (held d (record { claims = claims; seen = seen; released = released }))
+  underway_first keeps_model start events given d claims seen released over begins no_claims unseen unreleased unanswered =
+      let same : held d (record { claims = claims; seen = seen; released = released }) ≡ held (at_home start) nothing_beside = λ i. held (over i) (record { claims = no_claims i; seen = unseen i; released = unreleased i }) in
       record {
-        log = log_is;
-        flight = tt;
-        doubt = subst (DoubtFits start.log None) (sym going) tt;
-        seen = omega arith;
-        tickets = tt;
-        told = record { released_settled = tt; once = tt; again = tt; replied_settled = tt; truly = tt };
-      } in
-      let all : start.log.settled - 0 ≡ start.log.settled = omega arith in
-      let follows : Follows h (started start) =
-      record {
-        by = 0;
-        within = omega arith;
-        log = ap (λ (l : LedgerState D). l.log) its ∙ (λ i. record start.log { settled = sym all i });
-        flight = ap (option_map flight_out) none;
-        own = subst (HoldsFlight h.ledger) (sym none) (ap (λ (l : LedgerState D). l.out) its ∙ home);
-        tickets = subst (λ cs. HoldsTickets h.ledger.log cs []) (sym claims) tt;
-        seen = seen;
-        released = released;
-      } in
-      let disk_is : disk_held h ≡ start.disk = λ i. disk_with (its i).disk (none i) in
-      record {
-        same_model = ap (option_map keeps_model) disk_is;
-        drives = λ before disk promised. record {
-          answered = subst (Answered (started start) []) (sym unanswered) tt;
-          consistent = is;
-          follows = follows;
-          disk = before;
-          holds = disk_is ∙ disk;
-          moments = subst (λ l. EachMoment present clock left_since crashes (keeps_model before) (started start) [] l before before) (sym unanswered) (refl, survives (started start) is follows before (disk_is ∙ disk));
-        };
+        same_model = ap (model_of keeps_model) same;
+        drives = λ before disk promised.
+            let there : begins.first ≡ before = let is = sym begins.home ∙ ap (λ (x : Driven D). x.ledger.disk) over ∙ disk in cc in
+            let first = subst (λ x. Drives present clock left_since crashes (keeps_model x) x d.ledger [] [] (held d nothing_beside)) there begins.drives in
+            let drives = subst (λ (x : Driven D). Drives present clock left_since crashes (keeps_model before) before x.ledger [] [] (held x nothing_beside)) over first in
+            subst (λ l. Drives present clock left_since crashes (keeps_model before) before start [] l (held d (record { claims = claims; seen = seen; released = released }))) (sym unanswered)
+            (subst (λ h. Drives present clock left_since crashes (keeps_model before) before start [] [] h) (sym same) drives);
       }
 
   module _ (keeps_model : D → Bool) (start : LedgerState D) (events : List Event) (at : ℕ) (given : List Answer) (h : Held D) (way : Underway keeps_model start events at given h) where

@@ -8,14 +8,8 @@ use Rattle.coord_store.specs.Kept.{GivesEither, IsOnlyWorld}
 use Rattle.coord_store.specs.declared.faults.CommitFault.{CommitFault}
 use Rattle.coord_store.specs.declared.faults.CommitFault.TheVariants as fault
 use Rattle.coord_world.specs.protocol.Next.{fold}
-use Rattle.coord_ledger.specs.declared.events.Answer.{Answer}
-use Rattle.coord_ledger.specs.declared.events.Answer.TheVariants.{Committed, Failed}
-use Rattle.coord_ledger.specs.declared.events.Event.{Event}
-use Rattle.coord_ledger.specs.declared.events.Event.TheVariants.{Submit, Begin, Commit, Finish, Collect, Resend, Show, Crash}
-use Rattle.coord_ledger.specs.declared.mark.Mark.{Mark}
-use Rattle.coord_ledger.specs.declared.mark.Mark.TheVariants.{New, Good, Torn}
+use Rattle.coord_ledger.specs.Facade.{Answer, Commit, Committed, Crash, CrashPrefix, EachMoment, Event, Failed, FlightGives, FlightOut, FlightState, Follows, GivesFlown, GivesOneOf, Good, Held, HeldSurvives, HeldTouches, HoldsFlight, IsConsistent, IsLost, IsOneOf, IsOut, IsReopened, IsSafe, LeavesWithin, LedgerGives, LedgerState, Machine, Mark, New, Reopens, Survives, Torn, Touches, after, answers, disk_held, disk_with, flight_out, found_by_crash, is_crash, kept, kept_by, marked, run, to_commit, touches_disk, with_flight, world_after}
 use Rattle.coord_ledger.specs.laws.Commits.{CommitIsSafe}
-use Rattle.coord_ledger.specs.Facade.{CrashPrefix, EachMoment, FlightGives, FlightOut, FlightState, Follows, GivesFlown, GivesOneOf, Held, HeldSurvives, HeldTouches, HoldsFlight, IsConsistent, IsLost, IsOneOf, IsOut, IsReopened, IsSafe, LeavesWithin, LedgerGives, LedgerState, Machine, Reopens, Survives, Touches, after, answers, disk_held, disk_with, flight_out, found_by_crash, is_crash, kept, kept_by, marked, run, to_commit, touches_disk, with_flight, world_after}
 use Rattle.coord_ledger.proofs.follows.FollowsCalls.{flight_gives, ledger_images}
 use Rattle.coord_ledger.proofs.machine.Consistent.{stays_consistent}
 use Rattle.coord_ledger.proofs.follows.FollowsCrashes.{given_follows}
@@ -109,14 +103,8 @@ told (Err why) = Failed why
 
 module _ {D : Type 0} (present : D → Present) (clock : D → ℕ) (left_since : D → ℕ → List ℕ → Type 0) (crashes : D → D → Type 0) where
   within_event : (e : Event) (P : List ℕ → Type 0) (old new : D) → is_crash e ≡ false → LeavesOnly clock left_since old new P → LeavesWithin present clock left_since crashes e P old new
-  within_event (Submit x) P old new other leaves = leaves
-  within_event Begin P old new other leaves = leaves
-  within_event Commit P old new other leaves = leaves
-  within_event Finish P old new other leaves = leaves
-  within_event (Collect i) P old new other leaves = leaves
-  within_event Resend P old new other leaves = leaves
-  within_event Show P old new other leaves = leaves
   within_event Crash P old new other leaves = let no : ⊥ = cc in absurd no
+  within_event e P old new other leaves = leaves
 
   module _ (keeps_model : D → Bool) (only_now : (disk : D) (image : List ℕ) → keeps_model disk ≡ true → left_since disk (clock disk) image → IsImage (present disk) image) where
     -- nothing was done to the disk

@@ -4,12 +4,7 @@ use Rattle.std.specs.Option.{option_map}
 use Rattle.std.proofs.Math.Seq.{take-length}
 use Rattle.coord_disk.specs.Model.Present.{Present}
 use Rattle.coord_store.specs.Recovered.{Recovered}
-use Rattle.coord_ledger.specs.declared.events.Answer.{Answer}
-use Rattle.coord_ledger.specs.declared.events.Event.{Event}
-use Rattle.coord_ledger.specs.declared.mark.Mark.{Mark}
-use Rattle.coord_ledger.specs.declared.mark.Mark.TheVariants.{New, Good, Torn}
-use Rattle.coord_ledger.specs.declared.release.Release.{Release}
-use Rattle.coord_ledger.specs.Facade.{Drives, EachMoment, FlightOut, FlightState, Follows, Held, HoldsFlight, ImagesGive, IsConsistent, IsLeft, IsOneOf, LedgerGives, LedgerState, Machine, Promised, Ran, after_finish, brought_home, disk_held, disk_with, ended, finished, flight_out, kept, kept_by, releases_in, run, started, taken_back, world_after}
+use Rattle.coord_ledger.specs.Facade.{Answer, Drives, EachMoment, Event, FlightOut, FlightState, Follows, Good, Held, HoldsFlight, ImagesGive, IsConsistent, IsLeft, IsOneOf, LedgerGives, LedgerState, Machine, Mark, New, Promised, Ran, Release, Torn, after_finish, brought_home, disk_held, disk_with, ended, finished, flight_out, kept, kept_by, releases_in, run, started, taken_back, world_after}
 use Rattle.coord_ledger.proofs.follows.FollowsCalls.{ledger_images}
 use Rattle.coord_ledger.proofs.follows.FollowsFlights.{follows_back}
 use Rattle.coord_ledger.proofs.drives.Drives.{Underway, same_model}

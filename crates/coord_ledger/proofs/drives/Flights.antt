@@ -1,13 +1,9 @@
 -- What the calls of a ledger leave of its flight and its disk.
-use Rattle.std.proofs.Common.{◌≡◌, ◌⊎◌, Bool, true, false, length, take, Option, Some, None, Ok, Err, refl, sym, ap, ◌∙◌, subst, inl, inr, Result, IfOk, IsSomeAnd, MatchResult}
+use Rattle.std.proofs.Common.{◌+◌, ◌-◌, ◌∙◌, arith, ◌≡◌, Bool, true, false, length, take, Option, Some, None, Ok, Err, refl, sym, ap, subst, Result, IfOk, IsSomeAnd}
 use Rattle.coord_types.specs.declared.limits.TheConstants.{MAX_BATCH_STEPS}
-use Rattle.coord_store.specs.declared.faults.CommitFault.{CommitFault}
-use Rattle.coord_store.specs.declared.faults.CommitFault.TheVariants as fault
-use Rattle.coord_ledger.specs.declared.events.Answer.TheVariants.{Failed}
-use Rattle.coord_ledger.specs.declared.mark.Mark.TheVariants.{New, Good, Torn}
-use Rattle.coord_ledger.specs.Facade.{CommitsTo, Driven, FlightState, IsMarked, IsOut, LedgerState, keeps_store, next_flight, pending, with_out}
+use Rattle.coord_ledger.specs.Facade.{FlightState, Good, IsOut, LedgerState, Mark, New, Torn, keeps_store, log_back, next_flight, pending, releases_in, releases_of, settling_releases, taken_back, with_out}
+use Rattle.coord_world.specs.protocol.Outputs.{outs}
 use Rattle.coord_ledger.proofs.follows.FollowsCalls.{next_is_out}
-use Rattle.coord_ledger.proofs.drives.EachMoment.{told}
 
 -- a flight goes out exactly where the store leaves home
 pub record Departs {D : Type 0} (l left : LedgerState D) (f : FlightState D) : Type 0 where
@@ -21,15 +17,6 @@ departs_own l left f departs =
     let steps : f.steps ≡ take MAX_BATCH_STEPS (pending l.log) = ap (λ (g : FlightState _). g.steps) departs.is in
     let same : left ≡ with_out l (length (take MAX_BATCH_STEPS (pending l.log))) = departs.now ∙ ap (λ k. with_out l (length k)) steps in
     subst (λ m. IsOut m f) (sym same) (subst (IsOut (with_out l (length (take MAX_BATCH_STEPS (pending l.log))))) (sym departs.is) (next_is_out l f.disk))
-
--- a ledger whose flight is out
-abbrev pub driven : {D : Type 0} → LedgerState D → FlightState D → Driven D
-driven l f = record { ledger = l; flight = Some f }
-
--- what is driven then
-pub begun_to : {D : Type 0} (l left : LedgerState D) (f : FlightState D) → Departs l left f →
-    driven left f ≡ driven (with_out l (length (next_flight l.log f.disk).steps)) (next_flight l.log f.disk)
-begun_to {D} l left f departs = λ i. record { ledger = (departs.now ∙ ap (λ (g : FlightState D). with_out l (length g.steps)) departs.is) i; flight = Some (departs.is i) }
 
 -- as the call says it
 abbrev IsBegun : {D : Type 0} → LedgerState D → LedgerState D → Option (FlightState D) → Type 0
@@ -59,22 +46,28 @@ module _ {D E : Type 0} (l left : LedgerState D) (r : Result (Option (FlightStat
       by_home true stays = let none = (nothing stays).0 in let no : ⊥ = cc in absurd no
       by_home false goes = goes
 
--- ---- a new flight is committed
+-- ---- and comes back
 
-pub committed : {D T : Type 0} (l : LedgerState D) (f h g : FlightState D) (d : Driven D) (r : Result T CommitFault) → f ≡ h → d ≡ driven l g → h.mark ≡ New →
-    (f.mark ≡ New → MatchResult r (λ _. g.mark ≡ Good) (λ why. ((why ≡ fault.Device) × (g.mark ≡ Torn)) ⊎ ((why ≡ fault.OutOfMemory) × (g.mark ≡ New)))) →
-    g.first ≡ f.first → g.steps ≡ f.steps → g.world ≡ f.world → CommitsTo l h (told r) d
-committed {D} {T} l f h g d r same is new tried first steps world =
-    record {
-      flown = g;
-      is = is;
-      marked = by_result r (tried (ap (λ (x : FlightState D). x.mark) same ∙ new));
-      first = first ∙ ap (λ (x : FlightState D). x.first) same;
-      steps = steps ∙ ap (λ (x : FlightState D). x.steps) same;
-      world = world ∙ ap (λ (x : FlightState D). x.world) same;
-    }
-  where
-    by_result : (q : Result T CommitFault) → MatchResult q (λ _. g.mark ≡ Good) (λ why. ((why ≡ fault.Device) × (g.mark ≡ Torn)) ⊎ ((why ≡ fault.OutOfMemory) × (g.mark ≡ New))) → IsMarked (told q) g.mark
-    by_result (Ok done) good = good
-    by_result (Err why) (inl device) = subst (λ x. IsMarked (Failed x) g.mark) (sym device.0) device.1
-    by_result (Err why) (inr memory) = subst (λ x. IsMarked (Failed x) g.mark) (sym memory.0) memory.1
+module _ {D : Type 0} (l new : LedgerState D) (f : FlightState D) (taken : new ≡ taken_back l (length f.steps) f.mark f.disk) where
+  pub same_base : new.log.base ≡ l.log.base
+  same_base = ap (λ (k : LedgerState D). k.log.base) taken ∙ by_mark f.mark
+    where
+      by_mark : (m : Mark) → (log_back l.log (length f.steps) m).base ≡ l.log.base
+      by_mark New = refl
+      by_mark Good = refl
+      by_mark Torn = refl
+
+  -- it gives what the steps release that are settled
+  pub gave : IsOut l f → releases_in f f.mark ≡ settling_releases l.log (new.log.settled - l.log.settled)
+  gave own = by_mark f.mark ∙ ap (λ (k : LedgerState D). settling_releases l.log (k.log.settled - l.log.settled)) (sym taken)
+    where
+      none : 0 ≡ l.log.settled - l.log.settled
+      none = omega arith
+
+      all : length f.steps ≡ l.log.settled + length f.steps - l.log.settled
+      all = omega arith
+
+      by_mark : (m : Mark) → releases_in f m ≡ settling_releases l.log ((log_back l.log (length f.steps) m).settled - l.log.settled)
+      by_mark New = ap (settling_releases l.log) none
+      by_mark Good = (λ i. releases_of (outs (own.world i) (own.steps i))) ∙ ap (settling_releases l.log) all
+      by_mark Torn = ap (settling_releases l.log) none

@@ -1,16 +1,8 @@
 -- What a driver makes of any event, and of a crash.
 use Rattle.std.proofs.Common.{◌≡◌, ℕ, Bool, true, false, List, [], Option, Some, None, Ok, Err, refl, sym, ap, ◌∙◌, subst, inl, inr, IfOk, OnErr, Result}
-use Rattle.std.specs.Option.{option_map}
 use Rattle.coord_disk.specs.Model.Present.{Present}
-use Rattle.coord_store.proofs.OneWorld.{recovered_is_one}
-use Rattle.coord_ledger.specs.declared.events.Answer.{Answer}
-use Rattle.coord_ledger.specs.declared.events.Answer.TheVariants.{Opened}
-use Rattle.coord_ledger.specs.declared.events.Event.{Event}
-use Rattle.coord_ledger.specs.declared.events.Event.TheVariants.{Crash}
-use Rattle.coord_ledger.specs.declared.release.Release.{Release}
-use Rattle.coord_ledger.specs.declared.trace.RunFaultKind.{RunFaultKind}
+use Rattle.coord_ledger.specs.Facade.{Answer, Crash, Event, FollowsTo, Held, ImagesGive, IsConsistent, IsCutShort, IsEventFault, IsPromised, IsReopenFault, IsReopened, LedgerState, Log, Machine, Opened, Release, RunFaultKind, kept, settled_world, world_after}
 use Rattle.coord_ledger.specs.declared.trace.RunFaultKind.TheVariants.{OutOfMemory, Store}
-use Rattle.coord_ledger.specs.Facade.{Driven, FollowsTo, Held, ImagesGive, IsConsistent, IsCutShort, IsEventFault, IsLeftByCrash, IsPromised, IsReopenFault, IsReopened, LedgerState, Log, Machine, at_home, flight_out, kept, kept_by, ledger_over, settled_world, world_after}
 use Rattle.coord_ledger.proofs.follows.FollowsCalls.{follows_crash}
 
 -- ---- the event that it was
@@ -50,12 +42,3 @@ follows_reopened {D} s keeps_model present clock left_since crashes before l rel
     let from = opened.from keeps in
     subst (λ (m : LedgerState D). FollowsTo s Crash (Opened (settled_world m.log).count) (record { ledger = m; flight = None; claims = []; seen = 0; released = released })) (sym opened.is)
     (follows_crash s released (keeps_model before) (present before) from.image opened.world opened.disk is given images keeps from.allowed from.recovered)
-
--- and is over a world that the crash may leave
-pub left_by_crash : {D : Type 0} (d : Driven D) (keeps_model : D → Bool) (present : D → Present) (clock : D → ℕ) (left_since : D → ℕ → List ℕ → Type 0) (crashes : D → D → Type 0) (before : D) (l : LedgerState D) → keeps_model before ≡ true →
-    ImagesGive (keeps_model before) (present before) d.ledger.log (kept_by d.ledger.log.settled (option_map flight_out d.flight) d.ledger.log.doubt) → IsReopened keeps_model present clock left_since crashes before l → IsLeftByCrash d (at_home l)
-left_by_crash {D} d keeps_model present clock left_since crashes before l keeps images opened =
-    let from = opened.from keeps in
-    let one = images keeps from.image from.allowed in
-    let world = recovered_is_one from.image opened.world (world_after d.ledger.log one.steps) from.recovered one.recovered in
-    record { steps = one.steps; allowed = one.allowed; disk = opened.disk; is = ap at_home opened.is ∙ ap (λ w. at_home (ledger_over w opened.disk)) world }

@@ -1,14 +1,8 @@
 -- What becomes of a step that is handed in.
 use Rattle.std.proofs.Common.{◌≡◌, ◌+◌, Option, Some, Ok, Err, sym, ap, ◌∙◌, subst, refl, ◌++◌, ◌∷◌, [], Result}
-use Rattle.coord_types.specs.declared.refusals.Refusal.{Refusal}
-use Rattle.coord_types.specs.declared.steps.Step.{Step}
-use Rattle.coord_world.specs.declared.verdicts.Verdict.{Verdict}
-use Rattle.coord_world.specs.declared.verdicts.Verdict.TheVariants.{Fresh, Repeat}
+use Rattle.coord_ledger.specs.Facade.{Beside, Claim, FlightState, Follows, FollowsTo, Fresh, Handed, HandedTo, Held, HoldsFlight, IsConsistent, IsConsistentLog, LedgerState, Machine, Refusal, RefusesStep, Repeat, Step, Submit, Verdict, accepted_count, answer_to, claimed, held, verdict, with_accepted, with_claim}
 use Rattle.coord_ledger.specs.declared.events.Answer.TheVariants as answer
-use Rattle.coord_ledger.specs.declared.events.Event.TheVariants.{Submit}
-use Rattle.coord_ledger.specs.declared.handed.Handed.{Handed}
 use Rattle.coord_ledger.specs.declared.handed.Handed.TheVariants.{Accepted, Repeated}
-use Rattle.coord_ledger.specs.Facade.{Beside, Claim, FlightState, Follows, FollowsTo, HandedTo, Held, HoldsFlight, IsConsistent, IsConsistentLog, LedgerState, Machine, RefusesStep, accepted_count, answer_to, claimed, held, verdict, with_accepted, with_claim}
 use Rattle.coord_ledger.proofs.machine.ConsistentSteps.{reply_is}
 use Rattle.coord_ledger.proofs.follows.FollowsSteps.{follows_accepted, follows_no_room, follows_refused, follows_repeated, own_later}
 

@@ -1,10 +1,9 @@
 -- When the reply to a ticket's step may be collected.
 use Rattle.std.proofs.Common.{◌≡◌, ℕ, zero, suc, ◌+◌, ◌<◌, ◌≤◌, List, [], ◌∷◌, length, Some, slice_get, inl, inr, ⊎_elim, sym, ap, ◌∙◌, subst, arith}
 use Rattle.coord_node.specs.Steps.{kind}
-use Rattle.coord_types.specs.declared.steps.Reply.{Reply}
+use Rattle.coord_ledger.specs.Facade.{Claim, IsCollectable, IsConsistentLog, IsInTrail, IsKeptBy, Log, Reply, world_after}
 use Rattle.coord_world.specs.protocol.NumberedWorld.{state}
 use Rattle.coord_ledger.specs.code.Holding.{kinds_of}
-use Rattle.coord_ledger.specs.Facade.{Claim, IsCollectable, IsConsistentLog, IsInTrail, IsKeptBy, Log, world_after}
 use Rattle.coord_ledger.proofs.machine.ReplyKinds.{kinds_of-at}
 use Rattle.coord_ledger.proofs.machine.Logs.{count_after}
 

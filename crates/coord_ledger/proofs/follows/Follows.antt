@@ -1,10 +1,8 @@
 -- The numbers and worlds of a ledger that follows the event machine are the machine's.
-use Rattle.std.proofs.Common.{◌≡◌, sym, ap, ◌∙◌, subst}
-use Rattle.coord_types.specs.declared.steps.Step.{Step}
-use Rattle.coord_ledger.specs.declared.events.Answer.{Answer}
-use Rattle.coord_ledger.specs.declared.events.Event.{Event}
-use Rattle.coord_ledger.specs.Facade.{Follows, FollowsTo, Held, IsConsistent, IsConsistentLog, IsOneOf, Log, Machine, accepted_count, after, answers, has_stopped, pending, settled_count, settled_world, verdict}
-use Rattle.coord_ledger.proofs.machine.Logs.{moved_accepted, moved_count, moved_is_consistent, moved_pending, moved_settled}
+use Rattle.std.proofs.Common.{◌≡◌, ◌-◌, ◌≤◌, length, sym, ap, ◌∙◌, subst, arith}
+use Rattle.coord_ledger.specs.Facade.{Answer, Event, Follows, FollowsTo, Held, IsConsistent, IsConsistentLog, IsOneOf, Log, Machine, Step, accepted_count, after, answers, has_stopped, moved, pending, settled_count, settled_world, verdict}
+use Rattle.coord_world.specs.Facade.{World}
+use Rattle.coord_ledger.proofs.machine.Logs.{count_after, moved_accepted, moved_count, moved_is_consistent, moved_pending, moved_settled}
 use Rattle.coord_ledger.proofs.machine.Moved.{moved_verdict}
 
 module _ {D : Type 0} (h : Held D) (s : Machine) (is : IsConsistent s) (follows : Follows h s) where
@@ -35,3 +33,19 @@ module _ {D : Type 0} (h : Held D) (s : Machine) (is : IsConsistent s) (follows 
   -- whatever an event leaves as it was
   pub stays : (e : Event) (a : Answer) → IsOneOf a (answers s e) → after s e a ≡ s → FollowsTo s e a h
   stays e a allowed same = record { allowed = allowed; follows = subst (Follows h) (sym same) follows }
+
+  -- ---- where it begins
+
+  -- its log is the machine's, where their bases are the same
+  pub log_is : h.ledger.log.base ≡ s.log.base → h.ledger.log ≡ s.log
+  log_is same =
+      let le : follows.by ≤ length s.log.trail = omega (arith, follows.within, is.log.within) in
+      let none : follows.by ≡ 0 = omega (arith, ap (λ (g : Log). g.base.count) follows.log, ap (λ (w : World). w.count) same, count_after s.log follows.by le) in
+      let all : s.log.settled - 0 ≡ s.log.settled = omega arith in
+      follows.log ∙ ap (moved s.log) none ∙ (λ i. record s.log { settled = all i })
+
+  -- and what is behind the machine's settled steps, where none of its own is settled
+  pub log_behind : h.ledger.log.settled ≡ 0 → h.ledger.log ≡ moved s.log s.log.settled
+  log_behind none =
+      let all : follows.by ≡ s.log.settled = omega (arith, follows.within, ap (λ (g : Log). g.settled) follows.log, none) in
+      follows.log ∙ ap (moved s.log) all

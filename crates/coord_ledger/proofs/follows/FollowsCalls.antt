@@ -6,12 +6,7 @@ use Rattle.coord_disk.specs.Model.Present.{Present, IsImage}
 use Rattle.coord_store.proofs.OneWorld.{recovered_is_one}
 use Rattle.coord_store.specs.Recovered.{Recovered}
 use Rattle.coord_world.specs.Facade.{World, fold}
-use Rattle.coord_ledger.specs.declared.events.Answer.TheVariants.{Begun, Opened}
-use Rattle.coord_ledger.specs.declared.events.Event.TheVariants.{Begin, Crash}
-use Rattle.coord_ledger.specs.declared.mark.Mark.{Mark}
-use Rattle.coord_ledger.specs.declared.mark.Mark.TheVariants.{New, Good, Torn}
-use Rattle.coord_ledger.specs.declared.release.Release.{Release}
-use Rattle.coord_ledger.specs.Facade.{FlightGives, FlightState, Follows, FollowsTo, GivesFlown, GivesOneOf, GivesSettled, Held, ImagesGive, IsConsistent, IsOut, LedgerGives, LedgerState, Machine, flight_out, keeps_store, kept, kept_by, ledger_over, next_flight, pending, with_out, world_after}
+use Rattle.coord_ledger.specs.Facade.{Begin, Begun, Crash, FlightGives, FlightState, Follows, FollowsTo, GivesFlown, GivesOneOf, GivesSettled, Good, Held, ImagesGive, IsConsistent, IsOut, LedgerGives, LedgerState, Machine, Mark, New, Opened, Release, Torn, flight_out, keeps_store, kept, kept_by, ledger_over, next_flight, pending, with_out, world_after}
 use Rattle.coord_ledger.proofs.follows.FollowsCrashes.{follows_opened}
 use Rattle.coord_ledger.proofs.follows.FollowsFlights.{follows_begun}
 use Rattle.coord_ledger.proofs.machine.Logs.{world-add}

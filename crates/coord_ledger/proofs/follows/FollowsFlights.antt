@@ -1,15 +1,9 @@
 -- What a driver holds follows the event machine where a flight goes out and comes back.
-use Rattle.std.proofs.Common.{◌≡◌, ◌+◌, ◌≤◌, false, true, List, [], ◌∷◌, ◌++◌, length, take, Option, Some, None, append-nil, refl, sym, ap, ◌∙◌, subst, arith, inl, inr, cond, ◌||◌, ◌==◌, is_some, min}
+use Rattle.std.proofs.Common.{◌≡◌, ◌≤◌, false, true, List, [], ◌∷◌, ◌++◌, length, take, Option, Some, None, append-nil, refl, sym, ap, ◌∙◌, subst, arith, inl, inr, cond, ◌||◌, ◌==◌, is_some, min}
 use Rattle.std.specs.Option.{option_map}
 use Rattle.coord_types.specs.declared.refusals.Refusal.TheVariants.{OutOfMemory}
 use Rattle.coord_world.specs.protocol.Outputs.{outs}
-use Rattle.coord_ledger.specs.declared.events.Answer.{Answer}
-use Rattle.coord_ledger.specs.declared.events.Answer.TheVariants.{Refused, Begun, Nothing, Finished}
-use Rattle.coord_ledger.specs.declared.events.Event.TheVariants.{Begin, Finish}
-use Rattle.coord_ledger.specs.declared.mark.Mark.{Mark}
-use Rattle.coord_ledger.specs.declared.mark.Mark.TheVariants.{New, Good, Torn}
-use Rattle.coord_ledger.specs.declared.release.Release.{Release}
-use Rattle.coord_ledger.specs.Facade.{FlightState, Follows, FollowsTo, Held, HoldsFlight, HoldsTickets, IsConsistent, IsOneOf, IsOut, LedgerState, Log, Machine, answers, finished, flight_out, log_back, next_size, released_back, releases_in, releases_of, settled_count, stays_home, taken_back, to_finish, with_flight}
+use Rattle.coord_ledger.specs.Facade.{Answer, Begin, Begun, Finish, Finished, FlightState, Follows, FollowsTo, Good, Held, HoldsFlight, HoldsTickets, IsConsistent, IsOneOf, IsOut, LedgerState, Log, Machine, Mark, New, Nothing, Refused, Release, Torn, answers, finished, flight_out, log_back, next_size, released_back, releases_in, releases_of, settled_count, stays_home, taken_back, to_finish, with_flight}
 use Rattle.coord_ledger.proofs.follows.Granted.{granted_back, holds_later}
 use Rattle.coord_ledger.proofs.machine.Moved.{moved_back}
 use Rattle.coord_ledger.proofs.follows.Follows.{count_is, pending_is, settled_is, stays, stopped_is}

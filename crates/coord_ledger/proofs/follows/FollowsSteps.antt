@@ -1,16 +1,9 @@
 -- What a driver holds follows the event machine where a step is handed in.
 use Rattle.std.proofs.Common.{◌≡◌, ◌+◌, ◌≤◌, [], ◌∷◌, ◌++◌, length, take, Option, Some, None, Ok, Err, refl, sym, ap, ◌∙◌, subst, arith, inl, inr, min}
 use Rattle.std.proofs.lemmas.List.{length-take, take-append-le}
-use Rattle.coord_types.specs.declared.refusals.Refusal.{Refusal}
+use Rattle.coord_ledger.specs.Facade.{Accepted, FlightState, Follows, FollowsTo, Fresh, Held, HoldsFlight, HoldsTickets, IsConsistent, IsConsistentLog, IsOneOf, Kind, LedgerState, Log, Machine, Refusal, Refused, Repeat, Repeated, Reply, Step, Submit, accepted_count, after_submit, pending, to_submit, verdict, with_accepted, with_step}
 use Rattle.coord_types.specs.declared.refusals.Refusal.TheVariants.{OutOfMemory}
-use Rattle.coord_types.specs.declared.steps.Kind.{Kind}
-use Rattle.coord_types.specs.declared.steps.Reply.{Reply}
-use Rattle.coord_types.specs.declared.steps.Step.{Step}
-use Rattle.coord_world.specs.declared.verdicts.Verdict.TheVariants.{Fresh, Repeat}
 use Rattle.coord_world.specs.protocol.Next.{fold}
-use Rattle.coord_ledger.specs.declared.events.Answer.TheVariants.{Accepted, Repeated, Refused}
-use Rattle.coord_ledger.specs.declared.events.Event.TheVariants.{Submit}
-use Rattle.coord_ledger.specs.Facade.{FlightState, Follows, FollowsTo, Held, HoldsFlight, HoldsTickets, IsConsistent, IsConsistentLog, IsOneOf, LedgerState, Log, Machine, accepted_count, after_submit, pending, to_submit, verdict, with_accepted, with_step}
 use Rattle.coord_ledger.proofs.follows.Granted.{granted_later, granted_new, granted_repeat, holds_later, holds_push}
 use Rattle.coord_ledger.proofs.machine.Logs.{pending_with}
 use Rattle.coord_ledger.proofs.machine.Moved.{moved_step}

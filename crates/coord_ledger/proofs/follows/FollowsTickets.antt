@@ -2,13 +2,8 @@
 use Rattle.std.proofs.Common.{◌≡◌, ℕ, ◌≤◌, Bool, false, true, List, [], ◌∷◌, ◌++◌, length, Option, Some, None, refl, sym, ap, ◌∙◌, subst, arith, inl, inr, cond, is_some, nat_le}
 use Rattle.std.proofs.lemmas.Bool.Decides.{nat_tests}
 use Rattle.coord_types.specs.declared.refusals.Refusal.TheVariants.{OutOfMemory, Stopped}
-use Rattle.coord_types.specs.declared.steps.Reply.{Reply}
+use Rattle.coord_ledger.specs.Facade.{Answer, Claim, Collect, Collected, Follows, FollowsTo, Held, HoldsTicket, IsCollectable, IsConsistent, IsGranted, IsOneOf, Log, Machine, NoTicket, Refused, Release, Reply, Resend, Resent, Show, Shown, Waiting, accepted_count, answers, reply_of, resent, settled_count, settled_world, spent, ticket, to_collect}
 use Rattle.coord_world.specs.protocol.Outputs.{again}
-use Rattle.coord_ledger.specs.declared.events.Answer.{Answer}
-use Rattle.coord_ledger.specs.declared.events.Answer.TheVariants.{Refused, NoTicket, Collected, Waiting, Resent, Shown}
-use Rattle.coord_ledger.specs.declared.events.Event.TheVariants.{Collect, Resend, Show}
-use Rattle.coord_ledger.specs.declared.release.Release.{Release}
-use Rattle.coord_ledger.specs.Facade.{Claim, Follows, FollowsTo, Held, HoldsTicket, IsCollectable, IsConsistent, IsGranted, IsOneOf, Log, Machine, accepted_count, answers, reply_of, resent, settled_count, settled_world, spent, ticket, to_collect}
 use Rattle.coord_view.specs.Shown.{shown}
 use Rattle.coord_ledger.proofs.follows.Granted.{holds_at, holds_spent}
 use Rattle.coord_ledger.proofs.follows.Follows.{accepted_is, count_is, settled_is, stays, stopped_is}

@@ -1,8 +1,7 @@
 -- What steps gave out that are not settled.
 use Rattle.std.proofs.Common.{◌≡◌, ℕ, zero, suc, ◌+◌, ◌<◌, List, [], ◌∷◌, ◌++◌, map, length, take, drop, get_or, Vec, refl, sym, ap, ◌∙◌, append_assoc, append-nil, arith, Global}
 use Rattle.coord_store.proofs.Freshness.{take-push}
-use Rattle.coord_types.specs.declared.outputs.Output.{Output}
-use Rattle.coord_types.specs.declared.steps.Step.{Step}
+use Rattle.coord_ledger.specs.Facade.{Output, Step}
 use Rattle.coord_world.specs.Facade.{World, fold, next, outputs, outs}
 use Rattle.coord_ledger.specs.code.Holding.{listed, outputs_of, released_from}
 use Rattle.coord_ledger.specs.machine.After.{release_of, releases_of}

@@ -3,17 +3,10 @@ use Rattle.std.proofs.Common.{◌≡◌, ℕ, zero, suc, ◌+◌, ◌<◌, List,
 use Rattle.std.proofs.Math.Seq.{take-append_seam}
 use Rattle.std.proofs.lemmas.List.{take-append-le}
 use Rattle.std.proofs.lemmas.Option.{slice_get_within}
-use Rattle.coord_types.specs.declared.steps.Kind.{Kind}
-use Rattle.coord_types.specs.declared.steps.Reply.{Reply}
-use Rattle.coord_types.specs.declared.steps.Session.{Session}
-use Rattle.coord_types.specs.declared.steps.Step.{Step}
+use Rattle.coord_ledger.specs.Facade.{Claim, Fresh, Good, HoldsTicket, HoldsTickets, IsGranted, Kind, Log, Mark, New, Repeat, Reply, Session, Step, Torn, accepted_count, log_back, reply_of, spent, ticket, verdict, with_step}
 use Rattle.coord_types.specs.declared.steps.Step.TheVariants.{Order}
 use Rattle.coord_world.proofs.Facade.{kept_reply_law}
-use Rattle.coord_world.specs.declared.verdicts.Verdict.TheVariants.{Fresh, Repeat}
 use Rattle.coord_world.specs.Facade.{StepOutcome, World, fold, next, outs, reply}
-use Rattle.coord_ledger.specs.declared.mark.Mark.{Mark}
-use Rattle.coord_ledger.specs.declared.mark.Mark.TheVariants.{New, Good, Torn}
-use Rattle.coord_ledger.specs.Facade.{Claim, HoldsTicket, HoldsTickets, IsGranted, Log, accepted_count, reply_of, log_back, spent, ticket, verdict, with_step}
 use Rattle.coord_ledger.proofs.machine.ConsistentSteps.{reply_is}
 use Rattle.coord_ledger.proofs.machine.Verdicts.{KeepsReply, verdict_repeats}
 

@@ -2,14 +2,9 @@
 use Rattle.std.proofs.Common.{◌≡◌, ℕ, ◌+◌, false, List, ◌≤◌, length, take, drop, Option, Some, None, Vec, is_some, refl, sym, ap, ◌∙◌, subst, arith, Global}
 use Rattle.std.proofs.lemmas.List.{length-take}
 use Rattle.coord_store.specs.Kept.{Kept}
-use Rattle.coord_types.specs.declared.outputs.Output.{Output}
-use Rattle.coord_types.specs.declared.steps.Kind.{Kind}
-use Rattle.coord_types.specs.declared.steps.Step.{Step}
+use Rattle.coord_ledger.specs.Facade.{FlightState, Good, IsOut, Kind, LedgerState, Log, Mark, Output, Step, Torn, pending, releases_of, settled_count, settled_world, with_doubt, with_settled}
 use Rattle.coord_world.specs.Facade.{World, fold, outs}
 use Rattle.coord_ledger.specs.code.Holding.{IsCarried, IsLedger, disk_at, listed, out_of, outputs_of, released_from}
-use Rattle.coord_ledger.specs.declared.mark.Mark.{Mark}
-use Rattle.coord_ledger.specs.declared.mark.Mark.TheVariants.{Good, Torn}
-use Rattle.coord_ledger.specs.Facade.{FlightState, IsOut, LedgerState, Log, pending, releases_of, settled_count, settled_world, with_doubt, with_settled}
 use Rattle.coord_ledger.proofs.follows.Given.{listed-length, outputs_of-length, outputs_of-take, released_are}
 use Rattle.coord_ledger.proofs.follows.Kept.{back_good, back_torn}
 use Rattle.coord_ledger.proofs.machine.Logs.{count_after}

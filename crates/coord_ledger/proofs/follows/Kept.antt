@@ -8,16 +8,11 @@ use Rattle.coord_node.specs.Steps.{kind}
 use Rattle.coord_store.proofs.Freshness.{fold-push}
 use Rattle.coord_store.specs.Facade.{AllFresh, Kept}
 use Rattle.coord_types.specs.declared.limits.TheConstants.{MAX_BATCH_STEPS}
-use Rattle.coord_types.specs.declared.outputs.Output.{Output}
-use Rattle.coord_types.specs.declared.steps.Kind.{Kind}
-use Rattle.coord_types.specs.declared.steps.Step.{Step}
+use Rattle.coord_ledger.specs.Facade.{FitsOut, FlightState, Fresh, Good, IsConsistentLog, Kind, Log, New, Output, Step, Torn, accepted_count, front_world, pending, settled_count, settled_world, verdict, with_doubt, with_settled, with_step, world_after}
 use Rattle.coord_types.specs.declared.steps.Step.TheVariants.{Order, Take, Clear}
 use Rattle.coord_world.proofs.Facade.{fresh_number, itself, trail_keeps_worlds, verdict_fresh, verdict_kind}
-use Rattle.coord_world.specs.declared.verdicts.Verdict.TheVariants.{Fresh}
 use Rattle.coord_world.specs.Facade.{IsFresh, Legal, StepInRange, World, fold, next, outputs, state}
 use Rattle.coord_ledger.specs.code.Holding.{IsAway, IsCarried, IsFlight, IsHome, IsLedger, carried_torn, carried_world, doubted, kinds_of, outputs_of}
-use Rattle.coord_ledger.specs.declared.mark.Mark.TheVariants.{New, Good, Torn}
-use Rattle.coord_ledger.specs.Facade.{FitsOut, FlightState, IsConsistentLog, Log, accepted_count, front_world, pending, settled_count, settled_world, verdict, with_doubt, with_settled, with_step, world_after}
 use Rattle.coord_ledger.proofs.follows.Given.{outputs_of-drop, outputs_of-push}
 use Rattle.coord_ledger.proofs.machine.ConsistentSteps.{accepted_stays}
 use Rattle.coord_ledger.proofs.machine.Verdicts.{verdict_accepts}

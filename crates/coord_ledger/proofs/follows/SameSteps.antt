@@ -6,7 +6,7 @@ use Rattle.coord_types.specs.contracts.steps.CommandPartialEq.TheImpl as same_co
 use Rattle.coord_types.specs.contracts.steps.StepPartialEq.TheImpl as same
 use Rattle.coord_types.specs.declared.steps.Command.{Command}
 use Rattle.coord_types.specs.declared.steps.Command.TheVariants.{Add, Remove, Join, Drop, Reset, Confirm}
-use Rattle.coord_types.specs.declared.steps.Step.{Step}
+use Rattle.coord_ledger.specs.Facade.{Step}
 use Rattle.coord_types.specs.declared.steps.Step.TheVariants.{Order, Take, Clear}
 
 command_eq : (x y : Command) → Decides (same_commands.eq-value.it x y) (x ≡ y)

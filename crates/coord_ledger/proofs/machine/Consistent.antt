@@ -3,10 +3,8 @@ use Rattle.std.proofs.Common.{[], ◌∷◌, refl, arith}
 use Rattle.std.specs.List.{AllByRecursion}
 use Rattle.std.proofs.lemmas.List.Elements.{All-nil}
 use Rattle.coord_world.specs.Facade.{InTurn, StepInRange}
-use Rattle.coord_ledger.specs.declared.events.Event.{Event}
-use Rattle.coord_ledger.specs.declared.events.Event.TheVariants.{Submit, Begin, Commit, Finish, Collect, Resend, Show, Crash}
+use Rattle.coord_ledger.specs.Facade.{Begin, Collect, Commit, Crash, Event, EventInRange, Finish, IsConsistent, Machine, Resend, Show, Submit, after, answers, kept, ticket, verdict}
 use Rattle.coord_ledger.specs.laws.Laws.{AdoptedIsConsistent, RunGoesOn, RunIsConsistent, StaysConsistent}
-use Rattle.coord_ledger.specs.Facade.{EventInRange, IsConsistent, Machine, after, answers, kept, ticket, verdict}
 use Rattle.coord_ledger.proofs.machine.Lists.{each_one}
 use Rattle.coord_ledger.proofs.machine.ConsistentFlights.{all_begin, all_commit, all_crash, all_finish, all_keep_more}
 use Rattle.coord_ledger.proofs.machine.ConsistentSteps.{all_collect, all_show, all_submit, stays_again, ticket_fits}

@@ -5,11 +5,7 @@ use Rattle.std.proofs.lemmas.Bool.Decides.{nat_tests}
 use Rattle.std.proofs.lemmas.List.{length-drop, take-take}
 use Rattle.coord_types.specs.declared.refusals.Refusal.TheVariants.{OutOfMemory}
 use Rattle.coord_world.proofs.Facade.{by_test}
-use Rattle.coord_ledger.specs.declared.events.Answer.TheVariants.{Begun, Nothing, Opened, Refused}
-use Rattle.coord_ledger.specs.declared.events.Event.TheVariants.{Begin, Commit, Finish, Crash}
-use Rattle.coord_ledger.specs.declared.mark.Mark.{Mark}
-use Rattle.coord_ledger.specs.declared.mark.Mark.TheVariants.{New, Good, Torn}
-use Rattle.coord_ledger.specs.Facade.{DoubtFits, FlightFits, FlightOut, IsConsistent, IsOneOf, Log, Machine, after, after_finish, crashed, cut_to, finished, kept, kept_by, kept_with, marked, next_size, pending, settled_count, stays_home, to_begin, to_commit, to_finish, with_doubt, with_flight, with_settled}
+use Rattle.coord_ledger.specs.Facade.{Begin, Begun, Commit, Crash, DoubtFits, Finish, FlightFits, FlightOut, Good, IsConsistent, IsOneOf, Log, Machine, Mark, New, Nothing, Opened, Refused, Torn, after, after_finish, crashed, cut_to, finished, kept, kept_by, kept_with, marked, next_size, pending, settled_count, stays_home, to_begin, to_commit, to_finish, with_doubt, with_flight, with_settled}
 use Rattle.coord_ledger.proofs.machine.Lists.{each_one}
 use Rattle.coord_ledger.proofs.machine.Logs.{doubted_stays, log_stays}
 use Rattle.coord_ledger.proofs.machine.ConsistentTold.{told_releasing, told_same, told_settled}

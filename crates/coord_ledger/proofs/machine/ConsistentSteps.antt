@@ -3,18 +3,10 @@ use Rattle.std.proofs.Common.{◌≡◌, ℕ, zero, suc, ◌+◌, ◌≤◌, Lis
 use Rattle.std.specs.List.{AllByRecursion}
 use Rattle.std.proofs.lemmas.Bool.Decides.{nat_tests}
 use Rattle.std.proofs.lemmas.List.{length-append, take-append-le}
-use Rattle.coord_types.specs.declared.refusals.Refusal.{Refusal}
+use Rattle.coord_ledger.specs.Facade.{Collect, Collected, DoubtFits, FlightFits, FlightOut, Fresh, IsConsistent, IsConsistentLog, IsReplyOf, Kind, Log, Machine, Refusal, Refused, Repeat, Reply, Show, Shown, Step, TicketFits, Verdict, Waiting, accepted_count, after, after_submit, front_world, has_stopped, resent, settled_count, settled_world, spent, ticket, to_collect, to_show, to_submit, verdict, with_step, with_ticket}
 use Rattle.coord_types.specs.declared.refusals.Refusal.TheVariants.{OutOfMemory, Stopped}
-use Rattle.coord_types.specs.declared.steps.Kind.{Kind}
-use Rattle.coord_types.specs.declared.steps.Reply.{Reply}
-use Rattle.coord_types.specs.declared.steps.Step.{Step}
 use Rattle.coord_world.proofs.Facade.{by_test, verdict_fresh, verdict_kind}
-use Rattle.coord_world.specs.declared.verdicts.Verdict.{Verdict}
-use Rattle.coord_world.specs.declared.verdicts.Verdict.TheVariants.{Fresh, Repeat}
 use Rattle.coord_world.specs.Facade.{StepInRange, World, reply}
-use Rattle.coord_ledger.specs.declared.events.Answer.TheVariants.{Collected, Refused, Shown, Waiting}
-use Rattle.coord_ledger.specs.declared.events.Event.TheVariants.{Collect, Show}
-use Rattle.coord_ledger.specs.Facade.{DoubtFits, FlightFits, FlightOut, IsConsistent, IsConsistentLog, IsReplyOf, Log, Machine, TicketFits, accepted_count, after, after_submit, front_world, has_stopped, resent, settled_count, settled_world, spent, ticket, to_collect, to_show, to_submit, verdict, with_step, with_ticket}
 use Rattle.coord_view.specs.Shown.{shown}
 use Rattle.coord_ledger.proofs.machine.Verdicts.{verdict_accepts, verdict_repeats}
 use Rattle.coord_ledger.proofs.machine.Lists.{all_both}

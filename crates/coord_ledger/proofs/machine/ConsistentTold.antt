@@ -4,14 +4,10 @@ use Rattle.std.specs.List.{AllByRecursion}
 use Rattle.std.proofs.Math.Seq.{take-add}
 use Rattle.std.proofs.lemmas.List.{append-nil, length-drop, length-take-le}
 use Rattle.std.proofs.lemmas.List.Elements.{All-head, All-tail, filter-append}
-use Rattle.coord_types.specs.declared.outputs.Output.{Output}
-use Rattle.coord_types.specs.declared.steps.Reply.{Reply}
-use Rattle.coord_types.specs.declared.steps.Step.{Step}
+use Rattle.coord_ledger.specs.Facade.{IsConsistentLog, IsPartOf, IsReplyOf, IsTold, IsTrulyAgain, Log, Output, Release, Reply, Step, pending, release_of, released_first, releases_of, resent, settled_count, settled_steps, settled_world, settling_releases, with_settled}
 use Rattle.coord_world.proofs.Facade.{released_grows, resend_law}
 use Rattle.coord_world.specs.laws.Release.{IsReleased}
 use Rattle.coord_world.specs.Facade.{World, again, fold, next, outputs, outs}
-use Rattle.coord_ledger.specs.declared.release.Release.{Release}
-use Rattle.coord_ledger.specs.Facade.{IsConsistentLog, IsPartOf, IsReplyOf, IsTold, IsTrulyAgain, Log, pending, release_of, released_first, releases_of, resent, settled_count, settled_steps, settled_world, settling_releases, with_settled}
 use Rattle.coord_ledger.proofs.machine.Lists.{all_both, all_raised, part_before, part_both, part_self}
 use Rattle.coord_ledger.proofs.machine.Logs.{count_after}
 use Rattle.coord_ledger.proofs.machine.Releases.{again_bound, again_is_new, all_numbered, none_above, released_both}

@@ -1,5 +1,5 @@
 -- Lists: what holds of all items, and parts of lists.
-use Rattle.std.proofs.Common.{ℕ, ◌≤◌, List, [], ◌∷◌, ◌++◌, inl, inr, refl, subst, sym, arith}
+use Rattle.std.proofs.Common.{ℕ, ◌≤◌, List, [], ◌∷◌, ◌++◌, map, inl, inr, refl, ap, subst, sym, arith}
 use Rattle.std.proofs.lemmas.List.{append-nil}
 use Rattle.std.specs.List.{AllByRecursion}
 use Rattle.coord_ledger.specs.Facade.{IsOneOf, IsPartOf}
@@ -9,6 +9,12 @@ pub each_one : {A : Type 0} (P : A → Type 0) (xs : List A) (a : A) → IsOneOf
 each_one P [] a one all = absurd one
 each_one P (x ∷ xs) a (inl same) all = subst P (sym same) all.0
 each_one P (x ∷ xs) a (inr one) all = each_one P xs a one all.1
+
+-- one of these, mapped
+pub one_mapped : {A B : Type 0} (f : A → B) (x : A) (xs : List A) → IsOneOf x xs → IsOneOf (f x) (map f xs)
+one_mapped f x [] one = one
+one_mapped f x (y ∷ ys) (inl same) = inl (ap f same)
+one_mapped f x (y ∷ ys) (inr one) = inr (one_mapped f x ys one)
 
 -- of two lists, one behind the other
 pub all_both : {A : Type 0} (P : A → Type 0) (xs ys : List A) → AllByRecursion P xs → AllByRecursion P ys → AllByRecursion P (xs ++ ys)

@@ -4,7 +4,7 @@ use Rattle.std.proofs.Math.Seq.{take-add, take-append_seam}
 use Rattle.std.proofs.lemmas.Bool.Decides.{nat_tests}
 use Rattle.std.proofs.lemmas.List.{append_assoc, drop-append-le, drop-drop, length-append, length-drop, length-take-le, take-append-drop, take-append-le, take-take}
 use Rattle.coord_types.specs.declared.refusals.Refusal.TheVariants.{NotReleased}
-use Rattle.coord_types.specs.declared.steps.Step.{Step}
+use Rattle.coord_ledger.specs.Facade.{IsConsistentLog, Log, Step, accepted_count, cut_to, front_world, is_full, moved, pending, settled_count, settled_world, with_doubt, with_settled, with_step, world_after}
 use Rattle.coord_store.proofs.Freshness.{fold-push, fresh-push}
 use Rattle.coord_store.specs.Recovered.{AllFresh}
 use Rattle.coord_world.proofs.Facade.{fold_counts, release_stays, trail_goes_on, trail_is_cut}
@@ -12,7 +12,6 @@ use Rattle.coord_world.specs.laws.Trails.{IsTrail}
 use Rattle.coord_world.specs.Facade.{IsFresh, StepInRange, World, accepts, fold, next}
 use Rattle.coord_ledger.specs.laws.Laws.{LogStays}
 use Rattle.coord_ledger.specs.laws.Moving.{MovedIsConsistent}
-use Rattle.coord_ledger.specs.Facade.{IsConsistentLog, Log, accepted_count, cut_to, front_world, is_full, moved, pending, settled_count, settled_world, with_doubt, with_settled, with_step, world_after}
 
 -- ---- counts
 

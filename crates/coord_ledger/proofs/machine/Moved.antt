@@ -1,46 +1,33 @@
 -- A machine whose base is moved along its settled steps gives the same answers.
-use Rattle.std.proofs.Common.{◌≡◌, ℕ, ◌+◌, ◌-◌, ◌≤◌, false, List, [], ◌∷◌, ◌++◌, map, length, take, drop, Option, Some, None, Ok, Err, refl, sym, ap, subst, arith, cond, is_some, nat_le, Result, ◌||◌, ◌==◌, min}
+use Rattle.std.proofs.Common.{◌∙◌, ◌≡◌, ℕ, ◌+◌, ◌-◌, ◌≤◌, false, List, [], ◌∷◌, ◌++◌, map, length, take, drop, Option, Some, None, Ok, Err, refl, sym, ap, subst, arith, cond, is_some, nat_le, Result, ◌||◌, ◌==◌, min}
 use Rattle.std.specs.List.{AllByRecursion}
+use Rattle.std.proofs.lemmas.Simd.{map-map}
 use Rattle.std.proofs.lemmas.List.{drop-append-le, take-append-le, take-take}
 use Rattle.coord_types.specs.declared.limits.TheConstants.{MAX_BATCH_STEPS, MAX_PENDING}
-use Rattle.coord_types.specs.declared.refusals.Refusal.{Refusal}
+use Rattle.coord_ledger.specs.Facade.{Answer, Begin, Begun, Collect, Collected, Commit, Crash, Event, Finish, FlightOut, Fresh, Good, IsConsistent, IsConsistentLog, Log, Machine, Mark, New, NoFlight, Nothing, Opened, Refusal, Refused, Repeat, Reply, Resend, Resent, Show, Shown, Step, Submit, Torn, Verdict, Waiting, accepted_count, after, after_finish, after_submit, answers, crashed, finished, has_stopped, is_crash, kept_by, kept_with, log_back, moved, next_size, pending, releases_of, resent, settled_count, settled_world, stays_home, ticket, to_collect, to_commit, to_finish, to_submit, unless_full, verdict, with_flight, with_settled, with_step, world_after}
 use Rattle.coord_types.specs.declared.refusals.Refusal.TheVariants.{OutOfMemory, Stopped}
-use Rattle.coord_types.specs.declared.steps.Reply.{Reply}
-use Rattle.coord_types.specs.declared.steps.Step.{Step}
 use Rattle.coord_world.proofs.Facade.{by_test}
-use Rattle.coord_world.specs.declared.verdicts.Verdict.{Verdict}
-use Rattle.coord_world.specs.declared.verdicts.Verdict.TheVariants.{Fresh, Repeat}
 use Rattle.coord_world.specs.Facade.{accepts, again, fold, outs}
-use Rattle.coord_ledger.specs.declared.events.Answer.{Answer}
-use Rattle.coord_ledger.specs.declared.events.Answer.TheVariants.{Begun, Collected, NoFlight, Nothing, Opened, Refused, Resent, Shown, Waiting}
-use Rattle.coord_ledger.specs.declared.events.Event.{Event}
-use Rattle.coord_ledger.specs.declared.events.Event.TheVariants.{Submit, Begin, Commit, Finish, Collect, Resend, Show, Crash}
-use Rattle.coord_ledger.specs.declared.mark.Mark.{Mark}
-use Rattle.coord_ledger.specs.declared.mark.Mark.TheVariants.{New, Good, Torn}
 use Rattle.coord_ledger.specs.laws.Moving.{CrashReopens, MovedAnswersAlike, MovedGoesOn, with_base_moved}
-use Rattle.coord_ledger.specs.Facade.{FlightOut, IsConsistent, IsConsistentLog, Log, Machine, accepted_count, after, after_finish, after_submit, answers, crashed, finished, has_stopped, is_crash, kept_by, kept_with, log_back, moved, next_size, pending, releases_of, resent, settled_count, settled_world, stays_home, ticket, to_collect, to_commit, to_finish, to_submit, unless_full, verdict, with_flight, with_settled, with_step, world_after}
 use Rattle.coord_view.specs.Shown.{shown}
 use Rattle.coord_ledger.proofs.machine.Lists.{each_one}
-use Rattle.coord_ledger.proofs.machine.Logs.{moved_accepted, moved_count, moved_front, moved_pending, moved_settled, none_behind}
+use Rattle.coord_ledger.proofs.machine.Logs.{moved_accepted, moved_base, moved_count, moved_front, moved_pending, moved_settled, none_behind}
 
--- what a crash may keep, by counts
-kept_counts : (c d : ℕ) (f : Option FlightOut) (o : Option ℕ) (c' d' : ℕ) → c' + d' ≡ c + d → map (λ n. Opened (c' + n)) (kept_by d' f o) ≡ map (λ n. Opened (c + n)) (kept_by d f o)
-kept_counts c d f o c' d' e = by_flight f o
+-- what a crash may keep behind c more steps
+pub kept_later : (c d : ℕ) (f : Option FlightOut) (o : Option ℕ) → kept_by (c + d) f o ≡ map (λ n. c + n) (kept_by d f o)
+kept_later c d f o = by_flight f o
   where
-    one : Opened (c' + d') ≡ Opened (c + d)
-    one = ap Opened e
+    more : (b : ℕ) → c + d + b ≡ c + (d + b)
+    more b = omega arith
 
-    more : (b : ℕ) → Opened (c' + (d' + b)) ≡ Opened (c + (d + b))
-    more b = ap Opened (omega (arith, e))
-
-    by_mark : (b : ℕ) (m : Mark) → map (λ n. Opened (c' + n)) (kept_with d' b m) ≡ map (λ n. Opened (c + n)) (kept_with d b m)
-    by_mark b New = λ i. one i ∷ []
+    by_mark : (b : ℕ) (m : Mark) → kept_with (c + d) b m ≡ map (λ n. c + n) (kept_with d b m)
+    by_mark b New = refl
     by_mark b Good = λ i. more b i ∷ []
-    by_mark b Torn = λ i. one i ∷ more b i ∷ []
+    by_mark b Torn = λ i. (c + d) ∷ more b i ∷ []
 
-    by_flight : (f : Option FlightOut) (o : Option ℕ) → map (λ n. Opened (c' + n)) (kept_by d' f o) ≡ map (λ n. Opened (c + n)) (kept_by d f o)
-    by_flight None None = λ i. one i ∷ []
-    by_flight None (Some b) = λ i. one i ∷ more b i ∷ []
+    by_flight : (f : Option FlightOut) (o : Option ℕ) → kept_by (c + d) f o ≡ map (λ n. c + n) (kept_by d f o)
+    by_flight None None = refl
+    by_flight None (Some b) = λ i. (c + d) ∷ more b i ∷ []
     by_flight (Some f) o = by_mark f.size f.mark
 
 -- the verdict on a step
@@ -91,7 +78,12 @@ module _ (s : Machine) (n : ℕ) (is : IsConsistent s) (le : n ≤ s.log.settled
   alike (Collect j) = λ i. to_collect (count i) (ticket s.tickets j)
   alike Resend = λ i. Resent (length (again (settled i))) ∷ Refused OutOfMemory ∷ []
   alike Show = λ i. cond (has_stopped s.log) (Refused Stopped ∷ []) (Shown (shown (accepted i) (settled i)) ∷ Refused OutOfMemory ∷ [])
-  alike Crash = kept_counts s.log.base.count s.log.settled s.flight s.log.doubt (moved s.log n).base.count (s.log.settled - n) count
+  alike Crash =
+      let there : n + (s.log.settled - n) ≡ s.log.settled = omega (arith, le) in
+      let at : (k : ℕ) → Opened ((moved s.log n).base.count + k) ≡ Opened (s.log.base.count + (n + k)) = λ k. ap Opened (omega (arith, moved_base s.log n le is.log)) in
+      (λ i. map (λ k. at k i) (kept_by (s.log.settled - n) s.flight s.log.doubt))
+      ∙ sym (map-map (λ k. Opened (s.log.base.count + k)) (λ k. n + k) (kept_by (s.log.settled - n) s.flight s.log.doubt))
+      ∙ ap (map (λ k. Opened (s.log.base.count + k))) (sym (kept_later n (s.log.settled - n) s.flight s.log.doubt) ∙ ap (λ d. kept_by d s.flight s.log.doubt) there)
 
   on_submit : (x : Step) (v : Result Verdict Refusal) → AllByRecursion (λ a. after_submit (with_base_moved s n) x v a ≡ with_base_moved (after_submit s x v a) n) (to_submit (accepted_count s.log + 1) v)
   on_submit x (Ok (Fresh k)) =

@@ -4,10 +4,8 @@ use Rattle.std.specs.List.{AllByRecursion}
 use Rattle.std.proofs.lemmas.Grind.{flat_map-append}
 use Rattle.std.proofs.lemmas.List.Elements.{filter-append}
 use Rattle.std.proofs.lemmas.Bool.Decides.{nat_tests}
-use Rattle.coord_types.specs.declared.outputs.Output.{Output}
-use Rattle.coord_types.specs.declared.steps.Step.{Step}
+use Rattle.coord_ledger.specs.Facade.{Output, Step, release_of, released_first, releases_of}
 use Rattle.coord_world.specs.Facade.{StepOutcome, World, fold, next, outputs, outs, reply}
-use Rattle.coord_ledger.specs.Facade.{release_of, released_first, releases_of}
 use Rattle.coord_ledger.proofs.machine.Lists.{all_both}
 
 -- steps one after the other

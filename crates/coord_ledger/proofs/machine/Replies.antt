@@ -1,12 +1,9 @@
 -- Replies: those to steps, and those that a world keeps.
 use Rattle.std.proofs.Common.{◌≡◌, ℕ, zero, suc, ◌+◌, ◌≤◌, List, [], ◌∷◌, ◌++◌, map, length, take, Some, refl, sym, ap, ◌∙◌, arith, inl, inr, slice_get}
 use Rattle.coord_types.specs.Table.{get}
-use Rattle.coord_types.specs.declared.steps.Reply.{Reply}
-use Rattle.coord_types.specs.declared.steps.Session.{Session}
-use Rattle.coord_types.specs.declared.steps.Step.{Step}
+use Rattle.coord_ledger.specs.Facade.{IsOneOf, IsReplyOf, Reply, Session, Step}
 use Rattle.coord_world.proofs.Facade.{kept_reply_law}
 use Rattle.coord_world.specs.Facade.{StepOutcome, World, fold, next, outs, reply}
-use Rattle.coord_ledger.specs.Facade.{IsOneOf, IsReplyOf}
 
 abbrev replies : World → List Step → List Reply
 replies w steps = map (λ q. q.reply) (outs w steps)

@@ -1,7 +1,7 @@
 -- The kinds of the replies that a ledger keeps.
 use Rattle.std.proofs.Common.{◌≡◌, ℕ, zero, suc, List, [], ◌∷◌, ◌++◌, length, take, Some, slice_get, refl, ap}
 use Rattle.coord_node.specs.Steps.{kind}
-use Rattle.coord_types.specs.declared.steps.Step.{Step}
+use Rattle.coord_ledger.specs.Facade.{Step}
 use Rattle.coord_world.specs.Facade.{World, fold, next, state}
 use Rattle.coord_ledger.specs.code.Holding.{kinds_of}
 

@@ -2,21 +2,10 @@
 use Rattle.std.proofs.Common.{◌≡◌, ℕ, ◌+◌, ◌-◌, ◌≤◌, List, [], ◌∷◌, map, length, Option, Some, None, Ok, Err, refl, sym, subst, arith, cond, is_some, nat_le, Result}
 use Rattle.std.specs.List.{AllByRecursion}
 use Rattle.std.proofs.lemmas.List.{take-append-le, take-take}
-use Rattle.coord_types.specs.declared.refusals.Refusal.{Refusal}
+use Rattle.coord_ledger.specs.Facade.{Answer, Begin, Begun, Collect, Collected, Commit, Crash, Event, Finish, FlightOut, Fresh, Good, IsConsistent, Machine, Mark, New, NoFlight, Nothing, Opened, Refusal, Refused, Repeat, Reply, Resend, Show, Shown, Step, Submit, Torn, Verdict, Waiting, accepted_count, after, after_finish, after_submit, answers, crashed, finished, has_stopped, kept, next_size, settled_count, settled_world, stays_home, ticket, to_collect, to_commit, to_finish, to_submit, verdict, with_flight}
 use Rattle.coord_types.specs.declared.refusals.Refusal.TheVariants.{OutOfMemory, Stopped}
-use Rattle.coord_types.specs.declared.steps.Reply.{Reply}
-use Rattle.coord_types.specs.declared.steps.Step.{Step}
 use Rattle.coord_world.proofs.Facade.{by_test}
-use Rattle.coord_world.specs.declared.verdicts.Verdict.{Verdict}
-use Rattle.coord_world.specs.declared.verdicts.Verdict.TheVariants.{Fresh, Repeat}
-use Rattle.coord_ledger.specs.declared.events.Answer.{Answer}
-use Rattle.coord_ledger.specs.declared.events.Answer.TheVariants.{Begun, Collected, NoFlight, Nothing, Opened, Refused, Shown, Waiting}
-use Rattle.coord_ledger.specs.declared.events.Event.{Event}
-use Rattle.coord_ledger.specs.declared.events.Event.TheVariants.{Submit, Begin, Commit, Finish, Collect, Resend, Show, Crash}
-use Rattle.coord_ledger.specs.declared.mark.Mark.{Mark}
-use Rattle.coord_ledger.specs.declared.mark.Mark.TheVariants.{New, Good, Torn}
 use Rattle.coord_ledger.specs.laws.Laws.{KeepsSettled, SettledStays}
-use Rattle.coord_ledger.specs.Facade.{FlightOut, IsConsistent, Machine, accepted_count, after, after_finish, after_submit, answers, crashed, finished, has_stopped, kept, next_size, settled_count, settled_world, stays_home, ticket, to_collect, to_commit, to_finish, to_submit, verdict, with_flight}
 use Rattle.coord_view.specs.Shown.{shown}
 use Rattle.coord_ledger.proofs.machine.ConsistentFlights.{KeepsMore, all_keep_more}
 use Rattle.coord_ledger.proofs.machine.Lists.{each_one}

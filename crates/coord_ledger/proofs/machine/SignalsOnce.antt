@@ -3,17 +3,14 @@ use Rattle.std.proofs.Common.{◌≡◌, ◌≢◌, ℕ, ◌+◌, ◌≤◌, Boo
 use Rattle.std.proofs.lemmas.Bool.Decides.{nat_tests}
 use Rattle.std.proofs.lemmas.List.Sums.{sum_by-append, sum_by-cons}
 use Rattle.coord_node.specs.Facade.{Transition, lost, request, transition, transitions}
-use Rattle.coord_types.specs.declared.outputs.Output.{Output}
+use Rattle.coord_ledger.specs.Facade.{IsPartOf, Output, Release, Step, is_signal, release_of, released_first, releases_of, settled_steps}
 use Rattle.coord_types.specs.declared.outputs.Output.TheVariants.{Signalled}
 use Rattle.coord_types.specs.declared.steps.Command.TheVariants.{Add, Remove, Join, Drop, Reset, Confirm}
-use Rattle.coord_types.specs.declared.steps.Step.{Step}
 use Rattle.coord_types.specs.declared.steps.Step.TheVariants.{Order, Take, Clear}
 use Rattle.coord_world.proofs.Facade.{EachFresh, by_test, fresh_order, same_or_apart, signals_given, trail_each_fresh, trail_is_cut}
 use Rattle.coord_world.specs.laws.Waves.{is_signal_of}
 use Rattle.coord_world.specs.Facade.{IsFresh, World, next, outputs, outs, signals, state}
-use Rattle.coord_ledger.specs.declared.release.Release.{Release}
 use Rattle.coord_ledger.specs.laws.Laws.{SignalsOnce}
-use Rattle.coord_ledger.specs.Facade.{IsPartOf, is_signal, release_of, released_first, releases_of, settled_steps}
 
 -- ---- one step
 

@@ -7,20 +7,13 @@ use Rattle.coord_link.specs.LaneMachine.{Tests, refused_or}
 use Rattle.coord_node.specs.Steps.{kind}
 use Rattle.coord_types.proofs.Commands.{same_is}
 use Rattle.coord_types.specs.Facade.{get, same_command}
-use Rattle.coord_types.specs.declared.refusals.Refusal.{Refusal}
+use Rattle.coord_ledger.specs.Facade.{Fresh, Kind, Log, Refusal, Repeat, Reply, Session, Step, Verdict, front_world, has_stopped, is_full, settled_world, unless_full, verdict}
 use Rattle.coord_types.specs.declared.refusals.Refusal.TheVariants.{Exhausted, PendingFull, Stopped}
 use Rattle.coord_types.specs.declared.steps.Command.{Command}
-use Rattle.coord_types.specs.declared.steps.Kind.{Kind}
-use Rattle.coord_types.specs.declared.steps.Reply.{Reply}
-use Rattle.coord_types.specs.declared.steps.Session.{Session}
-use Rattle.coord_types.specs.declared.steps.Step.{Step}
 use Rattle.coord_types.specs.declared.steps.Step.TheVariants.{Order, Take, Clear}
 use Rattle.coord_world.proofs.Facade.{by_test}
-use Rattle.coord_world.specs.declared.verdicts.Verdict.{Verdict}
-use Rattle.coord_world.specs.declared.verdicts.Verdict.TheVariants.{Fresh, Repeat}
 use Rattle.coord_world.specs.Facade.{World, accepts, against, is_exhausted, judged, or_repeat, state}
 use Rattle.coord_ledger.specs.laws.Laws.{SubmitOrder, judged_in_order, unless_repeat}
-use Rattle.coord_ledger.specs.Facade.{Log, front_world, has_stopped, is_full, settled_world, unless_full, verdict}
 
 -- ---- one list of tests
 

@@ -137,7 +137,7 @@ pub record IsLeft {D : Type 0} (s : Machine) (l : LedgerState D) : Type 0 where
   pub log : l.log ≡ moved s.log by
   pub home : l.out ≡ None
 
--- A run from a ledger at home that hasn't stopped, on a disk that it has led from one state to another: the answers are
+-- A run from a ledger at home, on a disk that it has led from one state to another: the answers are
 -- the machine's, these were released, wherever it is stopped, after an event or at any moment inside one, the headline
 -- holds, and this ledger is left. It is what `run_events` ensures where it answers a trace and a ledger.
 pub record Ran {D : Type 0} (present : D → Present) (clock : D → ℕ) (left_since : D → ℕ → List ℕ → Type 0) (crashes : D → D → Type 0) (start : Machine) (events : List Event) (given : List Answer) (released : List Release) (left : LedgerState D) (keeps_model : Bool) (first last : D) : Type 0 where

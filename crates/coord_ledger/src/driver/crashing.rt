@@ -4,7 +4,7 @@ ghost use Rattle.std.specs.Prelude.{◌≡◌, true, IfErr, IfOk, MatchResult, S
 ghost use Rattle.coord_disk.specs.Model.Present.{IsImage};
 ghost use Rattle.coord_ledger.specs.declared.events.Answer.TheVariants.{Opened};
 ghost use Rattle.coord_ledger.specs.declared.events.Event.TheVariants.{Crash};
-ghost use Rattle.coord_ledger.specs.ledger.Driven.{Beside, IsLeftByCrash, after_crash, held, model_driven};
+ghost use Rattle.coord_ledger.specs.ledger.Driven.{Beside, IsAnew, after_crash, held, model_driven};
 ghost use Rattle.coord_ledger.specs.ledger.Driver.{HeldTouches, IsEventFault, IsLost, IsReopenFault, IsReopened};
 ghost use Rattle.coord_ledger.specs.ledger.Follows.{Follows, FollowsTo};
 ghost use Rattle.coord_ledger.specs.machine.Consistent.{IsConsistent};
@@ -46,8 +46,7 @@ impl<D: CrashDisk> Driver<D> {
             model_driven D.keeps_model self ≡ Some true
             → IfOk result (λ opened. FollowsTo s Crash (Opened opened.0)
             (held opened.1 (after_crash b))) }
-        ensures left { model_driven D.keeps_model self ≡ Some true →
-            IfOk result (λ opened. IsLeftByCrash self opened.1) }
+        ensures anew { IfOk result (λ opened. IsAnew opened.1) }
         ensures count { IfOk result (λ opened. opened.0 ≡ settled_count opened.1.ledger.log) }
         ensures disk { (b : Beside) (s : Machine) → IsConsistent s → Follows (held self b) s
             → MatchResult result (λ opened.

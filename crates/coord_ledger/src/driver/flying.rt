@@ -1,12 +1,12 @@
 //! Flights go out, are committed, and come back.
 
-ghost use Rattle.std.specs.Prelude.{◌≡◌, Some, None};
+ghost use Rattle.std.specs.Prelude.{◌≡◌, ◌-◌, List, Ok, Some};
 ghost use Rattle.coord_ledger.specs.declared.events.Event.TheVariants.{Begin, Commit};
-ghost use Rattle.coord_ledger.specs.declared.mark.Mark.TheVariants.{New};
-ghost use Rattle.coord_ledger.specs.ledger.Driven.{Beside, CommitsTo, FinishesTo, LandsTo, SendsOut, disk_driven, held, model_driven};
+ghost use Rattle.coord_ledger.specs.declared.release.Release.{Release as Row};
+ghost use Rattle.coord_ledger.specs.ledger.Driven.{Beside, FinishesTo, disk_driven, held, model_driven};
 ghost use Rattle.coord_ledger.specs.ledger.Driver.{HeldTouches};
 ghost use Rattle.coord_ledger.specs.ledger.Follows.{Follows, FollowsTo};
-ghost use Rattle.coord_ledger.specs.ledger.State.{FlightState};
+ghost use Rattle.coord_ledger.specs.machine.After.{settling_releases};
 ghost use Rattle.coord_ledger.specs.machine.Consistent.{IsConsistent};
 ghost use Rattle.coord_ledger.specs.machine.Machine.{Machine};
 ghost use Rattle.coord_ledger.specs.promises.Headline.{found_by_crash};
@@ -23,7 +23,7 @@ impl<D: CrashDisk> Driver<D> {
     pub fn begin(self) -> (Answer, Self)
         ensures answered { (b : Beside) (s : Machine) → IsConsistent s → Follows (held self b) s →
             FollowsTo s Begin result.0 (held result.1 b) }
-        ensures sent { self.flight ≡ None → SendsOut self.ledger result.0 result.1 }
+        ensures log { result.1.ledger.log ≡ self.ledger.log }
         ensures disk { disk_driven result.1 ≡ disk_driven self }
     {
         let Driver { mut ledger, flight } = self;
@@ -43,8 +43,7 @@ impl<D: CrashDisk> Driver<D> {
     pub fn commit(&mut self) -> Answer
         ensures answered { (b : Beside) (s : Machine) → IsConsistent s →
             Follows (held self.old b) s → FollowsTo s Commit result (held self.new b) }
-        ensures tried { (f : FlightState D) → self.old.flight ≡ Some f → f.mark ≡ New →
-            CommitsTo self.old.ledger f result self.new }
+        ensures ledger { self.new.ledger ≡ self.old.ledger }
         ensures disk { (b : Beside) (s : Machine) → IsConsistent s → Follows (held self.old b) s
             → HeldTouches D.keeps_model D.present D.clock D.left_since D.crashes
             (found_by_crash s Commit result) (touches_disk Commit result) Commit (held self.old b)
@@ -66,8 +65,10 @@ impl<D: CrashDisk> Driver<D> {
     pub fn finish(self) -> (Result<Option<Releases>, Refusal>, Self)
         ensures answered { (b : Beside) (s : Machine) → IsConsistent s → Follows (held self b) s →
             FinishesTo s b result.0 result.1 }
-        ensures landed { (f : FlightState D) → self.flight ≡ Some f →
-            LandsTo self.ledger f result.0 result.1 }
+        ensures base { result.1.ledger.log.base ≡ self.ledger.log.base }
+        ensures released { (releases : List Row) → result.0 ≡ Ok (Some releases) →
+            releases ≡ settling_releases self.ledger.log
+            (result.1.ledger.log.settled - self.ledger.log.settled) }
         ensures disk { disk_driven result.1 ≡ disk_driven self }
     {
         let Driver { mut ledger, flight } = self;

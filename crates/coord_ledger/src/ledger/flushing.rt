@@ -99,6 +99,7 @@ impl<D: Disk> Ledger<D> {
             (flight ≡ next_flight self.old.log flight.disk) × (self.old.disk ≡ Some flight.disk) ×
             (self.new ≡ with_out self.old (length flight.steps)))) }
         ensures err { OnErr result (self.new ≡ self.old) }
+        ensures log { self.new.log ≡ self.old.log }
     {
         if self.doubt.is_some() || self.done >= self.trail.len() {
             return Ok(None);

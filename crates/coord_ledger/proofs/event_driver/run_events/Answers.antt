@@ -1,5 +1,5 @@
-use Rattle.std.proofs.Common.{◌≡◌, ◌+◌, [], length, false, Ok, Err, refl, sym, ap, ◌∙◌, subst, arith, rules, OnOk, Result, is_err}
-use Rattle.coord_ledger.specs.Facade.{Driven, IsCutShort, IsEventFault, Ran, model_of, started}
+use Rattle.std.proofs.Common.{◌≡◌, ◌+◌, [], length, false, Ok, Err, refl, sym, ◌∙◌, subst, arith, rules, OnOk, Result, is_err}
+use Rattle.coord_ledger.specs.Facade.{IsCutShort, IsEventFault, Ran, model_of, started}
 use Rattle.coord_ledger.proofs.drives.BreaksOff.{broke_after, broke_first, broke_meeting, caused}
 use Rattle.coord_ledger.proofs.drives.Drives.{Underway, underway_first, underway_on}
 use Rattle.coord_ledger.proofs.drives.Ends.{ran_all}
@@ -12,14 +12,14 @@ on_ok_gives (Err e) fine x = let no : ⊥ = cc in absurd no
 
 pub loop-at-init : goal.loop-at-init
 loop-at-init g c = record {
-  underway = underway_first g.D.Disk.present g.D.Disk.clock g.D.Disk.left_since g.D.CrashDisk.crashes g.D.Disk.keeps_model c.args.ledger c.args.events.now _ _ c.requires.home c.requires.going c.log_is_consistent.ensures.log (ap (λ (d : Driven g.row.D.Denot). d.ledger) c.over.ensures) (ap (λ (d : Driven g.row.D.Denot). d.flight) c.over.ensures) (search rules) (search rules) (search rules) (cc) c.survives.ensures;
+  underway = underway_first g.D.Disk.present g.D.Disk.clock g.D.Disk.left_since g.D.CrashDisk.crashes g.D.Disk.keeps_model c.args.ledger c.args.events.now _ c.over-driver.result _ _ _ c.over-driver.ensures c.begins.ensures (search rules) (search rules) (search rules) (cc);
   room = let fine : is_err c.reserve.result ≡ false = search rules in let room = on_ok_gives c.reserve.result fine c.reserve.ensures.ok in omega (arith, room);
 }
 
 pub returns-then-is_err-clause-broke : goal.returns-then-is_err-clause-broke
 returns-then-is_err-clause-broke g c =
     broke_first g.D.Disk.present g.D.Disk.clock g.D.Disk.left_since g.D.CrashDisk.crashes g.D.Disk.keeps_model c.args.ledger c.args.events.now c.at.result.at c.at.result.trace.answers.items _ c.at.result.trace.released.items c.lose.result.disk c.at.ensures.at (cc) (c.at.ensures.released ∙ c.lose.ensures.released) c.lose.ensures.disk
-    (underway_first g.D.Disk.present g.D.Disk.clock g.D.Disk.left_since g.D.CrashDisk.crashes g.D.Disk.keeps_model c.args.ledger c.args.events.now [] _ c.requires.home c.requires.going c.log_is_consistent.ensures.log (ap (λ (d : Driven g.row.D.Denot). d.ledger) c.over.ensures) (ap (λ (d : Driven g.row.D.Denot). d.flight) c.over.ensures) (search rules) (search rules) (search rules) refl c.survives.ensures)
+    (underway_first g.D.Disk.present g.D.Disk.clock g.D.Disk.left_since g.D.CrashDisk.crashes g.D.Disk.keeps_model c.args.ledger c.args.events.now [] c.over-driver.result c.new.result.items c.new-2.result c.new-3.result.items c.over-driver.ensures c.begins.ensures (search rules) (search rules) (search rules) refl)
 
 pub returns-in-Err-clause-broke : goal.returns-in-Err-clause-broke
 returns-in-Err-clause-broke g c =
@@ -38,7 +38,7 @@ loop-at-preserved g c =
     record {
       underway = subst (λ l. Underway {D = g.row.D.Denot} g.D.Disk.present g.D.Disk.clock g.D.Disk.left_since g.D.CrashDisk.crashes g.D.Disk.keeps_model c.args.ledger c.args.events.now (c.loop-at.at + 1) l c.in-Ok.next) (sym given)
           (underway_on g.D.Disk.present g.D.Disk.clock g.D.Disk.left_since g.D.CrashDisk.crashes g.D.Disk.keeps_model c.args.ledger c.args.events.now c.loop-at.at c.loop-at.answers.items c.loop-at.held c.loop-at.invariant.underway c.index-events-at.result c.loop-at-test.true c.index-events-at.is
-          c.in-Ok.next c.in-Ok.answer c.in-Ok.ensures.named c.in-Ok.ensures.answered c.in-Ok.ensures.model c.in-Ok.ensures.disk c.survives-in-Ok.ensures);
+          c.in-Ok.next c.in-Ok.answer c.in-Ok.ensures.named c.in-Ok.ensures.answered c.in-Ok.ensures.model c.in-Ok.ensures.disk c.survives.ensures);
       room = omega (arith, c.loop-at.invariant.room, c.push_reserved.ensures.len, c.push_reserved.ensures.capacity);
     }
 

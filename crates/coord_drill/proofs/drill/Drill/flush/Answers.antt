@@ -11,4 +11,4 @@ returns-clause-told c =
     let flown = c.in_ok-fly.ensures.told in
     let line = count_line (settled_world (state_of new).log).count in
     let text : string_bytes c.print_count.new.text ≡ string_bytes c.fly.new.text ++ line = search rules in
-    (flown.0 ++ line, (text ∙ ap (λ l. l ++ line) flown.1.0 ∙ append_assoc (string_bytes c.args.text.now) flown.0 line, flushes d new flown.0 c.requires.ready c.in_ok-fly.ensures.ready c.driver.ensures.begins flown.1.1))
+    (flown.0 ++ line, (text ∙ ap (λ l. l ++ line) flown.1.0 ∙ append_assoc (string_bytes c.args.text.now) flown.0 line, flushes d new flown.0 c.in_ok-fly.ensures.ready c.driver.ensures.begins flown.1.1))

@@ -1,5 +1,5 @@
 use Rattle.std.proofs.Common.{◌≡◌, None, ap, ◌∙◌, refl, sym, subst}
-use Rattle.coord_disk.specs.declared.memory.MemDisk.{MemDisk}
+use Rattle.coord_drill.specs.Facade.{MemDisk}
 use Rattle.coord_world.specs.protocol.NumberedWorld.{no_world}
 use Rattle.coord_ledger.specs.ledger.Driven.{Driven}
 use Rattle.coord_drill.specs.Holding.{IsHeld}

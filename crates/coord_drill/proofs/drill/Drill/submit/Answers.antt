@@ -1,9 +1,8 @@
 use Rattle.std.proofs.Common.{Ok, ◌≡◌, ◌≢◌, ◌++◌, refl, ap, ◌∙◌, rules, sym, subst, string_bytes}
 use Rattle.std.proofs.lemmas.Result.{on_ok_weaker}
-use Rattle.coord_disk.specs.declared.memory.MemDisk.{MemDisk}
 use Rattle.coord_types.specs.declared.refusals.Refusal.TheVariants.{OutOfMemory}
 use Rattle.coord_ledger.specs.Facade.{IsGranted, LedgerState, reply_of, settled_count}
-use Rattle.coord_drill.specs.Facade.{Hands, kept_line, pending_line, refusal_line}
+use Rattle.coord_drill.specs.Facade.{Hands, MemDisk, kept_line, pending_line, refusal_line}
 use Rattle.coord_drill.proofs.does.HandedTo.{accepted_ready, carries_flight, carries_pending, carries_refusal, carries_repeat, kept_ready, repeated_granted}
 use Rattle.coord_drill.proofs.does.Moments.{on_ok_both}
 use Rattle.coord_drill.proofs.drill.Drill.submit.Goals as goal
@@ -13,14 +12,14 @@ returns-then-self-clause-ready c =
     let v = c.in-Some.driver in
     let w = c.hand_in.new.driver in
     let hands = subst (λ r. Hands v c.args.step r w) (c.in-Ok-Accepted.is ∙ ap Ok c.in-Ok-Accepted.field-0-is) c.hand_in.ensures in
-    accepted_ready c.args.self.now v w c.args.step (search rules) c.requires.ready c.in-Ok-Accepted.ticket c.push_back_reserved.new.self.items hands (search rules)
+    accepted_ready c.args.self.now v w c.args.step (search rules) c.requires.ready c.in-Ok-Accepted.ticket c.push_back_reserved.new.self.items c.driver.ensures.begins hands (search rules)
 
 pub fly-requires : goal.fly-requires
 fly-requires c =
     let v = c.in-Some.driver in
     let w = c.hand_in.new.driver in
     let hands = subst (λ r. Hands v c.args.step r w) (c.in-Ok-Accepted.is ∙ ap Ok c.in-Ok-Accepted.field-0-is) c.hand_in.ensures in
-    record { ready = accepted_ready c.args.self.now v w c.args.step (search rules) c.requires.ready c.in-Ok-Accepted.ticket c.push_back_reserved.new.self.items hands (search rules) }
+    record { ready = accepted_ready c.args.self.now v w c.args.step (search rules) c.requires.ready c.in-Ok-Accepted.ticket c.push_back_reserved.new.self.items c.driver.ensures.begins hands (search rules) }
 
 pub returns-then-self-clause-told : goal.returns-then-self-clause-told
 returns-then-self-clause-told c =

@@ -1,27 +1,18 @@
-use Rattle.std.proofs.Common.{[], ◌∷◌, subst}
-use Rattle.coord_ledger.specs.declared.events.Answer.{Answer}
-use Rattle.coord_ledger.specs.declared.events.Answer.TheVariants.{Finished}
+use Rattle.std.proofs.Common.{◌-◌, [], ◌∷◌, ap, ◌∙◌, subst}
 use Rattle.coord_ledger.specs.declared.events.Event.TheVariants.{Commit, Finish}
-use Rattle.coord_ledger.specs.Facade.{CommitsTo, settled_count}
-use Rattle.coord_drill.specs.Facade.{GoesOnTo, landing_events}
-use Rattle.coord_drill.proofs.does.FlownTo.{lands_failed, lands_settled}
+use Rattle.coord_ledger.specs.Facade.{LedgerState, settled_count, settling_releases}
+use Rattle.coord_drill.specs.Facade.{Answer, Finished, GoesOnTo, MemDisk, landing_events}
 use Rattle.coord_drill.proofs.does.Moments.{goes_then, run_on}
 use Rattle.coord_drill.proofs.drill.flying.land.Goals as goal
 use Rattle.coord_drill.proofs.drill.flying.land.Goals.{in-Committed, in-Failed, in_default}
 
-pub returns-clause-landed : goal.returns-clause-landed
-returns-clause-landed c =
-    let l = c.args.driver.ledger in
-    let tried = c.commit-answer.new.self in
-    let back = c.in_ok-releases.driver in
-    let releases = c.in_ok-releases.releases in
+pub returns-clause-lands : goal.returns-clause-lands
+returns-clause-lands c =
+    let base = c.in_ok-releases.ensures.base ∙ ap (λ (l : LedgerState MemDisk). l.log.base) c.commit-answer.ensures.ledger in
+    let settled = c.in_ok-releases.driver.ledger.log.settled in
     elim c.match-answer-2.branch [
-      | in-Committed w ↦
-          rw w.result-is
-          (λ f is new. lands_settled l f tried back releases (subst (λ a. CommitsTo l f a tried) w.in-Committed.is (c.commit-answer.ensures.tried f is new)) c.in_ok-releases.ensures.landed)
-      | in-Failed w ↦
-          rw w.result-is
-          (λ f is new. lands_failed l f tried back releases w.in-Failed.fault (subst (λ a. CommitsTo l f a tried) w.in-Failed.is (c.commit-answer.ensures.tried f is new)) c.in_ok-releases.ensures.landed)
+      | in-Committed w ↦ rw w.result-is (record { base = base; released = c.in_ok-releases.ensures.released ∙ ap (λ (l : LedgerState MemDisk). settling_releases l.log (settled - l.log.settled)) c.commit-answer.ensures.ledger })
+      | in-Failed w ↦ rw w.result-is base
       | in_default w ↦ rw w.result-is tt
     ]
 

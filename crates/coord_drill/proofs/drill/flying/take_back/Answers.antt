@@ -1,13 +1,12 @@
 use Rattle.std.proofs.Common.{Ok, refl, ap, ◌∙◌, subst}
-use Rattle.coord_ledger.specs.declared.events.Answer.TheVariants.{Finished}
+use Rattle.coord_drill.specs.Facade.{Finished}
 use Rattle.coord_ledger.specs.declared.events.Event.TheVariants.{Finish}
-use Rattle.coord_ledger.specs.Facade.{FinishesTo, LandsTo, settled_count, with_releases}
+use Rattle.coord_ledger.specs.Facade.{FinishesTo, settled_count, with_releases}
 use Rattle.coord_drill.proofs.does.Moments.{run_aside}
 use Rattle.coord_drill.proofs.drill.flying.take_back.Goals as goal
 
-pub returns-in-Ok-Some-clause-landed : goal.returns-in-Ok-Some-clause-landed
-returns-in-Ok-Some-clause-landed c f there =
-    subst (λ r. LandsTo c.args.driver.ledger f r c.finish-landed.result.1) (c.in-Ok-Some.is ∙ ap Ok c.in-Ok-Some.field-0-is) (c.finish-landed.ensures.landed f there)
+pub returns-in-Ok-Some-clause-released : goal.returns-in-Ok-Some-clause-released
+returns-in-Ok-Some-clause-released c = c.finish-landed.ensures.released c.in-Ok-Some.releases (c.in-Ok-Some.is ∙ ap Ok c.in-Ok-Some.field-0-is)
 
 pub returns-in-Ok-Some-clause-moments : goal.returns-in-Ok-Some-clause-moments
 returns-in-Ok-Some-clause-moments c l es gs run =

@@ -1,12 +1,9 @@
-use Rattle.std.proofs.Common.{◌≡◌, length, Option, Some, None, Ok, refl, sym, ap, ◌∙◌, subst, rules}
+use Rattle.std.proofs.Common.{◌≡◌, length, Option, Some, None, Ok, sym, ap, ◌∙◌, subst, rules}
 use Rattle.coord_types.specs.declared.refusals.Refusal.TheVariants.{OutOfMemory}
-use Rattle.coord_ledger.specs.declared.events.Answer.{Answer}
-use Rattle.coord_ledger.specs.declared.events.Answer.TheVariants.{Begun, Nothing, Refused}
-use Rattle.coord_ledger.specs.declared.events.Event.TheVariants.{Begin}
-use Rattle.coord_ledger.specs.Facade.{Driven, FlightState, Follows, FollowsTo, HoldsFlight, LedgerState, SendsOut, at_home, held}
+use Rattle.coord_ledger.specs.Facade.{Answer, Begin, Begun, Driven, FlightState, Follows, FollowsTo, HoldsFlight, LedgerState, Nothing, Refused, at_home, held}
 use Rattle.coord_ledger.proofs.follows.FollowsCalls.{follows_next}
 use Rattle.coord_ledger.proofs.follows.FollowsFlights.{follows_not_begun, follows_nothing}
-use Rattle.coord_ledger.proofs.drives.Flights.{begun_err, begun_none, begun_some, begun_to, departs_own}
+use Rattle.coord_ledger.proofs.drives.Flights.{begun_err, begun_none, begun_some, departs_own}
 use Rattle.coord_ledger.proofs.driver.Driver.begin.Goals as goal
 use Rattle.coord_ledger.proofs.driver.Driver.begin.Goals.{in-Ok-Some, in-Ok-None, in-Err}
 
@@ -48,21 +45,3 @@ returns-clause-answered g c b s is follows =
           (subst (λ l. FollowsTo s Begin (Refused OutOfMemory) (held (at_home l) b)) (sym w.in-Err.ensures.err)
           (follows_not_begun _ s is empty goes))
     ]
-
-pub returns-clause-sent : goal.returns-clause-sent
-returns-clause-sent g c none =
-    let To : Answer × Option (FlightState g.row.D.Denot) → Type 0 = λ p. SendsOut c.self.inside.ledger p.0 (record { ledger = c.begin_flush.new.self; flight = p.1 }) in
-    subst (λ (d : Driven g.row.D.Denot). SendsOut d.ledger c.match-begin_flush.answer.0 (record { ledger = c.begin_flush.new.self; flight = c.match-begin_flush.answer.1 })) c.self.view_is
-    (elim c.match-begin_flush.branch [
-      | in-Ok-Some w ↦
-          let departs = begun_some c.self.inside.ledger c.begin_flush.new.self c.begin_flush.result c.begin_flush.ensures.nothing c.begin_flush.ensures.begun w.in-Ok-Some.flight (w.in-Ok-Some.is ∙ ap Ok w.in-Ok-Some.field-0-is) in
-          let many : w.len.result ≡ length w.flight.inside.steps.items = search rules in
-          let size : w.len.result ≡ length w.in-Ok-Some.flight.steps = many ∙ ap (λ (f : FlightState g.row.D.Denot). length f.steps) w.flight.view_is in
-          subst To (sym w.answer-is)
-          (subst (λ n. To (Begun n, Some w.in-Ok-Some.flight)) (sym size)
-          (record { goes = departs.goes; disk = w.in-Ok-Some.flight.disk; home = departs.home; is = begun_to c.self.inside.ledger c.begin_flush.new.self w.in-Ok-Some.flight departs }))
-      | in-Ok-None w ↦
-          let stays = begun_none c.self.inside.ledger c.begin_flush.new.self c.begin_flush.result c.begin_flush.ensures.nothing c.begin_flush.ensures.begun (w.in-Ok-None.is ∙ ap Ok w.in-Ok-None.field-0-is) in
-          subst To (sym w.answer-is) (stays.0, ap at_home stays.1)
-      | in-Err w ↦ subst To (sym w.answer-is) (refl, ap at_home w.in-Err.ensures.err)
-    ])

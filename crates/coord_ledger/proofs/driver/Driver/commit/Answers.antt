@@ -1,9 +1,6 @@
-use Rattle.std.proofs.Common.{◌≡◌, Some, false, refl, sym, ap, ◌∙◌, subst}
-use Rattle.coord_ledger.specs.declared.events.Answer.{Answer}
-use Rattle.coord_ledger.specs.declared.events.Event.TheVariants.{Commit}
-use Rattle.coord_ledger.specs.Facade.{CommitsTo, Driven, HeldTouches, disk_driven, disk_with, found_by_crash, held, touches_disk}
+use Rattle.std.proofs.Common.{false, refl, sym, ap, ◌∙◌, subst}
+use Rattle.coord_ledger.specs.Facade.{Commit, Driven, HeldTouches, disk_driven, disk_with, found_by_crash, held, touches_disk}
 use Rattle.coord_ledger.proofs.drives.EachMoment.{commit_touches, held_untouched, told}
-use Rattle.coord_ledger.proofs.drives.Flights.{committed}
 use Rattle.coord_ledger.proofs.driver.Driver.commit.Goals as goal
 use Rattle.coord_ledger.proofs.driver.Driver.commit.Goals.{in-None, in-Some+in-Ok, in-Some+in-Err}
 
@@ -26,21 +23,3 @@ returns-clause-disk g c b s is follows = elim c.match-self.branch [
       (λ i. disk_with (w.self-inside-is i).ledger.disk (w.self-inside-is i).flight) w.commit.result
       w.commit.ensures.any_moment w.commit.ensures.any_moment_refused w.commit.ensures.tried w.commit.ensures.again w.commit.ensures.stopped)
 ]
-
-pub returns-clause-tried : goal.returns-clause-tried
-returns-clause-tried g c f there new =
-    let To : Answer → Type 0 = λ a. CommitsTo c.self.inside.ledger f a (record { ledger = c.match-self.self-inside.ledger; flight = c.match-self.self-inside.flight }) in
-    subst (λ (x : Driven g.row.D.Denot). x.flight ≡ Some f → CommitsTo x.ledger f c.match-self.result (record { ledger = c.match-self.self-inside.ledger; flight = c.match-self.self-inside.flight })) c.self.view_is
-    (λ its. elim c.match-self.branch [
-      | in-None w ↦ let no : ⊥ = cc (its, w.in-None.is) in absurd no
-      | in-Some+in-Ok w ↦
-          let same : w.in-Some.flight ≡ f = cc (its, w.in-Some.is) in
-          subst To (ap told w.in-Ok.is ∙ sym w.result-is)
-          (committed c.self.inside.ledger w.in-Some.flight f w.commit.new.self (record { ledger = c.match-self.self-inside.ledger; flight = c.match-self.self-inside.flight }) w.commit.result same (λ i. record { ledger = (w.self-inside-is i).ledger; flight = (w.self-inside-is i).flight }) new
-          w.commit.ensures.tried w.commit.ensures.same_first w.commit.ensures.same_steps w.commit.ensures.same_world)
-      | in-Some+in-Err w ↦
-          let same : w.in-Some.flight ≡ f = cc (its, w.in-Some.is) in
-          subst To (ap told w.in-Err.is ∙ sym w.result-is)
-          (committed c.self.inside.ledger w.in-Some.flight f w.commit.new.self (record { ledger = c.match-self.self-inside.ledger; flight = c.match-self.self-inside.flight }) w.commit.result same (λ i. record { ledger = (w.self-inside-is i).ledger; flight = (w.self-inside-is i).flight }) new
-          w.commit.ensures.tried w.commit.ensures.same_first w.commit.ensures.same_steps w.commit.ensures.same_world)
-    ]) there

@@ -1,11 +1,9 @@
 use Rattle.std.proofs.Common.{◌≡◌, true, sym, ap, ◌∙◌, subst}
 use Rattle.std.specs.Option.{option_map}
 use Rattle.coord_world.specs.protocol.NumberedWorld.{World}
-use Rattle.coord_ledger.specs.declared.events.Answer.TheVariants.{Opened}
-use Rattle.coord_ledger.specs.declared.events.Event.TheVariants.{Crash}
-use Rattle.coord_ledger.specs.Facade.{Driven, FollowsTo, IsLeftByCrash, after_crash, at_home, disk_driven, flight_out, held, kept_by, model_driven}
+use Rattle.coord_ledger.specs.Facade.{Crash, Driven, FollowsTo, Opened, after_crash, at_home, disk_driven, flight_out, held, kept_by, model_driven}
 use Rattle.coord_ledger.proofs.follows.FollowsCrashes.{images_follow}
-use Rattle.coord_ledger.proofs.drives.FollowsTo.{crash_fault, follows_reopened, left_by_crash, some_is}
+use Rattle.coord_ledger.proofs.drives.FollowsTo.{crash_fault, follows_reopened, some_is}
 use Rattle.coord_ledger.proofs.drives.EachMoment.{crash_lost, crash_touches}
 use Rattle.coord_ledger.proofs.driver.Driver.crash.Goals as goal
 
@@ -19,12 +17,8 @@ returns-in-Ok-clause-answered g c b s is follows on =
     (subst (λ n. FollowsTo {D = g.row.D.Denot} s Crash (Opened n) (held (at_home c.in-Ok.ledger) (after_crash b))) (sym count)
     (follows_reopened s g.D.Disk.keeps_model g.D.Disk.present g.D.Disk.clock g.D.Disk.left_since g.D.CrashDisk.crashes d c.in-Ok.ledger b.released is follows.released images keeps c.in-Ok.ensures.opened))
 
-pub returns-in-Ok-clause-left : goal.returns-in-Ok-clause-left
-returns-in-Ok-clause-left g c on =
-    let d = c.into_disk.result in
-    let keeps : g.D.Disk.keeps_model d ≡ true = some_is (g.D.Disk.keeps_model d) (sym (ap (option_map g.D.Disk.keeps_model) c.into_disk.ensures.disk) ∙ on) in
-    subst (IsLeftByCrash c.args.self) (sym c.over.ensures)
-    (left_by_crash c.args.self g.D.Disk.keeps_model g.D.Disk.present g.D.Disk.clock g.D.Disk.left_since g.D.CrashDisk.crashes d c.in-Ok.ledger keeps c.into_disk.ensures.images c.in-Ok.ensures.opened)
+pub returns-in-Ok-clause-anew : goal.returns-in-Ok-clause-anew
+returns-in-Ok-clause-anew g c = record { world = c.in-Ok.ensures.opened.world; disk = c.in-Ok.ensures.opened.disk; is = c.over.ensures ∙ ap at_home c.in-Ok.ensures.opened.is }
 
 pub returns-in-Err-clause-cause : goal.returns-in-Err-clause-cause
 returns-in-Err-clause-cause g c =

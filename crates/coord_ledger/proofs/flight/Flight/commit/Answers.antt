@@ -2,11 +2,9 @@ use Rattle.std.proofs.Common.{◌≡◌, ◌+◌, ◌≤◌, ℕ, Bool, List, Op
 use Rattle.coord_disk.specs.Model.Present.{Present}
 use Rattle.coord_journal.specs.Text.{HasPlaceIn, IsTextIn}
 use Rattle.coord_store.specs.Facade.{IsBody, Kept}
-use Rattle.coord_types.specs.declared.steps.Step.{Step}
+use Rattle.coord_ledger.specs.Facade.{Mark, New, Step}
 use Rattle.coord_world.specs.protocol.NumberedWorld.{World}
 use Rattle.coord_ledger.specs.code.Holding.{IsFlight, carried_torn, carried_world}
-use Rattle.coord_ledger.specs.declared.mark.Mark.{Mark}
-use Rattle.coord_ledger.specs.declared.mark.Mark.TheVariants.{New}
 use Rattle.coord_ledger.specs.ledger.State.{FlightState}
 use Rattle.coord_ledger.proofs.follows.IsOut.{flight_of}
 use Rattle.coord_ledger.proofs.flight.Flight.commit.Goals as goal

@@ -1,8 +1,7 @@
 use Rattle.std.proofs.Common.{◌≡◌, ℕ, List, length, take, drop, min, ap, ◌∙◌, arith}
 use Rattle.std.proofs.lemmas.List.{length-drop, take_min}
 use Rattle.coord_types.specs.declared.limits.TheConstants.{MAX_BATCH_STEPS}
-use Rattle.coord_types.specs.declared.steps.Step.{Step}
-use Rattle.coord_ledger.specs.Facade.{LedgerState, Log, pending}
+use Rattle.coord_ledger.specs.Facade.{LedgerState, Log, Step, pending}
 use Rattle.coord_ledger.proofs.ledger.Ledger.next_flown.Goals as goal
 
 -- the steps that go out are the first of those that are pending

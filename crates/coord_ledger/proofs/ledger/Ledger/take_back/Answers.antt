@@ -1,6 +1,5 @@
 use Rattle.std.proofs.Common.{◌≡◌, ◌≢◌, ◌∙◌, refl, sym, rules}
-use Rattle.coord_ledger.specs.declared.mark.Mark.{Mark}
-use Rattle.coord_ledger.specs.declared.mark.Mark.TheVariants.{New, Good, Torn}
+use Rattle.coord_ledger.specs.Facade.{Good, Mark, New, Torn}
 use Rattle.coord_ledger.proofs.follows.IsOut.{took_torn}
 use Rattle.coord_ledger.proofs.ledger.Ledger.take_back.Goals as goal
 

@@ -1,7 +1,5 @@
 use Rattle.std.proofs.Common.{◌≡◌, ◌<◌, ◌≤◌, length, Option, Some, None, sym, ap, ◌∙◌, subst, rules, slice_index_or, slice_set}
-use Rattle.coord_ledger.specs.declared.events.Answer.TheVariants.{NoTicket, Collected, Waiting}
-use Rattle.coord_ledger.specs.declared.events.Event.TheVariants.{Collect}
-use Rattle.coord_ledger.specs.Facade.{Claim, Follows, FollowsTo, Held, IsCollectable, LedgerState, reply_of, spent}
+use Rattle.coord_ledger.specs.Facade.{Claim, Collect, Collected, Follows, FollowsTo, Held, IsCollectable, LedgerState, NoTicket, Waiting, reply_of, spent}
 use Rattle.coord_ledger.proofs.follows.FollowsTickets.{follows_collected, follows_no_ticket, follows_waiting}
 use Rattle.coord_ledger.proofs.drives.Tickets.{put_back, set_same, spent_is, ticket_past, ticket_within}
 use Rattle.coord_ledger.proofs.event_driver.run.Run.collect.Goals as goal

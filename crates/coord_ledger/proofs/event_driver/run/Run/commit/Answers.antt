@@ -1,6 +1,5 @@
 use Rattle.std.proofs.Common.{sym, subst}
-use Rattle.coord_ledger.specs.declared.events.Event.TheVariants.{Commit}
-use Rattle.coord_ledger.specs.Facade.{Beside, Follows, Held, HeldTouches, found_by_crash, held, touches_disk}
+use Rattle.coord_ledger.specs.Facade.{Beside, Commit, Follows, Held, HeldTouches, found_by_crash, held, touches_disk}
 use Rattle.coord_ledger.proofs.event_driver.run.Run.commit.Goals as goal
 
 pub returns-clause-answered : goal.returns-clause-answered

@@ -1,7 +1,5 @@
 use Rattle.std.proofs.Common.{true, sym, ap, ◌∙◌, subst}
-use Rattle.coord_ledger.specs.declared.events.Answer.TheVariants.{Opened}
-use Rattle.coord_ledger.specs.declared.events.Event.TheVariants.{Crash}
-use Rattle.coord_ledger.specs.Facade.{Beside, Follows, FollowsTo, Held, HeldTouches, IsLost, after_crash, held, model_of}
+use Rattle.coord_ledger.specs.Facade.{Beside, Crash, Follows, FollowsTo, Held, HeldTouches, IsLost, Opened, after_crash, held, model_of}
 use Rattle.coord_ledger.proofs.drives.CutShort.{cut_before}
 use Rattle.coord_ledger.proofs.drives.FollowsTo.{crash_on}
 use Rattle.coord_ledger.proofs.event_driver.run.Run.crash.Goals as goal

@@ -1,10 +1,6 @@
 use Rattle.std.proofs.Common.{◌≡◌, List, ◌++◌, Ok, true, false, sym, ap, ◌∙◌, subst, rules, is_err}
 use Rattle.std.proofs.lemmas.List.{append_assoc}
-use Rattle.coord_ledger.specs.declared.events.Answer.{Answer}
-use Rattle.coord_ledger.specs.declared.events.Answer.TheVariants.{Finished, NoFlight, Refused}
-use Rattle.coord_ledger.specs.declared.events.Event.TheVariants.{Finish}
-use Rattle.coord_ledger.specs.declared.release.Release.{Release}
-use Rattle.coord_ledger.specs.Facade.{Beside, FinishesTo, Follows, FollowsTo, Held, LedgerState, settled_count}
+use Rattle.coord_ledger.specs.Facade.{Answer, Beside, Finish, Finished, FinishesTo, Follows, FollowsTo, Held, LedgerState, NoFlight, Refused, Release, settled_count}
 use Rattle.coord_ledger.proofs.drives.CutShort.{cut_within}
 use Rattle.coord_ledger.proofs.drives.Answers.{err_gives, ok_gives}
 use Rattle.coord_ledger.proofs.event_driver.run.Run.finish.Goals as goal

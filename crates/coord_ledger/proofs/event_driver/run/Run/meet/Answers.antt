@@ -1,6 +1,5 @@
 use Rattle.std.proofs.Common.{refl, sym, ap, ◌∙◌, subst, MatchResult}
-use Rattle.coord_ledger.specs.declared.events.Event.TheVariants.{Begin, Collect, Commit, Finish, Resend, Show, Submit}
-use Rattle.coord_ledger.specs.Facade.{Held, HeldTouches, IsCutShort, IsLost, disk_held, found_by_crash, touches_disk}
+use Rattle.coord_ledger.specs.Facade.{Begin, Collect, Commit, Finish, Held, HeldTouches, IsCutShort, IsLost, Resend, Show, Submit, disk_held, found_by_crash, touches_disk}
 use Rattle.coord_ledger.proofs.drives.CutShort.{cut_before}
 use Rattle.coord_ledger.proofs.drives.FollowsTo.{met, met_cut, on_err_map}
 use Rattle.coord_ledger.proofs.drives.EachMoment.{lost_as_held, match_map, met_aside, met_commit}

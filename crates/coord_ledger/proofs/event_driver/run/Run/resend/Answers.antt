@@ -1,8 +1,6 @@
 use Rattle.std.proofs.Common.{◌++◌, length, sym, ap, ◌∙◌, subst}
 use Rattle.std.proofs.lemmas.List.{append_assoc}
-use Rattle.coord_ledger.specs.declared.events.Answer.TheVariants.{Resent}
-use Rattle.coord_ledger.specs.declared.events.Event.TheVariants.{Resend}
-use Rattle.coord_ledger.specs.Facade.{Follows, FollowsTo, Held, LedgerState, resent, settled_world}
+use Rattle.coord_ledger.specs.Facade.{Follows, FollowsTo, Held, LedgerState, Resend, Resent, resent, settled_world}
 use Rattle.coord_ledger.proofs.drives.CutShort.{cut_within}
 use Rattle.coord_ledger.proofs.follows.FollowsTickets.{follows_resent}
 use Rattle.coord_ledger.proofs.drives.Answers.{on_err, resent_count}

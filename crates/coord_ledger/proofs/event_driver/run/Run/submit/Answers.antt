@@ -1,7 +1,5 @@
 use Rattle.std.proofs.Common.{◌∷◌, ◌++◌, [], Some, Ok, sym, ap, ◌∙◌, subst}
-use Rattle.coord_ledger.specs.declared.events.Answer.TheVariants.{Accepted, Refused, Repeated}
-use Rattle.coord_ledger.specs.declared.events.Event.TheVariants.{Submit}
-use Rattle.coord_ledger.specs.Facade.{Beside, Follows, FollowsTo, Held, answer_to, held, with_claim}
+use Rattle.coord_ledger.specs.Facade.{Accepted, Beside, Follows, FollowsTo, Held, Refused, Repeated, Submit, answer_to, held, with_claim}
 use Rattle.coord_ledger.proofs.event_driver.run.Run.submit.Goals as goal
 
 pub returns-in-Ok-Accepted-clause-answered : goal.returns-in-Ok-Accepted-clause-answered
