@@ -31,7 +31,7 @@ class Tools(Case):
 
     def test_faults_of_the_device(self):
         """Each write and each sync fails once, by strace."""
-        self.needs("strace", faults.can_inject())
+        self.needs("strace that may trace", faults.can_inject(), is_optional=True)
         printed = self.expect(tool("soak"), "--program", PROGRAM, "--rounds", "0", "--faults", "3", "--migrations", "0",
                               ends_with="nothing was lost")
         self.assertIn("failed at 3 places", printed)

@@ -8,6 +8,8 @@ import unittest
 
 from .program import ROOT, ran
 
+OPTIONAL = "optional: "  # how the reason begins of what may be skipped in CI too
+
 
 def until(what, holds, seconds=60.0):
     """Waits until something holds, and gives what it holds by. It is looked at often, so nothing waits on a clock."""
@@ -48,10 +50,10 @@ class Case(unittest.TestCase):
         self.assertEqual((ended.status, ended.told), (0, ""))
         return self.path(name)
 
-    def needs(self, what, has):
-        """What a test can't do without: where it lacks, the test is skipped, which fails in CI."""
+    def needs(self, what, has, is_optional=False):
+        """What a test can't do without: where it lacks, the test is skipped, which fails in CI unless it is optional."""
         if not has:
-            self.skipTest(f"it needs {what}")
+            self.skipTest(f"{OPTIONAL if is_optional else ''}it needs {what}")
 
 
 def tool(name):
