@@ -10,12 +10,13 @@ from support.serving import Serving
 from support.stores import ring, topology
 
 LINE, REPLY, SILENCE, CONNECTION, DISCARD = 10, 10, 15, 600, 1
-LATE = 3  # seconds by which a busy machine may be late
+LATE = 4  # seconds by which a busy machine may be late
 SHOW = {"op": "show"}
 
 
 def ended_after(connection):
     """Waits until the server has ended a connection: the seconds that it took."""
+    connection.socket.settimeout(SILENCE + 2 * LATE)
     began = time.monotonic()
     try:
         while connection.socket.recv(65_536):
@@ -92,7 +93,7 @@ class Patience(Case):
         """Sends a byte each half second until the server ends the connection: since when."""
         connection.socket.settimeout(0.5)
         begun = time.monotonic()
-        while time.monotonic() < begun + 60:
+        while time.monotonic() < begun + LINE + 2 * LATE:
             try:
                 connection.socket.sendall(b" ")
                 while connection.socket.recv(65_536):
@@ -158,20 +159,20 @@ class Patience(Case):
             pass
 
     def test_a_connection_that_lasts(self):
-        """By a clock that goes sixty times as fast."""
+        """By a clock that goes sixty times as fast; the second client has as long as the first one."""
         self.needs("a C compiler", preloaded.has_compiler())
-        factor = 60
-        with self.serving(env=preloaded.environment(self.folder, CLOCK_FACTOR=factor)) as server, server.connect() as connection:
-            begun = time.monotonic()
-            while time.monotonic() < begun + 60:
-                connection.send({"op": "resend"})
-                if not connection.line():
-                    break
-                last = time.monotonic()
-                time.sleep(0.1)
-            self.assertGreater((last - begun) * factor, CONNECTION - 60)
-            self.assertLess((last - begun) * factor, CONNECTION + 60)
-            self.assertEqual(server.ask({"op": "resend"}), {"count": 0, "kind": "resent"})
+        with self.serving(env=preloaded.environment(self.folder, CLOCK_FACTOR=60)) as server:
+            for _ in range(2):
+                with server.connect() as connection:
+                    begun = time.monotonic()
+                    while time.monotonic() < begun + 60:
+                        connection.send({"op": "resend"})
+                        if not connection.line():
+                            break
+                        last = time.monotonic()
+                        time.sleep(0.1)
+                    self.assertGreater((last - begun) * 60, CONNECTION - 60)
+                    self.assertLess((last - begun) * 60, CONNECTION + 60)
 
 
 class BehindAClose(Case):

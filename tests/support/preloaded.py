@@ -12,15 +12,20 @@ SOURCE = r"""
 #include <time.h>
 #include <unistd.h>
 static long setting(const char *name) { return getenv(name) ? atol(getenv(name)) : 0; }
-// The first ACCEPT_TIMES calls fail with ACCEPT_ERROR.
+// Behind the first ACCEPT_AFTER clients, each further one comes only after ACCEPT_TIMES calls that fail with ACCEPT_ERROR.
 int accept4(int socket, struct sockaddr *address, socklen_t *length, int flags) {
-    static long calls;
-    if (calls < setting("ACCEPT_TIMES")) {
-        calls += 1;
+    static long clients, failures;
+    if (clients >= setting("ACCEPT_AFTER") && failures < setting("ACCEPT_TIMES")) {
+        failures += 1;
         errno = setting("ACCEPT_ERROR");
         return -1;
     }
-    return syscall(SYS_accept4, socket, address, length, flags);
+    int client = syscall(SYS_accept4, socket, address, length, flags);
+    if (client >= 0) {
+        clients += 1;
+        failures = 0;
+    }
+    return client;
 }
 // The clock goes CLOCK_FACTOR times as fast, from the first look at it.
 int clock_gettime(clockid_t id, struct timespec *time) {
