@@ -6,7 +6,10 @@ import subprocess
 SOURCE = r"""
 #define _GNU_SOURCE
 #include <errno.h>
+#include <fcntl.h>
+#include <stdio.h>
 #include <stdlib.h>
+#include <string.h>
 #include <sys/socket.h>
 #include <sys/syscall.h>
 #include <time.h>
@@ -39,6 +42,39 @@ int clock_gettime(clockid_t id, struct timespec *time) {
         time->tv_nsec = now % 1000000000;
     }
     return status;
+}
+// Calls of a device and what goes out are written down in the file CALLS, a line each: what is to be written before it is,
+// and a sync once it is over. So what stands before a line was done before what stands behind it.
+static void note(const char *call, int file, long place, const void *bytes, size_t count) {
+    static int calls;
+    if (!getenv("CALLS")) return;
+    if (!calls) calls = syscall(SYS_openat, AT_FDCWD, getenv("CALLS"), O_WRONLY | O_CREAT | O_APPEND, 0600);
+    char *line = malloc(2 * count + 80);
+    int length = sprintf(line, "%s %d %ld ", call, file, place);
+    for (size_t at = 0; at < count; at++) length += sprintf(line + length, "%02x", ((const unsigned char *)bytes)[at]);
+    line[length++] = '\n';
+    syscall(SYS_write, calls, line, length);
+    free(line);
+}
+ssize_t pwrite64(int file, const void *bytes, size_t count, off_t place) {
+    note("write", file, place, bytes, count);
+    return syscall(SYS_pwrite64, file, bytes, count, place);
+}
+ssize_t pwrite(int file, const void *bytes, size_t count, off_t place) { return pwrite64(file, bytes, count, place); }
+static int synced(int number, int file) {
+    int status = syscall(number, file);
+    if (status == 0) note("sync", file, 0, "", 0);
+    return status;
+}
+int fsync(int file) { return synced(SYS_fsync, file); }
+int fdatasync(int file) { return synced(SYS_fdatasync, file); }
+ssize_t send(int socket, const void *bytes, size_t count, int flags) {
+    note("out", socket, 0, bytes, count);
+    return syscall(SYS_sendto, socket, bytes, count, flags, 0, 0);
+}
+ssize_t write(int file, const void *bytes, size_t count) {
+    note("out", file, 0, bytes, count);
+    return syscall(SYS_write, file, bytes, count);
 }
 // A read gives at most READ_MOST bytes.
 ssize_t read(int file, void *buffer, size_t count) {
