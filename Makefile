@@ -1,5 +1,5 @@
 # What a person would ask for. The toolchain's command `rt` has to be on the PATH.
-.PHONY: help demo drill example services soak lives takeover build prove test refusals bench sweep install uninstall deb
+.PHONY: help demo drill example services soak lives takeover build prove test program refusals bench sweep nightly install uninstall deb
 
 PREFIX ?= /usr/local
 # So many checks run at a time, each on one processor and with up to 4 GB of memory.
@@ -11,13 +11,15 @@ help:
 	@echo 'make example   the example services of examples/ around a coordinator, in a few seconds'
 	@echo 'make services  tries what services rest on: restore, members that come again, torn and lost lines, 64 members, messages'
 	@echo 'make build     proves every crate, and leaves the program at bin/resetd; nothing is proved again while that is newer than every source'
-	@echo 'make test      the gate: every proof from nothing, the must-fail edits, every test and both programs'
+	@echo 'make test      the gate: every proof from nothing, the must-fail edits, every test and both programs, then make program; it leaves the program at bin/resetd too'
+	@echo 'make program   tries the program as people run it (tests/), over a trial build of it, in some minutes'
 	@echo 'make refusals  tries the other wrong bodies, which the prover has to refuse (CRATE=NAME for one crate)'
 	@echo 'make bench     measures the drill, its parts, the store, the ledger, the engine and the server, and writes the tables of docs/MEASURES.md'
 	@echo 'make soak      kills a coordinator 200 times and 50 migrations, and looks for what was lost (ROUNDS=N for N kills)'
 	@echo 'make lives     a trial build whose lives are short, which change in the midst of resets: kills it there 100 times (ROUNDS=N)'
 	@echo 'make takeover  a coordinator on a replicated volume of three hosts, each in namespaces; hosts and bricks are lost'
 	@echo 'make sweep     refuses each allocation of every test and of the programs in turn, for 12 seconds each (EACH=N for N, 0 for all)'
+	@echo 'make nightly   what is too long for the gate (soak, lives, services, takeover, sweep, refusals), with a line for each in docs/nightly.tsv'
 	@echo 'make install   copies the program, resetctl, the client library, examples, documents and manual pages below PREFIX (/usr/local); make uninstall takes them away'
 	@echo 'make deb       builds a Debian package of all that with dpkg-deb'
 	@echo 'make help      prints this'
@@ -66,9 +68,18 @@ bench: build
 sweep:
 	bench/refused_allocations --seconds $(or $(EACH),12) $$(sed -n 's/^\([a-z][a-z0-9_]*\).*/\1/p' crates.txt)
 
+nightly: bin/resetd
+	@tools/nightly --jobs $(JOBS)
+
 test:
 	@tools/layers
 	rt ci
+	mkdir -p bin
+	cp crates/resetd/out/resetd bin/resetd
+	@tests/run
+
+program:
+	@tests/run
 
 SHARE = $(DESTDIR)$(PREFIX)/share/resetd
 
