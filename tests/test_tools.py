@@ -1,4 +1,4 @@
-"""The trials of tools/, the client library's tests and the demo, each as it is run by hand."""
+"""The trials of tools/, the client library's tests, the demo and the documents, each as it is run by hand."""
 
 import contextlib
 import os
@@ -60,6 +60,12 @@ class Tools(Run):
 
     def test_the_example(self):
         self.expect("examples/run", ends_with="each of the 8 members was signalled once and started anew")
+
+    def test_links_of_the_documents(self):
+        self.expect(tool("links"))
+
+    def test_what_the_documents_show(self):
+        self.expect(tool("test_documents"), "--quick", "--program", PROGRAM, ends_with="what the documents show is what is printed")
 
     def test_what_services_rest_on(self):
         self.expect(tool("test_services"), ends_with="services lose no reset")

@@ -61,7 +61,9 @@ ssize_t pwrite64(int file, const void *bytes, size_t count, off_t place) {
     return syscall(SYS_pwrite64, file, bytes, count, place);
 }
 ssize_t pwrite(int file, const void *bytes, size_t count, off_t place) { return pwrite64(file, bytes, count, place); }
+// A sync takes SYNC_MILLIS longer.
 static int synced(int number, int file) {
+    usleep(1000 * setting("SYNC_MILLIS"));
     int status = syscall(number, file);
     if (status == 0) note("sync", file, 0, "", 0);
     return status;
