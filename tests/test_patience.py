@@ -27,7 +27,7 @@ def ended_after(connection):
 
 
 def untaken(connection):
-    """How many bytes the system keeps of what the server has sent to a client that does not read; none where the
+    """How many bytes the system keeps of what the server has sent to a client that does not read; None where the
     connection is over."""
     client, server = connection.socket.getsockname()[1], connection.socket.getpeername()[1]
     with open("/proc/net/tcp", encoding="ascii") as rows:
@@ -35,7 +35,7 @@ def untaken(connection):
             words = row.split()
             if words[1].endswith(f":{server:04X}") and words[2].endswith(f":{client:04X}") and words[3] == "01":
                 return int(words[4].split(":")[0], 16)
-    return 0
+    return None
 
 
 class Patience(Case):
@@ -132,7 +132,9 @@ class Patience(Case):
 
     def test_replies_that_are_not_taken(self):
         """Views of a large ring fill what the system keeps for a client; ten seconds later the next one has its turn."""
-        with self.serving(64) as server, server.connect(buffer=4096) as connection, server.connect() as second:
+        self.needs("a C compiler", preloaded.has_compiler())
+        with self.serving(64, env=preloaded.environment(self.folder, SEND_BUFFER=4_096)) as server, \
+                server.connect(buffer=4_096) as connection, server.connect() as second:
             second.send({"op": "resend"})
             second.socket.settimeout(0.05)
             sender = threading.Thread(target=self.send_all, args=[connection, b'{"op":"show"}\n' * 5_000], daemon=True)
@@ -140,7 +142,7 @@ class Patience(Case):
             began = moved = time.monotonic()
             size = 0
             while time.monotonic() < began + 120:
-                if (now := untaken(connection)) != size:
+                if (now := untaken(connection)) not in (None, size):
                     size, moved = now, time.monotonic()
                 try:
                     self.assertEqual(second.reply(), {"count": 0, "kind": "resent"})

@@ -12,7 +12,7 @@ from support.program import PROGRAM, ROOT, SHORT
 sys.path.insert(0, f"{ROOT}/tools")
 from served import faults  # noqa: E402
 
-MOST = 230  # seconds
+MOST = 270  # seconds
 
 
 class Run(Case):

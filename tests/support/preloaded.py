@@ -16,6 +16,7 @@ SOURCE = r"""
 #include <unistd.h>
 static long setting(const char *name) { return getenv(name) ? atol(getenv(name)) : 0; }
 // Behind the first ACCEPT_AFTER clients, each further one comes only after ACCEPT_TIMES calls that fail with ACCEPT_ERROR.
+// What goes out to a client is kept by the system up to SEND_BUFFER bytes.
 int accept4(int socket, struct sockaddr *address, socklen_t *length, int flags) {
     static long clients, failures;
     if (clients >= setting("ACCEPT_AFTER") && failures < setting("ACCEPT_TIMES")) {
@@ -25,6 +26,8 @@ int accept4(int socket, struct sockaddr *address, socklen_t *length, int flags) 
     }
     int client = syscall(SYS_accept4, socket, address, length, flags);
     if (client >= 0) {
+        int most = setting("SEND_BUFFER");
+        if (most) setsockopt(client, SOL_SOCKET, SO_SNDBUF, &most, sizeof most);
         clients += 1;
         failures = 0;
     }
