@@ -21,6 +21,7 @@ from .files import Held
 from .health import Bounds, Level, Since, check, metrics
 from .orders import CLIENTS, MOST_TRIED, CountLost, CountNotFound, Orders
 from .port import Port, patiently
+from .restored import renew
 from .topology import BadTopology, Network, Order, plan, read_topology
 from .view import View
 
@@ -133,6 +134,13 @@ def count(control: Control) -> int:
         if book.unanswered:
             complain(f"given up, and perhaps carried out: {told_order(book.unanswered)}")
         print(f"client {words.client}: {patiently(lambda: book.recover(words.most), words.patience)}")
+    return DONE
+
+
+def restored(control: Control) -> int:
+    """After a restore: a reset in each group of linked nodes, and every node at a new epoch."""
+    with control.orders() as book:
+        control.tell(renew(control.port, book, control.words.patience))
     return DONE
 
 
@@ -275,6 +283,7 @@ def parser() -> argparse.ArgumentParser:
     command("close", close, "ends the server in order")
     command("count", count, "finds the number of this client's last order where it was lost").add_argument(
         "--most", type=int, default=MOST_TRIED, help=f"how many numbers are tried ({MOST_TRIED})")
+    command("restored", restored, "after a restore: asks for a reset in each group, and waits until every node has a new epoch")
     each = command("watch", watch, "draws the modes of the nodes as they change")
     each.add_argument("--every", type=float, default=0.2, metavar="SECONDS", help="how often it looks (0.2)")
     each.add_argument("--for", dest="for_seconds", type=float, metavar="SECONDS", help="ends after so long (never)")

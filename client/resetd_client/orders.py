@@ -47,6 +47,7 @@ class Orders:
         if client not in CLIENTS:
             raise ValueError(f"{client} is no client: clients are 1 to {CLIENTS[-1]}")
         self.port, self.client, self.recovers, self.told = port, client, recovers, told
+        self.folder = folder
         self._lock = files.hold(folder, held_seconds)
         self._path = os.path.join(folder, "order.json")
         text = files.read(self._path)
