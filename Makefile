@@ -32,7 +32,7 @@ example: bin/resetd
 	@examples/run
 
 services: bin/resetd
-	@python3 -m unittest discover -s client/tests
+	@RESETD=bin/resetd python3 -m unittest discover -s client/tests
 	@tools/test_services
 
 soak: bin/resetd
@@ -73,9 +73,10 @@ SHARE = $(DESTDIR)$(PREFIX)/share/resetd
 # What stands below share/resetd has the places of the repository, so that each part finds the others.
 install: bin/resetd
 	install -D -m 755 bin/resetd $(DESTDIR)$(PREFIX)/bin/resetd
-	install -d $(SHARE)/client/resetd_client $(SHARE)/tools/picture $(SHARE)/examples $(SHARE)/docs
+	install -d $(SHARE)/client/resetd_client/control $(SHARE)/tools/picture $(SHARE)/examples $(SHARE)/docs
 	install -m 755 client/resetctl $(SHARE)/client/
 	install -m 644 client/resetd_client/*.py $(SHARE)/client/resetd_client/
+	install -m 644 client/resetd_client/control/*.py $(SHARE)/client/resetd_client/control/
 	install -m 755 tools/wave $(SHARE)/tools/
 	install -m 644 tools/picture/*.py $(SHARE)/tools/picture/
 	install -m 755 examples/ask examples/gateway examples/local_check examples/member examples/run examples/service examples/talk $(SHARE)/examples/

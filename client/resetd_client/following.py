@@ -5,10 +5,10 @@ from __future__ import annotations
 import random
 import threading
 import time
-from collections.abc import Callable
+from collections.abc import Callable, Mapping
 
-from .answers import Away, Refusal, Refused
-from .orders import Orders, warn
+from .answers import Away, NotTaken, Outcome, Refusal, Refused
+from .orders import Order, Orders, warn
 from .port import patiently
 from .signals import Wake, Wakes
 from .view import View
@@ -61,24 +61,27 @@ class Following:
                 return wake
         return Wake.END
 
-    def _confirm(self, node: int, epoch: int) -> None:
-        """Confirms an epoch, however long the coordinator is away. That it was confirmed before, or that the node
-        has gone or went back meanwhile, is no fault: the next look sees it. Raises Refused for all else, and
+    def _confirm(self, epochs: Mapping[int, int]) -> None:
+        """Confirms epochs of nodes, however long the coordinator is away. That one was confirmed before, or that a
+        node has gone or went back meanwhile, is no fault: the next look sees it. Raises Refused for all else, and
         Stopped."""
-        self._order("confirm", {Refusal.BAD_EPOCH, Refusal.UNKNOWN_NODE}, node=node, epoch=epoch)
+        self._order([{"op": "confirm", "node": node, "epoch": epoch} for node, epoch in epochs.items()],
+                    {Refusal.BAD_EPOCH, Refusal.UNKNOWN_NODE})
 
     def _ask_reset(self, node: int, why: str) -> None:
         """Asks for a reset. That the node has gone meanwhile is no fault. Raises as `_confirm` does."""
         self._told(f"node {node}: {why}: a reset is asked for")
-        self._order("reset", {Refusal.UNKNOWN_NODE}, node=node)
+        self._order([{"op": "reset", "node": node}], {Refusal.UNKNOWN_NODE})
 
-    def _order(self, op: str, passed: set[Refusal], **members: int) -> None:
-        def ordered() -> None:
+    def _order(self, orders: list[Order], passed: set[Refusal]) -> None:
+        """Carries out orders; those refusals of them pass."""
+        def ordered() -> list[Outcome]:
             if self._stopping.is_set():
                 raise Stopped
-            self.orders.order(op, **members)
-        try:
-            patiently(ordered)
-        except Refused as refused:
-            if refused.refusal not in passed:
-                raise
+            return self.orders.order_all(orders)
+        while orders:
+            outcomes = patiently(ordered)
+            last = outcomes[-1]
+            if isinstance(last, NotTaken) and not (isinstance(last, Refused) and last.refusal in passed):
+                raise last
+            orders = orders[len(outcomes):]

@@ -152,7 +152,8 @@ class Gateway(Following):
     def _advance_all(self, view: View, rows: Mapping[int, Node]) -> bool:
         """Does what the view asks for. Whether something was ordered; after a reset, which reaches others too, it is
         looked at again at once."""
-        self._is_through, has_confirmed = True, False
+        self._is_through = True
+        begun: dict[int, int] = {}
         for desk in self.desks:
             row = rows.get(desk.node)
             due = Due.WAIT if row is None else desk.due(view, row)
@@ -165,10 +166,12 @@ class Gateway(Following):
             if row and due is Due.BEGIN:
                 desk.want(row.epoch)
             if row and desk.has_begun(row):
-                self._confirm(desk.node, row.epoch)
+                begun[desk.node] = row.epoch
+        self._confirm(begun)
+        for desk in self.desks:
+            if desk.node in begun:
                 desk.note_confirmed()
-                has_confirmed = True
-        return has_confirmed
+        return bool(begun)
 
     def _note_absent(self, absent: set[int]) -> None:
         if absent != self._absent:

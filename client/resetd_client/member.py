@@ -127,7 +127,7 @@ class Member(Following):
             self._starts.note_begin(row.epoch)
             self._begin(row.epoch)
             self._starts.note_begun(row.epoch)
-        self._confirm(self.node, row.epoch)
+        self._confirm({self.node: row.epoch})
 
     def _set_run(self, run: Run | None) -> None:
         with self._changes:

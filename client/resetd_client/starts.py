@@ -21,7 +21,7 @@ class Due(enum.Enum):
     """What a member has to do."""
 
     TALK = enum.auto()  # all that are connected are through, and its start may talk with them
-    WAIT = enum.auto()  # for others, or for the reset that is at its node
+    WAIT = enum.auto()  # for others, or for a reset that is under way
     BEGIN = enum.auto()  # it begins the shown epoch, and confirms it
     RESET = enum.auto()  # it asks for a reset: its start and what is shown do not belong together
 
@@ -49,7 +49,8 @@ class Starts:
                 return Due.WAIT
             if self._admits(view.party(row.node)):
                 return Due.TALK
-        return Due.RESET if row.mode == "ready" else Due.WAIT
+        is_quiet = all(node.mode == "ready" for node in view.connected(row.node))
+        return Due.RESET if is_quiet else Due.WAIT
 
     def why(self, row: Node) -> str:
         """Why a reset is due, in words."""

@@ -7,13 +7,13 @@ import os
 import threading
 import time
 
-from case import Case
+from case import Case, in_memory, over_both
 from resetd_client import Clock, Due, Member, Node, OutOfRun, Port, Starts, Stream, View, keep
 
 
-def view_of(*rows: tuple[int, int, int], mode: str = "ready") -> View:
+def view_of(*rows: tuple[int, int, int]) -> View:
     """A view of nodes, each with its epoch and what is confirmed, in a ring of links of steps 1 and so on."""
-    nodes = tuple(Node(node, 1, mode, 0, epoch, confirmed) for node, epoch, confirmed in rows)
+    nodes = tuple(Node(node, 1, "ready", 0, epoch, confirmed) for node, epoch, confirmed in rows)
     return View.of({"accepted": 9, "settled": 9, "nodes": nodes,
                     "links": [[a.node, b.node, step] for step, (a, b) in enumerate(zip(nodes, nodes[1:]), 1)]})
 
@@ -62,8 +62,11 @@ class Rules(Case):
     def test_an_epoch_that_another_confirmed(self) -> None:
         self.assertIs(self.due(view_of((1, 6, 6)), 5, 5, view_of((1, 5, 5))), Due.RESET)
 
-    def test_it_waits_for_the_reset_at_its_node(self) -> None:
-        self.assertIs(self.due(view_of((1, 3, 3), mode="abort"), 5, 5), Due.WAIT)
+    def test_it_waits_for_a_reset_that_is_under_way(self) -> None:
+        view = view_of((1, 3, 3), (2, 3, 3))
+        for node in view.nodes:
+            rows = tuple(each._replace(mode="abort") if each is node else each for each in view.nodes)
+            self.assertIs(self.due(View(9, 9, rows, view.links), 5, 5), Due.WAIT)
 
     def test_others_come_and_go(self) -> None:
         first = view_of((1, 4, 4), (2, 7, 7), (3, 1, 1))
@@ -94,24 +97,30 @@ class MemberCase(Case):
 
     def setUp(self) -> None:
         super().setUp()
-        self.fake.ring(2)
+        self.server.ring(2)
         self.begun: list[int] = []
 
     def member(self, begun: int | None = None, name: str = "member") -> Member:
         return Member(self.port, self.orders(1, name, True), 1, begun, self.begun.append, told=self.told.append)
 
-    def state(self) -> tuple[int, int]:
-        return self.fake.nodes[1][1], self.fake.nodes[1][2]
+    def rows(self) -> list[tuple[int, int]]:
+        return [(self.server.row(node)[1], self.server.row(node)[2]) for node in (1, 2)]
+
+    def look(self, member: Member) -> None:
+        """Looks as often as a reset, which takes a while, asks for."""
+        for _ in range(10):
+            member.look()
+            self.server.settled()
 
     def confirm_other(self) -> None:
-        self.fake.nodes[2][2] = self.fake.nodes[2][1]
+        self.server.by_somebody("confirm", node=2, epoch=self.server.row(2)[1])
 
     def in_a_run(self) -> Member:
         """A member that talks with the other one."""
         member = self.member()
-        member.look()
+        self.look(member)
         self.confirm_other()
-        member.look()
+        self.look(member)
         self.assertIsNotNone(member.run)
         return member
 
@@ -119,80 +128,83 @@ class MemberCase(Case):
 class Members(MemberCase):
     def test_a_new_member_asks_for_a_reset(self) -> None:
         member = self.member()
-        member.look()
-        self.assertEqual((self.begun, self.state(), member.run), ([1], (1, 1), None))
-        self.assertEqual(self.fake.nodes[2], [1, 1, 0])
+        self.look(member)
+        self.assertEqual((self.begun, self.rows(), member.run), ([1], [(1, 1), (1, 0)], None))
 
     def test_it_begins_and_confirms_the_shown_epoch(self) -> None:
-        self.fake.reset(1)
-        self.fake.reset(1)
+        self.server.reset(1)
+        self.server.reset(1)
         member = self.member()
-        member.look()
-        self.assertEqual((self.begun, self.state(), member.run), ([2], (2, 2), None))
+        self.look(member)
+        self.assertEqual((self.begun, self.rows()[0], member.run), ([2], (2, 2), None))
         self.confirm_other()
-        member.look()
+        self.look(member)
         self.assertIsNotNone(member.run)
 
     def test_it_goes_on_after_an_end(self) -> None:
         first = self.in_a_run()
         first.orders.close()
         again = self.member(first.begun)
-        again.look()
+        self.look(again)
         self.assertEqual((self.begun, again.run), ([1], first.run))
 
     def test_a_restored_store_is_reset_until_its_epoch_is_new(self) -> None:
         member = self.in_a_run()
+        copy = self.server.copy()
         for _ in range(3):
-            self.fake.reset(1)
-        member.look()
+            self.server.reset(1)
+        self.look(member)
         self.confirm_other()
-        member.look()
-        copy = self.fake.copy()
-        self.fake.restore({**copy, "nodes": [[1, [1, 1, 1]], [2, [1, 1, 1]]]})
-        member.look()
-        self.assertEqual((self.begun, self.state()), ([1, 4, 5], (5, 5)))
+        self.look(member)
+        self.server.restore(copy)
+        self.look(member)
+        self.assertEqual((self.begun, self.rows()), ([1, 4, 5], [(5, 5), (5, 1)]))
 
+    @in_memory
     def test_a_copy_from_between_two_confirms(self) -> None:
         member = self.in_a_run()
-        self.fake.nodes[1][2] = 0
-        member.look()
-        self.assertEqual((self.begun, self.fake.nodes[2]), ([1, 2], [1, 2, 1]))
+        self.server.nodes[1][2] = 0
+        self.look(member)
+        self.assertEqual((self.begun, self.rows()[1]), ([1, 2], (2, 1)))
 
     def test_a_node_that_went_and_came_again(self) -> None:
         member = self.in_a_run()
-        del self.fake.nodes[1]
-        member.look()
+        self.server.by_somebody("drop", a=1, b=2)
+        self.server.by_somebody("remove", node=1)
+        self.look(member)
         self.assertEqual((self.told[-1], member.run), ("node 1 is not there", None))
-        self.fake.nodes[1] = [1, 0, 0]
-        member.look()
-        self.assertEqual((self.begun, self.state()), ([1, 2], (2, 2)))
+        self.server.by_somebody("add", node=1, group=1)
+        self.look(member)
+        self.assertEqual((self.begun, self.rows()[0]), ([1, 2], (2, 2)))
 
     def test_another_link_is_another_run(self) -> None:
         member = self.in_a_run()
-        self.fake.links[(1, 2)] += 7
-        member.look()
-        self.assertEqual((self.begun, self.fake.nodes[2]), ([1, 2], [1, 2, 1]))
+        self.server.by_somebody("drop", a=1, b=2)
+        self.server.by_somebody("join", a=1, b=2)
+        self.look(member)
+        self.assertEqual((self.begun, self.rows()[1]), ([1, 2], (2, 1)))
 
+    @in_memory
     def test_a_death_between_begin_and_confirm_begins_twice(self) -> None:
-        self.fake.reset(1)
+        self.server.reset(1)
         member = self.member()
         member.orders.recover()
-        self.fake.faults = ["", "lose"]
-        member.look()
+        self.server.faults = ["", "lose"]
+        self.look(member)
         self.assertEqual(self.begun, [1])
-        self.fake.nodes[1][2] = 0
+        self.server.nodes[1][2] = 0
         member.orders.close()
-        self.member(1).look()
-        self.assertEqual((self.begun, self.state()), ([1, 1], (1, 1)))
+        self.look(self.member(1))
+        self.assertEqual((self.begun, self.rows()[0]), ([1, 1], (1, 1)))
 
     def test_a_reset_while_it_begins(self) -> None:
         def begin(epoch: int) -> None:
             self.begun.append(epoch)
             if len(self.begun) == 1:
-                self.fake.reset(1)
-        self.fake.reset(1)
-        Member(self.port, self.orders(1, "m", True), 1, None, begin, told=self.told.append).look()
-        self.assertEqual((self.begun, self.state()), ([1, 2], (2, 2)))
+                self.server.reset(1)
+        self.server.reset(1)
+        self.look(Member(self.port, self.orders(1, "m", True), 1, None, begin, told=self.told.append))
+        self.assertEqual((self.begun, self.rows()[0]), ([1, 2], (2, 2)))
 
     def test_it_follows_until_its_input_ends(self) -> None:
         read, write = os.pipe()
@@ -200,7 +212,7 @@ class Members(MemberCase):
 
         def after(view: View) -> None:
             if len(self.begun) == 1:
-                self.fake.reset(1)
+                self.server.reset(1)
                 os.write(write, b"sig")
             elif len(self.begun) == 2:
                 os.close(write)
@@ -229,14 +241,14 @@ class Runs(MemberCase):
             self.assertEqual(run.epoch, 1)
         with self.assertRaises(OutOfRun), member.in_run("another"):
             self.fail("it was taken")
-        self.fake.reset(2)
-        member.look()
+        self.server.reset(2)
+        self.look(member)
         with self.assertRaises(OutOfRun), member.in_run(run.tag):
             self.fail("it was taken")
 
     def test_a_begin_waits_for_work_of_the_run(self) -> None:
         member = self.in_a_run()
-        self.fake.reset(2)
+        self.server.reset(2)
         with member.in_run():
             looking = threading.Thread(target=member.look)
             looking.start()
@@ -247,7 +259,7 @@ class Runs(MemberCase):
 
     def test_it_waits_for_a_run(self) -> None:
         member = self.member()
-        member.look()
+        self.look(member)
         with self.assertRaises(OutOfRun), member.in_run(wait=0.1):
             self.fail("there is no run")
         self.confirm_other()
@@ -256,3 +268,6 @@ class Runs(MemberCase):
         with member.in_run(wait=5) as run:
             self.assertEqual(run, member.run)
         looking.join()
+
+
+load_tests = over_both
