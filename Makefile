@@ -75,7 +75,8 @@ install: bin/resetd
 	install -D -m 755 bin/resetd $(DESTDIR)$(PREFIX)/bin/resetd
 	install -d $(SHARE)/client/resetd_client/control $(SHARE)/tools/picture $(SHARE)/examples $(SHARE)/docs
 	install -m 755 client/resetctl $(SHARE)/client/
-	install -m 644 client/resetd_client/*.py $(SHARE)/client/resetd_client/
+	install -m 644 client/pyproject.toml client/build_wheel.py $(SHARE)/client/
+	install -m 644 client/resetd_client/*.py client/resetd_client/py.typed $(SHARE)/client/resetd_client/
 	install -m 644 client/resetd_client/control/*.py $(SHARE)/client/resetd_client/control/
 	install -m 755 tools/wave $(SHARE)/tools/
 	install -m 644 tools/picture/*.py $(SHARE)/tools/picture/
