@@ -26,6 +26,7 @@ class Following:
     def __init__(self, orders: Orders, told: Callable[[str], None] = warn) -> None:
         self.orders, self._told = orders, told
         self._stopping = threading.Event()
+        self._asked: set[int] = set()  # nodes for which resets were asked, and none of which has talked since
 
     def look(self) -> View:
         """One look at `show`, and all that it asks for."""
@@ -69,8 +70,11 @@ class Following:
                     {Refusal.BAD_EPOCH, Refusal.UNKNOWN_NODE})
 
     def _ask_reset(self, node: int, why: str) -> None:
-        """Asks for a reset. That the node has gone meanwhile is no fault. Raises as `_confirm` does."""
-        self._told(f"node {node}: {why}: a reset is asked for")
+        """Asks for a reset, and tells of the first in a row. That the node has gone meanwhile is no fault. Raises as
+        `_confirm` does."""
+        if node not in self._asked:
+            self._told(f"node {node}: {why}: a reset is asked for")
+        self._asked.add(node)
         self._order([{"op": "reset", "node": node}], {Refusal.UNKNOWN_NODE})
 
     def _order(self, orders: list[Order], passed: set[Refusal]) -> None:

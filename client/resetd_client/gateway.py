@@ -43,6 +43,11 @@ class Seat:
         return self._wanted is not None and self._read("begun") == self._wanted
 
     @property
+    def has_lost(self) -> bool:
+        """Whether the member says that the work of what it was told last is gone."""
+        return self._wanted is not None and files.read(os.path.join(self.folder, "begun")) == f"lost {self._wanted}"
+
+    @property
     def begun(self) -> int | None:
         """The epoch that the member has begun, None where that is not what it was told last."""
         return int(self._wanted.split()[0]) if self._wanted and self.has_begun else None
@@ -109,7 +114,7 @@ class Desk:
             seat.set_run(run)
 
     def _is_told(self, row: Node) -> bool:
-        return self.telling == row.epoch and row.epoch > row.confirmed
+        return self.telling == row.epoch and row.epoch > row.confirmed and not any(seat.has_lost for seat in self.seats)
 
     def _begun(self) -> int | None:
         begun = {seat.begun for seat in self.seats}
@@ -158,6 +163,7 @@ class Gateway(Following):
             row = rows.get(desk.node)
             due = Due.WAIT if row is None else desk.due(view, row)
             is_talking = row is not None and due is Due.TALK
+            self._asked -= {desk.node} if is_talking else set()
             self._is_through = self._is_through and is_talking
             desk.set_run(f"{row.epoch} {view.tag(desk.node, self._word)}\n" if row and is_talking else None)
             if row and due is Due.RESET:
@@ -199,8 +205,9 @@ class Served:
         files.keep(os.path.join(self._folder, "begun"), self._told)
 
     def has_lost(self) -> None:
-        """Says that the work of what was begun is gone: a reset follows, and with it a new epoch to begin."""
-        if wanted := self._read("wanted"):
+        """Says that the work of what was begun is gone: it is told to begin anew, after a reset where others have it."""
+        wanted = self._read("wanted")
+        if wanted and self._read("begun") == wanted:
             files.keep(os.path.join(self._folder, "begun"), f"lost {wanted}")
 
     def tag(self) -> str | None:

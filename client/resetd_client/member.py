@@ -113,6 +113,8 @@ class Member(Following):
         """Does what the view asks for. Whether it has to be looked at again."""
         due = self._starts.due(view, row)
         self._set_run(Run(row.epoch, view.tag(row.node, self._word)) if due is Due.TALK else None)
+        if due is Due.TALK:
+            self._asked.clear()
         if due is Due.BEGIN:
             self._begin_anew(row)
         elif due is Due.RESET:

@@ -3,7 +3,6 @@
 from __future__ import annotations
 
 import hashlib
-import json
 from collections.abc import Mapping
 from dataclasses import dataclass
 from typing import Any, NamedTuple
@@ -90,6 +89,7 @@ class View:
             f"{link.a} {link.b} {link.incarnation}" for link in self.links if link.a in ids)
 
     def tag(self, number: int, word: str = "") -> str:
-        """A digest of the party: the name of the run that it is in. `word` is one that the whole group shares."""
-        told = json.dumps([word, sorted(self.party(number))])
-        return hashlib.sha256(told.encode()).hexdigest()[:32]
+        """A digest of the party, a line each in the order of their bytes: the name of the run that it is in. `word`
+        is one that the whole group shares; where it is not empty, it is the first line."""
+        told = [word] * bool(word) + sorted(self.party(number))
+        return hashlib.sha256("".join(f"{line}\n" for line in told).encode()).hexdigest()[:32]

@@ -102,8 +102,11 @@ class Gateways(Case):
         served.has_lost()
         self.assertEqual((served.wanted(), served.tag()), (None, None))
         self.assertEqual((self.all_begin(), self.rows()), ([2, 2, 2], [(2, 2)] * 3))
+        self.server.reset(1)
+        self.look()
+        self.assertEqual((self.begin(2), served.has_lost(), self.all_begin()), (3, None, [3, 3, 3]))
         shutil.rmtree(f"{self.folder}/members/3")
-        self.assertEqual((self.all_begin(), self.rows()), ([3, 3, 3], [(3, 3)] * 3))
+        self.assertEqual((self.all_begin(), self.rows()), ([4, 4, 4], [(4, 4)] * 3))
 
     def test_all_members_of_a_node_begin_before_it_is_confirmed(self) -> None:
         self.book.close()
