@@ -18,6 +18,7 @@ from .view import Node, View
 
 LOOK_SECONDS = 30.0
 FIRST_WAIT = 0.1  # seconds between looks while others are not through; some 2 seconds in the end
+SOON = -7  # looks after its own reset, which is over in some milliseconds, before that first wait
 MOST_TURNS = 100  # of one look: each begins or confirms an epoch that is new, or asks for a reset
 
 
@@ -121,7 +122,7 @@ class Member(Following):
             self._ask_reset(self.node, self._starts.why(row))
         else:
             return False
-        self._waits = 0
+        self._waits = SOON if due is Due.RESET else 0
         return True
 
     def _begin_anew(self, row: Node) -> None:

@@ -292,7 +292,7 @@ WAYS = (with_one_down, between_confirms, twice, while_served, added_again_down, 
         moved_and_added_again, work_lost, own_copy, new_store, old_host, confirmed_for, parted)
 # after these every member has to have another start than before
 RENEWING = (plain_reset, by_the_page)
-EVENTS = 24
+EVENTS = 20
 
 
 def happen(trial, way, when):
