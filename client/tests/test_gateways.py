@@ -1,11 +1,12 @@
-"""A gateway and its members."""
+"""Gateways, against a coordinator in memory: `python3 -m unittest discover -s client/tests`."""
 
 from __future__ import annotations
 
+import shutil
 import threading
 
 from case import Case, in_memory, over_both
-from resetd_client import Away, Gateway, Served, Wake, patiently
+from resetd_client import Away, Clock, Gateway, Served, Wake, patiently
 
 
 class UntilEnded:
@@ -16,6 +17,7 @@ class UntilEnded:
 
     def wait(self, seconds: float) -> Wake:
         return Wake.END if self.ended.wait(seconds) else Wake.QUIET
+
 
 class Gateways(Case):
     def setUp(self) -> None:
@@ -39,41 +41,49 @@ class Gateways(Case):
             served.has_begun()
         return epoch
 
+    def look(self) -> None:
+        """Looks as often as a reset, which takes a while, asks for."""
+        for _ in range(5):
+            self.gateway.look()
+            self.server.settled()
+
     def all_begin(self) -> list[int | None]:
-        self.gateway.look()
+        self.look()
         begun = [self.begin(node) for node in (1, 2, 3)]
-        self.gateway.look()
+        self.look()
         return begun
 
+    def rows(self) -> list[tuple[int, int]]:
+        return [(self.server.row(node)[1], self.server.row(node)[2]) for node in (1, 2, 3)]
+
+    def tags(self) -> set[str | None]:
+        return {Served(f"{self.folder}/members/{node}").tag() for node in (1, 2, 3)}
+
     def test_members_begin_and_are_confirmed(self) -> None:
-        self.assertEqual(self.all_begin(), [0, 0, 0])
+        self.assertEqual((self.all_begin(), self.rows()), ([1, 1, 1], [(1, 1)] * 3))
+        first = self.tags()
         self.server.reset(2)
-        self.assertEqual(self.all_begin(), [1, 1, 1])
-        self.assertEqual([row[2] for row in self.server.nodes.values()], [1, 1, 1])
-        tags = {Served(f"{self.folder}/members/{node}").tag() for node in (1, 2, 3)}
-        self.assertEqual((len(tags), None in tags), (1, False))
+        self.assertEqual((self.all_begin(), self.rows()), ([2, 2, 2], [(2, 2)] * 3))
+        self.assertEqual((len(first), len(first | self.tags()), None in first), (1, 2, False))
         self.assertEqual(self.all_begin(), [None, None, None])
 
     def test_one_member_holds_the_others(self) -> None:
         self.all_begin()
         self.server.reset(2)
-        self.gateway.look()
+        self.look()
         self.begin(1)
-        self.gateway.look()
-        self.assertEqual([row[2] for row in self.server.nodes.values()], [1, 0, 0])
-        self.assertIsNone(Served(f"{self.folder}/members/1").tag())
+        self.look()
+        self.assertEqual((self.rows(), self.tags()), ([(2, 2), (2, 1), (2, 1)], {None}))
 
-    def test_the_same_epoch_comes_again(self) -> None:
-        self.server.reset(1)
+    def test_a_node_that_went_and_came_again(self) -> None:
         self.all_begin()
         for op, members in (("drop", {"a": 1, "b": 2}), ("drop", {"a": 2, "b": 3}), ("remove", {"node": 2}),
-                            ("add", {"node": 2, "group": 1}), ("reset", {"node": 2})):
+                            ("add", {"node": 2, "group": 1}), ("join", {"a": 1, "b": 2}), ("join", {"a": 2, "b": 3})):
             self.server.by_somebody(op, **members)
-        self.assertEqual(self.all_begin(), [None, 1, None])
+        self.assertEqual((self.all_begin(), self.rows()), ([3, 2, 3], [(3, 3), (2, 2), (3, 3)]))
 
     def test_a_gateway_that_starts_again(self) -> None:
-        self.server.reset(1)
-        self.gateway.look()
+        self.look()
         self.begin(1)
         self.gateway = self.restarted()
         self.assertEqual(self.all_begin(), [1, 1, 1])
@@ -84,26 +94,36 @@ class Gateways(Case):
     def test_a_confirmed_epoch_that_it_never_told(self) -> None:
         self.all_begin()
         self.server.nodes[3] = [1, 5, 5]
-        self.assertEqual(self.all_begin(), [None, None, 5])
+        self.assertEqual(self.all_begin(), [2, 2, 6])
+
+    def test_work_that_was_lost(self) -> None:
+        self.all_begin()
+        served = Served(f"{self.folder}/members/2")
+        served.has_lost()
+        self.assertEqual((served.wanted(), served.tag()), (None, None))
+        self.assertEqual((self.all_begin(), self.rows()), ([2, 2, 2], [(2, 2)] * 3))
+        self.server.reset(1)
+        self.look()
+        self.assertEqual((self.begin(2), served.has_lost(), self.all_begin()), (3, None, [3, 3, 3]))
+        shutil.rmtree(f"{self.folder}/members/3")
+        self.assertEqual((self.all_begin(), self.rows()), ([4, 4, 4], [(4, 4)] * 3))
 
     def test_all_members_of_a_node_begin_before_it_is_confirmed(self) -> None:
         self.book.close()
         self.gateway = Gateway(self.port, self.orders(5, "book"), {1: ["1", "2"], 3: ["3"]}, f"{self.folder}/members",
                                told=self.told.append)
-        self.server.reset(1)
-        self.gateway.look()
+        self.look()
         self.begin(1)
-        self.gateway.look()
-        self.assertEqual(self.server.nodes[1][2], 0)
+        self.look()
+        self.assertEqual(self.rows()[0], (1, 0))
         self.begin(2)
-        self.gateway.look()
-        self.assertEqual(self.server.nodes[1][2], 1)
+        self.look()
+        self.assertEqual(self.rows()[0], (1, 1))
 
     def test_it_waits_for_its_members(self) -> None:
         wakes = UntilEnded()
         thread = threading.Thread(target=self.gateway.follow, args=(wakes, 0.2), daemon=True)
         thread.start()
-        self.server.reset(1)
         patiently(self._confirmed, 20)
         wakes.ended.set()
         thread.join(20)
@@ -112,8 +132,15 @@ class Gateways(Case):
     def _confirmed(self) -> None:
         for node in (1, 2, 3):
             self.begin(node)
-        if [row[2] for row in self.server.nodes.values()] != [1, 1, 1]:
+        if [row[1] for row in self.rows()] != [1, 1, 1]:
             raise Away("not yet")
+
+    def test_it_can_be_stopped(self) -> None:
+        thread = threading.Thread(target=self.gateway.follow, args=(Clock(), 30))
+        thread.start()
+        self.gateway.stop()
+        thread.join(5)
+        self.assertFalse(thread.is_alive())
 
 
 load_tests = over_both

@@ -58,7 +58,8 @@ class Numbers(Case):
         orders = self.orders()
         orders.order("reset", node=1)
         self.server.settled()
-        for members in ({"node": 65}, {"node": 1, "group": 1}, {}):
+        wrong: tuple[dict[str, int], ...] = ({"node": 65}, {"node": 1, "group": 1}, {})
+        for members in wrong:
             with self.assertRaises(Faulted) as caught:
                 orders.order("reset", **members)
             self.assertIs(caught.exception.fault, Fault.BAD_REQUEST)
