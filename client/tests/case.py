@@ -58,7 +58,8 @@ def over_both(loader: unittest.TestLoader, tests: unittest.TestSuite, _: str | N
     if not PROGRAM:
         return tests
     both = unittest.TestSuite([tests])
-    for kind in {type(test) for group in tests for test in group if isinstance(test, Case)}:  # type: ignore[attr-defined]
+    groups = [group for group in tests if isinstance(group, unittest.TestSuite)]
+    for kind in {type(test) for group in groups for test in group if isinstance(test, Case)}:
         real = type(f"{kind.__name__}OverTheProgram", (kind,), {"is_real": True, "__module__": kind.__module__})
         both.addTests(loader.loadTestsFromTestCase(real))
     return both

@@ -18,7 +18,7 @@ WRONG_LINES = [
     b'{"op":"\xff"}\n', b'{"op":NaN}\n', b'{"op":"show"', b'{"op":"show"}', b" " * 513 + b"\n", b" " * 512 + b"\n",
     b'{"op":"show"}' + b" " * 499 + b"\n", b'{"op":"show"}' + b" " * 500 + b"\n", b'  {"op" : "resend"}\t\r\n',
     b'{"op":"reset","client":1,"number":1}\n', b'{"op":"reset","client":1,"node":1}\n', b'{"op":"reset","number":1,"node":1}\n']
-VALUES = [-1, 0, 1, 2, 16, 17, 64, 65, (1 << 64) - 1, 1 << 64, 1.0, 1e3, True, None, "1", [1], {}]
+VALUES: list[Any] = [-1, 0, 1, 2, 16, 17, 64, 65, (1 << 64) - 1, 1 << 64, 1.0, 1e3, True, None, "1", [1], {}]
 
 
 def lines() -> list[bytes]:
@@ -67,7 +67,7 @@ class Alike(unittest.TestCase):
             told[1]["count"] = 0
         if "nodes" in told[1]:
             self.real.settled()
-        self.assertEqual(*[without_steps(answer) for answer in told], text)
+        self.assertEqual(without_steps(told[0]), without_steps(told[1]), text)
         return told[0]
 
     def test_lines(self) -> None:

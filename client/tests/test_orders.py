@@ -58,7 +58,8 @@ class Numbers(Case):
         orders = self.orders()
         orders.order("reset", node=1)
         self.server.settled()
-        for members in ({"node": 65}, {"node": 1, "group": 1}, {}):
+        wrong: tuple[dict[str, int], ...] = ({"node": 65}, {"node": 1, "group": 1}, {})
+        for members in wrong:
             with self.assertRaises(Faulted) as caught:
                 orders.order("reset", **members)
             self.assertIs(caught.exception.fault, Fault.BAD_REQUEST)
@@ -84,8 +85,8 @@ class Numbers(Case):
     def test_a_line_that_is_too_long_is_not_written_down(self) -> None:
         orders = self.orders()
         orders.order("reset", node=1)
-        for op, members in (("reset", {"node": int("1" * 600)}), ("reset" * 110, {"node": 1})):
-            self.assertRaises(TooLong, orders.order, op, **members)
+        for op, node in (("reset", int("1" * 600)), ("reset" * 110, 1)):
+            self.assertRaises(TooLong, orders.order, op, node=node)
         self.assertEqual((orders.unanswered, orders.number), ([], 1))
 
     def test_a_line_that_the_coordinator_finds_too_long_leaves_the_number_free(self) -> None:

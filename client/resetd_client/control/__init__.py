@@ -9,17 +9,21 @@ from __future__ import annotations
 
 import argparse
 import os
+import sys
 
 from .. import __version__
 from ..answers import Away, NotTaken
 from ..files import Held
 from ..orders import CLIENTS, CountLost, CountNotFound
 from ..port import TooLong
+from ..store_file import NoStore, Restless
 from ..topology import BadTopology
-from . import changes, checks, looks, restored
+from . import changes, checks, looks, restored, stores
 from .base import AWAY, COUNT, REFUSED, WRONG_WORDS, Control, complain
 
-COMMANDS = (*looks.COMMANDS, *changes.COMMANDS, *restored.COMMANDS, *checks.COMMANDS)
+LEFT, INTERRUPTED = 141, 130  # as a shell has them of an end by SIGPIPE and SIGINT
+
+COMMANDS = (*looks.COMMANDS, *changes.COMMANDS, *restored.COMMANDS, *checks.COMMANDS, *stores.COMMANDS)
 
 
 def parser() -> argparse.ArgumentParser:
@@ -67,6 +71,9 @@ def main(arguments: list[str] | None = None) -> int:
     except TooLong as fault:
         complain(str(fault))
         return WRONG_WORDS
+    except (NoStore, Restless) as fault:
+        complain(f"{words.file}: {fault}")
+        return REFUSED
     except (CountLost, CountNotFound, Held, ValueError) as fault:
         complain(f"{fault}{'; resetctl count finds the number' if isinstance(fault, CountLost) else ''}")
         return COUNT
@@ -76,8 +83,11 @@ def main(arguments: list[str] | None = None) -> int:
     except Away as away:
         complain(control.why(away))
         return AWAY
+    except BrokenPipeError:  # who read what is printed has left
+        os.dup2(os.open(os.devnull, os.O_WRONLY), sys.stdout.fileno())
+        return LEFT
     except OSError as fault:
         complain(f"{fault.filename}: {fault.strerror}")
-        return COUNT
+        return COUNT if str(fault.filename).startswith(words.state) else REFUSED
     except KeyboardInterrupt:
-        return 130
+        return INTERRUPTED

@@ -6,6 +6,7 @@ import argparse
 from collections.abc import Callable
 
 from ..orders import MOST_TRIED
+from ..orders import Order as Line
 from ..topology import BadTopology, Network, Order, plan, read_topology
 from ..view import View
 from .base import DONE, REFUSED, Command, Control, complain, told_order, told_reply
@@ -70,7 +71,7 @@ def apply(control: Control) -> int:
         control.settle(book)
         view = control.show()
         orders = wanted(control, view)
-        lines = [{"op": each.op, **each.members} for each in orders]
+        lines: list[Line] = [{"op": each.op, **each.members} for each in orders]
         for each, reply in zip(orders, control.carry_out_all(book, lines, view.accepted)):
             print(f"{told_reply(reply)}: {each}", flush=True)
     print(f"{len(orders)} orders; the network is what {control.words.topology} wants")
