@@ -8,7 +8,7 @@ from dataclasses import dataclass
 
 from . import files
 from .answers import Away, NotNow
-from .port import Port
+from .port import Port, patiently
 from .view import View
 
 
@@ -64,10 +64,11 @@ class Since:
             return {}
 
 
-def check(port: Port, since: Since, bounds: Bounds) -> Health:
-    """Looks once, and says what is wrong; where there was no view, what had lasted goes on. Raises NotTaken."""
+def check(port: Port, since: Since, bounds: Bounds, patience: float = 0.0) -> Health:
+    """Looks, and says what is wrong; where there was no view for so many seconds, what had lasted goes on. Raises
+    NotTaken."""
     try:
-        view = port.show()
+        view = patiently(port.show, patience)
     except NotNow as not_now:
         return Health(Level.CRITICAL, (f"the server answers {not_now.name}",), not_now.name == "Stopped")
     except Away as away:
