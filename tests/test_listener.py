@@ -38,11 +38,11 @@ class Listener(Case):
         """At once, or behind the first clients."""
         for name in ENDS_IT:
             for after in (0, 2):
-                with self.subTest(error=name, after=after), self.serving(name, ALWAYS, after) as server:
+                with self.serving(name, ALWAYS, after) as server:
                     for number in range(1, after + 1):
                         self.assertEqual(server.order(number, "reset", node=1), {"kind": "finished", "step": 1 + number})
-                    ended = server.ended()
-                    self.assertEqual((ended.status, ended.told), (3, "resetd: Socket\n"))
+                    ended = server.ended(60)
+                    self.assertEqual((name, ended.status, ended.told), (name, 3, "resetd: Socket\n"))
                     signals = "".join(f"signal 1 {epoch}\n" for epoch in range(1, after + 1))
                     self.assertEqual(ended.printed, f"listening {server.address}\n{signals}")
 

@@ -53,7 +53,7 @@ class Lives(Served):
         """Whatever it has sent, it reads all answers that were given, and the end; the rest is sent again."""
         with Serving(self.made(topology([(1, 1)])), program=SHORT) as server:
             answered, connections = 0, 0
-            while answered < 600:
+            while answered < 1_400:
                 connections += 1
                 with server.connect() as connection:
                     connection.send(*({"op": "reset", "client": 1, "number": number, "node": 1}

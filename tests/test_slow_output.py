@@ -2,6 +2,7 @@
 
 import fcntl
 import os
+import subprocess
 
 from support import stores
 from support.case import Case
@@ -63,7 +64,7 @@ class SlowOutput(Case):
         with Piped(self.made(topology([(1, 1)], half=stores.HALF))) as server:
             self.reset(server, range(1, SIGNALS + 1))
             self.assertEqual(server.ask({"op": "close"}), {"kind": "closed"})
-            with self.assertRaises(Exception):
+            with self.assertRaises(subprocess.TimeoutExpired):
                 server.process.wait(2)
             server.read_on()
             wanted = f"listening {server.address}\n" + "".join(f"signal 1 {epoch}\n" for epoch in range(1, SIGNALS + 1))

@@ -22,8 +22,8 @@ def until(what, holds, seconds=120.0):
 
 
 class Case(unittest.TestCase):
-    """`takes` is in about how many seconds: what takes longest begins first. `program` is what it
-    runs, and `programs` are the variables that name what has to be built for it."""
+    """`takes` is in about how many seconds: what takes longest begins first. `program` is what it runs, and `programs` are
+    the variables that name what has to be built for it."""
 
     maxDiff = 2_000
     takes = 1

@@ -125,9 +125,9 @@ class Serving:
             raise AssertionError(f"a close was answered {answer}")
         return self.ended()
 
-    def ended(self):
+    def ended(self, seconds=PATIENCE):
         """Waits for its end: its status, what it printed, and its fault."""
-        status = self.process.wait(timeout=PATIENCE)
+        status = self.process.wait(timeout=seconds)
         with open(f"{self.store}.errors", encoding="utf-8") as errors:
             return Ended(status, "".join(f"{line}\n" for line in self.lines()), errors.read())
 
