@@ -88,6 +88,7 @@ class Ends(Case):
             self.assertEqual(answers, done + [stopped] * (len(answers) - len(done)))
             self.assertGreater(len(answers), len(done))
             self.assertEqual((server.show(), server.order(1, "reset", node=1)), (stopped, stopped))
+            self.assertEqual(server.ask({"op": "resend"}), {"count": 0, "kind": "resent"})
             ended = server.close()
             self.assertEqual((ended.status, ended.told), (3, "resetd: Device\n"))
         with Serving(store) as server:

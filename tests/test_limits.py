@@ -68,7 +68,7 @@ class Threads(Case):
 
 
 class Reads(Case):
-    takes = 10
+    takes = 60
 
     def test_an_end_that_does_not_come(self):
         """A drill reads 1,048,576 times, and no more."""

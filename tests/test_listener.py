@@ -22,31 +22,36 @@ class Listener(Case):
         super().setUp()
         self.needs("a C compiler", preloaded.has_compiler())
 
-    def serving(self, name, times):
-        environment = preloaded.environment(self.folder, ACCEPT_ERROR=getattr(errno, name), ACCEPT_TIMES=times)
-        return Serving(self.made(topology([(1, 1)]), f"store-{name}-{times}"), env=environment)
+    def serving(self, name, times, after=0):
+        settings = {"ACCEPT_ERROR": getattr(errno, name), "ACCEPT_TIMES": times, "ACCEPT_AFTER": after}
+        return Serving(self.made(topology([(1, 1)]), f"store-{name}-{after}"), env=preloaded.environment(self.folder, **settings))
 
     def test_what_passes(self):
+        """Before each client it fails three times."""
         for name in PASSES:
             with self.subTest(error=name), self.serving(name, 3) as server:
-                for number in (1, 2):
+                for number in (1, 2, 3):
                     self.assertEqual(server.order(number, "reset", node=1), {"kind": "finished", "step": 1 + number})
                 self.assertEqual(server.close().status, 0)
 
     def test_what_does_not_pass(self):
+        """At once, or behind the first clients."""
         for name in ENDS_IT:
-            with self.subTest(error=name), self.serving(name, ALWAYS) as server:
-                ended = server.ended()
-                self.assertEqual((ended.status, ended.told), (3, "resetd: Socket\n"))
-                self.assertEqual(ended.printed, f"listening {server.address}\n")
+            for after in (0, 2):
+                with self.subTest(error=name, after=after), self.serving(name, ALWAYS, after) as server:
+                    for number in range(1, after + 1):
+                        self.assertEqual(server.order(number, "reset", node=1), {"kind": "finished", "step": 1 + number})
+                    ended = server.ended()
+                    self.assertEqual((ended.status, ended.told), (3, "resetd: Socket\n"))
+                    signals = "".join(f"signal 1 {epoch}\n" for epoch in range(1, after + 1))
+                    self.assertEqual(ended.printed, f"listening {server.address}\n{signals}")
 
     def test_what_lasts(self):
-        """It is waited for sixty times, and the server does not spin meanwhile."""
+        """It fails sixty times in turn, and the server does not spin meanwhile."""
         for name in ("ENFILE", "EPROTO"):
             with self.subTest(error=name), self.serving(name, 60) as server:
                 self.assertEqual(server.ask({"op": "resend"}), {"count": 0, "kind": "resent"})
                 self.assertLess(processor_seconds(server.process.pid), 3)
-                self.assertEqual(server.close().status, 0)
 
 
 def processor_seconds(process):

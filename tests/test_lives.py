@@ -15,6 +15,8 @@ FLUSHER = 2  # the third thread, in the order of their numbers: each life has it
 
 class Lives(Served):
     takes = 30
+    program = SHORT
+    programs = ("RESETD_SHORT",)
 
     def flusher(self, server):
         """The number of the present life's flusher."""

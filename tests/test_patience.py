@@ -10,12 +10,13 @@ from support.serving import Serving
 from support.stores import ring, topology
 
 LINE, REPLY, SILENCE, CONNECTION, DISCARD = 10, 10, 15, 600, 1
-LATE = 3  # seconds by which a busy machine may be late
+LATE = 4  # seconds by which a busy machine may be late
 SHOW = {"op": "show"}
 
 
 def ended_after(connection):
     """Waits until the server has ended a connection: the seconds that it took."""
+    connection.socket.settimeout(SILENCE + 2 * LATE)
     began = time.monotonic()
     try:
         while connection.socket.recv(65_536):
@@ -26,7 +27,7 @@ def ended_after(connection):
 
 
 def untaken(connection):
-    """How many bytes the system keeps of what the server has sent to a client that does not read; none where the
+    """How many bytes the system keeps of what the server has sent to a client that does not read; None where the
     connection is over."""
     client, server = connection.socket.getsockname()[1], connection.socket.getpeername()[1]
     with open("/proc/net/tcp", encoding="ascii") as rows:
@@ -34,7 +35,7 @@ def untaken(connection):
             words = row.split()
             if words[1].endswith(f":{server:04X}") and words[2].endswith(f":{client:04X}") and words[3] == "01":
                 return int(words[4].split(":")[0], 16)
-    return 0
+    return None
 
 
 class Patience(Case):
@@ -92,7 +93,7 @@ class Patience(Case):
         """Sends a byte each half second until the server ends the connection: since when."""
         connection.socket.settimeout(0.5)
         begun = time.monotonic()
-        while time.monotonic() < begun + 60:
+        while time.monotonic() < begun + LINE + 2 * LATE:
             try:
                 connection.socket.sendall(b" ")
                 while connection.socket.recv(65_536):
@@ -131,7 +132,9 @@ class Patience(Case):
 
     def test_replies_that_are_not_taken(self):
         """Views of a large ring fill what the system keeps for a client; ten seconds later the next one has its turn."""
-        with self.serving(64) as server, server.connect(buffer=4096) as connection, server.connect() as second:
+        self.needs("a C compiler", preloaded.has_compiler())
+        with self.serving(64, env=preloaded.environment(self.folder, SEND_BUFFER=4_096)) as server, \
+                server.connect(buffer=4_096) as connection, server.connect() as second:
             second.send({"op": "resend"})
             second.socket.settimeout(0.05)
             sender = threading.Thread(target=self.send_all, args=[connection, b'{"op":"show"}\n' * 5_000], daemon=True)
@@ -139,7 +142,7 @@ class Patience(Case):
             began = moved = time.monotonic()
             size = 0
             while time.monotonic() < began + 120:
-                if (now := untaken(connection)) != size:
+                if (now := untaken(connection)) not in (None, size):
                     size, moved = now, time.monotonic()
                 try:
                     self.assertEqual(second.reply(), {"count": 0, "kind": "resent"})
@@ -158,20 +161,20 @@ class Patience(Case):
             pass
 
     def test_a_connection_that_lasts(self):
-        """By a clock that goes sixty times as fast."""
+        """By a clock that goes sixty times as fast; the second client has as long as the first one."""
         self.needs("a C compiler", preloaded.has_compiler())
-        factor = 60
-        with self.serving(env=preloaded.environment(self.folder, CLOCK_FACTOR=factor)) as server, server.connect() as connection:
-            begun = time.monotonic()
-            while time.monotonic() < begun + 60:
-                connection.send({"op": "resend"})
-                if not connection.line():
-                    break
-                last = time.monotonic()
-                time.sleep(0.1)
-            self.assertGreater((last - begun) * factor, CONNECTION - 60)
-            self.assertLess((last - begun) * factor, CONNECTION + 60)
-            self.assertEqual(server.ask({"op": "resend"}), {"count": 0, "kind": "resent"})
+        with self.serving(env=preloaded.environment(self.folder, CLOCK_FACTOR=60)) as server:
+            for _ in range(2):
+                with server.connect() as connection:
+                    begun = time.monotonic()
+                    while time.monotonic() < begun + 60:
+                        connection.send({"op": "resend"})
+                        if not connection.line():
+                            break
+                        last = time.monotonic()
+                        time.sleep(0.1)
+                    self.assertGreater((last - begun) * 60, CONNECTION - 60)
+                    self.assertLess((last - begun) * 60, CONNECTION + 60)
 
 
 class BehindAClose(Case):

@@ -1,6 +1,7 @@
 """A server: resets through many epochs, every signal once and in order, and every order's reply."""
 
 import json
+import os
 
 from support import stores
 from support.case import Case
@@ -91,8 +92,8 @@ class ManySignals(Served):
             self.assertEqual(server.ended(), Ended(0, wanted, ""))
         self.assertEqual(ran("show", server.store).printed, "view 1001 1001\nnode 64 16 ready 0 1000 0\n")
 
-    def test_a_thousand_resets_over_a_link(self):
-        """Packets far beyond the first ones of a link: each of 300 waves takes two of one lane."""
+    def test_three_hundred_waves_over_one_link(self):
+        """Packets far beyond the first ones of a link: each wave takes two of one lane and one of the other."""
         with Serving(self.made(topology([(1, 1), (2, 1)], [(1, 2)], stores.HALF))) as server:
             for epoch in range(1, 301):
                 self.assertEqual(server.order(epoch, "reset", node=epoch % 2 + 1)["kind"], STARTED)
@@ -100,6 +101,31 @@ class ManySignals(Served):
             server.await_quiet(300)
             self.expect_each_signal_once(server)
             self.expect_closed(server, 600)
+
+
+class ManySteps(Served):
+    takes = 100
+
+    def test_a_hundred_thousand_steps_in_one_life(self):
+        """Waves over as many links as there may be, asked for by all clients at once."""
+        links = [(node, (node + far - 1) % 64 + 1) for far in (1, 9) for node in range(1, 65)]
+        store = self.made(topology([(node, 1) for node in range(1, 65)], links, 1_048_576))
+        with Serving(store) as server:
+            server.await_quiet()
+            threads = os.listdir(f"/proc/{server.process.pid}/task")
+            number, steps = 0, 0
+            while steps < 110_000:
+                number += 1
+                with server.connect() as connection:
+                    connection.send(*({"op": "reset", "client": client, "number": number, "node": (7 * client + number) % 64 + 1}
+                                      for client in range(1, 16)))
+                    self.assertLessEqual({connection.reply()["kind"] for _ in range(15)}, {STARTED, JOINED})
+                server.await_quiet()
+                steps = server.show()["accepted"]
+            self.assertEqual(os.listdir(f"/proc/{server.process.pid}/task"), threads)
+            self.expect_each_signal_once(server)
+            self.assertEqual(server.close().status, 0)
+        self.assertEqual(ran("check", store).printed, f"legal {steps}\n")
 
 
 class Orders(Served):

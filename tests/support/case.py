@@ -6,12 +6,12 @@ import tempfile
 import time
 import unittest
 
-from .program import ROOT, ran
+from .program import PROGRAM, ROOT, ran
 
 OPTIONAL = "optional: "  # how the reason begins of what may be skipped in CI too
 
 
-def until(what, holds, seconds=60.0):
+def until(what, holds, seconds=120.0):
     """Waits until something holds, and gives what it holds by. It is looked at often, so nothing waits on a clock."""
     end = time.monotonic() + seconds
     while not (found := holds()):
@@ -22,10 +22,13 @@ def until(what, holds, seconds=60.0):
 
 
 class Case(unittest.TestCase):
-    """`takes` is in about how many seconds: what takes longest begins first."""
+    """`takes` is in about how many seconds: what takes longest begins first. `program` is what it
+    runs, and `programs` are the variables that name what has to be built for it."""
 
     maxDiff = 2_000
     takes = 1
+    program = PROGRAM
+    programs = ("RESETD",)
 
     def setUp(self):
         self.folder = tempfile.mkdtemp(prefix="resetd-test-")
@@ -46,7 +49,7 @@ class Case(unittest.TestCase):
 
     def made(self, topology, name="store"):
         """Makes a store of a topology, and answers its path."""
-        ended = ran("init", self.path(name), self.write(f"{name}.toml", topology))
+        ended = ran("init", self.path(name), self.write(f"{name}.toml", topology), program=self.program)
         self.assertEqual((ended.status, ended.told), (0, ""))
         return self.path(name)
 

@@ -9,7 +9,7 @@ ROOT = os.path.dirname(os.path.dirname(os.path.dirname(os.path.abspath(__file__)
 PROGRAM = os.environ.get("RESETD", "")
 SHORT = os.environ.get("RESETD_SHORT", "")
 SHORT_STEPS = 32
-PATIENCE = 60  # seconds within which a command has to end
+PATIENCE = 200  # seconds within which a command has to end
 
 Ended = namedtuple("Ended", "status printed told")
 
