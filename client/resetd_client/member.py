@@ -13,7 +13,7 @@ from .following import Following
 from .orders import Orders, warn
 from .port import Port
 from .signals import Wake, Wakes
-from .starts import Due, Starts
+from .starts import Due, Shelf, Starts
 from .view import Node, View
 
 LOOK_SECONDS = 30.0
@@ -49,7 +49,8 @@ class Member(Following):
                  word: str = "", told: Callable[[str], None] = warn) -> None:
         super().__init__(orders, told)
         self.port, self.node = port, node
-        self._starts = Starts(os.path.join(orders.folder, f"start-{node}.json"), begun)
+        self._shelf = Shelf(os.path.join(orders.folder, f"start-{node}.json"))
+        self._starts = Starts(self._shelf, node, begun)
         self._begin, self._word = begin, word
         self._run: Run | None = None
         self._changes = threading.Condition(threading.RLock())  # over the run, and the work that belongs to it
@@ -113,6 +114,7 @@ class Member(Following):
     def _advance(self, view: View, row: Node) -> bool:
         """Does what the view asks for. Whether it has to be looked at again."""
         due = self._starts.due(view, row)
+        self._shelf.keep()
         self._set_run(Run(row.epoch, view.tag(row.node, self._word)) if due is Due.TALK else None)
         if due is Due.TALK:
             self._asked.clear()
@@ -128,6 +130,7 @@ class Member(Following):
     def _begin_anew(self, row: Node) -> None:
         with self._changes:
             self._starts.note_begin(row.epoch)
+            self._shelf.keep()
             self._begin(row.epoch)
             self._starts.note_begun(row.epoch)
         self._confirm({self.node: row.epoch})

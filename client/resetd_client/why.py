@@ -166,8 +166,8 @@ def of_space(path: str, found: os.stat_result) -> Iterator[Finding]:
         yield from of_limit(f"process {process}", file_limit(process), full)
 
 
-def of_address(text: str, seconds: float) -> Iterator[Finding]:
-    """What listens at an address, and whether a server could."""
+def of_address(text: str, seconds: float, path: str) -> Iterator[Finding]:
+    """What listens at an address, whether a server could, and whether a coordinator there has the store on this file."""
     try:
         host, port = address_of(text)
         socket.inet_aton(host)
@@ -184,12 +184,12 @@ def of_address(text: str, seconds: float) -> Iterator[Finding]:
     listeners = sorted(listening(host, port))
     for process in listeners:
         yield Finding("address", f"process {process}{commanded(process)} listens there: a second one can't", "Socket")
-    yield from of_answer(text, seconds, bool(listeners))
+    yield from of_answer(text, seconds, path, "" if listeners else "Socket")
 
 
-def of_answer(text: str, seconds: float, is_named: bool) -> Iterator[Finding]:
+def of_answer(text: str, seconds: float, path: str, fault: str) -> Iterator[Finding]:
     """What answers at an address."""
-    fault = "" if is_named else "Socket"
+    before = count_of(path)
     try:
         view = Port(text, seconds).show()
     except NotNow as not_now:
@@ -201,6 +201,17 @@ def of_answer(text: str, seconds: float, is_named: bool) -> Iterator[Finding]:
         yield Finding("answer", str(away), "" if "refused" in str(away) else fault)
     else:
         yield Finding("answer", f"a coordinator with {len(view.nodes)} nodes and {view.settled:,} steps on the disk", fault)
+        if not (before or 0) <= view.settled <= (count_of(path) or 0):
+            yield Finding("answer", "that is not the store on this file: the coordinator has another one, or this one was written "
+                                    "over, cut or replaced under it, and what it answers is lost with its end", later="a loss")
+
+
+def count_of(path: str) -> int | None:
+    """How many steps a store has, where it reads."""
+    try:
+        return read_store(path).count
+    except (NoStore, Restless, OSError):
+        return None
 
 
 def lowest_port() -> int:

@@ -9,6 +9,7 @@ import tempfile
 import unittest
 from contextlib import redirect_stderr, redirect_stdout
 from typing import Any
+from unittest import mock
 
 sys.dont_write_bytecode = True
 ROOT = os.path.join(os.path.dirname(os.path.abspath(__file__)), "..", "..")
@@ -48,7 +49,7 @@ class Case(unittest.TestCase):
     def run_words(self, *words: str, address: str = "") -> tuple[int, str, str]:
         """`resetctl` with these words: its status, what it printed, and what it complained of."""
         out, err = io.StringIO(), io.StringIO()
-        with redirect_stdout(out), redirect_stderr(err):
+        with redirect_stdout(out), redirect_stderr(err), mock.patch("resetd_client.control.base.SILENCE_SECONDS", 60.0):
             status = main(["--address", address or self.server.address, "--state", self.folder, "--patience", "0", *words])
         return status, out.getvalue(), err.getvalue()
 

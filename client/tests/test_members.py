@@ -8,7 +8,7 @@ import threading
 import time
 
 from case import Case, in_memory, over_both
-from resetd_client import Clock, Due, Member, Node, OutOfRun, Port, Starts, Stream, View, keep
+from resetd_client import Clock, Due, Member, Node, OutOfRun, Port, Shelf, Starts, Stream, View, keep
 
 
 def view_of(*rows: tuple[int, int, int]) -> View:
@@ -26,10 +26,10 @@ class Rules(Case):
         start first talked."""
         path = f"{self.folder}/start.json"
         if greatest is not None:
-            keep(path, json.dumps({"epoch": greatest, "party": sorted(party.party(1)) if party else None}))
+            keep(path, json.dumps({"1": {"epoch": greatest, "party": sorted(party.party(1)) if party else None}}))
         row = view.node(1)
         assert row
-        return Starts(path, begun).due(view, row)
+        return Starts(Shelf(path), 1, begun).due(view, row)
 
     def test_nothing_happened(self) -> None:
         view = view_of((1, 4, 4), (2, 7, 7))
@@ -80,16 +80,20 @@ class Rules(Case):
         self.assertIs(self.due(view_of((1, 4, 4)), 4, 5), Due.RESET)
 
     def test_who_first_talked_is_written_down(self) -> None:
-        starts = Starts(f"{self.folder}/start.json", None)
+        shelf = Shelf(f"{self.folder}/start.json")
+        starts = Starts(shelf, 1, None)
         starts.note_begin(4)
         starts.note_begun(4)
-        for known in (starts, Starts(f"{self.folder}/start.json", 4)):
-            view, more = view_of((1, 4, 4)), view_of((1, 4, 4), (2, 0, 0))
-            self.assertEqual([known.due(each, each.nodes[0]) for each in (view, more)], [Due.TALK, Due.RESET])
+        view, more = view_of((1, 4, 4)), view_of((1, 4, 4), (2, 0, 0))
+        self.assertEqual([starts.due(each, each.nodes[0]) for each in (view, more)], [Due.TALK, Due.RESET])
+        shelf.keep()
+        again = Starts(Shelf(f"{self.folder}/start.json"), 1, 4)
+        self.assertEqual([again.due(each, each.nodes[0]) for each in (more, view)], [Due.RESET, Due.TALK])
 
     def test_a_file_that_does_not_read_is_told(self) -> None:
-        keep(f"{self.folder}/start.json", "{}")
-        self.assertRaises(ValueError, Starts, f"{self.folder}/start.json", 4)
+        for text in ("[]", "{", '{"1": {}}'):
+            keep(f"{self.folder}/start.json", text)
+            self.assertRaises(ValueError, Shelf, f"{self.folder}/start.json")
 
 
 class MemberCase(Case):

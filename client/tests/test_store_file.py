@@ -102,7 +102,7 @@ class Moments(unittest.TestCase):
         return True
 
     def test_with_appends_and_checkpoints(self) -> None:
-        good = [self.attempt(seed, 3) for seed in range(int(os.environ.get("MOMENTS", "20000")))]
+        good = [self.attempt(seed, 3) for seed in range(int(os.environ.get("MOMENTS", "8000")))]
         self.assertGreater(sum(good), len(good) // 10)
         self.assertLess(sum(good), len(good))
 

@@ -10,6 +10,7 @@ from .. import files
 from ..answers import Away, NotNow, NotTaken
 from ..health import Bounds, Level, Since, check, metrics
 from ..port import patiently
+from ..signal_lag import Signals
 from .base import DONE, Command, Control
 
 
@@ -19,7 +20,8 @@ def health(control: Control) -> int:
     try:
         os.makedirs(control.folder, exist_ok=True)
         since = Since(os.path.join(control.folder, "health.json"), time.time())
-        found = check(control.port, since, Bounds(words.steps, words.wave, words.unconfirmed), control.patience)
+        signals = Signals(words.signals, os.path.join(control.folder, "signals.json")) if words.signals else None
+        found = check(control.port, since, Bounds(words.steps, words.wave, words.unconfirmed), control.patience, signals)
         if found.is_stopped and words.close_stopped:
             control.port.close()
             print("resetctl: the server answered Stopped, and was closed")
@@ -53,6 +55,7 @@ def add_health_words(parser: argparse.ArgumentParser) -> None:
     parser.add_argument("--wave", type=float, default=5.0, metavar="SECONDS", help="how long a wave may stand still (5)")
     parser.add_argument("--unconfirmed", type=float, default=60.0, metavar="SECONDS",
                         help="how long an epoch may be unconfirmed (60)")
+    parser.add_argument("--signals", metavar="FILE", help="warns where the server's file of signals lacks lines")
     parser.add_argument("--close-stopped", action="store_true",
                         help="closes a server that answers Stopped, so that its service manager starts it again")
 

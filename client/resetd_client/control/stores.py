@@ -16,7 +16,7 @@ def why(control: Control) -> int:
     words = control.words
     findings = list(of_file(words.file))
     if words.at:
-        findings += of_address(words.at, control.seconds)
+        findings += of_address(words.at, control.seconds, words.file)
     for finding in findings:
         print(f"{finding.about:8s} {finding.text}", flush=True)
     told = told_start(findings)
@@ -27,12 +27,9 @@ def why(control: Control) -> int:
 def told_start(findings: list[Finding]) -> str:
     """With which word a start of the server would end now, or a server later; nothing where there is none."""
     faults = sorted((finding for finding in findings if finding.fault), key=lambda finding: finding.fault != "Usage")
-    later = [finding for finding in findings if finding.later]
-    if faults:
-        return f"a start now would end with {faults[0].fault}: {faults[0].about}: {faults[0].text}"
-    if later:
-        return f"a server starts, and later meets {later[0].later}: {later[0].about}: {later[0].text}"
-    return ""
+    told = [f"a start now would end with {finding.fault}: {finding.about}: {finding.text}" for finding in faults[:1]]
+    told += [f"a server that runs meets {finding.later}: {finding.about}: {finding.text}" for finding in findings if finding.later]
+    return "\n".join(told)
 
 
 def steps(control: Control) -> int:
