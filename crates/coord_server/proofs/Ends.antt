@@ -9,7 +9,7 @@ use Rattle.coord_disk.specs.Model.Present.{Present}
 use Rattle.coord_world.specs.protocol.NumberedWorld.{World}
 use Rattle.coord_admin.specs.Connections.{Talk}
 use Rattle.coord_server.specs.EngineDesk.{DeskState}
-use Rattle.coord_server.specs.Ending.{AddsWorkers, IsOneHistory, IsServedToClose, Serves, ServesLife, fault_at_end}
+use Rattle.coord_server.specs.Ending.{AddsWorkers, HasRun, IsLife, IsOneHistory, IsServedToClose, Serves, ServesLife, fault_at_end}
 use Rattle.coord_server.specs.Lives.{HasLived, HasLivedToClose, IsOver, Lives, Rests, met_any}
 use Rattle.coord_server.specs.declared.fault.ServerFault.{ServerFault}
 use Rattle.coord_server.specs.declared.left.Left.{Left}
@@ -42,16 +42,25 @@ module _ {D : Type 0} (b : Basis D) {V : Type 0} (met : V → List Talk → V �
   pub serves_with : (v w u : V) (desk : DeskState) (left : Left) (notes : List Note) → ServesLife b met v w desk left → notes ≡ desk.notes → u ≡ w → (seen : ℕ) × ServesLife b met v u (record { notes = notes; seen = seen }) left
   serves_with v w u desk left notes s same same_w = (desk.seen, subst (λ x. ServesLife b met v x (record { notes = notes; seen = desk.seen }) left) (sym same_w) (subst (λ n. ServesLife b met v w (record { notes = n; seen = desk.seen }) left) (sym same) s))
 
+  -- the shares of the desk and of the workers, once all are back
+  pub has_run : (v u w : V) (served left : Left) (own : List Note) (shares : List (List Note)) → (seen : ℕ) × ServesLife b met v u (record { notes = own; seen = seen }) served
+      → AddsWorkers (own ∷ []) shares → length shares ≡ 9 → w ≡ u → left ≡ served → HasRun b met v w left shares
+  has_run v u w served left own shares s added all same_w same = record {
+    desk = record { notes = own; seen = s.0 };
+    served = subst (λ (x : V). ServesLife b met v x (record { notes = own; seen = s.0 }) left) (sym same_w) (subst (λ (l : Left). ServesLife b met v u (record { notes = own; seen = s.0 }) l) (sym same) s.1);
+    added = added;
+    all = all;
+  }
+
   -- one life: how the desk went on, and what is left of the engine, which was taken apart with all shares
-  pub lived : (v u w : V) (ran left : Left) (own : List Note) (shares : List (List Note)) (store : Kept D) (base : World) (trail : List Step) (settled : ℕ) → b.before ≡ []
-      → (seen : ℕ) × ServesLife b met v u (record { notes = own; seen = seen }) ran
-      → AddsWorkers (own ∷ []) shares → IsSince b.base b.before shares base trail → AtSomeMoment b (Closes {D = D} store base trail settled shares)
-      → w ≡ u → left ≡ ran → (desk : DeskState) × ServesLife b met v w desk left × IsOneHistory b desk.notes store base trail settled
-  lived v u w ran left own shares store base trail settled none s added since closed same_w same = (
-    record { notes = own; seen = s.0 },
-    subst (λ (x : V). ServesLife b met v x (record { notes = own; seen = s.0 }) left) (sym same_w) (subst (λ (l : Left). ServesLife b met v u (record { notes = own; seen = s.0 }) l) (sym same) s.1),
-    one_history b own shares store base trail settled none added since closed,
-  )
+  pub lived : (v u w : V) (ran left : Left) (shares : List (List Note)) (store : Kept D) (base : World) (trail : List Step) (settled : ℕ) → b.before ≡ []
+      → HasRun b met v u ran shares → IsSince b.base b.before shares base trail → AtSomeMoment b (Closes {D = D} store base trail settled shares)
+      → w ≡ u → left ≡ ran → IsLife b met v w left store base trail settled
+  lived v u w ran left shares store base trail settled none is since closed same_w same = record {
+    desk = is.desk;
+    served = subst (λ (x : V). ServesLife b met v x is.desk left) (sym same_w) (subst (λ (l : Left). ServesLife b met v u is.desk l) (sym same) is.served);
+    history = one_history b is.desk.notes shares store base trail settled none is.added since closed;
+  }
 
 -- ---- lives
 
@@ -64,16 +73,16 @@ module _ {D : Type 0} (keeps_model : D → Bool) (present : D → Present) {V : 
   served_at_last world v w desk Resting served s over = subst (Serves (b world) met v w desk) (sym over) s
   served_at_last world v w desk (Ended fault_at_end) served s over = subst (Serves (b world) met v w desk) (sym over) s
 
-  rests : (world : World) (v w : V) (left : Left) (store : Kept D) (base : World) (trail : List Step) (settled : ℕ) → left ≡ Resting → (desk : DeskState) × ServesLife (b world) met v w desk left × IsOneHistory (b world) desk.notes store base trail settled
+  rests : (world : World) (v w : V) (left : Left) (store : Kept D) (base : World) (trail : List Step) (settled : ℕ) → left ≡ Resting → IsLife (b world) met v w left store base trail settled
       → has_stopped store ≡ false → settled ≡ base.count + length trail → Rests keeps_model present met world v w store.world
   rests world v w left store base trail settled is life going all = record {
-    desk = life.0;
+    desk = life.desk;
     store = store;
     base = base;
     trail = trail;
     settled = settled;
-    served = subst (ServesLife (b world) met v w life.0) is life.1;
-    history = life.2;
+    served = subst (ServesLife (b world) met v w life.desk) is life.served;
+    history = life.history;
     all_settled = all;
     going = going;
     goes_on = refl;
@@ -81,13 +90,13 @@ module _ {D : Type 0} (keeps_model : D → Bool) (present : D → Present) {V : 
 
   -- one more life has rested
   pub lives_on : (began world : World) (v u w : V) (left : Left) (store : Kept D) (base : World) (trail : List Step) (settled : ℕ) → (n : ℕ) × Lives keeps_model present met n began v world u → left ≡ Resting
-      → (desk : DeskState) × ServesLife (b world) met u w desk left × IsOneHistory (b world) desk.notes store base trail settled
+      → IsLife (b world) met u w left store base trail settled
       → has_stopped store ≡ false → settled ≡ base.count + length trail → (n : ℕ) × Lives keeps_model present met n began v store.world w
   lives_on began world v u w left store base trail settled lives is life going all = (suc lives.0, (world, u, lives.1, rests world u w left store base trail settled is life going all))
 
   -- the same by other names: what the next life begins with
   pub lives_next : (began world : World) (v u w others : V) (left : Left) (store next : Kept D) (base : World) (trail : List Step) (settled : ℕ) → (n : ℕ) × Lives keeps_model present met n began v world u
-      → (desk : DeskState) × ServesLife (b world) met u w desk left × IsOneHistory (b world) desk.notes store base trail settled
+      → IsLife (b world) met u w left store base trail settled
       → left ≡ Resting → next ≡ store → others ≡ w → has_stopped store ≡ false → settled ≡ base.count + length trail
       → ((n : ℕ) × Lives keeps_model present met n began v next.world others) × (has_stopped next ≡ false)
   lives_next began world v u w others left store next base trail settled lives life is same same_w going all =
@@ -98,9 +107,9 @@ module _ {D : Type 0} (keeps_model : D → Bool) (present : D → Present) {V : 
 
   -- and the last one has ended
   pub lives_end : (began world : World) (v u w : V) (left : Left) (served : Option ServerFault) (store : Kept D) (base : World) (trail : List Step) (settled : ℕ) → (n : ℕ) × Lives keeps_model present met n began v world u
-      → (desk : DeskState) × ServesLife (b world) met u w desk left × IsOneHistory (b world) desk.notes store base trail settled
+      → IsLife (b world) met u w left store base trail settled
       → IsOver left served → HasLived keeps_model present met began v w served store base trail settled
-  lives_end began world v u w left served store base trail settled lives life over = (lives.0, world, u, lives.1, (life.0, served_at_last world u w life.0 left served life.1 over, life.2))
+  lives_end began world v u w left served store base trail settled lives life over = (lives.0, world, u, lives.1, (life.desk, served_at_last world u w life.desk left served life.served over, life.history))
 
   -- whoever called
   rested_any : (world next : World) (v w : V) → Rests keeps_model present met world v w next → Rests keeps_model present met_any world tt tt next

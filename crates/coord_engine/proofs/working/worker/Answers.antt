@@ -1,5 +1,6 @@
+use Rattle.coord_engine.specs.State.{based_on}
 use Rattle.coord_engine.proofs.Worked.{worked_adds}
 use Rattle.coord_engine.proofs.working.worker.Goals as goal
 
-pub returns : goal.returns
-returns g c = worked_adds (λ s. s.share) _ _ c.work.ensures
+pub returns-clause-packets : goal.returns-clause-packets
+returns-clause-packets g c = worked_adds (based_on g.D.Disk.keeps_model g.D.Disk.present g.L.Origin.base g.L.Origin.before) c.args.share c.work.new.bench c.work.ensures
