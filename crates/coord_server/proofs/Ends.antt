@@ -1,11 +1,13 @@
 -- A server of which no fault is told was closed by a line.
-use Rattle.std.proofs.Common.{◌≡◌, ℕ, zero, suc, ◌+◌, List, [], ◌∷◌, ◌++◌, All, length, Bool, true, false, Option, Some, None, refl, sym, ap, ◌∙◌, subst, append_assoc, arith, drop}
+use Rattle.std.proofs.Common.{◌≡◌, ℕ, zero, suc, ◌+◌, List, [], ◌∷◌, ◌++◌, All, length, Bool, true, false, Option, Some, None, refl, sym, ap, ◌∙◌, subst, append_assoc, arith, drop, inl, inr, is_some}
+use Rattle.std.proofs.lemmas.Bool.{false≢true}
 use Rattle.std.proofs.lemmas.List.Elements.{All-push}
 use Rattle.coord_engine.specs.Facade.{AtSomeMoment, Basis, Closes, IsNamed, IsOfPacket, IsSince, based_on}
 use Rattle.coord_types.specs.declared.steps.Step.{Step}
 use Rattle.coord_ledger.specs.declared.ticket.Note.{Note}
-use Rattle.coord_store.specs.Kept.{Kept, has_stopped}
-use Rattle.coord_disk.specs.Model.Present.{Present}
+use Rattle.coord_store.specs.Kept.{GivesKept, ImagesGive, Kept, has_stopped}
+use Rattle.coord_store.specs.Recovered.{Recovered}
+use Rattle.coord_disk.specs.Model.Present.{IsImage, Present}
 use Rattle.coord_world.specs.protocol.NumberedWorld.{World}
 use Rattle.coord_admin.specs.Connections.{Talk}
 use Rattle.coord_server.specs.EngineDesk.{DeskState}
@@ -133,3 +135,16 @@ module _ {D : Type 0} (keeps_model : D → Bool) (present : D → Present) {V : 
   pub closed_lives : (stopped : Bool) (served : Option ServerFault) (is_broken : Bool) (began : World) (v w : V) (store : Kept D) (base : World) (trail : List Step) (settled : ℕ) → fault_at_end stopped served is_broken ≡ None → HasLived keeps_model present met began v w served store base trail settled → HasLivedToClose keeps_model present began store base trail settled
   closed_lives stopped served is_broken began v w store base trail settled none is =
       (is.0, is.1, lives_any is.0 began is.1 v is.2 is.3, (is.4.0, closed_if_none (b is.1) met stopped served is_broken is.2 w is.4.0 none is.4.1, is.4.2))
+
+-- a store that has not stopped: each image of its disk gives its world
+pub only_world : {D : Type 0} (present : D → Present) (store : Kept D) → has_stopped store ≡ false → ImagesGive present store → (image : List ℕ) → IsImage (present store.disk) image → Recovered image store.world
+only_world present store going all image is = by (all image is)
+  where
+    by : GivesKept store image → Recovered image store.world
+    by (inl gives) = gives
+    by (inr torn) = absurd (false≢true (sym going ∙ ap is_some torn.1))
+
+-- of a store that has stopped a fault is told
+pub not_stopped : (stopped : Bool) (served : Option ServerFault) (is_broken : Bool) → fault_at_end stopped served is_broken ≡ None → stopped ≡ false
+not_stopped true served is_broken none = absurd cc
+not_stopped false served is_broken none = refl

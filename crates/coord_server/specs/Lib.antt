@@ -2,4 +2,5 @@ pub mod Ending
 pub mod EngineDesk
 pub mod Lives
 pub mod Printed
+pub mod Told
 pub mod Workers

@@ -15,6 +15,7 @@ use std::sync::Wait;
 
 /// Prints the signals that come, in their order, up to the last one or to a line that could not be
 /// written. A signal for whose line there is no memory is lost.
+#[tactic(auto, using(crate::proofs::Starts::prints_next))]
 pub fn print_signals<W: Write, I: Iterator<Item = Signal>>(
     signals: I,
     printer: Printer<W>,
@@ -28,7 +29,7 @@ pub fn print_signals<W: Write, I: Iterator<Item = Signal>>(
     for signal in signals {
         printer.print_signal(signal.node, signal.epoch);
         if printer.is_broken() {
-            break;
+            return printer;
         }
     }
     printer
