@@ -1,5 +1,5 @@
 -- A server of which no fault is told was closed by a line.
-use Rattle.std.proofs.Common.{◌≡◌, ℕ, zero, suc, ◌+◌, List, [], ◌∷◌, ◌++◌, All, length, Bool, true, false, Option, Some, None, refl, sym, ap, ◌∙◌, subst, append_assoc, arith, drop, inl, inr, is_some}
+use Rattle.std.proofs.Common.{◌≡◌, ℕ, zero, suc, ◌+◌, List, [], ◌∷◌, ◌++◌, All, length, Bool, true, false, Option, Some, None, refl, sym, ap, ◌∙◌, subst, append_assoc, arith, drop, inl, inr, is_some, Result, Ok, Err, IfOk, IsOk, OnOk}
 use Rattle.std.proofs.lemmas.Bool.{false≢true}
 use Rattle.std.proofs.lemmas.List.Elements.{All-push}
 use Rattle.coord_engine.specs.Facade.{AtSomeMoment, Basis, Closes, IsNamed, IsOfPacket, IsSince, based_on}
@@ -53,6 +53,16 @@ module _ {D : Type 0} (b : Basis D) {V : Type 0} (met : V → List Talk → V �
     added = added;
     all = all;
   }
+
+  -- the same of what was served, and of what the threads then left
+  pub all_ran : {A R E F : Type 0} (served : Result A E) (ran : Result R F) (callers : A → V) (left : A → Left) (own : A → List Note) (after : R → V) (end : R → Left) (shares : R → List (List Note)) (v : V)
+      → IfOk served (λ s. (seen : ℕ) × ServesLife b met v (callers s) (record { notes = own s; seen = seen }) (left s)) → OnOk ran (IsOk served)
+      → IfOk served (λ s. IfOk ran (λ r. AddsWorkers (own s ∷ []) (shares r) × (length (shares r) ≡ 9))) → IfOk served (λ s. IfOk ran (λ r. (after r ≡ callers s) × (end r ≡ left s)))
+      → IfOk ran (λ r. HasRun b met v (after r) (end r) (shares r))
+  all_ran (Ok s) (Ok r) callers left own after end shares v so ok added same = has_run v (callers s) (after r) (left s) (end r) (own s) (shares r) so added.0 added.1 same.0 same.1
+  all_ran (Ok s) (Err f) callers left own after end shares v so ok added same = tt
+  all_ran (Err e) (Ok r) callers left own after end shares v so ok added same = absurd ok
+  all_ran (Err e) (Err f) callers left own after end shares v so ok added same = tt
 
   -- one life: how the desk went on, and what is left of the engine, which was taken apart with all shares
   pub lived : (v u w : V) (ran left : Left) (shares : List (List Note)) (store : Kept D) (base : World) (trail : List Step) (settled : ℕ) → b.before ≡ []
