@@ -1,17 +1,21 @@
 -- What was served, where more is read.
-use Rattle.std.proofs.Common.{◌≡◌, ◌≢◌, ℕ, ◌<◌, Bool, true, false, List, [], ◌∷◌, ◌++◌, length, map, Some, Result, Ok, Err, IfOk, String, Global, string_bytes, refl, sym, ap, ◌∙◌, subst, append_assoc, append-nil, arith, take, inl, inr}
+use Rattle.std.proofs.Common.{◌≡◌, ◌≢◌, ◌⊎◌, ℕ, ◌<◌, Bool, true, false, List, [], ◌∷◌, ◌++◌, length, map, Some, Result, Ok, Err, IfOk, String, Global, string_bytes, refl, sym, ap, ◌∙◌, subst, append_assoc, append-nil, arith, take, inl, inr}
 use Rattle.std.specs.List.{slice_split}
 use Rattle.std.proofs.lemmas.List.Splits.{length-slice_split}
 use Rattle.coord_lines.specs.Lines.{Line, IsWithin, is_line_feed, line_of, lines_of, extended, going_on, lines_on, before_line_feed, behind_line_feed}
+use Rattle.coord_lines.specs.Written.{IsFirstPart}
 use Rattle.coord_lines.proofs.LinesOn.{lines_on-ended, extended-nothing}
+use Rattle.coord_types.specs.declared.refusals.Refusal.{Refusal}
+use Rattle.coord_types.specs.declared.steps.Reply.{Reply}
 use Rattle.coord_admin.specs.declared.request.Request.{Request}
 use Rattle.coord_admin.specs.declared.answer.Answer.{Answer}
 use Rattle.coord_admin.specs.declared.answer.Answer.TheVariants.{Replied, Refused, Shown, Resent, Closed, Faulted}
 use Rattle.coord_admin.specs.declared.fault.LineFault.{LineFault}
 use Rattle.coord_admin.specs.declared.fault.LineFault.TheVariants.{Unfinished, TooLong, BadText, BadJson, BadRequest, UnknownOp, OutOfMemory}
 use Rattle.coord_admin.specs.Requests.{asked_by}
-use Rattle.coord_admin.specs.Replies.{made_bytes, reply_line, reply_lines}
-use Rattle.coord_admin.specs.Stream.{is_closed, takes_memory, IsText, MayAnswer, last_answers, IsWritten, WritesPart, Gets, GetsAtLast, AllGet, Reaches, Finishes, Closes, Stops, BreaksOff}
+use Rattle.coord_admin.specs.Replies.{made_bytes, order_answer, reply_line, reply_lines}
+use Rattle.coord_admin.specs.Together.{AllAnswered, ArePosted, AskFor}
+use Rattle.coord_admin.specs.Stream.{is_closed, takes_memory, AreWritten, IsText, MayAnswer, last_answers, IsWritten, WritesPart, Gets, GetsAtLast, AllGet, Reaches, Finishes, Closes, Stops, BreaksOff}
 
 -- ---- lists
 
@@ -30,7 +34,28 @@ some_line line (part ∷ parts) h = (extended line part, map line_of parts, refl
 pub lines_on-some : (line : Line) (text : List ℕ) → (next : Line) × (left : List Line) × (lines_on line text ≡ next ∷ left)
 lines_on-some line text = some_line line (slice_split is_line_feed text) (omega (arith, length-slice_split is_line_feed text))
 
+-- a first part of two texts is one of the first, or goes on into the second
+pub first_part_of_two : (part xs ys : List ℕ) → IsFirstPart part (xs ++ ys) → IsFirstPart part xs ⊎ ((more : List ℕ) × (part ≡ xs ++ more) × IsFirstPart more ys)
+first_part_of_two [] xs ys h = inl (xs, refl)
+first_part_of_two (p ∷ part) [] ys h = inr (p ∷ part, refl, h)
+first_part_of_two (p ∷ part) (x ∷ xs) ys h = by (first_part_of_two part xs ys (h.0, tails))
+  where
+    tails : xs ++ ys ≡ part ++ h.0
+    tails = let e = h.1 in cc
+
+    heads : x ≡ p
+    heads = let e = h.1 in cc
+
+    by : IsFirstPart part xs ⊎ ((more : List ℕ) × (part ≡ xs ++ more) × IsFirstPart more ys) → IsFirstPart (p ∷ part) (x ∷ xs) ⊎ ((more : List ℕ) × (p ∷ part ≡ x ∷ xs ++ more) × IsFirstPart more ys)
+    by (inl part_of) = inl (part_of.0, let e = part_of.1 in let f = heads in cc)
+    by (inr on) = inr (on.0, (let e = on.1 in let f = heads in cc), on.2)
+
 -- ---- what is told of an answer
+
+-- an order closes no desk
+order-open : (x : Result Reply Refusal) → is_closed (order_answer x) ≡ false
+order-open (Ok r) = refl
+order-open (Err r) = grind
 
 stays_open : (answer : Answer) → takes_memory answer ≡ true → is_closed answer ≡ false
 stays_open (Replied r) e = refl
@@ -69,10 +94,34 @@ module _ {D : Type 0} (answers : D → Request → Answer → D → Type 0) wher
       by UnknownOp is = answered UnknownOp is (λ k. absurd cc)
       by OutOfMemory is = inr (refl, inl (memory is, refl))
 
+  -- what a line asks for was answered, or its fault is the answer
+  pub gets-asked : (d e : D) (line : Line) (r : Result Request LineFault) (a : Answer) → (r ≢ Err OutOfMemory → r ≡ asked_by line) → (r ≡ Err OutOfMemory → IsText line) → MayAnswer answers d r a e → Gets answers d line a e
+  gets-asked d e line (Ok q) a reads memory h = inl (subst (λ asked. MayAnswer answers d asked a e) (reads (λ k. absurd cc)) h)
+  gets-asked d e line (Err f) a reads memory h = subst (λ g. Gets answers d line a g) (sym h.1) (subst (λ b. Gets answers d line b d) (sym h.0) (gets-fault d line f (Err f) refl reads memory))
+
   pub gets-told : (d e : D) (line : Line) (answer told : Answer) → Gets answers d line answer e → IsWritten answer told → Gets answers d line told e
   gets-told d e line answer told h (inl same) = subst (λ a. Gets answers d line a e) (sym same) h
   gets-told d e line answer told (inl h) (inr w) = inr (w.0, inr (answer, w.1, h))
   gets-told d e line answer told (inr h) (inr w) = inr (w.0, h.1)
+
+  -- what is told of each answer
+  pub all-told : (d e : D) (lines : List Line) (answered told : List Answer) → AllGet answers d lines answered e → AreWritten answered told → AllGet answers d lines told e
+  all-told d e [] [] [] h w = h
+  all-told d e [] [] (t ∷ told) h w = absurd w
+  all-told d e [] (a ∷ answered) told h w = absurd h
+  all-told d e (line ∷ lines) [] told h w = absurd h
+  all-told d e (line ∷ lines) (a ∷ answered) [] h w = absurd w
+  all-told d e (line ∷ lines) (a ∷ answered) (t ∷ told) h w = (h.0, gets-told d h.0 line a t h.1 w.0, closed-told a t w.0 ∙ h.2, all-told h.0 e lines answered told h.3 w.1)
+
+  -- the lines of orders that were answered
+  pub all-ordered : (d e : D) (lines : List Line) (orders : List Request) (results : List (Result Reply Refusal)) → AskFor lines orders → AllAnswered answers d orders (map order_answer results) e → AllGet answers d lines (map order_answer results) e
+  all-ordered d e [] [] [] asks h = h
+  all-ordered d e [] [] (x ∷ results) asks h = absurd h
+  all-ordered d e [] (r ∷ orders) results asks h = absurd asks
+  all-ordered d e (line ∷ lines) [] results asks h = absurd asks
+  all-ordered d e (line ∷ lines) (r ∷ orders) [] asks h = absurd h
+  all-ordered d e (line ∷ lines) (r ∷ orders) (x ∷ results) asks h =
+      (h.0, inl (subst (λ asked. MayAnswer answers d asked (order_answer x) h.0) (sym asks.0) h.1), order-open x, all-ordered h.0 e lines orders results asks.2 h.2)
 
   -- ---- lines behind lines
 
@@ -86,7 +135,7 @@ module _ {D : Type 0} (answers : D → Request → Answer → D → Type 0) wher
   reaches-behind d f e lines later done left told more h same r =
       (done ++ r.0, same ∙ ap (λ l. done ++ l) r.1 ∙ sym (append_assoc done r.0 left), all-append done r.0 told more d f e h r.2)
 
-  text-behind : (told more : List Answer) (rest text : List ℕ) → text ≡ reply_lines more ++ rest → reply_lines told ++ text ≡ reply_lines (told ++ more) ++ rest
+  pub text-behind : (told more : List Answer) (rest text : List ℕ) → text ≡ reply_lines more ++ rest → reply_lines told ++ text ≡ reply_lines (told ++ more) ++ rest
   text-behind told more rest text e =
       ap (λ l. reply_lines told ++ l) e ∙ sym (append_assoc (reply_lines told) (reply_lines more) rest) ∙ ap (λ l. l ++ rest) (sym (reply_lines-append told more))
 
@@ -96,7 +145,34 @@ module _ {D : Type 0} (answers : D → Request → Answer → D → Type 0) wher
 
   pub breaks-behind : (d f e : D) (lines later done : List Line) (told : List Answer) (text : List ℕ) → AllGet answers d done told f → lines ≡ done ++ later → BreaksOff answers f later text e → BreaksOff answers d lines (reply_lines told ++ text) e
   breaks-behind d f e lines later done told text h same c =
-      (told ++ c.0, c.1, c.2, c.3, c.4, c.5, reaches-behind d f c.3 lines later done _ told c.0 h same c.6, c.7, c.8, text-behind told c.0 _ text c.9)
+      (told ++ c.0, c.1, c.2, c.3, c.4, c.5, c.6, c.7, c.8, reaches-behind d f c.4 lines later done _ told c.0 h same c.9, c.10, c.11, c.12, c.13, text-behind told c.0 _ text c.14)
+
+  -- ---- orders that were posted together
+
+  ask-tail : (line : Line) (lines : List Line) (orders : List Request) → AskFor (line ∷ lines) orders → (rest : List Request) × AskFor lines rest
+  ask-tail line lines [] asks = absurd asks
+  ask-tail line lines (r ∷ orders) asks = (orders, asks.2)
+
+  posted-tail : (line : Line) (lines : List Line) → ArePosted (line ∷ lines) → ArePosted lines
+  posted-tail line lines posted = (omega (arith, posted.0), ask-tail line lines posted.1.0 posted.1.1)
+
+  -- the first of two lines breaks off
+  breaks-first : (d f e : D) (line : Line) (lines left : List Line) (a : Answer) (told : List Answer) (part : List ℕ) → ((lines ≡ []) ⊎ ArePosted (line ∷ lines)) → Gets answers d line a f → AllGet answers f lines told e → IsFirstPart part (reply_line a) → BreaksOff answers d (line ∷ lines ++ left) part e
+  breaks-first d f e line lines left a told part posted gets all is_part = ([], line, lines, left, d, f, a, told, part, ([], refl, refl), inl gets, all, posted, is_part, refl)
+
+  -- a first part of the replies to lines that were posted together was written
+  pub breaks-among : (d e : D) (line : Line) (lines left : List Line) (told : List Answer) (part : List ℕ) → ArePosted (line ∷ lines) → AllGet answers d (line ∷ lines) told e → IsFirstPart part (reply_lines told) → BreaksOff answers d (line ∷ lines ++ left) part e
+  breaks-among d e line lines left [] part posted h is_part = absurd h
+  breaks-among d e line [] left (a ∷ []) part posted h is_part = breaks-first d h.0 e line [] left a [] part (inl refl) h.1 h.3 (is_part.0, sym (append-nil (reply_line a)) ∙ is_part.1)
+  breaks-among d e line [] left (a ∷ b ∷ told) part posted h is_part = absurd h.3
+  breaks-among d e line (next ∷ lines) left (a ∷ told) part posted h is_part = by (first_part_of_two part (reply_line a) (reply_lines told) is_part)
+    where
+      by : IsFirstPart part (reply_line a) ⊎ ((more : List ℕ) × (part ≡ reply_line a ++ more) × IsFirstPart more (reply_lines told)) → BreaksOff answers d (line ∷ next ∷ lines ++ left) part e
+      by (inl first) = breaks-first d h.0 e line (next ∷ lines) left a told part (inr posted) h.1 h.3 first
+      by (inr on) =
+          let rest = breaks-among h.0 e next lines left told on.0 (posted-tail line (next ∷ lines) posted) h.3 on.2 in
+          subst (λ p. BreaksOff answers d (line ∷ next ∷ lines ++ left) p e) (ap (λ l. l ++ on.0) (append-nil (reply_line a)) ∙ sym on.1)
+          (breaks-behind d h.0 e (line ∷ next ∷ lines ++ left) (next ∷ lines ++ left) (line ∷ []) (a ∷ []) on.0 (h.0, h.1, h.2, refl) refl rest)
 
   -- ---- one more line
 
@@ -167,7 +243,7 @@ module _ {D : Type 0} (answers : D → Request → Answer → D → Type 0) {C :
   pub broken-at : (d f e : D) (a b c : C) (came : List ℕ) (lines done left : List Line) (line : Line) (told : List Answer) → AllGet answers d done told f → exchanged a came (reply_lines told) b → lines ≡ done ++ line ∷ left
       → (x : Answer) × GetsAtLast answers f line x e × WritesPart exchanged b c (reply_line x) → (text : List ℕ) × exchanged a came text c × BreaksOff answers d lines text e
   broken-at d f e a b c came lines done left line told h written same w =
-      (reply_lines told ++ w.2.0, told-on exchanged turn a b c came (reply_lines told) w.2.0 written w.2.1, (told, line, left, f, w.0, w.2.0, (done, same, h), w.1, w.2.2, refl))
+      (reply_lines told ++ w.2.0, told-on exchanged turn a b c came (reply_lines told) w.2.0 written w.2.1, (told, line, [], left, f, e, w.0, [], w.2.0, (done, same, h), w.1, refl, inl refl, w.2.2, refl))
 
   pub broken-line : (d f e : D) (a b c : C) (came : List ℕ) (lines done left : List Line) (line : Line) (told : List Answer) → AllGet answers d done told f → exchanged a came (reply_lines told) b → lines ≡ done ++ line ∷ left
       → (x : Answer) × Gets answers f line x e × WritesPart exchanged b c (reply_line x) → (text : List ℕ) × exchanged a came text c × BreaksOff answers d lines text e

@@ -30,7 +30,7 @@ pub trait Duplex {
         ensures end { IfOk result (λ n. n ≡ 0 → 0 < length buffer.old → has_ended self.new) }
         ensures failed { OnErr result (exchanged self.old [] [] self.new) };
 
-    /// Writes the reply to a line whole.
+    /// Writes replies whole.
     fn reply(&mut self, text: &[u8]) -> Result<(), NotWritten>
         ensures whole { OnOk result (exchanged self.old [] text.now self.new) }
         ensures part { OnErr result ((part : List ℕ) × exchanged self.old [] part self.new ×
