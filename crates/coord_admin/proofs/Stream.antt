@@ -52,6 +52,24 @@ first_part_of_two (p ∷ part) (x ∷ xs) ys h = by (first_part_of_two part xs y
 
 -- ---- what is told of an answer
 
+-- one more is told
+pub written-on : (answers told : List Answer) (answer a : Answer) → AreWritten answers told → IsWritten answer a → AreWritten (answers ++ answer ∷ []) (told ++ a ∷ [])
+written-on [] [] answer a w one = (one, tt)
+written-on [] (t ∷ told) answer a w one = absurd w
+written-on (x ∷ answers) [] answer a w one = absurd w
+written-on (x ∷ answers) (t ∷ told) answer a w one = (w.0, written-on answers told answer a w.1 one)
+
+-- each may be told itself
+as_they_are : (answers : List Answer) → AreWritten answers answers
+as_they_are [] = tt
+as_they_are (x ∷ answers) = (inl refl, as_they_are answers)
+
+pub written-rest : (answers told rest : List Answer) → AreWritten answers told → AreWritten (answers ++ rest) (told ++ rest)
+written-rest [] [] rest w = as_they_are rest
+written-rest [] (t ∷ told) rest w = absurd w
+written-rest (x ∷ answers) [] rest w = absurd w
+written-rest (x ∷ answers) (t ∷ told) rest w = (w.0, written-rest answers told rest w.1)
+
 -- an order closes no desk
 order-open : (x : Result Reply Refusal) → is_closed (order_answer x) ≡ false
 order-open (Ok r) = refl

@@ -36,7 +36,7 @@ impl Told {
         }
     }
 
-    /// Keeps a letter, or a stroke where there is no memory.
+    /// Keeps a letter. Where there is no memory for it, none is kept any more.
     fn keep(&mut self, letter: char) {
         if self.letters.push(letter).is_err() {
             self.letters.clear();
@@ -279,14 +279,14 @@ fn counted(desk: &mut CountDesk) -> u64 {
 }
 
 /// Serves lines that come at once, where there is room for so many bytes of replies.
-fn written(alloc: Global, lines: &str, room: usize, replies: &str) -> Written {
+fn written(alloc: Global, lines: &str, room: usize, replies: &[u8]) -> Written {
     let mut pieces = Pieces::new(alloc, lines, 32_768);
     pieces.room = room;
     let mut desk = CountDesk::new(alloc, 0);
     let ended = serve_pieces(alloc, &mut pieces, &mut desk);
     let count = counted(&mut desk);
     drop(desk);
-    let is_so = pieces.written.as_slice() == replies.as_bytes();
+    let is_so = pieces.written.as_slice() == replies;
     let writes = pieces.writes;
     drop(pieces);
     Written {
@@ -297,17 +297,14 @@ fn written(alloc: Global, lines: &str, room: usize, replies: &str) -> Written {
     }
 }
 
-/// So many orders, whose replies find room for so many bytes; a part of all replies that is as long.
+/// Serves so many orders, where there is room for so many bytes of their replies.
 fn orders_written(alloc: Global, count: u64, room: usize) -> Result<Written, AllocError> {
     let mut lines = String::new(alloc);
     let mut replies = String::new(alloc);
     let pushed = push_lines(&mut lines, ORDER, count).is_ok()
         && push_done(&mut replies, 1, count).is_ok();
-    let part = match replies.get(..room.min(replies.len())) {
-        Some(part) => part,
-        None => "",
-    };
-    let written = written(alloc, &lines, room, part);
+    let part = room.min(replies.len());
+    let written = written(alloc, &lines, room, &replies.as_bytes()[..part]);
     drop(lines);
     drop(replies);
     if pushed { Ok(written) } else { Err(AllocError) }
@@ -347,7 +344,7 @@ fn is_closed_behind_nine(alloc: Global) -> Result<bool, AllocError> {
         && lines.push_str(CLOSE).is_ok()
         && push_done(&mut replies, 1, 9).is_ok()
         && replies.push_str("{\"kind\":\"closed\"}\n").is_ok();
-    let nine = written(alloc, &lines, usize::MAX, &replies);
+    let nine = written(alloc, &lines, usize::MAX, replies.as_bytes());
     drop(lines);
     drop(replies);
     if !pushed {

@@ -12,6 +12,8 @@ mod loopback;
 #[cfg(test)]
 mod memory;
 #[cfg(test)]
+mod pending;
+#[cfg(test)]
 mod printing;
 #[cfg(test)]
 mod rings;
@@ -19,3 +21,5 @@ mod rings;
 mod short_of_memory;
 #[cfg(test)]
 mod slow_output;
+#[cfg(test)]
+mod together;
