@@ -57,9 +57,8 @@ module _ {D P : Type 0} (replies : D → P → Result Reply Refusal → D → Ty
 -- ---- all were replied to
 
 module _ {D P : Type 0} (answers : D → Request → Answer → D → Type 0) (posts : D → Request → P → D → Type 0) (replies : D → P → Result Reply Refusal → D → Type 0)
-  (is_answered : (a b c : D) (r : Request) (p : P) (x : Result Reply Refusal) → posts a r p b → replies b p x c → answers a r (order_answer x) c)
-  (stays_apart : (a b c : D) (r : Request) (p q : P) (x : Result Reply Refusal) → posts a r q b → replies b p x c → (m : D) × replies a p x m × posts m r q c) where
-
+    (is_answered : (a b c : D) (r : Request) (p : P) (x : Result Reply Refusal) → posts a r p b → replies b p x c → answers a r (order_answer x) c)
+    (stays_apart : (a b c : D) (r : Request) (p q : P) (x : Result Reply Refusal) → posts a r q b → replies b p x c → (m : D) × replies a p x m × posts m r q c) where
   all-answered : (d e f : D) (lines : List Line) (posted : List P) (results : List (Result Reply Refusal)) → AwaitReplies posts d lines posted e → AllReplied replies e posted results f → AllGet answers d lines (map order_answer results) f
   all-answered d e f lines posted results h replied =
       all-ordered answers d f lines h.0 results h.1 (answers_in_turn answers posts replies is_answered stays_apart d e f h.0 posted results h.2 replied)

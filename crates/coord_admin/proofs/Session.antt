@@ -39,7 +39,7 @@ module _ {D P : Type 0} (answers : D → Request → Answer → D → Type 0) (p
   goes-answered d e lines told posted h none = (lines, [], e, sym (append-nil lines), h, await-none e posted none)
 
   pub goes-told : (d f e : D) (lines : List Line) (line : Line) (told : List Answer) (a : Answer) (posted : List P) → AllGet answers d lines told f → Gets answers f line a e → is_closed a ≡ false → posted ≡ [] → GoesOn answers posts d (lines ++ line ∷ []) (told ++ a ∷ []) posted e
-  goes-told d f e lines line told a posted h gets open none = goes-answered d e (lines ++ line ∷ []) (told ++ a ∷ []) posted (all-one answers d f e lines told line a h gets open) none
+  goes-told d f e lines line told a posted h gets goes_on none = goes-answered d e (lines ++ line ∷ []) (told ++ a ∷ []) posted (all-one answers d f e lines told line a h gets goes_on) none
 
   -- one more line came
   pub goes-further : (d e h : D) (lines : List Line) (line : Line) (told more : List Answer) (posted later : List P) → (g : GoesOn answers posts d lines told posted e) → GoesOn answers posts g.2 (g.1 ++ line ∷ []) more later h → GoesOn answers posts d (lines ++ line ∷ []) (told ++ more) later h

@@ -8,9 +8,8 @@ use Rattle.coord_admin.specs.Replies.{order_answer}
 use Rattle.coord_admin.specs.Together.{AllAnswered, AllPosted, AllReplied, AnswersInTurn}
 
 module _ {D P : Type 0} (answers : D → Request → Answer → D → Type 0) (posts : D → Request → P → D → Type 0) (replies : D → P → Result Reply Refusal → D → Type 0)
-  (is_answered : (a b c : D) (r : Request) (p : P) (x : Result Reply Refusal) → posts a r p b → replies b p x c → answers a r (order_answer x) c)
-  (stays_apart : (a b c : D) (r : Request) (p q : P) (x : Result Reply Refusal) → posts a r q b → replies b p x c → (m : D) × replies a p x m × posts m r q c) where
-
+    (is_answered : (a b c : D) (r : Request) (p : P) (x : Result Reply Refusal) → posts a r p b → replies b p x c → answers a r (order_answer x) c)
+    (stays_apart : (a b c : D) (r : Request) (p q : P) (x : Result Reply Refusal) → posts a r q b → replies b p x c → (m : D) × replies a p x m × posts m r q c) where
   moved : (orders : List Request) (posted : List P) (p : P) (x : Result Reply Refusal) (a b c : D) → AllPosted posts a orders posted b → replies b p x c → (m : D) × replies a p x m × AllPosted posts m orders posted c
   moved [] [] p x a b c same replied = (c, subst (λ s. replies s p x c) same replied, refl)
   moved [] (q ∷ posted) p x a b c none replied = absurd none

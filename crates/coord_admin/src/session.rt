@@ -61,13 +61,7 @@ pub fn serve<C: Duplex, D: Desk>(
 {
     let mut buffer = vec![in alloc; 0; READ_LEN]?;
     let mut queue = Queue::new(alloc)?;
-    let ended = serve_lines(
-        alloc,
-        buffer.as_mut_slice(),
-        &mut queue,
-        connection,
-        desk,
-    );
+    let ended = serve_lines(alloc, buffer.as_mut_slice(), &mut queue, connection, desk);
     queue.destroy();
     ended
 }

@@ -88,12 +88,7 @@ impl<D: Disk, L: Origin> Engine<D, L> {
 
     /// Accepts a step as `submit` does, and lets the flusher sleep: whoever posts steps that come
     /// together wakes it behind the last, so that one flight takes them.
-    pub fn post<R: Wait>(
-        &self,
-        rt: &R,
-        step: Step,
-        mine: &mut Share<L>,
-    ) -> Result<Ticket, Refusal>
+    pub fn post<R: Wait>(&self, rt: &R, step: Step, mine: &mut Share<L>) -> Result<Ticket, Refusal>
         ensures { AtSomeMoment (based_on D.keeps_model D.present L.base L.before)
             (Submits {D = D} step result mine.old mine.new) }
     {

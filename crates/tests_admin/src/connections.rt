@@ -206,10 +206,9 @@ fn ask_on<R: Clock>(rt: &R, stream: &mut TcpStream) -> u64 {
 }
 
 /// Whether a client that asks on is answered for longer than it may be silent.
-fn is_answered_on<R: Net<Stream = TcpStream, Listener = TcpListener> + Threads + Clock + Sync + Abort>(
-    rt: &R,
-    alloc: Global,
-) -> bool {
+fn is_answered_on<
+    R: Net<Stream = TcpStream, Listener = TcpListener> + Threads + Clock + Sync + Abort,
+>(rt: &R, alloc: Global) -> bool {
     let mut patience = Patience::usual();
     patience.silence = Duration::from_millis(1_000);
     let (listener, address) = listens(rt);

@@ -331,7 +331,10 @@ fn behind_failure<T: Clock>(rt: &T, alloc: Global, code: i32) -> Met {
 #[test]
 fn failures_to_accept_that_pass(rt: HostRuntime) {
     for code in PASSING {
-        assert!(rt; behind_failure(&rt, rt.alloc(), code) == closed_as(2), "{code}");
+        assert!(rt;
+            behind_failure(&rt, rt.alloc(), code) == closed_as(2),
+            "{code}"
+        );
     }
 }
 
@@ -339,7 +342,10 @@ fn failures_to_accept_that_pass(rt: HostRuntime) {
 #[test]
 fn failures_to_accept_that_last(rt: HostRuntime) {
     for code in LASTING {
-        assert!(rt; behind_failure(&rt, rt.alloc(), code) == broken_as(1), "{code}");
+        assert!(rt;
+            behind_failure(&rt, rt.alloc(), code) == broken_as(1),
+            "{code}"
+        );
     }
 }
 
