@@ -2,6 +2,6 @@ pub mod Computes
 pub mod NoFloats
 pub mod Together
 pub mod Stream
-pub mod Queue
-pub mod Session
+pub mod Waiting
+pub mod Pieces
 pub mod Served

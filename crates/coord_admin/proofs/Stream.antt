@@ -1,11 +1,15 @@
 -- What was served, where more is read.
-use Rattle.std.proofs.Common.{◌≡◌, ◌≢◌, ◌⊎◌, ℕ, ◌<◌, Bool, true, false, List, [], ◌∷◌, ◌++◌, length, map, Some, Result, Ok, Err, IfOk, String, Global, string_bytes, refl, sym, ap, ◌∙◌, subst, append_assoc, append-nil, arith, take, inl, inr}
+use Rattle.std.proofs.Common.{◌≡◌, ◌≢◌, ◌⊎◌, ℕ, ◌<◌, Bool, true, false, List, [], ◌∷◌, ◌++◌, length, map, Some, Result, Ok, Err, IfOk, String, Global, string_bytes, refl, sym, ap, ◌∙◌, subst, append_assoc, append-nil, arith, take, drop, suc, get_or, ◌+◌, inl, inr}
 use Rattle.std.specs.List.{slice_split}
+use Rattle.std.proofs.Math.Seq.{take-suc}
+use Rattle.std.proofs.lemmas.Grind.{common_steps}
+use Rattle.std.proofs.lemmas.List.{take-append-drop}
 use Rattle.std.proofs.lemmas.List.Splits.{length-slice_split}
 use Rattle.coord_lines.specs.Lines.{Line, IsWithin, is_line_feed, line_of, lines_of, extended, going_on, lines_on, before_line_feed, behind_line_feed}
 use Rattle.coord_lines.specs.Written.{IsFirstPart}
 use Rattle.coord_lines.proofs.LinesOn.{lines_on-ended, extended-nothing}
 use Rattle.coord_types.specs.declared.refusals.Refusal.{Refusal}
+use Rattle.coord_types.specs.declared.refusals.Refusal.TheVariants as refusal
 use Rattle.coord_types.specs.declared.steps.Reply.{Reply}
 use Rattle.coord_admin.specs.declared.request.Request.{Request}
 use Rattle.coord_admin.specs.declared.answer.Answer.{Answer}
@@ -59,6 +63,17 @@ written-on [] (t ∷ told) answer a w one = absurd w
 written-on (x ∷ answers) [] answer a w one = absurd w
 written-on (x ∷ answers) (t ∷ told) answer a w one = (w.0, written-on answers told answer a w.1 one)
 
+-- the next one of them is told
+pub written-next : (answers told : List Answer) (answer a : Answer) (i : ℕ) → i < length answers → answer ≡ get_or answers i answer → AreWritten (take i answers) told → IsWritten answer a → AreWritten (take (i + 1) answers) (told ++ a ∷ [])
+written-next answers told answer a i below is w one =
+    let next : i + 1 ≡ suc i = omega arith in
+    let more : take (i + 1) answers ≡ take i answers ++ answer ∷ [] = ap (λ n. take n answers) next ∙ take-suc answers i answer below ∙ ap (λ x. take i answers ++ x ∷ []) (sym is) in
+    subst (λ l. AreWritten l (told ++ a ∷ [])) (sym more) (written-on (take i answers) told answer a w one)
+
+-- all of them
+pub all-taken : (answers : List Answer) (i : ℕ) → ¬ (i < length answers) → take i answers ≡ answers
+all-taken answers i over = grind (arith, common_steps)
+
 -- each may be told itself
 as_they_are : (answers : List Answer) → AreWritten answers answers
 as_they_are [] = tt
@@ -70,10 +85,60 @@ written-rest [] (t ∷ told) rest w = absurd w
 written-rest (x ∷ answers) [] rest w = absurd w
 written-rest (x ∷ answers) (t ∷ told) rest w = (w.0, written-rest answers told rest w.1)
 
+-- a text that is to be written, with one more line, of which a part was written
+pub text-on : (told : List Answer) (a : Answer) (out more text later line : List ℕ) → reply_lines told ≡ out ++ text → line ≡ reply_line a → text ++ line ≡ more ++ later → reply_lines (told ++ a ∷ []) ≡ (out ++ more) ++ later
+text-on told a out more text later line so_far is cut =
+    sym (reply_lines-one told a)
+    ∙ ap (λ l. l ++ reply_line a) so_far
+    ∙ append_assoc out text (reply_line a)
+    ∙ ap (λ l. out ++ (text ++ l)) (sym is)
+    ∙ ap (λ l. out ++ l) cut
+    ∙ sym (append_assoc out more later)
+
+-- the rest of a text was not written whole
+pub part-at_end : (told : List Answer) (out part text : List ℕ) → reply_lines told ≡ out ++ text → IsFirstPart part text → IsFirstPart (out ++ part) (reply_lines told)
+part-at_end told out part text so_far p = (p.0, so_far ∙ ap (λ l. out ++ l) p.1 ∙ sym (append_assoc out part p.0))
+
+-- nor was a text with one more line; what is told of the others is not known
+pub part-within : (answers told : List Answer) (a : Answer) (out part text line : List ℕ) (i : ℕ) → AreWritten (take (i + 1) answers) (told ++ a ∷ []) → reply_lines told ≡ out ++ text → line ≡ reply_line a → IsFirstPart part (text ++ line)
+    → (all : List Answer) × AreWritten answers all × IsFirstPart (out ++ part) (reply_lines all)
+part-within answers told a out part text line i w so_far is p =
+    let others = drop (i + 1) answers in (
+      (told ++ a ∷ []) ++ others,
+      subst (λ l. AreWritten l ((told ++ a ∷ []) ++ others)) (take-append-drop (i + 1) answers) (written-rest (take (i + 1) answers) (told ++ a ∷ []) others w),
+      (
+        p.0 ++ reply_lines others,
+        reply_lines-append (told ++ a ∷ []) others
+            ∙ ap (λ l. l ++ reply_lines others) (text-on told a out part text p.0 line so_far is p.1)
+            ∙ append_assoc (out ++ part) p.0 (reply_lines others),
+      ),
+    )
+
 -- an order closes no desk
 order-open : (x : Result Reply Refusal) → is_closed (order_answer x) ≡ false
 order-open (Ok r) = refl
-order-open (Err r) = grind
+order-open (Err refusal.Stopped) = refl
+order-open (Err refusal.OutOfMemory) = refl
+order-open (Err refusal.Exhausted) = refl
+order-open (Err refusal.OutOfTurn) = refl
+order-open (Err refusal.NumberReused) = refl
+order-open (Err refusal.UnknownNode) = refl
+order-open (Err refusal.NodeExists) = refl
+order-open (Err refusal.HasLinks) = refl
+order-open (Err refusal.SameNode) = refl
+order-open (Err refusal.OtherGroup) = refl
+order-open (Err refusal.LinkExists) = refl
+order-open (Err refusal.NoLink) = refl
+order-open (Err refusal.DegreeFull) = refl
+order-open (Err refusal.LinksFull) = refl
+order-open (Err refusal.BadEpoch) = refl
+order-open (Err refusal.Old) = refl
+order-open (Err refusal.Early) = refl
+order-open (Err refusal.Differs) = refl
+order-open (Err refusal.NotReleased) = refl
+order-open (Err refusal.PendingFull) = refl
+order-open (Err (refusal.Behind settled)) = refl
+order-open (Err refusal.Stranger) = refl
 
 stays_open : (answer : Answer) → takes_memory answer ≡ true → is_closed answer ≡ false
 stays_open (Replied r) e = refl
@@ -183,14 +248,14 @@ module _ {D : Type 0} (answers : D → Request → Answer → D → Type 0) wher
   breaks-among d e line lines left [] part posted h is_part = absurd h
   breaks-among d e line [] left (a ∷ []) part posted h is_part = breaks-first d h.0 e line [] left a [] part (inl refl) h.1 h.3 (is_part.0, sym (append-nil (reply_line a)) ∙ is_part.1)
   breaks-among d e line [] left (a ∷ b ∷ told) part posted h is_part = absurd h.3
-  breaks-among d e line (next ∷ lines) left (a ∷ told) part posted h is_part = by (first_part_of_two part (reply_line a) (reply_lines told) is_part)
+  breaks-among d e line (next ∷ lines) left (a ∷ told) part posted h is_part =
+      by (λ more more_part. breaks-among h.0 e next lines left told more (posted-tail line (next ∷ lines) posted) h.3 more_part) (first_part_of_two part (reply_line a) (reply_lines told) is_part)
     where
-      by : IsFirstPart part (reply_line a) ⊎ ((more : List ℕ) × (part ≡ reply_line a ++ more) × IsFirstPart more (reply_lines told)) → BreaksOff answers d (line ∷ next ∷ lines ++ left) part e
-      by (inl first) = breaks-first d h.0 e line (next ∷ lines) left a told part (inr posted) h.1 h.3 first
-      by (inr on) =
-          let rest = breaks-among h.0 e next lines left told on.0 (posted-tail line (next ∷ lines) posted) h.3 on.2 in
+      by : ((more : List ℕ) → IsFirstPart more (reply_lines told) → BreaksOff answers h.0 (next ∷ lines ++ left) more e) → IsFirstPart part (reply_line a) ⊎ ((more : List ℕ) × (part ≡ reply_line a ++ more) × IsFirstPart more (reply_lines told)) → BreaksOff answers d (line ∷ next ∷ lines ++ left) part e
+      by later (inl first) = breaks-first d h.0 e line (next ∷ lines) left a told part (inr posted) h.1 h.3 first
+      by later (inr on) =
           subst (λ p. BreaksOff answers d (line ∷ next ∷ lines ++ left) p e) (ap (λ l. l ++ on.0) (append-nil (reply_line a)) ∙ sym on.1)
-          (breaks-behind d h.0 e (line ∷ next ∷ lines ++ left) (next ∷ lines ++ left) (line ∷ []) (a ∷ []) on.0 (h.0, h.1, h.2, refl) refl rest)
+          (breaks-behind d h.0 e (line ∷ next ∷ lines ++ left) (next ∷ lines ++ left) (line ∷ []) (a ∷ []) on.0 (h.0, h.1, h.2, refl) refl (later on.0 on.2))
 
   -- ---- one more line
 

@@ -1,7 +1,7 @@
 -- What follows a failure to accept, by accept(2) of Linux.
 use Rattle.std.specs.Prelude.{ℕ, ℤ, pos, int_lt, unsigned_abs, List, [], ◌∷◌, Option, Some, None, if◌then◌else◌, ◌==◌}
-use Rattle.std.specs.declared.io.kind.ErrorKind.{ErrorKind}
-use Rattle.std.specs.declared.io.kind.ErrorKind.TheVariants as kind
+use Rattle.std.specs.declared.io.ErrorKind.{ErrorKind}
+use Rattle.std.specs.declared.io.ErrorKind.TheVariants as kind
 use Rattle.coord_admin.specs.declared.accepting.Failure.{Failure}
 use Rattle.coord_admin.specs.declared.accepting.Failure.TheVariants.{OfClient, OfMeans, OfListener}
 

@@ -5,6 +5,7 @@ pub mod Together
 pub mod Stream
 pub mod Connections
 pub mod CountDesk
+pub mod Counted
 pub mod WorkedLines
 pub mod Accepting
 pub mod Times

@@ -11,7 +11,7 @@ use crate::request::Request;
 use coord_types::{Refusal, Reply};
 
 /// The answer to what a line asks for, or to its fault, for which the desk is not asked.
-pub fn answer<D: Desk>(desk: &mut D, asked: Result<Request, LineFault>) -> Answer
+pub fn answer_to<D: Desk>(desk: &mut D, asked: Result<Request, LineFault>) -> Answer
     ensures { MayAnswer D.answers desk.old asked result desk.new }
 {
     match asked {

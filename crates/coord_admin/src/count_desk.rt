@@ -40,7 +40,7 @@ pub struct Counted {
 }
 
 impl Desk for CountDesk {
-    ghost use Rattle.std.proofs.Common.{refl};
+    ghost use Rattle.coord_admin.specs.Counted.{counted_answered, counted_apart};
 
     type Posted = Counted;
 
@@ -86,7 +86,8 @@ impl Desk for CountDesk {
 
     fn close(&mut self) {}
 
-    ghost is_answered = { ? };
+    ghost is_answered = { λ a b c r p x put replied. counted_answered a b c r p.reply x put replied };
 
-    ghost stays_apart = { ? };
+    ghost stays_apart = { λ a b c r p q x put replied.
+        counted_apart a b c r p.reply q.reply x put replied };
 }

@@ -1,23 +1,23 @@
 //! Orders that were posted and wait for their replies.
 
-ghost use Rattle.std.specs.Prelude.{◌≡◌, ◌+◌, ◌<◌, ◌≤◌, ◌++◌, ◌∷◌, [], List, ℕ, map, IfOk, OnErr, OnOk, Result, vec_capacity, vec_len};
+ghost use Rattle.std.specs.Prelude.{◌≡◌, ◌+◌, ◌<◌, ◌≤◌, ◌++◌, ◌∷◌, true, [], List, ℕ, map, IfOk, OnErr, OnOk, Result, vec_capacity, vec_len};
 ghost use Rattle.std.specs.VecDeque.{deque_capacity, deque_len};
 ghost use Rattle.coord_lines.specs.Lines.{Line};
 ghost use Rattle.coord_types.specs.declared.limits.TheConstants.{MAX_BATCH_STEPS};
 ghost use Rattle.coord_types.specs.declared.refusals.Refusal.{Refusal};
 ghost use Rattle.coord_types.specs.declared.steps.Reply.{Reply};
 ghost use Rattle.coord_admin.specs.declared.answer.Answer.{Answer};
-ghost use Rattle.coord_admin.specs.declared.request.Request.TheVariants as request;
 ghost use Rattle.coord_admin.specs.Replies.{order_answer, reply_lines};
 ghost use Rattle.coord_admin.specs.Stream.{AllGet, BreaksOff, GoesOn};
-ghost use Rattle.coord_admin.specs.Together.{AllReplied, AwaitReplies};
+ghost use Rattle.coord_admin.specs.Together.{AllReplied, AwaitReplies, is_order};
 
 use crate::answer::Answer;
 use crate::asking::order_answer;
 use crate::desk::Desk;
 use crate::duplex::{Duplex, NotWritten};
+use crate::request::Request;
 use crate::writing::write_answers;
-use coord_types::{Client, Command, MAX_BATCH_STEPS};
+use coord_types::MAX_BATCH_STEPS;
 use std::alloc::{AllocError, Global};
 use std::collections::VecDeque;
 
@@ -52,13 +52,19 @@ impl<D: Desk> Queue<D> {
     }
 
     /// Posts an order.
-    pub fn post(&mut self, desk: &mut D, client: Client, number: u64, command: Command)
-        requires { deque_len self.old.posted < MAX_BATCH_STEPS }
-        ensures { (p : D.Posted) × D.posts desk.old (request.Order client number command) p desk.new ×
+    pub fn post(&mut self, desk: &mut D, order: Request)
+        requires room { deque_len self.old.posted < MAX_BATCH_STEPS }
+        requires order { is_order order ≡ true }
+        ensures { (p : D.Posted) × D.posts desk.old order p desk.new ×
             (self.new.posted.items ≡ self.old.posted.items ++ p ∷ []) }
     {
-        let order = desk.post(client, number, command);
-        self.posted.push_back_reserved(order);
+        match order {
+            Request::Order(client, number, command) => {
+                let posted = desk.post(client, number, command);
+                self.posted.push_back_reserved(posted);
+            }
+            _ => unreachable!(),
+        }
     }
 
     /// Answers all where they are as many as a flight takes.

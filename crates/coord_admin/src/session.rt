@@ -1,6 +1,6 @@
 //! Lines read from a connection, each answered to it.
 
-ghost use Rattle.std.specs.Prelude.{◌≡◌, ◌++◌, ◌∷◌, ◌<◌, [], length, List, ℕ, Ok, OnOk, OnErr, IfOk, true, false};
+ghost use Rattle.std.specs.Prelude.{◌≡◌, ◌++◌, ◌∷◌, ◌<◌, [], length, List, ℕ, Ok, OnOk, OnErr, IfOk, true, false, vec_len};
 ghost use Rattle.std.specs.Option.{option_copied};
 ghost use Rattle.coord_lines.specs.Lines.{Line, lines_on, IsWithin};
 ghost use Rattle.coord_admin.specs.declared.answer.Answer.{Answer};
@@ -11,16 +11,15 @@ ghost use Rattle.coord_admin.specs.Replies.{reply_line, reply_lines};
 ghost use Rattle.coord_admin.specs.Stream.{last_answers, Gets, GoesOn, AllGet, Closes, BreaksOff, Served, WritesPart, has_begun};
 ghost use Rattle.coord_admin.specs.Together.{AwaitReplies};
 
-use crate::asking::answer;
+use crate::asking::answer_to;
 use crate::desk::Desk;
 use crate::duplex::{Duplex, NotWritten};
 use crate::fault::{LineFault, ServeFault};
 use crate::queue::Queue;
 use crate::reading::read_line;
-use crate::request::Request;
 use crate::writing::write_answer;
 use coord_lines::LineBuffer;
-use std::alloc::Global;
+use std::alloc::{AllocError, Global};
 
 /// The most reads of one call of `serve`.
 pub const MOST_READS: u64 = 1_048_576;
@@ -59,11 +58,20 @@ pub fn serve<C: Duplex, D: Desk>(
         × Served D.answers desk.old seen text result desk.new }
     ensures end { result ≡ Ok Input → C.has_ended connection.new }
 {
-    let mut buffer = vec![in alloc; 0; READ_LEN]?;
-    let mut queue = Queue::new(alloc)?;
+    let (mut buffer, mut queue) = room(alloc)?;
     let ended = serve_lines(alloc, buffer.as_mut_slice(), &mut queue, connection, desk);
     queue.destroy();
     ended
+}
+
+/// What `serve` takes of memory before it reads: a buffer, and a queue without orders.
+fn room<D: Desk>(alloc: Global) -> Result<(Vec<u8>, Queue<D>), AllocError>
+    ensures buffer { IfOk result (λ room. 0 < vec_len room.0) }
+    ensures queue { IfOk result (λ room. room.1.posted.items ≡ []) }
+{
+    let buffer = vec![in alloc; 0; READ_LEN]?;
+    let queue = Queue::new(alloc)?;
+    Ok((buffer, queue))
 }
 
 /// Reads into a buffer, as often as `serve` may.
@@ -176,14 +184,14 @@ fn end_line<C: Duplex, D: Desk>(
     ensures empty { OnErr result (queue.new.posted.items ≡ []) }
 {
     match read_line(alloc, line) {
-        Ok(Request::Order(client, number, command)) => {
+        Ok(request) if request.is_order() => {
             queue.make_room(alloc, connection, desk)?;
-            queue.post(desk, client, number, command);
+            queue.post(desk, request);
             Ok(false)
         }
         asked => {
             queue.answer_all(alloc, connection, desk)?;
-            let answer = answer(desk, asked);
+            let answer = answer_to(desk, asked);
             write_answer(alloc, connection, &answer)?;
             Ok(answer.is_closed())
         }

@@ -42,7 +42,8 @@ seen_after (Err refusal) seen = seen
 abbrev pub Replies : {D : Type 0} → Basis D → Result Claim Refusal → Result Reply Refusal → Type 0
 Replies {D} b (Ok claim) (Ok reply) = AtSomeMoment b (λ g. CollectsAs {D = D} g.ledger claim (Settled reply))
 Replies {D} b (Ok claim) (Err refusal) = AtSomeMoment b (λ g. CollectsAs {D = D} g.ledger claim (Refused refusal claim))
-Replies {D} b (Err why) reply = reply ≡ Err why
+Replies {D} b (Err why) (Ok reply) = ⊥
+Replies {D} b (Err why) (Err refusal) = refusal ≡ why
 
 -- the settled world is shown, of which the desk has seen no more
 abbrev pub ShowsTo : {D : Type 0} → Basis D → Result shown.Shown Refusal → ℕ → ℕ → Type 0

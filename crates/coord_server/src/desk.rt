@@ -109,7 +109,7 @@ fn resend<D: Disk, L: Origin, P: Port, R: Wait>(
 impl<'a, D: Disk, L: Origin, P: Port, R: Wait> Desk for EngineDesk<'a, D, L, P, R> {
     ghost use Rattle.coord_engine.specs.State.{based_on};
     ghost use Rattle.coord_server.specs.EngineDesk.{DeskAnswers, DeskPosts, DeskReplies};
-    ghost use Rattle.coord_server.proofs.Orders.{desk_answered, desk_apart};
+    ghost use Rattle.coord_server.specs.Halves.{desk_answered, desk_apart};
 
     /// A ticket for the reply, or why the order was refused.
     type Posted = Result<Ticket, Refusal>;

@@ -1,12 +1,9 @@
-use Rattle.std.proofs.Common.{◌++◌, [], ◌∷◌, Some, rules, refl, sym, ap, ◌∙◌, subst, append_assoc, append-nil}
+use Rattle.std.proofs.Common.{◌++◌, [], ◌∷◌, Some, rules, refl, sym, ap, ◌∙◌, append_assoc, append-nil}
 use Rattle.std.specs.Option.{option_copied}
 use Rattle.coord_lines.specs.Lines.{lines_on}
 use Rattle.coord_lines.proofs.LinesOn.{lines_on-unended}
-use Rattle.coord_admin.specs.declared.answer.Answer.TheVariants.{Closed}
-use Rattle.coord_admin.specs.Replies.{reply_line, reply_lines}
-use Rattle.coord_admin.specs.Stream.{BreaksOff}
-use Rattle.coord_admin.proofs.Session.{goes-all, goes-broken, goes-closed, goes-further, goes-none}
-use Rattle.coord_admin.proofs.Stream.{line_ended, told-all, told-on}
+use Rattle.coord_admin.proofs.Pieces.{goes-all, goes-further, goes-none, piece-broken, piece-closed}
+use Rattle.coord_admin.proofs.Stream.{line_ended, told-all}
 use Rattle.coord_admin.proofs.session.take.Goals as goal
 
 pub loop-behind-init : goal.loop-behind-init
@@ -21,12 +18,10 @@ returns-in_err-closed-clause-failed g c =
     let behind = c.in-Some.behind.now in
     let ended = line_ended g.D.Desk.answers c.loop-behind.line c.loop-behind.rest.now [] behind line c.in-Some.ensures.behind (c.get.ensures.line ∙ c.take.ensures.line) in
     let same = ap (lines_on first) (sym (append-nil c.args.piece.now)) ∙ inv.4 [] ∙ ap (λ l. inv.0 ++ l) ended in
-    let left = line ∷ lines_on (Some []) (behind ++ []) in
-    let broken = c.in_err-closed.ensures.failed goes.2 goes.1 goes.5 in (
-      reply_lines inv.1 ++ broken.0,
-      told-on g.C.Duplex.exchanged g.met.C.Duplex.in_turn _ _ _ [] (reply_lines inv.1) broken.0 inv.3 broken.1,
-      subst (λ ls. BreaksOff g.D.Desk.answers c.args.desk.now ls (reply_lines inv.1 ++ broken.0) _) (sym same) (goes-broken g.D.Desk.answers g.D.Desk.posts _ _ _ inv.0 left inv.1 _ broken.0 goes (broken.2 (lines_on (Some []) (behind ++ [])))),
-    )
+    let rest = lines_on (Some []) (behind ++ []) in
+    let broken = c.in_err-closed.ensures.failed goes.2 goes.1 goes.5 in
+    let part = piece-broken g.D.Desk.answers g.D.Desk.posts g.C.Duplex.exchanged g.met.C.Duplex.in_turn c.args.desk.now _ _ _ _ _ (lines_on first c.args.piece.now) inv.0 (line ∷ rest) inv.1 _ goes inv.3 same (broken.0, broken.1, broken.2 rest) in
+    search rules
 
 pub returns-then-closed-clause-closed : goal.returns-then-closed-clause-closed
 returns-then-closed-clause-closed g c =
@@ -38,11 +33,7 @@ returns-then-closed-clause-closed g c =
     let ended = line_ended g.D.Desk.answers c.loop-behind.line c.loop-behind.rest.now [] behind line c.in-Some.ensures.behind (c.get.ensures.line ∙ c.take.ensures.line) in
     let same = ap (lines_on first) (sym (append-nil c.args.piece.now)) ∙ inv.4 [] ∙ ap (λ l. inv.0 ++ l) ended in
     let now = c.in_ok-closed.ensures.closed c.if-closed.true goes.2 goes.1 goes.5 in
-    λ _. (
-      reply_lines inv.1 ++ reply_lines now.0 ++ reply_line Closed,
-      told-on g.C.Duplex.exchanged g.met.C.Duplex.in_turn _ _ _ [] (reply_lines inv.1) (reply_lines now.0 ++ reply_line Closed) inv.3 now.4,
-      goes-closed g.D.Desk.answers g.D.Desk.posts _ _ now.1 _ (lines_on first c.args.piece.now) inv.0 line (behind ++ []) inv.1 now.0 _ goes same now.2 now.3,
-    )
+    λ _. piece-closed g.D.Desk.answers g.D.Desk.posts g.C.Duplex.exchanged g.met.C.Duplex.in_turn c.args.desk.now _ _ _ _ _ (lines_on first c.args.piece.now) inv.0 line (behind ++ []) inv.1 _ goes inv.3 same now
 
 pub loop-behind-preserved : goal.loop-behind-preserved
 loop-behind-preserved g c =
@@ -67,14 +58,12 @@ returns-in_err-answer_all-clause-failed g c =
     let inv = c.loop-behind.invariant in
     let goes = inv.2 in
     let first = c.args.line.now in
-    let left = lines_on c.take.new.line [] in
+    let rest = lines_on c.take.new.self [] in
     let unended = lines_on-unended c.loop-behind.line c.loop-behind.rest.now [] (sym c.in_default.ensures.behind) ∙ ap (λ l. lines_on l []) (sym c.take.ensures.line) in
     let same = ap (lines_on first) (sym (append-nil c.args.piece.now)) ∙ inv.4 [] ∙ ap (λ l. inv.0 ++ l) unended in
-    let broken = c.in_err-answer_all.ensures.part goes.2 goes.1 goes.5 in (
-      reply_lines inv.1 ++ broken.0,
-      told-on g.C.Duplex.exchanged g.met.C.Duplex.in_turn _ _ _ [] (reply_lines inv.1) broken.0 inv.3 broken.1,
-      subst (λ ls. BreaksOff g.D.Desk.answers c.args.desk.now ls (reply_lines inv.1 ++ broken.0) _) (sym same) (goes-broken g.D.Desk.answers g.D.Desk.posts _ _ _ inv.0 left inv.1 _ broken.0 goes (broken.2 left)),
-    )
+    let broken = c.in_err-answer_all.ensures.part goes.2 goes.1 goes.5 in
+    let part = piece-broken g.D.Desk.answers g.D.Desk.posts g.C.Duplex.exchanged g.met.C.Duplex.in_turn c.args.desk.now _ _ _ _ _ (lines_on first c.args.piece.now) inv.0 rest inv.1 _ goes inv.3 same (broken.0, broken.1, broken.2 rest) in
+    search rules
 
 pub returns-clause-open : goal.returns-clause-open
 returns-clause-open g c =

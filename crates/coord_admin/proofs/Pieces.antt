@@ -8,8 +8,8 @@ use Rattle.coord_admin.specs.Replies.{reply_line, reply_lines}
 use Rattle.coord_admin.specs.Stream.{is_closed, AllGet, BreaksOff, Closes, Gets, GoesOn}
 use Rattle.coord_admin.specs.Requests.{asked_by}
 use Rattle.coord_admin.specs.Together.{AwaitReplies, is_order}
-use Rattle.coord_admin.proofs.Queue.{await-on}
-use Rattle.coord_admin.proofs.Stream.{all-append, all-one, breaks-behind, lines_on-some, text-behind}
+use Rattle.coord_admin.proofs.Waiting.{await-on}
+use Rattle.coord_admin.proofs.Stream.{InTurn, all-append, all-one, breaks-behind, lines_on-some, text-behind, told-on}
 
 module _ {D P : Type 0} (answers : D → Request → Answer → D → Type 0) (posts : D → Request → P → D → Type 0) where
   await-none : (d : D) (posted : List P) → posted ≡ [] → AwaitReplies posts d [] posted d
@@ -62,7 +62,7 @@ module _ {D P : Type 0} (answers : D → Request → Answer → D → Type 0) (p
 
   -- and the next one has closed the desk
   pub goes-closed : (d e f h : D) (all lines : List Line) (line : Line) (behind : List ℕ) (told more : List Answer) (posted : List P) → (g : GoesOn answers posts d lines told posted e) → all ≡ lines ++ line ∷ lines_on (Some []) behind → AllGet answers g.2 g.1 more f → Gets answers f line Closed h
-      → Closes answers d all (reply_lines told ++ reply_lines more ++ reply_line Closed) h
+      → Closes answers d all (reply_lines told ++ (reply_lines more ++ reply_line Closed)) h
   goes-closed d e f h all lines line behind told more posted g same k gets =
       let other = lines_on-some (Some []) behind in (
         told ++ more,
@@ -74,3 +74,20 @@ module _ {D P : Type 0} (answers : D → Request → Answer → D → Type 0) (p
         gets,
         text-behind answers told more (reply_line Closed) (reply_lines more ++ reply_line Closed) refl,
       )
+
+module _ {D P : Type 0} (answers : D → Request → Answer → D → Type 0) (posts : D → Request → P → D → Type 0) {C : Type 0} (exchanged : C → List ℕ → List ℕ → C → Type 0) (turn : InTurn exchanged) where
+  pub piece-broken : (d e h : D) (a b c : C) (all lines left : List Line) (told : List Answer) (posted : List P) → (g : GoesOn answers posts d lines told posted e) → exchanged a [] (reply_lines told) b → all ≡ lines ++ left
+      → (text : List ℕ) × exchanged b [] text c × BreaksOff answers g.2 (g.1 ++ left) text h → (text : List ℕ) × exchanged a [] text c × BreaksOff answers d all text h
+  piece-broken d e h a b c all lines left told posted g written same w = (
+    reply_lines told ++ w.0,
+    told-on exchanged turn a b c [] (reply_lines told) w.0 written w.1,
+    subst (λ ls. BreaksOff answers d ls (reply_lines told ++ w.0) h) (sym same) (goes-broken answers posts d e h lines left told posted w.0 g w.2),
+  )
+
+  pub piece-closed : (d e h : D) (a b c : C) (all lines : List Line) (line : Line) (behind : List ℕ) (told : List Answer) (posted : List P) → (g : GoesOn answers posts d lines told posted e) → exchanged a [] (reply_lines told) b → all ≡ lines ++ line ∷ lines_on (Some []) behind
+      → (more : List Answer) × (f : D) × AllGet answers g.2 g.1 more f × Gets answers f line Closed h × exchanged b [] (reply_lines more ++ reply_line Closed) c → (text : List ℕ) × exchanged a [] text c × Closes answers d all text h
+  piece-closed d e h a b c all lines line behind told posted g written same w = (
+    reply_lines told ++ (reply_lines w.0 ++ reply_line Closed),
+    told-on exchanged turn a b c [] (reply_lines told) (reply_lines w.0 ++ reply_line Closed) written w.4,
+    goes-closed answers posts d e w.1 h all lines line behind told w.0 posted g same w.2 w.3,
+  )

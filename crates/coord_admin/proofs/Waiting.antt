@@ -1,5 +1,6 @@
 -- The queue of orders that were posted: what it holds, and what their replies make of it.
 use Rattle.std.proofs.Common.{◌≡◌, ℕ, ◌<◌, ◌≤◌, true, List, [], ◌∷◌, ◌++◌, length, map, Result, Ok, refl, sym, ap, ◌∙◌, subst, append_assoc, arith}
+use Rattle.std.proofs.lemmas.List.{map-append}
 use Rattle.coord_types.specs.declared.limits.TheConstants.{MAX_BATCH_STEPS}
 use Rattle.coord_types.specs.declared.refusals.Refusal.{Refusal}
 use Rattle.coord_types.specs.declared.steps.Reply.{Reply}
@@ -54,11 +55,34 @@ module _ {D P : Type 0} (replies : D → P → Result Reply Refusal → D → Ty
   replied-on d e f (q ∷ posted) [] p x h reply = absurd h
   replied-on d e f (q ∷ posted) (y ∷ results) p x h reply = (h.0, h.1, replied-on h.0 e f posted results p x h.2 reply)
 
+-- the answers so far, and one more
+pub answers-on : (before now later : List Answer) (results : List (Result Reply Refusal)) (x : Result Reply Refusal) (a : Answer) → now ≡ before ++ map order_answer results → a ≡ order_answer x → later ≡ now ++ a ∷ [] → later ≡ before ++ map order_answer (results ++ x ∷ [])
+answers-on before now later results x a so_far is more =
+    more
+    ∙ ap (λ l. l ++ a ∷ []) so_far
+    ∙ append_assoc before (map order_answer results) (a ∷ [])
+    ∙ ap (λ y. before ++ (map order_answer results ++ y ∷ [])) is
+    ∙ ap (λ l. before ++ l) (sym (map-append order_answer results (x ∷ [])))
+
+pub none-left : {A : Type 0} (xs : List A) → length xs ≡ 0 → xs ≡ []
+none-left [] h = refl
+none-left (x ∷ xs) h = absurd (omega arith)
+
 -- ---- all were replied to
 
 module _ {D P : Type 0} (answers : D → Request → Answer → D → Type 0) (posts : D → Request → P → D → Type 0) (replies : D → P → Result Reply Refusal → D → Type 0)
     (is_answered : (a b c : D) (r : Request) (p : P) (x : Result Reply Refusal) → posts a r p b → replies b p x c → answers a r (order_answer x) c)
     (stays_apart : (a b c : D) (r : Request) (p q : P) (x : Result Reply Refusal) → posts a r q b → replies b p x c → (m : D) × replies a p x m × posts m r q c) where
+  -- none was posted
+  pub none-answered : (d e : D) (lines : List Line) (posted : List P) → posted ≡ [] → AwaitReplies posts d lines posted e → AllGet answers d lines [] e
+  none-answered d e lines posted none h = by lines h.0 h.1 (subst (λ ps. AllPosted posts d h.0 ps e) none h.2)
+    where
+      by : (lines : List Line) (orders : List Request) → AskFor lines orders → AllPosted posts d orders [] e → AllGet answers d lines [] e
+      by [] [] asks same = same
+      by [] (r ∷ orders) asks same = absurd asks
+      by (l ∷ lines) [] asks same = absurd asks
+      by (l ∷ lines) (r ∷ orders) asks put = absurd put
+
   all-answered : (d e f : D) (lines : List Line) (posted : List P) (results : List (Result Reply Refusal)) → AwaitReplies posts d lines posted e → AllReplied replies e posted results f → AllGet answers d lines (map order_answer results) f
   all-answered d e f lines posted results h replied =
       all-ordered answers d f lines h.0 results h.1 (answers_in_turn answers posts replies is_answered stays_apart d e f h.0 posted results h.2 replied)
