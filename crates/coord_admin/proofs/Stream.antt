@@ -1,5 +1,5 @@
 -- What was served, where more is read.
-use Rattle.std.proofs.Common.{◌≡◌, ◌≢◌, ◌⊎◌, ℕ, ◌<◌, Bool, true, false, List, [], ◌∷◌, ◌++◌, length, map, Some, Result, Ok, Err, IfOk, String, Global, string_bytes, refl, sym, ap, ◌∙◌, subst, append_assoc, append-nil, arith, take, drop, suc, get_or, ◌+◌, inl, inr}
+use Rattle.std.proofs.Common.{◌≡◌, ◌≢◌, ◌⊎◌, ℕ, ◌<◌, ◌≤◌, Bool, true, false, List, [], ◌∷◌, ◌++◌, length, map, Some, Result, Ok, Err, IfOk, String, Global, string_bytes, refl, sym, ap, ◌∙◌, subst, append_assoc, append-nil, arith, take, drop, suc, get_or, ◌+◌, inl, inr}
 use Rattle.std.specs.List.{slice_split}
 use Rattle.std.proofs.Math.Seq.{take-suc}
 use Rattle.std.proofs.lemmas.Grind.{common_steps}
@@ -71,7 +71,7 @@ written-next answers told answer a i below is w one =
     subst (λ l. AreWritten l (told ++ a ∷ [])) (sym more) (written-on (take i answers) told answer a w one)
 
 -- all of them
-pub all-taken : (answers : List Answer) (i : ℕ) → ¬ (i < length answers) → take i answers ≡ answers
+pub all-taken : (answers : List Answer) (i : ℕ) → length answers ≤ i → take i answers ≡ answers
 all-taken answers i over = grind (arith, common_steps)
 
 -- each may be told itself

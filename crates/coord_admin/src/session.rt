@@ -1,6 +1,6 @@
 //! Lines read from a connection, each answered to it.
 
-ghost use Rattle.std.specs.Prelude.{◌≡◌, ◌++◌, ◌∷◌, ◌<◌, [], length, List, ℕ, Ok, OnOk, OnErr, IfOk, true, false, vec_len};
+ghost use Rattle.std.specs.Prelude.{◌≡◌, ◌++◌, ◌∷◌, ◌<◌, [], length, List, ℕ, Ok, OnOk, OnErr, IfOk, IfSome, IfNone, true, false, vec_len};
 ghost use Rattle.std.specs.Option.{option_copied};
 ghost use Rattle.coord_lines.specs.Lines.{Line, lines_on, IsWithin};
 ghost use Rattle.coord_admin.specs.declared.answer.Answer.{Answer};
@@ -9,7 +9,7 @@ ghost use Rattle.coord_admin.specs.declared.fault.LineFault.TheVariants.{Unfinis
 ghost use Rattle.coord_admin.specs.declared.session.Ended.TheVariants.{Input};
 ghost use Rattle.coord_admin.specs.Replies.{reply_line, reply_lines};
 ghost use Rattle.coord_admin.specs.Stream.{last_answers, Gets, GoesOn, AllGet, Closes, BreaksOff, Served, WritesPart, has_begun};
-ghost use Rattle.coord_admin.specs.Together.{AwaitReplies};
+ghost use Rattle.coord_admin.specs.Together.{AwaitReplies, is_order};
 
 use crate::asking::answer_to;
 use crate::desk::Desk;
@@ -17,6 +17,7 @@ use crate::duplex::{Duplex, NotWritten};
 use crate::fault::{LineFault, ServeFault};
 use crate::queue::Queue;
 use crate::reading::read_line;
+use crate::request::Request;
 use crate::writing::write_answer;
 use coord_lines::LineBuffer;
 use std::alloc::{AllocError, Global};
@@ -183,18 +184,30 @@ fn end_line<C: Duplex, D: Desk>(
     ensures over { IfOk result (λ closed. closed ≡ true → queue.new.posted.items ≡ []) }
     ensures empty { OnErr result (queue.new.posted.items ≡ []) }
 {
-    match read_line(alloc, line) {
-        Ok(request) if request.is_order() => {
+    let asked = read_line(alloc, line);
+    match order_of(&asked) {
+        Some(order) => {
             queue.make_room(alloc, connection, desk)?;
-            queue.post(desk, request);
+            queue.post(desk, order);
             Ok(false)
         }
-        asked => {
+        None => {
             queue.answer_all(alloc, connection, desk)?;
             let answer = answer_to(desk, asked);
             write_answer(alloc, connection, &answer)?;
             Ok(answer.is_closed())
         }
+    }
+}
+
+/// The order that a line asks for, if it is one.
+fn order_of(asked: &Result<Request, LineFault>) -> Option<Request>
+    ensures some { IfSome result (λ order. (asked.now ≡ Ok order) × (is_order order ≡ true)) }
+    ensures none { IfNone result (IfOk asked.now (λ request. is_order request ≡ false)) }
+{
+    match asked {
+        Ok(request) if request.is_order() => Some(*request),
+        _ => None,
     }
 }
 
