@@ -1,15 +1,15 @@
 -- A piece of the input: its lines have replies, or await them.
-use Rattle.std.proofs.Common.{◌≡◌, ℕ, true, false, List, [], ◌∷◌, ◌++◌, Some, Ok, refl, sym, ap, ◌∙◌, subst, append_assoc, append-nil}
+use Rattle.std.proofs.Common.{◌≡◌, ℕ, true, false, List, [], ◌∷◌, ◌++◌, Some, Ok, inl, refl, sym, ap, ◌∙◌, subst, append_assoc, append-nil}
 use Rattle.coord_lines.specs.Lines.{Line, lines_on}
 use Rattle.coord_admin.specs.declared.request.Request.{Request}
 use Rattle.coord_admin.specs.declared.answer.Answer.{Answer}
 use Rattle.coord_admin.specs.declared.answer.Answer.TheVariants.{Closed}
 use Rattle.coord_admin.specs.Replies.{reply_line, reply_lines}
-use Rattle.coord_admin.specs.Stream.{is_closed, AllGet, BreaksOff, Closes, Gets, GoesOn}
+use Rattle.coord_admin.specs.Stream.{is_closed, AllGet, BreaksOff, Closes, Gets, GoesOn, WritesPart}
 use Rattle.coord_admin.specs.Requests.{asked_by}
 use Rattle.coord_admin.specs.Together.{AwaitReplies, is_order}
 use Rattle.coord_admin.proofs.Waiting.{await-on}
-use Rattle.coord_admin.proofs.Stream.{InTurn, all-append, all-one, breaks-behind, lines_on-some, text-behind, told-on}
+use Rattle.coord_admin.proofs.Stream.{InTurn, all-append, all-one, breaks-behind, closes-told, lines_on-some, text-behind, told-on}
 
 module _ {D P : Type 0} (answers : D → Request → Answer → D → Type 0) (posts : D → Request → P → D → Type 0) where
   await-none : (d : D) (posted : List P) → posted ≡ [] → AwaitReplies posts d [] posted d
@@ -91,3 +91,20 @@ module _ {D P : Type 0} (answers : D → Request → Answer → D → Type 0) (p
     told-on exchanged turn a b c [] (reply_lines told) (reply_lines w.0 ++ reply_line Closed) written w.4,
     goes-closed answers posts d e w.1 h all lines line behind told w.0 posted g same w.2 w.3,
   )
+
+  -- the reply to a line behind those that have theirs was not written whole
+  pub line-broken : (d f e : D) (a b c : C) (lines : List Line) (line : Line) (told : List Answer) → AllGet answers d lines told f → exchanged a [] (reply_lines told) b → (x : Answer) × Gets answers f line x e × WritesPart exchanged b c (reply_line x)
+      → (text : List ℕ) × exchanged a [] text c × ((left : List Line) → BreaksOff answers d (lines ++ line ∷ left) text e)
+  line-broken d f e a b c lines line told h written w = (
+    reply_lines told ++ w.2.0,
+    told-on exchanged turn a b c [] (reply_lines told) w.2.0 written w.2.1,
+    λ left. (told, line, [], left, f, e, w.0, [], w.2.0, (lines, refl, h), inl w.1, refl, inl refl, w.2.2, refl),
+  )
+
+  -- or that line has closed the desk
+  pub line-closed : (f e : D) (a b c : C) (line : Line) (told : List Answer) (x : Answer) → is_closed x ≡ true → Gets answers f line x e → exchanged a [] (reply_lines told) b → exchanged b [] (reply_line x) c → Gets answers f line Closed e × exchanged a [] (reply_lines told ++ reply_line Closed) c
+  line-closed f e a b c line told x closed gets written now =
+      let same = closes-told x closed in (
+        subst (λ y. Gets answers f line y e) same gets,
+        told-on exchanged turn a b c [] (reply_lines told) (reply_line Closed) written (subst (λ y. exchanged b [] (reply_line y) c) same now),
+      )

@@ -1,11 +1,11 @@
 -- A reply moves before all that was posted behind its order.
-use Rattle.std.proofs.Common.{◌≡◌, List, [], ◌∷◌, map, Result, refl, sym, ◌∙◌, subst}
+use Rattle.std.proofs.Common.{List, [], ◌∷◌, Result, refl, ◌∙◌, subst}
 use Rattle.coord_types.specs.declared.refusals.Refusal.{Refusal}
 use Rattle.coord_types.specs.declared.steps.Reply.{Reply}
 use Rattle.coord_admin.specs.declared.request.Request.{Request}
 use Rattle.coord_admin.specs.declared.answer.Answer.{Answer}
 use Rattle.coord_admin.specs.Replies.{order_answer}
-use Rattle.coord_admin.specs.Together.{AllAnswered, AllPosted, AllReplied, AnswersInTurn}
+use Rattle.coord_admin.specs.Together.{AllPosted, AnswersInTurn}
 
 module _ {D P : Type 0} (answers : D → Request → Answer → D → Type 0) (posts : D → Request → P → D → Type 0) (replies : D → P → Result Reply Refusal → D → Type 0)
     (is_answered : (a b c : D) (r : Request) (p : P) (x : Result Reply Refusal) → posts a r p b → replies b p x c → answers a r (order_answer x) c)

@@ -10,7 +10,7 @@ use Rattle.coord_admin.specs.declared.request.Request.{Request}
 use Rattle.coord_admin.specs.declared.answer.Answer.{Answer}
 use Rattle.coord_admin.specs.Requests.{asked_by}
 use Rattle.coord_admin.specs.Replies.{order_answer, reply_lines}
-use Rattle.coord_admin.specs.Stream.{AllGet, AreWritten, BreaksOff, GoesOn}
+use Rattle.coord_admin.specs.Stream.{AllGet, AreWritten, BreaksOff}
 use Rattle.coord_admin.specs.Together.{AllPosted, AllReplied, ArePosted, AskFor, AwaitReplies, is_order}
 use Rattle.coord_admin.proofs.Stream.{all-ordered, all-told, breaks-among}
 use Rattle.coord_admin.proofs.Together.{answers_in_turn}

@@ -5,7 +5,6 @@ use Rattle.coord_types.specs.declared.refusals.Refusal.TheVariants.{Exhausted}
 use Rattle.coord_types.specs.declared.steps.Reply.{Reply}
 use Rattle.coord_admin.specs.declared.request.Request.{Request}
 use Rattle.coord_admin.specs.declared.request.Request.TheVariants.{Order, Show, Resend, Close}
-use Rattle.coord_admin.specs.declared.answer.Answer.{Answer}
 use Rattle.coord_admin.specs.declared.answer.Answer.TheVariants as answer
 use Rattle.coord_admin.specs.Replies.{order_answer}
 use Rattle.coord_admin.specs.CountDesk.{Counts, answer_of, count_after}

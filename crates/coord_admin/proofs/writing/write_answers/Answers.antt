@@ -1,5 +1,5 @@
 use Rattle.std.proofs.Common.{[], ◌∷◌, ◌++◌, sym, ap, ◌∙◌, subst}
-use Rattle.std.proofs.lemmas.Result.{on_err_weaker, on_ok_weaker}
+use Rattle.std.proofs.lemmas.Result.{err_from_is_err_and, on_err_weaker, on_ok_weaker}
 use Rattle.coord_admin.specs.Stream.{AreWritten}
 use Rattle.coord_admin.proofs.Stream.{all-taken, part-at_end, part-within, text-on, told-on, written-next}
 use Rattle.coord_admin.proofs.writing.write_answers.Goals as goal
@@ -16,7 +16,8 @@ returns-in_err-add_line-clause-part g c =
     let part = c.in_err-add_line.ensures.part in
     let all = part-within c.args.answers.now inv.1 line.0 inv.0 part.0 c.loop-answer.text.items _ i w inv.4 (c.as_bytes.ensures ∙ line.2) part.2 in
     let out = told-on g.C.Duplex.exchanged g.met.C.Duplex.in_turn _ _ _ [] inv.0 part.0 inv.3 part.1 in
-    rw c.from_residual.ensures (all.0, inv.0 ++ part.0, all.1, out, all.2)
+    let failed = err_from_is_err_and c.from_residual.result c.from_residual.ensures.1 in
+    rw failed.1 (all.0, inv.0 ++ part.0, all.1, out, all.2)
 
 pub loop-answer-preserved : goal.loop-answer-preserved
 loop-answer-preserved g c =
