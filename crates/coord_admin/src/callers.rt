@@ -1,6 +1,6 @@
 //! Those who call a server.
 
-ghost use Rattle.std.specs.Prelude.{◌≡◌, List, [], ◌∷◌, ◌++◌, ℕ, ⊤, IfOk};
+ghost use Rattle.std.specs.Prelude.{◌≡◌, List, [], ◌∷◌, ◌++◌, ℕ, Bool, ⊤, IfOk, OnErr};
 ghost use Rattle.coord_admin.specs.Connections.{Talk};
 
 use crate::accepting::Failure;
@@ -23,18 +23,26 @@ pub trait Callers {
     /// Nothing has come in or gone out over a connection yet.
     ghost begins: { Self.Line → Type 0 };
 
+    /// Waiting for the next one has failed.
+    ghost failed: { Self → Self → Type 0 } = { λ _ _. ⊤ };
+
+    /// This connection was ended, with word whether it has closed the server.
+    ghost ended: { Self → Self.Line → Bool → Self → Type 0 } = { λ _ _ _ _. ⊤ };
+
     /// At which address they call.
     fn address(&self) -> io::Result<SocketAddr>;
 
     /// Waits for the next one. After an error no one comes any more.
     fn next(&mut self) -> io::Result<Self::Line>
         ensures begun { IfOk result begins }
+        ensures failed { OnErr result (failed self.old self.new) }
         ensures none_ended { met self.old [] self.new };
 
     /// Ends a connection; one that has closed the server is first left open until its client can
     /// have read the answer.
     fn end(&mut self, line: Self::Line, has_closed: bool)
-        ensures { (first : Self.Line) (came went : List ℕ) → begins first →
+        ensures ended { ended self.old line has_closed self.new }
+        ensures met { (first : Self.Line) (came went : List ℕ) → begins first →
             Self.Line.exchanged first came went line →
             met self.old (record { came = came; went = went } ∷ []) self.new };
 

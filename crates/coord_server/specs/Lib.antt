@@ -3,4 +3,5 @@ pub mod EngineDesk
 pub mod Halves
 pub mod Lives
 pub mod Printed
+pub mod Told
 pub mod Workers

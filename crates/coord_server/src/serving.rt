@@ -1,7 +1,9 @@
 //! A store that is served until a line closes it.
 
-ghost use Rattle.std.specs.Prelude.{◌≡◌, false, IfErr, IfOk, None, Some};
-ghost use Rattle.coord_store.specs.Kept.{has_stopped};
+ghost use Rattle.std.specs.Prelude.{◌≡◌, false, true, ℕ, List, IfErr, IfOk, None, Some};
+ghost use Rattle.coord_disk.specs.Model.Present.{IsImage};
+ghost use Rattle.coord_store.specs.Kept.{ImagesGive, has_stopped};
+ghost use Rattle.coord_store.specs.Recovered.{Recovered};
 ghost use Rattle.coord_server.specs.Ending.{fault_at_end};
 ghost use Rattle.coord_server.specs.Lives.{EndsOneHistory, HasLived, HasLivedToClose};
 
@@ -40,6 +42,9 @@ pub fn serve_store<
         closed.trail.items closed.settled) }
     ensures whole { IfOk result (λ closed.
         EndsOneHistory store.world closed.store closed.base closed.trail.items closed.settled) }
+    ensures images { IfOk result (λ closed. D.keeps_model closed.store.disk ≡ true →
+        (image : List ℕ) → IsImage (D.present closed.store.disk) image →
+        Recovered image closed.store.world) }
 {
     let callers = Accepted::new(rt, listener, Patience::usual());
     let ended = serve_callers(rt, alloc, store, callers, output)?;
@@ -85,6 +90,10 @@ pub fn serve_callers<
     ensures whole { IfOk result (λ ended.
         EndsOneHistory store.world ended.closed.store ended.closed.base ended.closed.trail.items
         ended.closed.settled) }
+    ensures images { IfOk result (λ ended. D.keeps_model ended.closed.store.disk ≡ true →
+        ImagesGive D.present ended.closed.store) }
 {
-    serve_lives(rt, alloc, LIFE_STEPS, store, callers, output)
+    let ended = serve_lives(rt, alloc, LIFE_STEPS, store, callers, output)?;
+    ended.closed.store.images_give_world();
+    Ok(ended)
 }

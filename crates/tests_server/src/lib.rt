@@ -4,9 +4,13 @@
 #[cfg(test)]
 mod asking;
 #[cfg(test)]
+mod epochs;
+#[cfg(test)]
 mod kill;
 #[cfg(test)]
 mod lives;
+#[cfg(test)]
+mod local;
 #[cfg(test)]
 mod loopback;
 #[cfg(test)]
