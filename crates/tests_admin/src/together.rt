@@ -7,6 +7,7 @@ use coord_types::{Client, Command, Kind, Refusal, Reply};
 use coord_view::View;
 use std::alloc::{AllocError, Global};
 use std::io::Read;
+use std::str;
 use std::test::Fail;
 
 const ORDER: &str = "{\"op\":\"reset\",\"client\":1,\"number\":1,\"node\":1}\n";
@@ -356,5 +357,63 @@ fn is_closed_behind_nine(alloc: Global) -> Result<bool, AllocError> {
 #[test]
 fn a_close_behind_nine_orders(rt: HostRuntime) -> Result<(), Fail> {
     assert!(rt; is_closed_behind_nine(rt.alloc())?);
+    Ok(())
+}
+
+const NO_MEMORY: &str = "{\"fault\":\"OutOfMemory\"}";
+
+/// The replies to three orders.
+const DONE: [&str; 3] = [
+    "{\"kind\":\"done\",\"step\":1}",
+    "{\"kind\":\"done\",\"step\":2}",
+    "{\"kind\":\"done\",\"step\":3}",
+];
+
+/// Whether three lines are replies to orders, in order, or tell that there was no memory.
+fn are_told_in_order(written: &[u8]) -> bool {
+    let Ok(text) = str::from_utf8(written) else {
+        return false;
+    };
+    let mut lines = text.split_terminator('\n');
+    let mut told = 0;
+    for _ in 0..DONE.len() {
+        let Some(line) = lines.next() else {
+            return false;
+        };
+        if line == NO_MEMORY {
+            continue;
+        }
+        match DONE.iter().position(|done| line == *done) {
+            Some(place) if place >= told => told = place + 1,
+            _ => return false,
+        }
+    }
+    lines.next().is_none()
+}
+
+/// Whether three orders that come at once are told so, or nothing was begun.
+fn are_told(alloc: Global) -> Result<bool, AllocError> {
+    let mut lines = String::with_capacity(alloc, 256)?;
+    let pushed = push_lines(&mut lines, ORDER, 3);
+    let mut pieces = Pieces::new(alloc, &lines, 32_768);
+    let room = pieces.written.reserve(512);
+    let mut desk = CountDesk::new(alloc, 0);
+    let ended = serve_pieces(alloc, &mut pieces, &mut desk);
+    let count = counted(&mut desk);
+    drop(desk);
+    let begun = ended == Ok(Ended::Input) && are_told_in_order(&pieces.written);
+    let refused = ended == Err(ServeFault::OutOfMemory) && pieces.writes == 0 && count == 0;
+    drop(pieces);
+    drop(lines);
+    pushed?;
+    room?;
+    Ok(begun || refused)
+}
+
+/// The replies to orders that came together, where memory may be refused: the test says the same with
+/// memory and where any one allocation fails.
+#[test]
+fn each_reply_together_or_no_memory(rt: HostRuntime) -> Result<(), Fail> {
+    assert!(rt; are_told(rt.alloc())?);
     Ok(())
 }
