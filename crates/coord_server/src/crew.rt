@@ -1,6 +1,6 @@
 //! The threads of one life of a server, while connections are served.
 
-ghost use Rattle.std.specs.Prelude.{◌≡◌, ◌+◌, ◌≤◌, [], ◌∷◌, ℕ, IfErr, IfOk, OnOk, IsOk, length, vec_capacity, vec_len};
+ghost use Rattle.std.specs.Prelude.{◌≡◌, ◌+◌, ◌≤◌, [], ◌∷◌, ℕ, IfErr, IfOk, OnOk, IsOk, length, true, vec_capacity, vec_len};
 ghost use Rattle.std.specs.Thread.{IsSend, IsSync};
 ghost use Rattle.coord_engine.specs.State.{based_on};
 ghost use Rattle.coord_server.specs.Ending.{AddsWorkers, HasRun, IsOfStart, ServesLife, new_desk};
@@ -214,7 +214,7 @@ fn serve_if<'a, D: Disk, L: Origin, C: Callers + Drop, W: Write + Drop, R: Wait>
 }
 
 /// Serves those who call by a desk with this share.
-fn serve_over<'a, D: Disk, L: Origin, C: Callers, W: Write, R: Wait>(
+fn serve_over<'a, D: Disk, L: Origin, C: Callers, W: Write + Drop, R: Wait>(
     setting: &'a Setting<'_, R>,
     engine: &'a Engine<D, L>,
     port: &'a LocalPort<&R>,
@@ -239,7 +239,7 @@ fn serve_over<'a, D: Disk, L: Origin, C: Callers, W: Write, R: Wait>(
 }
 
 /// Opens the output, where it was not before. Else why not.
-fn open<C: Callers, W: Write, R: Wait>(
+fn open<C: Callers, W: Write + Drop, R: Wait>(
     rt: &R,
     callers: &C,
     opening: Option<Opening<W>>,
@@ -253,7 +253,7 @@ fn open<C: Callers, W: Write, R: Wait>(
 }
 
 /// Opens the output, sends again what may have been lost, and serves those who call. What ended it.
-fn serve_clients<D: Disk, L: Origin, C: Callers, W: Write, P: Port, R: Wait>(
+fn serve_clients<D: Disk, L: Origin, C: Callers, W: Write + Drop, P: Port, R: Wait>(
     setting: &Setting<'_, R>,
     opening: Option<Opening<W>>,
     life: &mut LifeCallers<'_, C, D, L, R>,

@@ -15,7 +15,6 @@ use std::sync::Wait;
 
 /// Prints the signals that come, in their order, up to the last one or to a line that could not be
 /// written. A signal for whose line there is no memory is lost.
-#[tactic(auto, using(crate::proofs::Starts::prints_next))]
 pub fn print_signals<W: Write, I: Iterator<Item = Signal>>(
     signals: I,
     printer: Printer<W>,
@@ -37,12 +36,12 @@ pub fn print_signals<W: Write, I: Iterator<Item = Signal>>(
 
 /// What prints, until the first line is printed: then it is handed to the thread that prints signals.
 #[derive(Drop)]
-pub struct Opening<W: Write> {
+pub struct Opening<W: Write + Drop> {
     printer: Printer<W>,
     to: Sender<Printer<W>>,
 }
 
-impl<W: Write> Opening<W> {
+impl<W: Write + Drop> Opening<W> {
     /// Says where they call, and has the signals printed behind it. Else why not.
     pub fn open<C: Callers, R: Wait>(self, rt: &R, callers: &C) -> Result<(), ServerFault>
         ensures { IfErr result IsOfStart }
@@ -75,12 +74,12 @@ fn print_listening<C: Callers, W: Write>(
 
 /// What the thread that prints receives: what prints, once the first line is printed, and signals.
 #[derive(Drop)]
-pub struct Printing<W: Write> {
+pub struct Printing<W: Write + Drop> {
     handed: Receiver<Printer<W>>,
     signals: Receiver<Signal>,
 }
 
-impl<W: Write> Printing<W> {
+impl<W: Write + Drop> Printing<W> {
     /// Prints the signals that come. Whether a line of them could not be written.
     pub fn print<R: Wait>(self, rt: &R) -> bool {
         let Printing { handed, signals } = self;
@@ -93,13 +92,13 @@ impl<W: Write> Printing<W> {
 
 /// The two sides of an output: the port that signals come to and what opens it, and its thread's.
 #[derive(Drop)]
-pub struct Outlet<R: Wait, W: Write> {
+pub struct Outlet<R: Wait, W: Write + Drop> {
     pub port: LocalPort<R>,
     pub opening: Opening<W>,
     pub printing: Printing<W>,
 }
 
-impl<R: Wait, W: Write> Outlet<R, W> {
+impl<R: Wait + Drop, W: Write + Drop> Outlet<R, W> {
     /// Of an output to which nothing was printed yet.
     pub fn new(rt: R, alloc: Global, output: W) -> Result<Self, AllocError> {
         let (to, handed) = crossbeam_channel::bounded(alloc, 1)?;

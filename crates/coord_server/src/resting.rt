@@ -19,8 +19,6 @@ pub struct LifeCallers<'a, C, D: Disk, L: Origin, R: Wait> {
     callers: C,
     age: &'a Age<'a, D, L, R>,
     rests: bool,
-    ghost is_old: { rests ≡ true →
-        HasKept (based_on D.keeps_model D.present L.base L.before) age.now.most },
 }
 
 impl<'a, C: Callers, D: Disk, L: Origin, R: Wait> LifeCallers<'a, C, D, L, R> {
@@ -64,8 +62,10 @@ impl<'a, C: Callers, D: Disk, L: Origin, R: Wait> Callers for LifeCallers<'a, C,
 
     ghost begins = { λ line. C.begins line.line };
 
-    // It rests, or the next one was waited for.
-    ghost failed = { λ a b. (b.rests ≡ true) ⊎ C.failed a.callers b.callers };
+    // It rests, since the life is old, or the next one was waited for.
+    ghost failed = { λ a b. ((b.rests ≡ true) ×
+        HasKept (based_on D.keeps_model D.present L.base L.before) b.age.now.most)
+        ⊎ C.failed a.callers b.callers };
 
     // A client whose connection was cut is let read the last answer first, as one that has closed.
     ghost ended = { λ a line has_closed b.
@@ -109,8 +109,6 @@ pub struct LifeLine<'a, N, D: Disk, L: Origin, R: Wait> {
     line: N,
     age: &'a Age<'a, D, L, R>,
     is_cut: bool,
-    ghost is_old: { is_cut ≡ true →
-        HasKept (based_on D.keeps_model D.present L.base L.before) (2 * age.now.most) },
 }
 
 impl<'a, N: Duplex, D: Disk, L: Origin, R: Wait> Duplex for LifeLine<'a, N, D, L, R> {
@@ -118,9 +116,10 @@ impl<'a, N: Duplex, D: Disk, L: Origin, R: Wait> Duplex for LifeLine<'a, N, D, L
 
     ghost has_ended = { λ a. N.has_ended a.line };
 
-    // It is cut, or the connection was asked.
-    ghost asked = { λ a is_within_line b.
-        (b.is_cut ≡ true) ⊎ N.asked a.line is_within_line b.line };
+    // It is cut, since the life is too old, or the connection was asked.
+    ghost asked = { λ a is_within_line b. ((b.is_cut ≡ true) ×
+        HasKept (based_on D.keeps_model D.present L.base L.before) (2 * b.age.now.most))
+        ⊎ N.asked a.line is_within_line b.line };
 
     fn receive(&mut self, buffer: &mut [u8], is_within_line: bool) -> Result<usize, NotRead> {
         if self.age.is_too_old() {
