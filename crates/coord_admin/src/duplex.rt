@@ -34,7 +34,7 @@ pub trait Duplex {
         ensures failed { OnErr result (exchanged self.old [] [] self.new) }
         ensures asked { asked self.old is_within_line self.new };
 
-    /// Writes the reply to a line whole.
+    /// Writes replies whole.
     fn reply(&mut self, text: &[u8]) -> Result<(), NotWritten>
         ensures whole { OnOk result (exchanged self.old [] text.now self.new) }
         ensures part { OnErr result ((part : List ℕ) × exchanged self.old [] part self.new ×

@@ -109,6 +109,24 @@ impl<D: Disk, L: Origin> Engine<D, L> {
         answer
     }
 
+    /// Accepts a step as `submit` does, and lets the flusher sleep: whoever posts steps that come
+    /// together wakes it behind the last, so that one flight takes them.
+    pub fn post<R: Wait>(&self, rt: &R, step: Step, mine: &mut Share<L>) -> Result<Ticket, Refusal>
+        ensures { AtSomeMoment (based_on D.keeps_model D.present L.base L.before)
+            (Submits {D = D} step result mine.old mine.new) }
+    {
+        let mut guarded = self.guarded.lock(rt);
+        guarded.keeps();
+        guarded.submit(step, mine)
+    }
+
+    /// Wakes a flusher that waits for steps, where there is something to flush.
+    pub fn wake_flusher<R: Wait>(&self, rt: &R) {
+        if !self.guarded.lock(rt).is_idle() {
+            self.work.notify_all();
+        }
+    }
+
     /// Waits until the ticket's step is settled, and gives its reply. `Stranger` refuses a ticket
     /// of another ledger, and `Stopped` one whose step will not be settled any more; both give it
     /// back.

@@ -1,5 +1,6 @@
 pub mod Ending
 pub mod EngineDesk
+pub mod Halves
 pub mod Lives
 pub mod Printed
 pub mod Told

@@ -1,6 +1,7 @@
 //! A store that is served until a line closes it.
 
 ghost use Rattle.std.specs.Prelude.{◌≡◌, false, true, ℕ, List, IfErr, IfOk, None, Some};
+ghost use Rattle.coord_admin.specs.Times.{IsUsual};
 ghost use Rattle.coord_disk.specs.Model.Present.{IsImage};
 ghost use Rattle.coord_store.specs.Kept.{ImagesGive, has_stopped};
 ghost use Rattle.coord_store.specs.Recovered.{Recovered};
@@ -47,6 +48,35 @@ pub fn serve_store<
         Recovered image closed.store.world) }
 {
     let callers = Accepted::new(rt, listener, Patience::usual());
+    serve_accepted(rt, alloc, store, callers, output)
+}
+
+/// Serves a store to the connections of a listener whose clients are waited for as usual.
+fn serve_accepted<
+    D: Disk + Send,
+    S: Read + Write + OpenStream + Drop,
+    A: OpenListener<Stream = S>,
+    W: Write + Send + Drop,
+    R: Threads + Wait + Clock + Sync,
+>(
+    rt: &R,
+    alloc: Global,
+    store: Store<D>,
+    callers: Accepted<'_, A, R>,
+    output: W,
+) -> Result<Closed<D>, ServerFault>
+    requires going { has_stopped store ≡ false }
+    requires patience { IsUsual callers }
+    ensures going { IfOk result (λ closed. has_stopped closed.store ≡ false) }
+    ensures lives { IfOk result (λ closed.
+        HasLivedToClose D.keeps_model D.present store.world closed.store closed.base
+        closed.trail.items closed.settled) }
+    ensures whole { IfOk result (λ closed.
+        EndsOneHistory store.world closed.store closed.base closed.trail.items closed.settled) }
+    ensures images { IfOk result (λ closed. D.keeps_model closed.store.disk ≡ true →
+        (image : List ℕ) → IsImage (D.present closed.store.disk) image →
+        Recovered image closed.store.world) }
+{
     let ended = serve_callers(rt, alloc, store, callers, output)?;
     closed_of(ended)
 }

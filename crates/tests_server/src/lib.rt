@@ -16,6 +16,8 @@ mod loopback;
 #[cfg(test)]
 mod memory;
 #[cfg(test)]
+mod pending;
+#[cfg(test)]
 mod printing;
 #[cfg(test)]
 mod rings;
@@ -23,3 +25,5 @@ mod rings;
 mod short_of_memory;
 #[cfg(test)]
 mod slow_output;
+#[cfg(test)]
+mod together;
