@@ -260,7 +260,7 @@ fn the_same_replies_however_they_are_cut(rt: HostRuntime) -> Result<(), Fail> {
 /// How lines end that come at once, how often was written, how many orders were counted, and whether
 /// just the replies that were looked for were written.
 #[derive(Clone, Copy)]
-struct Written {
+struct Outcome {
     ended: Result<Ended, ServeFault>,
     writes: u64,
     count: u64,
@@ -280,7 +280,7 @@ fn counted(desk: &mut CountDesk) -> u64 {
 }
 
 /// Serves lines that come at once, where there is room for so many bytes of replies.
-fn written(alloc: Global, lines: &str, room: usize, replies: &[u8]) -> Written {
+fn written(alloc: Global, lines: &str, room: usize, replies: &[u8]) -> Outcome {
     let mut pieces = Pieces::new(alloc, lines, 32_768);
     pieces.room = room;
     let mut desk = CountDesk::new(alloc, 0);
@@ -290,7 +290,7 @@ fn written(alloc: Global, lines: &str, room: usize, replies: &[u8]) -> Written {
     let is_so = pieces.written.as_slice() == replies;
     let writes = pieces.writes;
     drop(pieces);
-    Written {
+    Outcome {
         ended,
         writes,
         count,
@@ -299,7 +299,7 @@ fn written(alloc: Global, lines: &str, room: usize, replies: &[u8]) -> Written {
 }
 
 /// Serves so many orders, where there is room for so many bytes of their replies.
-fn orders_written(alloc: Global, count: u64, room: usize) -> Result<Written, AllocError> {
+fn orders_written(alloc: Global, count: u64, room: usize) -> Result<Outcome, AllocError> {
     let mut lines = String::new(alloc);
     let mut replies = String::new(alloc);
     let pushed = push_lines(&mut lines, ORDER, count).is_ok()
