@@ -2,6 +2,7 @@
 use Rattle.std.proofs.Common.{◌≡◌, ℕ, List, Option, Result, Ok, Err, inl, inr, subst, sym, Bool, MatchResult, IsOk, OnOk, OnErr, IfErr}
 use Rattle.coord_disk.specs.Model.Present.{Present}
 use Rattle.coord_commands.proofs.Opening.{gave}
+use Rattle.std.proofs.lemmas.Bool.{false≢true}
 use Rattle.std.specs.Io.KnownBytes.{Appends, Keeps}
 use Rattle.coord_drill.specs.Drilled.{WritesFirstPart}
 use Rattle.coord_commands.specs.Ending.{Ends, IsCutShort, IsOfWriting, PrintsOne, Streams}
@@ -57,7 +58,7 @@ served keeps_model present word bytes after (Err fault) status old new proper is
 -- what holds where it has ended well
 pub is_done : {A : Type 0} (P : Type 0) (ended : Result A Fault) → IsOk ended → OnOk ended P → P
 is_done P (Ok x) ok so = so
-is_done P (Err fault) ok so = absurd ok
+is_done P (Err fault) ok so = absurd (false≢true ok)
 
 -- what is an error with a fault
 pub err_last : {A : Type 0} (P : Fault → Type 0) (result : Result A Fault) (fault : Fault) → result ≡ Err fault → P fault → IfErr result P

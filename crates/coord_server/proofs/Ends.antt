@@ -61,7 +61,7 @@ module _ {D : Type 0} (b : Basis D) {V : Type 0} (met : V → List Talk → V �
       → IfOk ran (λ r. HasRun b met v (after r) (end r) (shares r))
   all_ran (Ok s) (Ok r) callers left own after end shares v so ok added same = has_run v (callers s) (after r) (left s) (end r) (own s) (shares r) so added.0 added.1 same.0 same.1
   all_ran (Ok s) (Err f) callers left own after end shares v so ok added same = tt
-  all_ran (Err e) (Ok r) callers left own after end shares v so ok added same = absurd ok
+  all_ran (Err e) (Ok r) callers left own after end shares v so ok added same = absurd (false≢true ok)
   all_ran (Err e) (Err f) callers left own after end shares v so ok added same = tt
 
   -- one life: how the desk went on, and what is left of the engine, which was taken apart with all shares
