@@ -2,6 +2,7 @@
 use Rattle.std.specs.Prelude.{◌≡◌, ℕ, ◌*◌}
 use Rattle.std.specs.Duration.{as_nanos}
 use Rattle.coord_admin.specs.declared.patience.Patience.{Patience}
+use Rattle.coord_admin.specs.declared.patience.TheConstants.{ACCEPT_TRIES, DISCARD_READS}
 
 abbrev pub seconds : ℕ → ℕ
 seconds n = n * 1000000000
@@ -17,3 +18,8 @@ pub record IsUsual (p : Patience) : Type 0 where
   pub connection : as_nanos p.connection ≡ seconds 600
   pub discard : as_nanos p.discard ≡ seconds 1
   pub accept_rest : as_nanos p.accept_rest ≡ milliseconds 100
+
+-- how often it is tried again to accept, and how many reads of 512 bytes are made behind a close
+pub record CountsAreUsual : Type 0 where
+  pub tries : ACCEPT_TRIES ≡ 100
+  pub reads : DISCARD_READS ≡ 128

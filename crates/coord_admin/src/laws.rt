@@ -1,6 +1,7 @@
-//! Functions that do nothing, whose contracts are laws: of a desk whose orders are posted together,
-//! and of lines of which it is known what they ask for, and what is replied.
+//! Functions that do nothing, whose contracts are laws: of a desk whose orders are posted together, of
+//! lines of which it is known what they ask for, and what is replied, and of counts.
 
+ghost use Rattle.coord_admin.specs.Times.{CountsAreUsual};
 ghost use Rattle.coord_admin.specs.Together.{AnswersInTurn};
 ghost use Rattle.coord_admin.specs.WorkedLines.{WorkedRequests, WorkedReplies};
 
@@ -19,4 +20,9 @@ pub fn worked_requests()
 /// Answers and their reply lines.
 pub fn worked_replies()
     ensures { WorkedReplies }
+{}
+
+/// How often a server tries to accept, and how much it reads behind a close.
+pub fn counts_are_usual()
+    ensures { CountsAreUsual }
 {}
