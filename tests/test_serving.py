@@ -92,15 +92,18 @@ class ManySignals(Served):
             self.assertEqual(server.ended(), Ended(0, wanted, ""))
         self.assertEqual(ran("show", server.store).printed, "view 1001 1001\nnode 64 16 ready 0 1000 0\n")
 
-    def test_three_hundred_waves_over_one_link(self):
+    def test_seven_hundred_waves_over_one_link(self):
         """Packets far beyond the first ones of a link: each wave takes two of one lane and one of the other."""
-        with Serving(self.made(topology([(1, 1), (2, 1)], [(1, 2)], stores.HALF))) as server:
-            for epoch in range(1, 301):
-                self.assertEqual(server.order(epoch, "reset", node=epoch % 2 + 1)["kind"], STARTED)
+        waves = 700
+        with Serving(self.made(topology([(1, 1), (2, 1)], [(1, 2)], stores.HALF))) as server, server.connect() as connection:
+            for epoch in range(1, waves + 1):
+                connection.send({"op": "reset", "client": 1, "number": epoch, "node": epoch % 2 + 1})
+                self.assertEqual(connection.reply()["kind"], STARTED)
                 server.await_signals(2 * epoch)
-            server.await_quiet(300)
+            connection.socket.close()
+            server.await_quiet(waves)
             self.expect_each_signal_once(server)
-            self.expect_closed(server, 600)
+            self.expect_closed(server, 2 * waves)
 
 
 class ManySteps(Served):
