@@ -9,7 +9,7 @@ help:
 	@echo 'make demo      eight services and a coordinator that is killed in the middle of a reset and started again (without bin/resetd by a trial build)'
 	@echo 'make drill     one reset of two nodes, each line that the drill reads beside what it prints'
 	@echo 'make example   the example services of examples/ around a coordinator, in a few seconds'
-	@echo 'make services  tries what services rest on: restore, members that come again, torn and lost lines, 64 members, messages'
+	@echo 'make services  tries what services rest on: restores, members that come again, a work queue, torn and lost lines, 64 members, messages'
 	@echo 'make build     proves every crate, and leaves the program at bin/resetd; nothing is proved again while that is newer than every source'
 	@echo 'make test      the gate: every proof from nothing, the must-fail edits, every test and both programs, then make program; it leaves the program at bin/resetd too'
 	@echo 'make program   tries the program as people run it (tests/), over a trial build of it, in some minutes'
@@ -34,7 +34,7 @@ example: bin/resetd
 	@examples/run
 
 services: bin/resetd
-	@python3 -m unittest discover -s client/tests
+	@RESETD=bin/resetd python3 -m unittest discover -s client/tests
 	@tools/test_services
 
 soak: bin/resetd
@@ -86,12 +86,14 @@ SHARE = $(DESTDIR)$(PREFIX)/share/resetd
 # What stands below share/resetd has the places of the repository, so that each part finds the others.
 install: bin/resetd
 	install -D -m 755 bin/resetd $(DESTDIR)$(PREFIX)/bin/resetd
-	install -d $(SHARE)/client/resetd_client $(SHARE)/tools/picture $(SHARE)/examples $(SHARE)/docs
+	install -d $(SHARE)/client/resetd_client/control $(SHARE)/tools/picture $(SHARE)/examples $(SHARE)/docs
 	install -m 755 client/resetctl $(SHARE)/client/
-	install -m 644 client/resetd_client/*.py $(SHARE)/client/resetd_client/
+	install -m 644 client/pyproject.toml client/build_wheel.py $(SHARE)/client/
+	install -m 644 client/resetd_client/*.py client/resetd_client/py.typed $(SHARE)/client/resetd_client/
+	install -m 644 client/resetd_client/control/*.py $(SHARE)/client/resetd_client/control/
 	install -m 755 tools/wave $(SHARE)/tools/
 	install -m 644 tools/picture/*.py $(SHARE)/tools/picture/
-	install -m 755 examples/ask examples/gateway examples/local_check examples/member examples/run examples/service examples/talk $(SHARE)/examples/
+	install -m 755 examples/ask examples/gateway examples/local_check examples/member examples/plain_member examples/run examples/service examples/talk $(SHARE)/examples/
 	install -m 644 examples/coordinator.py examples/ring.toml $(SHARE)/examples/
 	for unit in examples/*.service examples/*.timer; do sed 's|/usr/local/bin/|$(PREFIX)/bin/|' $$unit > $(SHARE)/$$unit; chmod 644 $(SHARE)/$$unit; done
 	install -m 644 docs/OPERATING.md docs/TAKEOVER.md docs/FORMATS.md docs/SERVICES.md docs/PROTOCOL.md docs/*.svg $(SHARE)/docs/

@@ -19,7 +19,7 @@ use Rattle.coord_ledger.specs.ledger.Follows.{ImagesGive}
 use Rattle.coord_ledger.specs.machine.After.{after, finished}
 use Rattle.coord_ledger.specs.machine.Answers.{IsOneOf, answers, kept}
 use Rattle.coord_ledger.specs.machine.Consistent.{EventInRange, IsConsistent, IsConsistentLog}
-use Rattle.coord_ledger.specs.machine.Log.{Log, cut_to, front_world, has_stopped, settled_world, with_settled, with_step, world_after}
+use Rattle.coord_ledger.specs.machine.Log.{Log, cut_to, front_world, has_stopped, settled_world, with_settled, with_step}
 use Rattle.coord_ledger.specs.machine.Machine.{Machine, adopted}
 use Rattle.coord_ledger.specs.machine.Runs.{Answered, run}
 use Rattle.coord_ledger.specs.machine.Submits.{is_full, verdict}
@@ -82,7 +82,7 @@ RunGoesOn = (s : Machine) (events : List Event) (given : List Answer) (e : Event
 
 -- whatever a crash may keep is legal, holds all that was told, and nothing that was not accepted
 abbrev pub KeptIsSafe : Type 0
-KeptIsSafe = (s : Machine) (n : ℕ) → IsConsistent s → IsOneOf n (kept s) → IsSafe s (world_after s.log n)
+KeptIsSafe = (s : Machine) (n : ℕ) → IsConsistent s → IsOneOf n (kept s) → IsSafe s n
 
 -- no step's signal was released twice
 abbrev pub SignalsOnce : Type 0
