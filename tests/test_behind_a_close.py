@@ -9,7 +9,7 @@ from support.serving import Serving
 from support.stores import topology
 
 DISCARD = 1  # for how many seconds it is discarded
-LATE = 4  # seconds by which a busy machine may be late
+LATE = 10  # seconds by which a busy machine may be late
 
 
 class BehindAClose(Case):

@@ -9,13 +9,13 @@ from support.serving import Serving
 from support.stores import ring, topology
 
 LINE, REPLY, SILENCE, CONNECTION = 10, 10, 15, 600
-LATE = 4  # seconds by which a busy machine may be late
+LATE = 10  # seconds by which a busy machine may be late
 SHOW = {"op": "show"}
 
 
 def ended_after(connection):
     """Waits until the server has ended a connection: the seconds that it took."""
-    connection.socket.settimeout(SILENCE + 2 * LATE)
+    connection.socket.settimeout(SILENCE + LATE + 2)
     began = time.monotonic()
     try:
         while connection.socket.recv(65_536):
@@ -43,10 +43,10 @@ class Patience(Case):
     def serving(self, nodes=1, **how):
         return Serving(self.made(ring(nodes) if nodes > 2 else topology([(1, 1)])), **how)
 
-    def expect_within(self, seconds, begun, end):
+    def expect_within(self, seconds, begun, end, early=0.5):
         """It took as long as that, and the server serves the next client."""
         took = time.monotonic() - begun
-        self.assertGreater(took, seconds - 0.5)
+        self.assertGreater(took, seconds - early)
         self.assertLess(took, seconds + LATE)
         self.assertEqual(end.ask({"op": "resend"}), {"count": 0, "kind": "resent"})
 
@@ -92,7 +92,7 @@ class Patience(Case):
         """Sends a byte each half second until the server ends the connection: since when."""
         connection.socket.settimeout(0.5)
         begun = time.monotonic()
-        while time.monotonic() < begun + LINE + 2 * LATE:
+        while time.monotonic() < begun + LINE + LATE + 2:
             try:
                 connection.socket.sendall(b" ")
                 while connection.socket.recv(65_536):
@@ -149,7 +149,8 @@ class Patience(Case):
                 except TimeoutError:
                     continue
             self.assertGreater(size, 0)
-            self.expect_within(REPLY, moved, server)
+            # that a reply has not moved since is seen late
+            self.expect_within(REPLY, moved, server, early=4)
             sender.join(30)
 
     @staticmethod
@@ -173,4 +174,4 @@ class Patience(Case):
                         last = time.monotonic()
                         time.sleep(0.1)
                     self.assertGreater((last - begun) * 60, CONNECTION - 60)
-                    self.assertLess((last - begun) * 60, CONNECTION + 60)
+                    self.assertLess((last - begun) * 60, CONNECTION + 60 * LATE)
