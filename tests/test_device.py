@@ -33,11 +33,11 @@ class Device:
         self.since = []
 
     def images(self):
-        """What a power cut may leave: of each write since the last sync nothing, a part, or all, in every mixture of these."""
+        """What a power cut may leave: of each write since the last sync nothing, a part or all, in every mixture."""
         images = [bytes(self.synced)]
         for place, text in self.since:
             parts = {0, 1, len(text) // 2, len(text) - 1, len(text)}
-            images = [image for before in images for part in sorted(parts) if (image := with_part(before, place, text[:part]))]
+            images = [with_part(before, place, text[:part]) for before in images for part in sorted(parts)]
         return images
 
 

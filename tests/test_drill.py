@@ -87,7 +87,8 @@ class LongRuns(Case):
 
     def test_lines_that_are_bad(self):
         """They are counted from 1, skipped ones too."""
-        text = "# a comment\n\nadd 1\nadd  1 1\n add 1 1\nadd 1 1 \nadd 1 1\r\nfly\nadd 65 1\n" + "#" * 513 + "\n" + "#" * 512
+        bad = ["add 1", "add  1 1", " add 1 1", "add 1 1 ", "add 1 1\r", "fly", "add 65 1", "#" * 513]
+        text = "".join(f"{line}\n" for line in ["# a comment", "", *bad]) + "#" * 512
         self.assertEqual(drilled(text), Ended(0, "".join(f"bad line {line}\n" for line in range(3, 11)), ""))
         self.assertEqual(ran("drill", given=b"\xff\nadd 1 1\n"), Ended(0, "bad line 1\ndone 1\n", ""))
 

@@ -19,10 +19,12 @@ REFUSED = [
                               [(node, (node + far - 1) % 64 + 1) for far in (1, 2) for node in range(1, 65)] + [(1, 33)])),
 ]
 UNREAD = [
-    ("NotToml", "nodes"), ("NotToml", b"\xff\xfe"), ("NotToml", "#" * 65_536 + "\n"), ("NotToml", "half = 32768\nhalf = 32768\n"),
+    ("NotToml", "nodes"), ("NotToml", b"\xff\xfe"), ("NotToml", "#" * 65_536 + "\n"),
+    ("NotToml", "half = 32768\nhalf = 32768\n"),
     ("BadKey", "halves = 32768\n"), ("BadKey", "[[node]]\nid = 1\n"), ("BadKey", "[[node]]\nid = 1\ngroup = 1\nname = 1\n"),
     ("BadKey", "[[link]]\na = 1\n"), ("BadKey", "[[link]]\na = 1\nc = 2\n"),
-    ("BadValue", "half = 32767\n"), ("BadValue", "half = 16777217\n"), ("BadValue", 'half = "32768"\n'), ("BadValue", "node = 1\n"),
+    ("BadValue", "half = 32767\n"), ("BadValue", "half = 16777217\n"), ("BadValue", 'half = "32768"\n'),
+    ("BadValue", "node = 1\n"),
     ("BadValue", topology([(0, 1)])), ("BadValue", topology([(65, 1)])), ("BadValue", topology([(1, 17)])),
     ("BadValue", topology([(1, 0)])), ("BadValue", topology([], [(1, 65)])), ("BadValue", topology([], [(0, 1)])),
     ("BadValue", "[[node]]\nid = 1.0\ngroup = 1\n"),

@@ -9,8 +9,8 @@ from support.serving import Serving
 from support.stores import topology
 
 # accept(2): an error of the network that is already pending on the new socket is passed on, and is to be tried again.
-PASSES = ["ECONNABORTED", "EINTR", "EPROTO", "ENETDOWN", "ENOPROTOOPT", "EHOSTDOWN", "ENONET", "EHOSTUNREACH", "ENETUNREACH", "EPERM",
-          "EMFILE", "ENFILE", "ENOMEM", "ENOBUFS"]
+PASSES = ["ECONNABORTED", "EINTR", "EPROTO", "ENETDOWN", "ENOPROTOOPT", "EHOSTDOWN", "ENONET", "EHOSTUNREACH",
+          "ENETUNREACH", "EPERM", "EMFILE", "ENFILE", "ENOMEM", "ENOBUFS"]
 ENDS_IT = ["EBADF", "EINVAL", "ENOTSOCK", "EFAULT"]
 ALWAYS = 1_000_000_000
 
@@ -24,7 +24,8 @@ class Listener(Case):
 
     def serving(self, name, times, after=0):
         settings = {"ACCEPT_ERROR": getattr(errno, name), "ACCEPT_TIMES": times, "ACCEPT_AFTER": after}
-        return Serving(self.made(topology([(1, 1)]), f"store-{name}-{after}"), env=preloaded.environment(self.folder, **settings))
+        store = self.made(topology([(1, 1)]), f"store-{name}-{after}")
+        return Serving(store, env=preloaded.environment(self.folder, **settings))
 
     def test_what_passes(self):
         """Before each client it fails three times."""

@@ -4,9 +4,9 @@ import os
 import threading
 
 from support.program import SHORT, SHORT_STEPS
+from support.served import Served
 from support.serving import Serving
 from support.stores import ring, topology
-from test_serving import Served
 
 LIVES = 50
 MANY = 1_000  # lines, more than a life takes, and fewer bytes than are discarded behind its end
@@ -46,7 +46,8 @@ class Lives(Served):
                 self.assertEqual(server.order(number, "reset", node=2), {"kind": "finished", "step": 9 + number})
             self.assertNotEqual(self.flusher(server), first)
             self.assertEqual([server.order(1, "reset", client, node=1) for client in range(2, 9)], kept)
-            self.assertEqual(server.await_signals(206), [(1, epoch) for epoch in range(1, 8)] + [(2, epoch) for epoch in range(1, 200)])
+            wanted = [(1, epoch) for epoch in range(1, 8)] + [(2, epoch) for epoch in range(1, 200)]
+            self.assertEqual(server.await_signals(206), wanted)
             self.expect_closed(server, 206)
 
     def test_a_connection_that_stays_is_ended_behind_a_reply(self):

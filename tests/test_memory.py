@@ -1,4 +1,4 @@
-"""Commands of which an allocation is refused, each in turn: they end as with ample memory, or tell it and leave all as it was."""
+"""Commands of which each allocation in turn is refused: they end as with ample memory, or tell it and leave all as it was."""
 
 import os
 import re
@@ -15,6 +15,7 @@ PAIR = topology([(1, 1), (2, 1)], [(1, 2)])
 IN_A_RESET = world(4, [node(1, ABORT, awaits=[2]), node(2)], [link(1, 2, 3, (0, 0, [stores.abort()]))])
 CHECKED = [faulted(1, "NoMagic"), Ended(0, "legal 0\n", ""), Ended(0, "legal 3\n", "")]
 # How an answer of a drill tells that its ledger lacked memory, or its disk, which is in memory and fails for nothing else.
+ENDS = [(0, ""), (4, "resetd: OutOfMemory\n"), (3, "resetd: Device\n")]
 LACKS = re.compile(r"^(no 2 OutOfMemory|commit 1 OutOfMemory|commit 2 Device)$", re.MULTILINE)
 VIOLATED = world(4, [node(64, ABORT)])
 
@@ -31,14 +32,15 @@ class Memory(Case):
         """Runs a command with each of its allocations refused, alone or with all behind it: where that was, how it ends
         with ample memory, and how it ended.
 
-        The words take many, the same each time, so of those that a command without a file takes too only some are refused."""
+        The words take many, the same each time: of those that a command without a file takes too, only some are refused."""
         usual = self.refusing.ran("check", self.path("none/store"))[1]
         prepare()
         ample, count = self.refusing.ran(*words, given=given)
         for first in range(1, count + 1):
             for many in (1, ALL) if first > usual - 5 or first % 16 == 0 else ():
                 prepare()
-                yield f"{words[0]}, {first} of {count}, {many}", ample, self.refusing.ran(*words, first=first, many=many, given=given)[0]
+                ended, _ = self.refusing.ran(*words, first=first, many=many, given=given)
+                yield f"{words[0]}, {many} from {first} of {count}", ample, ended
 
     def expect_unchanged(self, wanted, *words, content):
         """The command ends as wanted, or for want of memory, and its file stays as it was."""
@@ -90,7 +92,7 @@ class Memory(Case):
             given = file.read()
         for where, ample, ended in self.each_refusal(["drill"], lambda: None, given):
             self.assertEqual(ample.status, 0)
-            self.assertIn((ended.status, ended.told), ((0, ""), (4, "resetd: OutOfMemory\n"), (3, "resetd: Device\n")), where)
+            self.assertIn((ended.status, ended.told), ENDS, where)
             if not LACKS.search(ended.printed):
                 self.assertTrue(ample.printed.startswith(ended.printed), where)
                 self.assertEqual(ended.status == 0, ended.printed == ample.printed, where)

@@ -21,7 +21,8 @@ class Run(Case):
     def expect(self, *words, ends_with=""):
         """The command ends well, and its last line begins so."""
         run = subprocess.Popen(words, stdin=subprocess.DEVNULL, stdout=subprocess.PIPE, stderr=subprocess.STDOUT, text=True,
-                               cwd=ROOT, env={**os.environ, "RESETD": PROGRAM, "TMPDIR": self.folder}, start_new_session=True)
+                               cwd=ROOT, env={**os.environ, "RESETD": PROGRAM, "TMPDIR": self.folder},
+                               start_new_session=True)
         try:
             printed = run.communicate(timeout=MOST)[0]
         finally:
@@ -65,7 +66,8 @@ class Tools(Run):
         self.expect(tool("links"))
 
     def test_what_the_documents_show(self):
-        self.expect(tool("test_documents"), "--quick", "--program", PROGRAM, ends_with="what the documents show is what is printed")
+        self.expect(tool("test_documents"), "--quick", "--program", PROGRAM,
+                    ends_with="what the documents show is what is printed")
 
     def test_what_services_rest_on(self):
         self.expect(tool("test_services"), ends_with="services lose no reset")

@@ -37,9 +37,10 @@ static int first_object(struct dl_phdr_info *info, size_t size, void *base) {
 // Leads the one call in a function to a target, by a jump on a page of its own near the program.
 static void lead(unsigned char *function, void *target) {
     unsigned char *call = memchr(function, 0xe8, 40), *page = (unsigned char *)((long)function & ~4095L), *jump = MAP_FAILED;
+    int all = PROT_READ | PROT_WRITE | PROT_EXEC, how = MAP_PRIVATE | MAP_ANONYMOUS | MAP_FIXED_NOREPLACE;
     for (long far = 1 << 20; call && jump == MAP_FAILED && far < 1 << 30; far += 1 << 16)
-        jump = mmap(page - far, 4096, PROT_READ | PROT_WRITE | PROT_EXEC, MAP_PRIVATE | MAP_ANONYMOUS | MAP_FIXED_NOREPLACE, -1, 0);
-    if (jump == MAP_FAILED || mprotect(page, 8192, PROT_READ | PROT_WRITE | PROT_EXEC)) _exit(99);
+        jump = mmap(page - far, 4096, all, how, -1, 0);
+    if (jump == MAP_FAILED || mprotect(page, 8192, all)) _exit(99);
     memcpy(jump, "\xff\x25\0\0\0\0", 6);
     memcpy(jump + 6, &target, 8);
     int distance = jump - (call + 5);
@@ -96,6 +97,7 @@ class Refusing:
                     "ALLOCATIONS": f"{self.folder}/allocations", "LD_PRELOAD": f"{self.folder}/refusing.so"}
         with open(f"{self.folder}/allocations", "wb") as file:
             file.write(bytes(8))
-        ended = ran(*words, program=self.program, env={**os.environ, **{name: str(value) for name, value in settings.items()}}, **how)
+        environment = {**os.environ, **{name: str(value) for name, value in settings.items()}}
+        ended = ran(*words, program=self.program, env=environment, **how)
         with open(f"{self.folder}/allocations", "rb") as file:
             return ended, int.from_bytes(file.read(), sys.byteorder)
