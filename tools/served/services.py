@@ -144,6 +144,13 @@ class Trial:
         self.start()
         self.orders.recover()
 
+    def renew(self):
+        """What the page says to do once a restored store is served."""
+        if "restored" not in self.words.without:
+            status, told = self.resetctl("restored")
+            if status != 0 or "have a new epoch" not in told:
+                raise Failed(f"resetctl restored: status {status}, {told}")
+
     def resetctl(self, *words):
         """A command of the person on call, with a client of its own. Its status and what it printed."""
         done = subprocess.run([f"{ROOT}/client/resetctl", "--address", self.server.address, "--client", str(OPERATOR - 1),

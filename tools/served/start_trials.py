@@ -2,7 +2,7 @@
 
 import shutil
 
-from .services import Failed, read
+from .services import read
 from .signal_trials import begin_first
 
 
@@ -34,10 +34,7 @@ def restore(trial):
 def put_back(trial, before, up):
     """By the words of the page, with services that are up and others that are started behind it; then a close."""
     trial.put_back(f"{trial.folder}/copy")
-    if "restored" not in trial.words.without:
-        status, told = trial.resetctl("restored")
-        if status != 0 or "have a new epoch" not in told:
-            raise Failed(f"resetctl restored: status {status}, {told}")
+    trial.renew()
     for node in trial.nodes:
         if node not in up:
             trial.service(node)
