@@ -270,6 +270,19 @@ class Runs(MemberCase):
         with self.assertRaises(OutOfRun), member.in_run(run.tag):
             self.fail("it was taken")
 
+    def test_at_a_message_of_another_run_it_looks(self) -> None:
+        member = self.in_a_run()
+        looks = threading.Semaphore(0)
+        following = threading.Thread(target=member.follow, args=(Clock(), 30, lambda _: looks.release()))
+        following.start()
+        self.assertTrue(looks.acquire(timeout=10))
+        with self.assertRaises(OutOfRun), member.in_run("another"):
+            self.fail("it was taken")
+        self.assertTrue(looks.acquire(timeout=10))
+        self.assertFalse(looks.acquire(timeout=0.5))
+        member.stop()
+        following.join()
+
     def test_a_begin_waits_for_work_of_the_run(self) -> None:
         member = self.in_a_run()
         self.server.reset(2)
