@@ -55,6 +55,7 @@ class Member(Following):
         self._run: Run | None = None
         self._changes = threading.Condition(threading.RLock())  # over the run, and the work that belongs to it
         self._is_there = True
+        self._is_doubted = False  # a message of another run came
         self._waits = 0  # looks in a row that did not find the group through
 
     @property
@@ -71,13 +72,14 @@ class Member(Following):
     @contextmanager
     def in_run(self, tag: str | None = None, wait: float = 0.0) -> Iterator[Run]:
         """Holds off a begin while work of the run changes, and every other `in_run`. With a tag, that of a message,
-        only where it is this run's. Raises OutOfRun, where no run is on after so many seconds too. The body is
-        short, and does not wait for others."""
+        only where it is this run's. Raises OutOfRun, where no run is on after so many seconds too; at another tag
+        `follow` looks, since this run may be over. The body is short, and does not wait for others."""
         with self._changes:
             if not self._changes.wait_for(lambda: self._run is not None, wait):
                 raise OutOfRun("no run is on")
             run = self._run
             if run is None or tag not in (None, run.tag):
+                self._is_doubted = True
                 raise OutOfRun(f"{tag} is another run")
             yield run
 
@@ -99,8 +101,9 @@ class Member(Following):
         while (view := self._look_patiently()) is not None:
             if after:
                 after(view)
-            if self._wait(wakes, self.wait_seconds(every)) is Wake.END:
+            if self._wait(wakes, self.wait_seconds(every), lambda: self._is_doubted) is Wake.END:
                 return
+            self._is_doubted = False
 
     def wait_seconds(self, every: float) -> float:
         """How long to wait for a wake-up: less while the group is not through, since nothing wakes a member when

@@ -210,6 +210,26 @@ class Members(MemberCase):
         self.look(Member(self.port, self.orders(1, "m", True), 1, None, begin, told=self.told.append))
         self.assertEqual((self.begun, self.rows()[0]), ([1, 2], (2, 2)))
 
+    def test_a_confirm_that_meets_another_node_of_the_same_number(self) -> None:
+        """Nothing is mixed: the start that it confirms has not talked."""
+        def begin(epoch: int) -> None:
+            self.begun.append(epoch)
+            if len(self.begun) == 2:
+                for op, members in (("drop", {"a": 1, "b": 2}), ("remove", {"node": 1}), ("add", {"node": 1, "group": 1}),
+                                    ("join", {"a": 1, "b": 2}), ("reset", {"node": 1}), ("reset", {"node": 1})):
+                    self.server.by_somebody(op, **members)
+        member = Member(self.port, self.orders(1, "m", True), 1, None, begin, told=self.told.append)
+        self.look(member)
+        self.confirm_other()
+        self.look(member)
+        first = member.run
+        self.server.reset(2)
+        self.look(member)
+        self.confirm_other()
+        self.look(member)
+        self.assertEqual((self.begun, self.rows()), ([1, 2], [(2, 2), (4, 4)]))
+        self.assertTrue(first and member.run and first.tag != member.run.tag)
+
     def test_it_follows_until_its_input_ends(self) -> None:
         read, write = os.pipe()
         member = self.member()
@@ -249,6 +269,19 @@ class Runs(MemberCase):
         self.look(member)
         with self.assertRaises(OutOfRun), member.in_run(run.tag):
             self.fail("it was taken")
+
+    def test_at_a_message_of_another_run_it_looks(self) -> None:
+        member = self.in_a_run()
+        looks = threading.Semaphore(0)
+        following = threading.Thread(target=member.follow, args=(Clock(), 30, lambda _: looks.release()))
+        following.start()
+        self.assertTrue(looks.acquire(timeout=10))
+        with self.assertRaises(OutOfRun), member.in_run("another"):
+            self.fail("it was taken")
+        self.assertTrue(looks.acquire(timeout=10))
+        self.assertFalse(looks.acquire(timeout=0.5))
+        member.stop()
+        following.join()
 
     def test_a_begin_waits_for_work_of_the_run(self) -> None:
         member = self.in_a_run()
