@@ -9,7 +9,7 @@ help:
 	@echo 'make demo      eight services and a coordinator that is killed in the middle of a reset and started again'
 	@echo 'make drill     one reset of two nodes, each line that the drill reads beside what it prints'
 	@echo 'make example   the example services of examples/ around a coordinator, in a few seconds'
-	@echo 'make services  tries what services rest on: restores, members that come again, a work queue, torn and lost lines, 64 members, messages'
+	@echo 'make services  tries what services rest on: restore, members that come again, torn and lost lines, 64 members, messages'
 	@echo 'make build     proves every crate, and leaves the program at bin/resetd'
 	@echo 'make test      the gate: every proof from nothing, the must-fail edits, every test and both programs'
 	@echo 'make refusals  tries the other wrong bodies, which the prover has to refuse (CRATE=NAME for one crate)'

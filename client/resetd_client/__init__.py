@@ -16,7 +16,7 @@ from .member import LOOK_SECONDS, Member, OutOfRun, Run
 from .orders import CLIENTS, CountLost, CountNotFound, Orders, find_count
 from .port import Port, patiently
 from .signals import Clock, Follower, Stream, Wake, Wakes
-from .starts import Due, Starts
+from .starts import Due, Shelf, Starts
 from .view import Link, Node, View
 
 __version__ = "0.10.0"  # that of the first heading of CHANGELOG.md
@@ -24,6 +24,6 @@ __version__ = "0.10.0"  # that of the first heading of CHANGELOG.md
 __all__ = [
     "Away", "CLIENTS", "Clock", "CountLost", "CountNotFound", "Due", "Fault", "Faulted", "Follower", "Garbled",
     "Gateway", "Held", "LOOK_SECONDS", "Link", "Member", "Node", "NotNow", "NotTaken", "Orders", "OutOfRun", "Port",
-    "Refusal", "Refused", "Reply", "Run", "Served", "Starts", "Stream", "View", "Wake", "Wakes", "find_count", "hold",
+    "Refusal", "Refused", "Reply", "Run", "Served", "Shelf", "Starts", "Stream", "View", "Wake", "Wakes", "find_count", "hold",
     "keep", "patiently", "read",
 ]

@@ -6,6 +6,7 @@ import os
 import secrets
 import time
 from collections.abc import Callable, Iterable, Mapping
+from typing import NamedTuple
 
 from . import files
 from .answers import Away
@@ -14,7 +15,7 @@ from .member import LOOK_SECONDS
 from .orders import Orders, warn
 from .port import Port
 from .signals import Wake, Wakes
-from .starts import Due, Starts
+from .starts import Due, Shelf, Starts
 from .view import Node, View
 
 POLL_SECONDS = 0.1
@@ -78,10 +79,10 @@ class Seat:
 class Desk:
     """A node's members, which begin and talk together: their seats, and what is kept of their starts."""
 
-    def __init__(self, node: int, folder: str, names: Iterable[str]) -> None:
+    def __init__(self, node: int, shelf: Shelf, folder: str, names: Iterable[str]) -> None:
         self.node = node
         self.seats = [Seat(os.path.join(folder, name)) for name in names]
-        self.starts = Starts(os.path.join(folder, f"start-{node}.json"), self._begun())
+        self.starts = Starts(shelf, node, self._begun())
         self.telling: int | None = None  # the epoch that this process told, which is not confirmed yet
 
     def due(self, view: View, row: Node) -> Due:
@@ -98,8 +99,7 @@ class Desk:
         return [] if self.telling is None else [seat for seat in self.seats if not seat.has_begun]
 
     def want(self, epoch: int) -> None:
-        """Tells all members to begin an epoch."""
-        self.starts.note_begin(epoch)
+        """Tells all members to begin an epoch, which is kept as begun."""
         self.telling = epoch
         for seat in self.seats:
             seat.want(epoch)
@@ -121,6 +121,14 @@ class Desk:
         return begun.pop() if len(begun) == 1 else None
 
 
+class Judged(NamedTuple):
+    """A node's members, its row, and what that asks for."""
+
+    desk: Desk
+    row: Node
+    due: Due
+
+
 class Gateway(Following):
     """Serves members. `members` has the names of each node's members, and the member NAME has the folder
     FOLDER/NAME: several members of one node, as the processes of one host, all begin before it is confirmed."""
@@ -130,7 +138,8 @@ class Gateway(Following):
         super().__init__(orders, told)
         self.port, self._word = port, word
         os.makedirs(folder, exist_ok=True)
-        self.desks = [Desk(node, folder, names) for node, names in members.items()]
+        self._shelf = Shelf(os.path.join(folder, "starts.json"))
+        self.desks = [Desk(node, self._shelf, folder, names) for node, names in members.items()]
         self._absent: set[int] = set()
         self._is_through = False
 
@@ -141,7 +150,9 @@ class Gateway(Following):
             view = self.port.show()
             rows = {row.node: row for row in view.nodes}
             self._note_absent({desk.node for desk in self.desks} - set(rows))
-            if not self._advance_all(view, rows):
+            judged = self._judge(view, rows)
+            self._tell_members(view, judged)
+            if not self._order_what_is_due(judged):
                 return view
         raise Away("there are new epochs each time that it looks")
 
@@ -154,30 +165,38 @@ class Gateway(Following):
                           lambda: any(seat.has_begun for seat in waiting)) is Wake.END:
                 return
 
-    def _advance_all(self, view: View, rows: Mapping[int, Node]) -> bool:
-        """Does what the view asks for. Whether something was ordered; after a reset, which reaches others too, it is
-        looked at again at once."""
-        self._is_through = True
-        begun: dict[int, int] = {}
+    def _judge(self, view: View, rows: Mapping[int, Node]) -> list[Judged]:
+        """What is due at each node that is there; what has to be kept of it is on the disk."""
+        judged = [Judged(desk, rows[desk.node], desk.due(view, rows[desk.node])) for desk in self.desks if desk.node in rows]
+        for each in judged:
+            if each.due is Due.BEGIN:
+                each.desk.starts.note_begin(each.row.epoch)
+        self._shelf.keep()
+        self._is_through = len(judged) == len(self.desks) and all(each.due is Due.TALK for each in judged)
+        return judged
+
+    def _tell_members(self, view: View, judged: list[Judged]) -> None:
+        """Tells members in which run they may talk, and what they are to begin."""
+        talking = {each.desk.node: each.row for each in judged if each.due is Due.TALK}
+        self._asked -= set(talking)
         for desk in self.desks:
-            row = rows.get(desk.node)
-            due = Due.WAIT if row is None else desk.due(view, row)
-            is_talking = row is not None and due is Due.TALK
-            self._asked -= {desk.node} if is_talking else set()
-            self._is_through = self._is_through and is_talking
-            desk.set_run(f"{row.epoch} {view.tag(desk.node, self._word)}\n" if row and is_talking else None)
-            if row and due is Due.RESET:
-                self._ask_reset(desk.node, desk.starts.why(row))
-                return True
-            if row and due is Due.BEGIN:
-                desk.want(row.epoch)
-            if row and desk.has_begun(row):
-                begun[desk.node] = row.epoch
-        self._confirm(begun)
-        for desk in self.desks:
-            if desk.node in begun:
-                desk.note_confirmed()
-        return bool(begun)
+            row = talking.get(desk.node)
+            desk.set_run(f"{row.epoch} {view.tag(desk.node, self._word)}\n" if row else None)
+        for each in judged:
+            if each.due is Due.BEGIN:
+                each.desk.want(each.row.epoch)
+
+    def _order_what_is_due(self, judged: list[Judged]) -> bool:
+        """Confirms what was begun, and asks for a reset, one at a time, since it reaches others too. Whether there was
+        something to order."""
+        begun = [each for each in judged if each.desk.has_begun(each.row)]
+        self._confirm({each.desk.node: each.row.epoch for each in begun})
+        for each in begun:
+            each.desk.note_confirmed()
+        unfit = [each for each in judged if each.due is Due.RESET]
+        for each in unfit[:1]:
+            self._ask_reset(each.desk.node, each.desk.starts.why(each.row))
+        return bool(begun or unfit)
 
     def _note_absent(self, absent: set[int]) -> None:
         if absent != self._absent:

@@ -13,11 +13,12 @@ from .following import Following
 from .orders import Orders, warn
 from .port import Port
 from .signals import Wake, Wakes
-from .starts import Due, Starts
+from .starts import Due, Shelf, Starts
 from .view import Node, View
 
 LOOK_SECONDS = 30.0
 FIRST_WAIT = 0.1  # seconds between looks while others are not through; some 2 seconds in the end
+SOON = -7  # looks after its own reset, which is over in some milliseconds, before that first wait
 MOST_TURNS = 100  # of one look: each begins or confirms an epoch that is new, or asks for a reset
 
 
@@ -48,11 +49,13 @@ class Member(Following):
                  word: str = "", told: Callable[[str], None] = warn) -> None:
         super().__init__(orders, told)
         self.port, self.node = port, node
-        self._starts = Starts(os.path.join(orders.folder, f"start-{node}.json"), begun)
+        self._shelf = Shelf(os.path.join(orders.folder, f"start-{node}.json"))
+        self._starts = Starts(self._shelf, node, begun)
         self._begin, self._word = begin, word
         self._run: Run | None = None
         self._changes = threading.Condition(threading.RLock())  # over the run, and the work that belongs to it
         self._is_there = True
+        self._is_doubted = False  # a message of another run came
         self._waits = 0  # looks in a row that did not find the group through
 
     @property
@@ -69,13 +72,14 @@ class Member(Following):
     @contextmanager
     def in_run(self, tag: str | None = None, wait: float = 0.0) -> Iterator[Run]:
         """Holds off a begin while work of the run changes, and every other `in_run`. With a tag, that of a message,
-        only where it is this run's. Raises OutOfRun, where no run is on after so many seconds too. The body is
-        short, and does not wait for others."""
+        only where it is this run's. Raises OutOfRun, where no run is on after so many seconds too; at another tag
+        `follow` looks, since this run may be over. The body is short, and does not wait for others."""
         with self._changes:
             if not self._changes.wait_for(lambda: self._run is not None, wait):
                 raise OutOfRun("no run is on")
             run = self._run
             if run is None or tag not in (None, run.tag):
+                self._is_doubted = True
                 raise OutOfRun(f"{tag} is another run")
             yield run
 
@@ -97,8 +101,9 @@ class Member(Following):
         while (view := self._look_patiently()) is not None:
             if after:
                 after(view)
-            if self._wait(wakes, self.wait_seconds(every)) is Wake.END:
+            if self._wait(wakes, self.wait_seconds(every), lambda: self._is_doubted) is Wake.END:
                 return
+            self._is_doubted = False
 
     def wait_seconds(self, every: float) -> float:
         """How long to wait for a wake-up: less while the group is not through, since nothing wakes a member when
@@ -112,6 +117,7 @@ class Member(Following):
     def _advance(self, view: View, row: Node) -> bool:
         """Does what the view asks for. Whether it has to be looked at again."""
         due = self._starts.due(view, row)
+        self._shelf.keep()
         self._set_run(Run(row.epoch, view.tag(row.node, self._word)) if due is Due.TALK else None)
         if due is Due.TALK:
             self._asked.clear()
@@ -121,12 +127,13 @@ class Member(Following):
             self._ask_reset(self.node, self._starts.why(row))
         else:
             return False
-        self._waits = 0
+        self._waits = SOON if due is Due.RESET else 0
         return True
 
     def _begin_anew(self, row: Node) -> None:
         with self._changes:
             self._starts.note_begin(row.epoch)
+            self._shelf.keep()
             self._begin(row.epoch)
             self._starts.note_begun(row.epoch)
         self._confirm({self.node: row.epoch})

@@ -20,17 +20,16 @@ def renew(port: Port, orders: Orders, seconds: float) -> str:
     """Asks for a reset in each group of linked nodes, waits until the epoch of every node has risen, and says so.
     It finds the client's count first, which a restore changes. Harmless when it is repeated. Raises Away where a
     node's epoch has not risen within so many seconds."""
-    until = time.monotonic() + seconds
     patiently(orders.recover, seconds)
-    first = patiently(port.show, seconds)
-    view = first
+    view = first = patiently(port.show, seconds)
+    until = time.monotonic() + seconds
     while behind := not_risen(first, view):
+        if time.monotonic() > until:
+            raise Away(f"no new epoch yet at {named(behind)}; `resetctl resend`, and then the same words again")
         for group in groups(view):
             due = [node for node in group if node.node in behind]
             if due and all(node.mode == "ready" for node in group):
                 reset(orders, due[0].node, view.accepted, seconds)
-        if time.monotonic() > until:
-            raise Away(f"no new epoch yet at {named(behind)}; `resetctl resend`, and then the same words again")
         time.sleep(LOOK_SECONDS)
         view = patiently(port.show, seconds)
     return f"a reset in each of {len(groups(first))} groups: all {len(first.nodes)} nodes have a new epoch"

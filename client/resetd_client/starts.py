@@ -26,20 +26,52 @@ class Due(enum.Enum):
     RESET = enum.auto()  # it asks for a reset: its start and what is shown do not belong together
 
 
-class Starts:
-    """What a member keeps of its starts, in a file beside its work: the greatest epoch that it began, and with whom
-    that start first talked. Where the file is missing, nothing is known of the work, and a reset is due."""
+class Shelf:
+    """What is kept of the starts of one or more nodes, in one file: of each the greatest epoch that was begun, and
+    with whom that start first talked (None: with nobody yet). Of a node that is not in it nothing is known."""
 
-    def __init__(self, path: str, begun: int | None) -> None:
+    def __init__(self, path: str) -> None:
+        self._path, self._is_kept = path, True
+        self._starts = self._read()
+
+    def get(self, node: int) -> tuple[int, frozenset[str] | None]:
+        return self._starts.get(node, (-1, frozenset()))
+
+    def put(self, node: int, epoch: int, party: frozenset[str] | None) -> None:
+        """Exchanges what is known of a node. It is on the disk after the next `keep`."""
+        self._starts[node] = epoch, party
+        self._is_kept = False
+
+    def keep(self) -> None:
+        """Has all that was put on the disk."""
+        if not self._is_kept:
+            files.keep(self._path, json.dumps({
+                str(node): {"epoch": epoch, "party": None if party is None else sorted(party)}
+                for node, (epoch, party) in self._starts.items()}) + "\n")
+            self._is_kept = True
+
+    def _read(self) -> dict[int, tuple[int, frozenset[str] | None]]:
+        text = files.read(self._path)
+        try:
+            return {int(node): (int(start["epoch"]), None if start["party"] is None else frozenset(map(str, start["party"])))
+                    for node, start in json.loads(text or "{}").items()}
+        except (ValueError, KeyError, TypeError, AttributeError) as fault:
+            raise ValueError(f"{self._path} does not read: remove it, and a reset is asked for") from fault
+
+
+class Starts:
+    """The starts of one node's member, beside its work. The caller has `shelf.keep` called after `due` and after
+    `note_begin`, before it acts upon them."""
+
+    def __init__(self, shelf: Shelf, node: int, begun: int | None) -> None:
         """`begun` is the epoch of the work in hand, None for no work."""
-        self._path, self.begun = path, begun
-        self._greatest, self._party = self._read()
+        self._shelf, self._node, self.begun = shelf, node, begun
+        self._greatest, self._party = shelf.get(node)
         if begun is not None and begun > self._greatest:
             self._greatest, self._party = begun, frozenset()
 
     def due(self, view: View, row: Node) -> Due:
-        """What a view with the row of the member's node asks for. Before the start talks with anybody, it is
-        written down with whom."""
+        """What a view with the row of the member's node asks for. With whom a start first talks is put down."""
         if row.epoch > row.confirmed:
             is_new = row.epoch > self._greatest or (row.epoch == self._greatest and self._party is None)
             if is_new:
@@ -60,8 +92,8 @@ class Starts:
         return f"epoch {row.epoch} is shown, {row.confirmed} is confirmed, and {work} here"
 
     def note_begin(self, epoch: int) -> None:
-        """Writes down that an epoch is begun, before any work of the one before is dropped."""
-        self._note(epoch, None)
+        """An epoch is begun: put down before any work of the one before is dropped."""
+        self._put(epoch, None)
         self.begun = None
 
     def note_begun(self, epoch: int) -> None:
@@ -72,20 +104,10 @@ class Starts:
         """Whether the start may talk with those that are connected now: the first ones, of which some may have gone
         and to which none may have come."""
         if self._party is None:
-            self._note(self._greatest, party)
+            self._put(self._greatest, party)
             return True
         return party <= self._party
 
-    def _note(self, epoch: int, party: frozenset[str] | None) -> None:
-        files.keep(self._path, json.dumps({"epoch": epoch, "party": None if party is None else sorted(party)}) + "\n")
+    def _put(self, epoch: int, party: frozenset[str] | None) -> None:
         self._greatest, self._party = epoch, party
-
-    def _read(self) -> tuple[int, frozenset[str] | None]:
-        text = files.read(self._path)
-        if not text:
-            return -1, frozenset()
-        try:
-            kept = json.loads(text)
-            return int(kept["epoch"]), None if kept["party"] is None else frozenset(map(str, kept["party"]))
-        except (ValueError, KeyError, TypeError) as fault:
-            raise ValueError(f"{self._path} does not read: remove it, and a reset is asked for") from fault
+        self._shelf.put(self._node, epoch, party)

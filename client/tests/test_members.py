@@ -8,7 +8,7 @@ import threading
 import time
 
 from case import Case, in_memory, over_both
-from resetd_client import Clock, Due, Member, Node, OutOfRun, Port, Starts, Stream, View, keep
+from resetd_client import Clock, Due, Member, Node, OutOfRun, Port, Shelf, Starts, Stream, View, keep
 
 
 def view_of(*rows: tuple[int, int, int]) -> View:
@@ -26,10 +26,10 @@ class Rules(Case):
         start first talked."""
         path = f"{self.folder}/start.json"
         if greatest is not None:
-            keep(path, json.dumps({"epoch": greatest, "party": sorted(party.party(1)) if party else None}))
+            keep(path, json.dumps({"1": {"epoch": greatest, "party": sorted(party.party(1)) if party else None}}))
         row = view.node(1)
         assert row
-        return Starts(path, begun).due(view, row)
+        return Starts(Shelf(path), 1, begun).due(view, row)
 
     def test_nothing_happened(self) -> None:
         view = view_of((1, 4, 4), (2, 7, 7))
@@ -80,16 +80,20 @@ class Rules(Case):
         self.assertIs(self.due(view_of((1, 4, 4)), 4, 5), Due.RESET)
 
     def test_who_first_talked_is_written_down(self) -> None:
-        starts = Starts(f"{self.folder}/start.json", None)
+        shelf = Shelf(f"{self.folder}/start.json")
+        starts = Starts(shelf, 1, None)
         starts.note_begin(4)
         starts.note_begun(4)
-        for known in (starts, Starts(f"{self.folder}/start.json", 4)):
-            view, more = view_of((1, 4, 4)), view_of((1, 4, 4), (2, 0, 0))
-            self.assertEqual([known.due(each, each.nodes[0]) for each in (view, more)], [Due.TALK, Due.RESET])
+        view, more = view_of((1, 4, 4)), view_of((1, 4, 4), (2, 0, 0))
+        self.assertEqual([starts.due(each, each.nodes[0]) for each in (view, more)], [Due.TALK, Due.RESET])
+        shelf.keep()
+        again = Starts(Shelf(f"{self.folder}/start.json"), 1, 4)
+        self.assertEqual([again.due(each, each.nodes[0]) for each in (more, view)], [Due.RESET, Due.TALK])
 
     def test_a_file_that_does_not_read_is_told(self) -> None:
-        keep(f"{self.folder}/start.json", "{}")
-        self.assertRaises(ValueError, Starts, f"{self.folder}/start.json", 4)
+        for text in ("[]", "{", '{"1": {}}'):
+            keep(f"{self.folder}/start.json", text)
+            self.assertRaises(ValueError, Shelf, f"{self.folder}/start.json")
 
 
 class MemberCase(Case):
@@ -206,6 +210,26 @@ class Members(MemberCase):
         self.look(Member(self.port, self.orders(1, "m", True), 1, None, begin, told=self.told.append))
         self.assertEqual((self.begun, self.rows()[0]), ([1, 2], (2, 2)))
 
+    def test_a_confirm_that_meets_another_node_of_the_same_number(self) -> None:
+        """Nothing is mixed: the start that it confirms has not talked."""
+        def begin(epoch: int) -> None:
+            self.begun.append(epoch)
+            if len(self.begun) == 2:
+                for op, members in (("drop", {"a": 1, "b": 2}), ("remove", {"node": 1}), ("add", {"node": 1, "group": 1}),
+                                    ("join", {"a": 1, "b": 2}), ("reset", {"node": 1}), ("reset", {"node": 1})):
+                    self.server.by_somebody(op, **members)
+        member = Member(self.port, self.orders(1, "m", True), 1, None, begin, told=self.told.append)
+        self.look(member)
+        self.confirm_other()
+        self.look(member)
+        first = member.run
+        self.server.reset(2)
+        self.look(member)
+        self.confirm_other()
+        self.look(member)
+        self.assertEqual((self.begun, self.rows()), ([1, 2], [(2, 2), (4, 4)]))
+        self.assertTrue(first and member.run and first.tag != member.run.tag)
+
     def test_it_follows_until_its_input_ends(self) -> None:
         read, write = os.pipe()
         member = self.member()
@@ -245,6 +269,19 @@ class Runs(MemberCase):
         self.look(member)
         with self.assertRaises(OutOfRun), member.in_run(run.tag):
             self.fail("it was taken")
+
+    def test_at_a_message_of_another_run_it_looks(self) -> None:
+        member = self.in_a_run()
+        looks = threading.Semaphore(0)
+        following = threading.Thread(target=member.follow, args=(Clock(), 30, lambda _: looks.release()))
+        following.start()
+        self.assertTrue(looks.acquire(timeout=10))
+        with self.assertRaises(OutOfRun), member.in_run("another"):
+            self.fail("it was taken")
+        self.assertTrue(looks.acquire(timeout=10))
+        self.assertFalse(looks.acquire(timeout=0.5))
+        member.stop()
+        following.join()
 
     def test_a_begin_waits_for_work_of_the_run(self) -> None:
         member = self.in_a_run()

@@ -282,17 +282,27 @@ def by_the_page(trial):
     trial.down(*trial.nodes)
     trial.reset(1)
     trial.put_back(copy)
-    if "restored" not in trial.words.without:
-        status, told = trial.resetctl("restored")
-        if status != 0:
-            raise Failed(f"resetctl restored: status {status}, {told}")
+    trial.renew()
+
+
+def between_confirms_without_files(trial):
+    """The copy was taken when one member had not confirmed yet, and that member has lost all its files since."""
+    trial.down(3)
+    trial.reset_epochs(1, 2)
+    copy = trial.copy()
+    trial.goes_on("after the copy")
+    trial.down(3)
+    trial.put_back(copy)
+    shutil.rmtree(f"{trial.folder}/3")
+    trial.renew()
 
 
 WAYS = (with_one_down, between_confirms, twice, while_served, added_again_down, added_again_up, moved,
-        moved_and_added_again, work_lost, own_copy, new_store, old_host, confirmed_for, parted)
+        moved_and_added_again, work_lost, own_copy, new_store, old_host, confirmed_for, parted,
+        between_confirms_without_files)
 # after these every member has to have another start than before
 RENEWING = (plain_reset, by_the_page)
-EVENTS = 24
+EVENTS = 20
 
 
 def happen(trial, way, when):

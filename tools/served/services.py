@@ -60,21 +60,28 @@ class Trial:
         return self.helpers[-1]
 
     def services(self):
-        """An example service for each node, that reads the file of signals from its start."""
+        """An example service for each node."""
         for node in self.nodes:
-            tail = subprocess.Popen(["tail", "-n", "+1", "-F", self.server.signals], stdout=subprocess.PIPE,
-                                    stderr=subprocess.DEVNULL)
-            self.helpers.append(tail)
-            self.run("service", node, self.server.address, f"{self.folder}/{node}", "--look", 1, name=node,
-                     stdin=tail.stdout)
-            tail.stdout.close()
+            self.service(node)
 
-    def stop_helpers(self):
-        for helper in self.helpers:
+    def service(self, node):
+        """An example service, which reads the file of signals from its start: the processes that it is."""
+        tail = subprocess.Popen(["tail", "-n", "+1", "-F", self.server.signals], stdout=subprocess.PIPE,
+                                stderr=subprocess.DEVNULL)
+        self.helpers.append(tail)
+        service = self.run("service", node, self.server.address, f"{self.folder}/{node}", "--look", 1, name=node,
+                           stdin=tail.stdout)
+        tail.stdout.close()
+        return tail, service
+
+    def stop_helpers(self, *some):
+        """Signal 9 to some helpers, or to all."""
+        stopped = some or tuple(self.helpers)
+        for helper in stopped:
             helper.kill()
-        for helper in self.helpers:
+        for helper in stopped:
             helper.wait()
-        self.helpers.clear()
+            self.helpers.remove(helper)
 
     def order(self, op, **members):
         return patiently(lambda: self.orders.order(op, **members), 20)
@@ -136,6 +143,13 @@ class Trial:
         shutil.copy(copy, self.server.store)
         self.start()
         self.orders.recover()
+
+    def renew(self):
+        """What the page says to do once a restored store is served."""
+        if "restored" not in self.words.without:
+            status, told = self.resetctl("restored")
+            if status != 0 or "have a new epoch" not in told:
+                raise Failed(f"resetctl restored: status {status}, {told}")
 
     def resetctl(self, *words):
         """A command of the person on call, with a client of its own. Its status and what it printed."""

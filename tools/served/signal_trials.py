@@ -6,7 +6,7 @@ import signal
 import subprocess
 import time
 
-from .services import Failed, free_ports, read
+from .services import Failed, free_ports, patiently, read
 
 LIMIT = 400_000  # bytes of the file of signals, where a line is to be torn
 
@@ -59,6 +59,53 @@ def lost(trial):
         pass
     trial.reset_all("the reset whose lines were lost")
     trial.reset_all("the reset in which the server was killed", is_killed=True)
+
+
+def unread(trial):
+    """The server's lines go to a pipe whose reader hangs, and services look by themselves. Orders are answered; after a
+    close the process stays, with the store locked, until the reader leaves."""
+    trial.services()
+    trial.expect_begun("the services began")
+    trial.close()
+    reader = subprocess.Popen(["sleep", "600"], stdin=subprocess.PIPE)
+    trial.helpers.append(reader)
+    server = trial.server
+    with open(server.errors, "wb") as errors:
+        server.process = subprocess.Popen([server.program, "serve", server.store, server.wanted], stdin=subprocess.DEVNULL,
+                                          stdout=reader.stdin, stderr=errors)
+    server.address = server.wanted
+    patiently(trial.port.show, 20)
+    fill(reader.stdin.fileno())
+    reader.stdin.close()
+    trial.reset_all("a reset whose lines nobody reads")
+    trial.port.close()
+    time.sleep(1)
+    if server.process.poll() is not None:
+        raise Failed(f"the process ended though its lines were not read: {server.ended()}")
+    if (second := subprocess.run([server.program, "serve", server.store, "127.0.0.1:0"], capture_output=True, check=False,
+                                 timeout=20)).returncode != 3:
+        raise Failed(f"the store was not locked: {second}")
+    reader.kill()
+    status, told = server.ended()
+    if (status, told) != (3, "resetd: Write\n"):
+        raise Failed(f"once the reader has gone the process ends with status {status}, {told!r}")
+    trial.start()
+    trial.reset_all("a reset after it")
+
+
+def fill(descriptor):
+    """Fills a pipe, so that the next line that is written to it waits."""
+    os.set_blocking(descriptor, False)
+    try:
+        while True:
+            os.write(descriptor, b"\n" * 4096)
+    except BlockingIOError:
+        pass
+    try:
+        while True:
+            os.write(descriptor, b"\n")
+    except BlockingIOError:
+        os.set_blocking(descriptor, True)
 
 
 def doubled(trial):

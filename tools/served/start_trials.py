@@ -2,48 +2,44 @@
 
 import shutil
 
-from .services import Failed, read
+from .services import read
 from .signal_trials import begin_first
 
 
 def restore(trial):
-    """A store is put back, with resets after the copy; later resets go through as before."""
-    begin_first(trial)
+    """A store is put back that was copied before two resets: one while service 3 was down, one while all were, which
+    nobody has begun. Every service begins anew, and later resets go through as before."""
+    trial.services()
+    trial.expect_begun("the services began")
+    third = trial.helpers[-2:]
     trial.close()
     shutil.copy(trial.server.store, f"{trial.folder}/copy")
     trial.start()
-    for each in ("second", "third"):
-        trial.reset_all(f"the {each} reset")
     before = trial.times()
-    trial.put_back(f"{trial.folder}/copy")
-    renew(trial)
-    trial.expect_begun("the restored store", before)
-    trial.reset_all("the first reset after a restore", is_killed=True)
-    trial.reset_all("the second reset after a restore")
-
-
-def forgotten(trial):
-    """A reset is asked for while all services are down, and the store is put back: no service knows of that reset,
-    and the store has forgotten it."""
-    begin_first(trial)
-    trial.close()
+    trial.stop_helpers(*third)
+    trial.reset()
+    trial.expect_begun("a reset while service 3 is down", before, nodes=(1, 2))
+    put_back(trial, before, up=(1, 2))
     shutil.copy(trial.server.store, f"{trial.folder}/copy")
     trial.start()
     before = trial.times()
     trial.stop_helpers()
     trial.reset()
+    put_back(trial, before, up=())
+    trial.start()
+    trial.reset_all("the first reset after a restore", is_killed=True)
+    trial.reset_all("the second reset after a restore")
+
+
+def put_back(trial, before, up):
+    """By the words of the page, with services that are up and others that are started behind it; then a close."""
     trial.put_back(f"{trial.folder}/copy")
-    renew(trial)
-    trial.services()
-    trial.expect_begun("the reset that the store has forgotten", before)
-
-
-def renew(trial):
-    """What the page says to do once a restored store is served."""
-    if "restored" not in trial.words.without:
-        status, told = trial.resetctl("restored")
-        if status != 0 or "have a new epoch" not in told:
-            raise Failed(f"resetctl restored: status {status}, {told}")
+    trial.renew()
+    for node in trial.nodes:
+        if node not in up:
+            trial.service(node)
+    trial.expect_begun("the restored store", before)
+    trial.close()
 
 
 def again(trial):
