@@ -2,13 +2,17 @@
 
 from __future__ import annotations
 
+import fcntl
 import os
+import resource
 import socket
 import subprocess
 import unittest
+from unittest import mock
 
 from case import PROGRAM, Case
 from real import Real
+from resetd_client.why import lock_holders
 from test_store_file import APPENDED, CHECKPOINTED, FRESH
 
 
@@ -32,7 +36,7 @@ class Files(Case):
             self.assertIn(f"store    half {index} is read; {used} of its 32,768 bytes are in use", lines)
             self.assertTrue(any(line.startswith(f"store    version 1, {count} steps: 0 in the snapshot") for line in lines))
             self.assertRegex(lines[1], rf"^file     a file of {len(data):,} bytes, -rw-r----- \S+:\S+$")
-            self.assertIn("lock     nobody holds it", lines)
+            self.assertIn("lock     nobody on this machine holds it", lines)
 
     def test_where_it_stops_to_read(self) -> None:
         for data, told in ((b"", "NoMagic: at byte 0, no store begins so: the file is empty"),
@@ -53,6 +57,28 @@ class Files(Case):
             status, lines = self.why(f"{self.folder}/{path}")
             self.assertEqual(status, 1)
             self.assertTrue(lines[-1].startswith(f"a start now would end with {told}"), lines)
+
+    def test_who_holds_the_lock(self) -> None:
+        store = self.put(FRESH)
+        with open(store, "rb") as file:
+            fcntl.flock(file, fcntl.LOCK_EX)
+            status, lines = self.why(store)
+            found = os.stat(store)
+            other_device = os.stat_result([*found[:2], found.st_dev + 1, *found[3:10]])
+            self.assertEqual((lock_holders(found), lock_holders(other_device)), ([os.getpid()], []))
+        self.assertEqual(status, 1)
+        self.assertTrue(any(line.startswith(f"lock     held by process {os.getpid()} (") for line in lines), lines)
+
+    def test_a_limit_and_a_mode(self) -> None:
+        store = self.put(FRESH)
+        before = resource.getrlimit(resource.RLIMIT_FSIZE)
+        resource.setrlimit(resource.RLIMIT_FSIZE, (65_552, before[1]))
+        self.addCleanup(resource.setrlimit, resource.RLIMIT_FSIZE, before)
+        status, lines = self.why(store)
+        self.assertEqual((status, lines[-1]), (1, "a server that runs meets the end by a signal: limit: this shell may let a file "
+                                                  "grow to 65,552 bytes alone: beyond it ends by SIGXFSZ, without a word"))
+        with mock.patch("os.access", return_value=False):
+            self.assertIn("a start now would end with Device: access: ", self.why(store)[1][-2])
 
     def test_addresses(self) -> None:
         store = self.put(FRESH)
