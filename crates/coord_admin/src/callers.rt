@@ -38,8 +38,8 @@ pub trait Callers {
         ensures failed { OnErr result (failed self.old self.new) }
         ensures none_ended { met self.old [] self.new };
 
-    /// Ends a connection; one that has closed the server is first left open until its client can
-    /// have read the answer.
+    /// Ends a connection. If it has closed the server, its client is first given time to read the
+    /// answer.
     fn end(&mut self, line: Self::Line, has_closed: bool)
         ensures ended { ended self.old line has_closed self.new }
         ensures met { (first : Self.Line) (came went : List ℕ) → begins first →

@@ -40,7 +40,7 @@ pub enum Fault {
 }
 
 impl Fault {
-    /// The fault of words that could not be had: want of memory, or else `Usage`.
+    /// The fault if the program's words could not be read: want of memory, or else `Usage`.
     pub fn of_words(error: &Error) -> Fault
         ensures memory { error_kind error.now ≡ ErrorKind.OutOfMemory → result ≡ Fault.OutOfMemory }
         ensures other { error_kind error.now ≢ ErrorKind.OutOfMemory → result ≡ Fault.Usage }

@@ -23,8 +23,8 @@ use std::{io, thread};
 /// How many milliseconds a flight waits for packets that are in hand.
 const PATIENCE: u64 = 5;
 
-/// Which part of what the last flight took the next one waits for callers to come again: what is
-/// waited for in vain then costs a sixteenth of a flight, and who comes in time has no flight to wait.
+/// A flight waits for returning callers for at most this part of the last flight's time. A wait in
+/// vain costs a sixteenth of a flight; a caller who comes in time saves a whole one.
 const CALLERS_PART: u32 = 16;
 
 /// How many milliseconds a flusher that found no memory waits before it tries again.
@@ -41,7 +41,7 @@ pub trait Deck: Taker {
     fn wait(&mut self) -> bool
         ensures { moves.waits self.old result self.new };
 
-    /// Has the next flight flown.
+    /// Sends the next flight out, commits it and takes it back.
     fn flush(&mut self) -> Result<Option<Releases>, CommitFault>
         ensures { moves.flushes self.old result self.new };
 
@@ -139,7 +139,7 @@ impl<'a, D: Disk, L: Origin, P: Port, R: Wait + Clock> Deck for EngineDeck<'a, D
     }
 }
 
-/// How long callers are waited for after a flight that left then. Not at all where no clock can be
+/// How long to wait for callers after a flight that left at `start`; not at all if no clock can be
 /// read.
 fn patience_since<R: Clock>(rt: &R, start: io::Result<Instant>) -> Duration {
     let Ok(start) = start else {
@@ -152,7 +152,8 @@ fn patience_since<R: Clock>(rt: &R, start: io::Result<Instant>) -> Duration {
 }
 
 impl<D: Disk, L: Origin> Engine<D, L> {
-    /// A packet is handed to a port: it is in hand, unless the port says that it is lost.
+    /// Hands a packet to a port: it is in hand, unless the port says that it is lost. It is counted
+    /// before the port has it, since its worker may be done with it first.
     fn hand_packet<P: Port, R: Wait>(&self, rt: &R, port: &P, to: NodeId, packet: Packet)
         ensures { (answer : Bool) × P.carried port.now to packet answer }
     {

@@ -81,7 +81,7 @@ fn collect<D: Disk, L: Origin, R: Wait>(
     }
 }
 
-/// Shows the settled world, of which the desk has seen no more.
+/// Shows the settled world, which is no older than what the desk has shown before.
 fn show<D: Disk, L: Origin, R: Wait>(
     rt: &R,
     engine: &Engine<D, L>,

@@ -13,7 +13,7 @@ pub fn lives_are_one<D: Disk, C: Callers>()
     ensures { LivesAreOne D.keeps_model D.present C.met }
 {}
 
-/// So they are where a line has closed the last one.
+/// The same, where a line has closed the last life.
 pub fn closed_lives_are_one<D: Disk>()
     ensures { ClosedLivesAreOne D.keeps_model D.present }
 {}

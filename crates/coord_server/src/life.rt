@@ -27,7 +27,7 @@ use std::sync::ledger::Blank;
 use std::thread::Threads;
 use std::time::Clock;
 
-/// What is left of a life, and of those who called.
+/// What is left of a life, and of the callers.
 #[derive(Drop)]
 pub struct Life<D: Disk, C> {
     pub closed: Closed<D>,

@@ -112,7 +112,7 @@ fn serve_and_print<
     )
 }
 
-/// Starts what prints signals, unless no thread can be had. It tells whether a line of them could not
+/// Starts the thread that prints signals, if the system has one to give. It tells whether a line of them could not
 /// be written.
 fn start_printing<'s, 'r: 's, E, W: Write + Send + Drop + 's, R: Wait + Sync>(
     scope: &Scope<'s, E>,
@@ -156,7 +156,7 @@ fn print_and_live<
     Ok(ended)
 }
 
-/// One life after the other, each over the store and for the callers that the one before left. The
+/// Runs one life after the other, each with the store and the callers that the one before left. The
 /// first one opens the output.
 fn live<D: Disk + Send, C: Callers + Drop, W: Write + Drop, R: Threads + Wait + Clock + Sync>(
     setting: &Setting<'_, R>,
@@ -198,8 +198,8 @@ fn is_settled<D: Disk>(closed: &Closed<D>) -> bool
     !closed.store.stopped() && closed.settled - base == closed.trail.len() as u64
 }
 
-/// Over what the next life begins. Else how the server ends, which it does too where a life rests over
-/// a store that has stopped.
+/// The store and the callers with which the next life begins, or how the server ends. It ends also
+/// where a life rests over a store that has stopped.
 fn next_of<D: Disk, C>(life: Life<D, C>) -> Result<(Store<D>, C), Ended<D, C>>
     ensures next { IfOk result (λ next. (life.left ≡ LeftAs.Resting) ×
         (next.0 ≡ life.closed.store) × (next.1 ≡ life.callers)) }

@@ -35,7 +35,7 @@ impl<'a, C: Callers, D: Disk, L: Origin, R: Wait> LifeCallers<'a, C, D, L, R> {
         }
     }
 
-    /// Whether no one is served any more since the life is old.
+    /// Whether the life is old, so that no one is served any more.
     pub fn rests(&self) -> bool
         ensures { result ≡ self.now.rests }
     {
