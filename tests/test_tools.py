@@ -12,11 +12,10 @@ from support.program import PROGRAM, ROOT, SHORT
 sys.path.insert(0, f"{ROOT}/tools")
 from served import faults  # noqa: E402
 
-MOST = 270  # seconds
-
 
 class Run(Case):
     takes = 60
+    most = 900
 
     def expect(self, *words, ends_with=""):
         """The command ends well, and its last line begins so."""
@@ -24,7 +23,7 @@ class Run(Case):
                                cwd=ROOT, env={**os.environ, "RESETD": PROGRAM, "TMPDIR": self.folder},
                                start_new_session=True)
         try:
-            printed = run.communicate(timeout=MOST)[0]
+            printed = run.communicate(timeout=self.most - 30)[0]
         finally:
             # with all that it has started
             with contextlib.suppress(ProcessLookupError):
