@@ -2,6 +2,7 @@
 
 import contextlib
 import os
+import re
 import signal
 import subprocess
 import sys
@@ -68,9 +69,6 @@ class Tools(Run):
         self.expect(tool("test_documents"), "--quick", "--program", PROGRAM,
                     ends_with="what the documents show is what is printed")
 
-    def test_what_services_rest_on(self):
-        self.expect(tool("test_services"), ends_with="services lose no reset")
-
     def test_the_client_library(self):
         self.expect(sys.executable, "-m", "unittest", "discover", "-s", "client/tests", ends_with="OK")
 
@@ -80,3 +78,29 @@ class ShortLives(Run):
 
     def test_kills_between_lives(self):
         self.expect(tool("soak"), "--lives", "32", "--program", SHORT, "--rounds", "10", ends_with="nothing was lost")
+
+
+class Services(Run):
+    """The trials of tools/test_services, some beside others."""
+
+    def trials(self, *names):
+        self.expect(tool("test_services"), *names, ends_with="services lose no reset")
+
+    def test_restores_and_members_that_come_again(self):
+        self.trials("restore", "again", "plain")
+
+    def test_a_work_queue(self):
+        self.trials("starts", "queue")
+
+    def test_lines_that_do_not_come(self):
+        self.trials("torn", "lost", "unread", "doubled")
+
+    def test_many_members_and_messages(self):
+        self.trials("members", "messages")
+
+    def test_no_trial_is_left_out(self):
+        with open(tool("test_services"), encoding="utf-8") as file:
+            known = set(re.findall(r'"(\w+)": \(', file.read()))
+        with open(__file__, encoding="utf-8") as file:
+            tried = set(re.findall(r'"(\w+)"', "".join(line for line in file if "self.trials(" in line)))
+        self.assertEqual(tried, known)
