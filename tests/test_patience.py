@@ -26,10 +26,14 @@ def await_end(connection):
         pass
 
 
-def untaken(connection):
-    """How many bytes the system keeps of what the server has sent to a client that does not read; None where the
-    connection is over."""
-    client, server = connection.socket.getsockname()[1], connection.socket.getpeername()[1]
+def ends_of(connection):
+    """The ports of a connection, the client's and the server's."""
+    return connection.socket.getsockname()[1], connection.socket.getpeername()[1]
+
+
+def untaken(client, server):
+    """How many bytes the system keeps of what the server has sent to a client that does not read, by their ports; None
+    where the connection is over."""
     with open("/proc/net/tcp", encoding="ascii") as rows:
         for row in rows:
             words = row.split()
@@ -135,6 +139,7 @@ class Patience(Case):
         self.needs("a C compiler", preloaded.has_compiler())
         with self.serving(64, env=preloaded.environment(self.folder, SEND_BUFFER=4_096)) as server, \
                 server.connect(buffer=4_096) as connection, server.connect() as second:
+            ends = ends_of(connection)
             second.send({"op": "resend"})
             second.socket.settimeout(0.05)
             sender = threading.Thread(target=self.send_all, args=[connection, b'{"op":"show"}\n' * 5_000], daemon=True)
@@ -142,7 +147,7 @@ class Patience(Case):
             began = moved = time.monotonic()
             size = 0
             while time.monotonic() < began + 120:
-                if (now := untaken(connection)) not in (None, size):
+                if (now := untaken(*ends)) not in (None, size):
                     size, moved = now, time.monotonic()
                 try:
                     self.assertEqual(second.reply(), {"count": 0, "kind": "resent"})
