@@ -57,11 +57,11 @@ returns-in-Ok-clause-raises g c =
           subst (λ d. LeavesOnly {D = g.row.D.Denot} g.D.Disk.clock g.D.Disk.left_since c.args.disk d (IsEitherVersion (g.D.Disk.present c.args.disk))) (sym back)
           (weaker g.D.Disk.clock g.D.Disk.left_since c.args.disk raised.disk _ _ (and_then g.D.Disk.clock g.D.Disk.left_since c.args.disk store.disk raised.disk _ _ opening raising)
           (λ image either. ⊎_elim (λ was. inl was) (λ gives. inr (store.world, c.in-Ok.ensures.world keeps, gives)) either));
-      counted = ap g.D.Disk.failures back ∙ c.migrate_store-line.ensures.failures ∙ ap (λ n. n + failures_in c.migrate_store-line.result) c.in-Ok.ensures.failures;
+      failures = ap g.D.Disk.failures back ∙ c.migrate_store-line.ensures.failures ∙ ap (λ n. n + failures_in c.migrate_store-line.result) c.in-Ok.ensures.failures;
     }
 
 pub returns-in-Err-clause-raises : goal.returns-in-Err-clause-raises
 returns-in-Err-clause-raises g c = record {
   any_moment = λ keeps. weaker g.D.Disk.clock g.D.Disk.left_since c.args.disk c.in-Err.disk _ _ (c.in-Err.ensures.any_moment_refused keeps) (λ image was. inl was);
-  counted = c.in-Err.ensures.failures;
+  failures = c.in-Err.ensures.failures;
 }
