@@ -6,7 +6,7 @@ from __future__ import annotations
 import json
 import os
 import re
-from dataclasses import dataclass
+from dataclasses import asdict, dataclass
 
 from . import files
 from .view import View
@@ -16,50 +16,46 @@ SIGNAL = re.compile(rb"signal (\d+) (\d+)\n")
 
 
 @dataclass(frozen=True)
-class Life:
-    """What the file has of the server's present life: which file it is and how long, where its last line `listening`
-    stands (-1 for none), and the signals behind that, each a node and its epoch."""
+class Mark:
+    """A place in a file of signals, behind a whole line, and each node's epoch when that was the end of the file."""
 
+    path: str
     inode: int
-    size: int
     place: int
-    signals: frozenset[tuple[int, int]]
-
-    @staticmethod
-    def of(path: str) -> Life:
-        """Reads the file. Raises OSError."""
-        with open(path, "rb") as file:
-            inode, text = os.fstat(file.fileno()).st_ino, file.read()
-        place = max((found.start() for found in LISTENING.finditer(text)), default=-1)
-        signals = SIGNAL.finditer(text, max(place, 0))
-        return Life(inode, len(text), place, frozenset((int(found[1]), int(found[2])) for found in signals))
+    epochs: dict[int, int]
 
 
 class Signals:
-    """What a file of signals lacks. A line may be gone with a kill, or with a file that was moved away or cut; within
-    one life and one file none is. So the epochs at the first look at a life are kept, and each that has risen since
-    has to have its line."""
+    """What a file of signals lacks. A line may be gone with a kill, or with a file that was moved away or cut; behind a
+    mark within one life of the server and one file none is. So each epoch that has risen since the mark has to have its
+    line there. Where all of them have it, the mark is set anew, so that little is read each time."""
 
     def __init__(self, path: str, kept: str) -> None:
         self._path, self._kept = path, kept
 
     def lacking(self, view: View) -> list[tuple[int, int]]:
-        """The signals that the view has and the file lacks. Raises OSError."""
-        life = Life.of(self._path)
+        """The signals that the view has and the file lacks, each a node and its epoch. Raises OSError."""
         shown = {node.node: node.epoch for node in view.nodes}
-        first = self._first(life, shown)
-        return [(node, epoch) for node, epoch in shown.items() if epoch > first.get(node, 0) and (node, epoch) not in life.signals]
+        mark = self._read()
+        with open(self._path, "rb") as file:
+            found = os.fstat(file.fileno())
+            is_same = mark is not None and (mark.path, mark.inode) == (self._path, found.st_ino) and mark.place <= found.st_size
+            file.seek(mark.place if mark and is_same else 0)
+            begun, text = file.tell(), file.read()
+        now = Mark(self._path, found.st_ino, begun + text.rfind(b"\n") + 1, shown)
+        lacking = []
+        if mark and is_same and not LISTENING.search(text):
+            there = {(int(line[1]), int(line[2])) for line in SIGNAL.finditer(text)}
+            lacking = [(node, epoch) for node, epoch in shown.items()
+                       if epoch > mark.epochs.get(node, 0) and (node, epoch) not in there]
+        if not lacking and now != mark:
+            files.keep(self._kept, json.dumps(asdict(now)))
+        return lacking
 
-    def _first(self, life: Life, shown: dict[int, int]) -> dict[int, int]:
-        """The epochs at the first look at this life, which is now where the life is new, or an epoch went back."""
+    def _read(self) -> Mark | None:
         try:
             kept = json.loads(files.read(self._kept) or "{}")
-            first = {int(node): int(epoch) for node, epoch in kept["epochs"].items()}
-            is_same = [kept["path"], kept["inode"], kept["place"]] == [self._path, life.inode, life.place] and kept["size"] <= life.size
+            epochs = {int(node): int(epoch) for node, epoch in kept["epochs"].items()}
+            return Mark(str(kept["path"]), int(kept["inode"]), int(kept["place"]), epochs)
         except (ValueError, KeyError, TypeError, AttributeError):
-            first, is_same = {}, False
-        if is_same and all(first.get(node, 0) <= epoch for node, epoch in shown.items()):
-            return first
-        files.keep(self._kept, json.dumps({"path": self._path, "inode": life.inode, "place": life.place, "size": life.size,
-                                           "epochs": shown}))
-        return shown
+            return None

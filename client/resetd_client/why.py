@@ -73,18 +73,22 @@ def of_folder(folder: str) -> Iterator[Finding]:
 def owned(found: os.stat_result) -> str:
     """The mode and the owners, as `ls` has them."""
     try:
-        user = pwd.getpwuid(found.st_uid).pw_name
-    except KeyError:
-        user = str(found.st_uid)
-    try:
         group = grp.getgrgid(found.st_gid).gr_name
     except KeyError:
         group = str(found.st_gid)
-    return f"{stat.filemode(found.st_mode)} {user}:{group}"
+    return f"{stat.filemode(found.st_mode)} {user_name(found.st_uid)}:{group}"
+
+
+def user_name(number: int) -> str:
+    try:
+        return pwd.getpwuid(number).pw_name
+    except KeyError:
+        return str(number)
 
 
 def of_access(path: str) -> Finding:
-    user = pwd.getpwuid(os.geteuid()).pw_name if os.geteuid() in {each.pw_uid for each in pwd.getpwall()} else os.geteuid()
+    """Whether this user may use the file; a server may be another one."""
+    user = user_name(os.geteuid())
     if os.access(path, os.R_OK | os.W_OK, effective_ids=os.access in os.supports_effective_ids):
         return Finding("access", f"{user} may read and write it; whether its server's user may, the modes above say")
     return Finding("access", f"{user} may not both read and write it", "Device")
@@ -96,18 +100,35 @@ def of_lock(found: os.stat_result) -> Iterator[Finding]:
     for process in holders:
         yield Finding("lock", f"held by process {process}{commanded(process)}: a second start is refused", "Device")
     if not holders:
-        yield Finding("lock", "nobody holds it")
+        yield Finding("lock", "nobody on this machine holds it")
 
 
 def lock_holders(found: os.stat_result) -> list[int]:
-    """The processes that have a lock on a file of this device and number."""
-    name = f"{os.major(found.st_dev):02x}:{os.minor(found.st_dev):02x}:{found.st_ino}"
+    """The processes of this machine that have a lock on a file. Some file systems give a lock another device's number
+    than the file has: there the process is asked what it has open."""
+    device = f"{os.major(found.st_dev):02x}:{os.minor(found.st_dev):02x}"
     try:
         with open("/proc/locks", encoding="utf-8") as lines:
             rows = [line.split() for line in lines]
     except OSError:
         return []
-    return sorted({int(row[4]) for row in rows if len(row) > 5 and row[1] != "->" and row[5] == name})
+    holders = set()
+    for row in rows:
+        if len(row) > 5 and row[1] != "->" and row[5].endswith(f":{found.st_ino}"):
+            process = int(row[4])
+            if row[5] == f"{device}:{found.st_ino}" or has_open(process, found):
+                holders.add(process)
+    return sorted(holders)
+
+
+def has_open(process: int, found: os.stat_result) -> bool:
+    for name in opened(process):
+        try:
+            if os.path.samestat(os.stat(f"/proc/{process}/fd/{name}"), found):
+                return True
+        except OSError:
+            pass
+    return False
 
 
 def commanded(process: int) -> str:
@@ -150,11 +171,7 @@ def of_store(store: Store) -> Iterator[Finding]:
 
 def of_space(path: str, found: os.stat_result) -> Iterator[Finding]:
     """Whether the file may grow to its full length."""
-    space = os.statvfs(path)
-    with open(path, "rb") as file:
-        head = file.read(HEADER)
-    size = int.from_bytes(head[9:], "big") if len(head) == HEADER else 0
-    full = HEADER + 2 * size if size in HALVES else HEADER + 2 * HALVES[0]
+    space, full = os.statvfs(path), HEADER + 2 * half_size(path)
     free, lacks = space.f_bavail * space.f_frsize, max(full - found.st_blocks * 512, 0)
     yield Finding("space", f"{free:,} bytes are free, and the file may take {lacks:,} more",
                   later="Stopped" if free < lacks else "")
@@ -164,6 +181,16 @@ def of_space(path: str, found: os.stat_result) -> Iterator[Finding]:
     yield from of_limit("this shell", None if limit == resource.RLIM_INFINITY else limit, full)
     for process in lock_holders(found):
         yield from of_limit(f"process {process}", file_limit(process), full)
+
+
+def half_size(path: str) -> int:
+    """The size of a half, or the least one where the file does not tell."""
+    try:
+        with open(path, "rb") as file:
+            size = int.from_bytes(file.read(HEADER)[9:], "big")
+    except OSError:
+        size = 0
+    return size if size in HALVES else HALVES[0]
 
 
 def of_address(text: str, seconds: float, path: str) -> Iterator[Finding]:
@@ -231,22 +258,25 @@ def listening(host: str, port: int) -> set[int]:
     except OSError:
         return set()
     sockets = {f"socket:[{row[9]}]" for row in rows if row[1] in wanted and row[3] == LISTENS}
-    return {process for process in processes() if sockets & opened(process)} if sockets else set()
+    return {process for process in processes() if sockets & set(links_of(process))} if sockets else set()
 
 
 def processes() -> list[int]:
     return [int(name) for name in os.listdir("/proc") if name.isdigit()]
 
 
-def opened(process: int) -> set[str]:
-    """What a process has open."""
-    found = set()
+def opened(process: int) -> list[str]:
+    """The numbers of what a process has open, as far as this user may see them."""
     try:
-        for name in os.listdir(f"/proc/{process}/fd"):
-            try:
-                found.add(os.readlink(f"/proc/{process}/fd/{name}"))
-            except OSError:
-                pass
+        return os.listdir(f"/proc/{process}/fd")
     except OSError:
-        pass
-    return found
+        return []
+
+
+def links_of(process: int) -> Iterator[str]:
+    """The names of what it has open."""
+    for name in opened(process):
+        try:
+            yield os.readlink(f"/proc/{process}/fd/{name}")
+        except OSError:
+            pass

@@ -14,7 +14,7 @@ from typing import Any
 
 from case import PROGRAM
 from real import Real
-from resetd_client import Port, Refused
+from resetd_client import Away, NotTaken, Port, Refused, find_count, patiently
 from resetd_client.control import main
 from resetd_client.store_file import Store, read_half, read_store
 from resetd_client.store_grammar import orders_of
@@ -40,15 +40,24 @@ class Load(threading.Thread):
 
     def run(self) -> None:
         number = 0
-        while not self.is_over:
-            lines = [{"op": "reset", "client": self.client, "number": number + 1 + each, "node": self.choice.randint(1, NODES)}
-                     for each in range(self.choice.randint(1, 8))]
-            for line, answer in zip(lines, self.port.ask_many(lines)):
-                if isinstance(answer, Exception):
-                    self.failed = f"{line} was answered {answer}"
-                    return
-                number += 1
-                self.answered = (line, answer)
+        while not self.is_over and not self.failed:
+            try:
+                number = self.some(number)
+            except Away:
+                number = patiently(lambda: find_count(self.port, self.client, number))
+            except NotTaken as fault:
+                self.failed = f"client {self.client}: {fault}"
+
+    def some(self, number: int) -> int:
+        """Some resets, and the number of the last that was answered."""
+        lines = [{"op": "reset", "client": self.client, "number": number + 1 + each, "node": self.choice.randint(1, NODES)}
+                 for each in range(self.choice.randint(1, 8))]
+        for line, answer in zip(lines, self.port.ask_many(lines)):
+            if isinstance(answer, NotTaken):
+                raise answer
+            number += 1
+            self.answered = (line, answer)
+        return number
 
 
 class Trial:
@@ -71,7 +80,7 @@ class Trial:
     def copies(self, count: int) -> str:
         """Makes so many copies and looks into each. What was seen. Raises Lost."""
         began = time.monotonic()
-        while any(each.answered is None for each in self.load):
+        while any(each.answered is None and not each.failed for each in self.load):
             time.sleep(0.01)
         for _ in range(count):
             self.copy()

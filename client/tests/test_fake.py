@@ -79,7 +79,7 @@ class Alike(unittest.TestCase):
     def test_orders_at_random(self) -> None:
         choice, numbers = random.Random(55), dict[int, int]()
         seen = set()
-        for _ in range(600):
+        for _ in range(400):
             order = drawn(choice, numbers)
             answer = self.compare(line(order))
             seen.add(answer.get("name", answer.get("kind")))

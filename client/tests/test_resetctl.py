@@ -139,6 +139,11 @@ class Controls(Case):
         self.assertEqual(self.run_words("health")[:2], (3, f"resetd UNKNOWN: {self.server.address} is no coordinator: it said "
                                                            "'<!DOCTYPE HTML>'\n"))
 
+    def test_files_that_cannot_be_used(self) -> None:
+        for words, status in ((["metrics", f"{self.folder}/none/file"], 1), (["steps", f"{self.folder}/none"], 1),
+                              (["--state", "/dev/null/state", "reset", "1"], 4)):
+            self.assertEqual(self.run_words(*words)[0], status, words)
+
     def test_stopped_says_what_to_do(self) -> None:
         self.server.is_stopped = True
         self.assertEqual(self.run_words("reset", "1")[2], "resetctl: the server answers Stopped: the same order with the same "

@@ -143,7 +143,7 @@ class BesideTheProgram(unittest.TestCase):
         choice, seen = random.Random(54), set()
         examples = [FRESH, APPENDED, CHECKPOINTED, *served_stores()]
         with tempfile.TemporaryDirectory() as folder:
-            for _ in range(1_000):
+            for _ in range(400):
                 data = bytearray(choice.choice(examples))
                 for _ in range(choice.choice([1, 1, 1, 2])):
                     place = choice.randrange(min(len(data), 700)) if choice.random() < 0.8 else choice.randrange(len(data))

@@ -48,6 +48,11 @@ def parser() -> argparse.ArgumentParser:
     return top
 
 
+def is_within(path: str, folder: str) -> bool:
+    """Whether a path is this folder or stands below it."""
+    return os.path.join(path, "").startswith(os.path.join(folder, ""))
+
+
 def default_state() -> str:
     """Where the numbers of a person's client are kept."""
     if "STATE_DIRECTORY" in os.environ:  # given by systemd
@@ -88,6 +93,6 @@ def main(arguments: list[str] | None = None) -> int:
         return LEFT
     except OSError as fault:
         complain(f"{fault.filename}: {fault.strerror}")
-        return COUNT if str(fault.filename).startswith(words.state) else REFUSED
+        return COUNT if is_within(str(fault.filename), control.folder) or is_within(control.folder, str(fault.filename)) else REFUSED
     except KeyboardInterrupt:
         return INTERRUPTED

@@ -58,8 +58,11 @@ class Control:
 
     def patient(self, call: Callable[[], T]) -> T:
         """Makes a call until it is answered or the patience is over, and says at once what it waits for."""
-        with told_after(SILENCE_SECONDS, f"waits for an answer of {self.words.address}"):
-            return patiently(call, self.patience, lambda away: complain(f"{self.why(away)}; tried again for {self.patience:g} s"))
+        with told_after(SILENCE_SECONDS, f"waits for an answer of {self.words.address}") as timer:
+            def tell(away: Away) -> None:
+                timer.cancel()
+                complain(f"{self.why(away)}; tried again for {self.patience:g} s")
+            return patiently(call, self.patience, tell)
 
     def show(self) -> View:
         return self.patient(self.port.show)
@@ -113,13 +116,13 @@ class Control:
 
 
 @contextmanager
-def told_after(seconds: float, text: str) -> Iterator[None]:
-    """Tells a person something where the body takes longer than this."""
+def told_after(seconds: float, text: str) -> Iterator[threading.Timer]:
+    """Tells a person something where the body takes longer than this, and doesn't cancel it."""
     timer = threading.Timer(seconds, complain, [text])
     timer.daemon = True
     timer.start()
     try:
-        yield
+        yield timer
     finally:
         timer.cancel()
 
