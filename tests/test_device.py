@@ -63,6 +63,7 @@ def calls_of(path):
 
 class Moments(Case):
     takes = 60
+    most = 600
 
     def setUp(self):
         super().setUp()

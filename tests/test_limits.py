@@ -63,7 +63,7 @@ class Threads(Case):
     def test_it_serves_with_all_of_them_or_not_at_all(self):
         """tools/few_threads, as root."""
         self.needs("root", os.geteuid() == 0)
-        done = subprocess.run([tool("few_threads"), PROGRAM], capture_output=True, text=True, timeout=160)
+        done = subprocess.run([tool("few_threads"), PROGRAM], capture_output=True, text=True, timeout=self.most - 30)
         self.assertEqual((done.returncode, done.stderr), (0, ""), done.stdout)
 
 

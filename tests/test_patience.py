@@ -1,5 +1,8 @@
 """For how long a client is waited for: each time of docs/OPERATING.md, against a client that provokes it."""
 
+import contextlib
+import os
+import sys
 import threading
 import time
 
@@ -13,16 +16,14 @@ LATE = 10  # seconds by which a busy machine may be late
 SHOW = {"op": "show"}
 
 
-def ended_after(connection):
-    """Waits until the server has ended a connection: the seconds that it took."""
+def await_end(connection):
+    """Waits until the server has ended a connection."""
     connection.socket.settimeout(SILENCE + LATE + 2)
-    began = time.monotonic()
     try:
         while connection.socket.recv(65_536):
             pass
     except ConnectionResetError:
         pass
-    return time.monotonic() - began
 
 
 def untaken(connection):
@@ -43,40 +44,40 @@ class Patience(Case):
     def serving(self, nodes=1, **how):
         return Serving(self.made(ring(nodes) if nodes > 2 else topology([(1, 1)])), **how)
 
-    def expect_within(self, seconds, begun, end, early=0.5):
-        """It took as long as that, and the server serves the next client."""
+    def expect_within(self, seconds, begun, server, early=0):
+        """It took as long as that since before the client did its part, and the server serves the next client."""
         took = time.monotonic() - begun
-        self.assertGreater(took, seconds - early)
+        self.assertGreaterEqual(took, seconds - early)
         self.assertLess(took, seconds + LATE)
-        self.assertEqual(end.ask({"op": "resend"}), {"count": 0, "kind": "resent"})
+        self.assertEqual(server.ask({"op": "resend"}), {"count": 0, "kind": "resent"})
 
     def test_a_client_that_says_nothing(self):
-        with self.serving() as server, server.connect() as connection:
+        with self.serving() as server:
             begun = time.monotonic()
-            ended_after(connection)
+            with server.connect() as connection:
+                await_end(connection)
             self.expect_within(SILENCE, begun, server)
 
     def test_a_client_that_says_nothing_behind_a_reply(self):
         with self.serving() as server, server.connect() as connection:
             for _ in range(2):
+                time.sleep(1)
+                begun = time.monotonic()
                 connection.send(SHOW)
                 connection.line()
-                begun = time.monotonic()
-                time.sleep(1)
-            ended_after(connection)
+            await_end(connection)
             self.expect_within(SILENCE, begun, server)
 
     def test_a_second_client_that_says_nothing(self):
         """One that waits meanwhile has its turn then, and its own time."""
         with self.serving() as server, server.connect() as first, server.connect() as second:
-            begun = time.monotonic()
             first.send(SHOW)
             first.line()
             first.socket.close()
+            begun = time.monotonic()
             second.send(SHOW)
             second.line()
-            begun = time.monotonic()
-            ended_after(second)
+            await_end(second)
             self.expect_within(SILENCE, begun, server)
 
     def test_a_line_that_trickles(self):
@@ -107,9 +108,9 @@ class Patience(Case):
     def test_the_rest_of_a_line(self):
         """A first part, and then nothing."""
         with self.serving() as server, server.connect() as connection:
-            connection.send(b'{"op":"sh')
             begun = time.monotonic()
-            ended_after(connection)
+            connection.send(b'{"op":"sh')
+            await_end(connection)
             self.expect_within(LINE, begun, server)
 
     def test_lines_that_are_slow_but_in_time(self):
@@ -161,17 +162,37 @@ class Patience(Case):
             pass
 
     def test_a_connection_that_lasts(self):
-        """By a clock that goes sixty times as fast; the second client has as long as the first one."""
+        """By a clock that is put forward. It is looked at before a line is waited for, so one more line may be answered.
+        The second client has as long as the first one."""
         self.needs("a C compiler", preloaded.has_compiler())
-        with self.serving(env=preloaded.environment(self.folder, CLOCK_FACTOR=60)) as server:
-            for _ in range(2):
+        with self.serving(env=preloaded.environment(self.folder, CLOCK=self.clock(0))) as server:
+            for begun in (0, 10_000):
+                self.clock(begun)
                 with server.connect() as connection:
-                    begun = time.monotonic()
-                    while time.monotonic() < begun + 60:
-                        connection.send({"op": "resend"})
-                        if not connection.line():
-                            break
-                        last = time.monotonic()
-                        time.sleep(0.1)
-                    self.assertGreater((last - begun) * 60, CONNECTION - 60)
-                    self.assertLess((last - begun) * 60, CONNECTION + 60 * LATE)
+                    self.expect_served(connection, lines=2)
+                    self.clock(begun + CONNECTION - 5 * LATE)
+                    self.expect_served(connection, lines=3)
+                    self.clock(begun + CONNECTION)
+                    self.assertLessEqual(self.served_to_the_end(connection), 1)
+
+    def clock(self, ahead):
+        """Puts the server's clock ahead by so many seconds, and answers its file."""
+        with open(self.path("clock"), "r+b" if os.path.exists(self.path("clock")) else "wb") as file:
+            file.write(ahead.to_bytes(8, sys.byteorder))
+        return self.path("clock")
+
+    @staticmethod
+    def served_to_the_end(connection):
+        """How many lines are answered before the connection is ended, three at most."""
+        with contextlib.suppress(ConnectionError):
+            for served in range(3):
+                connection.send({"op": "resend"})
+                if not connection.line():
+                    return served
+            return 3
+        return served
+
+    def expect_served(self, connection, lines):
+        for _ in range(lines):
+            connection.send({"op": "resend"})
+            self.assertEqual(connection.line(), b'{"count":0,"kind":"resent"}\n')

@@ -55,9 +55,11 @@ class SlowOutput(Case):
     def reset(self, server, numbers):
         """Orders over one connection, each of which is answered though nothing is printed."""
         with server.connect() as connection:
-            for number in numbers:
-                connection.send({"op": "reset", "client": 1, "number": number, "node": 1})
-                self.assertEqual(connection.reply(), {"kind": "finished", "step": number + 1})
+            for first in range(numbers.start, numbers.stop, 50):
+                each = range(first, min(first + 50, numbers.stop))
+                connection.send(*({"op": "reset", "client": 1, "number": number, "node": 1} for number in each))
+                for number in each:
+                    self.assertEqual(connection.reply(), {"kind": "finished", "step": number + 1})
 
     def test_an_output_that_is_not_read(self):
         """It holds up no answer. After the close the server ends only once all is printed."""

@@ -2,6 +2,7 @@
 
 import contextlib
 import os
+import re
 import signal
 import subprocess
 import sys
@@ -12,11 +13,10 @@ from support.program import PROGRAM, ROOT, SHORT
 sys.path.insert(0, f"{ROOT}/tools")
 from served import faults  # noqa: E402
 
-MOST = 270  # seconds
-
 
 class Run(Case):
     takes = 60
+    most = 900
 
     def expect(self, *words, ends_with=""):
         """The command ends well, and its last line begins so."""
@@ -24,7 +24,7 @@ class Run(Case):
                                cwd=ROOT, env={**os.environ, "RESETD": PROGRAM, "TMPDIR": self.folder},
                                start_new_session=True)
         try:
-            printed = run.communicate(timeout=MOST)[0]
+            printed = run.communicate(timeout=self.most - 30)[0]
         finally:
             # with all that it has started
             with contextlib.suppress(ProcessLookupError):
@@ -69,9 +69,6 @@ class Tools(Run):
         self.expect(tool("test_documents"), "--quick", "--program", PROGRAM,
                     ends_with="what the documents show is what is printed")
 
-    def test_what_services_rest_on(self):
-        self.expect(tool("test_services"), ends_with="services lose no reset")
-
     def test_the_client_library(self):
         self.expect(sys.executable, "-m", "unittest", "discover", "-s", "client/tests", ends_with="OK")
 
@@ -81,3 +78,29 @@ class ShortLives(Run):
 
     def test_kills_between_lives(self):
         self.expect(tool("soak"), "--lives", "32", "--program", SHORT, "--rounds", "10", ends_with="nothing was lost")
+
+
+class Services(Run):
+    """The trials of tools/test_services, some beside others."""
+
+    def trials(self, *names):
+        self.expect(tool("test_services"), *names, ends_with="services lose no reset")
+
+    def test_restores_and_members_that_come_again(self):
+        self.trials("restore", "again", "plain")
+
+    def test_a_work_queue(self):
+        self.trials("starts", "queue")
+
+    def test_lines_that_do_not_come(self):
+        self.trials("torn", "lost", "unread", "doubled")
+
+    def test_many_members_and_messages(self):
+        self.trials("members", "messages")
+
+    def test_no_trial_is_left_out(self):
+        with open(tool("test_services"), encoding="utf-8") as file:
+            known = set(re.findall(r'"(\w+)": \(', file.read()))
+        with open(__file__, encoding="utf-8") as file:
+            tried = set(re.findall(r'"(\w+)"', "".join(line for line in file if "self.trials(" in line)))
+        self.assertEqual(tried, known)

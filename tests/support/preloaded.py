@@ -10,6 +10,7 @@ SOURCE = r"""
 #include <stdio.h>
 #include <stdlib.h>
 #include <string.h>
+#include <sys/mman.h>
 #include <sys/socket.h>
 #include <sys/syscall.h>
 #include <time.h>
@@ -33,17 +34,16 @@ int accept4(int socket, struct sockaddr *address, socklen_t *length, int flags) 
     }
     return client;
 }
-// The clock goes CLOCK_FACTOR times as fast, from the first look at it.
+// The clock is ahead by as many seconds as the file CLOCK has at this moment, a number of 8 bytes.
 int clock_gettime(clockid_t id, struct timespec *time) {
-    static long begun;
-    int status = syscall(SYS_clock_gettime, id, time);
-    if (id == CLOCK_MONOTONIC && setting("CLOCK_FACTOR") && status == 0) {
-        long now = time->tv_sec * 1000000000 + time->tv_nsec;
-        if (!begun) begun = now;
-        now = begun + (now - begun) * setting("CLOCK_FACTOR");
-        time->tv_sec = now / 1000000000;
-        time->tv_nsec = now % 1000000000;
+    static long *ahead;
+    if (!ahead && getenv("CLOCK")) {
+        int file = syscall(SYS_openat, AT_FDCWD, getenv("CLOCK"), O_RDONLY);
+        ahead = mmap(0, sizeof *ahead, PROT_READ, MAP_SHARED, file, 0);
+        syscall(SYS_close, file);
     }
+    int status = syscall(SYS_clock_gettime, id, time);
+    if (ahead && id == CLOCK_MONOTONIC && status == 0) time->tv_sec += *ahead;
     return status;
 }
 // Calls of a device and what goes out are written down in the file CALLS, a line each: what is to be written before it is,
