@@ -7,15 +7,15 @@ use Rattle.coord_ledger.specs.declared.trace.RunFaultKind.TheVariants as of_run
 use Rattle.coord_drill.specs.declared.asked.Asked.{Asked}
 use Rattle.coord_drill.specs.declared.asked.Asked.TheVariants.{Crash, Version2}
 use Rattle.coord_drill.specs.declared.fault.Fault.{Fault}
-use Rattle.coord_drill.specs.declared.fault.Fault.TheVariants.{Device, OutOfMemory, Read, TooManyReads, Write}
+use Rattle.coord_drill.specs.declared.fault.Fault.TheVariants.{OutOfMemory, Read, Store, TooManyReads, Write}
 
 -- want of memory
 abbrev pub IsOfMemory : Fault → Type 0
 IsOfMemory fault = fault ≡ OutOfMemory
 
--- or a failure of the drill's own disk
+-- or the store is refused on the drill's disk
 abbrev pub IsOfDisk : Fault → Type 0
-IsOfDisk fault = IsOfMemory fault ⊎ (fault ≡ Device)
+IsOfDisk fault = IsOfMemory fault ⊎ ((why : StoreFault) × (fault ≡ Store why))
 
 -- or one of the writer
 abbrev pub IsOfWriting : Fault → Type 0
@@ -25,13 +25,13 @@ IsOfWriting fault = IsOfMemory fault ⊎ (fault ≡ Write)
 abbrev pub IsOfWork : Fault → Type 0
 IsOfWork fault = (fault ≢ Read) × (fault ≢ TooManyReads)
 
--- what is asked may make a disk, or open one again
+-- what is asked may raise a store, or open one again
 abbrev pub opens_disk : Asked → Bool
 opens_disk Crash = true
 opens_disk Version2 = true
 opens_disk asked = false
 
--- only then a failure of the disk may end it
+-- only then a refused store may end it
 abbrev pub MayEndBy : Bool → Fault → Type 0
 MayEndBy true fault = IsOfDisk fault
 MayEndBy false fault = IsOfMemory fault
@@ -39,10 +39,10 @@ MayEndBy false fault = IsOfMemory fault
 abbrev pub MayEnd : Asked → Fault → Type 0
 MayEnd a fault = MayEndBy (opens_disk a) fault
 
--- a store that is refused on the drill's own disk was so for want of memory, or else the disk failed
+-- how a refused store is told
 abbrev pub store_fault : StoreFault → Fault
 store_fault store.OutOfMemory = OutOfMemory
-store_fault fault = Device
+store_fault why = Store why
 
 -- a crash whose disk was not opened again lacked memory, or is told as its store's fault
 abbrev pub reopen_fault : RunFaultKind → Fault

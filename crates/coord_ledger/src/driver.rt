@@ -87,6 +87,22 @@ impl<D: CrashDisk> Driver<D> {
         self.survives();
     }
 
+    /// Gives the ledger back, where no flight is out.
+    pub fn into_ledger(self) -> Ledger<D>
+        requires { self.flight ≡ None }
+        ensures { result ≡ self.ledger }
+    {
+        let Driver { ledger, flight } = self;
+        match flight {
+            None => ledger,
+            Some(flight) => {
+                drop(ledger);
+                drop(flight.into_disk());
+                unreachable!()
+            }
+        }
+    }
+
     /// Gives the disk up, the ledger's or that of the flight that is out.
     pub fn into_disk(self) -> D
         ensures disk { disk_driven self ≡ Some result }
