@@ -58,7 +58,7 @@ pub record IsKept (m : Machine) (told : List ℕ) (bytes : List ℕ) : Type 0 wh
   pub within : steps ≤ length m.log.trail
   pub recovered : Recovered bytes (world_after m.log steps)
   pub legal : Legal (world_after m.log steps)
-  pub told : AllByRecursion (λ n. n ≤ (world_after m.log steps).count) told
+  pub has_told : AllByRecursion (λ n. n ≤ (world_after m.log steps).count) told
 
 -- so is whatever a disk may hold
 abbrev pub AllKept : Machine → List ℕ → Present → Type 0

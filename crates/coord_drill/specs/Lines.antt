@@ -37,9 +37,10 @@ pub record BreaksOff {D : Type 0} (disk : Ghosts D) (crashes : D → D → Type 
   pub wrote : WritesFirstPart written now text
   pub goes : (p : Place D) → Stands disk d p → (q : Place D) × (Goes disk crashes p n ended text q × ((lost ≡ q.disk) ⊎ FirstCutShort disk crashes q others lost))
 
--- a piece of the input was taken: the lines that have ended in it, from a line so far to another
-pub record Takes {D : Type 0} (disk : Ghosts D) (crashes : D → D → Type 0) (d : Drill D) (number : ℕ) (line : Line) (piece : List ℕ) (written now : Option (List ℕ)) (new : Drill D) (new_number : ℕ) (new_line : Line) : Type 0 where
+-- A piece of the input was taken, but for this rest: the lines that have ended in it were carried out, from a line so far
+-- to another.
+pub record Takes {D : Type 0} (disk : Ghosts D) (crashes : D → D → Type 0) (d : Drill D) (number : ℕ) (line : Line) (piece rest : List ℕ) (written now : Option (List ℕ)) (new : Drill D) (new_number : ℕ) (new_line : Line) : Type 0 where
   pub ended : List Line
-  pub lines : (more : List ℕ) → lines_on line (piece ++ more) ≡ ended ++ lines_on new_line more
+  pub lines : (more : List ℕ) → lines_on line (piece ++ more) ≡ ended ++ lines_on new_line (rest ++ more)
   pub numbers : new_number ≡ number + length ended
   pub out : CarriesOut disk crashes d (number + 1) ended written now new

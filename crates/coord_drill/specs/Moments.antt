@@ -76,7 +76,7 @@ pub record LeadsPart {D : Type 0} (disk : Ghosts D) (crashes : D → D → Type 
 pub record Hands {D : Type 0} (disk : Ghosts D) (crashes : D → D → Type 0) (d : Driven D) (x : Step) (answer : Result Handed Refusal) (new : Driven D) : Type 0 where
   pub handed : HandedTo d.ledger x answer new.ledger
   pub flight : new.flight ≡ d.flight
-  pub disk : disk_driven new ≡ disk_driven d
+  pub stays : disk_driven new ≡ disk_driven d
   pub moments : Leads disk crashes d (Submit x ∷ []) (answer_to answer ∷ []) new
 
 -- ---- the line `version 2`

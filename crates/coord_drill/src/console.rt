@@ -51,8 +51,8 @@ pub fn coord_drill<R: Read, W: Write>(
         × (fault ≡ TooManyReads → MOST_READS ≤ length seen)) }
 {
     match coord_drill_on(alloc, reader, writer, new_disk(alloc)) {
-        Ok(_) => Ok(()),
-        Err((fault, _)) => Err(fault),
+        Ok(_disk) => Ok(()),
+        Err((fault, _disk)) => Err(fault),
     }
 }
 
@@ -74,14 +74,14 @@ pub fn coord_drill_on<R: Read, W: Write, D: CrashDisk>(
         × Ended ⟦<D as Disk>⟧ D.crashes seen text last
         × Appends (W.contents writer.old) (W.contents writer.new) text) }
     ensures end { OnOk result (IsAtEnd (R.remaining reader.new)) }
-    ensures failed { D.keeps_model disk ≡ true → IfErr result (λ refused. (seen : List ℕ)
+    ensures failed { D.keeps_model disk ≡ true → IfErr result (λ refused. ((seen : List ℕ)
         × Consumes (R.remaining reader.old) (R.remaining reader.new) seen
         × BrokeOff ⟦<D as Disk>⟧ D.crashes seen (W.contents writer.old) (W.contents writer.new)
         refused.1
-        × (refused.0 ≡ TooManyReads → MOST_READS ≤ length seen)
-        ⊎ NotMade ⟦<D as Disk>⟧ disk refused.0
+        × (refused.0 ≡ TooManyReads → MOST_READS ≤ length seen))
+        ⊎ (NotMade ⟦<D as Disk>⟧ disk refused.0
         × (R.remaining reader.new ≡ R.remaining reader.old)
-        × (W.contents writer.new ≡ W.contents writer.old)) }
+        × (W.contents writer.new ≡ W.contents writer.old))) }
 {
     Console::new(alloc, disk)?.run(alloc, reader, writer)
 }
@@ -174,7 +174,7 @@ impl<D: CrashDisk> Console<D> {
         ensures ready { IfOk result (λ console. IsReady console.drill) }
         ensures number { IfOk result (λ console. console.number ≤ self.number + length piece.now) }
         ensures taken { IfOk result (λ console. Takes ⟦<D as Disk>⟧ D.crashes
-            self.drill self.number self.line piece.now
+            self.drill self.number self.line piece.now []
             (W.contents writer.old) (W.contents writer.new)
             console.drill console.number console.line) }
         ensures failed { IfErr result (λ refused. BreaksOff ⟦<D as Disk>⟧ D.crashes

@@ -30,7 +30,7 @@ kept_of m told bytes is all survives =
       within = le;
       recovered = survives.recovered;
       legal = (trail_keeps_worlds m.log.base m.log.trail n is.log.trail).legal;
-      told = all_raised (λ k. k) (settled_count m.log) (world_after m.log n).count told (omega (arith, count, keeps.is)) all;
+      has_told = all_raised (λ k. k) (settled_count m.log) (world_after m.log n).count told (omega (arith, count, keeps.is)) all;
     }
 
 -- ---- the machine that a crash finds

@@ -133,7 +133,7 @@ module _ {D : Type 0} (disk : Ghosts D) (crashes : D → D → Type 0) where
           within = omega arith;
           recovered = recovered;
           legal = (trail_keeps_worlds (no_world 2) [] 0 two.log.trail).legal;
-          told = all_raised (λ k. k) (settled_count p.machine.log) 0 p.told (omega (arith, count)) at.told;
+          has_told = all_raised (λ k. k) (settled_count p.machine.log) 0 p.told (omega (arith, count)) at.told;
         }
 
     raising_kept : IsEmptyLog d.driver.ledger.log → IsConsistent (adopted (no_world 2)) → (bytes : List ℕ) → GivesRaised d.driver bytes → IsKept p.machine p.told bytes ⊎ IsKept (adopted (no_world 2)) p.told bytes
@@ -146,7 +146,7 @@ module _ {D : Type 0} (disk : Ghosts D) (crashes : D → D → Type 0) where
           within = le;
           recovered = subst (Recovered bytes) (settled_is (held d.driver at.beside) p.machine at.consistent at.follows) own;
           legal = (trail_keeps_worlds log.base log.trail log.settled at.consistent.log.trail).legal;
-          told = all_raised (λ k. k) (settled_count log) (settled_world log).count p.told (omega (arith, count)) at.told;
+          has_told = all_raised (λ k. k) (settled_count log) (settled_world log).count p.told (omega (arith, count)) at.told;
         })
     raising_kept empty two bytes (inr raised) = inr (kept_two empty bytes (subst (Recovered bytes) (raised_to d.driver.ledger.log empty) raised) two)
 

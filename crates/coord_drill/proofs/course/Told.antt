@@ -73,7 +73,8 @@ module _ (s : DrillState) (x : Step) where
   repeat_settled (Err refusal) count = tt
 
   step_settled : (holds : Bool) (given : List Answer) → s.holds ≡ holds → Answered (machine_of s) (step_events holds x given) given → HaveMemory given → AllByRecursion (λ k. k ≤ settled_count (run (machine_of s) (step_events holds x given) given).log) (step_told s x given)
-  step_settled true (Accepted n ∷ given) is answered memory = subst (λ b. AllByRecursion (λ k. k ≤ _) (cond b [] (flight_told (with_step s.log x) given))) (sym is) tt
+  step_settled true (Accepted n ∷ given) is answered memory =
+      subst (λ b. AllByRecursion (λ k. k ≤ settled_count (run (machine_of s) (step_events true x (Accepted n ∷ given)) (Accepted n ∷ given)).log) (cond b [] (flight_told (with_step s.log x) given))) (sym is) tt
   step_settled false (Accepted n ∷ given) is answered memory =
       let mid = after_submit (machine_of s) x (verdict s.log x) (Accepted n) in
       subst (λ b. AllByRecursion (λ k. k ≤ settled_count (run mid (flight_events given) given).log) (cond b [] (flight_told (with_step s.log x) given))) (sym is)

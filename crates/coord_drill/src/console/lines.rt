@@ -27,7 +27,7 @@ impl<D: CrashDisk> Console<D> {
         ensures ready { IfOk result (λ console. IsReady console.drill) }
         ensures number { IfOk result (λ console. console.number ≤ self.number + length piece.now) }
         ensures taken { IfOk result (λ console. Takes ⟦<D as Disk>⟧ D.crashes
-            self.drill self.number self.line piece.now
+            self.drill self.number self.line piece.now []
             (W.contents writer.old) (W.contents writer.new)
             console.drill console.number console.line) }
         ensures failed { IfErr result (λ refused. BreaksOff ⟦<D as Disk>⟧ D.crashes
