@@ -1,9 +1,12 @@
 -- What `migrate` does to the disk of a name, as far as what it holds before and after is known.
-use Rattle.std.specs.Prelude.{◌≡◌, ◌⊎◌, ℕ, List, Option, IfSome}
+use Rattle.std.specs.Prelude.{◌≡◌, ◌⊎◌, ℕ, ◌+◌, Bool, true, List, Option, Some, IfSome, Result, Ok, Err}
+use Rattle.coord_disk.specs.Model.Moments.{LeavesOnly}
 use Rattle.coord_disk.specs.Model.Present.{Present, IsImage}
 use Rattle.coord_store.specs.Facade.{GivesEither, IsOpenFault, Recovered, RefusesMigration, RefusesOpen, risen}
+use Rattle.coord_store.specs.Refused.{failed_in as failed_in_store}
 use Rattle.coord_store.specs.declared.faults.StoreFault.TheVariants.{Device, NotQuiet}
 use Rattle.coord_world.specs.protocol.NumberedWorld.{World}
+use Rattle.coord_commands.specs.Folders.{known_of}
 use Rattle.coord_commands.specs.Printed.{migrated_line}
 use Rattle.coord_commands.specs.declared.fault.Fault.{Fault}
 use Rattle.coord_commands.specs.declared.fault.Fault.TheVariants.{Write, OutOfMemory, Store}
@@ -24,10 +27,26 @@ pub record IsMigratedLine (before after : Option Present) (line : List ℕ) : Ty
   pub is_raised : IsRaised before after world
   pub counted : line ≡ migrated_line world.count
 
--- A crash then leaves what it could have left before, or what gives the world that the disk gave, in one version or the other.
+-- what a crash could have left before, or what gives the world that the disk gave, in one version or the other
+abbrev pub IsEitherVersion : Present → List ℕ → Type 0
+IsEitherVersion old image = IsImage old image ⊎ ((w : World) × Recovered old.read w × GivesEither w (risen w) image)
+
+-- a crash then leaves nothing else
 abbrev pub GivesEitherVersion : Option Present → Option Present → Type 0
-GivesEitherVersion before after =
-    IfSome before (λ old. IfSome after (λ new. (image : List ℕ) → IsImage new image → IsImage old image ⊎ ((w : World) × Recovered old.read w × GivesEither w (risen w) image)))
+GivesEitherVersion before after = IfSome before (λ old. IfSome after (λ new. (image : List ℕ) → IsImage new image → IsEitherVersion old image))
+
+-- nor does it at any moment from the one disk to the other, in which the device has failed so often
+pub record Raises {D : Type 0} (keeps_model : D → Bool) (present : D → Present) (clock : D → ℕ) (left_since : D → ℕ → List ℕ → Type 0) (failures : D → ℕ) (failed : ℕ) (old new : D) : Type 0 where
+  pub any_moment : keeps_model old ≡ true → LeavesOnly clock left_since old new (IsEitherVersion (present old))
+  pub failures : failures new ≡ failures old + failed
+
+-- so with the disk of a name, which was taken and put back
+pub record RaisesNamed {D : Type 0} (keeps_model : D → Bool) (present : D → Present) (clock : D → ℕ) (left_since : D → ℕ → List ℕ → Type 0) (failures : D → ℕ) (failed : ℕ) (before after : Option Present) : Type 0 where
+  pub taken : D
+  pub back : D
+  pub was : known_of keeps_model present taken ≡ before
+  pub is : IfSome after (λ known. known_of keeps_model present back ≡ Some known)
+  pub raises : Raises keeps_model present clock left_since failures failed taken back
 
 -- this is the least node in a reset of the world that it gives, and it reads as before
 pub record IsNotQuiet (before after : Option Present) (node : ℕ) : Type 0 where
@@ -49,6 +68,20 @@ abbrev pub IsOfMigrating : Option Present → Option Present → Fault → Type 
 IsOfMigrating before after Write = (w : World) × IsRaised before after w
 IsOfMigrating before after OutOfMemory = ReadsAsBefore before after ⊎ ((w : World) × IsRaised before after w)
 IsOfMigrating before after fault = IsOfRaising before after fault
+
+-- how often the device has failed where the store is not raised
+abbrev pub failed_in : Fault → ℕ
+failed_in (Store fault) = failed_in_store fault
+failed_in fault = 0
+
+abbrev pub failures_in : {A : Type 0} → Result A Fault → ℕ
+failures_in (Ok line) = 0
+failures_in (Err fault) = failed_in fault
+
+-- the disk of the name was not to be had, or it was taken and put back
+abbrev pub EndsRaising : {D : Type 0} → (D → Bool) → (D → Present) → (D → ℕ) → (D → ℕ → List ℕ → Type 0) → (D → ℕ) → Option Present → Option Present → Fault → Type 0
+EndsRaising keeps_model present clock left_since failures before after fault =
+    ((fault ≡ Store Device) × (after ≡ before)) ⊎ RaisesNamed keeps_model present clock left_since failures (failed_in fault) before after
 
 -- why an opened store of a world is not raised
 abbrev pub RefusesRaising : World → Fault → Type 0

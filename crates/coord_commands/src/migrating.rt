@@ -1,12 +1,13 @@
 //! Raising the store on the disk of a name to version 2.
 
-ghost use Rattle.std.specs.Prelude.{◌≡◌, ◌≢◌, ◌+◌, ◌≤◌, true, None, Some, IfErr, IfOk, IsErrOf, OnOk, string_bytes};
+ghost use Rattle.std.specs.Prelude.{◌≡◌, ◌≢◌, ◌+◌, ◌≤◌, true, None, Some, IfErr, IfOk, IsErrOf, MatchResult, OnOk, string_bytes};
 ghost use Rattle.coord_commands.specs.Ending.{Ends, IsCutShort, PrintsOne};
 ghost use Rattle.coord_commands.specs.Folders.{known_of};
-ghost use Rattle.coord_commands.specs.Migrating.{IsMigratedLine, IsOfMigrating, IsOfRaising, RefusesRaising};
+ghost use Rattle.coord_commands.specs.Migrating.{EndsRaising, IsMigratedLine, IsOfMigrating, IsOfRaising, Raises, RaisesNamed, RefusesRaising, failures_in};
 ghost use Rattle.coord_commands.specs.Printed.{migrated_line};
 ghost use Rattle.coord_commands.specs.declared.fault.Fault.TheVariants.{Store as Failed};
-ghost use Rattle.coord_store.specs.Kept.{has_stopped};
+ghost use Rattle.coord_disk.specs.Model.Moments.{LeavesOnly};
+ghost use Rattle.coord_store.specs.Kept.{GivesEither, IsOnlyWorld, has_stopped};
 ghost use Rattle.coord_store.specs.Migrating.{risen};
 ghost use Rattle.coord_store.specs.declared.faults.StoreFault.TheVariants.{Device, Stopped};
 
@@ -22,6 +23,10 @@ use std::io::Write;
 /// Raises the store on the disk of a name to version 2, prints how many steps it has, and answers
 /// the exit status. A store of version 2 is left as it is, and the same is printed; one with a node
 /// in a reset is refused, and left as it is too.
+///
+/// At each moment, from the taking of the disk until it is put back, a crash leaves what it could have
+/// left before or what gives the world in one version or the other. `Device` is told where the disk
+/// is not to be had, or its count of failures rose.
 pub fn migrate_in<F: Folder, W: Write, E: Write>(
     alloc: Global,
     folder: &mut F,
@@ -29,8 +34,13 @@ pub fn migrate_in<F: Folder, W: Write, E: Write>(
     output: &mut W,
     errors: &mut E,
 ) -> u8
-    ensures { Ends (IsOfMigrating (F.holds folder.old file.now) (F.holds folder.new file.now))
-        (IsMigratedLine (F.holds folder.old file.now) (F.holds folder.new file.now))
+    ensures { Ends (λ fault.
+        IsOfMigrating (F.holds folder.old file.now) (F.holds folder.new file.now) fault
+        × EndsRaising F.Disk.keeps_model F.Disk.present F.Disk.clock F.Disk.left_since
+        F.Disk.failures (F.holds folder.old file.now) (F.holds folder.new file.now) fault) (λ line.
+        IsMigratedLine (F.holds folder.old file.now) (F.holds folder.new file.now) line
+        × RaisesNamed F.Disk.keeps_model F.Disk.present F.Disk.clock F.Disk.left_since
+        F.Disk.failures 0 (F.holds folder.old file.now) (F.holds folder.new file.now))
         result (record { output = W.contents output.old; errors = E.contents errors.old })
         (record { output = W.contents output.new; errors = E.contents errors.new }) }
 {
@@ -43,13 +53,20 @@ fn migrate_at<F: Folder, W: Write>(
     file: &str,
     output: &mut W,
 ) -> Result<(), Fault>
-    ensures printed { OnOk result
-        (PrintsOne (IsMigratedLine (F.holds folder.old file.now) (F.holds folder.new file.now))
+    ensures printed { OnOk result (PrintsOne (λ line.
+        IsMigratedLine (F.holds folder.old file.now) (F.holds folder.new file.now) line
+        × RaisesNamed F.Disk.keeps_model F.Disk.present F.Disk.clock F.Disk.left_since
+        F.Disk.failures 0 (F.holds folder.old file.now) (F.holds folder.new file.now))
         (W.contents output.old) (W.contents output.new)) }
-    ensures fault { IfErr result (IsOfMigrating (F.holds folder.old file.now)
-        (F.holds folder.new file.now)) }
-    ensures cut { IfErr result (IsCutShort (IsMigratedLine (F.holds folder.old file.now)
-        (F.holds folder.new file.now)) (W.contents output.old) (W.contents output.new)) }
+    ensures fault { IfErr result (λ fault.
+        IsOfMigrating (F.holds folder.old file.now) (F.holds folder.new file.now) fault
+        × EndsRaising F.Disk.keeps_model F.Disk.present F.Disk.clock F.Disk.left_since
+        F.Disk.failures (F.holds folder.old file.now) (F.holds folder.new file.now) fault) }
+    ensures cut { IfErr result (IsCutShort (λ line.
+        IsMigratedLine (F.holds folder.old file.now) (F.holds folder.new file.now) line
+        × RaisesNamed F.Disk.keeps_model F.Disk.present F.Disk.clock F.Disk.left_since
+        F.Disk.failures 0 (F.holds folder.old file.now) (F.holds folder.new file.now))
+        (W.contents output.old) (W.contents output.new)) }
 {
     let line = migrate_named(alloc, folder, file)?;
     print(output, &line)
@@ -62,6 +79,11 @@ fn migrate_named<F: Folder>(alloc: Global, folder: &mut F, file: &str) -> Result
         (F.holds folder.new file.now) (string_bytes line)) }
     ensures fault { IfErr result (IsOfRaising (F.holds folder.old file.now)
         (F.holds folder.new file.now)) }
+    ensures raises { MatchResult result (λ _.
+        RaisesNamed F.Disk.keeps_model F.Disk.present F.Disk.clock F.Disk.left_since
+        F.Disk.failures 0 (F.holds folder.old file.now) (F.holds folder.new file.now)) (λ fault.
+        EndsRaising F.Disk.keeps_model F.Disk.present F.Disk.clock F.Disk.left_since
+        F.Disk.failures (F.holds folder.old file.now) (F.holds folder.new file.now) fault) }
 {
     let disk = folder.open(file)?;
     let (line, disk) = migrate_disk(alloc, disk);
@@ -75,6 +97,8 @@ fn migrate_disk<D: Disk>(alloc: Global, disk: D) -> (Result<String, Fault>, D)
         (known_of D.keeps_model D.present result.1) (string_bytes line)) }
     ensures fault { IfErr result.0 (IsOfRaising (known_of D.keeps_model D.present disk)
         (known_of D.keeps_model D.present result.1)) }
+    ensures raises { Raises D.keeps_model D.present D.clock D.left_since D.failures
+        (failures_in result.0) disk result.1 }
 {
     match Store::open(alloc, disk) {
         Ok(mut store) => {
@@ -99,10 +123,21 @@ pub fn migrate_store<D: Disk>(alloc: Global, store: &mut Store<D>) -> Result<Str
         (store.new.torn ≡ Some (risen store.old.world)) }
     ensures stopped { IsErrOf result (Failed Stopped) → has_stopped store.old ≡ true }
     ensures fault { IfErr result (RefusesRaising store.old.world) }
+    // A crash at any moment of the call leaves what gives the world in one version or the other, and unless the device fails in a refusal, the one from before it.
+    ensures any_moment { D.keeps_model store.old.disk ≡ true → store.old.torn ≡ None
+        → LeavesOnly D.clock D.left_since store.old.disk store.new.disk
+        (GivesEither store.old.world (risen store.old.world)) }
+    ensures any_moment_refused { D.keeps_model store.old.disk ≡ true → store.old.torn ≡ None
+        → IfErr result (λ fault. fault ≢ Failed Device →
+        LeavesOnly D.clock D.left_since store.old.disk store.new.disk
+        (IsOnlyWorld store.old.world)) }
+    ensures failures { D.failures store.new.disk ≡
+        D.failures store.old.disk + failures_in result }
     ensures calls { D.keeps_model store.old.disk ≡ true →
         D.clock store.new.disk ≤ D.clock store.old.disk + 4 }
     ensures model { D.keeps_model store.new.disk ≡ D.keeps_model store.old.disk }
 {
+    store.images_give_world();
     let count = store.world().count();
     let line = format!(in alloc; "migrated {count}\n")?;
     match store.migrate() {

@@ -1,5 +1,6 @@
 -- What a driver keeps from event to event, to the end of its run.
 pub mod EachMoment
+pub mod Failures
 pub mod CutShort
 pub mod Drives
 pub mod Ends

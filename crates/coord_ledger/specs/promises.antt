@@ -2,3 +2,5 @@
 pub mod Parts
 pub mod Moments
 pub mod Headline
+pub mod Faults
+pub mod Broken

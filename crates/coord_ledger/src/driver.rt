@@ -1,7 +1,8 @@
 //! The driver of a ledger.
 
-ghost use Rattle.std.specs.Prelude.{◌≡◌, IfErr, IfOk, None, Some};
+ghost use Rattle.std.specs.Prelude.{◌≡◌, IfErr, IfOk, IsSomeAnd, None, Some};
 ghost use Rattle.std.specs.Option.{option_map};
+ghost use Rattle.coord_ledger.specs.declared.mark.Mark.TheVariants.{Good};
 ghost use Rattle.coord_ledger.specs.ledger.Driven.{Beside, MayBegin, at_home, disk_driven, held};
 ghost use Rattle.coord_ledger.specs.ledger.Driver.{HeldSurvives, brought_home};
 ghost use Rattle.coord_ledger.specs.ledger.Follows.{Follows, ImagesGive, flight_out};
@@ -87,7 +88,7 @@ impl<D: CrashDisk> Driver<D> {
         self.survives();
     }
 
-    /// Gives the ledger back, where no flight is out.
+    /// Gives the ledger up, where no flight is out of it.
     pub fn into_ledger(self) -> Ledger<D>
         requires { self.flight ≡ None }
         ensures { result ≡ self.ledger }
@@ -95,11 +96,7 @@ impl<D: CrashDisk> Driver<D> {
         let Driver { ledger, flight } = self;
         match flight {
             None => ledger,
-            Some(flight) => {
-                drop(ledger);
-                drop(flight.into_disk());
-                unreachable!()
-            }
+            Some(_) => unreachable!(),
         }
     }
 
@@ -133,6 +130,7 @@ impl<D: CrashDisk> Driver<D> {
     pub(crate) fn bring_home(self) -> Result<Ledger<D>, D>
         ensures home { IfOk result (λ home. home ≡ brought_home self.ledger self.flight) }
         ensures disk { IfErr result (λ disk. disk_driven self ≡ Some disk) }
+        ensures out { IfErr result (λ _. IsSomeAnd self.flight (λ flight. flight.mark ≡ Good)) }
     {
         let Driver { mut ledger, flight } = self;
         let Some(flight) = flight else {

@@ -1,9 +1,12 @@
 //! Runs of events: the one-thread driver of a ledger.
 
-ghost use Rattle.std.specs.Prelude.{◌≡◌, IfErr, IfOk, None, Some};
+ghost use Rattle.std.specs.Prelude.{◌≡◌, ◌+◌, ℕ, IfErr, IfOk, MatchResult, None, Some, length, take};
 ghost use Rattle.std.specs.Option.{option_map};
+ghost use Rattle.coord_ledger.specs.ledger.Driver.{HasFailed};
 ghost use Rattle.coord_ledger.specs.ledger.State.{started};
-ghost use Rattle.coord_ledger.specs.promises.Headline.{Broke, HasCause, Promised, Ran};
+ghost use Rattle.coord_ledger.specs.promises.Broken.{Broke, HasCause};
+ghost use Rattle.coord_ledger.specs.promises.Faults.{failed_in, failed_until};
+ghost use Rattle.coord_ledger.specs.promises.Headline.{Promised, Ran};
 
 mod crashes;
 mod ending;
@@ -29,13 +32,17 @@ use std::alloc::Global;
 ///
 /// It says so of each moment of the run, between two events and inside each of them: what the run
 /// does to its disk is told event by event (`EachMoment`), each from the disk that the one before it
-/// left, down to the disk of the ledger that is given back. After a fault the disk is gone, and
-/// nothing is said of it from there on.
-pub fn run_events<D: CrashDisk>(
+/// left, down to the disk of the ledger that is given back.
+///
+/// A fault gives the disk back. It names the event at which the run ended, and has the answers to
+/// the events before it and what was released until then; the ledger, its flight and its tickets
+/// are given up. The disk is as those events have left it, or after a crash as the opening behind
+/// it has left it (`Broke`).
+pub fn run_events_keeping_disk<D: CrashDisk>(
     alloc: Global,
     ledger: Ledger<D>,
     events: &[Event],
-) -> Result<(Trace, Ledger<D>), RunFault>
+) -> Result<(Trace, Ledger<D>), (RunFault, D)>
     requires home { ledger.out ≡ None }
 
     // A run that is answered: the main theorem, and the ledger that is left.
@@ -49,12 +56,21 @@ pub fn run_events<D: CrashDisk>(
         option_map D.keeps_model ledger.disk) }
 
     // A run that ended early.
-    ensures broke { IfErr result (λ fault. (before : D) → ledger.disk ≡ Some before
+    ensures broke { IfErr result (λ r. (before : D) → ledger.disk ≡ Some before
         → Promised (D.keeps_model before) events.now (Broke D.present D.clock D.left_since D.crashes
-        (started ledger) events.now fault.at fault.trace.answers.items fault.trace.released.items
-        (D.keeps_model before) before)) }
-    ensures cause { IfErr result (λ fault. (before : D) → ledger.disk ≡ Some before →
-        HasCause (D.keeps_model before) events.now fault.at fault.kind) }
+        (started ledger) events.now r.0.at r.0.trace.answers.items r.0.trace.released.items r.0.kind
+        (D.keeps_model before) before r.1)) }
+    ensures cause { IfErr result (λ r. (before : D) → ledger.disk ≡ Some before →
+        HasCause (D.keeps_model before) events.now r.0.at r.0.trace.released.items r.0.kind) }
+
+    // On any disk: an answer to each event, and how often the device has failed.
+    ensures answers { MatchResult result (λ r. length r.0.answers.items ≡ length events.now) (λ r.
+        length r.0.trace.answers.items ≡ r.0.at) }
+    ensures failures { (n : ℕ) → HasFailed D.failures ledger.disk n
+        → MatchResult result (λ r.
+        HasFailed D.failures r.1.disk (n + failed_until events.now r.0.answers.items)) (λ r.
+        D.failures r.1 ≡ (n + failed_until (take r.0.at events.now) r.0.trace.answers.items) +
+        failed_in r.0.kind) }
 {
     let driver = Driver::over(ledger);
     driver.begins();
@@ -81,5 +97,51 @@ pub fn run_events<D: CrashDisk>(
     match held.end() {
         Ok((released, ledger)) => Ok((Trace { answers, released }, ledger)),
         Err(broken) => Err(broken.at(events.len(), answers)),
+    }
+}
+
+/// Runs events as [`run_events_keeping_disk`] does. After a fault the disk is dropped: what is said
+/// of it is what that call says of the disk that it gives back.
+pub fn run_events<D: CrashDisk>(
+    alloc: Global,
+    ledger: Ledger<D>,
+    events: &[Event],
+) -> Result<(Trace, Ledger<D>), RunFault>
+    requires home { ledger.out ≡ None }
+
+    // A run that is answered: the main theorem, and the ledger that is left.
+    ensures ran { IfOk result (λ r. (before : D) → (after : D) → ledger.disk ≡ Some before →
+        r.1.disk ≡ Some after
+        → Promised (D.keeps_model before) events.now (Ran D.present D.clock D.left_since D.crashes
+        (started ledger) events.now r.0.answers.items r.0.released.items r.1
+        (D.keeps_model after) before after)) }
+    ensures at_home { IfOk result (λ r. r.1.out ≡ None) }
+    ensures same_model { IfOk result (λ r. option_map D.keeps_model r.1.disk ≡
+        option_map D.keeps_model ledger.disk) }
+
+    // A run that ended early: with some disk that was dropped.
+    ensures broke { IfErr result (λ fault. (before : D) → ledger.disk ≡ Some before
+        → (lost : D) × ((D.failures lost ≡
+        (D.failures before + failed_until (take fault.at events.now) fault.trace.answers.items) +
+        failed_in fault.kind)
+        × Promised (D.keeps_model before) events.now (Broke D.present D.clock D.left_since D.crashes
+        (started ledger) events.now fault.at fault.trace.answers.items fault.trace.released.items
+        fault.kind (D.keeps_model before) before lost))) }
+    ensures cause { IfErr result (λ fault. (before : D) → ledger.disk ≡ Some before →
+        HasCause (D.keeps_model before) events.now fault.at fault.trace.released.items fault.kind) }
+
+    // On any disk: an answer to each event, and how often the device has failed.
+    ensures answers { MatchResult result (λ r. length r.0.answers.items ≡ length events.now)
+        (λ fault. length fault.trace.answers.items ≡ fault.at) }
+    ensures failures { (n : ℕ) → HasFailed D.failures ledger.disk n
+        → IfOk result (λ r. HasFailed D.failures r.1.disk
+        (n + failed_until events.now r.0.answers.items)) }
+{
+    match run_events_keeping_disk(alloc, ledger, events) {
+        Ok(ran) => Ok(ran),
+        Err((fault, disk)) => {
+            drop(disk);
+            Err(fault)
+        }
     }
 }

@@ -16,8 +16,10 @@
 //! `show` gives the settled world as coord_view's `View`. Contracts see `LedgerState`, `FlightState` and a `Claim` (`specs/ledger/State.antt`), and what
 //! each call makes of them (`specs/ledger/Calls.antt`).
 //!
-//! [`run_events`] runs a list of events in one thread, with crashes in between: the main theorem is
-//! its contract. `specs/ledger/Follows.antt` has what it keeps from one event to the next.
+//! [`run_events_keeping_disk`] runs a list of events in one thread, with crashes in between: the main
+//! theorem is its contract, and `specs/promises/Broken.antt` has what it says of a run that ends
+//! early. [`run_events`] is the same without the disk. `specs/ledger/Follows.antt` has what a run
+//! keeps from one event to the next.
 //!
 //! [`laws`] proves of the machine what the main theorem stands on, and [`runs`] has runs whose
 //! answers are known.
@@ -41,7 +43,7 @@ mod trace;
 
 pub use coord_view::{LinkView, NodeView, View};
 pub use driver::Driver;
-pub use event_driver::run_events;
+pub use event_driver::{run_events, run_events_keeping_disk};
 pub use events::{Answer, Event};
 pub use flight::Flight;
 pub use handed::Handed;

@@ -1,5 +1,8 @@
 //! What a run of events gave.
 
+ghost use Rattle.std.specs.Prelude.{◌≡◌};
+ghost use Rattle.coord_ledger.specs.promises.Faults.{run_fault_number};
+
 use crate::events::Answer;
 use crate::release::Release;
 use coord_store::StoreFault;
@@ -20,6 +23,18 @@ pub enum RunFaultKind {
     OutOfMemory,
     /// The store was not opened after a crash.
     Store(StoreFault),
+}
+
+impl RunFaultKind {
+    /// 1 for want of memory, 2 for a fault of the store.
+    pub fn number(self) -> u8
+        ensures { result ≡ run_fault_number self }
+    {
+        match self {
+            RunFaultKind::OutOfMemory => 1,
+            RunFaultKind::Store(_) => 2,
+        }
+    }
 }
 
 /// A run that ended early: at which event, counted from 0, or at how many where the last flight

@@ -2,6 +2,7 @@
 use Rattle.std.specs.Prelude.{◌≡◌, ℕ, ◌==◌, ◌<◌, false, Result, Ok, Err, if◌then◌else◌}
 use Rattle.coord_types.specs.declared.messages.Mode.TheVariants.{Ready}
 use Rattle.coord_world.specs.laws.Raised.{raised}
+use Rattle.coord_world.specs.laws.Waves.{AllReady}
 use Rattle.coord_world.specs.Facade.{World, is_ready, state}
 use Rattle.coord_store.specs.Refused.{failed_in}
 use Rattle.coord_store.specs.declared.faults.StoreFault.{StoreFault}
@@ -16,10 +17,15 @@ pub record IsFirstBusy (w : World) (u : ℕ) : Type 0 where
   pub busy : is_ready (state w u).mode ≡ false
   pub least : (v : ℕ) → v < u → (state w v).mode ≡ Ready
 
--- why the store of a world is not raised
+-- a world of version 1 in which every node is Ready
+pub record IsQuiet (w : World) : Type 0 where
+  pub first : w.version ≡ 1
+  pub ready : AllReady w
+
+-- why the store of a world is not raised: only a quiet one asks for memory and for the device
 abbrev pub RefusesMigration : World → StoreFault → Type 0
-RefusesMigration w OutOfMemory = w.version ≡ 1
-RefusesMigration w Device = w.version ≡ 1
+RefusesMigration w OutOfMemory = IsQuiet w
+RefusesMigration w Device = IsQuiet w
 RefusesMigration w (NotQuiet u) = (w.version ≡ 1) × IsFirstBusy w u
 RefusesMigration w Stopped = Unit {0}
 RefusesMigration w fault = ⊥

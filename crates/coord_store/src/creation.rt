@@ -1,13 +1,13 @@
 //! Makes a store.
 
-ghost use Rattle.std.specs.Prelude.{◌≡◌, ◌⊎◌, ◌+◌, ◌≤◌, true, None, length, MatchResult, IfOk, IfErr};
+ghost use Rattle.std.specs.Prelude.{◌≡◌, ◌≢◌, ◌⊎◌, ◌+◌, ◌<◌, ◌≤◌, true, None, length, MatchResult, IfOk, IfErr};
 ghost use Rattle.coord_codec.specs.Worlds.{world};
 ghost use Rattle.coord_journal.specs.Text.{IsHalfSize, without_batch};
 ghost use Rattle.coord_journal.specs.declared.layout.TheConstants.{MAX_SNAPSHOT};
 ghost use Rattle.coord_store.specs.Kept.{IsUntouched, made};
 ghost use Rattle.coord_store.specs.Recovered.{Gives};
 ghost use Rattle.coord_store.specs.Refused.{IsCreateFault, RefusesCreate, failed_in};
-ghost use Rattle.coord_store.specs.declared.faults.StoreFault.TheVariants.{HalfSize, NotEmpty, OutOfMemory};
+ghost use Rattle.coord_store.specs.declared.faults.StoreFault.TheVariants.{Device, HalfSize, NotEmpty, OutOfMemory};
 ghost use Rattle.coord_world.specs.protocol.NumberedWorld.{no_world};
 ghost use Rattle.coord_world.specs.protocol.Rows.{rows_of};
 
@@ -68,6 +68,9 @@ impl<D: Disk> Store<D> {
             IfErr result (λ refused. refused.0 ≡ OutOfMemory →
             IsUntouched D.present D.clock D.left_since disk refused.1 ⊎
             (D.present refused.1 ≡ made half_size version)) }
+        ensures taken { D.keeps_model disk ≡ true → 0 < length (D.present disk).read →
+            IfErr result (λ refused. refused.0 ≢ Device →
+            IsUntouched D.present D.clock D.left_since disk refused.1) }
 
         ensures model { MatchResult result (λ store. D.keeps_model store.disk ≡ D.keeps_model disk)
             (λ refused. D.keeps_model refused.1 ≡ D.keeps_model disk) }

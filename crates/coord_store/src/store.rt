@@ -1,6 +1,7 @@
 //! A store: a world, and the disk whose images give it.
 
 ghost use Rattle.std.specs.Prelude.{◌≡◌, true, false, None};
+ghost use Rattle.coord_disk.specs.Model.Moments.{LeavesOnly};
 ghost use Rattle.coord_journal.specs.Journal.{disk_of, has_stopped as journal_has_stopped};
 ghost use Rattle.coord_world.specs.protocol.Legal.{Legal};
 
@@ -36,7 +37,7 @@ impl<D: Disk> Model for Store<D> {
 }
 
 impl<D: Disk> Store<D> {
-    ghost use Rattle.coord_store.specs.Kept.{Holds, ImagesGive, has_stopped};
+    ghost use Rattle.coord_store.specs.Kept.{Holds, ImagesGive, IsOnlyWorld, has_stopped};
     ghost use Rattle.coord_store.specs.Recovered.{Recovered};
 
     // Over a journal whose content gives this world.
@@ -70,10 +71,14 @@ impl<D: Disk> Store<D> {
         self.torn.is_some()
     }
 
-    /// Does nothing: its contract is what the type keeps of every store.
+    /// Does nothing: its contract is what the type keeps of every store. While nothing is done to it, a
+    /// crash leaves what gives its world.
     pub fn images_give_world(&self)
         ensures legal { Legal self.now.world }
         ensures images { D.keeps_model self.now.disk ≡ true → ImagesGive D.present self.now }
+        ensures still { D.keeps_model self.now.disk ≡ true → self.now.torn ≡ None
+            → LeavesOnly D.clock D.left_since self.now.disk self.now.disk
+            (IsOnlyWorld self.now.world) }
     {
         let _ = &self.world;
     }

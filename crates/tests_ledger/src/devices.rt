@@ -14,6 +14,9 @@ pub(crate) const HALF: u64 = 32_768;
 /// How many calls of the device an opening takes.
 pub(crate) const OPENING: u64 = 3;
 
+/// How many calls of the device a commit takes that makes no checkpoint.
+pub(crate) const APPENDING: u64 = 4;
+
 /// A device with a store that has no steps.
 pub(crate) fn made(alloc: Global) -> Result<MemDisk, Fail> {
     match Store::create(alloc, MemDisk::new(alloc), HALF, 1) {

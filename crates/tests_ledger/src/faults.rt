@@ -2,11 +2,13 @@
 //! are those that were settled, or those of the flight too.
 
 use crate::cases::{self, Case, full, small};
-use crate::devices::{OPENING, device, made, opened};
-use crate::runs::{are, ran};
+use crate::devices::{APPENDING, OPENING, device, made, opened};
+use crate::runs::{are, had_memory, ran};
 use crate::scene::Scene;
 use coord_disk::{BlipDisk, CrashDisk, FailingDisk, FuseDisk, MemDisk, Rule};
-use coord_ledger::{Driver, Event, RunFault, RunFaultKind, Trace, run_events};
+use coord_ledger::{
+    Driver, Event, RunFault, RunFaultKind, Trace, run_events, run_events_keeping_disk,
+};
 use coord_store::{CommitFault, Store, StoreFault};
 use std::alloc::Global;
 use std::test::Fail;
@@ -196,12 +198,12 @@ fn a_run_breaks_off_at_a_crash_that_is_not_opened(rt: HostRuntime) -> Result<(),
     Ok(())
 }
 
-// Whether a ledger without steps is opened on this device.
-fn opens<D: CrashDisk>(alloc: Global, disk: D) -> Result<bool, Fail> {
+// Whether a ledger with so many steps is opened on this device.
+fn opens<D: CrashDisk>(alloc: Global, disk: D, steps: u64) -> Result<bool, Fail> {
     let ledger = opened(alloc, disk)?;
-    let is_new = ledger.accepted_count() == 0;
+    let has_these = ledger.accepted_count() == steps;
     drop(ledger);
-    Ok(is_new)
+    Ok(has_these)
 }
 
 // The opening behind a crash meets a call that fails, and gives the device back as it was.
@@ -212,7 +214,7 @@ fn is_given_back(alloc: Global) -> Result<bool, Fail> {
             drop(driver.into_disk());
             Ok(false)
         }
-        Err((RunFaultKind::Store(StoreFault::Device), disk)) => opens(alloc, disk),
+        Err((RunFaultKind::Store(StoreFault::Device), disk)) => opens(alloc, disk, 0),
         Err((_, disk)) => {
             drop(disk);
             Err(StoreFault::OutOfMemory)?
@@ -223,5 +225,59 @@ fn is_given_back(alloc: Global) -> Result<bool, Fail> {
 #[test]
 fn a_device_that_is_not_opened_comes_back_as_it_was(rt: HostRuntime) -> Result<(), Fail> {
     assert!(rt; is_given_back(rt.alloc())?);
+    Ok(())
+}
+
+// Whether a run broke off at its fifth event, for the device.
+fn is_at_the_fifth(fault: RunFault) -> Result<bool, Fail> {
+    let RunFault { at, trace, kind } = fault;
+    let had_memory = had_memory(&trace, false);
+    let answered = trace.answers.len();
+    drop(trace);
+    had_memory?;
+    match kind {
+        RunFaultKind::OutOfMemory => Err(StoreFault::OutOfMemory)?,
+        _ => Ok((at, answered, kind) == (4, 4, RunFaultKind::Store(StoreFault::Device))),
+    }
+}
+
+// The opening behind a crash meets a call that fails: the run ends there, and gives the device back
+// with the step that was settled.
+fn is_given_back_by_a_run(alloc: Global) -> Result<bool, Fail> {
+    let scene = Scene::new()?;
+    let events = [
+        Event::Submit(scene.add(1, scene.first)),
+        Event::Begin,
+        Event::Commit,
+        Event::Finish,
+        Event::Crash,
+    ];
+    let ledger = opened(alloc, BlipDisk::new(made(alloc)?, OPENING + APPENDING))?;
+    match run_events_keeping_disk(alloc, ledger, &events) {
+        Ok((trace, ledger)) => {
+            drop(trace);
+            drop(ledger);
+            Ok(false)
+        }
+        Err((fault, disk)) => match is_at_the_fifth(fault) {
+            Ok(is_told) => Ok(opens(alloc, disk, 1)? && is_told),
+            Err(fail) => {
+                drop(disk);
+                Err(fail)
+            }
+        },
+    }
+}
+
+#[test]
+fn a_run_that_breaks_off_gives_its_device_back(rt: HostRuntime) -> Result<(), Fail> {
+    assert!(rt; is_given_back_by_a_run(rt.alloc())?);
+    Ok(())
+}
+
+#[test]
+fn the_kinds_of_faults_have_their_numbers(rt: HostRuntime) -> Result<(), Fail> {
+    let store = RunFaultKind::Store(StoreFault::Stopped);
+    assert!(rt; (RunFaultKind::OutOfMemory.number(), store.number()) == (1, 2));
     Ok(())
 }

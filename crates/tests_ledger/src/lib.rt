@@ -24,4 +24,6 @@ mod scene;
 #[cfg(test)]
 mod strangers;
 #[cfg(test)]
+mod worked;
+#[cfg(test)]
 mod worlds;

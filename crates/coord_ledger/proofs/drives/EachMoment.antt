@@ -1,5 +1,5 @@
 -- What a crash may leave at each moment of an event, and of a run.
-use Rattle.std.proofs.Common.{◌≡◌, ◌⊎◌, ℕ, ◌+◌, Bool, true, false, List, [], ◌∷◌, ◌++◌, length, Some, None, Result, Ok, Err, refl, sym, ap, ◌∙◌, subst, inl, inr, IfSome, IsErrOf, MatchResult}
+use Rattle.std.proofs.Common.{◌≡◌, ◌⊎◌, ℕ, ◌+◌, Bool, true, false, List, [], ◌∷◌, ◌++◌, length, Some, None, Result, Ok, Err, refl, sym, ap, ◌∙◌, subst, inl, inr, IfErr, IfSome, IsErrOf, MatchResult}
 use Rattle.std.specs.Option.{option_map}
 use Rattle.coord_disk.specs.Model.Moments.{LeavesOnly}
 use Rattle.coord_disk.specs.Model.Present.{Present, IsImage}
@@ -8,7 +8,7 @@ use Rattle.coord_store.specs.Kept.{GivesEither, IsOnlyWorld}
 use Rattle.coord_store.specs.declared.faults.CommitFault.{CommitFault}
 use Rattle.coord_store.specs.declared.faults.CommitFault.TheVariants as fault
 use Rattle.coord_world.specs.protocol.Next.{fold}
-use Rattle.coord_ledger.specs.Facade.{Answer, Commit, Committed, Crash, CrashPrefix, EachMoment, Event, Failed, FlightGives, FlightOut, FlightState, Follows, GivesFlown, GivesOneOf, Good, Held, HeldSurvives, HeldTouches, HoldsFlight, IsConsistent, IsLost, IsOneOf, IsOut, IsReopened, IsSafe, LeavesWithin, LedgerGives, LedgerState, Machine, Mark, New, Reopens, Survives, Torn, Touches, after, answers, disk_held, disk_with, flight_out, found_by_crash, is_crash, kept, kept_by, marked, run, to_commit, touches_disk, with_flight, world_after}
+use Rattle.coord_ledger.specs.Facade.{Answer, Commit, Committed, Crash, CrashPrefix, EachMoment, Event, Failed, FlightGives, FlightOut, FlightState, Follows, GivesFlown, GivesOneOf, Good, Held, HeldSurvives, HeldTouches, HoldsFlight, IsConsistent, IsLost, IsOneOf, IsOut, IsReopenFault, IsReopened, IsSafe, LeavesWithin, LedgerGives, LedgerState, Machine, Mark, New, Reopens, RunFaultKind, Survives, Torn, Touches, after, answers, disk_held, disk_with, flight_out, found_by_crash, is_crash, kept, kept_by, marked, run, to_commit, touches_disk, with_flight}
 use Rattle.coord_ledger.specs.laws.Commits.{CommitIsSafe}
 use Rattle.coord_ledger.proofs.follows.FollowsCalls.{flight_gives, ledger_images}
 use Rattle.coord_ledger.proofs.machine.Consistent.{stays_consistent}
@@ -26,11 +26,11 @@ torn_is_consistent s b is out =
 pub commit_is_safe : CommitIsSafe
 commit_is_safe s b is out = (safe s.log.settled (inl refl), safe (s.log.settled + b) (inr (inl refl)))
   where
-    safe : (n : ℕ) → IsOneOf n (s.log.settled ∷ (s.log.settled + b) ∷ []) → IsSafe s (world_after s.log n)
+    safe : (n : ℕ) → IsOneOf n (s.log.settled ∷ (s.log.settled + b) ∷ []) → IsSafe s n
     safe n one =
         let may : IsOneOf n (kept (after s Commit (Failed fault.Device))) = subst (λ o. IsOneOf n (kept_by s.log.settled (marked Torn o) s.log.doubt)) (sym out) one in
         let of_torn = kept_is_safe (after s Commit (Failed fault.Device)) n (torn_is_consistent s b is out) may in
-        record { legal = of_torn.legal; released = of_torn.released; replied = of_torn.replied; accepted = of_torn.accepted }
+        record { legal = of_torn.legal; released = of_torn.released; again = of_torn.again; replied = of_torn.replied; accepted = of_torn.accepted }
 
 module _ {D : Type 0} (h : Held D) (s : Machine) (f : FlightState D) (is : IsConsistent s) (follows : Follows h s) (holds : h.flight ≡ Some f) where
   out : (m : Mark) → f.mark ≡ m → s.flight ≡ Some (record { size = length f.steps; mark = m })
@@ -95,6 +95,10 @@ module _ {D : Type 0} (keeps_model : D → Bool) (present : D → Present) (h : 
 pub match_map : {A E : Type 0} {P P2 : A → Type 0} {Q Q2 : E → Type 0} (r : Result A E) → ((a : A) → P a → P2 a) → ((e : E) → Q e → Q2 e) → MatchResult r P Q → MatchResult r P2 Q2
 match_map (Ok a) f g p = f a p
 match_map (Err e) f g q = g e q
+
+pub match_both : {A E : Type 0} {P P2 : A → Type 0} {Q R Q2 : E → Type 0} (r : Result A E) → ((a : A) → P a → P2 a) → ((e : E) → Q e → R e → Q2 e) → MatchResult r P Q → IfErr r R → MatchResult r P2 Q2
+match_both (Ok a) f g p more = f a p
+match_both (Err e) f g q more = g e q more
 
 -- a commit's answer
 abbrev pub told : {T : Type 0} → Result T CommitFault → Answer
@@ -185,9 +189,10 @@ module _ {D : Type 0} (present : D → Present) (clock : D → ℕ) (left_since 
       (subst (HeldTouches keeps_model present clock left_since crashes (found_by_crash s Commit a) (touches_disk Commit a) Commit h) (sym is)
       (subst (λ b. HeldTouches keeps_model present clock left_since crashes (found_by_crash s Commit b) (touches_disk Commit b) Commit h new) same touches))
 
-  -- the disk was given up as it was held
-  pub lost_as_held : (keeps_model : D → Bool) (s : Machine) (e : Event) (h : Held D) (lost : D) → disk_held h ≡ Some lost → IsLost keeps_model present clock left_since crashes s e h lost
-  lost_as_held keeps_model s e h lost there old holds = let same : lost ≡ old = cc in inl same
+  -- the disk is given back as it was held
+  pub lost_as_held : (keeps_model : D → Bool) (s : Machine) (e : Event) (kind : RunFaultKind) (h : Held D) (lost : D) → is_crash e ≡ false → disk_held h ≡ Some lost → IsLost keeps_model present clock left_since crashes s e kind h lost
+  lost_as_held keeps_model s Crash kind h lost other there old holds = let no : ⊥ = cc in absurd no
+  lost_as_held keeps_model s e kind h lost other there old holds = cc
 
   -- ---- a crash
 
@@ -218,8 +223,15 @@ module _ {D : Type 0} (present : D → Present) (clock : D → ℕ) (left_since 
       touched = record { untouched = λ no. let never : ⊥ = cc in absurd never; inside = λ on. survives_each old opened.disk there opened.moments on };
     }
 
-    pub crash_lost : (lost : D) → (keeps_model d ≡ true → Reopens present clock left_since crashes (IsImage (present d)) d lost) → IsLost keeps_model present clock left_since crashes s Crash h lost
-    crash_lost lost moments old there = inr (refl, λ on. survives_each old lost there moments on)
+    pub crash_lost : (kind : RunFaultKind) (lost : D) → (keeps_model d ≡ true → Reopens present clock left_since crashes (IsImage (present d)) d lost) → IsReopenFault (keeps_model d) (present d) (present lost) kind →
+        IsLost keeps_model present clock left_since crashes s Crash kind h lost
+    crash_lost kind lost moments cause old there on =
+        let same : d ≡ old = cc (held, there) in
+        let keeps = ap keeps_model same ∙ on in
+        record {
+          reopens = survives_each old lost there moments on;
+          opened = λ memory. let one = subst (IsReopenFault (keeps_model d) (present d) (present lost)) memory cause keeps in survives d held keeps (present lost).read one.allowed;
+        }
 
   -- ---- a run
 

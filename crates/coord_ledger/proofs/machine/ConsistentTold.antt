@@ -36,7 +36,7 @@ once_again given more all none part =
     subst (λ l. IsPartOf l all) (sym (filter-append (λ (r : Release). not (r.step == 0)) given more ∙ ap (λ l. released_first given ++ l) none ∙ append-nil (released_first given))) part
 
 -- what was sent again stays true as more steps are settled
-again_later : (w : World) (trail : List Step) (d e : ℕ) (rs : List Release) → d ≤ e →
+pub again_later : (w : World) (trail : List Step) (d e : ℕ) (rs : List Release) → d ≤ e →
     AllByRecursion (λ r. r.step ≡ 0 → IsReleased w (take d trail) r.output) rs → AllByRecursion (λ r. r.step ≡ 0 → IsReleased w (take e trail) r.output) rs
 again_later w trail d e [] le all = tt
 again_later w trail d e (r ∷ rs) le all = ((λ none. released_grows w trail d e r.output le (all.0 none)), again_later w trail d e rs le all.1)

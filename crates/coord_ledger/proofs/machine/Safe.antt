@@ -4,6 +4,7 @@ use Rattle.coord_ledger.specs.Facade.{DoubtFits, FlightOut, GivesOneOf, Good, Is
 use Rattle.coord_world.proofs.Facade.{trail_keeps_worlds}
 use Rattle.coord_ledger.specs.laws.Laws.{FinishKeepsKept, KeptIsSafe, PrefixFromImages}
 use Rattle.coord_ledger.proofs.machine.ConsistentFlights.{kept_more, no_doubt}
+use Rattle.coord_ledger.proofs.machine.ConsistentTold.{again_later}
 use Rattle.coord_ledger.proofs.machine.Lists.{all_raised}
 use Rattle.coord_ledger.proofs.machine.Logs.{count_after}
 
@@ -19,6 +20,7 @@ kept_is_safe s n is one =
     record {
       legal = (trail_keeps_worlds s.log.base s.log.trail n is.log.trail).legal;
       released = all_raised (λ (r : Release). r.step) (settled_count s.log) w.count s.released least is.told.released_settled;
+      again = again_later s.log.base s.log.trail s.log.settled n s.released (omega (arith, keeps.is)) is.told.again;
       replied = all_raised (λ (r : Reply). r.step) (settled_count s.log) w.count s.replied least is.told.replied_settled;
       accepted = omega (arith, count, le);
     }

@@ -34,12 +34,13 @@ abbrev pub released_from : ℕ → List (List Output) → List Release
 released_from n [] = []
 released_from n (given ∷ others) = map (release_of n) given ++ released_from (n + 1) others
 
--- the first of these were added to a list, and the others are lost
+-- the first of these were added to a list, and the others, one at least, are lost
 pub record AddsSome (all old new : List Release) : Type 0 where
   pub added : List Release
   pub lost : List Release
   pub all_are : all ≡ added ++ lost
   pub now : new ≡ old ++ added
+  pub some : 1 ≤ length lost
 
 -- ---- a ledger
 

@@ -2,10 +2,9 @@
 use Rattle.std.specs.Prelude.{◌≡◌, ℕ, ◌+◌, Some}
 use Rattle.coord_ledger.specs.declared.mark.Mark.TheVariants.{New}
 use Rattle.coord_ledger.specs.machine.Consistent.{IsConsistent}
-use Rattle.coord_ledger.specs.machine.Log.{world_after}
 use Rattle.coord_ledger.specs.machine.Machine.{Machine}
 use Rattle.coord_ledger.specs.promises.Headline.{IsSafe}
 
 -- while a new flight of b steps is out, the world after the settled steps and the one after b more are both safe
 abbrev pub CommitIsSafe : Type 0
-CommitIsSafe = (s : Machine) (b : ℕ) → IsConsistent s → s.flight ≡ Some (record { size = b; mark = New }) → IsSafe s (world_after s.log s.log.settled) × IsSafe s (world_after s.log (s.log.settled + b))
+CommitIsSafe = (s : Machine) (b : ℕ) → IsConsistent s → s.flight ≡ Some (record { size = b; mark = New }) → IsSafe s s.log.settled × IsSafe s (s.log.settled + b)

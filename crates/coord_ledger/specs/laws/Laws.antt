@@ -82,7 +82,7 @@ RunGoesOn = (s : Machine) (events : List Event) (given : List Answer) (e : Event
 
 -- whatever a crash may keep is legal, holds all that was told, and nothing that was not accepted
 abbrev pub KeptIsSafe : Type 0
-KeptIsSafe = (s : Machine) (n : ℕ) → IsConsistent s → IsOneOf n (kept s) → IsSafe s (world_after s.log n)
+KeptIsSafe = (s : Machine) (n : ℕ) → IsConsistent s → IsOneOf n (kept s) → IsSafe s n
 
 -- no step's signal was released twice
 abbrev pub SignalsOnce : Type 0

@@ -2,7 +2,8 @@
 use Rattle.std.specs.Prelude.{◌≡◌, ◌⊎◌, ℕ, List, Bool, true, false, Option, Some, None, length}
 use Rattle.std.specs.Option.{option_map}
 use Rattle.coord_disk.specs.Model.Present.{Present, IsImage}
-use Rattle.coord_store.specs.Facade.{IsPassing, Recovered}
+use Rattle.coord_store.specs.Facade.{IsOpenFault, IsPassing, Recovered, RefusesOpen}
+use Rattle.coord_store.specs.declared.faults.StoreFault.{StoreFault}
 use Rattle.coord_world.specs.protocol.NumberedWorld.{World}
 use Rattle.coord_ledger.specs.declared.events.Answer.{Answer}
 use Rattle.coord_ledger.specs.declared.events.Event.{Event}
@@ -15,7 +16,8 @@ use Rattle.coord_ledger.specs.ledger.State.{FlightState, LedgerState, ledger_ove
 use Rattle.coord_ledger.specs.machine.Consistent.{IsConsistent}
 use Rattle.coord_ledger.specs.machine.Machine.{Machine}
 use Rattle.coord_ledger.specs.machine.Runs.{Answered, run}
-use Rattle.coord_ledger.specs.promises.Headline.{CrashPrefix, EachMoment, Survives, Touches, is_crash, wants_memory}
+use Rattle.coord_ledger.specs.promises.Broken.{IsGivenBack, wants_memory}
+use Rattle.coord_ledger.specs.promises.Headline.{CrashPrefix, EachMoment, Touches, is_crash}
 use Rattle.coord_ledger.specs.promises.Moments.{Reopens}
 
 abbrev pub disk_with : {D : Type 0} → Option D → Option (FlightState D) → Option D
@@ -28,6 +30,10 @@ disk_held h = disk_with h.ledger.disk h.flight
 -- whether it keeps the model
 abbrev pub model_of : {D : Type 0} → (D → Bool) → Held D → Option Bool
 model_of keeps_model h = option_map keeps_model (disk_held h)
+
+-- its device has failed so often
+abbrev pub HasFailed : {D : Type 0} → (D → ℕ) → Option D → ℕ → Type 0
+HasFailed failures disk n = option_map failures disk ≡ Some n
 
 -- a ledger with the flight that was out of it taken back
 abbrev pub brought_home : {D : Type 0} → LedgerState D → Option (FlightState D) → LedgerState D
@@ -53,15 +59,27 @@ pub record IsReopened {D : Type 0} (keeps_model : D → Bool) (present : D → P
   pub from : keeps_model before ≡ true → AnImageGives (present before) world
   pub moments : keeps_model before ≡ true → Reopens present clock left_since crashes (IsImage (present before)) before disk
 
--- why none was: where each image gives a world, for want of memory or a failure of the device alone
-abbrev pub IsReopenFault : Bool → Present → RunFaultKind → Type 0
-IsReopenFault keeps_model present OutOfMemory = Unit {0}
-IsReopenFault keeps_model present (Store fault) = keeps_model ≡ true → ((image : List ℕ) → IsImage present image → (w : World) × Recovered image w) → IsPassing fault
+-- one of a disk's images is refused so
+pub record AnImageIsRefused (present : Present) (fault : StoreFault) : Type 0 where
+  pub image : List ℕ
+  pub allowed : IsImage present image
+  pub refused : RefusesOpen image fault
+
+-- the disk that is given back reads as one of the images of that disk, and gives a world
+pub record IsOpenedOnce (present lost : Present) : Type 0 where
+  pub allowed : IsImage present lost.read
+  pub world : World
+  pub recovered : Recovered lost.read world
+
+-- why none was made of a crashed disk: the store was opened and there is no memory for the ledger, or it was not opened
+abbrev pub IsReopenFault : Bool → Present → Present → RunFaultKind → Type 0
+IsReopenFault keeps_model present lost OutOfMemory = keeps_model ≡ true → IsOpenedOnce present lost
+IsReopenFault keeps_model present lost (Store fault) = IsOpenFault fault × (keeps_model ≡ true → AnImageIsRefused present fault)
 
 -- why an event was not answered
 abbrev pub IsEventFault : Option Bool → Event → RunFaultKind → Type 0
 IsEventFault model e OutOfMemory = wants_memory e ≡ true
-IsEventFault model e (Store fault) = (e ≡ Crash) × (model ≡ Some true → IsPassing fault)
+IsEventFault model e (Store fault) = (e ≡ Crash) × IsOpenFault fault × (model ≡ Some true → IsPassing fault)
 
 -- what an event has made of this disk is held now
 pub record HoldsTouched {D : Type 0} (keeps_model : D → Bool) (present : D → Present) (clock : D → ℕ) (left_since : D → ℕ → List ℕ → Type 0) (crashes : D → D → Type 0) (found : Machine) (touches : Bool) (e : Event) (old : D) (now : Option D) : Type 0 where
@@ -74,10 +92,10 @@ abbrev pub HeldTouches : {D : Type 0} → (D → Bool) → (D → Present) → (
 HeldTouches {D} keeps_model present clock left_since crashes found touches e h next =
     (old : D) → disk_held h ≡ Some old → HoldsTouched keeps_model present clock left_since crashes found touches e old (disk_held next)
 
--- where the event was cut short this disk was given up: the one that is held, or in a crash one behind the taking of an image
-abbrev pub IsLost : {D : Type 0} → (D → Bool) → (D → Present) → (D → ℕ) → (D → ℕ → List ℕ → Type 0) → (D → D → Type 0) → Machine → Event → Held D → D → Type 0
-IsLost {D} keeps_model present clock left_since crashes s e h lost =
-    (old : D) → disk_held h ≡ Some old → (lost ≡ old) ⊎ ((e ≡ Crash) × (keeps_model old ≡ true → Reopens present clock left_since crashes (Survives s) old lost))
+-- where the event was cut short this disk is given back, for the one that is held
+abbrev pub IsLost : {D : Type 0} → (D → Bool) → (D → Present) → (D → ℕ) → (D → ℕ → List ℕ → Type 0) → (D → D → Type 0) → Machine → Event → RunFaultKind → Held D → D → Type 0
+IsLost {D} keeps_model present clock left_since crashes s e kind h lost =
+    (old : D) → disk_held h ≡ Some old → IsGivenBack present clock left_since crashes (keeps_model old) s e kind old lost
 
 -- whatever a crash between two events may leave survives
 abbrev pub HeldSurvives : {D : Type 0} → (D → Bool) → (D → Present) → Held D → Machine → Type 0

@@ -12,16 +12,16 @@
 -- of every run, whatever the disk may hold survives.
 --
 -- `Ran` has these beside what else a run promises: that the answers are the event machine's, that what was released and
--- collected is true of the steps that are kept, and which ledger is left. `Broke` and `HasCause` are what is promised of
--- a run that ends early: its moments, what was answered and released until then, and why.
-use Rattle.std.specs.Prelude.{◌≡◌, ◌⊎◌, ℕ, ◌≤◌, ◌==◌, ◌&&◌, Bool, true, false, List, [], ◌∷◌, ◌++◌, map, length, take, slice_get, count_by, Some, None}
+-- collected is true of the steps that are kept, and which ledger is left. `Broken.antt` has what is promised of a run
+-- that ends early: its moments, what was answered and released until then, which disk is given back, and why.
+use Rattle.std.specs.Prelude.{◌≡◌, ◌⊎◌, ℕ, ◌≤◌, ◌==◌, ◌&&◌, Bool, true, false, List, [], ◌∷◌, map, take, count_by, Some, None}
 use Rattle.std.specs.List.{AllByRecursion}
 use Rattle.coord_disk.specs.Model.Present.{Present, IsImage}
 use Rattle.coord_types.specs.Table.{get}
 use Rattle.coord_types.specs.declared.steps.Reply.{Reply}
 use Rattle.coord_types.specs.declared.steps.Session.{Session}
 use Rattle.coord_types.specs.declared.steps.Step.{Step}
-use Rattle.coord_store.specs.Facade.{IsPassing, Recovered}
+use Rattle.coord_store.specs.Facade.{Recovered}
 use Rattle.coord_store.specs.declared.faults.CommitFault.TheVariants as fault
 use Rattle.coord_world.specs.laws.Release.{IsReleased}
 use Rattle.coord_world.specs.laws.Waves.{is_signal_of}
@@ -29,10 +29,8 @@ use Rattle.coord_world.specs.Facade.{Legal, World, outs}
 use Rattle.coord_ledger.specs.declared.events.Answer.{Answer}
 use Rattle.coord_ledger.specs.declared.events.Answer.TheVariants.{Committed, Failed}
 use Rattle.coord_ledger.specs.declared.events.Event.{Event}
-use Rattle.coord_ledger.specs.declared.events.Event.TheVariants.{Submit, Commit, Finish, Resend, Crash}
+use Rattle.coord_ledger.specs.declared.events.Event.TheVariants.{Commit, Crash}
 use Rattle.coord_ledger.specs.declared.release.Release.{Release}
-use Rattle.coord_ledger.specs.declared.trace.RunFaultKind.{RunFaultKind}
-use Rattle.coord_ledger.specs.declared.trace.RunFaultKind.TheVariants.{OutOfMemory, Store}
 use Rattle.coord_ledger.specs.ledger.State.{LedgerState}
 use Rattle.coord_ledger.specs.machine.After.{after, finished, releases_of}
 use Rattle.coord_ledger.specs.machine.Answers.{IsOneOf, answers, kept}
@@ -44,19 +42,25 @@ use Rattle.coord_ledger.specs.promises.Parts.{IsPartOf, released_first}
 
 -- ---- wherever it is stopped
 
--- every link predicate holds in this world; it has every step of which anything was released or collected, and none that was not accepted
-pub record IsSafe (s : Machine) (w : World) : Type 0 where
-  pub legal : Legal w
-  pub released : AllByRecursion (λ r. r.step ≤ w.count) s.released
-  pub replied : AllByRecursion (λ r. r.step ≤ w.count) s.replied
-  pub accepted : w.count ≤ accepted_count s.log
+-- what was sent again was given out by one of these steps, or the base sends it again
+abbrev pub IsAgainOf : World → List Step → Release → Type 0
+IsAgainOf base steps r = r.step ≡ 0 → IsReleased base steps r.output
+
+-- Every link predicate holds in the world after the first n steps of the trail. It has every step of which anything was
+-- released or collected, the step that gave out what was sent again too, and none that was not accepted.
+pub record IsSafe (s : Machine) (n : ℕ) : Type 0 where
+  pub legal : Legal (world_after s.log n)
+  pub released : AllByRecursion (λ r. r.step ≤ (world_after s.log n).count) s.released
+  pub again : AllByRecursion (IsAgainOf s.log.base (take n s.log.trail)) s.released
+  pub replied : AllByRecursion (λ r. r.step ≤ (world_after s.log n).count) s.replied
+  pub accepted : (world_after s.log n).count ≤ accepted_count s.log
 
 -- these bytes give the world after the first steps of the trail, as many as a crash may keep
 pub record Survives (s : Machine) (bytes : List ℕ) : Type 0 where
   pub steps : ℕ
   pub allowed : IsOneOf steps (kept s)
   pub recovered : Recovered bytes (world_after s.log steps)
-  pub safe : IsSafe s (world_after s.log steps)
+  pub safe : IsSafe s steps
 
 -- crash prefix: so does whatever a disk that keeps the model may hold
 abbrev pub CrashPrefix : Machine → Bool → Present → Type 0
@@ -95,7 +99,7 @@ ReleasedOnce s = IsPartOf (released_first s.released) (releases_of (outs s.log.b
 
 -- what was sent again was given out by a settled step, or the base sends it again
 abbrev pub IsTrulyAgain : Log → Release → Type 0
-IsTrulyAgain log r = r.step ≡ 0 → IsReleased log.base (settled_steps log) r.output
+IsTrulyAgain log = IsAgainOf log.base (settled_steps log)
 
 abbrev pub AgainTruly : Machine → Type 0
 AgainTruly s = AllByRecursion (IsTrulyAgain s.log) s.released
@@ -150,39 +154,3 @@ pub record Ran {D : Type 0} (present : D → Present) (clock : D → ℕ) (left_
   pub signalled : SignalledOnce (run start events given)
   pub replied : RepliedTruly (run start events given)
   pub ledger : IsLeft (ended (run start events given)) left
-
--- these begin as what was released before, and go no further than an answer to the event would
-pub record IsCutShort (before : Machine) (e : Event) (released : List Release) : Type 0 where
-  pub answer : Answer
-  pub allowed : IsOneOf answer (answers before e)
-  pub more : List Release
-  pub rest : List Release
-  pub begins : released ≡ before.released ++ more
-  pub ends : (after before e answer).released ≡ released ++ rest
-
--- A run that ended early, at an event, or behind the last one where the flight that was out could not be taken back:
--- the answers to the events before are the machine's, and at each moment of it, also inside the event that was cut
--- short, the headline holds. It is what `run_events` ensures where it answers a fault.
-pub record Broke {D : Type 0} (present : D → Present) (clock : D → ℕ) (left_since : D → ℕ → List ℕ → Type 0) (crashes : D → D → Type 0) (start : Machine) (events : List Event) (at : ℕ) (given : List Answer) (released : List Release) (keeps_model : Bool) (first : D) : Type 0 where
-  pub within : at ≤ length events
-  pub answered : Answered start (take at events) given
-  pub during : (e : Event) → slice_get events at ≡ Some e → IsCutShort (run start (take at events) given) e released
-  pub behind : at ≡ length events → released ≡ (run start events given).released
-  pub disk : D  -- as the events before have left it
-  pub moments : EachMoment present clock left_since crashes keeps_model start (take at events) given first disk
-  pub lost : D  -- as it was given up, in a crash perhaps behind the taking of an image
-  pub inside : (lost ≡ disk) ⊎ ((slice_get events at ≡ Some Crash) × (keeps_model ≡ true → Reopens present clock left_since crashes (Survives (run start (take at events) given)) disk lost))
-
--- a driver's own lists can grow in these, or its ledger is made anew: in no other event does it want memory
-abbrev pub wants_memory : Event → Bool
-wants_memory (Submit step) = true
-wants_memory Finish = true
-wants_memory Resend = true
-wants_memory Crash = true
-wants_memory event = false
-
--- A run wants memory as it begins, for its list of answers, in such an event, or at its end, where the flight comes back.
--- A store's fault comes of a crash alone; on a disk that keeps the model it is want of memory or a failure of the device.
-abbrev pub HasCause : Bool → List Event → ℕ → RunFaultKind → Type 0
-HasCause keeps_model events at OutOfMemory = (at ≡ 0) ⊎ ((at ≡ length events) ⊎ ((e : Event) × ((slice_get events at ≡ Some e) × (wants_memory e ≡ true))))
-HasCause keeps_model events at (Store fault) = (slice_get events at ≡ Some Crash) × (keeps_model ≡ true → IsPassing fault)

@@ -1,15 +1,16 @@
 //! The disk crashes, and is opened again.
 
-ghost use Rattle.std.specs.Prelude.{◌≡◌, true, IfErr, IfOk, MatchResult, Some};
+ghost use Rattle.std.specs.Prelude.{◌≡◌, ◌+◌, true, ℕ, IfErr, IfOk, MatchResult, Some};
 ghost use Rattle.coord_disk.specs.Model.Present.{IsImage};
 ghost use Rattle.coord_ledger.specs.declared.events.Answer.TheVariants.{Opened};
 ghost use Rattle.coord_ledger.specs.declared.events.Event.TheVariants.{Crash};
-ghost use Rattle.coord_ledger.specs.ledger.Driven.{Beside, IsAnew, after_crash, held, model_driven};
-ghost use Rattle.coord_ledger.specs.ledger.Driver.{HeldTouches, IsEventFault, IsLost, IsReopenFault, IsReopened};
+ghost use Rattle.coord_ledger.specs.ledger.Driven.{Beside, IsAnew, after_crash, disk_driven, held, model_driven};
+ghost use Rattle.coord_ledger.specs.ledger.Driver.{HasFailed, HeldTouches, IsEventFault, IsLost, IsReopenFault, IsReopened};
 ghost use Rattle.coord_ledger.specs.ledger.Follows.{Follows, FollowsTo};
 ghost use Rattle.coord_ledger.specs.machine.Consistent.{IsConsistent};
 ghost use Rattle.coord_ledger.specs.machine.Log.{settled_count};
 ghost use Rattle.coord_ledger.specs.machine.Machine.{Machine};
+ghost use Rattle.coord_ledger.specs.promises.Faults.{failed_in};
 ghost use Rattle.coord_ledger.specs.promises.Moments.{Reopens};
 
 use super::Driver;
@@ -23,7 +24,10 @@ fn reopen<D: CrashDisk>(alloc: Global, disk: D) -> Result<Ledger<D>, (RunFaultKi
     ensures opened { IfOk result (IsReopened D.keeps_model D.present D.clock D.left_since D.crashes
         disk) }
     ensures cause { IfErr result (λ refused.
-        IsReopenFault (D.keeps_model disk) (D.present disk) refused.0) }
+        IsReopenFault (D.keeps_model disk) (D.present disk) (D.present refused.1) refused.0) }
+    ensures failures { MatchResult result (λ ledger.
+        HasFailed D.failures ledger.disk (D.failures disk)) (λ refused. D.failures refused.1 ≡
+        D.failures disk + failed_in refused.0) }
     ensures lost { IfErr result (λ refused. D.keeps_model disk ≡ true →
         Reopens D.present D.clock D.left_since D.crashes
         (IsImage (D.present disk)) disk refused.1) }
@@ -52,8 +56,11 @@ impl<D: CrashDisk> Driver<D> {
             → MatchResult result (λ opened.
             HeldTouches D.keeps_model D.present D.clock D.left_since D.crashes s true Crash
             (held self b) (held opened.1 (after_crash b))) (λ refused.
-            IsLost D.keeps_model D.present D.clock D.left_since D.crashes s Crash
+            IsLost D.keeps_model D.present D.clock D.left_since D.crashes s Crash refused.0
             (held self b) refused.1) }
+        ensures failures { (n : ℕ) → HasFailed D.failures (disk_driven self) n
+            → MatchResult result (λ opened. HasFailed D.failures (disk_driven opened.1) n)
+            (λ refused. D.failures refused.1 ≡ n + failed_in refused.0) }
         ensures model { IfOk result (λ opened. model_driven D.keeps_model opened.1 ≡
             model_driven D.keeps_model self) }
         ensures cause { IfErr result (λ refused.

@@ -1,14 +1,15 @@
 //! Flights go out, are committed, and come back.
 
-ghost use Rattle.std.specs.Prelude.{◌≡◌, ◌-◌, List, Ok, Some};
+ghost use Rattle.std.specs.Prelude.{◌≡◌, ◌+◌, ◌-◌, List, ℕ, Ok, Some};
 ghost use Rattle.coord_ledger.specs.declared.events.Event.TheVariants.{Begin, Commit};
 ghost use Rattle.coord_ledger.specs.declared.release.Release.{Release as Row};
 ghost use Rattle.coord_ledger.specs.ledger.Driven.{Beside, FinishesTo, disk_driven, held, model_driven};
-ghost use Rattle.coord_ledger.specs.ledger.Driver.{HeldTouches};
+ghost use Rattle.coord_ledger.specs.ledger.Driver.{HasFailed, HeldTouches};
 ghost use Rattle.coord_ledger.specs.ledger.Follows.{Follows, FollowsTo};
 ghost use Rattle.coord_ledger.specs.machine.After.{settling_releases};
 ghost use Rattle.coord_ledger.specs.machine.Consistent.{IsConsistent};
 ghost use Rattle.coord_ledger.specs.machine.Machine.{Machine};
+ghost use Rattle.coord_ledger.specs.promises.Faults.{failed_at};
 ghost use Rattle.coord_ledger.specs.promises.Headline.{found_by_crash};
 ghost use Rattle.coord_ledger.specs.promises.Moments.{touches_disk};
 
@@ -48,6 +49,8 @@ impl<D: CrashDisk> Driver<D> {
             → HeldTouches D.keeps_model D.present D.clock D.left_since D.crashes
             (found_by_crash s Commit result) (touches_disk Commit result) Commit (held self.old b)
             (held self.new b) }
+        ensures failures { (n : ℕ) → HasFailed D.failures (disk_driven self.old) n →
+            HasFailed D.failures (disk_driven self.new) (n + failed_at Commit result) }
         ensures model { model_driven D.keeps_model self.new ≡ model_driven D.keeps_model self.old }
     {
         self.survives();

@@ -1,12 +1,13 @@
 //! Crashes of the disk in a run.
 
-ghost use Rattle.std.specs.Prelude.{◌≡◌, true, IfErr, IfOk, MatchResult};
+ghost use Rattle.std.specs.Prelude.{◌≡◌, ◌+◌, true, ℕ, IfErr, IfOk, MatchResult};
 ghost use Rattle.coord_ledger.specs.declared.events.Event.TheVariants.{Crash};
-ghost use Rattle.coord_ledger.specs.ledger.Driver.{HeldTouches, IsEventFault, IsLost, IsPromised, model_of};
+ghost use Rattle.coord_ledger.specs.ledger.Driver.{HasFailed, HeldTouches, IsEventFault, IsLost, IsPromised, disk_held, model_of};
 ghost use Rattle.coord_ledger.specs.ledger.Follows.{Follows, FollowsTo};
 ghost use Rattle.coord_ledger.specs.machine.Consistent.{IsConsistent};
 ghost use Rattle.coord_ledger.specs.machine.Machine.{Machine};
-ghost use Rattle.coord_ledger.specs.promises.Headline.{IsCutShort};
+ghost use Rattle.coord_ledger.specs.promises.Broken.{IsCutShort};
+ghost use Rattle.coord_ledger.specs.promises.Faults.{failed_in};
 
 use super::flights::Broken;
 use super::released::forget_all;
@@ -21,12 +22,15 @@ impl<D: CrashDisk> Run<D> {
         ensures answered { (s : Machine) → IsConsistent s → Follows self s →
             IsPromised (model_of D.keeps_model self) Crash
             → MatchResult result (λ held. FollowsTo s Crash held.0 held.1) (λ broken.
-            IsCutShort s Crash broken.released.items) }
+            IsCutShort s Crash broken.kind broken.released.items) }
         ensures disk { (s : Machine) → IsConsistent s → Follows self s
             → MatchResult result (λ held.
             HeldTouches D.keeps_model D.present D.clock D.left_since D.crashes s true Crash self
             held.1) (λ broken. IsLost D.keeps_model D.present D.clock D.left_since D.crashes s Crash
-            self broken.disk) }
+            broken.kind self broken.disk) }
+        ensures failures { (n : ℕ) → HasFailed D.failures (disk_held self) n
+            → MatchResult result (λ held. HasFailed D.failures (disk_held held.1) n) (λ broken.
+            D.failures broken.disk ≡ n + failed_in broken.kind) }
         ensures model { IfOk result (λ held. model_of D.keeps_model held.1 ≡
             model_of D.keeps_model self) }
         ensures cause { IfErr result (λ broken.

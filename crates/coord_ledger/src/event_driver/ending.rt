@@ -1,8 +1,9 @@
 //! The end of a run.
 
-ghost use Rattle.std.specs.Prelude.{◌≡◌, List, None, IfErr, IfOk, MatchResult, Some};
+ghost use Rattle.std.specs.Prelude.{◌≡◌, List, None, IfErr, IfOk, IsSomeAnd, MatchResult, Some};
 ghost use Rattle.coord_ledger.specs.declared.events.Answer.{Answer as Reaction};
 ghost use Rattle.coord_ledger.specs.declared.events.Event.{Event as What};
+ghost use Rattle.coord_ledger.specs.declared.mark.Mark.TheVariants.{Good};
 ghost use Rattle.coord_ledger.specs.declared.trace.RunFaultKind.TheVariants.{OutOfMemory};
 ghost use Rattle.coord_ledger.specs.ledger.Driver.{Drives, disk_held};
 ghost use Rattle.coord_ledger.specs.ledger.State.{LedgerState, started};
@@ -29,6 +30,7 @@ impl<D: CrashDisk> Run<D> {
         ensures disk { MatchResult result (λ r. r.1.disk ≡ disk_held self) (λ broken.
             disk_held self ≡ Some broken.disk) }
         ensures refused { IfErr result (λ broken. broken.released.items ≡ self.released) }
+        ensures out { IfErr result (λ _. IsSomeAnd self.flight (λ flight. flight.mark ≡ Good)) }
         ensures kind { IfErr result (λ broken. broken.kind ≡ OutOfMemory) }
     {
         let Run {

@@ -1,12 +1,14 @@
 //! Any event of a run.
 
-ghost use Rattle.std.specs.Prelude.{◌≡◌, IfErr, IfOk, MatchResult, Some};
+ghost use Rattle.std.specs.Prelude.{◌≡◌, ◌+◌, ℕ, IfErr, IfOk, MatchResult, Some};
 ghost use Rattle.coord_ledger.specs.declared.trace.RunFaultKind.TheVariants.{OutOfMemory};
-ghost use Rattle.coord_ledger.specs.ledger.Driver.{HeldTouches, IsEventFault, IsLost, IsPromised, disk_held, model_of};
+ghost use Rattle.coord_ledger.specs.ledger.Driver.{HasFailed, HeldTouches, IsEventFault, IsLost, IsPromised, disk_held, model_of};
 ghost use Rattle.coord_ledger.specs.ledger.Follows.{Follows, FollowsTo};
 ghost use Rattle.coord_ledger.specs.machine.Consistent.{EventInRange, IsConsistent};
 ghost use Rattle.coord_ledger.specs.machine.Machine.{Machine};
-ghost use Rattle.coord_ledger.specs.promises.Headline.{IsCutShort, found_by_crash};
+ghost use Rattle.coord_ledger.specs.promises.Broken.{IsCutShort};
+ghost use Rattle.coord_ledger.specs.promises.Faults.{failed_at, failed_in};
+ghost use Rattle.coord_ledger.specs.promises.Headline.{found_by_crash};
 ghost use Rattle.coord_ledger.specs.promises.Moments.{touches_disk};
 
 use super::flights::Broken;
@@ -43,13 +45,17 @@ impl<D: CrashDisk> Run<D> {
         ensures answered { (s : Machine) → IsConsistent s → Follows self s →
             IsPromised (model_of D.keeps_model self) event
             → MatchResult result (λ held. FollowsTo s event held.0 held.1) (λ broken.
-            IsCutShort s event broken.released.items) }
+            IsCutShort s event broken.kind broken.released.items) }
         ensures disk { (s : Machine) → IsConsistent s → Follows self s
             → MatchResult result (λ held.
             HeldTouches D.keeps_model D.present D.clock D.left_since D.crashes
             (found_by_crash s event held.0) (touches_disk event held.0) event self held.1)
-            (λ broken. IsLost D.keeps_model D.present D.clock D.left_since D.crashes s event self
-            broken.disk) }
+            (λ broken. IsLost D.keeps_model D.present D.clock D.left_since D.crashes s event
+            broken.kind self broken.disk) }
+        ensures failures { (n : ℕ) → HasFailed D.failures (disk_held self) n
+            → MatchResult result (λ held.
+            HasFailed D.failures (disk_held held.1) (n + failed_at event held.0)) (λ broken.
+            D.failures broken.disk ≡ n + failed_in broken.kind) }
         ensures named { EventInRange event }
         ensures model { IfOk result (λ held. model_of D.keeps_model held.1 ≡
             model_of D.keeps_model self) }

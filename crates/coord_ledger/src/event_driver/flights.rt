@@ -7,7 +7,7 @@ ghost use Rattle.coord_ledger.specs.ledger.Driver.{disk_held};
 ghost use Rattle.coord_ledger.specs.ledger.Follows.{Follows, FollowsTo};
 ghost use Rattle.coord_ledger.specs.machine.Consistent.{IsConsistent};
 ghost use Rattle.coord_ledger.specs.machine.Machine.{Machine};
-ghost use Rattle.coord_ledger.specs.promises.Headline.{IsCutShort};
+ghost use Rattle.coord_ledger.specs.promises.Broken.{IsLeftOut};
 
 use super::released::{forget_all, push_releases};
 use super::run::Run;
@@ -22,20 +22,21 @@ pub struct Broken<D: CrashDisk> {
 }
 
 impl<D: CrashDisk> Broken<D> {
-    /// The fault of a run that ended at this event, with the answers before it.
-    pub fn at(self, at: usize, answers: Vec<Answer>) -> RunFault
-        ensures at { result.at ≡ at }
-        ensures answers { result.trace.answers.items ≡ answers.items }
-        ensures released { result.trace.released.items ≡ self.released.items }
-        ensures kind { result.kind ≡ self.kind }
+    /// The fault of a run that ended at this event, with the answers before it, and the disk.
+    pub fn at(self, at: usize, answers: Vec<Answer>) -> (RunFault, D)
+        ensures at { result.0.at ≡ at }
+        ensures answers { result.0.trace.answers.items ≡ answers.items }
+        ensures released { result.0.trace.released.items ≡ self.released.items }
+        ensures kind { result.0.kind ≡ self.kind }
+        ensures disk { result.1 ≡ self.disk }
     {
         let Broken {
             kind,
             released,
-            disk: _disk,
+            disk,
         } = self;
         let trace = Trace { answers, released };
-        RunFault { at, trace, kind }
+        (RunFault { at, trace, kind }, disk)
     }
 }
 
@@ -66,7 +67,7 @@ impl<D: CrashDisk> Run<D> {
     pub fn finish(self) -> Result<(Answer, Self), Broken<D>>
         ensures answered { (s : Machine) → IsConsistent s → Follows self s →
             MatchResult result (λ held. FollowsTo s Finish held.0 held.1) (λ broken.
-            IsCutShort s Finish broken.released.items) }
+            IsLeftOut s Finish broken.released.items) }
         ensures disk { MatchResult result (λ held. disk_held held.1 ≡ disk_held self) (λ broken.
             disk_held self ≡ Some broken.disk) }
         ensures kind { IfErr result (λ broken. broken.kind ≡ OutOfMemory) }

@@ -1,12 +1,14 @@
 //! What a run of events holds between two events.
 
-ghost use Rattle.std.specs.Prelude.{◌≡◌, IfOk, OnErr, Some};
+ghost use Rattle.std.specs.Prelude.{◌≡◌, ◌+◌, ℕ, IfOk, OnErr, Some};
 ghost use Rattle.coord_ledger.specs.declared.events.Event.TheVariants.{Submit, Collect, Resend, Show, Commit};
-ghost use Rattle.coord_ledger.specs.ledger.Driver.{HeldSurvives, HeldTouches, disk_held, model_of};
+ghost use Rattle.coord_ledger.specs.ledger.Driver.{HasFailed, HeldSurvives, HeldTouches, disk_held, model_of};
 ghost use Rattle.coord_ledger.specs.ledger.Follows.{Follows, FollowsTo};
 ghost use Rattle.coord_ledger.specs.machine.Consistent.{IsConsistent};
 ghost use Rattle.coord_ledger.specs.machine.Machine.{Machine};
-ghost use Rattle.coord_ledger.specs.promises.Headline.{IsCutShort, found_by_crash};
+ghost use Rattle.coord_ledger.specs.promises.Broken.{IsLeftOut};
+ghost use Rattle.coord_ledger.specs.promises.Faults.{failed_at};
+ghost use Rattle.coord_ledger.specs.promises.Headline.{found_by_crash};
 ghost use Rattle.coord_ledger.specs.promises.Moments.{touches_disk};
 
 use super::released::push_releases;
@@ -103,6 +105,8 @@ impl<D: CrashDisk> Run<D> {
         ensures disk { (s : Machine) → IsConsistent s → Follows self.old s
             → HeldTouches D.keeps_model D.present D.clock D.left_since D.crashes
             (found_by_crash s Commit result) (touches_disk Commit result) Commit self.old self.new }
+        ensures failures { (n : ℕ) → HasFailed D.failures (disk_held self.old) n →
+            HasFailed D.failures (disk_held self.new) (n + failed_at Commit result) }
         ensures model { model_of D.keeps_model self.new ≡ model_of D.keeps_model self.old }
     {
         self.driver.commit()
@@ -113,7 +117,7 @@ impl<D: CrashDisk> Run<D> {
         ensures answered { (s : Machine) → IsConsistent s → Follows self.old s →
             IfOk result (λ answer. FollowsTo s Resend answer self.new) }
         ensures cut { (s : Machine) → IsConsistent s → Follows self.old s →
-            OnErr result (IsCutShort s Resend self.new.released) }
+            OnErr result (IsLeftOut s Resend self.new.released) }
         ensures disk { disk_held self.new ≡ disk_held self.old }
     {
         match self.driver.ledger().resend() {

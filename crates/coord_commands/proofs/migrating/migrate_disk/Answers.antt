@@ -1,7 +1,10 @@
-use Rattle.std.proofs.Common.{◌≡◌, ◌⊎◌, ◌∙◌, List, ℕ, true, inr, ap, subst, string_bytes}
+use Rattle.std.proofs.Common.{◌≡◌, ◌⊎◌, ⊎_elim, ◌+◌, ◌∙◌, List, ℕ, true, inl, inr, ap, sym, subst, string_bytes}
+use Rattle.coord_disk.proofs.MomentLemmas.{and_then, weaker}
+use Rattle.coord_disk.specs.Model.Moments.{LeavesOnly}
 use Rattle.coord_disk.specs.Model.Present.{IsImage, Present}
 use Rattle.coord_store.specs.Facade.{GivesEither, Kept, Recovered, has_stopped, risen}
 use Rattle.coord_world.specs.protocol.NumberedWorld.{World}
+use Rattle.coord_commands.specs.Migrating.{IsEitherVersion, failures_in}
 use Rattle.coord_commands.proofs.Raising.{either_of, fault_of, going_on, if_both, if_present, line_of}
 use Rattle.coord_commands.proofs.migrating.migrate_disk.Goals as goal
 
@@ -33,10 +36,32 @@ returns-in-Ok-clause-fault g c =
     (λ same. if_both (g.D.Disk.keeps_model c.args.disk) (g.D.Disk.keeps_model c.into_disk.result) (g.D.Disk.present c.args.disk) (g.D.Disk.present c.into_disk.result)
     (λ (old new : Present). new.read ≡ old.read) (λ keeps _. reads same keeps))
     (λ torn. if_both (g.D.Disk.keeps_model c.args.disk) (g.D.Disk.keeps_model c.into_disk.result) (g.D.Disk.present c.args.disk) (g.D.Disk.present c.into_disk.result)
-    (λ (old new : Present). (image : List ℕ) → IsImage new image → IsImage old image ⊎ ((w : World) × Recovered old.read w × GivesEither w (risen w) image))
+    (λ (old new : Present). (image : List ℕ) → IsImage new image → IsEitherVersion old image)
     (λ keeps kept image is. inr (
       store.world,
       c.in-Ok.ensures.world keeps,
       either_of raised store.world (risen store.world) image torn.0 torn.1
           (c.images_give_world.ensures.images (subst (λ d. g.D.Disk.keeps_model d ≡ true) back kept) image (subst (λ d. IsImage (g.D.Disk.present d) image) back is)),
     )))
+
+-- at each moment, and how often the device has failed
+pub returns-in-Ok-clause-raises : goal.returns-in-Ok-clause-raises
+returns-in-Ok-clause-raises g c =
+    let store = c.in-Ok.store in
+    let raised = c.migrate_store-line.new.store in
+    let back = c.into_disk.ensures.disk in
+    record {
+      any_moment = λ keeps.
+          let opening = c.in-Ok.ensures.any_moment keeps in
+          let raising = c.migrate_store-line.ensures.any_moment (c.in-Ok.ensures.model ∙ keeps) c.in-Ok.ensures.going in
+          subst (λ d. LeavesOnly {D = g.row.D.Denot} g.D.Disk.clock g.D.Disk.left_since c.args.disk d (IsEitherVersion (g.D.Disk.present c.args.disk))) (sym back)
+          (weaker g.D.Disk.clock g.D.Disk.left_since c.args.disk raised.disk _ _ (and_then g.D.Disk.clock g.D.Disk.left_since c.args.disk store.disk raised.disk _ _ opening raising)
+          (λ image either. ⊎_elim (λ was. inl was) (λ gives. inr (store.world, c.in-Ok.ensures.world keeps, gives)) either));
+      failures = ap g.D.Disk.failures back ∙ c.migrate_store-line.ensures.failures ∙ ap (λ n. n + failures_in c.migrate_store-line.result) c.in-Ok.ensures.failures;
+    }
+
+pub returns-in-Err-clause-raises : goal.returns-in-Err-clause-raises
+returns-in-Err-clause-raises g c = record {
+  any_moment = λ keeps. weaker g.D.Disk.clock g.D.Disk.left_since c.args.disk c.in-Err.disk _ _ (c.in-Err.ensures.any_moment_refused keeps) (λ image was. inl was);
+  failures = c.in-Err.ensures.failures;
+}

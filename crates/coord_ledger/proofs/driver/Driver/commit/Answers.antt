@@ -1,6 +1,7 @@
 use Rattle.std.proofs.Common.{false, refl, sym, ap, ◌∙◌, subst}
-use Rattle.coord_ledger.specs.Facade.{Commit, Driven, HeldTouches, disk_driven, disk_with, found_by_crash, held, touches_disk}
+use Rattle.coord_ledger.specs.Facade.{Commit, Driven, HeldTouches, disk_driven, disk_with, failed_at, found_by_crash, held, touches_disk}
 use Rattle.coord_ledger.proofs.drives.EachMoment.{commit_touches, held_untouched, told}
+use Rattle.coord_ledger.proofs.drives.Failures.{failed_aside, failed_committing}
 use Rattle.coord_ledger.proofs.driver.Driver.commit.Goals as goal
 use Rattle.coord_ledger.proofs.driver.Driver.commit.Goals.{in-None, in-Some+in-Ok, in-Some+in-Err}
 
@@ -23,3 +24,17 @@ returns-clause-disk g c b s is follows = elim c.match-self.branch [
       (λ i. disk_with (w.self-inside-is i).ledger.disk (w.self-inside-is i).flight) w.commit.result
       w.commit.ensures.any_moment w.commit.ensures.any_moment_refused w.commit.ensures.tried w.commit.ensures.again w.commit.ensures.stopped)
 ]
+
+pub returns-clause-failures : goal.returns-clause-failures
+returns-clause-failures g c n so =
+    let new : Driven g.row.D.Denot = record { ledger = c.match-self.self-inside.ledger; flight = c.match-self.self-inside.flight } in
+    elim c.match-self.branch [
+      | in-None w ↦
+          failed_aside g.D.Disk.failures (disk_driven c.args.self.now) (disk_driven new) Commit Commit c.match-self.result n refl (ap (failed_at Commit) w.result-is) ((λ i. disk_with (w.self-inside-is i).ledger.disk (w.self-inside-is i).flight) ∙ ap disk_driven c.self.view_is) so
+      | in-Some+in-Ok w ↦
+          failed_committing g.D.Disk.failures (disk_driven c.args.self.now) (disk_driven new) w.in-Some.flight.disk w.commit.new.self.disk w.commit.result c.match-self.result n (ap (disk_with c.args.self.now.ledger.disk) (sym (ap (λ (d : Driven g.row.D.Denot). d.flight) c.self.view_is) ∙ w.in-Some.is))
+          (λ i. disk_with (w.self-inside-is i).ledger.disk (w.self-inside-is i).flight) w.commit.ensures.failures (w.result-is ∙ sym (ap told w.in-Ok.is)) so
+      | in-Some+in-Err w ↦
+          failed_committing g.D.Disk.failures (disk_driven c.args.self.now) (disk_driven new) w.in-Some.flight.disk w.commit.new.self.disk w.commit.result c.match-self.result n (ap (disk_with c.args.self.now.ledger.disk) (sym (ap (λ (d : Driven g.row.D.Denot). d.flight) c.self.view_is) ∙ w.in-Some.is))
+          (λ i. disk_with (w.self-inside-is i).ledger.disk (w.self-inside-is i).flight) w.commit.ensures.failures (w.result-is ∙ sym (ap told w.in-Err.is)) so
+    ]

@@ -1,10 +1,11 @@
-use Rattle.std.proofs.Common.{◌≡◌, true, sym, ap, ◌∙◌, subst}
+use Rattle.std.proofs.Common.{◌≡◌, ◌+◌, true, sym, ap, ◌∙◌, subst}
 use Rattle.std.specs.Option.{option_map}
 use Rattle.coord_world.specs.protocol.NumberedWorld.{World}
-use Rattle.coord_ledger.specs.Facade.{Crash, Driven, FollowsTo, Opened, after_crash, at_home, disk_driven, flight_out, held, kept_by, model_driven}
+use Rattle.coord_ledger.specs.Facade.{Crash, Driven, FollowsTo, Opened, after_crash, at_home, disk_driven, failed_in, flight_out, held, kept_by, model_driven}
 use Rattle.coord_ledger.proofs.follows.FollowsCrashes.{images_follow}
 use Rattle.coord_ledger.proofs.drives.FollowsTo.{crash_fault, follows_reopened, some_is}
 use Rattle.coord_ledger.proofs.drives.EachMoment.{crash_lost, crash_touches}
+use Rattle.coord_ledger.proofs.drives.Failures.{failed_as, failed_same, failed_so}
 use Rattle.coord_ledger.proofs.driver.Driver.crash.Goals as goal
 
 pub returns-in-Ok-clause-answered : goal.returns-in-Ok-clause-answered
@@ -23,7 +24,7 @@ returns-in-Ok-clause-anew g c = record { world = c.in-Ok.ensures.opened.world; d
 pub returns-in-Err-clause-cause : goal.returns-in-Err-clause-cause
 returns-in-Err-clause-cause g c =
     let d = c.into_disk.result in
-    crash_fault (model_driven g.D.Disk.keeps_model c.args.self) (g.D.Disk.keeps_model d) (g.D.Disk.present d) c.args.self.ledger.log (kept_by c.args.self.ledger.log.settled (option_map flight_out c.args.self.flight) c.args.self.ledger.log.doubt) c.in-Err.refused.0 (ap (option_map g.D.Disk.keeps_model) c.into_disk.ensures.disk) c.into_disk.ensures.images c.in-Err.ensures.cause
+    crash_fault (model_driven g.D.Disk.keeps_model c.args.self) (g.D.Disk.keeps_model d) (g.D.Disk.present d) (g.D.Disk.present c.in-Err.refused.1) c.args.self.ledger.log (kept_by c.args.self.ledger.log.settled (option_map flight_out c.args.self.flight) c.args.self.ledger.log.doubt) c.in-Err.refused.0 (ap (option_map g.D.Disk.keeps_model) c.into_disk.ensures.disk) c.into_disk.ensures.images c.in-Err.ensures.cause
 
 pub returns-in-Ok-clause-disk : goal.returns-in-Ok-clause-disk
 returns-in-Ok-clause-disk g c b s is follows =
@@ -32,4 +33,15 @@ returns-in-Ok-clause-disk g c b s is follows =
 
 pub returns-in-Err-clause-disk : goal.returns-in-Err-clause-disk
 returns-in-Err-clause-disk g c b s is follows =
-    crash_lost g.D.Disk.present g.D.Disk.clock g.D.Disk.left_since g.D.CrashDisk.crashes g.D.Disk.keeps_model (held c.args.self b) s c.into_disk.result c.into_disk.ensures.disk (c.survives.ensures b s is follows) c.in-Err.refused.1 c.in-Err.ensures.lost
+    crash_lost g.D.Disk.present g.D.Disk.clock g.D.Disk.left_since g.D.CrashDisk.crashes g.D.Disk.keeps_model (held c.args.self b) s c.into_disk.result c.into_disk.ensures.disk (c.survives.ensures b s is follows) c.in-Err.refused.0 c.in-Err.refused.1 c.in-Err.ensures.lost c.in-Err.ensures.cause
+
+-- how often the device has failed
+
+pub returns-in-Ok-clause-failures : goal.returns-in-Ok-clause-failures
+returns-in-Ok-clause-failures g c n so =
+    let before = failed_so g.D.Disk.failures (disk_driven c.args.self) c.into_disk.result n so c.into_disk.ensures.disk in
+    failed_same g.D.Disk.failures c.in-Ok.ledger.disk (disk_driven c.over.result) n (ap disk_driven c.over.ensures)
+    (failed_as g.D.Disk.failures c.in-Ok.ledger.disk (g.D.Disk.failures c.into_disk.result) n before c.in-Ok.ensures.failures)
+
+pub returns-in-Err-clause-failures : goal.returns-in-Err-clause-failures
+returns-in-Err-clause-failures g c n so = c.in-Err.ensures.failures ∙ ap (λ k. k + failed_in c.in-Err.refused.0) (failed_so g.D.Disk.failures (disk_driven c.args.self) c.into_disk.result n so c.into_disk.ensures.disk)

@@ -1,7 +1,12 @@
-use Rattle.std.proofs.Common.{ℕ, List, sym, ◌∙◌, subst}
+use Rattle.std.proofs.Common.{◌≡◌, ◌≢◌, ℕ, List, sym, ap, ◌∙◌, subst, arith}
 use Rattle.coord_world.specs.protocol.NumberedWorld.{World, no_world}
 use Rattle.coord_journal.specs.Facade.{Content, content_of, without_batch}
+use Rattle.coord_journal.specs.declared.fault.JournalFault.{JournalFault}
+use Rattle.coord_journal.specs.declared.fault.JournalFault.TheVariants as journal
+use Rattle.coord_store.specs.Faults.{store_fault_of}
 use Rattle.coord_store.specs.Recovered.{Gives}
+use Rattle.coord_store.specs.declared.faults.StoreFault.{StoreFault}
+use Rattle.coord_store.specs.declared.faults.StoreFault.TheVariants.{Device}
 use Rattle.coord_store.proofs.Refusing.{made_refused}
 use Rattle.coord_store.proofs.store.Store.create.Goals as goal
 
@@ -24,3 +29,16 @@ returns-clause-fault g c k0 =
     let k1 = c.format.ensures.model ∙ k0 in
     made_refused (g.D.Disk.present c.args.disk).read (g.D.Disk.present c.format.new.disk).read c.args.half_size (without_batch c.args.version c.deref.result.now) c.in-Err-open.fault c.told-in-Err-open.result
     c.told-in-Err-open.ensures (c.in-Ok-format.ensures.text k0) (c.in-Err-open.ensures.fault k1)
+
+-- a disk that was not empty
+
+not_device : (why : JournalFault) (fault : StoreFault) → fault ≡ store_fault_of why → fault ≢ Device → why ≢ journal.Device
+not_device why fault is other device = other (is ∙ ap store_fault_of device)
+
+pub returns-in-Err-format-clause-taken : goal.returns-in-Err-format-clause-taken
+returns-in-Err-format-clause-taken g c k some other =
+    let why = not_device c.in-Err-format.fault c.told.result c.told.ensures other in
+    record { same = c.in-Err-format.ensures.unchanged k why; any_moment = c.in-Err-format.ensures.any_moment k why }
+
+pub returns-clause-taken : goal.returns-clause-taken
+returns-clause-taken g c k some other = let no : ⊥ = omega (arith, some, c.in-Ok-format.ensures.empty k) in absurd no

@@ -6,7 +6,7 @@ use Rattle.coord_store.specs.Facade.{GivesEither, risen}
 use Rattle.coord_store.specs.declared.faults.StoreFault.TheVariants as fault
 use Rattle.coord_world.specs.laws.Raised.{raised}
 use Rattle.coord_world.specs.protocol.NumberedWorld.{World}
-use Rattle.coord_store.proofs.Holding.{stays, whenever}
+use Rattle.coord_store.proofs.Holding.{whenever}
 use Rattle.coord_store.proofs.store.Store.migrate.Goals as goal
 
 -- a world of version 1 rises
@@ -16,37 +16,32 @@ rises w first = sym (ap (λ v. cond (eqb v 1) (raised w) w) first)
 pub returns-then-stopped-clause-any_moment : goal.returns-then-stopped-clause-any_moment
 returns-then-stopped-clause-any_moment g c k none =
     let s = c.args.self.now in
-    weaker g.D.Disk.clock g.D.Disk.left_since s.disk s.disk _ _ (stays g.D.Disk.present g.D.Disk.keeps_model g.D.Disk.clock g.D.Disk.left_since s (c.images_give_world.ensures.images k) none (λ image. g.met.D.Disk.only_now s.disk image k)) (λ bytes gives. inl gives)
+    weaker g.D.Disk.clock g.D.Disk.left_since s.disk s.disk _ _ (c.images_give_world.ensures.still k none) (λ bytes gives. inl gives)
 
 pub returns-then-stopped-clause-any_moment_refused : goal.returns-then-stopped-clause-any_moment_refused
-returns-then-stopped-clause-any_moment_refused g c k none _ =
-    let s = c.args.self.now in
-    stays g.D.Disk.present g.D.Disk.keeps_model g.D.Disk.clock g.D.Disk.left_since s (c.images_give_world.ensures.images k) none (λ image. g.met.D.Disk.only_now s.disk image k)
+returns-then-stopped-clause-any_moment_refused g c k none _ = c.images_give_world.ensures.still k none
 
 pub returns-then-number-eq2-clause-any_moment : goal.returns-then-number-eq2-clause-any_moment
 returns-then-number-eq2-clause-any_moment g c k none =
     let s = c.args.self.now in
-    weaker g.D.Disk.clock g.D.Disk.left_since s.disk s.disk _ _ (stays g.D.Disk.present g.D.Disk.keeps_model g.D.Disk.clock g.D.Disk.left_since s (c.images_give_world.ensures.images k) none (λ image. g.met.D.Disk.only_now s.disk image k)) (λ bytes gives. inl gives)
+    weaker g.D.Disk.clock g.D.Disk.left_since s.disk s.disk _ _ (c.images_give_world.ensures.still k none) (λ bytes gives. inl gives)
 
 pub returns-in-Some-clause-any_moment : goal.returns-in-Some-clause-any_moment
 returns-in-Some-clause-any_moment g c k none =
     let s = c.args.self.now in
-    weaker g.D.Disk.clock g.D.Disk.left_since s.disk s.disk _ _ (stays g.D.Disk.present g.D.Disk.keeps_model g.D.Disk.clock g.D.Disk.left_since s (c.images_give_world.ensures.images k) none (λ image. g.met.D.Disk.only_now s.disk image k)) (λ bytes gives. inl gives)
+    weaker g.D.Disk.clock g.D.Disk.left_since s.disk s.disk _ _ (c.images_give_world.ensures.still k none) (λ bytes gives. inl gives)
 
 pub returns-in-Some-clause-any_moment_refused : goal.returns-in-Some-clause-any_moment_refused
-returns-in-Some-clause-any_moment_refused g c k none _ =
-    let s = c.args.self.now in
-    stays g.D.Disk.present g.D.Disk.keeps_model g.D.Disk.clock g.D.Disk.left_since s (c.images_give_world.ensures.images k) none (λ image. g.met.D.Disk.only_now s.disk image k)
+returns-in-Some-clause-any_moment_refused g c k none _ = c.images_give_world.ensures.still k none
 
 pub returns-in_err-next-clause-any_moment : goal.returns-in_err-next-clause-any_moment
 returns-in_err-next-clause-any_moment g c k none =
     let s = c.args.self.now in
-    weaker g.D.Disk.clock g.D.Disk.left_since s.disk s.disk _ _ (stays g.D.Disk.present g.D.Disk.keeps_model g.D.Disk.clock g.D.Disk.left_since s (c.images_give_world.ensures.images k) none (λ image. g.met.D.Disk.only_now s.disk image k)) (λ bytes gives. inl gives)
+    weaker g.D.Disk.clock g.D.Disk.left_since s.disk s.disk _ _ (c.images_give_world.ensures.still k none) (λ bytes gives. inl gives)
 
 pub returns-in_err-next-clause-any_moment_refused : goal.returns-in_err-next-clause-any_moment_refused
 returns-in_err-next-clause-any_moment_refused g c k none =
-    let s = c.args.self.now in
-    whenever c.from_residual.result (λ why. why ≢ fault.Device) _ (stays g.D.Disk.present g.D.Disk.keeps_model g.D.Disk.clock g.D.Disk.left_since s (c.images_give_world.ensures.images k) none (λ image. g.met.D.Disk.only_now s.disk image k))
+    whenever c.from_residual.result (λ why. why ≢ fault.Device) _ (c.images_give_world.ensures.still k none)
 
 -- the world that is put in place is the one that is asked for
 pub returns-clause-any_moment : goal.returns-clause-any_moment

@@ -1,6 +1,5 @@
 use Rattle.std.proofs.Common.{true, sym, ap, ◌∙◌, subst}
-use Rattle.coord_ledger.specs.Facade.{Beside, Crash, Follows, FollowsTo, Held, HeldTouches, IsLost, Opened, after_crash, held, model_of}
-use Rattle.coord_ledger.proofs.drives.CutShort.{cut_before}
+use Rattle.coord_ledger.specs.Facade.{Beside, Crash, Follows, FollowsTo, HasFailed, Held, HeldTouches, IsLost, Opened, after_crash, disk_held, held, model_of}
 use Rattle.coord_ledger.proofs.drives.FollowsTo.{crash_on}
 use Rattle.coord_ledger.proofs.event_driver.run.Run.crash.Goals as goal
 
@@ -20,11 +19,16 @@ returns-in-Ok-clause-disk g c s is follows =
     (c.in-Ok.ensures.disk b s is (subst (λ (h : Held g.row.D.Denot). Follows h s) (sym c.self.view_is) follows))
 
 pub returns-in-Err-clause-answered : goal.returns-in-Err-clause-answered
-returns-in-Err-clause-answered g c s is follows promised =
-    cut_before _ s Crash (subst (λ (h : Held g.row.D.Denot). Follows h s) (sym c.self.view_is) follows)
+returns-in-Err-clause-answered g c s is follows promised = ap (λ (h : Held g.row.D.Denot). h.released) c.self.view_is ∙ follows.released
 
 pub returns-in-Err-clause-disk : goal.returns-in-Err-clause-disk
 returns-in-Err-clause-disk g c s is follows =
     let b : Beside = record { claims = c.self.inside.tickets.items; seen = c.self.inside.seen; released = c.self.inside.released.items } in
-    subst (λ (h : Held g.row.D.Denot). IsLost g.D.Disk.keeps_model g.D.Disk.present g.D.Disk.clock g.D.Disk.left_since g.D.CrashDisk.crashes s Crash h c.in-Err.disk) c.self.view_is
+    subst (λ (h : Held g.row.D.Denot). IsLost g.D.Disk.keeps_model g.D.Disk.present g.D.Disk.clock g.D.Disk.left_since g.D.CrashDisk.crashes s Crash c.in-Err.kind h c.in-Err.disk) c.self.view_is
     (c.in-Err.ensures.disk b s is (subst (λ (h : Held g.row.D.Denot). Follows h s) (sym c.self.view_is) follows))
+
+pub returns-in-Ok-clause-failures : goal.returns-in-Ok-clause-failures
+returns-in-Ok-clause-failures g c n so = c.in-Ok.ensures.failures n (subst (λ (h : Held g.row.D.Denot). HasFailed g.D.Disk.failures (disk_held h) n) (sym c.self.view_is) so)
+
+pub returns-in-Err-clause-failures : goal.returns-in-Err-clause-failures
+returns-in-Err-clause-failures g c n so = c.in-Err.ensures.failures n (subst (λ (h : Held g.row.D.Denot). HasFailed g.D.Disk.failures (disk_held h) n) (sym c.self.view_is) so)

@@ -15,7 +15,7 @@ returns-then-is_err-clause-answered g c s is follows =
     let items = c.self.inside.released.items in
     let to = subst (λ r. FinishesTo s b r c.finish-landed.result.1) (c.in-Ok-Some.is ∙ ap Ok c.in-Ok-Some.field-0-is) (c.finish-landed.ensures.answered b s is inside) in
     let ends = ap (λ l. items ++ l) some.all_are ∙ sym (append_assoc items some.added some.lost) ∙ ap (λ l. l ++ some.lost) (sym some.now) in
-    cut_within _ _ s Finish _ c.push_releases.new.released.items some.added some.lost inside to some.now ends
+    cut_within _ _ s Finish _ c.push_releases.new.released.items some.added some.lost inside to some.now ends some.some
 
 pub returns-clause-answered : goal.returns-clause-answered
 returns-clause-answered g c s is follows =

@@ -23,4 +23,4 @@ returns-in_err-count-in-Ok-clause-cut g c s is follows =
     let items = c.self.inside.released.items in
     let to = follows_resent _ s is inside (items ++ c.in-Ok.releases) (ap (λ l. items ++ l) given) in
     let ends = ap (λ l. items ++ l) some.all_are ∙ sym (append_assoc items some.added some.lost) ∙ ap (λ l. l ++ some.lost) (sym some.now) in
-    on_err c.from_residual.result (cut_within _ _ s Resend _ c.push_releases.new.released.items some.added some.lost inside to some.now ends)
+    on_err c.from_residual.result (cut_within _ _ s Resend _ c.push_releases.new.released.items some.added some.lost inside to some.now ends some.some)

@@ -1,0 +1,95 @@
+-- A run that ends early: what was answered and released until then, which disk is given back, and why.
+--
+-- It ends at an event that is cut short, or behind the last one where the flight that is out can't be taken back, or
+-- before the first one. All but what was answered and released is given up, and the disk is given back: as the events
+-- before have left it, or in a crash behind the taking of an image.
+use Rattle.std.specs.Prelude.{◌≡◌, ◌⊎◌, ℕ, ◌≤◌, Bool, true, false, List, [], ◌++◌, length, take, slice_get, Option, Some, None}
+use Rattle.coord_disk.specs.Model.Present.{Present}
+use Rattle.coord_store.specs.Facade.{IsOpenFault, IsPassing}
+use Rattle.coord_ledger.specs.declared.events.Answer.{Answer}
+use Rattle.coord_ledger.specs.declared.events.Event.{Event}
+use Rattle.coord_ledger.specs.declared.events.Event.TheVariants.{Submit, Finish, Resend, Crash}
+use Rattle.coord_ledger.specs.declared.mark.Mark.TheVariants.{Good}
+use Rattle.coord_ledger.specs.declared.release.Release.{Release}
+use Rattle.coord_ledger.specs.declared.trace.RunFaultKind.{RunFaultKind}
+use Rattle.coord_ledger.specs.declared.trace.RunFaultKind.TheVariants.{OutOfMemory, Store}
+use Rattle.coord_ledger.specs.machine.After.{after}
+use Rattle.coord_ledger.specs.machine.Answers.{IsOneOf, answers}
+use Rattle.coord_ledger.specs.machine.Machine.{FlightOut, Machine}
+use Rattle.coord_ledger.specs.machine.Runs.{Answered, run}
+use Rattle.coord_ledger.specs.promises.Headline.{EachMoment, Survives}
+use Rattle.coord_ledger.specs.promises.Moments.{Reopens}
+
+-- ---- an event that is cut short
+
+-- of what the event releases with one of its answers, the list of releases has some, and finds no memory for the next
+pub record IsLeftOut (before : Machine) (e : Event) (released : List Release) : Type 0 where
+  pub answer : Answer
+  pub allowed : IsOneOf answer (answers before e)
+  pub more : List Release
+  pub rest : List Release
+  pub begins : released ≡ before.released ++ more
+  pub ends : (after before e answer).released ≡ released ++ rest
+  pub some : 1 ≤ length rest
+
+-- What was released then. There is no memory for a ticket, for a release, or for the ledger behind a crash, or the
+-- store is not opened behind it.
+abbrev pub IsCutShort : Machine → Event → RunFaultKind → List Release → Type 0
+IsCutShort before (Submit step) OutOfMemory released = released ≡ before.released
+IsCutShort before Finish OutOfMemory released = IsLeftOut before Finish released
+IsCutShort before Resend OutOfMemory released = IsLeftOut before Resend released
+IsCutShort before Crash kind released = released ≡ before.released
+IsCutShort before event kind released = ⊥
+
+-- A crash has taken one of the disk's images. Where there is no memory for the ledger, the store was opened.
+pub record IsLostInCrash {D : Type 0} (present : D → Present) (clock : D → ℕ) (left_since : D → ℕ → List ℕ → Type 0) (crashes : D → D → Type 0) (before : Machine) (kind : RunFaultKind) (disk lost : D) : Type 0 where
+  pub reopens : Reopens present clock left_since crashes (Survives before) disk lost
+  pub opened : kind ≡ OutOfMemory → Survives before (present lost).read
+
+-- which disk is given back
+abbrev pub IsGivenBack : {D : Type 0} → (D → Present) → (D → ℕ) → (D → ℕ → List ℕ → Type 0) → (D → D → Type 0) → Bool → Machine → Event → RunFaultKind → D → D → Type 0
+IsGivenBack present clock left_since crashes keeps_model before Crash kind disk lost = keeps_model ≡ true → IsLostInCrash present clock left_since crashes before kind disk lost
+IsGivenBack present clock left_since crashes keeps_model before event kind disk lost = lost ≡ disk
+
+-- ---- a run
+
+-- there is no memory: nothing more is released, and the disk is given back as it is
+pub record IsGivenUp {D : Type 0} (before : Machine) (kind : RunFaultKind) (released : List Release) (disk lost : D) : Type 0 where
+  pub memory : kind ≡ OutOfMemory
+  pub released_is : released ≡ before.released
+  pub same : lost ≡ disk
+
+-- a flight is out that was committed
+abbrev pub IsCommitted : Option FlightOut → Type 0
+IsCommitted flight = (size : ℕ) × (flight ≡ Some (record { size = size; mark = Good }))
+
+-- why it ends at this event, or behind the last one
+abbrev pub EndsAt : {D : Type 0} → (D → Present) → (D → ℕ) → (D → ℕ → List ℕ → Type 0) → (D → D → Type 0) → Bool → Machine → Option Event → RunFaultKind → List Release → D → D → Type 0
+EndsAt present clock left_since crashes keeps_model before None kind released disk lost = IsGivenUp before kind released disk lost × IsCommitted before.flight
+EndsAt present clock left_since crashes keeps_model before (Some event) kind released disk lost = IsCutShort before event kind released × IsGivenBack present clock left_since crashes keeps_model before event kind disk lost
+
+-- A run that ended early, with the answers to the events before. At each moment of it, also inside the event that was
+-- cut short, the headline holds. It is what `run_events_keeping_disk` ensures where it answers a fault.
+pub record Broke {D : Type 0} (present : D → Present) (clock : D → ℕ) (left_since : D → ℕ → List ℕ → Type 0) (crashes : D → D → Type 0) (start : Machine) (events : List Event) (at : ℕ) (given : List Answer) (released : List Release) (kind : RunFaultKind) (keeps_model : Bool) (first lost : D) : Type 0 where
+  pub within : at ≤ length events
+  pub answered : Answered start (take at events) given
+  pub disk : D  -- as the events before have left it
+  pub moments : EachMoment present clock left_since crashes keeps_model start (take at events) given first disk
+  -- there is no memory for the list of answers, as it begins, or it ends at an event
+  pub why : ((at ≡ 0) × IsGivenUp (run start (take at events) given) kind released disk lost) ⊎ EndsAt present clock left_since crashes keeps_model (run start (take at events) given) (slice_get events at) kind released disk lost
+
+-- ---- on any disk
+
+-- a run's own lists can grow in these, or its ledger is made anew: in no other event does it want memory
+abbrev pub wants_memory : Event → Bool
+wants_memory (Submit step) = true
+wants_memory Finish = true
+wants_memory Resend = true
+wants_memory Crash = true
+wants_memory event = false
+
+-- A run wants memory as it begins, for its list of answers, in such an event, or at its end, where the flight comes back.
+-- A store's fault comes of a crash alone; on a disk that keeps the model it is want of memory or a failure of the device.
+abbrev pub HasCause : Bool → List Event → ℕ → List Release → RunFaultKind → Type 0
+HasCause keeps_model events at released OutOfMemory = ((at ≡ 0) × (released ≡ [])) ⊎ ((at ≡ length events) ⊎ ((e : Event) × ((slice_get events at ≡ Some e) × (wants_memory e ≡ true))))
+HasCause keeps_model events at released (Store fault) = (slice_get events at ≡ Some Crash) × IsOpenFault fault × (keeps_model ≡ true → IsPassing fault)
