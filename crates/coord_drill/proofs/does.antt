@@ -8,4 +8,5 @@ pub mod LineResponds
 pub mod Moments
 pub mod Tells
 pub mod Cuts
+pub mod Crashes
 pub mod Flushes

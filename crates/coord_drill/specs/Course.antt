@@ -29,11 +29,11 @@ use Rattle.coord_store.specs.declared.faults.StoreFault.{StoreFault}
 use Rattle.coord_world.specs.Facade.{Legal, no_world}
 use Rattle.coord_ledger.specs.declared.events.Answer.{Answer}
 use Rattle.coord_ledger.specs.declared.events.Event.{Event}
-use Rattle.coord_ledger.specs.Facade.{LeavesWithin, Machine, Reopens, adopted, after, found_by_crash, front_world, run, world_after}
+use Rattle.coord_ledger.specs.Facade.{LeavesWithin, Machine, Reopens, adopted, after, failed_until, found_by_crash, front_world, run, world_after}
 use Rattle.coord_drill.specs.Asked.{asked}
 use Rattle.coord_drill.specs.Drill.{DrillState, drill_over, line_events}
 use Rattle.coord_drill.specs.Drilled.{LineResponds, asked_by, is_skipped}
-use Rattle.coord_drill.specs.Faults.{IsOfWriting, store_fault}
+use Rattle.coord_drill.specs.Faults.{IsOfNoStore, IsOfWriting, IsPassing, failed_by, store_fault}
 use Rattle.coord_drill.specs.Told.{told_by}
 use Rattle.coord_drill.specs.declared.asked.Asked.{Asked}
 use Rattle.coord_drill.specs.declared.asked.Asked.TheVariants.{Crash, Version2}
@@ -94,9 +94,10 @@ Raises disk p new = LeavesOnly disk.clock disk.left_since p.disk new (λ bytes. 
 -- what is asked leads from one place to the other
 abbrev pub Moves : {D : Type 0} → Ghosts D → (D → D → Type 0) → Option Asked → List Answer → Place D → Place D → Type 0
 Moves disk crashes None given p q = (q.machine ≡ p.machine) × (q.disk ≡ p.disk)
-Moves disk crashes (Some Version2) given p q = (q.machine ≡ adopted (no_world 2)) × Raises disk p q.disk
+Moves disk crashes (Some Version2) given p q = (q.machine ≡ adopted (no_world 2)) × (Raises disk p q.disk × (disk.failures q.disk ≡ disk.failures p.disk))
 Moves disk crashes (Some a) given p q =
-    let events = line_events p.state.holds a given in (q.machine ≡ run p.machine events given) × Passes disk crashes p.machine p.told events given p.disk q.disk
+    let events = line_events p.state.holds a given in
+    (q.machine ≡ run p.machine events given) × (Passes disk crashes p.machine p.told events given p.disk q.disk × (disk.failures q.disk ≡ disk.failures p.disk + failed_until events given))
 
 -- the line of this number prints this, and leads from one place to the other
 pub record LineGoes {D : Type 0} (disk : Ghosts D) (crashes : D → D → Type 0) (p : Place D) (n : ℕ) (line : Line) (text : List ℕ) (q : Place D) : Type 0 where
@@ -142,19 +143,28 @@ IsLeftBy disk crashes p Crash m mid lost = (lost ≡ mid) ⊎ Reopens disk.prese
 IsLeftBy disk crashes p Version2 m mid lost = Raises disk p lost
 IsLeftBy disk crashes p a m mid lost = lost ≡ mid
 
-pub record CutShort {D : Type 0} (disk : Ghosts D) (crashes : D → D → Type 0) (p : Place D) (a : Asked) (lost : D) : Type 0 where
+-- It was so for this fault, and the disk has failed where a commit and the fault tell so, and nowhere else.
+pub record CutShort {D : Type 0} (disk : Ghosts D) (crashes : D → D → Type 0) (p : Place D) (a : Asked) (why : Fault) (lost : D) : Type 0 where
+  pub cause : IsPassing why
   pub given : List Answer  -- so far
   pub mid : D
   pub moments : Passes disk crashes p.machine p.told (take (length given) (line_events p.state.holds a given)) given p.disk mid
   pub left : IsLeftBy disk crashes p a (run p.machine (take (length given) (line_events p.state.holds a given)) given) mid lost
+  pub failed : disk.failures lost ≡ disk.failures p.disk + (failed_until (take (length given) (line_events p.state.holds a given)) given + failed_by why)
 
 -- the first of these lines was
-abbrev pub FirstCutShort : {D : Type 0} → Ghosts D → (D → D → Type 0) → Place D → List Line → D → Type 0
-FirstCutShort disk crashes p [] lost = ⊥
-FirstCutShort disk crashes p (l ∷ ls) lost = (a : Asked) × ((asked_in p.state l ≡ Some a) × CutShort disk crashes p a lost)
+abbrev pub FirstCutShort : {D : Type 0} → Ghosts D → (D → D → Type 0) → Place D → List Line → Fault → D → Type 0
+FirstCutShort disk crashes p [] why lost = ⊥
+FirstCutShort disk crashes p (l ∷ ls) why lost = (a : Asked) × ((asked_in p.state l ≡ Some a) × CutShort disk crashes p a why lost)
+
+-- The disk is given back as these lines find it, and no store was refused; or the first of them was cut short, and that
+-- is told, unless the writer then failed.
+abbrev pub IsGivenBack : {D : Type 0} → Ghosts D → (D → D → Type 0) → Place D → List Line → Fault → D → Type 0
+IsGivenBack disk crashes p ls fault lost =
+    ((lost ≡ p.disk) × IsOfNoStore fault) ⊎ ((why : Fault) × (FirstCutShort disk crashes p ls why lost × ((fault ≡ why) ⊎ IsOfWriting fault)))
 
 -- some first lines of the input were carried out, of whose text a first part was written; this disk is given back
-pub record BrokeOff {D : Type 0} (disk : Ghosts D) (crashes : D → D → Type 0) (input : List ℕ) (written now : Option (List ℕ)) (lost : D) : Type 0 where
+pub record BrokeOff {D : Type 0} (disk : Ghosts D) (crashes : D → D → Type 0) (input : List ℕ) (written now : Option (List ℕ)) (fault : Fault) (lost : D) : Type 0 where
   pub lines : List Line
   pub others : List Line
   pub split : lines_of input ≡ lines ++ others
@@ -162,10 +172,11 @@ pub record BrokeOff {D : Type 0} (disk : Ghosts D) (crashes : D → D → Type 0
   pub place : Place D
   pub course : Course disk crashes lines text place
   pub wrote : WritesFirstPart written now text
-  pub given_back : (lost ≡ place.disk) ⊎ FirstCutShort disk crashes place others lost
+  pub given_back : IsGivenBack disk crashes place others fault lost
 
--- no store was made on the disk that was given: nothing was read and nothing written
-pub record NotMade {D : Type 0} (disk : Ghosts D) (given : D) (fault : Fault) : Type 0 where
+-- no store was made on the disk that was given
+pub record NotMade {D : Type 0} (disk : Ghosts D) (given : D) (fault : Fault) (lost : D) : Type 0 where
   pub why : StoreFault
   pub fault_is : fault ≡ store_fault why
   pub refused : RefusesCreate (disk.present given).read HALF_SIZE why
+  pub failed : disk.failures lost ≡ disk.failures given + failed_by fault

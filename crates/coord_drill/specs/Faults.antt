@@ -1,5 +1,6 @@
 -- Which faults may come, and how they are told.
 use Rattle.std.specs.Prelude.{◌≡◌, ◌≢◌, ◌⊎◌, ℕ, Bool, true, false, Result, Ok, IsErr, MatchResult}
+use Rattle.coord_store.specs.Refused.{failed_in}
 use Rattle.coord_store.specs.declared.faults.StoreFault.{StoreFault}
 use Rattle.coord_store.specs.declared.faults.StoreFault.TheVariants as store
 use Rattle.coord_ledger.specs.declared.trace.RunFaultKind.{RunFaultKind}
@@ -48,6 +49,19 @@ store_fault why = Store why
 abbrev pub reopen_fault : RunFaultKind → Fault
 reopen_fault of_run.OutOfMemory = OutOfMemory
 reopen_fault (of_run.Store fault) = store_fault fault
+
+-- how often the disk has failed in what is told so
+abbrev pub failed_by : Fault → ℕ
+failed_by (Store why) = failed_in why
+failed_by fault = 0
+
+-- on a disk that keeps the model a line is cut short for want of memory, or because the disk failed
+abbrev pub IsPassing : Fault → Type 0
+IsPassing fault = IsOfMemory fault ⊎ (fault ≡ Store store.Device)
+
+-- no store was refused
+abbrev pub IsOfNoStore : Fault → Type 0
+IsOfNoStore fault = (why : StoreFault) → fault ≢ Store why
 
 -- of a write's answer the bytes that were taken are told; a fault is one where none were, and so may none be
 abbrev pub TellsOfWrite : {E : Type 0} → Result ℕ E → Result ℕ Fault → Type 0

@@ -1,20 +1,21 @@
 -- What the code's functions say of lines that were carried out, wherever the drill stood before them.
-use Rattle.std.specs.Prelude.{◌≡◌, ◌⊎◌, ℕ, ◌+◌, List, [], ◌∷◌, ◌++◌, length, Option}
+use Rattle.std.specs.Prelude.{◌≡◌, ℕ, ◌+◌, List, [], ◌∷◌, ◌++◌, length, Option}
 use Rattle.std.specs.Io.KnownBytes.{Appends}
 use Rattle.coord_disk.specs.declared.disk.Disk.{Ghosts}
 use Rattle.coord_lines.specs.Lines.{Line, lines_on}
 use Rattle.coord_lines.specs.Written.{WritesFirstPart}
-use Rattle.coord_drill.specs.Course.{FirstCutShort, Goes, LineGoes, Place}
+use Rattle.coord_drill.specs.Course.{Goes, IsGivenBack, LineGoes, Place}
 use Rattle.coord_drill.specs.Moments.{Stands}
 use Rattle.coord_drill.specs.declared.drill.Drill.{Drill}
+use Rattle.coord_drill.specs.declared.fault.Fault.{Fault}
 
 -- the line of this number was carried out, and is to print this
 abbrev pub CarriesLine : {D : Type 0} → Ghosts D → (D → D → Type 0) → Drill D → ℕ → Line → List ℕ → Drill D → Type 0
 CarriesLine {D} disk crashes d n line told new = (p : Place D) → Stands disk d p → (q : Place D) × (Stands disk new q × LineGoes disk crashes p n line told q)
 
 -- it was cut short, and this disk given up
-abbrev pub CutsLine : {D : Type 0} → Ghosts D → (D → D → Type 0) → Drill D → Line → D → Type 0
-CutsLine {D} disk crashes d line lost = (p : Place D) → Stands disk d p → (lost ≡ p.disk) ⊎ FirstCutShort disk crashes p (line ∷ []) lost
+abbrev pub CutsLine : {D : Type 0} → Ghosts D → (D → D → Type 0) → Drill D → Line → Fault → D → Type 0
+CutsLine {D} disk crashes d line fault lost = (p : Place D) → Stands disk d p → IsGivenBack disk crashes p (line ∷ []) fault lost
 
 -- these lines, of which the first has this number, were carried out, and what they print was written
 pub record CarriesOut {D : Type 0} (disk : Ghosts D) (crashes : D → D → Type 0) (d : Drill D) (n : ℕ) (lines : List Line) (written now : Option (List ℕ)) (new : Drill D) : Type 0 where
@@ -29,13 +30,13 @@ pub record EndsWith {D : Type 0} (disk : Ghosts D) (crashes : D → D → Type 0
   pub goes : (p : Place D) → Stands disk d p → (q : Place D) × ((last ≡ q.disk) × Goes disk crashes p n lines text q)
 
 -- the first of these lines were carried out, a first part of what they print was written, and this disk is given back
-pub record BreaksOff {D : Type 0} (disk : Ghosts D) (crashes : D → D → Type 0) (d : Drill D) (n : ℕ) (lines : List Line) (written now : Option (List ℕ)) (lost : D) : Type 0 where
+pub record BreaksOff {D : Type 0} (disk : Ghosts D) (crashes : D → D → Type 0) (d : Drill D) (n : ℕ) (lines : List Line) (written now : Option (List ℕ)) (fault : Fault) (lost : D) : Type 0 where
   pub ended : List Line
   pub others : List Line
   pub split : lines ≡ ended ++ others
   pub text : List ℕ
   pub wrote : WritesFirstPart written now text
-  pub goes : (p : Place D) → Stands disk d p → (q : Place D) × (Goes disk crashes p n ended text q × ((lost ≡ q.disk) ⊎ FirstCutShort disk crashes q others lost))
+  pub goes : (p : Place D) → Stands disk d p → (q : Place D) × (Goes disk crashes p n ended text q × IsGivenBack disk crashes q others fault lost)
 
 -- A piece of the input was taken, but for this rest: the lines that have ended in it were carried out, from a line so far
 -- to another.

@@ -3,7 +3,7 @@
 -- The events of a line lead from one driver to another, whatever machine the first one follows: with just the answers
 -- that the line's text and the drill's new state go by. The answers are that machine's, what is then driven follows it,
 -- and the headline's chain of moments (`EachMoment`) leads from the disk as it was before the line to the disk then.
-use Rattle.std.specs.Prelude.{◌≡◌, ◌≢◌, ◌⊎◌, ℕ, ◌≤◌, List, [], ◌∷◌, length, take, false, true, Option, Some, None, Result}
+use Rattle.std.specs.Prelude.{◌≡◌, ◌≢◌, ◌⊎◌, ℕ, ◌+◌, ◌≤◌, List, [], ◌∷◌, length, take, false, true, Option, Some, None, Result}
 use Rattle.std.specs.List.{AllByRecursion}
 use Rattle.coord_disk.specs.Model.Moments.{LeavesOnly}
 use Rattle.coord_disk.specs.declared.disk.Disk.{Ghosts}
@@ -20,15 +20,17 @@ use Rattle.coord_ledger.specs.declared.events.Answer.TheVariants.{Refused}
 use Rattle.coord_ledger.specs.declared.events.Event.{Event}
 use Rattle.coord_ledger.specs.declared.events.Event.TheVariants.{Submit}
 use Rattle.coord_ledger.specs.declared.handed.Handed.{Handed}
-use Rattle.coord_ledger.specs.Facade.{Answered, Beside, Driven, EachMoment, EventInRange, Follows, HandedTo, IsConsistent, LedgerState, Machine, MayBegin, Reopens, Survives, answer_to, disk_driven, has_stopped, held, ledger_over, model_driven, nothing_beside, run, settled_count, settled_world, started}
+use Rattle.coord_ledger.specs.Facade.{Answered, Beside, Driven, EachMoment, EventInRange, Follows, HandedTo, HasFailed, IsConsistent, LedgerState, Machine, MayBegin, Reopens, Survives, answer_to, disk_driven, failed_until, has_stopped, held, ledger_over, model_driven, nothing_beside, run, settled_count, settled_world, started}
 use Rattle.coord_drill.specs.Answered.{IsAnswered, flight_lines}
 use Rattle.coord_drill.specs.Course.{AllKept, Place, start}
 use Rattle.coord_drill.specs.Drill.{flight_events, line_events, machine_of, seen_as}
+use Rattle.coord_drill.specs.Faults.{IsOfMemory, IsPassing, failed_by}
 use Rattle.coord_drill.specs.Holding.{IsEmptyLog, state_of}
 use Rattle.coord_drill.specs.declared.asked.Asked.{Asked}
 use Rattle.coord_drill.specs.declared.asked.Asked.TheVariants.{Crash, Version2}
 use Rattle.coord_drill.specs.declared.drill.Drill.{Drill}
 use Rattle.coord_drill.specs.declared.drill.TheConstants.{HALF_SIZE}
+use Rattle.coord_drill.specs.declared.fault.Fault.{Fault}
 
 -- ---- events
 
@@ -47,6 +49,7 @@ pub record Led {D : Type 0} (disk : Ghosts D) (crashes : D → D → Type 0) (s 
   pub consistent : IsConsistent (run s events given)
   pub follows : Follows (held new beside) (run s events given)
   pub moments : (old : D) → disk_driven d ≡ Some old → disk.keeps_model old ≡ true → LedDisk disk crashes s events given old (disk_driven new)
+  pub failed : (n : ℕ) → HasFailed disk.failures (disk_driven d) n → HasFailed disk.failures (disk_driven new) (n + failed_until events given)
 
 -- so whatever machine it follows
 abbrev pub Leads : {D : Type 0} → Ghosts D → (D → D → Type 0) → Driven D → List Event → List Answer → Driven D → Type 0
@@ -94,13 +97,16 @@ pub record RaisesTo {D : Type 0} (disk : Ghosts D) (crashes : D → D → Type 0
   pub is : new.ledger ≡ ledger_over (risen (settled_world d.ledger.log)) raised
   pub now : disk_driven new ≡ Some raised
   pub keeps : disk.keeps_model old ≡ true → disk.keeps_model raised ≡ true
+  pub failed : disk.failures raised ≡ disk.failures old
   pub moments : has_stopped d.ledger.log ≡ false → disk.keeps_model old ≡ true → LeavesOnly disk.clock disk.left_since old raised (GivesRaised d)
 
--- it was given up at a moment of that
-pub record RaisesPart {D : Type 0} (disk : Ghosts D) (d : Driven D) (lost : D) : Type 0 where
+-- it was given up at a moment of that, for this fault
+pub record RaisesPart {D : Type 0} (disk : Ghosts D) (d : Driven D) (why : Fault) (lost : D) : Type 0 where
   pub old : D
   pub there : disk_driven d ≡ Some old
   pub moments : has_stopped d.ledger.log ≡ false → disk.keeps_model old ≡ true → LeavesOnly disk.clock disk.left_since old lost (GivesRaised d)
+  pub cause : IsEmptyLog d.ledger.log → IsPassing why
+  pub failed : disk.failures lost ≡ disk.failures old + failed_by why
 
 -- ---- what is asked
 
@@ -122,19 +128,24 @@ IsPromised disk d a = (model_driven disk.keeps_model d.driver ≡ Some true) × 
 abbrev pub CarriesIf : {D : Type 0} → Ghosts D → (D → D → Type 0) → Drill D → Asked → List ℕ → Drill D → Type 0
 CarriesIf disk crashes d a told new = IsPromised disk d a → Carries disk crashes d a told new
 
--- the disk was given up in a crash: as it was, or behind the taking of an image
-abbrev pub IsLostInCrash : {D : Type 0} → Ghosts D → (D → D → Type 0) → Driven D → D → Type 0
-IsLostInCrash {D} disk crashes d lost = (b : Beside) (s : Machine) → IsConsistent s → Follows (held d b) s → (old : D) → disk_driven d ≡ Some old → disk.keeps_model old ≡ true →
-    (lost ≡ old) ⊎ Reopens disk.present disk.clock disk.left_since crashes (Survives s) old lost
+-- the disk was given up in a crash, behind the taking of an image
+pub record IsLostInCrash {D : Type 0} (disk : Ghosts D) (crashes : D → D → Type 0) (d : Driven D) (why : Fault) (lost : D) : Type 0 where
+  pub moments : (b : Beside) (s : Machine) → IsConsistent s → Follows (held d b) s → (old : D) → disk_driven d ≡ Some old → disk.keeps_model old ≡ true → Reopens disk.present disk.clock disk.left_since crashes (Survives s) old lost
+  pub cause : model_driven disk.keeps_model d ≡ Some true → IsPassing why
+  pub failed : (n : ℕ) → HasFailed disk.failures (disk_driven d) n → disk.failures lost ≡ n + failed_by why
 
--- what is asked was cut short, and this disk given up
-abbrev pub Cuts : {D : Type 0} → Ghosts D → (D → D → Type 0) → Asked → Drill D → D → Type 0
-Cuts disk crashes Version2 d lost = RaisesPart disk d.driver lost
-Cuts disk crashes Crash d lost = LeadsPart disk crashes d.driver (line_events d.holds Crash) lost ⊎ IsLostInCrash disk crashes d.driver lost
-Cuts disk crashes a d lost = LeadsPart disk crashes d.driver (line_events d.holds a) lost
+-- for want of memory behind a part of its events
+abbrev pub LacksMemory : {D : Type 0} → Ghosts D → (D → D → Type 0) → Asked → Drill D → Fault → D → Type 0
+LacksMemory disk crashes a d why lost = IsOfMemory why × LeadsPart disk crashes d.driver (line_events d.holds a) lost
 
-abbrev pub CutsIf : {D : Type 0} → Ghosts D → (D → D → Type 0) → Asked → Drill D → D → Type 0
-CutsIf disk crashes a d lost = IsPromised disk d a → Cuts disk crashes a d lost
+-- what is asked was cut short for this fault, and this disk given up
+abbrev pub Cuts : {D : Type 0} → Ghosts D → (D → D → Type 0) → Asked → Drill D → Fault → D → Type 0
+Cuts disk crashes Version2 d why lost = RaisesPart disk d.driver why lost
+Cuts disk crashes Crash d why lost = LacksMemory disk crashes Crash d why lost ⊎ IsLostInCrash disk crashes d.driver why lost
+Cuts disk crashes a d why lost = LacksMemory disk crashes a d why lost
+
+abbrev pub CutsIf : {D : Type 0} → Ghosts D → (D → D → Type 0) → Asked → Drill D → Fault → D → Type 0
+CutsIf disk crashes a d why lost = IsPromised disk d a → Cuts disk crashes a d why lost
 
 -- a flight prints this and leaves this drill, whatever tickets the machine has given before it
 pub record Flies {D : Type 0} (disk : Ghosts D) (crashes : D → D → Type 0) (d : Drill D) (told : List ℕ) (new : Drill D) : Type 0 where

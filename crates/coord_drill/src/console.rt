@@ -77,9 +77,9 @@ pub fn coord_drill_on<R: Read, W: Write, D: CrashDisk>(
     ensures failed { D.keeps_model disk ≡ true → IfErr result (λ refused. ((seen : List ℕ)
         × Consumes (R.remaining reader.old) (R.remaining reader.new) seen
         × BrokeOff ⟦<D as Disk>⟧ D.crashes seen (W.contents writer.old) (W.contents writer.new)
-        refused.1
+        refused.0 refused.1
         × (refused.0 ≡ TooManyReads → MOST_READS ≤ length seen))
-        ⊎ (NotMade ⟦<D as Disk>⟧ disk refused.0
+        ⊎ (NotMade ⟦<D as Disk>⟧ disk refused.0 refused.1
         × (R.remaining reader.new ≡ R.remaining reader.old)
         × (W.contents writer.new ≡ W.contents writer.old))) }
 {
@@ -115,7 +115,7 @@ impl<D: CrashDisk> Console<D> {
         ensures line { IfOk result (λ console. console.line ≡ Some []) }
         ensures number { IfOk result (λ console. console.number ≡ 0) }
         ensures not_made { D.keeps_model disk ≡ true →
-            IfErr result (λ refused. NotMade ⟦<D as Disk>⟧ disk refused.0) }
+            IfErr result (λ refused. NotMade ⟦<D as Disk>⟧ disk refused.0 refused.1) }
         ensures fault { IfErr result (λ refused. IsOfDisk refused.0) }
     {
         Ok(Console {
@@ -143,7 +143,7 @@ impl<D: CrashDisk> Console<D> {
         ensures failed { IfErr result (λ refused. (seen : List ℕ)
             × Consumes (R.remaining reader.old) (R.remaining reader.new) seen
             × BreaksOff ⟦<D as Disk>⟧ D.crashes self.drill 1 (lines_on self.line seen)
-            (W.contents writer.old) (W.contents writer.new) refused.1
+            (W.contents writer.old) (W.contents writer.new) refused.0 refused.1
             × (refused.0 ≡ TooManyReads → MOST_READS ≤ length seen)) }
     {
         let mut console = self;
@@ -179,7 +179,7 @@ impl<D: CrashDisk> Console<D> {
             console.drill console.number console.line) }
         ensures failed { IfErr result (λ refused. BreaksOff ⟦<D as Disk>⟧ D.crashes
             self.drill (self.number + 1) (lines_on self.line piece.now)
-            (W.contents writer.old) (W.contents writer.new) refused.1) }
+            (W.contents writer.old) (W.contents writer.new) refused.0 refused.1) }
         ensures fault { IfErr result (λ refused. IsOfWork refused.0) }
     {
         let mut text = Vec::new(alloc);
@@ -202,7 +202,7 @@ impl<D: CrashDisk> Console<D> {
             (W.contents writer.old) (W.contents writer.new) last) }
         ensures failed { IfErr result (λ refused. BreaksOff ⟦<D as Disk>⟧ D.crashes
             self.drill (self.number + 1) (lines_on self.line [])
-            (W.contents writer.old) (W.contents writer.new) refused.1) }
+            (W.contents writer.old) (W.contents writer.new) refused.0 refused.1) }
         ensures fault { IfErr result (λ refused. IsOfWork refused.0) }
     {
         let disk = self.end_line(writer)?.into_disk();

@@ -52,7 +52,7 @@ impl<D: CrashDisk> Drill<D> {
         ensures state { IfOk result (λ drill. state_of drill ≡ drill_over (no_world 1)) }
         ensures fault { IfErr result (λ refused. IsOfDisk refused.0) }
         ensures not_made { D.keeps_model disk ≡ true →
-            IfErr result (λ refused. NotMade ⟦<D as Disk>⟧ disk refused.0) }
+            IfErr result (λ refused. NotMade ⟦<D as Disk>⟧ disk refused.0 refused.1) }
     {
         let driver = Driver::over(new_ledger(alloc, disk)?);
         driver.begins();
@@ -84,7 +84,8 @@ impl<D: CrashDisk> Drill<D> {
             (λ told. CarriesIf ⟦<D as Disk>⟧ D.crashes self (asked (front_of self) request.now) told
             drill)) }
         ensures cut { IfErr result (λ refused.
-            CutsIf ⟦<D as Disk>⟧ D.crashes (asked (front_of self) request.now) self refused.1) }
+            CutsIf ⟦<D as Disk>⟧ D.crashes (asked (front_of self) request.now) self refused.0
+            refused.1) }
         ensures fault { IfErr result (λ refused.
             MayEnd (asked (front_of self) request.now) refused.0) }
     {
@@ -132,7 +133,7 @@ fn new_ledger<D: CrashDisk>(alloc: Global, disk: D) -> Result<Ledger<D>, (Fault,
     ensures made { IfOk result (IsMade ⟦<D as Disk>⟧ disk) }
     ensures fault { IfErr result (λ refused. IsOfDisk refused.0) }
     ensures not_made { D.keeps_model disk ≡ true →
-        IfErr result (λ refused. NotMade ⟦<D as Disk>⟧ disk refused.0) }
+        IfErr result (λ refused. NotMade ⟦<D as Disk>⟧ disk refused.0 refused.1) }
 {
     let store = match Store::create(alloc, disk, HALF_SIZE, 1) {
         Ok(store) => store,

@@ -6,7 +6,13 @@ use Rattle.coord_disk.specs.declared.disk.Disk.{Ghosts}
 use Rattle.coord_store.specs.declared.faults.CommitFault.TheVariants as fault
 use Rattle.coord_world.proofs.Facade.{trail_keeps_worlds}
 use Rattle.coord_world.specs.Facade.{World}
-use Rattle.coord_ledger.specs.Facade.{Answer, Answered, Commit, Committed, Crash, EachMoment, Event, EventInRange, Failed, FlightOut, IsConsistent, IsOneOf, LeavesWithin, Machine, Mark, New, Good, Torn, Survives, after, answers, found_by_crash, kept, run, settled_count, to_commit, with_flight, world_after}
+use Rattle.coord_ledger.specs.declared.events.Answer.{Answer}
+use Rattle.coord_ledger.specs.declared.events.Answer.TheVariants.{Committed, Failed}
+use Rattle.coord_ledger.specs.declared.events.Event.{Event}
+use Rattle.coord_ledger.specs.declared.events.Event.TheVariants.{Commit, Crash}
+use Rattle.coord_ledger.specs.declared.mark.Mark.{Mark}
+use Rattle.coord_ledger.specs.declared.mark.Mark.TheVariants.{New, Good, Torn}
+use Rattle.coord_ledger.specs.Facade.{Answered, EachMoment, EventInRange, FlightOut, IsConsistent, IsOneOf, LeavesWithin, Machine, Survives, after, answers, found_by_crash, run, settled_count, to_commit, with_flight, world_after}
 use Rattle.coord_ledger.proofs.drives.EachMoment.{reopens_more}
 use Rattle.coord_ledger.proofs.machine.Consistent.{stays_consistent}
 use Rattle.coord_ledger.proofs.machine.ConsistentFlights.{kept_more}

@@ -13,7 +13,7 @@ use Rattle.coord_drill.specs.Drilled.{asked_by, is_skipped, parsed, unless_late}
 use Rattle.coord_drill.specs.Format.{◌>>=◌}
 use Rattle.coord_drill.specs.declared.asked.Asked.TheVariants.{Version2}
 use Rattle.coord_drill.specs.declared.request.Request.TheVariants as request
-use Rattle.coord_drill.specs.Facade.{AllKept, Answer, Asked, Carries, CarriesIf, CutsIf, Drill, FirstCutShort, Goes, IsEmptyLog, IsPromised, LineGoes, LineResponds, Moves, Place, Prints, Refusal, Request, Responds, Stands, Step, UnlessSkipped, asked_in, bad_line, front_of, state_of, told_in}
+use Rattle.coord_drill.specs.Facade.{AllKept, Answer, Asked, Carries, CarriesIf, CutsIf, Drill, Fault, Goes, IsEmptyLog, IsGivenBack, IsPromised, LineGoes, LineResponds, Moves, Place, Prints, Refusal, Request, Responds, Stands, Step, UnlessSkipped, asked_in, bad_line, front_of, state_of, told_in}
 use Rattle.coord_drill.proofs.course.Cutting.{cut_by}
 use Rattle.coord_drill.proofs.course.Standing.{Reached, reached_by}
 
@@ -110,12 +110,13 @@ module _ {D : Type 0} (disk : Ghosts D) (crashes : D → D → Type 0) where
           ),
         )
 
-    pub cut_asked : (line : List ℕ) (r : Request) (lost : D) → is_skipped line ≡ false → asked_by (state_of d) line ≡ Some r → CutsIf disk crashes (asked (front_of d) r) d lost → FirstCutShort disk crashes p (Some line ∷ []) lost
-    cut_asked line r lost kept is cuts =
+    pub cut_asked : (line : List ℕ) (r : Request) (why : Fault) (lost : D) → is_skipped line ≡ false → asked_by (state_of d) line ≡ Some r → CutsIf disk crashes (asked (front_of d) r) d why lost → IsGivenBack disk crashes p (Some line ∷ []) why lost
+    cut_asked line r why lost kept is cuts =
         let a = asked (front_of d) r in
         let own : asked_by p.state line ≡ Some r = ap (λ (s : DrillState). asked_by s line) at.state ∙ is in
         let asks : asked_in p.state (Some line) ≡ Some a = asked_is p.state line (Some r) kept own ∙ ap (λ (s : DrillState). Some (asked (front_world s.log) r)) at.state in
-        (a, (asks, cut_by disk crashes d p at a lost (promised line r is) cuts))
+        let on = promised line r is in
+        inr (why, ((a, (asks, cut_by disk crashes d p at a why lost on (cuts on))), inl refl))
 
   -- ---- lines
 

@@ -2,6 +2,7 @@
 use Rattle.std.proofs.Common.{◌≡◌, ◌⊎◌, ℕ, ◌+◌, ◌≤◌, Bool, true, false, List, [], ◌∷◌, ◌++◌, length, Option, Some, None, refl, sym, ap, ◌∙◌, subst, arith, inl, inr, append-nil}
 use Rattle.std.proofs.lemmas.Bool.{false≢true}
 use Rattle.std.specs.List.{AllByRecursion}
+use Rattle.std.specs.Option.{option_map}
 use Rattle.coord_disk.proofs.MomentLemmas.{weaker}
 use Rattle.coord_disk.specs.declared.disk.Disk.{Ghosts}
 use Rattle.coord_disk.specs.Model.Moments.{LeavesOnly}
@@ -9,26 +10,21 @@ use Rattle.coord_disk.specs.Model.Present.{IsImage}
 use Rattle.coord_store.specs.Facade.{Recovered}
 use Rattle.coord_store.specs.Migrating.{risen}
 use Rattle.coord_world.proofs.Facade.{trail_keeps_worlds}
-use Rattle.coord_world.proofs.legal.EmptyWorld.{no_world_in_range, no_world_legal}
 use Rattle.coord_world.specs.Facade.{World, no_world}
-use Rattle.coord_ledger.specs.Facade.{CrashPrefix, Driven, Event, Follows, IsConsistent, LedgerState, Log, Machine, MayBegin, adopted, disk_driven, has_stopped, held, ledger_over, log_over, machine_over, nothing_beside, run, settled_count, settled_world, started, world_after}
+use Rattle.coord_ledger.specs.declared.events.Event.{Event}
+use Rattle.coord_ledger.specs.Facade.{CrashPrefix, Driven, Follows, HasFailed, IsConsistent, LedgerState, Log, Machine, MayBegin, adopted, disk_driven, failed_until, has_stopped, held, ledger_over, log_over, machine_over, nothing_beside, run, settled_count, settled_world, started, world_after}
 use Rattle.coord_ledger.proofs.follows.Follows.{count_is, settled_is}
-use Rattle.coord_ledger.proofs.machine.Consistent.{adopted_is_consistent}
 use Rattle.coord_ledger.proofs.machine.Lists.{all_both, all_raised}
 use Rattle.coord_ledger.proofs.machine.Logs.{count_after}
-use Rattle.coord_drill.specs.Answered.{IsAnswered}
-use Rattle.coord_drill.specs.Drill.{DrillState, drill_over, line_events}
+use Rattle.coord_drill.specs.Answered.{IsAnswered, asked_lines}
+use Rattle.coord_drill.specs.Drill.{DrillState, after_asked, line_events}
 use Rattle.coord_drill.specs.Told.{told_by}
 use Rattle.coord_drill.specs.declared.asked.Asked.TheVariants.{Version2}
 use Rattle.coord_drill.specs.Facade.{AllKept, Answer, Asked, Begins, Carries, CarriesIf, Drill, GivesRaised, IsEmptyLog, IsKept, IsPromised, Leads, Moves, Passes, Place, Raises, RaisesTo, Stands, start, state_of}
 use Rattle.coord_drill.proofs.does.Moments.{is_version}
-use Rattle.coord_drill.proofs.course.Empty.{risen_empty, stays_empty}
+use Rattle.coord_drill.proofs.course.Empty.{no_world_legal, risen_empty, stays_empty}
 use Rattle.coord_drill.proofs.course.Kept.{Settled, kept_behind, kept_of, passes, settled_grows}
 use Rattle.coord_drill.proofs.course.Told.{told_settled}
-
--- the machine over the empty world of version 2
-empty_two : IsConsistent (adopted (no_world 2))
-empty_two = adopted_is_consistent (no_world 2) (record { in_range = no_world_in_range 2 (omega arith) (omega arith); legal = no_world_legal 2 })
 
 -- ---- a store that was just made
 
@@ -62,6 +58,12 @@ module _ {D : Type 0} (disk : Ghosts D) (crashes : D → D → Type 0) where
 
 -- ---- what is asked
 
+  -- how often the disk has failed in events
+  pub failed_is : (old new : D) (before now : Option D) (es : List Event) (given : List Answer) → ((n : ℕ) → HasFailed disk.failures before n → HasFailed disk.failures now (n + failed_until es given)) → before ≡ Some old → now ≡ Some new → disk.failures new ≡ disk.failures old + failed_until es given
+  failed_is old new before now es given failed there here =
+      let counts : Some (disk.failures new) ≡ Some (disk.failures old + failed_until es given) = sym (ap (option_map disk.failures) here) ∙ failed (disk.failures old) (ap (option_map disk.failures) there) in
+      cc
+
   -- a place behind, which the drill stands at
   pub record Reached (d new : Drill D) (p : Place D) (a : Asked) (given : List Answer) : Type 0 where
     pub place : Place D
@@ -70,10 +72,41 @@ module _ {D : Type 0} (disk : Ghosts D) (crashes : D → D → Type 0) where
     pub moves : Moves disk crashes (Some a) given p place
     pub stands : Stands disk new place
 
+  -- the settled world of an empty log
+  raised_to : (log : Log) → IsEmptyLog log → risen (settled_world log) ≡ no_world 2
+  raised_to log (inl one) = ap (λ (g : Log). risen (settled_world g)) one ∙ risen_empty
+  raised_to log (inr two) = ap (λ (g : Log). risen (settled_world g)) two
+
+  none_settled : (log : Log) → IsEmptyLog log → settled_count log ≡ 0
+  none_settled log (inl one) = ap settled_count one
+  none_settled log (inr two) = ap settled_count two
+
+  pub none_stopped : (log : Log) → IsEmptyLog log → has_stopped log ≡ false
+  none_stopped log (inl one) = ap has_stopped one
+  none_stopped log (inr two) = ap has_stopped two
+
+  -- the line `version 2` goes by no answer
+  pub carries_raised : (d new : Drill D) → IsEmptyLog d.driver.ledger.log → RaisesTo disk crashes d.driver new.driver → new.holds ≡ d.holds → new.has_begun ≡ d.has_begun → Carries disk crashes d Version2 [] new
+  unfolding asked_lines after_asked
+  carries_raised d new empty to holds begun = record {
+    given = [];
+    answered = record {
+      answered = tt;
+      with_memory = tt;
+      printed = refl;
+      goes_on =
+          let log = ap (λ (l : LedgerState D). l.log) to.is ∙ ap log_over (raised_to d.driver.ledger.log empty) in
+          λ i. record { log = log i; holds = holds i; has_begun = begun i };
+    };
+    moments = to;
+  }
+
   module _ (d new : Drill D) (p : Place D) (at : Stands disk d p) where
     -- what the events of a line do
     abbrev Goes : Asked → List Answer → Place D → Type 0
-    Goes a given q = (q.machine ≡ run p.machine (line_events p.state.holds a given) given) × Passes disk crashes p.machine p.told (line_events p.state.holds a given) given p.disk q.disk
+    Goes a given q =
+        (q.machine ≡ run p.machine (line_events p.state.holds a given) given)
+        × (Passes disk crashes p.machine p.told (line_events p.state.holds a given) given p.disk q.disk × (disk.failures q.disk ≡ disk.failures p.disk + failed_until (line_events p.state.holds a given) given))
 
     by_events : (a : Asked) (given : List Answer) (q : Place D) → is_version a ≡ false → Goes a given q → Moves disk crashes (Some a) given p q
     by_events Version2 given q other goes = absurd (false≢true (sym other))
@@ -91,8 +124,10 @@ module _ {D : Type 0} (disk : Ghosts D) (crashes : D → D → Type 0) where
         let later : Settled m (told_by p.state a given) = subst (λ (s : DrillState). Settled m (told_by s a given)) (sym at.state) (subst (λ n. AllByRecursion (λ k. k ≤ n) (told_by (state_of d) a given)) count (told_settled (state_of d) (state_of new) a given told answered)) in
         let all = all_both (λ k. k ≤ settled_count m.log) p.told (told_by p.state a given) before later in
         let q : Place D = record { state = state_of new; machine = m; told = p.told ++ told_by p.state a given; disk = there.new } in
-        let goes : Goes a given q = subst (λ (s : DrillState). (m ≡ run p.machine (line_events s.holds a given) given) × Passes disk crashes p.machine p.told (line_events s.holds a given) given p.disk there.new) (sym at.state)
-            (refl, passes disk crashes p.machine p.told es given p.disk there.new led.in_range at.consistent led.answered at.told there.moments) in
+        let goes : Goes a given q =
+        subst (λ (s : DrillState). (m ≡ run p.machine (line_events s.holds a given) given)
+        × (Passes disk crashes p.machine p.told (line_events s.holds a given) given p.disk there.new × (disk.failures there.new ≡ disk.failures p.disk + failed_until (line_events s.holds a given) given))) (sym at.state)
+        (refl, (passes disk crashes p.machine p.told es given p.disk there.new led.in_range at.consistent led.answered at.told there.moments, failed_is p.disk there.new (disk_driven d.driver) (disk_driven new.driver) es given led.failed at.holds there.holds)) in
         record {
           place = q;
           state = refl;
@@ -111,33 +146,19 @@ module _ {D : Type 0} (disk : Ghosts D) (crashes : D → D → Type 0) where
           };
         }
 
-    -- the settled world of an empty log
-    raised_to : (log : Log) → IsEmptyLog log → risen (settled_world log) ≡ no_world 2
-    raised_to log (inl one) = ap (λ (g : Log). risen (settled_world g)) one ∙ risen_empty
-    raised_to log (inr two) = ap (λ (g : Log). risen (settled_world g)) two
-
-    none_settled : (log : Log) → IsEmptyLog log → settled_count log ≡ 0
-    none_settled log (inl one) = ap settled_count one
-    none_settled log (inr two) = ap settled_count two
-
-    pub none_stopped : (log : Log) → IsEmptyLog log → has_stopped log ≡ false
-    none_stopped log (inl one) = ap has_stopped one
-    none_stopped log (inr two) = ap has_stopped two
-
-    -- what the bytes of a store that is raised give is kept
-    kept_two : IsEmptyLog d.driver.ledger.log → (bytes : List ℕ) → Recovered bytes (no_world 2) → IsConsistent (adopted (no_world 2)) → IsKept (adopted (no_world 2)) p.told bytes
-    kept_two empty bytes recovered two =
+    kept_two : IsEmptyLog d.driver.ledger.log → (bytes : List ℕ) → Recovered bytes (no_world 2) → IsKept (adopted (no_world 2)) p.told bytes
+    kept_two empty bytes recovered =
         let count : settled_count p.machine.log ≡ 0 = sym (count_is (held d.driver at.beside) p.machine at.consistent at.follows) ∙ none_settled d.driver.ledger.log empty in
         record {
           steps = 0;
           within = omega arith;
           recovered = recovered;
-          legal = (trail_keeps_worlds (no_world 2) [] 0 two.log.trail).legal;
+          legal = no_world_legal 2;
           has_told = all_raised (λ k. k) (settled_count p.machine.log) 0 p.told (omega (arith, count)) at.told;
         }
 
-    raising_kept : IsEmptyLog d.driver.ledger.log → IsConsistent (adopted (no_world 2)) → (bytes : List ℕ) → GivesRaised d.driver bytes → IsKept p.machine p.told bytes ⊎ IsKept (adopted (no_world 2)) p.told bytes
-    raising_kept empty two bytes (inl own) =
+    raising_kept : IsEmptyLog d.driver.ledger.log → (bytes : List ℕ) → GivesRaised d.driver bytes → IsKept p.machine p.told bytes ⊎ IsKept (adopted (no_world 2)) p.told bytes
+    raising_kept empty bytes (inl own) =
         let log = p.machine.log in
         let le = at.consistent.log.within in
         let count = count_after log log.settled le in
@@ -148,7 +169,7 @@ module _ {D : Type 0} (disk : Ghosts D) (crashes : D → D → Type 0) where
           legal = (trail_keeps_worlds log.base log.trail log.settled at.consistent.log.trail).legal;
           has_told = all_raised (λ k. k) (settled_count log) (settled_world log).count p.told (omega (arith, count)) at.told;
         })
-    raising_kept empty two bytes (inr raised) = inr (kept_two empty bytes (subst (Recovered bytes) (raised_to d.driver.ledger.log empty) raised) two)
+    raising_kept empty bytes (inr raised) = inr (kept_two empty bytes (subst (Recovered bytes) (raised_to d.driver.ledger.log empty) raised))
 
     -- each moment of the raising
     pub raises : IsEmptyLog d.driver.ledger.log → (old lost : D) → disk_driven d.driver ≡ Some old → (has_stopped d.driver.ledger.log ≡ false → disk.keeps_model old ≡ true → LeavesOnly disk.clock disk.left_since old lost (GivesRaised d.driver)) → Raises disk p lost
@@ -156,8 +177,9 @@ module _ {D : Type 0} (disk : Ghosts D) (crashes : D → D → Type 0) where
         let same : old ≡ p.disk = cc (there, at.holds) in
         let leaves = moments (none_stopped d.driver.ledger.log empty) (ap disk.keeps_model same ∙ at.keeps) in
         subst (λ x. LeavesOnly disk.clock disk.left_since x lost (λ bytes. IsKept p.machine p.told bytes ⊎ IsKept (adopted (no_world 2)) p.told bytes)) same
-        (weaker disk.clock disk.left_since old lost (GivesRaised d.driver) (λ bytes. IsKept p.machine p.told bytes ⊎ IsKept (adopted (no_world 2)) p.told bytes) leaves (raising_kept empty empty_two))
+        (weaker disk.clock disk.left_since old lost (GivesRaised d.driver) (λ bytes. IsKept p.machine p.told bytes ⊎ IsKept (adopted (no_world 2)) p.told bytes) leaves (raising_kept empty))
 
+    -- so is the line `version 2`
     pub reached_raised : (given : List Answer) (told : List ℕ) → IsEmptyLog d.driver.ledger.log → IsAnswered (state_of d) Version2 given told (state_of new) → RaisesTo disk crashes d.driver new.driver → Reached d new p Version2 given
     unfolding told_by
     reached_raised given told empty answered to =
@@ -175,7 +197,7 @@ module _ {D : Type 0} (disk : Ghosts D) (crashes : D → D → Type 0) where
           place = record { state = state_of new; machine = adopted (no_world 2); told = p.told ++ []; disk = to.raised };
           state = refl;
           told = refl;
-          moves = (refl, raises empty to.old to.raised to.there to.moments);
+          moves = (refl, (raises empty to.old to.raised to.there to.moments, to.failed ∙ ap disk.failures old));
           stands = record {
             state = refl;
             holds = to.now;

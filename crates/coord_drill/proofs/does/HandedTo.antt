@@ -127,5 +127,5 @@ module _ {D : Type 0} (disk : Ghosts D) (crashes : D → D → Type 0) (d : Dril
         }
 
     -- the disk was given up as the step that was handed in left it
-    pub cut_handed : (r : Result Handed Refusal) (lost : D) → Survive disk v → Hands disk crashes v x r w → disk_driven w ≡ Some lost → LeadsPart disk crashes v (line_events d.holds (Submit x)) lost
+    pub cut_handed : (r : Result Handed Refusal) (lost : D) → Survive disk crashes v → Hands disk crashes v x r w → disk_driven w ≡ Some lost → LeadsPart disk crashes v (line_events d.holds (Submit x)) lost
     cut_handed r lost survives hands there = none_led disk crashes v w (line_events d.holds (Submit x)) lost survives hands.stays there

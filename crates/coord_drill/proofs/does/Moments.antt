@@ -1,5 +1,5 @@
 -- Events lead from one driver to another, and a line is some of them.
-use Rattle.std.proofs.Common.{◌≡◌, ◌≢◌, ℕ, Bool, true, false, List, [], ◌∷◌, ◌++◌, length, take, Option, None, Some, Result, Ok, Err, IfOk, IfErr, refl, sym, ap, ◌∙◌, subst}
+use Rattle.std.proofs.Common.{◌≡◌, ◌≢◌, ℕ, ◌+◌, arith, Bool, true, false, List, [], ◌∷◌, ◌++◌, length, take, Option, None, Some, Result, Ok, Err, IfOk, IfErr, refl, sym, ap, ◌∙◌, subst}
 use Rattle.std.proofs.Math.Seq.{take-length}
 use Rattle.std.proofs.lemmas.Bool.{false≢true}
 use Rattle.std.specs.List.{AllByRecursion}
@@ -7,7 +7,7 @@ use Rattle.std.specs.Option.{option_map}
 use Rattle.coord_disk.specs.Model.Present.{IsImage}
 use Rattle.coord_disk.specs.declared.disk.Disk.{Ghosts}
 use Rattle.coord_types.specs.declared.refusals.Refusal.TheVariants.{OutOfMemory}
-use Rattle.coord_ledger.specs.Facade.{Answered, Beside, CrashPrefix, Driven, EachMoment, EventInRange, Follows, FollowsTo, HeldSurvives, HeldTouches, IsConsistent, Machine, MayBegin, Touches, after, disk_driven, found_by_crash, held, is_crash, model_driven, nothing_beside, run, started, touches_disk}
+use Rattle.coord_ledger.specs.Facade.{Answered, Beside, CrashPrefix, Driven, EachMoment, EventInRange, Follows, FollowsTo, HeldSurvives, HasFailed, HeldTouches, IsConsistent, Machine, MayBegin, Touches, after, disk_driven, failed_at, failed_until, found_by_crash, held, is_crash, model_driven, nothing_beside, run, started, touches_disk}
 use Rattle.coord_ledger.proofs.drives.EachMoment.{met_aside}
 use Rattle.coord_ledger.proofs.machine.Consistent.{stays_consistent}
 use Rattle.coord_ledger.proofs.machine.Lists.{all_both}
@@ -19,6 +19,10 @@ use Rattle.coord_drill.specs.Facade.{Answer, Asked, Begins, Carries, Drill, Even
 pub if_ok_both : {A E : Type 0} (P Q : A → Type 0) (r : Result A E) → IfOk r P → IfOk r Q → IfOk r (λ a. P a × Q a)
 if_ok_both P Q (Ok a) p q = (p, q)
 if_ok_both P Q (Err e) p q = tt
+
+pub if_err_both : {A E : Type 0} (P Q : E → Type 0) (r : Result A E) → IfErr r P → IfErr r Q → IfErr r (λ e. P e × Q e)
+if_err_both P Q (Ok a) p q = tt
+if_err_both P Q (Err e) p q = (p, q)
 
 -- whether it is no event
 abbrev pub is_version : Asked → Bool
@@ -46,6 +50,12 @@ as_many s [] (g ∷ gs) answered = absurd answered
 as_many s (e ∷ es) [] answered = absurd answered
 as_many s (e ∷ es) (g ∷ gs) answered = ap (λ l. e ∷ l) (as_many (after s e g) es gs answered.1)
 
+failed_both : (s : Machine) (es fs : List Event) (gs hs : List Answer) → Answered s es gs → failed_until (es ++ fs) (gs ++ hs) ≡ failed_until es gs + failed_until fs hs
+failed_both s [] fs [] hs answered = refl
+failed_both s [] fs (g ∷ gs) hs answered = absurd answered
+failed_both s (e ∷ es) fs [] hs answered = absurd answered
+failed_both s (e ∷ es) fs (g ∷ gs) hs answered = omega (arith, failed_both (after s e g) es fs gs hs answered.1)
+
 -- a driver follows the machine over its own log
 pub begins_by : {D : Type 0} (disk : Ghosts D) (crashes : D → D → Type 0) (d : Driven D) → MayBegin disk.keeps_model disk.present disk.clock disk.left_since crashes d → Begins d
 begins_by disk crashes d may = record { consistent = may.drives.consistent; follows = may.drives.follows }
@@ -71,13 +81,14 @@ module _ {D : Type 0} (disk : Ghosts D) (crashes : D → D → Type 0) where
     consistent = is;
     follows = follows;
     moments = λ old there keeps. record { new = old; holds = there; keeps = keeps; moments = (refl, λ _. survives b s is follows old there keeps) };
+    failed = λ n has. let same : n ≡ n + 0 = omega arith in subst (HasFailed disk.failures (disk_driven d)) same has;
   }
 
   module _ (d new : Driven D) (e : Event) (a : Answer) (next : Beside → Beside) (named : EventInRange e) (before : Survive d) (later : Survive new) where
     -- one event
-    pub leads_one : model_driven disk.keeps_model new ≡ model_driven disk.keeps_model d → ((b : Beside) (s : Machine) → IsConsistent s → Follows (held d b) s → FollowsTo s e a (held new (next b))) →
+    pub leads_one : model_driven disk.keeps_model new ≡ model_driven disk.keeps_model d → ((n : ℕ) → HasFailed disk.failures (disk_driven d) n → HasFailed disk.failures (disk_driven new) (n + failed_at e a)) → ((b : Beside) (s : Machine) → IsConsistent s → Follows (held d b) s → FollowsTo s e a (held new (next b))) →
         ((b : Beside) (s : Machine) → IsConsistent s → Follows (held d b) s → HeldTouches disk.keeps_model disk.present disk.clock disk.left_since crashes (found_by_crash s e a) (touches_disk e a) e (held d b) (held new (next b))) → Leads disk crashes d (e ∷ []) (a ∷ []) new
-    leads_one model answered touches b s is follows =
+    leads_one model failed answered touches b s is follows =
         let to = answered b s is follows in
         let then = stays_consistent s e a named is to.allowed in
         record {
@@ -105,13 +116,15 @@ module _ {D : Type 0} (disk : Ghosts D) (crashes : D → D → Type 0) where
                   ),
                 );
               };
+          failed = λ n has. let same : n + failed_at e a ≡ n + (failed_at e a + 0) = omega arith in subst (HasFailed disk.failures (disk_driven new)) same (failed n has);
         }
 
     -- one that leaves the disk as it is
-    pub leads_aside : ((x : D) (image : List ℕ) → disk.keeps_model x ≡ true → disk.left_since x (disk.clock x) image → IsImage (disk.present x) image) → is_crash e ≡ false → ((s : Machine) → found_by_crash s e a ≡ s) → disk_driven new ≡ disk_driven d →
+    pub leads_aside : ((x : D) (image : List ℕ) → disk.keeps_model x ≡ true → disk.left_since x (disk.clock x) image → IsImage (disk.present x) image) → is_crash e ≡ false → ((s : Machine) → found_by_crash s e a ≡ s) → failed_at e a ≡ 0 → disk_driven new ≡ disk_driven d →
         ((b : Beside) (s : Machine) → IsConsistent s → Follows (held d b) s → FollowsTo s e a (held new (next b))) → Leads disk crashes d (e ∷ []) (a ∷ []) new
-    leads_aside only_now other found same answered =
-        leads_one (ap (option_map disk.keeps_model) same) answered
+    leads_aside only_now other found none same answered =
+        leads_one (ap (option_map disk.keeps_model) same)
+        (λ n has. let more : n ≡ n + failed_at e a = omega (arith, none) in subst (HasFailed disk.failures (disk_driven new)) more (ap (option_map disk.failures) same ∙ has)) answered
         (λ b s is follows. met_aside disk.present disk.clock disk.left_since crashes disk.keeps_model only_now s e e a (held d b) (held new (next b)) refl other (found s) same (before b s is follows))
 
   -- the events of the one and then of the other
@@ -130,6 +143,10 @@ module _ {D : Type 0} (disk : Ghosts D) (crashes : D → D → Type 0) where
             let x = one.moments old there keeps in
             let y = two.moments x.new x.holds x.keeps in
             record { new = y.new; holds = y.holds; keeps = y.keeps; moments = moments_both s es fs gs hs old x.new y.new x.moments y.moments };
+        failed = λ n has.
+            let sum = failed_both s es fs gs hs one.answered in
+            let same : n + failed_until es gs + failed_until fs hs ≡ n + failed_until (es ++ fs) (gs ++ hs) = omega (arith, sum) in
+            subst (HasFailed disk.failures (disk_driven new)) same (two.failed (n + failed_until es gs) (one.failed n has));
       }
 
   -- from the machine over the driver's own log
@@ -153,7 +170,7 @@ module _ {D : Type 0} (disk : Ghosts D) (crashes : D → D → Type 0) where
 
   -- ---- lines
 
-  by_asked : (d new : Drill D) (given : List Answer) (b : Asked) → is_version b ≡ false → Leads disk crashes d.driver (line_events d.holds b given) given new.driver → LeadsBy disk crashes b d given new
+  pub by_asked : (d new : Drill D) (given : List Answer) (b : Asked) → is_version b ≡ false → Leads disk crashes d.driver (line_events d.holds b given) given new.driver → LeadsBy disk crashes b d given new
   by_asked d new given Version2 other leads = absurd (false≢true (sym other))
   by_asked d new given b other leads = leads
 

@@ -6,17 +6,22 @@ use Rattle.coord_disk.specs.declared.disk.Disk.{Ghosts}
 use Rattle.coord_ledger.specs.Facade.{disk_driven}
 use Rattle.coord_lines.specs.Lines.{IsWithin, Line, before_line_feed, behind_line_feed, extended, lines_on}
 use Rattle.coord_lines.proofs.LinesOn.{extended-nothing, lines_on-ended, lines_on-unended}
-use Rattle.coord_drill.specs.Facade.{BreaksOff, CarriesLine, CarriesOut, CutsLine, Drill, EndsWith, FirstCutShort, Goes, Place, Stands, Takes, WritesFirstPart}
+use Rattle.coord_drill.specs.Facade.{BreaksOff, CarriesLine, CarriesOut, CutsLine, Drill, EndsWith, Fault, Goes, IsGivenBack, IsOfNoStore, IsOfWriting, Place, Stands, Takes, WritesFirstPart}
 use Rattle.coord_drill.proofs.course.Lines.{goes_both, goes_one}
 use Rattle.coord_drill.proofs.prints.FirstParts.{first_part-after, first_part-all, first_part-longer, first_part-none}
+
+-- a writer's fault is no store's
+pub of_writing : (fault : Fault) → IsOfWriting fault → IsOfNoStore fault
+of_writing fault (inl memory) why same = cc
+of_writing fault (inr write) why same = cc
 
 module _ {D : Type 0} (disk : Ghosts D) (crashes : D → D → Type 0) where
   -- ---- lines that were carried out, and more behind them
 
-  first_cut_more : (q : Place D) (ls more : List Line) (lost : D) → (lost ≡ q.disk) ⊎ FirstCutShort disk crashes q ls lost → (lost ≡ q.disk) ⊎ FirstCutShort disk crashes q (ls ++ more) lost
-  first_cut_more q ls more lost (inl same) = inl same
-  first_cut_more q [] more lost (inr never) = absurd never
-  first_cut_more q (l ∷ ls) more lost (inr cut) = inr cut
+  first_cut_more : (q : Place D) (ls more : List Line) (fault : Fault) (lost : D) → IsGivenBack disk crashes q ls fault lost → IsGivenBack disk crashes q (ls ++ more) fault lost
+  first_cut_more q ls more fault lost (inl same) = inl same
+  first_cut_more q [] more fault lost (inr cut) = absurd cut.1.0
+  first_cut_more q (l ∷ ls) more fault lost (inr cut) = inr cut
 
   pub carries_none : (d : Drill D) (n : ℕ) (a : Option (List ℕ)) → CarriesOut disk crashes d n [] a a d
   carries_none d n a = record { text = []; wrote = Appends-nil a; goes = λ p at. (p, (at, (refl, (refl, at.kept)))) }
@@ -42,8 +47,8 @@ module _ {D : Type 0} (disk : Ghosts D) (crashes : D → D → Type 0) where
           (two.0, (two.1.0, goes_both disk crashes p one.0 two.0 n m ls ks first.text more.text at one.1.1 two.1.1));
     }
 
-    pub breaks_after : (lost : D) (more all : List Line) → all ≡ ls ++ (ks ++ more) → BreaksOff disk crashes mid m ks b c lost → BreaksOff disk crashes d n all a c lost
-    breaks_after lost more all whole breaks = record {
+    pub breaks_after : (fault : Fault) (lost : D) (more all : List Line) → all ≡ ls ++ (ks ++ more) → BreaksOff disk crashes mid m ks b c fault lost → BreaksOff disk crashes d n all a c fault lost
+    breaks_after fault lost more all whole breaks = record {
       ended = ls ++ breaks.ended;
       others = breaks.others ++ more;
       split = whole ∙ ap (λ k. ls ++ (k ++ more)) breaks.split ∙ ap (λ k. ls ++ k) (append_assoc breaks.ended breaks.others more) ∙ sym (append_assoc ls breaks.ended (breaks.others ++ more));
@@ -55,20 +60,20 @@ module _ {D : Type 0} (disk : Ghosts D) (crashes : D → D → Type 0) where
             two.0,
             (
               goes_both disk crashes p one.0 two.0 n m ls breaks.ended first.text breaks.text at one.1.1 two.1.0,
-              first_cut_more two.0 breaks.others more lost two.1.1,
+              first_cut_more two.0 breaks.others more fault lost two.1.1,
             ),
           );
     }
 
   -- the disk is given back behind them
-  pub breaks_behind : (d new : Drill D) (n : ℕ) (ls others all : List Line) (a b : Option (List ℕ)) (lost : D) → all ≡ ls ++ others → (out : CarriesOut disk crashes d n ls a b new) → disk_driven new.driver ≡ Some lost → BreaksOff disk crashes d n all a b lost
-  breaks_behind d new n ls others all a b lost split out there = record {
+  pub breaks_behind : (d new : Drill D) (n : ℕ) (ls others all : List Line) (a b : Option (List ℕ)) (fault : Fault) (lost : D) → all ≡ ls ++ others → CarriesOut disk crashes d n ls a b new → IsOfNoStore fault → disk_driven new.driver ≡ Some lost → BreaksOff disk crashes d n all a b fault lost
+  breaks_behind d new n ls others all a b fault lost split out none there = record {
     ended = ls;
     others = others;
     split = split;
     text = out.text;
     wrote = first_part-all a b out.text out.wrote;
-    goes = λ p stands. let one = out.goes p stands in (one.0, (one.1.1, inl (cc (there, one.1.0.holds))));
+    goes = λ p stands. let one = out.goes p stands in (one.0, (one.1.1, inl (cc (there, one.1.0.holds), none)));
   }
 
   -- ---- a line
@@ -81,8 +86,8 @@ module _ {D : Type 0} (disk : Ghosts D) (crashes : D → D → Type 0) where
   }
 
   -- its text was not written whole
-  pub line_unwritten : (d new : Drill D) (n : ℕ) (line : Line) (told : List ℕ) (a b : Option (List ℕ)) (lost : D) → CarriesLine disk crashes d n line told new → WritesFirstPart a b told → disk_driven new.driver ≡ Some lost → BreaksOff disk crashes d n (line ∷ []) a b lost
-  line_unwritten d new n line told a b lost carries wrote there = record {
+  pub line_unwritten : (d new : Drill D) (n : ℕ) (line : Line) (told : List ℕ) (a b : Option (List ℕ)) (fault : Fault) (lost : D) → CarriesLine disk crashes d n line told new → WritesFirstPart a b told → IsOfNoStore fault → disk_driven new.driver ≡ Some lost → BreaksOff disk crashes d n (line ∷ []) a b fault lost
+  line_unwritten d new n line told a b fault lost carries wrote none there = record {
     ended = line ∷ [];
     others = [];
     split = refl;
@@ -90,12 +95,12 @@ module _ {D : Type 0} (disk : Ghosts D) (crashes : D → D → Type 0) where
     wrote = wrote;
     goes = λ p stands.
         let one = carries p stands in
-        (one.0, (goes_one disk crashes p one.0 n line told one.1.1 one.1.0.kept, inl (cc (there, one.1.0.holds))));
+        (one.0, (goes_one disk crashes p one.0 n line told one.1.1 one.1.0.kept, inl (cc (there, one.1.0.holds), none)));
   }
 
   -- it was cut short
-  pub line_cut : (d : Drill D) (n : ℕ) (line : Line) (a : Option (List ℕ)) (lost : D) → CutsLine disk crashes d line lost → BreaksOff disk crashes d n (line ∷ []) a a lost
-  line_cut d n line a lost cuts = record {
+  pub line_cut : (d : Drill D) (n : ℕ) (line : Line) (a : Option (List ℕ)) (fault : Fault) (lost : D) → CutsLine disk crashes d line fault lost → BreaksOff disk crashes d n (line ∷ []) a a fault lost
+  line_cut d n line a fault lost cuts = record {
     ended = [];
     others = line ∷ [];
     split = refl;
@@ -109,8 +114,8 @@ module _ {D : Type 0} (disk : Ghosts D) (crashes : D → D → Type 0) where
   last_line : (line : Line) → IsWithin line → lines_on line [] ≡ line ∷ []
   last_line line within = ap (λ l. l ∷ []) (extended-nothing line within)
 
-  pub last_breaks : (d : Drill D) (n : ℕ) (line : Line) (a b : Option (List ℕ)) (lost : D) → IsWithin line → BreaksOff disk crashes d n (line ∷ []) a b lost → BreaksOff disk crashes d n (lines_on line []) a b lost
-  last_breaks d n line a b lost within breaks = subst (λ ls. BreaksOff disk crashes d n ls a b lost) (sym (last_line line within)) breaks
+  pub last_breaks : (d : Drill D) (n : ℕ) (line : Line) (a b : Option (List ℕ)) (fault : Fault) (lost : D) → IsWithin line → BreaksOff disk crashes d n (line ∷ []) a b fault lost → BreaksOff disk crashes d n (lines_on line []) a b fault lost
+  last_breaks d n line a b fault lost within breaks = subst (λ ls. BreaksOff disk crashes d n ls a b fault lost) (sym (last_line line within)) breaks
 
   pub last_ends : (d new : Drill D) (n : ℕ) (line : Line) (a b : Option (List ℕ)) (last : D) → IsWithin line → CarriesOut disk crashes d n (line ∷ []) a b new → disk_driven new.driver ≡ Some last → EndsWith disk crashes d n (lines_on line []) a b last
   last_ends d new n line a b last within out there = subst (λ ls. EndsWith disk crashes d n ls a b last) (sym (last_line line within)) (record {
@@ -147,11 +152,11 @@ module _ {D : Type 0} (disk : Ghosts D) (crashes : D → D → Type 0) where
         out = carries_after d now (number + 1) (reached + 1) taken.ended (longer ∷ []) a b c next_number taken.out new out;
       }
 
-      pub takes_cut : (c : Option (List ℕ)) (lost : D) → BreaksOff disk crashes now (reached + 1) (longer ∷ []) b c lost → BreaksOff disk crashes d (number + 1) (lines_on line piece) a c lost
-      takes_cut c lost breaks =
+      pub takes_cut : (c : Option (List ℕ)) (fault : Fault) (lost : D) → BreaksOff disk crashes now (reached + 1) (longer ∷ []) b c fault lost → BreaksOff disk crashes d (number + 1) (lines_on line piece) a c fault lost
+      takes_cut c fault lost breaks =
           let more = lines_on (Some []) (behind ++ []) in
           let all = ap (lines_on line) (sym (append-nil piece)) ∙ taken.lines [] ∙ ap (λ l. taken.ended ++ l) (at_feed []) in
-          breaks_after d now (number + 1) (reached + 1) taken.ended (longer ∷ []) a b c next_number taken.out lost more (lines_on line piece) all breaks
+          breaks_after d now (number + 1) (reached + 1) taken.ended (longer ∷ []) a b c next_number taken.out fault lost more (lines_on line piece) all breaks
 
     -- with none the line goes on
     pub takes_rest : (longer : Line) → None ≡ behind_line_feed rest → longer ≡ extended so_far (before_line_feed rest) → Takes disk crashes d number line piece [] a b now reached longer
@@ -164,8 +169,8 @@ module _ {D : Type 0} (disk : Ghosts D) (crashes : D → D → Type 0) where
 
   module _ (d : Drill D) (number : ℕ) (line : Line) (piece : List ℕ) (a b : Option (List ℕ)) (now : Drill D) (reached : ℕ) (so_far : Line) (taken : Takes disk crashes d number line piece [] a b now reached so_far) where
     -- nothing more comes
-    pub takes_breaks : (lost : D) → disk_driven now.driver ≡ Some lost → BreaksOff disk crashes d (number + 1) (lines_on line piece) a b lost
-    takes_breaks lost there = breaks_behind d now (number + 1) taken.ended (lines_on so_far []) (lines_on line piece) a b lost (whole d number line piece [] a b now reached so_far taken) taken.out there
+    pub takes_breaks : (fault : Fault) (lost : D) → IsOfNoStore fault → disk_driven now.driver ≡ Some lost → BreaksOff disk crashes d (number + 1) (lines_on line piece) a b fault lost
+    takes_breaks fault lost none there = breaks_behind d now (number + 1) taken.ended (lines_on so_far []) (lines_on line piece) a b fault lost (whole d number line piece [] a b now reached so_far taken) taken.out none there
 
     pub takes_ends : (c : Option (List ℕ)) (last : D) → EndsWith disk crashes now (reached + 1) (lines_on so_far []) b c last → EndsWith disk crashes d (number + 1) (lines_on line piece) a c last
     takes_ends c last ends =
@@ -184,10 +189,10 @@ module _ {D : Type 0} (disk : Ghosts D) (crashes : D → D → Type 0) where
       out = carries_after d now (number + 1) (reached + 1) taken.ended next.ended a b c (next_number d number line piece [] a b now reached so_far taken) taken.out new next.out;
     }
 
-    pub takes_break : (came : List ℕ) (c : Option (List ℕ)) (lost : D) → BreaksOff disk crashes now (reached + 1) (lines_on so_far came) b c lost → BreaksOff disk crashes d (number + 1) (lines_on line (piece ++ came)) a c lost
-    takes_break came c lost breaks =
+    pub takes_break : (came : List ℕ) (c : Option (List ℕ)) (fault : Fault) (lost : D) → BreaksOff disk crashes now (reached + 1) (lines_on so_far came) b c fault lost → BreaksOff disk crashes d (number + 1) (lines_on line (piece ++ came)) a c fault lost
+    takes_break came c fault lost breaks =
         let all = ap (lines_on line) (sym (append-nil (piece ++ came))) ∙ both came [] ∙ ap (λ r. taken.ended ++ lines_on so_far r) (append-nil came) ∙ ap (λ l. taken.ended ++ l) (sym (append-nil (lines_on so_far came))) in
-        breaks_after d now (number + 1) (reached + 1) taken.ended (lines_on so_far came) a b c (next_number d number line piece [] a b now reached so_far taken) taken.out lost [] (lines_on line (piece ++ came)) all breaks
+        breaks_after d now (number + 1) (reached + 1) taken.ended (lines_on so_far came) a b c (next_number d number line piece [] a b now reached so_far taken) taken.out fault lost [] (lines_on line (piece ++ came)) all breaks
 
   -- ---- a piece whose text was put into an empty list first
 
@@ -200,13 +205,31 @@ module _ {D : Type 0} (disk : Ghosts D) (crashes : D → D → Type 0) where
       out = record { text = taken.out.text; wrote = subst (Appends a b) taken.out.wrote wrote; goes = taken.out.goes };
     }
 
-    pub takes_unwritten : (now : Drill D) (reached : ℕ) (so_far : Line) (lost : D) → Takes disk crashes d number line piece [] (Some []) (Some items) now reached so_far → WritesFirstPart a b items → disk_driven now.driver ≡ Some lost → BreaksOff disk crashes d (number + 1) (lines_on line piece) a b lost
-    takes_unwritten now reached so_far lost taken part there =
-        let breaks = takes_breaks d number line piece (Some []) (Some items) now reached so_far taken lost there in
+    pub takes_unwritten : (now : Drill D) (reached : ℕ) (so_far : Line) (fault : Fault) (lost : D) → Takes disk crashes d number line piece [] (Some []) (Some items) now reached so_far → WritesFirstPart a b items → IsOfNoStore fault → disk_driven now.driver ≡ Some lost → BreaksOff disk crashes d (number + 1) (lines_on line piece) a b fault lost
+    takes_unwritten now reached so_far fault lost taken part none there =
+        let breaks = takes_breaks d number line piece (Some []) (Some items) now reached so_far taken fault lost none there in
         record { ended = breaks.ended; others = breaks.others; split = breaks.split; text = breaks.text; wrote = subst (WritesFirstPart a b) taken.out.wrote part; goes = breaks.goes }
 
-    pub breaks_written : (lost : D) → BreaksOff disk crashes d (number + 1) (lines_on line piece) (Some []) (Some items) lost → WritesFirstPart a b items → BreaksOff disk crashes d (number + 1) (lines_on line piece) a b lost
-    breaks_written lost breaks part =
+    -- where a line failed before, a first part of it was written too
+    cut_written : (fault : Fault) (lost : D) (breaks : BreaksOff disk crashes d (number + 1) (lines_on line piece) (Some []) (Some items) fault lost) → WritesFirstPart a b items → WritesFirstPart a b breaks.text
+    cut_written fault lost breaks part =
         let put = breaks.wrote in
-        let own = subst (WritesFirstPart a b) put.1 part in
-        record { ended = breaks.ended; others = breaks.others; split = breaks.split; text = breaks.text; wrote = subst (WritesFirstPart a b) (sym put.2.1) (first_part-longer a b put.0 put.2.0 own); goes = breaks.goes }
+        subst (WritesFirstPart a b) (sym put.2.1) (first_part-longer a b put.0 put.2.0 (subst (WritesFirstPart a b) put.1 part))
+
+    pub breaks_written : (fault : Fault) (lost : D) → BreaksOff disk crashes d (number + 1) (lines_on line piece) (Some []) (Some items) fault lost → WritesFirstPart a b items → BreaksOff disk crashes d (number + 1) (lines_on line piece) a b fault lost
+    breaks_written fault lost breaks part = record { ended = breaks.ended; others = breaks.others; split = breaks.split; text = breaks.text; wrote = cut_written fault lost breaks part; goes = breaks.goes }
+
+    -- and then the writer's fault is told
+    pub breaks_unwritten : (fault later : Fault) (lost : D) → IsOfWriting later → BreaksOff disk crashes d (number + 1) (lines_on line piece) (Some []) (Some items) fault lost → WritesFirstPart a b items → BreaksOff disk crashes d (number + 1) (lines_on line piece) a b later lost
+    breaks_unwritten fault later lost writing breaks part = record {
+      ended = breaks.ended;
+      others = breaks.others;
+      split = breaks.split;
+      text = breaks.text;
+      wrote = cut_written fault lost breaks part;
+      goes = λ p stands. let one = breaks.goes p stands in (one.0, (one.1.0, told_later one.0 breaks.others one.1.1));
+    }
+      where
+        told_later : (q : Place D) (ls : List Line) → IsGivenBack disk crashes q ls fault lost → IsGivenBack disk crashes q ls later lost
+        told_later q ls (inl same) = inl (same.0, of_writing later writing)
+        told_later q ls (inr cut) = inr (cut.0, (cut.1.0, inr writing))

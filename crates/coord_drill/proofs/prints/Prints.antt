@@ -41,8 +41,8 @@ module _ {D : Type 0} (disk : Ghosts D) (crashes : D → D → Type 0) (input : 
       subst (λ t. Prints (drill_over (no_world 1)) 1 lines t) (append-nil text) (subst (λ ls. Prints (drill_over (no_world 1)) 1 ls (text ++ [])) (append-nil lines) prints)
 
   -- and a first part of what may be printed, where it broke off
-  pub broke_prints : (a b : Option (List ℕ)) (lost : D) → BrokeOff disk crashes input a b lost → (text : List ℕ) × IsDrilled input text × WritesFirstPart a b text
-  broke_prints a b lost broke =
+  pub broke_prints : (a b : Option (List ℕ)) (fault : Fault) (lost : D) → BrokeOff disk crashes input a b fault lost → (text : List ℕ) × IsDrilled input text × WritesFirstPart a b text
+  broke_prints a b fault lost broke =
       let more = prints_somehow broke.place.state (1 + length broke.lines) broke.others in
       let prints = goes_prints disk crashes _ broke.place 1 (1 + length broke.lines) broke.lines broke.others broke.text more.0 refl broke.course.goes more.1 in
       (broke.text ++ more.0, subst (λ ls. Prints (drill_over (no_world 1)) 1 ls (broke.text ++ more.0)) (sym broke.split) prints, first_part-longer a b broke.text more.0 broke.wrote)

@@ -32,7 +32,7 @@ impl<D: CrashDisk> Console<D> {
             console.drill console.number console.line) }
         ensures failed { IfErr result (λ refused. BreaksOff ⟦<D as Disk>⟧ D.crashes
             self.drill (self.number + 1) (lines_on self.line piece.now)
-            (W.contents writer.old) (W.contents writer.new) refused.1) }
+            (W.contents writer.old) (W.contents writer.new) refused.0 refused.1) }
         ensures fault { IfErr result (λ refused. IsOfWork refused.0) }
     {
         let mut console = self;
@@ -54,7 +54,7 @@ impl<D: CrashDisk> Console<D> {
             (W.contents writer.old) (W.contents writer.new) console.drill) }
         ensures failed { IfErr result (λ refused. BreaksOff ⟦<D as Disk>⟧ D.crashes
             self.drill (self.number + 1) (self.line ∷ [])
-            (W.contents writer.old) (W.contents writer.new) refused.1) }
+            (W.contents writer.old) (W.contents writer.new) refused.0 refused.1) }
         ensures fault { IfErr result (λ refused. IsOfWork refused.0) }
         ensures number { IfOk result (λ console. console.number ≡ self.number + 1) }
         ensures line { IfOk result (λ console. console.line ≡ Some []) }
@@ -75,7 +75,7 @@ impl<D: CrashDisk> Console<D> {
         ensures carried { IfOk result (λ console. CarriesLine ⟦<D as Disk>⟧ D.crashes
             self.drill (self.number + 1) self.line (string_bytes console.text) console.drill) }
         ensures cut { IfErr result (λ refused.
-            CutsLine ⟦<D as Disk>⟧ D.crashes self.drill self.line refused.1) }
+            CutsLine ⟦<D as Disk>⟧ D.crashes self.drill self.line refused.0 refused.1) }
         ensures fault { IfErr result (λ refused. IsOfDisk refused.0) }
         ensures number { IfOk result (λ console. console.number ≡ self.number + 1) }
         ensures line { IfOk result (λ console. console.line ≡ Some []) }
@@ -114,7 +114,8 @@ fn respond<D: CrashDisk>(
         (λ told. CarriesLine ⟦<D as Disk>⟧ D.crashes drill number (option_copied line.entry) told
         new)) }
     ensures cut { IfErr result (λ refused.
-        CutsLine ⟦<D as Disk>⟧ D.crashes drill (option_copied line.entry) refused.1) }
+        CutsLine ⟦<D as Disk>⟧ D.crashes drill (option_copied line.entry) refused.0
+        refused.1) }
     ensures fault { IfErr result (λ refused. IsOfDisk refused.0) }
 {
     let Some(line) = line else {

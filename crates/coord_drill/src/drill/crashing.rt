@@ -20,7 +20,8 @@ impl<D: CrashDisk> Drill<D> {
         ensures told { IfOk result (λ drill. Tells (string_bytes text.old) (string_bytes text.new)
             (λ told. CarriesIf ⟦<D as Disk>⟧ D.crashes self ask.Crash told drill)) }
         ensures cut { IfErr result (λ refused.
-            CutsIf ⟦<D as Disk>⟧ D.crashes ask.Crash self refused.1) }
+            CutsIf ⟦<D as Disk>⟧ D.crashes ask.Crash self refused.0
+            refused.1) }
         ensures fault { IfErr result (λ refused. IsOfDisk refused.0) }
     {
         let Drill {
@@ -32,6 +33,7 @@ impl<D: CrashDisk> Drill<D> {
         } = self;
         forget_all(&mut tickets);
         driver.begins();
+        driver.survives();
         let (count, driver) = match driver.crash(alloc) {
             Ok(opened) => opened,
             Err((kind, disk)) => {

@@ -47,7 +47,8 @@ impl<D: CrashDisk> Drill<D> {
         ensures told { IfOk result (λ drill. Tells (string_bytes text.old) (string_bytes text.new)
             (λ told. CarriesIf ⟦<D as Disk>⟧ D.crashes self ask.Flush told drill)) }
         ensures cut { IfErr result (λ refused.
-            CutsIf ⟦<D as Disk>⟧ D.crashes ask.Flush self refused.1) }
+            CutsIf ⟦<D as Disk>⟧ D.crashes ask.Flush self refused.0
+            refused.1) }
         ensures fault { IfErr result (λ refused. IsOfMemory refused.0) }
     {
         self.driver.begins();

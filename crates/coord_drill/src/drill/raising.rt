@@ -21,7 +21,8 @@ impl<D: CrashDisk> Drill<D> {
         ensures told { IfOk result (λ drill.
             CarriesIf ⟦<D as Disk>⟧ D.crashes self ask.Version2 [] drill) }
         ensures cut { IfErr result (λ refused.
-            CutsIf ⟦<D as Disk>⟧ D.crashes ask.Version2 self refused.1) }
+            CutsIf ⟦<D as Disk>⟧ D.crashes ask.Version2 self refused.0
+            refused.1) }
         ensures fault { IfErr result (λ refused. IsOfDisk refused.0) }
     {
         let Drill {
@@ -53,7 +54,7 @@ fn raise<D: CrashDisk>(alloc: Global, driver: Driver<D>) -> Result<Driver<D>, (F
     requires home { driver.flight ≡ None }
     ensures home { IfOk result (λ new. new.flight ≡ None) }
     ensures raised { IfOk result (RaisesTo ⟦<D as Disk>⟧ D.crashes driver) }
-    ensures cut { IfErr result (λ refused. RaisesPart ⟦<D as Disk>⟧ driver refused.1) }
+    ensures cut { IfErr result (λ refused. RaisesPart ⟦<D as Disk>⟧ driver refused.0 refused.1) }
     ensures fault { IfErr result (λ refused. IsOfDisk refused.0) }
 {
     driver.begins();

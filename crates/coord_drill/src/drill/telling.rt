@@ -30,7 +30,8 @@ impl<D: CrashDisk> Drill<D> {
         ensures told { IfOk result (λ drill. Tells (string_bytes text.old) (string_bytes text.new)
             (λ told. CarriesIf ⟦<D as Disk>⟧ D.crashes self (ask.Refuse refusal) told drill)) }
         ensures cut { IfErr result (λ refused.
-            CutsIf ⟦<D as Disk>⟧ D.crashes (ask.Refuse refusal) self refused.1) }
+            CutsIf ⟦<D as Disk>⟧ D.crashes (ask.Refuse refusal) self refused.0
+            refused.1) }
         ensures fault { IfErr result (λ refused. IsOfMemory refused.0) }
     {
         self.driver.survives();
@@ -49,7 +50,8 @@ impl<D: CrashDisk> Drill<D> {
         ensures told { IfOk result (λ drill. Tells (string_bytes text.old) (string_bytes text.new)
             (λ told. CarriesIf ⟦<D as Disk>⟧ D.crashes self ask.Nothing told drill)) }
         ensures cut { IfErr result (λ refused.
-            CutsIf ⟦<D as Disk>⟧ D.crashes ask.Nothing self refused.1) }
+            CutsIf ⟦<D as Disk>⟧ D.crashes ask.Nothing self refused.0
+            refused.1) }
         ensures fault { IfErr result (λ refused. IsOfMemory refused.0) }
     {
         self.driver.survives();
@@ -68,7 +70,8 @@ impl<D: CrashDisk> Drill<D> {
         ensures told { IfOk result (λ drill. Tells (string_bytes text.old) (string_bytes text.new)
             (λ told. CarriesIf ⟦<D as Disk>⟧ D.crashes self ask.Resend told drill)) }
         ensures cut { IfErr result (λ refused.
-            CutsIf ⟦<D as Disk>⟧ D.crashes ask.Resend self refused.1) }
+            CutsIf ⟦<D as Disk>⟧ D.crashes ask.Resend self refused.0
+            refused.1) }
         ensures fault { IfErr result (λ refused. IsOfMemory refused.0) }
     {
         self.driver.survives();
@@ -87,7 +90,8 @@ impl<D: CrashDisk> Drill<D> {
         ensures told { IfOk result (λ drill. Tells (string_bytes text.old) (string_bytes text.new)
             (λ told. CarriesIf ⟦<D as Disk>⟧ D.crashes self ask.Check told drill)) }
         ensures cut { IfErr result (λ refused.
-            CutsIf ⟦<D as Disk>⟧ D.crashes ask.Check self refused.1) }
+            CutsIf ⟦<D as Disk>⟧ D.crashes ask.Check self refused.0
+            refused.1) }
         ensures fault { IfErr result (λ refused. IsOfMemory refused.0) }
     {
         self.driver.survives();
@@ -106,7 +110,8 @@ impl<D: CrashDisk> Drill<D> {
         ensures told { IfOk result (λ drill. Tells (string_bytes text.old) (string_bytes text.new)
             (λ told. CarriesIf ⟦<D as Disk>⟧ D.crashes self ask.Show told drill)) }
         ensures cut { IfErr result (λ refused.
-            CutsIf ⟦<D as Disk>⟧ D.crashes ask.Show self refused.1) }
+            CutsIf ⟦<D as Disk>⟧ D.crashes ask.Show self refused.0
+            refused.1) }
         ensures fault { IfErr result (λ refused. IsOfMemory refused.0) }
     {
         self.driver.survives();

@@ -22,7 +22,7 @@ returns-clause-moments g c =
     let v = c.args.driver in
     let out = c.begin-begun.result.1 in
     let goes : Leads g.D.Disk g.D.CrashDisk.crashes v (Begin ∷ []) (c.begin-begun.result.0 ∷ []) out =
-    leads_aside g.D.Disk g.D.CrashDisk.crashes v out Begin c.begin-begun.result.0 (λ b. b) tt c.survives.ensures c.survives-2.ensures g.met.D.Disk.only_now refl (λ s. refl) c.begin-begun.ensures.disk c.begin-begun.ensures.answered in
+    leads_aside g.D.Disk g.D.CrashDisk.crashes v out Begin c.begin-begun.result.0 (λ b. b) tt c.survives.ensures c.survives-2.ensures g.met.D.Disk.only_now refl (λ s. refl) refl c.begin-begun.ensures.disk c.begin-begun.ensures.answered in
     elim c.match-begun.branch [
       | in-Begun w ↦
           let drives = c.begins.ensures.drives in
@@ -42,7 +42,7 @@ returns-clause-cut g c =
     let v = c.args.driver in
     let out = c.begin-begun.result.1 in
     let goes : Leads g.D.Disk g.D.CrashDisk.crashes v (Begin ∷ []) (c.begin-begun.result.0 ∷ []) out =
-    leads_aside g.D.Disk g.D.CrashDisk.crashes v out Begin c.begin-begun.result.0 (λ b. b) tt c.survives.ensures c.survives-2.ensures g.met.D.Disk.only_now refl (λ s. refl) c.begin-begun.ensures.disk c.begin-begun.ensures.answered in
+    leads_aside g.D.Disk g.D.CrashDisk.crashes v out Begin c.begin-begun.result.0 (λ b. b) tt c.survives.ensures c.survives-2.ensures g.met.D.Disk.only_now refl (λ s. refl) refl c.begin-begun.ensures.disk c.begin-begun.ensures.answered in
     elim c.match-begun.branch [
       | in-Begun w ↦
           let begun = subst (λ a. Leads g.D.Disk g.D.CrashDisk.crashes v (Begin ∷ []) (a ∷ []) out) w.in-Begun.is goes in

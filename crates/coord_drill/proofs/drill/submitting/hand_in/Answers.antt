@@ -11,6 +11,6 @@ returns g c =
       handed = c.submit-handed.ensures.handed;
       flight = c.submit-handed.ensures.flight;
       stays = c.submit-handed.ensures.disk;
-      moments = leads_aside g.D.Disk g.D.CrashDisk.crashes c.args.driver.now c.submit-handed.new.self (Submit c.args.step) (answer_to handed) (λ b. with_claim b handed) c.within_ranges.ensures c.survives.ensures c.survives-2.ensures g.met.D.Disk.only_now refl (λ s. refl) c.submit-handed.ensures.disk
+      moments = leads_aside g.D.Disk g.D.CrashDisk.crashes c.args.driver.now c.submit-handed.new.self (Submit c.args.step) (answer_to handed) (λ b. with_claim b handed) c.within_ranges.ensures c.survives.ensures c.survives-2.ensures g.met.D.Disk.only_now refl (λ s. refl) refl c.submit-handed.ensures.disk
           c.submit-handed.ensures.answered;
     }
