@@ -9,4 +9,5 @@ pub mod Moments
 pub mod Tells
 pub mod Cuts
 pub mod Crashes
+pub mod Raising
 pub mod Flushes

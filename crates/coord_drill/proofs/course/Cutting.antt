@@ -45,7 +45,7 @@ module _ {D : Type 0} (disk : Ghosts D) (crashes : D → D → Type 0) (d : Dril
 
   -- behind no event
   cut_before_events : (a : Asked) (why : Fault) (lost : D) → IsPassing why → IsLeftBy disk crashes p a p.machine p.disk lost → disk.failures lost ≡ disk.failures p.disk + failed_by why → CutShort disk crashes p a why lost
-  cut_before_events a why lost cause left failed = record { cause = cause; given = []; mid = p.disk; moments = (refl, at.kept); left = left; failed = failed }
+  cut_before_events a why lost cause left failed = record { cause = cause; given = []; mid = p.disk; moments = (refl, at.kept); left = left; failed = omega (arith, failed) }
 
   -- in a crash
   cut_crash : (why : Fault) (lost : D) → model_driven disk.keeps_model d.driver ≡ Some true → IsLostInCrash disk crashes d.driver why lost → CutShort disk crashes p Crash why lost

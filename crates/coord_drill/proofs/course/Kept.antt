@@ -92,16 +92,14 @@ module _ {D : Type 0} (disk : Ghosts D) (crashes : D → D → Type 0) where
         λ image here. kept_of m told image is all (moments.0 refl image here),
         (
           moments.1.0,
-          (
-            within_more e (Survives found) (IsKept found told) old moments.1.0 (moments.1.1.0.inside refl) (λ bytes survives. kept_of found told bytes (found_is m e a is answered.0) (found_settled m e a told all) survives),
-            passes (after m e a) told es gs moments.1.0 new named.1 (stays_consistent m e a named.0 is answered.0) answered.1 rest moments.1.1.1,
-          ),
+          within_more e (Survives found) (IsKept found told) old moments.1.0 (moments.1.1.0.inside refl) (λ bytes survives. kept_of found told bytes (found_is m e a is answered.0) (found_settled m e a told all) survives),
+          passes (after m e a) told es gs moments.1.0 new named.1 (stays_consistent m e a named.0 is answered.0) answered.1 rest moments.1.1.1,
         ),
       )
 
   -- what the disk may hold behind them
   pub kept_behind : (m : Machine) (told : List ℕ) (es : List Event) (gs : List Answer) (old new : D) → EachMoment disk.present disk.clock disk.left_since crashes true m es gs old new → IsConsistent (run m es gs) → Settled (run m es gs) told → AllKept (run m es gs) told (disk.present new)
-  kept_behind m told [] [] old new moments is all image here = kept_of m told image is all (moments.1 refl image here)
+  kept_behind m told [] [] old new moments is all = λ image here. kept_of m told image is all (moments.1 refl image here)
   kept_behind m told [] (a ∷ gs) old new moments is all = absurd moments
   kept_behind m told (e ∷ es) [] old new moments is all = absurd moments
   kept_behind m told (e ∷ es) (a ∷ gs) old new moments is all = kept_behind (after m e a) told es gs moments.1.0 new moments.1.1.1 is all

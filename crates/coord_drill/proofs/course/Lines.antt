@@ -1,11 +1,11 @@
 -- Lines, one after the other.
-use Rattle.std.proofs.Common.{◌≡◌, ◌⊎◌, ℕ, ◌+◌, Bool, true, false, cond, List, [], ◌∷◌, ◌++◌, length, option_map, Option, Some, None, Result, Ok, Err, refl, sym, ap, ◌∙◌, subst, arith, inl, inr, append-nil, append_assoc}
+use Rattle.std.proofs.Common.{◌≡◌, ◌⊎◌, ℕ, ◌+◌, Bool, true, false, cond, List, [], ◌∷◌, ◌++◌, length, option_map, Option, Some, None, Result, Ok, Err, IfOk, OnOk, refl, sym, ap, ◌∙◌, subst, arith, inl, inr, append-nil, append_assoc}
 use Rattle.std.specs.Option.{option_map as map_option}
 use Rattle.coord_disk.specs.declared.disk.Disk.{Ghosts}
 use Rattle.coord_lines.specs.Lines.{Line}
 use Rattle.coord_types.specs.declared.packets.DataPacket.{DataPacket}
 use Rattle.coord_world.specs.Facade.{World}
-use Rattle.coord_ledger.specs.Facade.{front_world}
+use Rattle.coord_ledger.specs.Facade.{disk_driven, front_world}
 use Rattle.coord_drill.specs.Answered.{IsAnswered}
 use Rattle.coord_drill.specs.Asked.{asked, asked_of_front, front}
 use Rattle.coord_drill.specs.Drill.{DrillState, version_of}
@@ -13,7 +13,7 @@ use Rattle.coord_drill.specs.Drilled.{asked_by, is_skipped, parsed, unless_late}
 use Rattle.coord_drill.specs.Format.{◌>>=◌}
 use Rattle.coord_drill.specs.declared.asked.Asked.TheVariants.{Version2}
 use Rattle.coord_drill.specs.declared.request.Request.TheVariants as request
-use Rattle.coord_drill.specs.Facade.{AllKept, Answer, Asked, Carries, CarriesIf, CutsIf, Drill, Fault, Goes, IsEmptyLog, IsGivenBack, IsPromised, LineGoes, LineResponds, Moves, Place, Prints, Refusal, Request, Responds, Stands, Step, UnlessSkipped, asked_in, bad_line, front_of, state_of, told_in}
+use Rattle.coord_drill.specs.Facade.{AllKept, Answer, Asked, Carries, CarriesIf, CarriesLine, CutsIf, Drill, Fault, Goes, IsEmptyLog, IsGivenBack, IsOfMemory, IsPromised, LineGoes, LineResponds, Moves, Place, Prints, Refusal, Request, Responds, Stands, Step, Tells, UnlessSkipped, asked_in, bad_line, front_of, state_of, told_in}
 use Rattle.coord_drill.proofs.course.Cutting.{cut_by}
 use Rattle.coord_drill.proofs.course.Standing.{Reached, reached_by}
 
@@ -58,13 +58,13 @@ module _ {D : Type 0} (disk : Ghosts D) (crashes : D → D → Type 0) where
         let e = ap (λ b. cond b None (option_map (asked (front_world p.state.log)) (asked_by p.state line))) skipped in
         record {
           given = [];
-          responds = subst (λ b. UnlessSkipped b p.state [] [] p.state (Responds p.state n (asked_by p.state line) [] [] p.state)) (sym skipped) (refl, (refl, refl));
+          responds = subst (λ b. UnlessSkipped b p.state [] [] p.state (Responds p.state n (asked_by p.state line) [] [] p.state)) (sym skipped) (refl, refl, refl);
           told = subst (λ o. p.told ≡ p.told ++ told_in p.state o []) (sym e) (sym (append-nil p.told));
           moments = subst (λ o. Moves disk crashes o [] p p) (sym e) (refl, refl);
         }
 
     pub goes_over : LineGoes disk crashes p n None (bad_line n) p
-    goes_over = record { given = []; responds = (refl, (refl, refl)); told = sym (append-nil p.told); moments = (refl, refl) }
+    goes_over = record { given = []; responds = (refl, refl, refl); told = sym (append-nil p.told); moments = (refl, refl) }
 
     pub goes_bad : (line : List ℕ) → is_skipped line ≡ false → asked_by (state_of d) line ≡ None → LineGoes disk crashes p n (Some line) (bad_line n) p
     goes_bad line kept none =
@@ -73,7 +73,7 @@ module _ {D : Type 0} (disk : Ghosts D) (crashes : D → D → Type 0) where
         record {
           given = [];
           responds = subst (λ b. UnlessSkipped b p.state [] (bad_line n) p.state (Responds p.state n (asked_by p.state line) [] (bad_line n) p.state)) (sym kept)
-              (subst (λ o. Responds p.state n o [] (bad_line n) p.state) (sym own) (refl, (refl, refl)));
+              (subst (λ o. Responds p.state n o [] (bad_line n) p.state) (sym own) (refl, refl, refl));
           told = subst (λ o. p.told ≡ p.told ++ told_in p.state o []) (sym e) (sym (append-nil p.told));
           moments = subst (λ o. Moves disk crashes o [] p p) (sym e) (refl, refl);
         }
@@ -118,15 +118,25 @@ module _ {D : Type 0} (disk : Ghosts D) (crashes : D → D → Type 0) where
         let on = promised line r is in
         inr (why, ((a, (asks, cut_by disk crashes d p at a why lost on (cuts on))), inl refl))
 
+  -- a line that is told as bad
+  pub tells_bad : (d : Drill D) (n : ℕ) (old text : List ℕ) (r : Result (Drill D) (Fault × D)) (line : Line) → IfOk r (λ x. x ≡ d) → OnOk r (text ≡ old ++ bad_line n) → ((p : Place D) → Stands disk d p → LineGoes disk crashes p n line (bad_line n) p) →
+      IfOk r (λ x. Tells old text (λ told. CarriesLine disk crashes d n line told x))
+  tells_bad d n old text (Ok x) line same told goes = (bad_line n, (told, λ p at. (p, (subst (λ y. Stands disk y p) (sym same) at, goes p at))))
+  tells_bad d n old text (Err e) line same told goes = tt
+
+  -- it could not be told
+  pub told_lost : (d : Drill D) (p : Place D) → Stands disk d p → (line : Line) (fault : Fault) (lost : D) → IsOfMemory fault → disk_driven d.driver ≡ Some lost → IsGivenBack disk crashes p (line ∷ []) fault lost
+  told_lost d p at line fault lost memory there = inl (cc (there, at.holds), λ why same. let no : ⊥ = cc in no)
+
   -- ---- lines
 
   pub goes_one : (p q : Place D) (n : ℕ) (l : Line) (told : List ℕ) → LineGoes disk crashes p n l told q → AllKept q.machine q.told (disk.present q.disk) → Goes disk crashes p n (l ∷ []) told q
-  goes_one p q n l told goes kept = record { told = told; next = q; rest = []; line = goes; behind = (refl, (refl, kept)); whole = sym (append-nil told) }
+  goes_one p q n l told goes kept = record { told = told; next = q; rest = []; line = goes; behind = (refl, refl, kept); whole = sym (append-nil told) }
 
   pub goes_both : (p q r : Place D) (n m : ℕ) (ls ks : List Line) (t u : List ℕ) → m ≡ n + length ls → Goes disk crashes p n ls t q → Goes disk crashes q m ks u r → Goes disk crashes p n (ls ++ ks) (t ++ u) r
   goes_both p q r n m [] ks t u at first more =
       let here : m ≡ n = omega (arith, at) in
-      subst (λ x. Goes disk crashes p n ks (x ++ u) r) (sym first.0) (subst (λ k. Goes disk crashes p k ks u r) here (subst (λ x. Goes disk crashes x m ks u r) first.1.0 more))
+      subst (λ x. Goes disk crashes p n ks (x ++ u) r) (sym first.0) (subst (λ k. Goes disk crashes p k ks u r) here (subst (λ x. Goes disk crashes x m ks u r) first.1 more))
   goes_both p q r n m (l ∷ ls) ks t u at first more =
       record {
         told = first.told;
@@ -141,7 +151,7 @@ module _ {D : Type 0} (disk : Ghosts D) (crashes : D → D → Type 0) where
   pub goes_prints : (p q : Place D) (n m : ℕ) (ls ks : List Line) (t u : List ℕ) → m ≡ n + length ls → Goes disk crashes p n ls t q → Prints q.state m ks u → Prints p.state n (ls ++ ks) (t ++ u)
   goes_prints p q n m [] ks t u at first more =
       let here : m ≡ n = omega (arith, at) in
-      subst (λ x. Prints p.state n ks (x ++ u)) (sym first.0) (subst (λ k. Prints p.state k ks u) here (subst (λ (x : Place D). Prints x.state m ks u) first.1.0 more))
+      subst (λ x. Prints p.state n ks (x ++ u)) (sym first.0) (subst (λ k. Prints p.state k ks u) here (subst (λ (x : Place D). Prints x.state m ks u) first.1 more))
   goes_prints p q n m (l ∷ ls) ks t u at first more =
       record {
         given = first.line.given;

@@ -24,4 +24,4 @@ crash_failed (of_run.Store why) = told_failures why
 
 pub crash_cause : (model : Option Bool) (kind : RunFaultKind) → IsEventFault model Crash kind → model ≡ Some true → IsPassing (reopen_fault kind)
 crash_cause model of_run.OutOfMemory cause on = inl refl
-crash_cause model (of_run.Store why) cause on = told_passing why (cause.1.1 on)
+crash_cause model (of_run.Store why) cause on = told_passing why (cause.2 on)

@@ -1,5 +1,5 @@
 -- Events lead from one driver to another, and a line is some of them.
-use Rattle.std.proofs.Common.{◌≡◌, ◌≢◌, ℕ, ◌+◌, arith, Bool, true, false, List, [], ◌∷◌, ◌++◌, length, take, Option, None, Some, Result, Ok, Err, IfOk, IfErr, refl, sym, ap, ◌∙◌, subst}
+use Rattle.std.proofs.Common.{◌≡◌, ◌≢◌, ℕ, ◌+◌, arith, Bool, true, false, List, [], ◌∷◌, ◌++◌, length, take, Option, None, Some, Result, Ok, Err, IfOk, IfErr, IsErrAnd, refl, sym, ap, ◌∙◌, subst}
 use Rattle.std.proofs.Math.Seq.{take-length}
 use Rattle.std.proofs.lemmas.Bool.{false≢true}
 use Rattle.std.specs.List.{AllByRecursion}
@@ -23,6 +23,11 @@ if_ok_both P Q (Err e) p q = tt
 pub if_err_both : {A E : Type 0} (P Q : E → Type 0) (r : Result A E) → IfErr r P → IfErr r Q → IfErr r (λ e. P e × Q e)
 if_err_both P Q (Ok a) p q = tt
 if_err_both P Q (Err e) p q = (p, q)
+
+-- what a fault that is passed on has
+pub passed_on : {T E : Type 0} (r : Result T E) (e : E) (P : E → Type 0) → IsErrAnd r (λ y. y ≡ e) → P e → IfErr r P
+passed_on (Ok x) e P is p = tt
+passed_on (Err y) e P is p = subst P (sym is) p
 
 -- whether it is no event
 abbrev pub is_version : Asked → Bool
@@ -51,7 +56,7 @@ as_many s (e ∷ es) [] answered = absurd answered
 as_many s (e ∷ es) (g ∷ gs) answered = ap (λ l. e ∷ l) (as_many (after s e g) es gs answered.1)
 
 failed_both : (s : Machine) (es fs : List Event) (gs hs : List Answer) → Answered s es gs → failed_until (es ++ fs) (gs ++ hs) ≡ failed_until es gs + failed_until fs hs
-failed_both s [] fs [] hs answered = refl
+failed_both s [] fs [] hs answered = omega arith
 failed_both s [] fs (g ∷ gs) hs answered = absurd answered
 failed_both s (e ∷ es) fs [] hs answered = absurd answered
 failed_both s (e ∷ es) fs (g ∷ gs) hs answered = omega (arith, failed_both (after s e g) es fs gs hs answered.1)

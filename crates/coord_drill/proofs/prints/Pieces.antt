@@ -24,7 +24,7 @@ module _ {D : Type 0} (disk : Ghosts D) (crashes : D → D → Type 0) where
   first_cut_more q (l ∷ ls) more fault lost (inr cut) = inr cut
 
   pub carries_none : (d : Drill D) (n : ℕ) (a : Option (List ℕ)) → CarriesOut disk crashes d n [] a a d
-  carries_none d n a = record { text = []; wrote = Appends-nil a; goes = λ p at. (p, (at, (refl, (refl, at.kept)))) }
+  carries_none d n a = record { text = []; wrote = Appends-nil a; goes = λ p at. (p, (at, (refl, refl, at.kept))) }
 
   module _ (d mid : Drill D) (n m : ℕ) (ls ks : List Line) (a b c : Option (List ℕ)) (at : m ≡ n + length ls) (first : CarriesOut disk crashes d n ls a b mid) where
     pub carries_after : (new : Drill D) → CarriesOut disk crashes mid m ks b c new → CarriesOut disk crashes d n (ls ++ ks) a c new
@@ -106,7 +106,7 @@ module _ {D : Type 0} (disk : Ghosts D) (crashes : D → D → Type 0) where
     split = refl;
     text = [];
     wrote = first_part-none a [];
-    goes = λ p stands. (p, ((refl, (refl, stands.kept)), cuts p stands));
+    goes = λ p stands. (p, ((refl, refl, stands.kept), cuts p stands));
   }
 
   -- ---- the last line
@@ -207,8 +207,14 @@ module _ {D : Type 0} (disk : Ghosts D) (crashes : D → D → Type 0) where
 
     pub takes_unwritten : (now : Drill D) (reached : ℕ) (so_far : Line) (fault : Fault) (lost : D) → Takes disk crashes d number line piece [] (Some []) (Some items) now reached so_far → WritesFirstPart a b items → IsOfNoStore fault → disk_driven now.driver ≡ Some lost → BreaksOff disk crashes d (number + 1) (lines_on line piece) a b fault lost
     takes_unwritten now reached so_far fault lost taken part none there =
-        let breaks = takes_breaks d number line piece (Some []) (Some items) now reached so_far taken fault lost none there in
-        record { ended = breaks.ended; others = breaks.others; split = breaks.split; text = breaks.text; wrote = subst (WritesFirstPart a b) taken.out.wrote part; goes = breaks.goes }
+        record {
+          ended = taken.ended;
+          others = lines_on so_far [];
+          split = whole d number line piece [] (Some []) (Some items) now reached so_far taken;
+          text = taken.out.text;
+          wrote = subst (WritesFirstPart a b) taken.out.wrote part;
+          goes = λ p stands. let one = taken.out.goes p stands in (one.0, (one.1.1, inl (cc (there, one.1.0.holds), none)));
+        }
 
     -- where a line failed before, a first part of it was written too
     cut_written : (fault : Fault) (lost : D) (breaks : BreaksOff disk crashes d (number + 1) (lines_on line piece) (Some []) (Some items) fault lost) → WritesFirstPart a b items → WritesFirstPart a b breaks.text

@@ -23,7 +23,6 @@ use std::alloc::AllocError;
 
 impl<D: CrashDisk> Drill<D> {
     /// Prints that a lane is not there.
-    #[tactic(auto, using(crate::proofs::does::Tells::tells_refusal, crate::proofs::does::Cuts::cut_before))]
     pub(super) fn refuse(self, refusal: Refusal, text: &mut String) -> Result<Self, (Fault, D)>
         requires ready { IsReady self }
         ensures ready { IfOk result IsReady }
@@ -43,7 +42,6 @@ impl<D: CrashDisk> Drill<D> {
     }
 
     /// Prints that nothing waits on a lane.
-    #[tactic(auto, using(crate::proofs::does::Tells::tells_idle, crate::proofs::does::Cuts::cut_before))]
     pub(super) fn idle(self, text: &mut String) -> Result<Self, (Fault, D)>
         requires ready { IsReady self }
         ensures ready { IfOk result IsReady }
@@ -63,7 +61,6 @@ impl<D: CrashDisk> Drill<D> {
     }
 
     /// Prints what is sent again of the settled world.
-    #[tactic(auto, using(crate::proofs::does::Tells::tells_resent, crate::proofs::does::Cuts::cut_before))]
     pub(super) fn resend(self, text: &mut String) -> Result<Self, (Fault, D)>
         requires ready { IsReady self }
         ensures ready { IfOk result IsReady }
@@ -83,7 +80,6 @@ impl<D: CrashDisk> Drill<D> {
     }
 
     /// Checks the front world.
-    #[tactic(auto, using(crate::proofs::does::Tells::tells_check, crate::proofs::does::Cuts::cut_before))]
     pub(super) fn check(self, text: &mut String) -> Result<Self, (Fault, D)>
         requires ready { IsReady self }
         ensures ready { IfOk result IsReady }
@@ -103,7 +99,6 @@ impl<D: CrashDisk> Drill<D> {
     }
 
     /// Shows the settled world.
-    #[tactic(auto, using(crate::proofs::does::Tells::tells_show, crate::proofs::does::Cuts::cut_before))]
     pub(super) fn show(self, text: &mut String) -> Result<Self, (Fault, D)>
         requires ready { IsReady self }
         ensures ready { IfOk result IsReady }

@@ -11,8 +11,7 @@ use Rattle.coord_drill.proofs.does.Moments.{begins_by, if_err_both, none_led}
 use Rattle.coord_drill.proofs.drill.Drill.submit.Goals as goal
 
 pub returns-then-is_err-clause-cut : goal.returns-then-is_err-clause-cut
-returns-then-is_err-clause-cut g c =
-    ?
+returns-then-is_err-clause-cut g c = cut_before g.D.Disk g.D.CrashDisk.crashes c.args.self (Submit c.args.step) _ _ refl c.lost.ensures.fault c.survives.ensures c.lost.ensures.disk
 
 pub fly-requires : goal.fly-requires
 fly-requires g c =
@@ -43,7 +42,7 @@ returns-then-not-drill-clause-cut g c =
     let begins = begins_by g.D.Disk g.D.CrashDisk.crashes d.driver c.begins.ensures in
     let hands = subst (λ r. Hands g.D.Disk g.D.CrashDisk.crashes d.driver c.args.step r w) (c.in-Ok-Accepted.is ∙ ap Ok c.in-Ok-Accepted.field-0-is) c.hand_in.ensures in
     let free : d.holds ≡ false = search rules in
-    IfErr-weaker c.fly.result _ _ (λ refused both promised. (both.0, cut_flight g.D.Disk g.D.CrashDisk.crashes d w c.args.step c.requires.ready d begins _ t refused.1 refl free hands both.1))
+    IfErr-weaker c.fly.result _ _ (λ refused both promised. (both.0, cut_flight g.D.Disk g.D.CrashDisk.crashes d w c.args.step c.requires.ready d begins (record d { driver = w; tickets = c.push_back_reserved.new.self; has_begun = true }) t refused.1 refl free hands both.1))
     (if_err_both _ _ c.fly.result c.fly.ensures.fault c.fly.ensures.cut)
 
 pub returns-in-Ok-clause-ready : goal.returns-in-Ok-clause-ready
@@ -74,7 +73,7 @@ returns-in-Err-print_pending-clause-cut g c =
     let t = c.in-Ok-Accepted.ticket in
     let begins = begins_by g.D.Disk g.D.CrashDisk.crashes d.driver c.begins.ensures in
     let hands = subst (λ r. Hands g.D.Disk g.D.CrashDisk.crashes d.driver c.args.step r w) (c.in-Ok-Accepted.is ∙ ap Ok c.in-Ok-Accepted.field-0-is) c.hand_in.ensures in
-    ?
+    λ promised. (c.lost-in-Err-print_pending.ensures.fault, cut_handed g.D.Disk g.D.CrashDisk.crashes d w c.args.step c.requires.ready d begins _ _ c.survives.ensures hands c.lost-in-Err-print_pending.ensures.disk)
 
 pub print_kept-requires : goal.print_kept-requires
 print_kept-requires g c =
@@ -102,11 +101,14 @@ returns-in-Err-print_kept-clause-cut g c =
     let t = c.in-Ok-Repeated.ticket in
     let begins = begins_by g.D.Disk g.D.CrashDisk.crashes d.driver c.begins.ensures in
     let hands = subst (λ r. Hands g.D.Disk g.D.CrashDisk.crashes d.driver c.args.step r w) (c.in-Ok-Repeated.is ∙ ap Ok c.in-Ok-Repeated.field-0-is) c.hand_in.ensures in
-    ?
+    λ promised. (c.lost-in-Err-print_kept.ensures.fault, cut_handed g.D.Disk g.D.CrashDisk.crashes d w c.args.step c.requires.ready d begins _ _ c.survives.ensures hands c.lost-in-Err-print_kept.ensures.disk)
 
 pub returns-in-Err-OutOfMemory-clause-cut : goal.returns-in-Err-OutOfMemory-clause-cut
-returns-in-Err-OutOfMemory-clause-cut g c =
-    ?
+returns-in-Err-OutOfMemory-clause-cut g c promised =
+    let d = c.args.self in
+    let w = c.hand_in.new.driver in
+    let begins = begins_by g.D.Disk g.D.CrashDisk.crashes d.driver c.begins.ensures in
+    (c.lost-in-Err-OutOfMemory.ensures.fault, cut_handed g.D.Disk g.D.CrashDisk.crashes d w c.args.step c.requires.ready d begins c.hand_in.result _ c.survives.ensures c.hand_in.ensures c.lost-in-Err-OutOfMemory.ensures.disk)
 
 pub returns-in-Ok-print_refusal-clause-ready : goal.returns-in-Ok-print_refusal-clause-ready
 returns-in-Ok-print_refusal-clause-ready g c =
@@ -135,4 +137,4 @@ returns-in-Err-print_refusal-clause-cut g c =
     let e = c.in-Err.refusal in
     let begins = begins_by g.D.Disk g.D.CrashDisk.crashes d.driver c.begins.ensures in
     let hands = subst (λ r. Hands g.D.Disk g.D.CrashDisk.crashes d.driver c.args.step r w) c.in-Err.is c.hand_in.ensures in
-    ?
+    λ promised. (c.lost-in-Err-print_refusal.ensures.fault, cut_handed g.D.Disk g.D.CrashDisk.crashes d w c.args.step c.requires.ready d begins _ _ c.survives.ensures hands c.lost-in-Err-print_refusal.ensures.disk)
