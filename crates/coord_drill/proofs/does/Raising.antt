@@ -1,5 +1,5 @@
 -- The store of a ledger at home is raised.
-use Rattle.std.proofs.Common.{◌≡◌, ◌⊎◌, ℕ, Bool, true, false, Option, Some, None, refl, sym, ap, ◌∙◌, subst, inl, inr, is_some, Err, IsErrOf, ◌↔◌}
+use Rattle.std.proofs.Common.{◌≡◌, ◌⊎◌, ℕ, Bool, true, false, Option, Some, None, refl, sym, ap, ◌∙◌, subst, inl, inr, is_some, Err, IsErrOf}
 use Rattle.std.proofs.lemmas.Bool.{false≢true}
 use Rattle.std.specs.Cmp.{nat_cmp_total}
 use Rattle.coord_types.specs.Facade.{get}
@@ -16,8 +16,8 @@ none_torn None is = refl
 none_torn (Some x) is = let no : ⊥ = cc in absurd no
 
 -- a store that was not torn is not refused as stopped
-pub never_stopped : {A : Type 0} (torn : Option A) → torn ≡ None → (fault : StoreFault) → fault ≡ Stopped → IsErrOf {A = Unit {0}} (Err fault) Stopped ↔ (is_some torn ≡ true) → ⊥
-never_stopped torn none fault stopped only = let on = only.0 stopped in let off = ap is_some none in let no : ⊥ = cc in no
+pub never_stopped : {A : Type 0} (torn : Option A) → torn ≡ None → (fault : StoreFault) → fault ≡ Stopped → (IsErrOf {T = Unit {0}} (Err fault) Stopped → is_some torn ≡ true) → ⊥
+never_stopped torn none fault stopped only = let on = only (ap (λ x. Err x) stopped) in let off = ap is_some none in let no : ⊥ = cc in no
 
 -- no node of the empty world is in a reset
 none_busy : (version u : ℕ) → is_ready (state (no_world version) u).mode ≡ true

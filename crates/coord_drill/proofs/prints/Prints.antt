@@ -1,15 +1,19 @@
 -- What is printed of a whole input, and which faults come of what.
 use Rattle.std.proofs.Common.{refl, ◌≡◌, ◌⊎◌, ℕ, ◌+◌, List, [], ◌++◌, length, Option, Some, sym, ap, ◌∙◌, subst, arith, append-nil, take, Result, Ok, Err, OnErr, IfErr, IfOk, inl, inr, Bool, true, false}
 use Rattle.std.specs.Io.KnownBytes.{Appends, Consumes, IsAtEnd}
-use Rattle.std.proofs.KnownBytes.{Consumes-trans}
+use Rattle.std.proofs.KnownBytes.{Consumes-nil, Consumes-trans}
 use Rattle.coord_disk.specs.declared.disk.Disk.{Ghosts}
-use Rattle.coord_lines.specs.Lines.{lines_of}
-use Rattle.coord_drill.specs.Facade.{BrokeOff, Ended, Fault, IsOfDisk, IsOfMemory, IsOfWork, MayEndBy, Prints, WritesFirstPart, drill_over}
+use Rattle.coord_lines.specs.Lines.{Line, lines_of, lines_on}
+use Rattle.coord_lines.proofs.LinesOn.{lines_on-empty}
+use Rattle.coord_store.specs.declared.faults.StoreFault.{StoreFault}
+use Rattle.coord_store.specs.declared.faults.StoreFault.TheVariants.{OutOfMemory}
+use Rattle.coord_drill.specs.Facade.{BreaksOff, BrokeOff, Drill, Ended, EndsWith, Fault, Goes, IsBegun, IsOfDisk, IsOfMemory, IsOfWork, MayEndBy, Prints, WritesFirstPart, drill_over, start, store_fault}
+use Rattle.coord_drill.specs.declared.fault.Fault.TheVariants.{TooManyReads}
 use Rattle.coord_drill.specs.Drilled.{IsDrilled}
 use Rattle.coord_world.specs.Facade.{no_world}
 use Rattle.coord_drill.proofs.course.Lines.{goes_prints}
 use Rattle.coord_drill.proofs.does.LineResponds.{prints_somehow}
-use Rattle.coord_drill.proofs.prints.FirstParts.{first_part-longer}
+use Rattle.coord_drill.proofs.prints.FirstParts.{first_part-longer, first_part-none}
 
 -- a read that gave no byte
 pub Consumes-none : (a b c : Option (List ℕ)) (seen bytes : List ℕ) (count : ℕ) → Consumes a b seen → Consumes b c (take count bytes) → count ≡ 0 → Consumes a c seen
@@ -46,3 +50,49 @@ module _ {D : Type 0} (disk : Ghosts D) (crashes : D → D → Type 0) (input : 
       let more = prints_somehow broke.place.state (1 + length broke.lines) broke.others in
       let prints = goes_prints disk crashes _ broke.place 1 (1 + length broke.lines) broke.lines broke.others broke.text more.0 refl broke.course.goes more.1 in
       (broke.text ++ more.0, subst (λ ls. Prints (drill_over (no_world 1)) 1 ls (broke.text ++ more.0)) (sym broke.split) prints, first_part-longer a b broke.text more.0 broke.wrote)
+
+  -- from what the code's functions say of it
+  module _ (d : Drill D) (begun : IsBegun disk d) (line : Line) (empty : line ≡ Some []) (a b : Option (List ℕ)) where
+    lines_are : lines_on line input ≡ lines_of input
+    lines_are = ap (λ l. lines_on l input) empty ∙ lines_on-empty input
+
+    pub ended_of : (last : D) → EndsWith disk crashes d 1 (lines_on line input) a b last → (text : List ℕ) × Ended disk crashes input text last × Appends a b text
+    ended_of last ends =
+        let one = ends.goes (start begun.begun) begun.stands in (
+          ends.text,
+          record {
+            place = one.0;
+            course = record { begun = begun.begun; made = begun.made; goes = subst (λ ls. Goes disk crashes (start begun.begun) 1 ls ends.text one.0) lines_are one.1.1 };
+            given_back = one.1.0;
+          },
+          ends.wrote,
+        )
+
+    pub broke_of : (fault : Fault) (lost : D) → BreaksOff disk crashes d 1 (lines_on line input) a b fault lost → BrokeOff disk crashes input a b fault lost
+    broke_of fault lost breaks =
+        let one = breaks.goes (start begun.begun) begun.stands in
+        record {
+          lines = breaks.ended;
+          others = breaks.others;
+          split = sym lines_are ∙ breaks.split;
+          text = breaks.text;
+          place = one.0;
+          course = record { begun = begun.begun; made = begun.made; goes = one.1.0 };
+          wrote = breaks.wrote;
+          given_back = one.1.1;
+        }
+
+-- a refused store is not told as too many reads
+pub never_reads : (why : StoreFault) → store_fault why ≡ TooManyReads → ⊥
+never_reads OutOfMemory same = let no : ⊥ = cc in no
+never_reads why same = let no : ⊥ = cc in no
+
+-- nothing was read
+pub nothing_seen : (a b : Option (List ℕ)) → b ≡ a → Consumes a b []
+nothing_seen a b same = subst (λ x. Consumes a x []) (sym same) (Consumes-nil a)
+
+-- and nothing written of what may be printed then
+pub nothing_written : (a b : Option (List ℕ)) → b ≡ a → (text : List ℕ) × IsDrilled [] text × WritesFirstPart a b text
+nothing_written a b same =
+    let some = prints_somehow (drill_over (no_world 1)) 1 (lines_of []) in
+    (some.0, some.1, subst (λ x. WritesFirstPart a x some.0) (sym same) (first_part-none a some.0))

@@ -23,4 +23,6 @@ returns-in-Ok-taken-clause-failed g c =
     takes_unwritten g.D.Disk g.D.CrashDisk.crashes d.drill d.number d.line c.args.piece.now c.take-taken.new.writer.items _ _ console.drill console.number console.line c.in-Err.fault _ (rw c.new-text.ensures.items at c.in-Ok-taken.ensures.taken) (rw c.deref.ensures.value at c.in-Err.ensures.err) (of_writing c.in-Err.fault c.in-Err.ensures.fault) c.into_disk.ensures
 
 pub returns-clause-failed : goal.returns-clause-failed
-returns-clause-failed g c = ?
+returns-clause-failed g c =
+    let d = c.args.self in
+    breaks_unwritten g.D.Disk g.D.CrashDisk.crashes d.drill d.number d.line c.args.piece.now c.take-taken.new.writer.items _ _ c.in-Err-taken.field-0-0 c.in-Err.fault c.in-Err-taken.disk c.in-Err.ensures.fault (rw c.new-text.ensures.items at c.in-Err-taken.ensures.failed) (rw c.deref.ensures.value at c.in-Err.ensures.err)

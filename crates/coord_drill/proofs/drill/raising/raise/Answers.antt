@@ -28,7 +28,7 @@ returns-in-Err-clause-cut g c =
       old = store.disk;
       there = there;
       moments = λ on keeps. subst (λ x. LeavesOnly g.D.Disk.clock g.D.Disk.left_since store.disk x (GivesRaised d)) (sym lost) (moments on keeps);
-      cause = λ empty. subst IsPassing (sym told) (raising_cause d.ledger.log store.world fault world empty c.in-Err.ensures.fault (λ stopped. never_stopped store.torn (going (none_stopped g.D.Disk g.D.CrashDisk.crashes d.ledger.log empty)) fault stopped c.in-Err.ensures.stopped));
+      cause = λ empty. subst IsPassing (sym told) (raising_cause d.ledger.log store.world fault world empty c.in-Err.ensures.fault (λ stopped. never_stopped store.torn (going (none_stopped g.D.Disk g.D.CrashDisk.crashes d.ledger.log empty)) fault stopped c.in-Err.ensures.stopped.0));
       failed = ap g.D.Disk.failures lost ∙ failed ∙ ap (λ n. g.D.Disk.failures store.disk + n) (sym (ap failed_by told ∙ told_failures fault));
     }
 
