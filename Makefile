@@ -1,23 +1,25 @@
 # What a person would ask for. The toolchain's command `rt` has to be on the PATH.
-.PHONY: help demo drill example services soak lives takeover build test refusals bench sweep install uninstall deb
+.PHONY: help demo drill example services soak lives takeover build prove test program refusals bench sweep nightly install uninstall deb
 
 PREFIX ?= /usr/local
 # So many checks run at a time, each on one processor and with up to 4 GB of memory.
 JOBS ?= $(shell nproc)
 
 help:
-	@echo 'make demo      eight services and a coordinator that is killed in the middle of a reset and started again'
+	@echo 'make demo      eight services and a coordinator that is killed in the middle of a reset and started again (without bin/resetd by a trial build)'
 	@echo 'make drill     one reset of two nodes, each line that the drill reads beside what it prints'
 	@echo 'make example   the example services of examples/ around a coordinator, in a few seconds'
-	@echo 'make services  tries what services rest on: restore, members that come again, torn and lost lines, 64 members, messages'
-	@echo 'make build     proves every crate, and leaves the program at bin/resetd'
-	@echo 'make test      the gate: every proof from nothing, the must-fail edits, every test and both programs'
+	@echo 'make services  tries what services rest on: restores, members that come again, a work queue, torn and lost lines, 64 members, messages'
+	@echo 'make build     proves every crate, and leaves the program at bin/resetd; nothing is proved again while that is newer than every source'
+	@echo 'make test      the gate: every proof from nothing, the must-fail edits, every test and both programs, then make program; it leaves the program at bin/resetd too'
+	@echo 'make program   tries the program as people run it (tests/), over a trial build of it, in some minutes'
 	@echo 'make refusals  tries the other wrong bodies, which the prover has to refuse (CRATE=NAME for one crate)'
-	@echo 'make bench     measures the drill on a ring of 64 nodes with chords, its parts, the store, the ledger, the engine and the server'
+	@echo 'make bench     measures the drill, its parts, the store, the ledger, the engine and the server, and writes the tables of docs/MEASURES.md'
 	@echo 'make soak      kills a coordinator 200 times and 50 migrations, and looks for what was lost (ROUNDS=N for N kills)'
 	@echo 'make lives     a trial build whose lives are short, which change in the midst of resets: kills it there 100 times (ROUNDS=N)'
 	@echo 'make takeover  a coordinator on a replicated volume of three hosts, each in namespaces; hosts and bricks are lost'
 	@echo 'make sweep     refuses each allocation of every test and of the programs in turn, for 12 seconds each (EACH=N for N, 0 for all)'
+	@echo 'make nightly   what is too long for the gate (soak, lives, services, takeover, sweep, refusals), with a line for each in docs/nightly.tsv'
 	@echo 'make install   copies the program, resetctl, the client library, examples, documents and manual pages below PREFIX (/usr/local); make uninstall takes them away'
 	@echo 'make deb       builds a Debian package of all that with dpkg-deb'
 	@echo 'make help      prints this'
@@ -32,7 +34,7 @@ example: bin/resetd
 	@examples/run
 
 services: bin/resetd
-	@python3 -m unittest discover -s client/tests
+	@RESETD=bin/resetd python3 -m unittest discover -s client/tests
 	@tools/test_services
 
 soak: bin/resetd
@@ -45,6 +47,13 @@ takeover: bin/resetd
 	@tools/takeover
 
 build:
+	@if [ -x bin/resetd ] && [ -z "$$(find crates crates.txt HANDLES -newer bin/resetd -type f -not -path '*/out/*' -print -quit)" ]; then \
+	  echo 'bin/resetd is newer than every source: nothing is proved again (remove it to have that)'; \
+	else \
+	  $(MAKE) --no-print-directory prove; \
+	fi
+
+prove:
 	rt all check --jobs $(JOBS)
 	cd crates/resetd && rt run -- drill < ../stored_run/stdin
 	mkdir -p bin
@@ -54,34 +63,40 @@ refusals:
 	refusals/run --jobs $(JOBS) $(CRATE)
 
 bench: build
-	bench/drill.sh 4 bin/resetd
-	bench/measures.sh
-	bench/store.sh
-	bench/ledger.sh
-	bench/engine.sh
-	bench/serve.sh bin/resetd
+	bench/run bin/resetd
 
 sweep:
 	bench/refused_allocations --seconds $(or $(EACH),12) $$(sed -n 's/^\([a-z][a-z0-9_]*\).*/\1/p' crates.txt)
 
+nightly: bin/resetd
+	@tools/nightly --jobs $(JOBS)
+
 test:
 	@tools/layers
 	rt ci
+	mkdir -p bin
+	cp crates/resetd/out/resetd bin/resetd
+	@tests/run
+
+program:
+	@tests/run
 
 SHARE = $(DESTDIR)$(PREFIX)/share/resetd
 
 # What stands below share/resetd has the places of the repository, so that each part finds the others.
 install: bin/resetd
 	install -D -m 755 bin/resetd $(DESTDIR)$(PREFIX)/bin/resetd
-	install -d $(SHARE)/client/resetd_client $(SHARE)/tools/picture $(SHARE)/examples $(SHARE)/docs
+	install -d $(SHARE)/client/resetd_client/control $(SHARE)/tools/picture $(SHARE)/examples $(SHARE)/docs
 	install -m 755 client/resetctl $(SHARE)/client/
-	install -m 644 client/resetd_client/*.py $(SHARE)/client/resetd_client/
+	install -m 644 client/pyproject.toml client/build_wheel.py $(SHARE)/client/
+	install -m 644 client/resetd_client/*.py client/resetd_client/py.typed $(SHARE)/client/resetd_client/
+	install -m 644 client/resetd_client/control/*.py $(SHARE)/client/resetd_client/control/
 	install -m 755 tools/wave $(SHARE)/tools/
 	install -m 644 tools/picture/*.py $(SHARE)/tools/picture/
-	install -m 755 examples/ask examples/gateway examples/local_check examples/member examples/run examples/service examples/talk $(SHARE)/examples/
+	install -m 755 examples/ask examples/gateway examples/local_check examples/member examples/plain_member examples/run examples/service examples/talk $(SHARE)/examples/
 	install -m 644 examples/coordinator.py examples/ring.toml $(SHARE)/examples/
 	for unit in examples/*.service examples/*.timer; do sed 's|/usr/local/bin/|$(PREFIX)/bin/|' $$unit > $(SHARE)/$$unit; chmod 644 $(SHARE)/$$unit; done
-	install -m 644 docs/OPERATING.md docs/FORMATS.md docs/SERVICES.md docs/PROTOCOL.md docs/*.svg $(SHARE)/docs/
+	install -m 644 docs/OPERATING.md docs/TAKEOVER.md docs/FORMATS.md docs/SERVICES.md docs/PROTOCOL.md docs/*.svg $(SHARE)/docs/
 	install -m 644 CHANGELOG.md $(SHARE)/
 	ln -sfn ../share/resetd/client/resetctl $(DESTDIR)$(PREFIX)/bin/resetctl
 	install -D -m 644 docs/resetd.8 $(DESTDIR)$(PREFIX)/share/man/man8/resetd.8

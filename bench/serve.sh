@@ -8,11 +8,15 @@
 # The logs are made by the program itself, by resets of a ring of 64 nodes with chords, on a file system in
 # memory where there is one, since their syncs are not what is measured. The last one stays a little below
 # 16 MiB: a half has no more than that, and one that is full is left by a checkpoint.
-# usage: bench/serve.sh [PROGRAM [FOLDER]]
+# Then orders that are sent together: 1, 4, 16, 64 and 256 before the first answer is read, by 16 clients in turn
+# and by one, over the file and over one whose syncs wait a millisecond first, with the syncs that each takes; by
+# turns with another program, where one is given. It needs a C compiler, $CC or cc.
+# usage: bench/serve.sh [PROGRAM [FOLDER [OTHER PROGRAM]]]
 set -euo pipefail
 here=$(cd "$(dirname "$0")/.." && pwd)
 program=$(realpath -m "${1:-$here/bin/resetd}")
 folder=${2:-/var/tmp}
+other=${3:+other=$(realpath -m "$3")}
 [ -x "$program" ] || { echo 'there is no proved program yet: make build makes it' >&2; exit 1; }
 system=$(df --output=fstype "$folder" | tail -n 1)
 [ "$system" != tmpfs ] || { echo "$folder is in memory: give a folder of a real file system" >&2; exit 1; }
@@ -22,3 +26,6 @@ swift=$(mktemp -d -p /dev/shm resetd-serve-XXXXXX 2> /dev/null || mktemp -d -p "
 
 echo "files in $folder, on $system"
 python3 -B "$here/bench/serve/measure.py" "$program" "$scratch" "$swift"
+
+"${CC:-cc}" -O2 -shared -fPIC -x c -o "$scratch/syncs.so" "$here/bench/serve/syncs.c.txt"
+python3 -B "$here/bench/serve/together.py" "$scratch" "$scratch/syncs.so" "program=$program" $other

@@ -10,19 +10,20 @@ the same call is to be made again (`patiently` does), every other exception that
 """
 
 from .answers import (Away, Fault, Faulted, Garbled, NotNow, NotTaken, Refusal, Refused, Reply)
-from .files import Held, hold, keep
+from .files import Held, hold, keep, read
 from .gateway import Gateway, Served
-from .member import LOOK_SECONDS, Member, Run, has_to_begin
+from .member import LOOK_SECONDS, Member, OutOfRun, Run
 from .orders import CLIENTS, CountLost, CountNotFound, Orders, find_count
 from .port import Port, patiently
 from .signals import Clock, Follower, Stream, Wake, Wakes
+from .starts import Due, Shelf, Starts
 from .view import Link, Node, View
 
-__version__ = "0.10.0"  # that of the first heading of CHANGELOG.md
+__version__ = "0.11.0"  # that of the first heading of CHANGELOG.md
 
 __all__ = [
-    "Away", "CLIENTS", "Clock", "CountLost", "CountNotFound", "Fault", "Faulted", "Follower", "Garbled", "Gateway",
-    "Held", "LOOK_SECONDS", "Link", "Member", "Node", "NotNow", "NotTaken", "Orders", "Port", "Refusal", "Refused",
-    "Reply", "Run", "Served", "Stream", "View", "Wake", "Wakes", "find_count", "has_to_begin", "hold", "keep",
-    "patiently",
+    "Away", "CLIENTS", "Clock", "CountLost", "CountNotFound", "Due", "Fault", "Faulted", "Follower", "Garbled",
+    "Gateway", "Held", "LOOK_SECONDS", "Link", "Member", "Node", "NotNow", "NotTaken", "Orders", "OutOfRun", "Port",
+    "Refusal", "Refused", "Reply", "Run", "Served", "Shelf", "Starts", "Stream", "View", "Wake", "Wakes", "find_count", "hold",
+    "keep", "patiently", "read",
 ]

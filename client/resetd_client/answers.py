@@ -47,6 +47,7 @@ class Fault(enum.Enum):
     OUT_OF_MEMORY = "OutOfMemory"
 
 
+MOST_SHOWN = 60  # characters of a line that no coordinator said
 PASSING_REFUSALS = frozenset({Refusal.STOPPED, Refusal.OUT_OF_MEMORY, Refusal.PENDING_FULL})
 
 
@@ -80,7 +81,8 @@ class Refused(NotTaken):
 
 
 class Faulted(NotTaken):
-    """A line that is no request. `fault` is None where this library does not know the name."""
+    """A line that is no request, so that nothing was carried out. `fault` is None where this library does not know
+    the name, and then it cannot say that."""
 
     def __init__(self, name: str) -> None:
         super().__init__(name)
@@ -93,6 +95,10 @@ class Garbled(NotTaken):
 
     name = "Garbled"
 
+    def __init__(self, line: str, where: str = "what answers") -> None:
+        super().__init__(f"{where} is no coordinator: it said {line.strip()[:MOST_SHOWN]!r}")
+        self.line = line
+
 
 @dataclass(frozen=True)
 class Reply:
@@ -102,14 +108,19 @@ class Reply:
     step: int
 
 
-def members_of(line: str) -> dict[str, Any]:
-    """The members of an answer line that is no refusal and no fault. Raises NotNow, Refused, Faulted, Garbled."""
+CARRIED_OUT = Reply("carried out", 0)  # where the reply itself was lost with a connection
+Outcome = Reply | NotTaken
+
+
+def members_of(line: str, where: str = "what answers") -> dict[str, Any]:
+    """The members of an answer line that is no refusal and no fault; `where` names who said it. Raises NotNow,
+    Refused, Faulted, Garbled."""
     try:
         answer = json.loads(line)
     except ValueError:
-        raise Garbled(line) from None
+        raise Garbled(line, where) from None
     if not isinstance(answer, dict):
-        raise Garbled(line)
+        raise Garbled(line, where)
     if "refused" in answer:
         number, name = int(answer["refused"]), str(answer.get("name"))
         if number in PASSING_REFUSALS:

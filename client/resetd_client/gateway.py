@@ -6,19 +6,25 @@ import os
 import secrets
 import time
 from collections.abc import Callable, Iterable, Mapping
+from typing import NamedTuple
 
 from . import files
-from .member import LOOK_SECONDS, confirm, has_to_begin
+from .answers import Away
+from .following import Following
+from .member import LOOK_SECONDS
 from .orders import Orders, warn
-from .port import Port, patiently
+from .port import Port
 from .signals import Wake, Wakes
+from .starts import Due, Shelf, Starts
 from .view import Node, View
 
 POLL_SECONDS = 0.1
+MOST_TURNS = 100  # of one look
 
 # A member's folder has two files of one line each, each put in place as a whole:
 #   wanted   EPOCH TOKEN   the gateway wants this epoch begun. The token is new each time, since an epoch can come again
-#   begun    EPOCH TOKEN   the member has begun just that, and keeps it with its work
+#   begun    EPOCH TOKEN   the member has begun just that, and keeps it with its work; or `lost EPOCH TOKEN`, where
+#                          the work that it began for this is gone
 # and one for members that talk with each other:
 #   run      EPOCH TAG     the run that the group is in; absent while somebody is not through
 
@@ -29,39 +35,30 @@ class Seat:
     def __init__(self, folder: str) -> None:
         self.folder = folder
         os.makedirs(folder, exist_ok=True)
-        self._wanted: tuple[int, str] | None = None  # told by this process, or known from its start on
-        self._is_confirmed = False  # what was told has begun, and was confirmed
+        self._wanted = self._read("wanted")
         self._run: str | None = "unknown"
 
     @property
-    def waits(self) -> bool:
-        """Whether the member was told an epoch that is not confirmed yet."""
-        return self._wanted is not None and not self._is_confirmed
+    def has_begun(self) -> bool:
+        """Whether the member has begun what it was told last."""
+        return self._wanted is not None and self._read("begun") == self._wanted
 
     @property
-    def has_begun(self) -> bool:
-        """Whether the member has begun what it was told."""
-        return self._wanted is not None and self._read("begun") == "{} {}\n".format(*self._wanted)
+    def has_lost(self) -> bool:
+        """Whether the member says that the work of what it was told last is gone."""
+        return self._wanted is not None and files.read(os.path.join(self.folder, "begun")) == f"lost {self._wanted}"
 
-    def update(self, row: Node) -> bool:
-        """Tells the member to begin the shown epoch where that is due. Whether it has begun it.
+    @property
+    def begun(self) -> int | None:
+        """The epoch that the member has begun, None where that is not what it was told last."""
+        return int(self._wanted.split()[0]) if self._wanted and self.has_begun else None
 
-        Only what this process told counts as begun for an epoch that is not confirmed: after a start nobody can say
-        for which reset it was begun, and it is told again.
-        """
-        if self._wanted is None:
-            self._note_start(row)
-        if self._wanted is None or self._wanted[0] != row.epoch or (
-                self._is_confirmed and has_to_begin(row, self._wanted[0])):
-            self._want(row.epoch)
-        has_begun = self.has_begun
-        if has_begun and row.epoch == row.confirmed:
-            self._is_confirmed = True
-        return has_begun
-
-    def note_confirmed(self) -> None:
-        """The epoch that the member was told, and has begun, was confirmed."""
-        self._is_confirmed = True
+    def want(self, epoch: int) -> None:
+        """Tells the member to begin an epoch."""
+        self.set_run(None)
+        self._wanted = f"{epoch} {secrets.token_hex(8)}\n"
+        os.makedirs(self.folder, exist_ok=True)
+        files.keep(os.path.join(self.folder, "wanted"), self._wanted)
 
     def set_run(self, run: str | None) -> None:
         """Writes down, or takes away, the run that the member may talk in."""
@@ -74,78 +71,132 @@ class Seat:
             os.remove(path)
         self._run = run
 
-    def _note_start(self, row: Node) -> None:
-        """At a start of the gateway: a member that has begun the shown epoch, which is confirmed, goes on."""
-        begun = self._read("begun")
-        if begun and begun == self._read("wanted") and int(begun.split()[0]) == row.epoch == row.confirmed:
-            self._wanted, self._is_confirmed = (row.epoch, begun.split()[1]), True
-
-    def _want(self, epoch: int) -> None:
-        self.set_run(None)
-        self._wanted, self._is_confirmed = (epoch, secrets.token_hex(8)), False
-        files.keep(os.path.join(self.folder, "wanted"), "{} {}\n".format(*self._wanted))
-
     def _read(self, name: str) -> str | None:
         text = files.read(os.path.join(self.folder, name))
         return text if text and text.endswith("\n") and len(text.split()) == 2 and text.split()[0].isdigit() else None
 
 
-class Gateway:
+class Desk:
+    """A node's members, which begin and talk together: their seats, and what is kept of their starts."""
+
+    def __init__(self, node: int, shelf: Shelf, folder: str, names: Iterable[str]) -> None:
+        self.node = node
+        self.seats = [Seat(os.path.join(folder, name)) for name in names]
+        self.starts = Starts(shelf, node, self._begun())
+        self.telling: int | None = None  # the epoch that this process told, which is not confirmed yet
+
+    def due(self, view: View, row: Node) -> Due:
+        """What a view with the node's row asks for."""
+        self.starts.begun = self._begun()
+        return Due.WAIT if self._is_told(row) else self.starts.due(view, row)
+
+    def has_begun(self, row: Node) -> bool:
+        """Whether all members have begun what this process told them, and that is to be confirmed."""
+        return self._is_told(row) and self._begun() == row.epoch
+
+    def waiting(self) -> list[Seat]:
+        """The seats of members that were told, and have not begun yet."""
+        return [] if self.telling is None else [seat for seat in self.seats if not seat.has_begun]
+
+    def want(self, epoch: int) -> None:
+        """Tells all members to begin an epoch, which is kept as begun."""
+        self.telling = epoch
+        for seat in self.seats:
+            seat.want(epoch)
+
+    def note_confirmed(self) -> None:
+        """What the members were told, and have begun, was confirmed."""
+        self.telling = None
+
+    def set_run(self, run: str | None) -> None:
+        """Tells all members in which run they may talk."""
+        for seat in self.seats:
+            seat.set_run(run)
+
+    def _is_told(self, row: Node) -> bool:
+        return self.telling == row.epoch and row.epoch > row.confirmed and not any(seat.has_lost for seat in self.seats)
+
+    def _begun(self) -> int | None:
+        begun = {seat.begun for seat in self.seats}
+        return begun.pop() if len(begun) == 1 else None
+
+
+class Judged(NamedTuple):
+    """A node's members, its row, and what that asks for."""
+
+    desk: Desk
+    row: Node
+    due: Due
+
+
+class Gateway(Following):
     """Serves members. `members` has the names of each node's members, and the member NAME has the folder
     FOLDER/NAME: several members of one node, as the processes of one host, all begin before it is confirmed."""
 
     def __init__(self, port: Port, orders: Orders, members: Mapping[int, Iterable[str]], folder: str, *,
                  word: str = "", told: Callable[[str], None] = warn) -> None:
-        self.port, self.orders, self._word, self._told = port, orders, word, told
-        self.seats = {node: [Seat(os.path.join(folder, name)) for name in names] for node, names in members.items()}
+        super().__init__(orders, told)
+        self.port, self._word = port, word
+        os.makedirs(folder, exist_ok=True)
+        self._shelf = Shelf(os.path.join(folder, "starts.json"))
+        self.desks = [Desk(node, self._shelf, folder, names) for node, names in members.items()]
         self._absent: set[int] = set()
+        self._is_through = False
 
     def look(self) -> View:
-        """One look at `show` for all members: tells what they are to begin, confirms what they have begun, and
-        looks again where it confirmed something. Raises as `Member.look` does."""
-        while True:
+        """One look at `show` for all members: tells what they are to begin, confirms what they have begun, asks for
+        resets, and looks again where it ordered something. Raises as `Member.look` does."""
+        for _ in range(MOST_TURNS):
             view = self.port.show()
             rows = {row.node: row for row in view.nodes}
-            self._note_absent(set(self.seats) - set(rows))
-            due = [node for node in self.seats if node in rows and self._is_due(node, rows[node])]
-            for node in due:
-                confirm(self.orders, node, rows[node].epoch)
-                for seat in self.seats[node]:
-                    seat.note_confirmed()
-            if not due:
-                self._tell_runs(view)
+            self._note_absent({desk.node for desk in self.desks} - set(rows))
+            judged = self._judge(view, rows)
+            self._tell_members(view, judged)
+            if not self._order_what_is_due(judged):
                 return view
+        raise Away("there are new epochs each time that it looks")
 
     def follow(self, wakes: Wakes, every: float = LOOK_SECONDS) -> None:
         """Looks at each wake-up, by itself after so many seconds, when a member has begun, and after each time
-        that the coordinator was away."""
-        while True:
-            view = patiently(self.look, told=lambda away: self._told(f"{away}; tried again"))
-            is_through = not any(view.awaited(node) for node in self.seats)
-            if self._wait(wakes, every if is_through else min(every, 1.0)) is Wake.END:
+        that the coordinator was away, until nothing more will come or `stop` is called."""
+        while self._look_patiently() is not None:
+            waiting = [seat for desk in self.desks for seat in desk.waiting()]
+            if self._wait(wakes, every if self._is_through else min(every, 1.0),
+                          lambda: any(seat.has_begun for seat in waiting)) is Wake.END:
                 return
 
-    def _is_due(self, node: int, row: Node) -> bool:
-        """Whether all members of a node have begun its epoch, and that is to be confirmed."""
-        have_begun = [seat.update(row) for seat in self.seats[node]]
-        return all(have_begun) and row.epoch > row.confirmed
+    def _judge(self, view: View, rows: Mapping[int, Node]) -> list[Judged]:
+        """What is due at each node that is there; what has to be kept of it is on the disk."""
+        judged = [Judged(desk, rows[desk.node], desk.due(view, rows[desk.node])) for desk in self.desks if desk.node in rows]
+        for each in judged:
+            if each.due is Due.BEGIN:
+                each.desk.starts.note_begin(each.row.epoch)
+        self._shelf.keep()
+        self._is_through = len(judged) == len(self.desks) and all(each.due is Due.TALK for each in judged)
+        return judged
 
-    def _wait(self, wakes: Wakes, seconds: float) -> Wake:
-        """Waits for a wake-up, or for a member that has begun what it was told."""
-        until = time.monotonic() + seconds
-        waiting = [seat for seats in self.seats.values() for seat in seats if seat.waits and not seat.has_begun]
-        while (left := until - time.monotonic()) > 0:
-            wake = wakes.wait(min(left, POLL_SECONDS) if waiting else left)
-            if wake is not Wake.QUIET or any(seat.has_begun for seat in waiting):
-                return wake
-        return Wake.QUIET
+    def _tell_members(self, view: View, judged: list[Judged]) -> None:
+        """Tells members in which run they may talk, and what they are to begin."""
+        talking = {each.desk.node: each.row for each in judged if each.due is Due.TALK}
+        self._asked -= set(talking)
+        for desk in self.desks:
+            row = talking.get(desk.node)
+            desk.set_run(f"{row.epoch} {view.tag(desk.node, self._word)}\n" if row else None)
+        for each in judged:
+            if each.due is Due.BEGIN:
+                each.desk.want(each.row.epoch)
 
-    def _tell_runs(self, view: View) -> None:
-        for node, seats in self.seats.items():
-            row = view.node(node)
-            is_through = row is not None and not view.awaited(node) and not any(seat.waits for seat in seats)
-            for seat in seats:
-                seat.set_run(f"{row.epoch} {view.tag(node, self._word)}\n" if row and is_through else None)
+    def _order_what_is_due(self, judged: list[Judged]) -> bool:
+        """Confirms what was begun, and asks for a reset, one at a time, since it reaches others too. Whether there was
+        something to order."""
+        begun = [each for each in judged if each.desk.has_begun(each.row)]
+        self._confirm({each.desk.node: each.row.epoch for each in begun})
+        for each in begun:
+            each.desk.note_confirmed()
+        unfit = [each for each in judged if each.due is Due.RESET]
+        for each in unfit[:1]:
+            self._ask_reset(each.desk.node, each.desk.starts.why(each.row))
+        return bool(begun or unfit)
 
     def _note_absent(self, absent: set[int]) -> None:
         if absent != self._absent:
@@ -161,9 +212,9 @@ class Served:
         self._folder = folder
 
     def wanted(self) -> int | None:
-        """The epoch that is to be begun, None where the one that was told last has begun."""
-        wanted = files.read(os.path.join(self._folder, "wanted"))
-        if not wanted or wanted == files.read(os.path.join(self._folder, "begun")):
+        """The epoch that is to be begun, None where the one that was told last has begun, or was lost."""
+        wanted = self._read("wanted")
+        if not wanted or self._read("begun") in (wanted, f"lost {wanted}"):
             return None
         self._told = wanted
         return int(wanted.split()[0])
@@ -172,11 +223,20 @@ class Served:
         """Says that what `wanted` told last was begun, and stands with the work on the disk."""
         files.keep(os.path.join(self._folder, "begun"), self._told)
 
+    def has_lost(self) -> None:
+        """Says that the work of what was begun is gone: it is told to begin anew, after a reset where others have it."""
+        wanted = self._read("wanted")
+        if wanted and self._read("begun") == wanted:
+            files.keep(os.path.join(self._folder, "begun"), f"lost {wanted}")
+
     def tag(self) -> str | None:
         """The tag of the run that the group is in, None while somebody is not through."""
-        text = files.read(os.path.join(self._folder, "run"))
-        return text.split()[1] if text and self.wanted() is None else None
+        text = self._read("run")
+        return text.split()[1] if text and self._read("begun") == self._read("wanted") else None
 
     def wait(self) -> None:
         """A moment until the folder is looked at again."""
         time.sleep(POLL_SECONDS)
+
+    def _read(self, name: str) -> str | None:
+        return files.read(os.path.join(self._folder, name))

@@ -8,7 +8,8 @@ from dataclasses import dataclass
 
 from . import files
 from .answers import Away, NotNow
-from .port import Port
+from .port import Port, patiently
+from .signal_lag import Signals
 from .view import View
 
 
@@ -28,6 +29,7 @@ class Bounds:
     steps: float = 5.0
     wave: float = 5.0
     unconfirmed: float = 60.0
+    signals: float = 5.0
 
 
 @dataclass(frozen=True)
@@ -64,15 +66,18 @@ class Since:
             return {}
 
 
-def check(port: Port, since: Since, bounds: Bounds) -> Health:
-    """Looks once, and says what is wrong; where there was no view, what had lasted goes on. Raises NotTaken."""
+def check(port: Port, since: Since, bounds: Bounds, patience: float = 0.0, signals: Signals | None = None) -> Health:
+    """Looks, and says what is wrong; where there was no view for so many seconds, what had lasted goes on. Raises
+    NotTaken."""
     try:
-        view = port.show()
+        view = patiently(port.show, patience)
     except NotNow as not_now:
         return Health(Level.CRITICAL, (f"the server answers {not_now.name}",), not_now.name == "Stopped")
     except Away as away:
         return Health(Level.CRITICAL, (f"no answer: {away}",))
     found = findings(view, since, bounds)
+    if signals:
+        found += missing_signals(view, signals, since, bounds)
     since.keep()
     return Health(Level.WARNING if found else Level.OK, tuple(found))
 
@@ -94,6 +99,21 @@ def findings(view: View, since: Since, bounds: Bounds) -> list[str]:
             if lasted >= bounds.unconfirmed:
                 found.append(f"epoch {node.epoch} of node {node.node} is unconfirmed for {lasted:.0f} s")
     return found
+
+
+def missing_signals(view: View, signals: Signals, since: Since, bounds: Bounds) -> list[str]:
+    """What the file of signals has lacked for longer than its bound."""
+    try:
+        lacking = signals.lacking(view)
+    except OSError as fault:
+        return [f"the file of signals {fault.filename}: {fault.strerror}"]
+    lasted = {signal: since.seconds("unsignalled {} {}".format(*signal)) for signal in lacking}
+    late = [signal for signal in lacking if lasted[signal] >= bounds.signals]
+    if not late:
+        return []
+    more = f" and {len(late) - 1} more" if len(late) > 1 else ""
+    return ["the file of signals lacks `signal {} {}`{} for {:.0f} s: the server can't print, services learn of a reset by "
+            "looking alone; make room and start it again".format(*late[0], more, lasted[late[0]])]
 
 
 def metrics(view: View | None, is_stopped: bool) -> str:

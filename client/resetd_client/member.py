@@ -2,25 +2,24 @@
 
 from __future__ import annotations
 
-from collections.abc import Callable
+import os
+import threading
+from collections.abc import Callable, Iterator
+from contextlib import contextmanager
 from dataclasses import dataclass
 
-from .answers import Away, Refusal, Refused
+from .answers import Away
+from .following import Following
 from .orders import Orders, warn
-from .port import Port, patiently
+from .port import Port
 from .signals import Wake, Wakes
+from .starts import Due, Shelf, Starts
 from .view import Node, View
 
 LOOK_SECONDS = 30.0
 FIRST_WAIT = 0.1  # seconds between looks while others are not through; some 2 seconds in the end
-MOST_TURNS = 100  # of one look: each begins or confirms an epoch that is new
-
-
-def has_to_begin(row: Node, begun: int | None) -> bool:
-    """Whether a service that has begun this epoch (None: nothing yet) is to begin the shown one. It is where the
-    two differ, higher or lower, and where the shown one is above the confirmed one: then nobody knows that it was
-    begun for this reset, and beginning twice does no harm."""
-    return row.epoch != begun or row.epoch > row.confirmed
+SOON = -7  # looks after its own reset, which is over in some milliseconds, before that first wait
+MOST_TURNS = 100  # of one look: each begins or confirms an epoch that is new, or asks for a reset
 
 
 @dataclass(frozen=True)
@@ -31,86 +30,122 @@ class Run:
     tag: str
 
 
-class Member:
+class OutOfRun(Exception):
+    """No run is on, or the message is of another one: it is not to be taken, and its connection is to be closed."""
+
+
+class Member(Following):
     """Looks at `show` whenever it is woken, and never trusts what woke it.
 
     `begin` is called with an epoch: it drops all work in hand and whatever is open to other members, loads the
     common start, keeps it with the epoch, and returns only once that is on the disk. `begun` is the epoch that
-    stands with the work, None for no work.
+    stands with the work, None for no work. Beside the work stands a file of the member's own, `start-NODE.json` in
+    the folder of its orders: it is kept as long as the work, and moved with it.
+
+    One thread follows; any others work `in_run`.
     """
 
     def __init__(self, port: Port, orders: Orders, node: int, begun: int | None, begin: Callable[[int], None], *,
                  word: str = "", told: Callable[[str], None] = warn) -> None:
-        self.port, self.orders, self.node, self.begun = port, orders, node, begun
-        self.run: Run | None = None
-        self._begin, self._word, self._told = begin, word, told
+        super().__init__(orders, told)
+        self.port, self.node = port, node
+        self._shelf = Shelf(os.path.join(orders.folder, f"start-{node}.json"))
+        self._starts = Starts(self._shelf, node, begun)
+        self._begin, self._word = begin, word
+        self._run: Run | None = None
+        self._changes = threading.Condition(threading.RLock())  # over the run, and the work that belongs to it
         self._is_there = True
+        self._is_doubted = False  # a message of another run came
         self._waits = 0  # looks in a row that did not find the group through
 
+    @property
+    def begun(self) -> int | None:
+        """The epoch of the work in hand, None for no work."""
+        return self._starts.begun
+
+    @property
+    def run(self) -> Run | None:
+        """The run that the group is in, None while somebody is not through. It may be over as soon as it is read:
+        what changes the work is done `in_run`."""
+        return self._run
+
+    @contextmanager
+    def in_run(self, tag: str | None = None, wait: float = 0.0) -> Iterator[Run]:
+        """Holds off a begin while work of the run changes, and every other `in_run`. With a tag, that of a message,
+        only where it is this run's. Raises OutOfRun, where no run is on after so many seconds too; at another tag
+        `follow` looks, since this run may be over. The body is short, and does not wait for others."""
+        with self._changes:
+            if not self._changes.wait_for(lambda: self._run is not None, wait):
+                raise OutOfRun("no run is on")
+            run = self._run
+            if run is None or tag not in (None, run.tag):
+                self._is_doubted = True
+                raise OutOfRun(f"{tag} is another run")
+            yield run
+
     def look(self) -> View:
-        """Asks `show`, begins anew and confirms until there is nothing more to do, and answers the last view.
-        `run` is then the run that the group is in, or None while somebody is not through. Raises Away where it is
-        to be called again, and Refused or Faulted where a person is needed."""
+        """Asks `show`, begins anew, confirms and asks for resets until there is nothing more to do, and answers the
+        last view. `run` is then the run that the group is in, or None while somebody is not through. Raises Away
+        where it is to be called again, and Refused or Faulted where a person is needed."""
         for _ in range(MOST_TURNS):
             view = self.port.show()
             row = view.node(self.node)
             self._note_presence(row is not None)
-            if row is None:
-                self.run = None
-                return view
-            if not self._advance(row):
-                self.run = run_of(view, row, self._word)
+            if row is None or not self._advance(view, row):
                 return view
         raise Away(f"node {self.node} has a new epoch each time it is looked at")
 
     def follow(self, wakes: Wakes, every: float = LOOK_SECONDS, after: Callable[[View], None] | None = None) -> None:
         """Looks at once, at each wake-up, by itself after so many seconds, and after each time that the
-        coordinator was away, until nothing more will come. `after` hears each view."""
-        while True:
-            view = patiently(self.look, told=lambda away: self._told(f"node {self.node}: {away}; tried again"))
+        coordinator was away, until nothing more will come or `stop` is called. `after` hears each view."""
+        while (view := self._look_patiently()) is not None:
             if after:
                 after(view)
-            if wakes.wait(self.wait_seconds(every)) is Wake.END:
+            if self._wait(wakes, self.wait_seconds(every), lambda: self._is_doubted) is Wake.END:
                 return
+            self._is_doubted = False
 
     def wait_seconds(self, every: float) -> float:
         """How long to wait for a wake-up: less while the group is not through, since nothing wakes a member when
         another one confirms; longer each time, since a member that is down holds the others."""
-        if self.run is not None or not self._is_there:
+        if self._run is not None or not self._is_there:
             self._waits = 0
             return every
         self._waits += 1
         return min(every, FIRST_WAIT * 1.3 ** min(self._waits, 12))
 
-    def _advance(self, row: Node) -> bool:
-        """Begins the shown epoch where that is due, and confirms it where it is above the confirmed one. Whether
-        there was something to do."""
-        if not has_to_begin(row, self.begun):
+    def _advance(self, view: View, row: Node) -> bool:
+        """Does what the view asks for. Whether it has to be looked at again."""
+        due = self._starts.due(view, row)
+        self._shelf.keep()
+        self._set_run(Run(row.epoch, view.tag(row.node, self._word)) if due is Due.TALK else None)
+        if due is Due.TALK:
+            self._asked.clear()
+        if due is Due.BEGIN:
+            self._begin_anew(row)
+        elif due is Due.RESET:
+            self._ask_reset(self.node, self._starts.why(row))
+        else:
             return False
-        self.run, self._waits = None, 0
-        self._begin(row.epoch)
-        self.begun = row.epoch
-        if row.epoch > row.confirmed:
-            confirm(self.orders, self.node, row.epoch)
+        self._waits = SOON if due is Due.RESET else 0
         return True
+
+    def _begin_anew(self, row: Node) -> None:
+        with self._changes:
+            self._starts.note_begin(row.epoch)
+            self._shelf.keep()
+            self._begin(row.epoch)
+            self._starts.note_begun(row.epoch)
+        self._confirm({self.node: row.epoch})
+
+    def _set_run(self, run: Run | None) -> None:
+        with self._changes:
+            self._run = run
+            self._changes.notify_all()
 
     def _note_presence(self, is_there: bool) -> None:
         if is_there != self._is_there:
             self._told(f"node {self.node} is {'there again' if is_there else 'not there'}")
+        if not is_there:
+            self._set_run(None)
         self._is_there = is_there
-
-
-def confirm(orders: Orders, node: int, epoch: int) -> None:
-    """Confirms an epoch. That it was confirmed before, or that the node has gone or went back meanwhile, is no
-    fault: the next look sees it. Raises Away, and Refused for all else."""
-    try:
-        patiently(lambda: orders.order("confirm", node=node, epoch=epoch))
-    except Refused as refused:
-        if refused.refusal not in (Refusal.BAD_EPOCH, Refusal.UNKNOWN_NODE):
-            raise
-
-
-def run_of(view: View, row: Node, word: str = "") -> Run | None:
-    """The run that a node's group is in: None while one of the connected nodes is in a reset, or has an epoch that
-    was not confirmed."""
-    return None if view.awaited(row.node) else Run(row.epoch, view.tag(row.node, word))

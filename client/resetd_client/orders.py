@@ -6,16 +6,21 @@ import itertools
 import json
 import os
 import sys
-from collections.abc import Callable, Iterator
+from collections.abc import Callable, Iterator, Sequence
+from dataclasses import dataclass, field
 from typing import Any
 
 from . import files
-from .answers import Garbled, Refusal, Refused, Reply, reply_of
-from .port import Port
+from .answers import CARRIED_OUT, Faulted, Garbled, NotTaken, Outcome, Refusal, Refused, Reply, reply_of
+from .port import AT_ONCE, Port, line_of
+
+Order = dict[str, Any]
 
 CLIENTS = range(1, 17)
 MOST_TRIED = 200_000  # numbers, where a lost count is looked for: some seconds
 FIRST_PROBES, PROBES = 4, 1_024  # of them over one connection, the first and the others
+MOST_RECOVERIES = 3  # of the count for one series: others may order as the same client meanwhile
+MOST_NUMBER = (1 << 64) - 1
 NEXT_IS = frozenset({Refusal.BAD_EPOCH, Refusal.UNKNOWN_NODE})
 
 
@@ -32,12 +37,29 @@ def warn(text: str) -> None:
     print(f"resetd_client: {text}", file=sys.stderr, flush=True)
 
 
-class Orders:
-    """The orders of one client, whose folder keeps the order that was sent last.
+@dataclass
+class Series:
+    """Orders that are carried out one after the other, and what came of them so far."""
 
-    It is written down, with its number, before it is sent, so that after any failure it is sent again with the
-    same number and is carried out once. A folder is held by one process at a time, and no two folders may be of
-    one client. Where the folder has no order yet, the client's count is looked for before the first one.
+    wanted: list[Order]
+    outcomes: list[Outcome] = field(default_factory=list)
+    recoveries: int = 0
+
+    @property
+    def rest(self) -> list[Order]:
+        return self.wanted[len(self.outcomes):]
+
+    @property
+    def is_over(self) -> bool:
+        return not self.rest or bool(self.outcomes) and isinstance(self.outcomes[-1], NotTaken)
+
+
+class Orders:
+    """The orders of one client, whose folder keeps those that were sent last.
+
+    They are written down, with their numbers, before they are sent, so that after any failure they are sent again
+    with the same numbers and each is carried out once. A folder is held by one process at a time, and no two folders
+    may be of one client. Where the folder has no order yet, the client's count is looked for before the first one.
     """
 
     def __init__(self, port: Port, client: int, folder: str, *, recovers: bool = False, held_seconds: float = 0.0,
@@ -47,21 +69,24 @@ class Orders:
         if client not in CLIENTS:
             raise ValueError(f"{client} is no client: clients are 1 to {CLIENTS[-1]}")
         self.port, self.client, self.recovers, self.told = port, client, recovers, told
+        self.folder = folder
         self._lock = files.hold(folder, held_seconds)
         self._path = os.path.join(folder, "order.json")
         text = files.read(self._path)
-        self._is_known = text is not None
-        self._number, self._is_answered, self._order = self._read(text) if text else (0, True, {})
+        self._is_known = text is not None  # whether there is a count
+        self._is_proved = False  # whether an answer to this process was of the count
+        self._number, self._pending = self._read(text) if text else (0, [])
+        self._series: Series | None = None
 
     @property
     def number(self) -> int:
         """The number of the last order that was sent and not refused."""
-        return self._number
+        return self._number + len(self._pending)
 
     @property
-    def unanswered(self) -> dict[str, Any] | None:
-        """The order that was sent and has no answer yet."""
-        return None if self._is_answered else self._order
+    def unanswered(self) -> list[Order]:
+        """The orders that were sent and have no answer yet."""
+        return list(self._pending)
 
     def close(self) -> None:
         """Lets the folder go."""
@@ -81,80 +106,143 @@ class Orders:
         Raises Away where it is to be called again with the same order, CountLost, and Refused or Faulted, of
         which the number is free for the next order.
         """
-        order: dict[str, Any] = {"op": op, **members}
-        if not self._is_known:
-            self.recover()
-        if not self._is_answered:
-            was_this, reply = self._order == order, self._settled_before()
-            if was_this and reply is not None:
-                return reply
-        try:
-            return self._fresh(order, above)
-        except CountLost as lost:
-            if not self.recovers:
-                raise
-            self.told(f"client {self.client}: {lost} at number {self._number + 1}: its count is looked for")
-        self.recover()
-        return self._fresh(order, above)
+        [outcome] = self.order_all([{"op": op, **members}], above=above)
+        if isinstance(outcome, NotTaken):
+            raise outcome
+        return outcome
 
-    def settle(self) -> Reply | None:
-        """Sends the order again that has no answer, where there is one. Raises as `order` does."""
-        return None if self._is_answered else self._sent()
+    def order_all(self, orders: Sequence[Order], *, above: int = 0) -> list[Outcome]:
+        """Carries out orders, in this order and each once; those behind the first are sent together. Answers what
+        came of each, up to the first that was refused (or is a fault), that one too: nothing behind it was carried
+        out. Where a reply was lost, CARRIED_OUT stands for it.
+
+        Raises Away where it is to be called again with the same orders: it then goes on. Raises CountLost.
+        """
+        if self._series is None or self._series.wanted != [dict(order) for order in orders]:
+            self._series = Series([dict(order) for order in orders])
+        for order in self._series.wanted:
+            line_of(self._request(MOST_NUMBER, order))  # one that is too long is not written down
+        series = self._series
+        try:
+            while not series.is_over:
+                self._go_on(series, above)
+        except CountLost:
+            self._series = None
+            raise
+        self._series = None
+        return series.outcomes
+
+    def settle(self) -> list[Outcome]:
+        """Sends the orders again that have no answer, and answers what came of each, as `order_all` does."""
+        series = Series(self.unanswered)
+        while self._pending:
+            self._send(series, 0)
+        return series.outcomes
 
     def recover(self, most: int = MOST_TRIED) -> int:
         """Finds the number of this client's last order, writes it down, and answers it. An order without an
         answer is given up: whether it was carried out, `show` tells. Raises CountNotFound, and Away."""
-        number = find_count(self.port, self.client, self._number, most)
-        if self._is_known:
-            self.told(f"client {self.client}: the last order had number {number}, and not {self._number}")
-        self._note(number, True, {})
+        number = find_count(self.port, self.client, self.number, most)
+        if self._is_known and number != self.number:
+            self.told(f"client {self.client}: the last order had number {number}, and not {self.number}")
+        self._note(number, [])
         return number
 
-    def _settled_before(self) -> Reply | None:
-        """The reply to the order that has no answer. None where it was refused: it is told, and given up."""
-        order, number = self._order, self._number
+    def _go_on(self, series: Series, above: int) -> None:
+        """Sends the next orders of a series, once a count is known and no other orders are without an answer."""
+        if not self._is_known:
+            self.recover()
+        rest = series.rest[:AT_ONCE if self._is_proved else 1]
+        if self._pending and self._pending != series.rest[:len(self._pending)]:
+            self._settle_others()
+        had_no_answer = " had no answer, and now" if self._pending else ""
+        if not self._pending:
+            self._note(self._number, rest)
         try:
-            return self._sent()
+            self._send(series, above)
+        except CountLost as lost:
+            if not self.recovers or series.recoveries >= MOST_RECOVERIES:
+                raise
+            series.recoveries += 1
+            self.told(f"client {self.client}: number {self._number + 1}{had_no_answer} is {lost}: its count is looked for")
+            self.recover()
+
+    def _settle_others(self) -> None:
+        """Sends orders again that are not those of now. Where one is refused it is told, and given up."""
+        others, number = self.unanswered, self._number + 1
+        try:
+            for outcome in self.settle():
+                if isinstance(outcome, NotTaken):
+                    self.told(f"client {self.client}: {others}, from number {number}, had no answer, and now {outcome}")
         except CountLost as lost:
             if not self.recovers:
                 raise
-            self.told(f"client {self.client}: {order}, number {number}, had no answer and is now {lost}")
+            self.told(f"client {self.client}: {others}, from number {number}, had no answer, and now {lost}: given up")
             self.recover()
-        except Refused as refused:
-            self.told(f"client {self.client}: {order} had no answer and is now refused: {refused}")
-        return None
 
-    def _fresh(self, order: dict[str, Any], above: int) -> Reply:
-        number = self._number + 1
-        self._note(number, False, order)
-        reply = self._sent()
-        if reply.step <= above:
-            raise CountLost(Refusal.NUMBER_REUSED, f"NumberReused (step {reply.step} was there before)")
-        return reply
-
-    def _sent(self) -> Reply:
-        """Sends the order that is written down. A refused order's number is free."""
-        number, order = self._number, self._order
+    def _send(self, series: Series, above: int) -> None:
+        """Sends what is written down, and notes what comes of each. An order's number is taken where it, or one
+        behind it, is answered by more than OutOfTurn: so an OutOfTurn before that is of an order that was carried
+        out before. One that was not taken leaves its number, and those behind it, free."""
+        number, pending, done = self._number, self._pending, list[Outcome]()
+        requests = [self._request(number + 1 + place, order) for place, order in enumerate(pending)]
         try:
-            reply = reply_of(self.port.ask({**order, "client": self.client, "number": number}))
-        except Refused as refused:
-            if refused.refusal in (Refusal.OUT_OF_TURN, Refusal.NUMBER_REUSED):
-                raise CountLost(refused.number, refused.name) from refused
-            self._note(number - 1, True, order)
-            raise
-        self._note(number, True, order)
-        return reply
+            for place, answer in enumerate(self.port.ask_many(requests)):
+                if isinstance(answer, Refused) and answer.refusal is Refusal.OUT_OF_TURN:
+                    continue
+                outcome = outcome_of(answer, above)
+                is_of_the_count = not isinstance(outcome, Faulted)
+                if place > len(done) and not is_of_the_count:
+                    break
+                self._is_proved = self._is_proved or is_of_the_count
+                done += [CARRIED_OUT] * (place - len(done)) + [outcome]
+                if isinstance(outcome, NotTaken):
+                    pending = pending[:len(done)]
+                    break
+            if len(done) < len(pending):
+                raise CountLost(Refusal.OUT_OF_TURN, "OutOfTurn")
+        finally:
+            self._note(number + sum(isinstance(outcome, Reply) for outcome in done), pending[len(done):])
+            series.outcomes += done
 
-    def _note(self, number: int, is_answered: bool, order: dict[str, Any]) -> None:
-        self._number, self._is_answered, self._order, self._is_known = number, is_answered, order, True
-        files.keep(self._path, json.dumps({"number": number, "answered": is_answered, "order": order}))
+    def _request(self, number: int, order: Order) -> Order:
+        return {**order, "client": self.client, "number": number}
 
-    def _read(self, text: str) -> tuple[int, bool, dict[str, Any]]:
+    def _note(self, number: int, pending: list[Order]) -> None:
+        """Writes down the number of the last order that was taken, and those behind it that are sent."""
+        is_new = not self._is_known or (number, pending) != (self._number, self._pending)
+        self._number, self._pending, self._is_known = number, pending, True
+        if is_new:
+            first = pending[0] if pending else {}
+            behind = {"behind": pending[1:]} if len(pending) > 1 else {}
+            files.keep(self._path, json.dumps(
+                {"number": number + bool(pending), "answered": not pending, "order": first, **behind}))
+
+    def _read(self, text: str) -> tuple[int, list[Order]]:
         try:
             kept = json.loads(text)
-            return int(kept["number"]), bool(kept["answered"]), dict(kept["order"])
+            if bool(kept["answered"]):
+                return int(kept["number"]), []
+            return int(kept["number"]) - 1, [dict(order) for order in [kept["order"], *kept.get("behind", [])]]
         except (ValueError, KeyError, TypeError) as fault:
             raise ValueError(f"{self._path} does not read as an order: remove it, and the count is found") from fault
+
+
+def outcome_of(answer: dict[str, Any] | NotTaken, above: int) -> Outcome:
+    """What came of an order. Raises CountLost where the answer is of another order, and what says neither that the
+    order was carried out nor that it was not."""
+    if isinstance(answer, Refused):
+        if answer.refusal is Refusal.NUMBER_REUSED:
+            raise CountLost(answer.number, answer.name) from answer
+        return answer
+    if isinstance(answer, NotTaken):
+        if isinstance(answer, Faulted) and answer.fault is not None:
+            return answer
+        raise answer
+    reply = reply_of(answer)
+    if reply.step <= above:
+        raise CountLost(Refusal.NUMBER_REUSED, f"NumberReused (step {reply.step} was there before)")
+    return reply
 
 
 def find_count(port: Port, client: int, near: int = 0, most: int = MOST_TRIED) -> int:

@@ -20,6 +20,10 @@ AT_ONCE = 64  # lines that are sent before their answers are read: neither side 
 REPLY_SECONDS = 20.0  # a server serves one connection at a time, and ends one that is silent
 
 
+class TooLong(ValueError):
+    """A request that no line can hold: it was not sent."""
+
+
 class Port:
     """Asks a coordinator, one connection after the other, each closed at once: the port serves one at a time.
 
@@ -35,7 +39,7 @@ class Port:
 
     def ask(self, request: Request) -> dict[str, Any]:
         """The members of the answer to one request. Raises Away (NotNow is one), or NotTaken."""
-        return self._at_one(lambda address: members_of(self._answer(address, request)))
+        return self._at_one(lambda address: members_of(self._answer(address, request), name_of(address)))
 
     def raw(self, request: Request) -> str:
         """The line that answers one request, whatever it says. Raises Away where none came."""
@@ -59,41 +63,48 @@ class Port:
             raise Garbled("close")
 
     def ask_many(self, requests: Sequence[Request]) -> Iterator[dict[str, Any] | NotTaken]:
-        """The answers to many requests, in their order, over few connections: a server may end one between two
-        lines, and then the rest goes on over the next. Where nothing is answered over one, raises Away."""
+        """The answers to many requests, in their order, over few connections, each part in one write: a server may
+        end a connection between two lines, and then the rest goes on over the next. Where nothing is answered over
+        one, or "not now", raises Away."""
         done = 0
         while done < len(requests):
-            before = done
-            with self._connected() as connection:
-                for answer in self._spoken(connection, requests[done:]):
-                    done += 1
-                    yield answer
-            if done == before:
-                raise Away("no answer came")
+            rest = requests[done:]
+            for answer in self._at_one(lambda address: self._answers(address, rest)):
+                done += 1
+                yield answer
 
-    def _spoken(self, connection: socket.socket, requests: Sequence[Request]) -> Iterator[dict[str, Any] | NotTaken]:
-        """The answers over one connection, as far as they come."""
-        for place in range(0, len(requests), AT_ONCE):
-            part = requests[place:place + AT_ONCE]
-            came = 0
-            for line in spoken(connection, part):
-                came += 1
+    def _answers(self, address: tuple[str, int], requests: Sequence[Request]) -> list[dict[str, Any] | NotTaken]:
+        """The answers over one connection, at least one, as far as they come and are not "not now"."""
+        answers: list[dict[str, Any] | NotTaken] = []
+        try:
+            for line in self._lines(address, requests):
                 try:
-                    yield members_of(line)
+                    answers.append(members_of(line, name_of(address)))
                 except NotTaken as not_taken:
-                    yield not_taken
-            if came < len(part):
-                return
-
-    def _connected(self) -> socket.socket:
-        return self._at_one(lambda address: connected(address, self.seconds))
+                    answers.append(not_taken)
+        except Away:
+            if not answers:
+                raise
+        return answers
 
     def _answer(self, address: tuple[str, int], request: Request) -> str:
         """The line that answers one request, over a connection of its own."""
+        return next(self._lines(address, [request]))
+
+    def _lines(self, address: tuple[str, int], requests: Sequence[Request]) -> Iterator[str]:
+        """The lines that answer requests over one connection. Where not all come, raises Away behind the last."""
         with connected(address, self.seconds) as connection:
-            for line in spoken(connection, [request]):
-                return line
-        raise Away(f"{address[0]}:{address[1]}: no answer came")
+            for place in range(0, len(requests), AT_ONCE):
+                part = requests[place:place + AT_ONCE]
+                began, came = time.monotonic(), 0
+                for line in spoken(connection, part):
+                    came += 1
+                    yield line
+                if came < len(part):
+                    is_silent = time.monotonic() - began >= self.seconds
+                    raise Away(f"{name_of(address)}: " + (
+                        f"connected, and no answer for {self.seconds:g} s: another client may keep the one connection"
+                        if is_silent else "it ended the connection without an answer"))
 
     def _at_one(self, call: Callable[[tuple[str, int]], T]) -> T:
         """What a call gives at the first address that answers. Raises what the last one raised; where one of them
@@ -122,6 +133,10 @@ def address_of(text: str) -> tuple[str, int]:
     return host, int(port)
 
 
+def name_of(address: tuple[str, int]) -> str:
+    return f"{address[0]}:{address[1]}"
+
+
 def connected(address: tuple[str, int], seconds: float) -> socket.socket:
     """A connection. Raises Away."""
     try:
@@ -129,7 +144,7 @@ def connected(address: tuple[str, int], seconds: float) -> socket.socket:
         connection.settimeout(seconds)
         connection.setsockopt(socket.IPPROTO_TCP, socket.TCP_NODELAY, 1)
     except OSError as fault:
-        raise Away(f"{address[0]}:{address[1]}: {fault}") from fault
+        raise Away(f"{name_of(address)}: {fault.strerror or fault}") from fault
     return connection
 
 
@@ -156,10 +171,10 @@ def spoken(connection: socket.socket, requests: Sequence[Request]) -> Iterator[s
 
 
 def line_of(request: Request) -> bytes:
-    """The line of a request. Raises ValueError where it would be too long to be read."""
+    """The line of a request. Raises TooLong."""
     line = json.dumps(dict(request), separators=(",", ":")).encode() + b"\n"
     if len(line) > MOST_BYTES + 1:
-        raise ValueError(f"a line has at most {MOST_BYTES} bytes")
+        raise TooLong(f"a line has at most {MOST_BYTES} bytes, and these words make {len(line) - 1}")
     return line
 
 

@@ -3,7 +3,6 @@
 from __future__ import annotations
 
 import hashlib
-import json
 from collections.abc import Mapping
 from dataclasses import dataclass
 from typing import Any, NamedTuple
@@ -82,8 +81,15 @@ class View:
         """Of the connected nodes, those that are not through: in a reset, or begun and not confirmed."""
         return tuple(node for node in self.connected(number) if not node.is_begun)
 
+    def party(self, number: int) -> frozenset[str]:
+        """Who is connected with a node, each with its epoch, and by which links: what a run is made of."""
+        nodes = self.connected(number)
+        ids = {node.node for node in nodes}
+        return frozenset(f"{node.node} {node.epoch}" for node in nodes) | frozenset(
+            f"{link.a} {link.b} {link.incarnation}" for link in self.links if link.a in ids)
+
     def tag(self, number: int, word: str = "") -> str:
-        """A digest of node and epoch of all connected nodes: the name of the run that they are in. `word` is one
-        that the whole group shares; a new one gives new names where epochs went back."""
-        told = json.dumps([word, [[node.node, node.epoch] for node in self.connected(number)]])
-        return hashlib.sha256(told.encode()).hexdigest()[:32]
+        """A digest of the party, a line each in the order of their bytes: the name of the run that it is in. `word`
+        is one that the whole group shares; where it is not empty, it is the first line."""
+        told = [word] * bool(word) + sorted(self.party(number))
+        return hashlib.sha256("".join(f"{line}\n" for line in told).encode()).hexdigest()[:32]

@@ -1,43 +1,45 @@
-"""A coordinator in memory for tests of the library: its numbers and refusals, and resets that are over at once."""
+"""A coordinator in memory for tests of the library: it judges lines, numbers and orders as the program does
+(`test_fake.py` compares the two), and its resets are over at once."""
 
 from __future__ import annotations
 
 import json
-import socket
-import threading
 from typing import Any
 
-NAMES = {1: "Stopped", 4: "OutOfTurn", 5: "NumberReused", 6: "UnknownNode", 7: "NodeExists", 8: "HasLinks",
-         11: "LinkExists", 12: "NoLink", 13: "DegreeFull", 15: "BadEpoch", 20: "PendingFull"}
+from wire import MOST_BYTES, Wire
+
+NAMES = {1: "Stopped", 4: "OutOfTurn", 5: "NumberReused", 6: "UnknownNode", 7: "NodeExists", 8: "HasLinks", 9: "SameNode",
+         10: "OtherGroup", 11: "LinkExists", 12: "NoLink", 13: "DegreeFull", 14: "LinksFull", 15: "BadEpoch",
+         20: "PendingFull"}
+MEMBERS = {"add": ("node", "group"), "remove": ("node",), "reset": ("node",), "join": ("a", "b"), "drop": ("a", "b"),
+           "confirm": ("node", "epoch")}
+WORD = range(1 << 64)
+RANGES = {"client": range(1, 17), "number": WORD, "node": range(1, 65), "group": range(1, 17), "a": range(1, 65),
+          "b": range(1, 65), "epoch": WORD}
 
 
 class Refuse(Exception):
     """An order is refused."""
 
 
-class Fake:
-    """Serves one connection after the other on a port of its own. `faults` are what it does with the next lines:
-    `lose` (nothing of it happens, and no answer comes), `mute` (it happens, and no answer comes), or a text to be
-    answered instead."""
+class Wrong(Exception):
+    """A line is no request."""
+
+
+class Fake(Wire):
+    """The world is in plain attributes, which a test may write."""
+
+    is_real = False
 
     def __init__(self) -> None:
         self.nodes: dict[int, list[int]] = {}  # group, epoch, confirmed
         self.links: dict[tuple[int, int], int] = {}
         self.sessions: dict[int, tuple[int, dict[str, Any], dict[str, Any]]] = {}
-        self.steps, self.is_stopped, self.lines_each = 0, False, 1 << 30
-        self.faults: list[str] = []
-        self.seen: list[dict[str, Any]] = []
-        self._listener = socket.create_server(("127.0.0.1", 0))
-        self.address = "127.0.0.1:{}".format(self._listener.getsockname()[1])
-        threading.Thread(target=self._serve, daemon=True).start()
-
-    def close(self) -> None:
-        # a thread that accepts keeps the socket open: it is woken first
-        self._listener.shutdown(socket.SHUT_RDWR)
-        self._listener.close()
+        self.steps = 0
+        super().__init__()
 
     def ring(self, nodes: int) -> None:
-        """A ring of nodes, made without orders."""
+        """A row of linked nodes, made without orders."""
         for node in range(1, nodes + 1):
             self.nodes[node] = [1, 0, 0]
         for node in range(1, nodes):
@@ -45,20 +47,34 @@ class Fake:
             self.links[(node, node + 1)] = self.steps
         self.steps += nodes
 
-    def copy(self) -> dict[str, Any]:
+    def row(self, node: int) -> list[int]:
+        """A node's group, epoch and confirmed epoch."""
+        return self.nodes[node]
+
+    def last(self, client: int) -> int:
+        """The number of a client's last order."""
+        return self.sessions[client][0] if client in self.sessions else 0
+
+    def pairs(self) -> list[tuple[int, int]]:
+        return sorted(self.links)
+
+    def settled(self) -> None:
+        """Waits until no reset is at any node: here they are over at once."""
+
+    def copy(self) -> Any:
         """What a copy of the store would have."""
-        copy: dict[str, Any] = json.loads(json.dumps({
+        return json.loads(json.dumps({
             "nodes": list(self.nodes.items()), "links": [[*k, v] for k, v in self.links.items()],
             "sessions": list(self.sessions.items()), "steps": self.steps}))
-        return copy
 
-    def restore(self, copy: dict[str, Any]) -> None:
+    def restore(self, copy: Any) -> None:
         self.nodes = {int(node): list(row) for node, row in copy["nodes"]}
         self.links = {(a, b): inc for a, b, inc in copy["links"]}
         self.sessions = {int(client): (last, order, reply) for client, (last, order, reply) in copy["sessions"]}
         self.steps = copy["steps"]
 
     def reset(self, node: int) -> None:
+        """A reset that somebody else asked for."""
         reached, rest = {node}, [node]
         while rest:
             at = rest.pop()
@@ -69,8 +85,15 @@ class Fake:
         for each in reached:
             self.nodes[each][1] += 1
 
+    def respond(self, line: bytes) -> str:
+        try:
+            answer = self.answer(request_of(line))
+        except Wrong as wrong:
+            answer = {"fault": str(wrong)}
+        return json.dumps(answer, separators=(",", ":"))
+
     def answer(self, request: dict[str, Any]) -> dict[str, Any]:
-        op = request.get("op")
+        op = request["op"]
         if op == "show" and not self.is_stopped:
             return {"accepted": self.steps, "links": [[a, b, inc] for (a, b), inc in sorted(self.links.items())],
                     "nodes": [[n, g, "ready", 0, e, c] for n, (g, e, c) in sorted(self.nodes.items())],
@@ -79,8 +102,6 @@ class Fake:
             return {"count": 0, "kind": "resent"}
         if op == "close":
             return {"kind": "closed"}
-        if op not in ("show", "add", "remove", "join", "drop", "reset", "confirm"):
-            return {"fault": "UnknownOp"}
         try:
             return self._order(request)
         except Refuse as refused:
@@ -127,44 +148,57 @@ class Fake:
             row[2] = order["epoch"]
         else:
             self.reset(node)
-            return "started"
+            return "started" if any(node in link for link in self.links) else "finished"
         return "done"
 
     def _link(self, op: str, a: int, b: int) -> str:
         if a not in self.nodes or b not in self.nodes:
             raise Refuse(6)
-        if ((a, b) in self.links) != (op == "drop"):
-            raise Refuse(11 if op == "join" else 12)
+        if a == b:
+            raise Refuse(9)
         if op == "drop":
+            if (a, b) not in self.links:
+                raise Refuse(12)
             del self.links[(a, b)]
             return "done"
+        if self.nodes[a][0] != self.nodes[b][0]:
+            raise Refuse(10)
+        if (a, b) in self.links:
+            raise Refuse(11)
         if any(sum(end in link for link in self.links) >= 16 for end in (a, b)):
             raise Refuse(13)
+        if len(self.links) >= 128:
+            raise Refuse(14)
         self.links[(a, b)] = self.steps + 1
         return "done"
 
-    def _serve(self) -> None:
-        while True:
-            try:
-                connection, _ = self._listener.accept()
-            except OSError:
-                return
-            try:
-                with connection, connection.makefile("rb") as lines:
-                    self._serve_lines(connection, lines)
-            except OSError:
-                pass
 
-    def _serve_lines(self, connection: socket.socket, lines: Any) -> None:
-        for served, line in enumerate(lines):
-            if served >= self.lines_each:
-                return
-            request = json.loads(line)
-            self.seen.append(request)
-            fault = self.faults.pop(0) if self.faults else ""
-            if fault == "lose":
-                return
-            text = json.dumps(self.answer(request), separators=(",", ":")) if fault in ("", "mute") else fault
-            if fault == "mute":
-                return
-            connection.sendall(text.encode() + b"\n")
+def request_of(line: bytes) -> dict[str, Any]:
+    """The request of a line. Raises Wrong."""
+    if not line.endswith(b"\n"):
+        raise Wrong("Unfinished")
+    if len(line) > MOST_BYTES + 1:
+        raise Wrong("TooLong")
+    try:
+        text = line[:-1].decode("utf-8")
+    except UnicodeDecodeError:
+        raise Wrong("BadText") from None
+    try:
+        request = json.loads(text, parse_constant=refuse_constant)
+    except ValueError:
+        raise Wrong("BadJson") from None
+    if not isinstance(request, dict) or not isinstance(request.get("op"), str):
+        raise Wrong("BadRequest")
+    op = request["op"]
+    if op not in MEMBERS and op not in ("show", "resend", "close"):
+        raise Wrong("UnknownOp")
+    members = ("client", "number", *MEMBERS[op]) if op in MEMBERS else ()
+    if set(request) != {"op", *members} or not all(
+            isinstance(request[name], int) and not isinstance(request[name], bool) and request[name] in RANGES[name]
+            for name in members):
+        raise Wrong("BadRequest")
+    return request
+
+
+def refuse_constant(name: str) -> None:
+    raise ValueError(f"{name} is no JSON")

@@ -1,4 +1,4 @@
-"""The words of docs/OPERATING.md, "Another machine takes over", typed on three machines under systemd.
+"""The words of docs/TAKEOVER.md, "To set it up", typed on three machines under systemd.
 
 Each block of words there stands below a line that says on which hosts they are typed. Packages are not installed
 again: the three machines have what this one has. What stands between the words and a takeover is tried after them.
@@ -13,7 +13,7 @@ from .network import Failed, Host, make_switch, run, wait_for
 from .trial import QUICK, tell
 
 ROOT = os.path.dirname(os.path.dirname(os.path.dirname(os.path.abspath(__file__))))
-SECTION = "## Another machine takes over"
+SECTION = "## To set it up"
 TYPED = re.compile(r"^On (?P<hosts>[^\n:]*):\n\n```\n(?P<words>.*?)\n```$", re.MULTILINE | re.DOTALL)
 ON = {"each of the three hosts": (1, 2, 3), "host1": (1,), "host1 and host2": (1, 2)}
 PORT = "127.0.0.1:4170"
@@ -89,7 +89,7 @@ class Machine(Host):
 
 def blocks():
     """The hosts and the words of each block, in order."""
-    with open(f"{ROOT}/docs/OPERATING.md", encoding="utf-8") as file:
+    with open(f"{ROOT}/docs/TAKEOVER.md", encoding="utf-8") as file:
         section = file.read().split(SECTION + "\n")[1].split("\n## ")[0]
     return [(ON[met["hosts"]], met["words"]) for met in TYPED.finditer(section)]
 

@@ -10,7 +10,7 @@ NAME, BRICK, MOUNT = "resetd", "/srv/brick/resetd", "/srv/resetd"
 DIRECT, FRESH = "direct-io-mode=enable", "attribute-timeout=0,entry-timeout=0"
 STRICT_LOCKS = "client.strict-locks"
 
-# docs/OPERATING.md has the reason of each.
+# docs/TAKEOVER.md has the reason of each.
 OPTIONS = {
     # the file's lock is the volume's, and one that lost it can't go on
     STRICT_LOCKS: "on",

@@ -1,17 +1,25 @@
 -- What was served, where more is read.
-use Rattle.std.proofs.Common.{◌≡◌, ◌≢◌, ℕ, ◌<◌, Bool, true, false, List, [], ◌∷◌, ◌++◌, length, map, Some, Result, Ok, Err, IfOk, String, Global, string_bytes, refl, sym, ap, ◌∙◌, subst, append_assoc, append-nil, arith, take, inl, inr}
+use Rattle.std.proofs.Common.{◌≡◌, ◌≢◌, ◌⊎◌, ℕ, ◌<◌, ◌≤◌, Bool, true, false, List, [], ◌∷◌, ◌++◌, length, map, Some, Result, Ok, Err, IfOk, String, Global, string_bytes, refl, sym, ap, ◌∙◌, subst, append_assoc, append-nil, arith, take, drop, suc, get_or, ◌+◌, inl, inr}
 use Rattle.std.specs.List.{slice_split}
+use Rattle.std.proofs.Math.Seq.{take-suc}
+use Rattle.std.proofs.lemmas.Grind.{common_steps}
+use Rattle.std.proofs.lemmas.List.{take-append-drop}
 use Rattle.std.proofs.lemmas.List.Splits.{length-slice_split}
 use Rattle.coord_lines.specs.Lines.{Line, IsWithin, is_line_feed, line_of, lines_of, extended, going_on, lines_on, before_line_feed, behind_line_feed}
+use Rattle.coord_lines.specs.Written.{IsFirstPart}
 use Rattle.coord_lines.proofs.LinesOn.{lines_on-ended, extended-nothing}
+use Rattle.coord_types.specs.declared.refusals.Refusal.{Refusal}
+use Rattle.coord_types.specs.declared.refusals.Refusal.TheVariants as refusal
+use Rattle.coord_types.specs.declared.steps.Reply.{Reply}
 use Rattle.coord_admin.specs.declared.request.Request.{Request}
 use Rattle.coord_admin.specs.declared.answer.Answer.{Answer}
 use Rattle.coord_admin.specs.declared.answer.Answer.TheVariants.{Replied, Refused, Shown, Resent, Closed, Faulted}
 use Rattle.coord_admin.specs.declared.fault.LineFault.{LineFault}
 use Rattle.coord_admin.specs.declared.fault.LineFault.TheVariants.{Unfinished, TooLong, BadText, BadJson, BadRequest, UnknownOp, OutOfMemory}
 use Rattle.coord_admin.specs.Requests.{asked_by}
-use Rattle.coord_admin.specs.Replies.{made_bytes, reply_line, reply_lines}
-use Rattle.coord_admin.specs.Stream.{is_closed, takes_memory, IsText, MayAnswer, last_answers, IsWritten, WritesPart, Gets, GetsAtLast, AllGet, Reaches, Finishes, Closes, Stops, BreaksOff}
+use Rattle.coord_admin.specs.Replies.{made_bytes, order_answer, reply_line, reply_lines}
+use Rattle.coord_admin.specs.Together.{AllAnswered, ArePosted, AskFor}
+use Rattle.coord_admin.specs.Stream.{is_closed, takes_memory, AreWritten, IsText, MayAnswer, last_answers, IsWritten, WritesPart, Gets, GetsAtLast, AllGet, Reaches, Finishes, Closes, Stops, BreaksOff}
 
 -- ---- lists
 
@@ -30,7 +38,107 @@ some_line line (part ∷ parts) h = (extended line part, map line_of parts, refl
 pub lines_on-some : (line : Line) (text : List ℕ) → (next : Line) × (left : List Line) × (lines_on line text ≡ next ∷ left)
 lines_on-some line text = some_line line (slice_split is_line_feed text) (omega (arith, length-slice_split is_line_feed text))
 
+-- a first part of two texts is one of the first, or goes on into the second
+pub first_part_of_two : (part xs ys : List ℕ) → IsFirstPart part (xs ++ ys) → IsFirstPart part xs ⊎ ((more : List ℕ) × (part ≡ xs ++ more) × IsFirstPart more ys)
+first_part_of_two [] xs ys h = inl (xs, refl)
+first_part_of_two (p ∷ part) [] ys h = inr (p ∷ part, refl, h)
+first_part_of_two (p ∷ part) (x ∷ xs) ys h = by (first_part_of_two part xs ys (h.0, tails))
+  where
+    tails : xs ++ ys ≡ part ++ h.0
+    tails = let e = h.1 in cc
+
+    heads : x ≡ p
+    heads = let e = h.1 in cc
+
+    by : IsFirstPart part xs ⊎ ((more : List ℕ) × (part ≡ xs ++ more) × IsFirstPart more ys) → IsFirstPart (p ∷ part) (x ∷ xs) ⊎ ((more : List ℕ) × (p ∷ part ≡ x ∷ xs ++ more) × IsFirstPart more ys)
+    by (inl part_of) = inl (part_of.0, let e = part_of.1 in let f = heads in cc)
+    by (inr on) = inr (on.0, (let e = on.1 in let f = heads in cc), on.2)
+
 -- ---- what is told of an answer
+
+-- one more is told
+pub written-on : (answers told : List Answer) (answer a : Answer) → AreWritten answers told → IsWritten answer a → AreWritten (answers ++ answer ∷ []) (told ++ a ∷ [])
+written-on [] [] answer a w one = (one, tt)
+written-on [] (t ∷ told) answer a w one = absurd w
+written-on (x ∷ answers) [] answer a w one = absurd w
+written-on (x ∷ answers) (t ∷ told) answer a w one = (w.0, written-on answers told answer a w.1 one)
+
+-- the next one of them is told
+pub written-next : (answers told : List Answer) (answer a : Answer) (i : ℕ) → i < length answers → answer ≡ get_or answers i answer → AreWritten (take i answers) told → IsWritten answer a → AreWritten (take (i + 1) answers) (told ++ a ∷ [])
+written-next answers told answer a i below is w one =
+    let next : i + 1 ≡ suc i = omega arith in
+    let more : take (i + 1) answers ≡ take i answers ++ answer ∷ [] = ap (λ n. take n answers) next ∙ take-suc answers i answer below ∙ ap (λ x. take i answers ++ x ∷ []) (sym is) in
+    subst (λ l. AreWritten l (told ++ a ∷ [])) (sym more) (written-on (take i answers) told answer a w one)
+
+-- all of them
+pub all-taken : (answers : List Answer) (i : ℕ) → length answers ≤ i → take i answers ≡ answers
+all-taken answers i over = grind (arith, common_steps)
+
+-- each may be told itself
+as_they_are : (answers : List Answer) → AreWritten answers answers
+as_they_are [] = tt
+as_they_are (x ∷ answers) = (inl refl, as_they_are answers)
+
+pub written-rest : (answers told rest : List Answer) → AreWritten answers told → AreWritten (answers ++ rest) (told ++ rest)
+written-rest [] [] rest w = as_they_are rest
+written-rest [] (t ∷ told) rest w = absurd w
+written-rest (x ∷ answers) [] rest w = absurd w
+written-rest (x ∷ answers) (t ∷ told) rest w = (w.0, written-rest answers told rest w.1)
+
+-- a text that is to be written, with one more line, of which a part was written
+pub text-on : (told : List Answer) (a : Answer) (out more text later line : List ℕ) → reply_lines told ≡ out ++ text → line ≡ reply_line a → text ++ line ≡ more ++ later → reply_lines (told ++ a ∷ []) ≡ (out ++ more) ++ later
+text-on told a out more text later line so_far is cut =
+    sym (reply_lines-one told a)
+    ∙ ap (λ l. l ++ reply_line a) so_far
+    ∙ append_assoc out text (reply_line a)
+    ∙ ap (λ l. out ++ (text ++ l)) (sym is)
+    ∙ ap (λ l. out ++ l) cut
+    ∙ sym (append_assoc out more later)
+
+-- the rest of a text was not written whole
+pub part-at_end : (told : List Answer) (out part text : List ℕ) → reply_lines told ≡ out ++ text → IsFirstPart part text → IsFirstPart (out ++ part) (reply_lines told)
+part-at_end told out part text so_far p = (p.0, so_far ∙ ap (λ l. out ++ l) p.1 ∙ sym (append_assoc out part p.0))
+
+-- nor was a text with one more line; what is told of the others is not known
+pub part-within : (answers told : List Answer) (a : Answer) (out part text line : List ℕ) (i : ℕ) → AreWritten (take (i + 1) answers) (told ++ a ∷ []) → reply_lines told ≡ out ++ text → line ≡ reply_line a → IsFirstPart part (text ++ line)
+    → (all : List Answer) × AreWritten answers all × IsFirstPart (out ++ part) (reply_lines all)
+part-within answers told a out part text line i w so_far is p =
+    let others = drop (i + 1) answers in (
+      (told ++ a ∷ []) ++ others,
+      subst (λ l. AreWritten l ((told ++ a ∷ []) ++ others)) (take-append-drop (i + 1) answers) (written-rest (take (i + 1) answers) (told ++ a ∷ []) others w),
+      (
+        p.0 ++ reply_lines others,
+        reply_lines-append (told ++ a ∷ []) others
+            ∙ ap (λ l. l ++ reply_lines others) (text-on told a out part text p.0 line so_far is p.1)
+            ∙ append_assoc (out ++ part) p.0 (reply_lines others),
+      ),
+    )
+
+-- an order closes no desk
+order-open : (x : Result Reply Refusal) → is_closed (order_answer x) ≡ false
+order-open (Ok r) = refl
+order-open (Err refusal.Stopped) = refl
+order-open (Err refusal.OutOfMemory) = refl
+order-open (Err refusal.Exhausted) = refl
+order-open (Err refusal.OutOfTurn) = refl
+order-open (Err refusal.NumberReused) = refl
+order-open (Err refusal.UnknownNode) = refl
+order-open (Err refusal.NodeExists) = refl
+order-open (Err refusal.HasLinks) = refl
+order-open (Err refusal.SameNode) = refl
+order-open (Err refusal.OtherGroup) = refl
+order-open (Err refusal.LinkExists) = refl
+order-open (Err refusal.NoLink) = refl
+order-open (Err refusal.DegreeFull) = refl
+order-open (Err refusal.LinksFull) = refl
+order-open (Err refusal.BadEpoch) = refl
+order-open (Err refusal.Old) = refl
+order-open (Err refusal.Early) = refl
+order-open (Err refusal.Differs) = refl
+order-open (Err refusal.NotReleased) = refl
+order-open (Err refusal.PendingFull) = refl
+order-open (Err (refusal.Behind settled)) = refl
+order-open (Err refusal.Stranger) = refl
 
 stays_open : (answer : Answer) → takes_memory answer ≡ true → is_closed answer ≡ false
 stays_open (Replied r) e = refl
@@ -69,10 +177,34 @@ module _ {D : Type 0} (answers : D → Request → Answer → D → Type 0) wher
       by UnknownOp is = answered UnknownOp is (λ k. absurd cc)
       by OutOfMemory is = inr (refl, inl (memory is, refl))
 
+  -- what a line asks for was answered, or its fault is the answer
+  pub gets-asked : (d e : D) (line : Line) (r : Result Request LineFault) (a : Answer) → (r ≢ Err OutOfMemory → r ≡ asked_by line) → (r ≡ Err OutOfMemory → IsText line) → MayAnswer answers d r a e → Gets answers d line a e
+  gets-asked d e line (Ok q) a reads memory h = inl (subst (λ asked. MayAnswer answers d asked a e) (reads (λ k. absurd cc)) h)
+  gets-asked d e line (Err f) a reads memory h = subst (λ g. Gets answers d line a g) (sym h.1) (subst (λ b. Gets answers d line b d) (sym h.0) (gets-fault d line f (Err f) refl reads memory))
+
   pub gets-told : (d e : D) (line : Line) (answer told : Answer) → Gets answers d line answer e → IsWritten answer told → Gets answers d line told e
   gets-told d e line answer told h (inl same) = subst (λ a. Gets answers d line a e) (sym same) h
   gets-told d e line answer told (inl h) (inr w) = inr (w.0, inr (answer, w.1, h))
   gets-told d e line answer told (inr h) (inr w) = inr (w.0, h.1)
+
+  -- what is told of each answer
+  pub all-told : (d e : D) (lines : List Line) (answered told : List Answer) → AllGet answers d lines answered e → AreWritten answered told → AllGet answers d lines told e
+  all-told d e [] [] [] h w = h
+  all-told d e [] [] (t ∷ told) h w = absurd w
+  all-told d e [] (a ∷ answered) told h w = absurd h
+  all-told d e (line ∷ lines) [] told h w = absurd h
+  all-told d e (line ∷ lines) (a ∷ answered) [] h w = absurd w
+  all-told d e (line ∷ lines) (a ∷ answered) (t ∷ told) h w = (h.0, gets-told d h.0 line a t h.1 w.0, closed-told a t w.0 ∙ h.2, all-told h.0 e lines answered told h.3 w.1)
+
+  -- the lines of orders that were answered
+  pub all-ordered : (d e : D) (lines : List Line) (orders : List Request) (results : List (Result Reply Refusal)) → AskFor lines orders → AllAnswered answers d orders (map order_answer results) e → AllGet answers d lines (map order_answer results) e
+  all-ordered d e [] [] [] asks h = h
+  all-ordered d e [] [] (x ∷ results) asks h = absurd h
+  all-ordered d e [] (r ∷ orders) results asks h = absurd asks
+  all-ordered d e (line ∷ lines) [] results asks h = absurd asks
+  all-ordered d e (line ∷ lines) (r ∷ orders) [] asks h = absurd h
+  all-ordered d e (line ∷ lines) (r ∷ orders) (x ∷ results) asks h =
+      (h.0, inl (subst (λ asked. MayAnswer answers d asked (order_answer x) h.0) (sym asks.0) h.1), order-open x, all-ordered h.0 e lines orders results asks.2 h.2)
 
   -- ---- lines behind lines
 
@@ -86,7 +218,7 @@ module _ {D : Type 0} (answers : D → Request → Answer → D → Type 0) wher
   reaches-behind d f e lines later done left told more h same r =
       (done ++ r.0, same ∙ ap (λ l. done ++ l) r.1 ∙ sym (append_assoc done r.0 left), all-append done r.0 told more d f e h r.2)
 
-  text-behind : (told more : List Answer) (rest text : List ℕ) → text ≡ reply_lines more ++ rest → reply_lines told ++ text ≡ reply_lines (told ++ more) ++ rest
+  pub text-behind : (told more : List Answer) (rest text : List ℕ) → text ≡ reply_lines more ++ rest → reply_lines told ++ text ≡ reply_lines (told ++ more) ++ rest
   text-behind told more rest text e =
       ap (λ l. reply_lines told ++ l) e ∙ sym (append_assoc (reply_lines told) (reply_lines more) rest) ∙ ap (λ l. l ++ rest) (sym (reply_lines-append told more))
 
@@ -96,7 +228,34 @@ module _ {D : Type 0} (answers : D → Request → Answer → D → Type 0) wher
 
   pub breaks-behind : (d f e : D) (lines later done : List Line) (told : List Answer) (text : List ℕ) → AllGet answers d done told f → lines ≡ done ++ later → BreaksOff answers f later text e → BreaksOff answers d lines (reply_lines told ++ text) e
   breaks-behind d f e lines later done told text h same c =
-      (told ++ c.0, c.1, c.2, c.3, c.4, c.5, reaches-behind d f c.3 lines later done _ told c.0 h same c.6, c.7, c.8, text-behind told c.0 _ text c.9)
+      (told ++ c.0, c.1, c.2, c.3, c.4, c.5, c.6, c.7, c.8, reaches-behind d f c.4 lines later done _ told c.0 h same c.9, c.10, c.11, c.12, c.13, text-behind told c.0 _ text c.14)
+
+  -- ---- orders that were posted together
+
+  ask-tail : (line : Line) (lines : List Line) (orders : List Request) → AskFor (line ∷ lines) orders → (rest : List Request) × AskFor lines rest
+  ask-tail line lines [] asks = absurd asks
+  ask-tail line lines (r ∷ orders) asks = (orders, asks.2)
+
+  posted-tail : (line : Line) (lines : List Line) → ArePosted (line ∷ lines) → ArePosted lines
+  posted-tail line lines posted = (omega (arith, posted.0), ask-tail line lines posted.1.0 posted.1.1)
+
+  -- the first of two lines breaks off
+  breaks-first : (d f e : D) (line : Line) (lines left : List Line) (a : Answer) (told : List Answer) (part : List ℕ) → ((lines ≡ []) ⊎ ArePosted (line ∷ lines)) → Gets answers d line a f → AllGet answers f lines told e → IsFirstPart part (reply_line a) → BreaksOff answers d (line ∷ lines ++ left) part e
+  breaks-first d f e line lines left a told part posted gets all is_part = ([], line, lines, left, d, f, a, told, part, ([], refl, refl), inl gets, all, posted, is_part, refl)
+
+  -- a first part of the replies to lines that were posted together was written
+  pub breaks-among : (d e : D) (line : Line) (lines left : List Line) (told : List Answer) (part : List ℕ) → ArePosted (line ∷ lines) → AllGet answers d (line ∷ lines) told e → IsFirstPart part (reply_lines told) → BreaksOff answers d (line ∷ lines ++ left) part e
+  breaks-among d e line lines left [] part posted h is_part = absurd h
+  breaks-among d e line [] left (a ∷ []) part posted h is_part = breaks-first d h.0 e line [] left a [] part (inl refl) h.1 h.3 (is_part.0, sym (append-nil (reply_line a)) ∙ is_part.1)
+  breaks-among d e line [] left (a ∷ b ∷ told) part posted h is_part = absurd h.3
+  breaks-among d e line (next ∷ lines) left (a ∷ told) part posted h is_part =
+      by (λ more more_part. breaks-among h.0 e next lines left told more (posted-tail line (next ∷ lines) posted) h.3 more_part) (first_part_of_two part (reply_line a) (reply_lines told) is_part)
+    where
+      by : ((more : List ℕ) → IsFirstPart more (reply_lines told) → BreaksOff answers h.0 (next ∷ lines ++ left) more e) → IsFirstPart part (reply_line a) ⊎ ((more : List ℕ) × (part ≡ reply_line a ++ more) × IsFirstPart more (reply_lines told)) → BreaksOff answers d (line ∷ next ∷ lines ++ left) part e
+      by later (inl first) = breaks-first d h.0 e line (next ∷ lines) left a told part (inr posted) h.1 h.3 first
+      by later (inr on) =
+          subst (λ p. BreaksOff answers d (line ∷ next ∷ lines ++ left) p e) (ap (λ l. l ++ on.0) (append-nil (reply_line a)) ∙ sym on.1)
+          (breaks-behind d h.0 e (line ∷ next ∷ lines ++ left) (next ∷ lines ++ left) (line ∷ []) (a ∷ []) on.0 (h.0, h.1, h.2, refl) refl (later on.0 on.2))
 
   -- ---- one more line
 
@@ -167,7 +326,7 @@ module _ {D : Type 0} (answers : D → Request → Answer → D → Type 0) {C :
   pub broken-at : (d f e : D) (a b c : C) (came : List ℕ) (lines done left : List Line) (line : Line) (told : List Answer) → AllGet answers d done told f → exchanged a came (reply_lines told) b → lines ≡ done ++ line ∷ left
       → (x : Answer) × GetsAtLast answers f line x e × WritesPart exchanged b c (reply_line x) → (text : List ℕ) × exchanged a came text c × BreaksOff answers d lines text e
   broken-at d f e a b c came lines done left line told h written same w =
-      (reply_lines told ++ w.2.0, told-on exchanged turn a b c came (reply_lines told) w.2.0 written w.2.1, (told, line, left, f, w.0, w.2.0, (done, same, h), w.1, w.2.2, refl))
+      (reply_lines told ++ w.2.0, told-on exchanged turn a b c came (reply_lines told) w.2.0 written w.2.1, (told, line, [], left, f, e, w.0, [], w.2.0, (done, same, h), w.1, refl, inl refl, w.2.2, refl))
 
   pub broken-line : (d f e : D) (a b c : C) (came : List ℕ) (lines done left : List Line) (line : Line) (told : List Answer) → AllGet answers d done told f → exchanged a came (reply_lines told) b → lines ≡ done ++ line ∷ left
       → (x : Answer) × Gets answers f line x e × WritesPart exchanged b c (reply_line x) → (text : List ℕ) × exchanged a came text c × BreaksOff answers d lines text e

@@ -1,6 +1,8 @@
 -- The desk that only counts its orders.
-use Rattle.std.specs.Prelude.{ℕ, ◌+◌, ◌^◌, nat_lt, if◌then◌else◌, []}
+use Rattle.std.specs.Prelude.{◌≡◌, ℕ, ◌+◌, ◌^◌, nat_lt, if◌then◌else◌, [], Result, Ok, Err}
 use Rattle.coord_types.specs.declared.steps.Kind.TheVariants.{Done}
+use Rattle.coord_types.specs.declared.steps.Reply.{Reply}
+use Rattle.coord_types.specs.declared.refusals.Refusal.{Refusal}
 use Rattle.coord_types.specs.declared.refusals.Refusal.TheVariants.{Exhausted}
 use Rattle.coord_admin.specs.declared.request.Request.{Request}
 use Rattle.coord_admin.specs.declared.request.Request.TheVariants.{Order, Show, Resend, Close}
@@ -17,3 +19,12 @@ answer_of n Close = answer.Closed
 abbrev pub count_after : ℕ → Request → ℕ
 count_after n (Order c k x) = if nat_lt (n + 1) (2 ^ 64) then n + 1 else n
 count_after n r = n
+
+-- the reply to the next order
+abbrev pub next_reply : ℕ → Result Reply Refusal
+next_reply n = if nat_lt (n + 1) (2 ^ 64) then Ok (record { step = n + 1; kind = Done }) else Err Exhausted
+
+-- an order is counted when it is posted, and its reply is kept for it; nothing else is posted
+abbrev pub Counts : ℕ → Request → Result Reply Refusal → ℕ → Type 0
+Counts n (Order c k x) reply m = (reply ≡ next_reply n) × (m ≡ count_after n (Order c k x))
+Counts n r reply m = ⊥

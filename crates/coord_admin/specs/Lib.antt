@@ -1,7 +1,11 @@
 pub mod Faults
 pub mod Requests
 pub mod Replies
+pub mod Together
 pub mod Stream
 pub mod Connections
 pub mod CountDesk
+pub mod Counted
 pub mod WorkedLines
+pub mod Accepting
+pub mod Times

@@ -14,6 +14,7 @@ use Rattle.coord_admin.specs.declared.session.Ended.{Ended}
 use Rattle.coord_admin.specs.declared.session.Ended.TheVariants as ended
 use Rattle.coord_admin.specs.Requests.{asked_by}
 use Rattle.coord_admin.specs.Replies.{reply_line, reply_lines}
+use Rattle.coord_admin.specs.Together.{ArePosted, AwaitReplies}
 
 abbrev pub is_closed : Answer → Bool
 is_closed Closed = true
@@ -43,6 +44,12 @@ has_begun line = true
 abbrev pub IsWritten : Answer → Answer → Type 0
 IsWritten answer told = (told ≡ answer) ⊎ ((told ≡ Faulted OutOfMemory) × (takes_memory answer ≡ true))
 
+-- what is told of each answer
+abbrev pub AreWritten : List Answer → List Answer → Type 0
+AreWritten [] [] = Unit {0}
+AreWritten (answer ∷ answers) (a ∷ told) = IsWritten answer a × AreWritten answers told
+AreWritten answers told = ⊥
+
 -- a line within the limit that is a text
 abbrev pub IsText : Line → Type 0
 IsText line = IsSome line × IfSome line IsUtf8
@@ -71,6 +78,10 @@ module _ {D : Type 0} (answers : D → Request → Answer → D → Type 0) wher
   AllGet d (line ∷ lines) (a ∷ told) e = (f : D) × Gets d line a f × (is_closed a ≡ false) × AllGet f lines told e
   AllGet d lines told e = ⊥
 
+  -- the first of these lines got these replies, and the others are orders that were posted and have none yet
+  abbrev pub GoesOn : {P : Type 0} → (D → Request → P → D → Type 0) → D → List Line → List Answer → List P → D → Type 0
+  GoesOn posts d lines told posted e = (done : List Line) × (waiting : List Line) × (f : D) × (lines ≡ done ++ waiting) × AllGet d done told f × AwaitReplies posts f waiting posted e
+
   -- the first of these lines got these replies, and others are left
   abbrev pub Reaches : D → List Line → List Answer → List Line → D → Type 0
   Reaches d lines told left e = (done : List Line) × (lines ≡ done ++ left) × AllGet d done told e
@@ -93,11 +104,12 @@ module _ {D : Type 0} (answers : D → Request → Answer → D → Type 0) wher
   abbrev pub GetsAtLast : D → Line → Answer → D → Type 0
   GetsAtLast d line a e = Gets d line a e ⊎ ((a ≡ Faulted Unfinished) × (e ≡ d))
 
-  -- the reply to a line was not written whole
+  -- The reply to a line was not written whole. Where it was one of orders that were posted together, those behind it were carried out too, and nobody was told.
   abbrev pub BreaksOff : D → List Line → List ℕ → D → Type 0
   BreaksOff d lines text e =
-      (told : List Answer) × (line : Line) × (left : List Line) × (f : D) × (a : Answer) × (part : List ℕ)
-      × Reaches d lines told (line ∷ left) f × GetsAtLast f line a e × IsFirstPart part (reply_line a) × (text ≡ reply_lines told ++ part)
+      (told : List Answer) × (line : Line) × (behind : List Line) × (left : List Line) × (f : D) × (g : D) × (a : Answer) × (untold : List Answer) × (part : List ℕ)
+      × Reaches d lines told (line ∷ behind ++ left) f × GetsAtLast f line a g × AllGet g behind untold e × ((behind ≡ []) ⊎ ArePosted (line ∷ behind))
+      × IsFirstPart part (reply_line a) × (text ≡ reply_lines told ++ part)
 
   -- what was written to a text that was read, and what the desk then is
   abbrev pub Served : D → List ℕ → List ℕ → Result Ended ServeFault → D → Type 0

@@ -1,23 +1,20 @@
 //! Asking the desk what a line asks for.
 
 ghost use Rattle.std.specs.Prelude.{◌≡◌};
-ghost use Rattle.std.specs.Option.{option_copied};
-ghost use Rattle.coord_admin.specs.Replies.{refused};
-ghost use Rattle.coord_admin.specs.Stream.{Gets};
+ghost use Rattle.coord_admin.specs.Replies.{order_answer, refused};
+ghost use Rattle.coord_admin.specs.Stream.{MayAnswer};
 
 use crate::answer::Answer;
 use crate::desk::Desk;
 use crate::fault::LineFault;
-use crate::reading::read_line;
 use crate::request::Request;
-use coord_types::Refusal;
-use std::alloc::Global;
+use coord_types::{Refusal, Reply};
 
-/// The answer to a line, for which the desk is asked if the line has no fault.
-pub fn answer_line<D: Desk>(alloc: Global, line: Option<&[u8]>, desk: &mut D) -> Answer
-    ensures { Gets D.answers desk.old (option_copied line.entry) result desk.new }
+/// The answer to what a line asks for, or to its fault, for which the desk is not asked.
+pub fn answer_to<D: Desk>(desk: &mut D, asked: Result<Request, LineFault>) -> Answer
+    ensures { MayAnswer D.answers desk.old asked result desk.new }
 {
-    match read_line(alloc, line) {
+    match asked {
         Ok(request) => ask(desk, request),
         Err(fault) => Answer::Faulted(fault),
     }
@@ -27,10 +24,9 @@ fn ask<D: Desk>(desk: &mut D, request: Request) -> Answer
     ensures { D.answers desk.old request result desk.new }
 {
     match request {
-        Request::Order(client, number, command) => match desk.order(client, number, command) {
-            Ok(reply) => Answer::Replied(reply),
-            Err(refusal) => refused(refusal),
-        },
+        Request::Order(client, number, command) => {
+            order_answer(desk.order(client, number, command))
+        }
         Request::Show => match desk.show() {
             Ok(view) => Answer::Shown(view),
             Err(refusal) => refused(refusal),
@@ -43,6 +39,16 @@ fn ask<D: Desk>(desk: &mut D, request: Request) -> Answer
             desk.close();
             Answer::Closed
         }
+    }
+}
+
+/// The answer to an order.
+pub fn order_answer(reply: Result<Reply, Refusal>) -> Answer
+    ensures { result ≡ order_answer reply }
+{
+    match reply {
+        Ok(reply) => Answer::Replied(reply),
+        Err(refusal) => refused(refusal),
     }
 }
 

@@ -1,12 +1,14 @@
 //! Those who call a server.
 
-ghost use Rattle.std.specs.Prelude.{List, [], ◌∷◌, ◌++◌, ℕ, ⊤, IfOk};
+ghost use Rattle.std.specs.Prelude.{◌≡◌, List, [], ◌∷◌, ◌++◌, ℕ, Bool, ⊤, IfOk, OnErr};
 ghost use Rattle.coord_admin.specs.Connections.{Talk};
 
+use crate::accepting::Failure;
 use crate::duplex::Duplex;
 use crate::patience::{ACCEPT_TRIES, Patience};
 use crate::timed::TimedStream;
-use std::io::{Error, ErrorKind, Read, Write};
+use std::io::{ErrorKind, Read, Write};
+use std::marker::Model;
 use std::net::{OpenListener, OpenStream, SocketAddr};
 use std::time::Clock;
 use std::{io, thread};
@@ -21,18 +23,26 @@ pub trait Callers {
     /// Nothing has come in or gone out over a connection yet.
     ghost begins: { Self.Line → Type 0 };
 
+    /// Waiting for the next one has failed.
+    ghost failed: { Self → Self → Type 0 } = { λ _ _. ⊤ };
+
+    /// This connection was ended, with word whether it has closed the server.
+    ghost ended: { Self → Self.Line → Bool → Self → Type 0 } = { λ _ _ _ _. ⊤ };
+
     /// At which address they call.
     fn address(&self) -> io::Result<SocketAddr>;
 
     /// Waits for the next one. After an error no one comes any more.
     fn next(&mut self) -> io::Result<Self::Line>
         ensures begun { IfOk result begins }
+        ensures failed { OnErr result (failed self.old self.new) }
         ensures none_ended { met self.old [] self.new };
 
-    /// Ends a connection; one that has closed the server is first left open until its client can
-    /// have read the answer.
+    /// Ends a connection. If it has closed the server, its client is first given time to read the
+    /// answer.
     fn end(&mut self, line: Self::Line, has_closed: bool)
-        ensures { (first : Self.Line) (came went : List ℕ) → begins first →
+        ensures ended { ended self.old line has_closed self.new }
+        ensures met { (first : Self.Line) (came went : List ℕ) → begins first →
             Self.Line.exchanged first came went line →
             met self.old (record { came = came; went = went } ∷ []) self.new };
 
@@ -43,6 +53,7 @@ pub trait Callers {
 }
 
 /// The connections that a listener accepts, each with a bound on how long its client is waited for.
+/// Contracts see how long that is.
 #[derive(Drop)]
 pub struct Accepted<'a, L, T: Clock> {
     clock: &'a T,
@@ -50,41 +61,23 @@ pub struct Accepted<'a, L, T: Clock> {
     patience: Patience,
 }
 
+impl<'a, L, T: Clock> Model for Accepted<'a, L, T> {
+    ghost use Rattle.coord_admin.specs.declared.patience.Patience.{Patience};
+
+    ghost Value = { Patience };
+
+    ghost view = { λ a. a.patience };
+}
+
 impl<'a, L: OpenListener, T: Clock> Accepted<'a, L, T> {
-    pub fn new(clock: &'a T, listener: &'a L, patience: Patience) -> Self {
+    pub fn new(clock: &'a T, listener: &'a L, patience: Patience) -> Self
+        ensures { result ≡ patience }
+    {
         Accepted {
             clock,
             listener,
             patience,
         }
-    }
-}
-
-/// What a failure to accept asks for.
-#[derive(Clone, Copy, Debug, PartialEq, Eq)]
-enum Failure {
-    /// A client has left before it was accepted.
-    OfClient,
-    /// Files or memory were short. It may pass.
-    OfMeans,
-    /// The listener is of no use any more.
-    OfListener,
-}
-
-/// The errors of Linux for a table of files that is full, of the process and of the system, and for
-/// no memory and no buffers.
-const OF_MEANS: [i32; 4] = [24, 23, 12, 105];
-
-fn judge(error: &Error) -> Failure {
-    match error.kind() {
-        ErrorKind::ConnectionAborted | ErrorKind::ConnectionReset | ErrorKind::Interrupted => {
-            Failure::OfClient
-        }
-        ErrorKind::OutOfMemory => Failure::OfMeans,
-        _ => match error.raw_os_error() {
-            Some(code) if OF_MEANS.contains(&code) => Failure::OfMeans,
-            _ => Failure::OfListener,
-        },
     }
 }
 
@@ -111,7 +104,7 @@ impl<'a, S: Read + Write + OpenStream + Drop, L: OpenListener<Stream = S>, T: Cl
                         return Ok(line);
                     }
                 }
-                Err(error) => match judge(&error) {
+                Err(error) => match Failure::of(&error) {
                     Failure::OfClient => {}
                     Failure::OfMeans if tries < ACCEPT_TRIES => {
                         tries += 1;

@@ -1,7 +1,7 @@
 //! A desk that only counts its orders.
 
 ghost use Rattle.std.specs.Prelude.{◌≡◌};
-ghost use Rattle.coord_admin.specs.CountDesk.{answer_of, count_after};
+ghost use Rattle.coord_admin.specs.CountDesk.{answer_of, count_after, Counts};
 
 use crate::desk::Desk;
 use coord_types::{Client, Command, Kind, Refusal, Reply};
@@ -33,24 +33,42 @@ impl CountDesk {
     }
 }
 
+/// An order that was counted, with its reply.
+#[derive(Debug)]
+pub struct Counted {
+    reply: Result<Reply, Refusal>,
+}
+
 impl Desk for CountDesk {
+    ghost use Rattle.coord_admin.specs.Counted.{counted_answered, counted_apart};
+
+    type Posted = Counted;
+
     ghost answers = { λ n request answer m. (answer ≡ answer_of n request) ×
         (m ≡ count_after n request) };
 
-    fn order(
-        &mut self,
-        _client: Client,
-        _number: u64,
-        _command: Command,
-    ) -> Result<Reply, Refusal> {
+    ghost posts = { λ n request posted m. Counts n request posted.reply m };
+
+    ghost replies = { λ n posted reply m. (reply ≡ posted.reply) × (m ≡ n) };
+
+    fn post(&mut self, _client: Client, _number: u64, _command: Command) -> Counted {
         if self.count == u64::MAX {
-            return Err(Refusal::Exhausted);
+            return Counted {
+                reply: Err(Refusal::Exhausted),
+            };
         }
         self.count += 1;
-        Ok(Reply {
-            step: self.count,
-            kind: Kind::Done,
-        })
+        Counted {
+            reply: Ok(Reply {
+                step: self.count,
+                kind: Kind::Done,
+            }),
+        }
+    }
+
+    fn reply(&mut self, posted: Counted) -> Result<Reply, Refusal> {
+        let Counted { reply } = posted;
+        reply
     }
 
     fn show(&mut self) -> Result<View, Refusal> {
@@ -67,4 +85,9 @@ impl Desk for CountDesk {
     }
 
     fn close(&mut self) {}
+
+    ghost is_answered = { λ a b c r p x put replied. counted_answered a b c r p.reply x put replied };
+
+    ghost stays_apart = { λ a b c r p q x put replied.
+        counted_apart a b c r p.reply q.reply x put replied };
 }

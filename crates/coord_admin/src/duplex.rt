@@ -1,6 +1,6 @@
 //! What lines are read from and replies are written to.
 
-ghost use Rattle.std.specs.Prelude.{◌≡◌, ◌<◌, ◌≤◌, ◌++◌, List, [], ℕ, length, take, IfOk, OnErr, OnOk};
+ghost use Rattle.std.specs.Prelude.{◌≡◌, ◌<◌, ◌≤◌, ◌++◌, List, [], ℕ, Bool, ⊤, length, take, IfOk, OnErr, OnOk};
 ghost use Rattle.coord_lines.specs.Written.{IsFirstPart};
 
 /// Nothing more could be read, or not in time.
@@ -20,6 +20,9 @@ pub trait Duplex {
     /// Nothing more comes in.
     ghost has_ended: { Self → Type 0 };
 
+    /// It was asked for what comes next, and told whether a line has begun.
+    ghost asked: { Self → Bool → Self → Type 0 } = { λ _ _ _. ⊤ };
+
     /// Takes what has come in next into the front of the buffer, and answers how many bytes that
     /// are; none where nothing more comes. It is told whether a line has begun whose end has not
     /// come, for how long it waits.
@@ -28,9 +31,10 @@ pub trait Duplex {
         ensures length { length buffer.new ≡ length buffer.old }
         ensures bytes { IfOk result (λ n. exchanged self.old (take n buffer.new) [] self.new) }
         ensures end { IfOk result (λ n. n ≡ 0 → 0 < length buffer.old → has_ended self.new) }
-        ensures failed { OnErr result (exchanged self.old [] [] self.new) };
+        ensures failed { OnErr result (exchanged self.old [] [] self.new) }
+        ensures asked { asked self.old is_within_line self.new };
 
-    /// Writes the reply to a line whole.
+    /// Writes replies whole.
     fn reply(&mut self, text: &[u8]) -> Result<(), NotWritten>
         ensures whole { OnOk result (exchanged self.old [] text.now self.new) }
         ensures part { OnErr result ((part : List ℕ) × exchanged self.old [] part self.new ×

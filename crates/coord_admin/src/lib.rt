@@ -10,6 +10,7 @@
 //! that only counts.
 #![tactic(auto)]
 
+mod accepting;
 mod answer;
 mod asking;
 mod callers;
@@ -22,6 +23,7 @@ mod halves;
 mod laws;
 mod op;
 mod patience;
+mod queue;
 mod reading;
 mod replies;
 mod request;
@@ -37,7 +39,9 @@ pub use desk::Desk;
 pub use duplex::{Duplex, NotRead, NotWritten};
 pub use fault::{LineFault, ServeFault};
 pub use halves::Halves;
-pub use laws::{worked_replies, worked_requests};
+pub use laws::{
+    counts_are_usual, posted_together_answered_in_turn, worked_replies, worked_requests,
+};
 pub use patience::{
     ACCEPT_REST_MILLIS, ACCEPT_TRIES, CONNECTION_SECONDS, DISCARD_MILLIS, DISCARD_READS,
     LINE_SECONDS, Patience, REPLY_SECONDS, SILENCE_SECONDS,

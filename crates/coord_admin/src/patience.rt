@@ -1,5 +1,7 @@
 //! How long a client is waited for.
 
+ghost use Rattle.coord_admin.specs.Times.{IsUsual};
+
 use std::time::Duration;
 
 /// Within how many seconds from its first byte a line has to end. What the server takes to answer
@@ -42,7 +44,9 @@ pub struct Patience {
 
 impl Patience {
     /// By the constants above.
-    pub fn usual() -> Self {
+    pub fn usual() -> Self
+        ensures { IsUsual result }
+    {
         Patience {
             line: Duration::from_secs(LINE_SECONDS),
             reply: Duration::from_secs(REPLY_SECONDS),

@@ -1,5 +1,8 @@
 //! What a line asks for.
 
+ghost use Rattle.std.specs.Prelude.{◌≡◌};
+ghost use Rattle.coord_admin.specs.Together.{is_order};
+
 use coord_types::{Client, Command};
 
 /// A request to the desk.
@@ -13,4 +16,13 @@ pub enum Request {
     Resend,
     /// To close the desk.
     Close,
+}
+
+impl Request {
+    /// Whether it is an order.
+    pub fn is_order(&self) -> bool
+        ensures { result ≡ is_order self.now }
+    {
+        matches!(self, Request::Order(..))
+    }
 }

@@ -1,28 +1,33 @@
 //! Lines read from a connection, each answered to it.
 
-ghost use Rattle.std.specs.Prelude.{◌≡◌, ◌++◌, ◌<◌, [], length, List, ℕ, Ok, OnOk, OnErr, IfOk, true, false};
+ghost use Rattle.std.specs.Prelude.{◌≡◌, ◌++◌, ◌∷◌, ◌<◌, [], length, List, ℕ, Ok, OnOk, OnErr, IfOk, IfSome, IfNone, true, false, vec_len};
 ghost use Rattle.std.specs.Option.{option_copied};
 ghost use Rattle.coord_lines.specs.Lines.{Line, lines_on, IsWithin};
 ghost use Rattle.coord_admin.specs.declared.answer.Answer.{Answer};
-ghost use Rattle.coord_admin.specs.declared.answer.Answer.TheVariants.{Faulted};
+ghost use Rattle.coord_admin.specs.declared.answer.Answer.TheVariants.{Closed, Faulted};
 ghost use Rattle.coord_admin.specs.declared.fault.LineFault.TheVariants.{Unfinished};
 ghost use Rattle.coord_admin.specs.declared.session.Ended.TheVariants.{Input};
 ghost use Rattle.coord_admin.specs.Replies.{reply_line, reply_lines};
-ghost use Rattle.coord_admin.specs.Stream.{is_closed, last_answers, Gets, AllGet, Closes, BreaksOff, Served, WritesPart, has_begun};
+ghost use Rattle.coord_admin.specs.Stream.{last_answers, Gets, GoesOn, AllGet, Closes, BreaksOff, Served, WritesPart, has_begun};
+ghost use Rattle.coord_admin.specs.Together.{AwaitReplies, is_order};
 
-use crate::asking::answer_line;
+use crate::asking::answer_to;
 use crate::desk::Desk;
 use crate::duplex::{Duplex, NotWritten};
 use crate::fault::{LineFault, ServeFault};
+use crate::queue::Queue;
+use crate::reading::read_line;
+use crate::request::Request;
 use crate::writing::write_answer;
 use coord_lines::LineBuffer;
-use std::alloc::Global;
+use std::alloc::{AllocError, Global};
 
 /// The most reads of one call of `serve`.
 pub const MOST_READS: u64 = 1_048_576;
 
-/// The most bytes that one read asks for.
-const READ_LEN: usize = 512;
+/// The most bytes that one read asks for: some forty orders. A connection may be cut between two reads,
+/// so what one read brings is no more than a part of what a client sends.
+const READ_LEN: usize = 2_048;
 
 /// How a call of `serve` ends well.
 #[derive(Clone, Copy, Debug, PartialEq, Eq)]
@@ -34,12 +39,17 @@ pub enum Ended {
 }
 
 /// Reads lines from a connection up to the end of its input or a line that closes the desk, and
-/// writes to each its reply, in one piece, before anything more is read.
+/// writes to each its reply, before anything more is read.
+///
+/// Orders that one read brings are posted one behind the other, no more than a flight takes, and
+/// their replies are written together once all are there. Any other line is answered behind those
+/// before it.
 ///
 /// Each line that was read has its reply, in order, and nothing else is written; for want of memory
 /// a line may be told so in place of its answer. `OutOfMemory` comes before anything is read, `Turns`
 /// after `MOST_READS` reads, and `Read` and `Write` with a failed read and write. What the desk
-/// accepted until then stays accepted.
+/// accepted until then stays accepted; of orders that were posted together, all may be where the
+/// reply to one was not written.
 pub fn serve<C: Duplex, D: Desk>(
     alloc: Global,
     connection: &mut C,
@@ -50,22 +60,37 @@ pub fn serve<C: Duplex, D: Desk>(
         × Served D.answers desk.old seen text result desk.new }
     ensures end { result ≡ Ok Input → C.has_ended connection.new }
 {
-    let mut buffer = vec![in alloc; 0; READ_LEN]?;
-    serve_lines(alloc, buffer.as_mut_slice(), connection, desk)
+    let (mut buffer, mut queue) = room(alloc)?;
+    let ended = serve_lines(alloc, buffer.as_mut_slice(), &mut queue, connection, desk);
+    queue.destroy();
+    ended
+}
+
+/// What `serve` takes of memory before it reads: a buffer, and a queue without orders.
+fn room<D: Desk>(alloc: Global) -> Result<(Vec<u8>, Queue<D>), AllocError>
+    ensures buffer { IfOk result (λ room. 0 < vec_len room.0) }
+    ensures queue { IfOk result (λ room. room.1.posted.items ≡ []) }
+{
+    let buffer = vec![in alloc; 0; READ_LEN]?;
+    let queue = Queue::new(alloc)?;
+    Ok((buffer, queue))
 }
 
 /// Reads into a buffer, as often as `serve` may.
 fn serve_lines<C: Duplex, D: Desk>(
     alloc: Global,
     buffer: &mut [u8],
+    queue: &mut Queue<D>,
     connection: &mut C,
     desk: &mut D,
 ) -> Result<Ended, ServeFault>
-    requires { 0 < length buffer.old }
+    requires buffer { 0 < length buffer.old }
+    requires queue { queue.old.posted.items ≡ [] }
     ensures served { (seen : List ℕ) × (text : List ℕ)
         × C.exchanged connection.old seen text connection.new
         × Served D.answers desk.old seen text result desk.new }
     ensures end { result ≡ Ok Input → C.has_ended connection.new }
+    ensures queue { queue.new.posted.items ≡ [] }
 {
     let mut line = LineBuffer::new();
     for _ in 0..MOST_READS {
@@ -78,7 +103,7 @@ fn serve_lines<C: Duplex, D: Desk>(
                 Err(NotWritten) => Err(ServeFault::Write),
             };
         }
-        match take(alloc, &mut line, &buffer[..count], connection, desk) {
+        match take(alloc, queue, &mut line, &buffer[..count], connection, desk) {
             Ok(false) => {}
             Ok(true) => return Ok(Ended::Closed),
             Err(NotWritten) => return Err(ServeFault::Write),
@@ -100,11 +125,13 @@ fn has_begun(line: &LineBuffer) -> bool
 /// Takes a piece of the input, and answers each line that it ends. Whether one closed the desk.
 fn take<C: Duplex, D: Desk>(
     alloc: Global,
+    queue: &mut Queue<D>,
     line: &mut LineBuffer,
     piece: &[u8],
     connection: &mut C,
     desk: &mut D,
 ) -> Result<bool, NotWritten>
+    requires { queue.old.posted.items ≡ [] }
     ensures open { result ≡ Ok false → (done : List Line) × (replies : List Answer)
         × AllGet D.answers desk.old done replies desk.new
         × C.exchanged connection.old [] (reply_lines replies) connection.new
@@ -116,36 +143,73 @@ fn take<C: Duplex, D: Desk>(
     ensures failed { OnErr result ((text : List ℕ)
         × C.exchanged connection.old [] text connection.new
         × BreaksOff D.answers desk.old (lines_on line.old piece.now) text desk.new) }
+    ensures queue { queue.new.posted.items ≡ [] }
 {
     let mut rest = piece;
     while let Some(behind) = line.take(rest) {
-        let closed = end_line(alloc, line.get(), connection, desk)?;
+        let closed = end_line(alloc, queue, line.get(), connection, desk)?;
         if closed {
             return Ok(true);
         }
         line.clear();
         rest = behind;
     }
+    queue.answer_all(alloc, connection, desk)?;
     Ok(false)
 }
 
-/// Answers a line that a line feed ended. Whether it closed the desk.
+/// Posts the order of a line that a line feed ended, or answers it behind those that were posted.
+/// Whether it closed the desk.
 fn end_line<C: Duplex, D: Desk>(
     alloc: Global,
+    queue: &mut Queue<D>,
     line: Option<&[u8]>,
     connection: &mut C,
     desk: &mut D,
 ) -> Result<bool, NotWritten>
-    ensures ok { IfOk result (λ closed. (told : Answer) × (closed ≡ is_closed told)
-        × Gets D.answers desk.old (option_copied line.entry) told desk.new
-        × C.exchanged connection.old [] (reply_line told) connection.new) }
-    ensures err { OnErr result ((told : Answer) ×
-        Gets D.answers desk.old (option_copied line.entry) told desk.new
-        × WritesPart C.exchanged connection.old connection.new (reply_line told)) }
+    ensures open { IfOk result (λ closed. closed ≡ false → (d : D) (waiting : List Line) →
+        AwaitReplies D.posts d waiting queue.old.posted.items desk.old → (told : List Answer)
+        × GoesOn D.answers D.posts d (waiting ++ option_copied line.entry ∷ []) told
+        queue.new.posted.items desk.new
+        × C.exchanged connection.old [] (reply_lines told) connection.new) }
+    ensures closed { IfOk result (λ closed. closed ≡ true → (d : D) (waiting : List Line) →
+        AwaitReplies D.posts d waiting queue.old.posted.items desk.old → (told : List Answer)
+        × (f : D) × AllGet D.answers d waiting told f
+        × Gets D.answers f (option_copied line.entry) Closed desk.new
+        × C.exchanged connection.old [] (reply_lines told ++ reply_line Closed) connection.new) }
+    ensures failed { OnErr result ((d : D) (waiting : List Line) →
+        AwaitReplies D.posts d waiting queue.old.posted.items desk.old → (text : List ℕ)
+        × C.exchanged connection.old [] text connection.new
+        × ((left : List Line) → BreaksOff D.answers d
+        (waiting ++ option_copied line.entry ∷ left) text desk.new)) }
+    ensures over { IfOk result (λ closed. closed ≡ true → queue.new.posted.items ≡ []) }
+    ensures empty { OnErr result (queue.new.posted.items ≡ []) }
 {
-    let answer = answer_line(alloc, line, desk);
-    write_answer(alloc, connection, &answer)?;
-    Ok(answer.is_closed())
+    let asked = read_line(alloc, line);
+    match order_of(&asked) {
+        Some(order) => {
+            queue.make_room(alloc, connection, desk)?;
+            queue.post(desk, order);
+            Ok(false)
+        }
+        None => {
+            queue.answer_all(alloc, connection, desk)?;
+            let answer = answer_to(desk, asked);
+            write_answer(alloc, connection, &answer)?;
+            Ok(answer.is_closed())
+        }
+    }
+}
+
+/// The order that a line asks for, if it is one.
+fn order_of(asked: &Result<Request, LineFault>) -> Option<Request>
+    ensures some { IfSome result (λ order. (asked.now ≡ Ok order) × (is_order order ≡ true)) }
+    ensures none { IfNone result (IfOk asked.now (λ request. is_order request ≡ false)) }
+{
+    match asked {
+        Ok(request) if request.is_order() => Some(*request),
+        _ => None,
+    }
 }
 
 /// Ends the input. A last line that no line feed ended is unfinished, if it has a byte.

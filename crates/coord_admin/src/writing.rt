@@ -1,9 +1,10 @@
 //! Writing of replies.
 
-ghost use Rattle.std.specs.Prelude.{◌≡◌, [], OnErr, OnOk};
+ghost use Rattle.std.specs.Prelude.{◌≡◌, ◌++◌, [], List, ℕ, OnErr, OnOk};
+ghost use Rattle.coord_lines.specs.Written.{IsFirstPart};
 ghost use Rattle.coord_admin.specs.declared.answer.Answer.{Answer};
-ghost use Rattle.coord_admin.specs.Replies.{line_bytes, made_bytes, reply_line};
-ghost use Rattle.coord_admin.specs.Stream.{IsWritten, WritesPart};
+ghost use Rattle.coord_admin.specs.Replies.{line_bytes, made_bytes, reply_line, reply_lines};
+ghost use Rattle.coord_admin.specs.Stream.{AreWritten, IsWritten, WritesPart};
 
 use crate::answer::Answer;
 use crate::duplex::{Duplex, NotWritten};
@@ -46,6 +47,47 @@ pub fn write_answer<C: Duplex>(
 {
     let line = line_of_answer(alloc, answer);
     connection.reply(line.as_bytes())
+}
+
+/// Writes the reply lines of answers in order, in one write where there is memory for that.
+pub fn write_answers<C: Duplex>(
+    alloc: Global,
+    connection: &mut C,
+    answers: &[Answer],
+) -> Result<(), NotWritten>
+    ensures whole { OnOk result ((told : List Answer) × AreWritten answers.now told
+        × C.exchanged connection.old [] (reply_lines told) connection.new) }
+    ensures part { OnErr result ((told : List Answer) × (part : List ℕ)
+        × AreWritten answers.now told × C.exchanged connection.old [] part connection.new
+        × IsFirstPart part (reply_lines told)) }
+{
+    let mut text = Vec::new(alloc);
+    for answer in answers {
+        let line = line_of_answer(alloc, answer);
+        add_line(connection, &mut text, line.as_bytes())?;
+    }
+    connection.reply(&text)
+}
+
+/// Adds a line to a text that is to be written. Where there is no memory for it, both are written.
+fn add_line<C: Duplex>(
+    connection: &mut C,
+    text: &mut Vec<u8>,
+    line: &[u8],
+) -> Result<(), NotWritten>
+    ensures added { OnOk result ((out : List ℕ)
+        × C.exchanged connection.old [] out connection.new
+        × (text.old.items ++ line.now ≡ out ++ text.new.items)) }
+    ensures part { OnErr result ((part : List ℕ)
+        × C.exchanged connection.old [] part connection.new
+        × IsFirstPart part (text.old.items ++ line.now)) }
+{
+    if text.extend_from_slice(line).is_ok() {
+        return Ok(());
+    }
+    connection.reply(text)?;
+    text.clear();
+    connection.reply(line)
 }
 
 /// That the desk was closed, and each fault, is told without memory.

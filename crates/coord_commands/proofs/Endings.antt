@@ -1,10 +1,13 @@
 -- How commands end, from what their parts answer.
-use Rattle.std.proofs.Common.{◌≡◌, ℕ, List, Option, Result, Ok, Err, inl, inr, subst, sym, MatchResult, OnOk, OnErr, IfErr}
+use Rattle.std.proofs.Common.{◌≡◌, ℕ, List, Option, Result, Ok, Err, inl, inr, subst, sym, Bool, MatchResult, IsOk, OnOk, OnErr, IfErr}
+use Rattle.coord_disk.specs.Model.Present.{Present}
+use Rattle.coord_commands.proofs.Opening.{gave}
+use Rattle.std.proofs.lemmas.Bool.{false≢true}
 use Rattle.std.specs.Io.KnownBytes.{Appends, Keeps}
 use Rattle.coord_drill.specs.Drilled.{WritesFirstPart}
 use Rattle.coord_commands.specs.Ending.{Ends, IsCutShort, IsOfWriting, PrintsOne, Streams}
 use Rattle.coord_commands.specs.Faults.{fault_line, status_of}
-use Rattle.coord_commands.specs.Serving.{GivesWorld, IsAddress, IsOfServing, IsOfServingAt, Serves}
+use Rattle.coord_commands.specs.Serving.{IsAddress, IsOfServing, IsOfServingAt, IsServedToEnd, Serves}
 use Rattle.coord_commands.specs.declared.fault.Fault.{Fault}
 use Rattle.coord_commands.specs.declared.fault.Fault.TheVariants.{Usage, Read, Write, Socket, TooManyReads, OutOfMemory, Topology, Store, Refused, NotClosed}
 
@@ -44,11 +47,18 @@ at_address word bytes (Refused refusal) proper of = (proper, of)
 at_address word bytes (NotClosed fault) proper of = (proper, of)
 
 -- what was served, or was not
-pub served : {A : Type 0} (word : List ℕ) (bytes after : Option (List ℕ)) (ended : Result A Fault) (status : ℕ) (old new : Option (List ℕ)) → IsAddress word → status ≡ status_of ended
+pub served : {A D : Type 0} (keeps_model : D → Bool) (present : D → Present) (word : List ℕ) (bytes after : Option (List ℕ)) (ended : Result A Fault) (status : ℕ) (old new : Option (List ℕ)) → IsAddress word → status ≡ status_of ended
     → MatchResult ended (λ _. Keeps old new) (λ fault. WritesFirstPart old new (fault_line fault))
-    → OnOk ended (GivesWorld bytes) → OnOk ended (GivesWorld after) → IfErr ended (IsOfServing bytes) → Serves word bytes after status old new
-served word bytes after (Ok x) status old new proper is told opened closed of = inl (record { number = is; address = proper; opened = opened; closed = closed; silent = told })
-served word bytes after (Err fault) status old new proper is told opened closed of = inr (record { fault = fault; possible = at_address word bytes fault proper of; number = is; told = told })
+    → OnOk ended (IsServedToEnd keeps_model present bytes after) → IfErr ended (IsOfServing bytes) → Serves word bytes after status old new
+served keeps_model present word bytes after (Ok x) status old new proper is told closed of =
+    let gives = gave keeps_model present bytes after closed in
+    inl (record { number = is; address = proper; opened = gives.0; closed = gives.1; silent = told })
+served keeps_model present word bytes after (Err fault) status old new proper is told closed of = inr (record { fault = fault; possible = at_address word bytes fault proper of; number = is; told = told })
+
+-- what holds where it has ended well
+pub is_done : {A : Type 0} (P : Type 0) (ended : Result A Fault) → IsOk ended → OnOk ended P → P
+is_done P (Ok x) ok so = so
+is_done P (Err fault) ok so = absurd (false≢true ok)
 
 -- what is an error with a fault
 pub err_last : {A : Type 0} (P : Fault → Type 0) (result : Result A Fault) (fault : Fault) → result ≡ Err fault → P fault → IfErr result P

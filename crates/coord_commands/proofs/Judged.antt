@@ -1,10 +1,11 @@
 -- The faults of `init`, from those of its parts.
-use Rattle.std.proofs.Common.{◌≡◌, ◌≢◌, ℕ, List, take, Option, Some, None, Result, Ok, Err, IfSome, refl, subst, IfErr, IfOk}
+use Rattle.std.proofs.Common.{◌≡◌, ◌≢◌, ℕ, List, take, Option, Some, None, Result, Ok, Err, IfSome, length, refl, subst, arith, IfErr, IfOk}
 use Rattle.coord_config.specs.Topology.{Content, content}
 use Rattle.coord_config.specs.declared.fault.ConfigFault.{ConfigFault}
 use Rattle.coord_config.specs.declared.fault.ConfigFault.TheVariants as of_topology
 use Rattle.coord_config.specs.declared.topology.Topology.{Topology as Given}
-use Rattle.coord_commands.specs.Making.{IsOfMaking, RefusesFile, RefusesStore, Says}
+use Rattle.coord_commands.specs.Ending.{IsOfWriting}
+use Rattle.coord_commands.specs.Making.{IsMade, IsOfMaking, KeepsTaken, RefusesFile, RefusesStore, Says, Stays}
 use Rattle.coord_commands.specs.declared.topology.TheConstants.{MOST_BYTES}
 use Rattle.coord_commands.specs.Topology.{IsOfText, said_by}
 use Rattle.coord_commands.specs.declared.fault.Fault.{Fault}
@@ -21,19 +22,33 @@ of_reason file of_topology.NotToml why = why (λ same. cc)
 of_reason file of_topology.BadKey why = why (λ same. cc)
 of_reason file of_topology.BadValue why = why (λ same. cc)
 
--- the faults of a topology file
-of_text : (file before after : Option (List ℕ)) (fault : Fault) → IsOfText fault
-    → ((reason : ConfigFault) → reason ≢ of_topology.OutOfMemory → IfSome file (λ bytes. fault ≡ Topology reason → said_by (take MOST_BYTES bytes) ≡ Err reason)) → IsOfMaking file before after fault
-of_text file before after Usage is why = absurd is
-of_text file before after Read is why = tt
-of_text file before after Write is why = absurd is
-of_text file before after Socket is why = absurd is
-of_text file before after TooManyReads is why = absurd is
-of_text file before after OutOfMemory is why = tt
-of_text file before after (Topology reason) is why = of_reason file reason (λ wanted. told file (λ bytes. said_by (take MOST_BYTES bytes) ≡ Err reason) (why reason wanted) refl)
-of_text file before after (Store fault) is why = absurd is
-of_text file before after (Refused refusal) is why = absurd is
-of_text file before after (NotClosed fault) is why = absurd is
+-- bytes stay where they are the same
+stays : (same : Option (List ℕ)) → Stays same same
+stays None = tt
+stays (Some bytes) = refl
+
+keeps : (same : Option (List ℕ)) → KeepsTaken same same
+keeps None = tt
+keeps (Some bytes) = λ taken. refl
+
+-- the faults of a topology file, which leave the disk alone
+of_text : (file same : Option (List ℕ)) (fault : Fault) → IsOfText fault
+    → ((reason : ConfigFault) → reason ≢ of_topology.OutOfMemory → IfSome file (λ bytes. fault ≡ Topology reason → said_by (take MOST_BYTES bytes) ≡ Err reason)) → IsOfMaking file same same fault
+of_text file same Usage is why = absurd is
+of_text file same Read is why = stays same
+of_text file same Write is why = absurd is
+of_text file same Socket is why = absurd is
+of_text file same TooManyReads is why = absurd is
+of_text file same OutOfMemory is why = keeps same
+of_text file same (Topology reason) is why = (of_reason file reason (λ wanted. told file (λ bytes. said_by (take MOST_BYTES bytes) ≡ Err reason) (why reason wanted) refl), stays same)
+of_text file same (Store fault) is why = absurd is
+of_text file same (Refused refusal) is why = absurd is
+of_text file same (NotClosed fault) is why = absurd is
+
+-- a store was made on a disk that was empty
+made_keeps : (before after : Option (List ℕ)) → IfSome before (λ bytes. length bytes ≡ 0) → KeepsTaken before after
+made_keeps None after empty = tt
+made_keeps (Some bytes) after empty = λ taken. absurd (omega (arith, taken, empty))
 
 -- those of the store of the topology that the file says
 of_store : (file before after : Option (List ℕ)) (topology : Content) (fault : Fault) → Says file topology → RefusesStore before after topology fault → IsOfMaking file before after fault
@@ -42,23 +57,42 @@ of_store file before after topology Read said is = absurd is
 of_store file before after topology Write said is = absurd is
 of_store file before after topology Socket said is = absurd is
 of_store file before after topology TooManyReads said is = absurd is
-of_store file before after topology OutOfMemory said is = tt
+of_store file before after topology OutOfMemory said is = is
 of_store file before after topology (Topology reason) said is = absurd is
 of_store file before after topology (Store fault) said is = (topology, said, is)
 of_store file before after topology (Refused refusal) said is = (topology, said, is)
 of_store file before after topology (NotClosed fault) said is = absurd is
 
 -- a file that cannot be read, or is refused, where this is what was left to read of it
-pub refused_file : {A : Type 0} (file left before after : Option (List ℕ)) (read : Result A Fault) (fault : Fault) → left ≡ file → read ≡ Err fault → IfErr read IsOfText
-    → ((reason : ConfigFault) → reason ≢ of_topology.OutOfMemory → IfSome left (λ bytes. IfErr read (λ f. f ≡ Topology reason → said_by (take MOST_BYTES bytes) ≡ Err reason))) → IsOfMaking file before after fault
-refused_file file left before after read fault all is named refused =
-    of_text file before after fault (subst (λ r. IfErr r IsOfText) is named)
+pub refused_file : {A : Type 0} (file left same : Option (List ℕ)) (read : Result A Fault) (fault : Fault) → left ≡ file → read ≡ Err fault → IfErr read IsOfText
+    → ((reason : ConfigFault) → reason ≢ of_topology.OutOfMemory → IfSome left (λ bytes. IfErr read (λ f. f ≡ Topology reason → said_by (take MOST_BYTES bytes) ≡ Err reason))) → IsOfMaking file same same fault
+refused_file file left same read fault all is named refused =
+    of_text file same fault (subst (λ r. IfErr r IsOfText) is named)
     (λ reason wanted. subst (λ l. IfSome l (λ bytes. fault ≡ Topology reason → said_by (take MOST_BYTES bytes) ≡ Err reason)) all
     (subst (λ r. IfSome left (λ bytes. IfErr r (λ f. f ≡ Topology reason → said_by (take MOST_BYTES bytes) ≡ Err reason))) is (refused reason wanted)))
+
+-- what the topology file was read as, where the store was made of it
+pub said_of : (file left : Option (List ℕ)) (read : Result Given Fault) (topology : Given) → left ≡ file → read ≡ Ok topology
+    → IfSome left (λ bytes. IfOk read (λ t. said_by (take MOST_BYTES bytes) ≡ Ok (content t))) → Says file (content topology)
+said_of file left read topology all is said =
+    subst (λ l. Says l (content topology)) all (subst (λ r. IfSome left (λ bytes. IfOk r (λ t. said_by (take MOST_BYTES bytes) ≡ Ok (content t)))) is said)
 
 -- a store that is not made of the topology that was read
 pub refused_store : (file left before after : Option (List ℕ)) (read : Result Given Fault) (topology : Given) (fault : Fault) → left ≡ file → read ≡ Ok topology
     → IfSome left (λ bytes. IfOk read (λ t. said_by (take MOST_BYTES bytes) ≡ Ok (content t))) → RefusesStore before after (content topology) fault → IsOfMaking file before after fault
 refused_store file left before after read topology fault all is said refused =
     of_store file before after (content topology) fault
-    (subst (λ l. Says l (content topology)) all (subst (λ r. IfSome left (λ bytes. IfOk r (λ t. said_by (take MOST_BYTES bytes) ≡ Ok (content t)))) is said)) refused
+    (said_of file left read topology all is said) refused
+
+-- the line of a store that was made cannot be printed
+pub unprinted : (file before after : Option (List ℕ)) (topology : Content) → Says file topology → IsMade topology before after → (fault : Fault) → IsOfWriting fault → IsOfMaking file before after fault
+unprinted file before after topology said made Usage is = absurd is
+unprinted file before after topology said made Read is = absurd is
+unprinted file before after topology said made Write is = (topology, said, made)
+unprinted file before after topology said made Socket is = absurd is
+unprinted file before after topology said made TooManyReads is = absurd is
+unprinted file before after topology said made OutOfMemory is = made_keeps before after made.empty
+unprinted file before after topology said made (Topology reason) is = absurd is
+unprinted file before after topology said made (Store fault) is = absurd is
+unprinted file before after topology said made (Refused refusal) is = absurd is
+unprinted file before after topology said made (NotClosed fault) is = absurd is

@@ -5,6 +5,7 @@ use Rattle.coord_config.specs.declared.fault.ConfigFault.{ConfigFault}
 use Rattle.coord_config.specs.declared.fault.ConfigFault.TheVariants as of_topology
 use Rattle.coord_store.specs.Facade.{IsCreateFault, Recovered}
 use Rattle.coord_store.specs.declared.faults.StoreFault.{StoreFault}
+use Rattle.coord_store.specs.declared.faults.StoreFault.TheVariants as of_store
 use Rattle.coord_store.specs.declared.faults.StoreFault.TheVariants.{NotEmpty, HalfSize}
 use Rattle.coord_world.specs.Facade.{World, fold, no_world}
 use Rattle.coord_commands.specs.declared.topology.TheConstants.{MOST_BYTES}
@@ -38,10 +39,15 @@ pub record IsCreatedLine (file before after : Option (List ℕ)) (line : List �
 abbrev pub Stays : Option (List ℕ) → Option (List ℕ) → Type 0
 Stays before after = IfSome before (λ old. IfSome after (λ new. new ≡ old))
 
--- a disk that is not empty is refused, and then as it was
+-- bytes that were there have stayed
+abbrev pub KeepsTaken : Option (List ℕ) → Option (List ℕ) → Type 0
+KeepsTaken before after = IfSome before (λ old. 0 < length old → IfSome after (λ new. new ≡ old))
+
+-- a disk that is not empty is refused, and then as it was; it stays so too where there was no memory
 abbrev pub RefusesDisk : Option (List ℕ) → Option (List ℕ) → StoreFault → Type 0
 RefusesDisk before after NotEmpty = IfSome before (λ bytes. 0 < length bytes) × Stays before after
 RefusesDisk before after HalfSize = Stays before after
+RefusesDisk before after of_store.OutOfMemory = KeepsTaken before after
 RefusesDisk before after fault = IsCreateFault fault
 
 -- the topology file, where it is known, says no topology, and this is why; or there is no memory to read it
@@ -51,17 +57,17 @@ RefusesFile file reason = IfSome file (λ bytes. said_by (take MOST_BYTES bytes)
 
 -- why the store of a topology is not made on a disk
 abbrev pub RefusesStore : Option (List ℕ) → Option (List ℕ) → Content → Fault → Type 0
-RefusesStore before after topology OutOfMemory = Unit {0}
+RefusesStore before after topology OutOfMemory = KeepsTaken before after
 RefusesStore before after topology (Store fault) = RefusesDisk before after fault
 RefusesStore before after topology (Refused refusal) = RefusesToBegin (orders topology) refusal
 RefusesStore before after topology fault = ⊥
 
--- The faults of `init`, its words aside. The topology file is judged first: it says a topology where its store is not made.
+-- The faults of `init`, its words aside. The topology file is judged first: it says a topology where its store is not made. Where the line cannot be written, the store was made.
 abbrev pub IsOfMaking : Option (List ℕ) → Option (List ℕ) → Option (List ℕ) → Fault → Type 0
-IsOfMaking file before after Read = Unit {0}
-IsOfMaking file before after Write = Unit {0}
-IsOfMaking file before after OutOfMemory = Unit {0}
-IsOfMaking file before after (Topology reason) = RefusesFile file reason
+IsOfMaking file before after Read = Stays before after
+IsOfMaking file before after Write = (topology : Content) × Says file topology × IsMade topology before after
+IsOfMaking file before after OutOfMemory = KeepsTaken before after
+IsOfMaking file before after (Topology reason) = RefusesFile file reason × Stays before after
 IsOfMaking file before after (Store fault) = (topology : Content) × Says file topology × RefusesStore before after topology (Store fault)
 IsOfMaking file before after (Refused refusal) = (topology : Content) × Says file topology × RefusesStore before after topology (Refused refusal)
 IsOfMaking file before after fault = ⊥

@@ -46,6 +46,10 @@ pub record FailsToDrill (input left : Option (List ℕ)) (status : ℕ) (old new
 abbrev pub Drills : Option (List ℕ) → Option (List ℕ) → ℕ → Streams → Streams → Type 0
 Drills input left status old new = HasDrilled input left status old new ⊎ FailsToDrill input left status old new
 
+-- around a run over files, of which nothing is known
+abbrev pub files_around : Option (List ℕ) → Option (List ℕ) → Option (List ℕ) → Around
+files_around input output errors = record { input = input; streams = record { output = output; errors = errors }; holds = λ _. None; says = λ _. None }
+
 -- what is asked for is done
 abbrev pub Does : Asked → ℕ → Around → Around → Type 0
 Does drill status old new = Drills old.input new.input status old.streams new.streams
@@ -65,6 +69,11 @@ IsOfWords words fault = ⊥
 -- then nothing but the fault's line is printed, and nothing is read
 pub record RefusesWords (words : List Text) (status : ℕ) (old new : Around) : Type 0 where
   pub fails : Fails (IsOfWords words) (λ _. ⊥) status old.streams new.streams
+  pub unread : Keeps old.input new.input
+
+-- the words could not be had: nothing but this fault's line is printed, and nothing is read
+pub record LacksWords (fault : Fault) (status : ℕ) (old new : Around) : Type 0 where
+  pub fails : Fails (λ told. told ≡ fault) (λ _. ⊥) status old.streams new.streams
   pub unread : Keeps old.input new.input
 
 -- the words are refused, or what they ask for is done

@@ -5,7 +5,7 @@ ghost use Rattle.coord_commands.specs.Ending.{Ends};
 ghost use Rattle.coord_commands.specs.Inspection.{Checks, Shows};
 ghost use Rattle.coord_commands.specs.Making.{IsCreatedLine, IsOfMaking};
 ghost use Rattle.coord_commands.specs.Migrating.{IsMigratedLine, IsOfMigrating};
-ghost use Rattle.coord_commands.specs.Running.{Runs};
+ghost use Rattle.coord_commands.specs.Running.{Runs, files_around};
 
 use crate::folder::{FileFolder, Folder};
 use crate::inspection::{check_in, show_in};
@@ -30,24 +30,8 @@ pub fn run<
     E: Write,
 >(rt: &S, words: &[String], input: &mut R, output: &mut W, errors: &mut E) -> u8
     ensures { Runs (map string_bytes words.now) result
-        (record {
-          input = R.remaining input.old;
-          streams = record {
-            output = W.contents output.old;
-            errors = E.contents errors.old;
-          };
-          holds = λ _. None;
-          says = λ _. None;
-        })
-        (record {
-          input = R.remaining input.new;
-          streams = record {
-            output = W.contents output.new;
-            errors = E.contents errors.new;
-          };
-          holds = λ _. None;
-          says = λ _. None;
-        }) }
+        (files_around (R.remaining input.old) (W.contents output.old) (E.contents errors.old))
+        (files_around (R.remaining input.new) (W.contents output.new) (E.contents errors.new)) }
 {
     let mut folder = FileFolder::new(rt);
     carry_out(rt, &mut folder, words, input, output, errors)

@@ -1,12 +1,12 @@
 //! Making the store of a topology on a disk.
 
-ghost use Rattle.std.specs.Prelude.{◌≡◌, ◌⊎◌, ◌+◌, true, length, IfErr, IfOk, MatchResult, None};
+ghost use Rattle.std.specs.Prelude.{◌≡◌, ◌≢◌, ◌⊎◌, ◌+◌, ◌<◌, true, length, IfErr, IfOk, MatchResult, None};
 ghost use Rattle.coord_commands.specs.Creation.{IsOfCreation, RefusesCommitted, failures_at};
 ghost use Rattle.coord_commands.specs.Founding.{RefusesToBegin, orders};
 ghost use Rattle.coord_commands.specs.declared.fault.Fault.TheVariants.{Refused, Store as Failed};
 ghost use Rattle.coord_config.specs.Topology.{content};
 ghost use Rattle.coord_store.specs.Kept.{IsUntouched, made};
-ghost use Rattle.coord_store.specs.declared.faults.StoreFault.TheVariants.{HalfSize, NotEmpty};
+ghost use Rattle.coord_store.specs.declared.faults.StoreFault.TheVariants.{Device, HalfSize, NotEmpty};
 ghost use Rattle.coord_types.specs.declared.refusals.Refusal.{Refusal as Reason};
 ghost use Rattle.coord_world.specs.protocol.Next.{fold};
 ghost use Rattle.coord_world.specs.protocol.NumberedWorld.{no_world};
@@ -40,6 +40,9 @@ pub fn create_store<D: Disk>(
     // What a refusal leaves, the device's own faults aside.
     ensures unchanged { D.keeps_model disk ≡ true →
         IfErr result (λ refused. (refused.0 ≡ Failed NotEmpty) ⊎ (refused.0 ≡ Failed HalfSize) →
+        IsUntouched D.present D.clock D.left_since disk refused.1) }
+    ensures taken { D.keeps_model disk ≡ true → 0 < length (D.present disk).read →
+        IfErr result (λ refused. refused.0 ≢ Failed Device →
         IsUntouched D.present D.clock D.left_since disk refused.1) }
     ensures left_empty { (reason : Reason) → D.keeps_model disk ≡ true →
         IfErr result (λ refused. refused.0 ≡ Refused reason

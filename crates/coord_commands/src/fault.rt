@@ -1,6 +1,6 @@
 //! Why a command ends before its work is done.
 
-ghost use Rattle.std.specs.Prelude.{◌≡◌, ◌≢◌};
+ghost use Rattle.std.specs.Prelude.{◌≡◌, ◌≢◌, ◌<◌};
 ghost use Rattle.std.specs.IoError.{error_kind};
 ghost use Rattle.coord_commands.specs.Faults.{fault_status};
 
@@ -40,7 +40,7 @@ pub enum Fault {
 }
 
 impl Fault {
-    /// The fault of words that could not be had: want of memory, or else `Usage`.
+    /// The fault if the program's words could not be read: want of memory, or else `Usage`.
     pub fn of_words(error: &Error) -> Fault
         ensures memory { error_kind error.now ≡ ErrorKind.OutOfMemory → result ≡ Fault.OutOfMemory }
         ensures other { error_kind error.now ≢ ErrorKind.OutOfMemory → result ≡ Fault.Usage }
@@ -62,7 +62,8 @@ impl Fault {
     /// The exit status: 1 for what was refused, 2 for refused words, 3 for reading, writing, sockets
     /// and the device, 4 for want of memory.
     pub fn status(&self) -> u8
-        ensures { result ≡ fault_status self.now }
+        ensures number { result ≡ fault_status self.now }
+        ensures failed { 0 < result }
     {
         match *self {
             Fault::Usage => 2,

@@ -18,8 +18,8 @@ pub struct Named {
     pub bytes: Vec<u8>,
 }
 
-/// One disk in memory, unless it is taken, and texts. All is known of them; of disks of other names
-/// nothing is, and they can't be opened.
+/// One disk in memory, unless somebody has taken it, and texts. All is known of them. Disks of
+/// other names can't be opened.
 #[derive(Drop)]
 pub struct MemFolder {
     pub alloc: Global,

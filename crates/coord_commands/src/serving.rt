@@ -5,9 +5,10 @@ ghost use Rattle.std.specs.Io.KnownBytes.{Keeps};
 ghost use Rattle.std.specs.Net.Grammar.{IsSocketV4Text};
 ghost use Rattle.std.specs.declared.net.socket_addr.SocketAddrV4.{SocketAddrV4};
 ghost use Rattle.coord_commands.specs.Folders.{bytes_of, reads};
-ghost use Rattle.coord_commands.specs.Serving.{GivesWorld, IsOfServing, Serves};
+ghost use Rattle.coord_commands.specs.Serving.{IsOfServing, IsServedToEnd, Serves};
 ghost use Rattle.coord_commands.specs.declared.fault.Fault.TheVariants.{Socket, Usage};
 ghost use Rattle.coord_store.specs.Kept.{has_stopped};
+ghost use Rattle.coord_store.specs.Recovered.{Recovered};
 
 use crate::fault::Fault;
 use crate::folder::{FileFolder, Folder};
@@ -53,6 +54,8 @@ pub fn serve_in<
     ensures served { Serves address.now (reads (F.holds folder.old file.now))
         (reads (F.holds folder.new file.now)) result (E.contents errors.old)
         (E.contents errors.new) }
+    ensures closed { result ≡ 0 → IsServedToEnd F.Disk.keeps_model F.Disk.present
+        (reads (F.holds folder.old file.now)) (reads (F.holds folder.new file.now)) }
     ensures usage { ((a : SocketAddrV4) → ¬ IsSocketV4Text address.now a) → (result ≡ 2) ×
         (folder.new ≡ folder.old) × Keeps (W.contents output.old) (W.contents output.new) }
 {
@@ -62,6 +65,7 @@ pub fn serve_in<
     report(serve_at(rt, folder, file, place, output), errors)
 }
 
+#[tactic(auto, using(crate::proofs::Opening::served_to_end))]
 fn serve_at<S: Net + Threads + Wait + Clock + Sync + AllocGlobal, F: Folder, W: Write + Send>(
     rt: &S,
     folder: &mut F,
@@ -69,8 +73,8 @@ fn serve_at<S: Net + Threads + Wait + Clock + Sync + AllocGlobal, F: Folder, W: 
     address: SocketAddrV4,
     output: &mut W,
 ) -> Result<(), Fault>
-    ensures opened { OnOk result (GivesWorld (reads (F.holds folder.old file.now))) }
-    ensures closed { OnOk result (GivesWorld (reads (F.holds folder.new file.now))) }
+    ensures served { OnOk result (IsServedToEnd F.Disk.keeps_model F.Disk.present
+        (reads (F.holds folder.old file.now)) (reads (F.holds folder.new file.now))) }
     ensures fault { IfErr result (IsOfServing (reads (F.holds folder.old file.now))) }
 {
     let disk = folder.open(file)?;
@@ -92,7 +96,8 @@ fn serve_at<S: Net + Threads + Wait + Clock + Sync + AllocGlobal, F: Folder, W: 
 
 /// The store on a disk.
 fn opened<D: Disk>(alloc: Global, disk: D) -> Result<Store<D>, Fault>
-    ensures world { IfOk result (λ _. GivesWorld (bytes_of D.keeps_model D.present disk)) }
+    ensures world { IfOk result (λ store.
+        IfSome (bytes_of D.keeps_model D.present disk) (λ known. Recovered known store.world)) }
     ensures going { IfOk result (λ store. has_stopped store ≡ false) }
     ensures fault { IfErr result (IsOfServing (bytes_of D.keeps_model D.present disk)) }
 {
@@ -115,7 +120,8 @@ fn bound<S: Net>(rt: &S, address: SocketAddrV4) -> Result<S::Listener, Fault>
 /// The disk of a store that was served and has not stopped.
 fn left<D: Disk>(closed: Closed<D>) -> D
     requires { has_stopped closed.store ≡ false }
-    ensures { GivesWorld (bytes_of D.keeps_model D.present result) }
+    ensures { IfSome (bytes_of D.keeps_model D.present result) (λ known.
+        Recovered known closed.store.world) }
 {
     closed.store.into_disk()
 }

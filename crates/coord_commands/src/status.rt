@@ -1,6 +1,6 @@
 //! What a command answers.
 
-ghost use Rattle.std.specs.Prelude.{◌≡◌, MatchResult};
+ghost use Rattle.std.specs.Prelude.{◌≡◌, IsOk, MatchResult};
 ghost use Rattle.std.specs.Io.KnownBytes.{Keeps};
 ghost use Rattle.coord_commands.specs.Faults.{fault_line, status_of};
 ghost use Rattle.coord_drill.specs.Drilled.{WritesFirstPart};
@@ -13,6 +13,7 @@ use std::io::Write;
 /// that cannot be printed whole a first part is.
 pub fn report<E: Write>(ended: Result<(), Fault>, errors: &mut E) -> u8
     ensures status { result ≡ status_of ended }
+    ensures done { result ≡ 0 → IsOk ended }
     ensures told { MatchResult ended (λ _. Keeps (E.contents errors.old) (E.contents errors.new))
         (λ fault. WritesFirstPart (E.contents errors.old) (E.contents errors.new)
         (fault_line fault)) }

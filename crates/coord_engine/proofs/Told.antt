@@ -1,74 +1,50 @@
 -- What is told of a flight.
-use Rattle.std.proofs.Common.{◌≡◌, ℕ, List, Option, Some, None, Result, Ok, Err, true, false, refl, sym, ap, subst, inl, inr, IfErr, IfNone, IfOk, IfSome, IsSomeAnd}
+use Rattle.std.proofs.Common.{◌≡◌, ℕ, List, Option, Some, None, Result, Ok, Err, true, refl, sym, ap, subst, inl, inr, IfErr, IfNone, IfOk, IfSome, MatchResult}
 use Rattle.coord_store.specs.declared.faults.CommitFault.{CommitFault}
 use Rattle.coord_store.specs.declared.faults.CommitFault.TheVariants.{Again, Device, Full, OutOfMemory, Stopped}
+use Rattle.coord_ledger.specs.declared.mark.Mark.TheVariants.{New}
 use Rattle.coord_ledger.specs.declared.release.Release.{Release}
-use Rattle.coord_ledger.specs.Facade.{FlightState, keeps_store}
-use Rattle.coord_engine.specs.Facade.{AtSomeMoment, Basis, Commits, Ended, Flies, Flushes, HangarMoves, Leaves, RefusesFlush, Tells, hangar_moves}
+use Rattle.coord_ledger.specs.Facade.{FlightState, keeps_store, releases_in}
+use Rattle.coord_engine.specs.Facade.{AnswersFlush, AtSomeMoment, Basis, ComesBack, Commits, Flushes, Leaves, RefusesFlush}
 use Rattle.coord_engine.proofs.Flights.{flushed}
 
-module _ {S : Type 0} (h : HangarMoves S) where
-  pub tells_none : (s t : S) → h.begins s (Ok false) t → Tells h s (Ok None) t
-  tells_none s t is = inl is
+module _ {D : Type 0} (b : Basis D) (failures : D → ℕ) where
+  -- a flight that left, was committed with an answer and came back: what it released, or why it was not settled
+  abbrev Flown : Result (Unit {0}) CommitFault → List Release → Type 0
+  Flown (Ok done) released = AtSomeMoment b (Flushes released)
+  Flown (Err fault) released = RefusesFlush b failures fault
 
-  pub tells_refused : (s t : S) (fault : CommitFault) → h.begins s (Err fault) t → Tells h s (Err fault) t
-  tells_refused s t fault is = inl is
+  flown : (left back : FlightState D) (released : List Release) → AtSomeMoment b (Leaves left) → released ≡ releases_in back back.mark → AtSomeMoment b (ComesBack back)
+      → (answer : Result (Unit {0}) CommitFault) → Commits failures left answer back → Flown answer released
+  flown left back released leaves is comes (Ok done) tried = record { state = leaves.state; held = leaves.held; so = flushed left back leaves.state released leaves.so (λ _. tried.mark_is) tried.same_steps tried.same_world is }
+  flown left back released leaves is comes (Err Device) tried = record { left = left; back = back; leaves = leaves; tried = tried; comes = comes }
+  flown left back released leaves is comes (Err OutOfMemory) tried = inr (record { left = left; back = back; leaves = leaves; tried = tried; comes = comes })
+  flown left back released leaves is comes (Err Full) tried = absurd tried
+  flown left back released leaves is comes (Err Stopped) tried = absurd tried
+  flown left back released leaves is comes (Err Again) tried = absurd tried
 
-  of_released : (s t : S) (released : Option (List Release)) → Flies h s (Ok tt) released t → Tells h s (Ok released) t
-  of_released s t None is = inr is
-  of_released s t (Some x) is = is
+  answered : (committed : Result (Unit {0}) CommitFault) (released : List Release) (told : Result (Option (List Release)) CommitFault)
+      → MatchResult committed (λ _. told ≡ Ok (Some released)) (λ fault. told ≡ Err fault) → Flown committed released → AnswersFlush b failures told
+  answered (Ok done) released told is so = subst (AnswersFlush b failures) (sym is) so
+  answered (Err fault) released told is so = subst (AnswersFlush b failures) (sym is) so
 
-  pub tells_released : (s m c t : S) (released : Option (List Release)) → h.begins s (Ok true) m → h.commits m (Ok tt) c → h.ends c released t → Tells h s (Ok released) t
-  tells_released s m c t released begun done ended = of_released s t released (record { left = m; committed = c; begins = begun; commits = done; ends = ended })
+  -- what a flush answers, once its flight is back
+  pub told_back : (left back : FlightState D) (released : List Release) → AtSomeMoment b (Leaves left) → (committed : Result (Unit {0}) CommitFault) → (left.mark ≡ New → Commits failures left committed back)
+      → released ≡ releases_in back back.mark → AtSomeMoment b (ComesBack back) → (told : Result (Option (List Release)) CommitFault)
+      → MatchResult committed (λ _. told ≡ Ok (Some released)) (λ fault. told ≡ Err fault) → AnswersFlush b failures told
+  told_back left back released leaves committed tried is comes told same =
+      answered committed released told same (flown left back released leaves is comes committed (tried (ap (λ (f : FlightState D). f.mark) leaves.so.1)))
 
-  pub tells_failed : (s m c t : S) (fault : CommitFault) (lost : Option (List Release)) → h.begins s (Ok true) m → h.commits m (Err fault) c → h.ends c lost t → Tells h s (Err fault) t
-  tells_failed s m c t fault lost begun failed ended = inr (lost, record { left = m; committed = c; begins = begun; commits = failed; ends = ended })
+  -- the clauses of an answer, and the answer of its clauses
+  pub clauses : (told : Result (Option (List Release)) CommitFault) → AnswersFlush b failures told
+      → IfOk told (λ begun. IfSome begun (λ released. AtSomeMoment b (Flushes released))) × IfOk told (λ begun. IfNone begun (AtSomeMoment b (λ g. keeps_store g.ledger ≡ true))) × IfErr told (RefusesFlush b failures)
+  clauses (Ok None) is = (tt, is, tt)
+  clauses (Ok (Some released)) is = (is, tt, tt)
+  clauses (Err fault) is = (tt, tt, is)
 
--- what is there is some
-pub there : {T : Type 0} (o : Option T) (P : T → Type 0) → IsSomeAnd o P → (x : T) × (o ≡ Some x) × P x
-there None P is = absurd is
-there (Some x) P is = (x, refl, is)
-
--- a flight of an engine that was flown: how it left, how it was committed, and what it released when it came back
-record Flown {D : Type 0} (b : Basis D) (failures : D → ℕ) (answer : Result (Unit {0}) CommitFault) (released : Option (List Release)) : Type 0 where
-  left : FlightState D
-  back : FlightState D
-  given : List Release
-  leaves : AtSomeMoment b (Leaves left)
-  commits : Commits failures left answer back
-  is_given : released ≡ Some given
-  ended : Ended b back given
-
--- what an engine tells of a flight
-abbrev pub Told : {D : Type 0} → Basis D → (D → ℕ) → Result (Option (List Release)) CommitFault → Type 0
-Told b failures answer =
-    IfOk answer (λ begun. IfSome begun (λ released. AtSomeMoment b (Flushes released)))
-    × IfOk answer (λ begun. IfNone begun (AtSomeMoment b (λ g. keeps_store g.ledger ≡ true)))
-    × IfErr answer (RefusesFlush b failures)
-
-module _ {S D : Type 0} (b : Basis D) (failures : D → ℕ) (out : S → Option (FlightState D)) (s t : S) where
-  flown : (answer : Result (Unit {0}) CommitFault) (released : Option (List Release)) → Flies (hangar_moves b failures out) s answer released t → Flown b failures answer released
-  flown answer released is =
-      let left = there (out is.left) (λ f. AtSomeMoment b (Leaves f)) is.begins in
-      let back = there (out is.committed) (Commits failures left.0 answer) (is.commits left.0 left.1 (ap (λ (f : FlightState D). f.mark) left.2.so.1)) in
-      let given = there released (Ended b back.0) (is.ends back.0 back.1) in
-      record { left = left.0; back = back.0; given = given.0; leaves = left.2; commits = back.2; is_given = given.1; ended = given.2 }
-
-  settled : (released : List Release) → Flown b failures (Ok tt) (Some released) → AtSomeMoment b (Flushes released)
-  settled released is =
-      let given : released ≡ is.given = cc (is.is_given) in
-      subst (λ r. AtSomeMoment b (Flushes r)) (sym given) (record { state = is.leaves.state; held = is.leaves.held; so = flushed is.left is.back is.leaves.state is.given is.leaves.so (λ _. is.commits.mark_is) is.commits.same_steps is.commits.same_world is.ended.0 })
-
-  refused : (fault : CommitFault) (lost : Option (List Release)) → Flown b failures (Err fault) lost → RefusesFlush b failures fault
-  refused Device lost is = record { left = is.left; back = is.back; leaves = is.leaves; tried = is.commits; comes = is.ended.1 }
-  refused OutOfMemory lost is = inr (record { left = is.left; back = is.back; leaves = is.leaves; tried = is.commits; comes = is.ended.1 })
-  refused Full lost is = absurd is.commits
-  refused Stopped lost is = absurd is.commits
-  refused Again lost is = absurd is.commits
-
-  pub told : (answer : Result (Option (List Release)) CommitFault) → Tells (hangar_moves b failures out) s answer t → Told b failures answer
-  told (Ok None) (inl none) = (tt, none, tt)
-  told (Ok None) (inr is) = let f = flown (Ok tt) None is in absurd (cc (f.is_given))
-  told (Ok (Some released)) is = (settled released (flown (Ok tt) (Some released) is), tt, tt)
-  told (Err fault) (inl none) = (tt, tt, subst (RefusesFlush b failures) (sym none.0) (inl none.1))
-  told (Err fault) (inr is) = (tt, tt, refused fault is.0 (flown (Err fault) is.0 is.1))
+  pub answer : (told : Result (Option (List Release)) CommitFault)
+      → IfOk told (λ begun. IfSome begun (λ released. AtSomeMoment b (Flushes released))) → IfOk told (λ begun. IfNone begun (AtSomeMoment b (λ g. keeps_store g.ledger ≡ true))) → IfErr told (RefusesFlush b failures)
+      → AnswersFlush b failures told
+  answer (Ok None) flushed nothing refused = nothing
+  answer (Ok (Some released)) flushed nothing refused = flushed
+  answer (Err fault) flushed nothing refused = refused

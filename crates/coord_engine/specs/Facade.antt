@@ -2,11 +2,10 @@
 pub use Rattle.coord_engine.specs.Benches.{BenchMoves, TriesAll, has_to_wait}
 pub use Rattle.coord_engine.specs.Calls.{AnswersStep, CollectsAs, LedgerAndNotes, RefusesTicket, engine_verdict, note_of}
 pub use Rattle.coord_engine.specs.Closing.{IsSince}
-pub use Rattle.coord_engine.specs.Flights.{ComesBack, Commits, Ended, RefusesFlush, hangar_moves}
-pub use Rattle.coord_engine.specs.Flying.{Flies, HangarMoves, Tells}
+pub use Rattle.coord_engine.specs.Flights.{AnswersFlush, ComesBack, Commits, RefusesFlush}
 pub use Rattle.coord_engine.specs.Handing.{TakesAll, deliveries_of}
 pub use Rattle.coord_engine.specs.Named.{AreNoted, IsNamed, all_notes, notes_of}
 pub use Rattle.coord_engine.specs.Port.{delivery_of, step_of}
 pub use Rattle.coord_engine.specs.State.{Basis, CanHold, GuardedState, based_on, with_ledger}
 pub use Rattle.coord_engine.specs.Threads.{AtSomeMoment, Closes, Flushes, Leaves, RefusesShow, SendsAgain, Shows}
-pub use Rattle.coord_engine.specs.Working.{AddsPackets, IsOfPacket}
+pub use Rattle.coord_engine.specs.Working.{AddsPackets, IsOfPacket, bench_moves, told_of}

@@ -1,24 +1,17 @@
 -- The flights of an engine: how they leave and come back while other threads call too.
-use Rattle.std.specs.Prelude.{◌≡◌, ◌⊎◌, ℕ, ◌+◌, true, false, List, Option, Some, Result, Ok, Err, Bool, IsSomeAnd, length}
+use Rattle.std.specs.Prelude.{◌≡◌, ◌⊎◌, ℕ, ◌+◌, true, false, List, Option, Some, None, Result, Ok, Err, length}
 use Rattle.coord_store.specs.declared.faults.CommitFault.{CommitFault}
 use Rattle.coord_store.specs.declared.faults.CommitFault.TheVariants.{Device, OutOfMemory}
 use Rattle.coord_ledger.specs.declared.mark.Mark.{Mark}
 use Rattle.coord_ledger.specs.declared.mark.Mark.TheVariants.{New, Good, Torn}
 use Rattle.coord_ledger.specs.declared.release.Release.{Release}
-use Rattle.coord_ledger.specs.Facade.{FlightState, IsOut, keeps_store, releases_in, taken_back}
-use Rattle.coord_engine.specs.Flying.{HangarMoves}
+use Rattle.coord_ledger.specs.Facade.{FlightState, IsOut, keeps_store, taken_back}
 use Rattle.coord_engine.specs.State.{Basis, GuardedState, with_ledger}
-use Rattle.coord_engine.specs.Threads.{AtSomeMoment, Leaves}
+use Rattle.coord_engine.specs.Threads.{AtSomeMoment, Flushes, Leaves}
 
 -- this flight, which was out, was taken back by the ledger: once it is torn, the ledger has its steps in doubt
 abbrev pub ComesBack : {D : Type 0} → FlightState D → GuardedState D → Type 0
 ComesBack {D} flight g = (before : GuardedState D) × IsOut before.ledger flight × (g ≡ with_ledger before (taken_back before.ledger (length flight.steps) flight.mark flight.disk))
-
--- a flight left, or none was to leave, or there was no memory for one that was to
-abbrev pub Begins : {D : Type 0} → Basis D → Result Bool CommitFault → Option (FlightState D) → Type 0
-Begins b (Ok true) out = IsSomeAnd out (λ flight. AtSomeMoment b (Leaves flight))
-Begins b (Ok false) out = AtSomeMoment b (λ g. keeps_store g.ledger ≡ true)
-Begins b (Err fault) out = (fault ≡ OutOfMemory) × AtSomeMoment b (λ g. keeps_store g.ledger ≡ false)
 
 -- a flight that left new has this mark now, and its disk has failed so often meanwhile
 pub record IsTried {D : Type 0} (failures : D → ℕ) (left now : FlightState D) (mark : Mark) (failed : ℕ) : Type 0 where
@@ -34,18 +27,6 @@ Commits failures left (Err Device) now = IsTried failures left now Torn 1
 Commits failures left (Err OutOfMemory) now = IsTried failures left now New 0
 Commits failures left (Err fault) now = ⊥
 
--- a flight came back and released this
-abbrev pub Ended : {D : Type 0} → Basis D → FlightState D → List Release → Type 0
-Ended b flight released = (released ≡ releases_in flight flight.mark) × AtSomeMoment b (ComesBack flight)
-
--- how the hangar of an engine goes from state to state, of which this is the flight that is out
-abbrev pub hangar_moves : {S D : Type 0} → Basis D → (D → ℕ) → (S → Option (FlightState D)) → HangarMoves S
-hangar_moves {S} {D} b failures out = record {
-  begins = λ _ answer t. Begins b answer (out t);
-  commits = λ s answer t. (left : FlightState D) → out s ≡ Some left → left.mark ≡ New → IsSomeAnd (out t) (Commits failures left answer);
-  ends = λ s released _. (back : FlightState D) → out s ≡ Some back → IsSomeAnd released (Ended b back);
-}
-
 -- a flight left, and came back with this mark; its disk failed so often meanwhile
 pub record FlewBack {D : Type 0} (b : Basis D) (failures : D → ℕ) (mark : Mark) (failed : ℕ) : Type 0 where
   pub left : FlightState D
@@ -59,3 +40,9 @@ abbrev pub RefusesFlush : {D : Type 0} → Basis D → (D → ℕ) → CommitFau
 RefusesFlush b failures Device = FlewBack b failures Torn 1
 RefusesFlush b failures OutOfMemory = AtSomeMoment b (λ g. keeps_store g.ledger ≡ false) ⊎ FlewBack b failures New 0
 RefusesFlush b failures fault = ⊥
+
+-- what a flush answers: what the next flight gave out; that none was to leave; or why none was settled
+abbrev pub AnswersFlush : {D : Type 0} → Basis D → (D → ℕ) → Result (Option (List Release)) CommitFault → Type 0
+AnswersFlush b failures (Ok None) = AtSomeMoment b (λ g. keeps_store g.ledger ≡ true)
+AnswersFlush b failures (Ok (Some released)) = AtSomeMoment b (Flushes released)
+AnswersFlush b failures (Err fault) = RefusesFlush b failures fault

@@ -3,7 +3,11 @@ use Rattle.std.specs.Prelude.{◌≡◌, ◌≢◌, ◌⊎◌, ℕ, zero, suc, B
 use Rattle.coord_store.specs.declared.faults.CommitFault.{CommitFault}
 use Rattle.coord_store.specs.declared.faults.CommitFault.TheVariants.{OutOfMemory}
 use Rattle.coord_ledger.specs.declared.release.Release.{Release}
+use Rattle.coord_engine.specs.Flights.{AnswersFlush}
 use Rattle.coord_engine.specs.Handing.{TakesAll, deliveries_of}
+use Rattle.coord_engine.specs.Pacing.{is_over}
+use Rattle.coord_engine.specs.State.{Basis}
+use Rattle.coord_engine.specs.Threads.{AtSomeMoment}
 use Rattle.coord_engine.specs.declared.port.Delivery.{Delivery}
 
 -- how a deck goes from state to state: it waits whether a flight starts, has it flown, and rests where there was no memory
@@ -48,3 +52,11 @@ module _ {S : Type 0} (d : DeckMoves S) (takes : S → Delivery → S → Type 0
     pub last : S
     pub rounds : Rounds count s last
     pub ended : d.waits last false t ⊎ Fails last t
+
+-- how the deck of an engine goes on at a port, which stays the same: none starts any more only where nothing will be flushed any more, and each flush answers as an engine does
+abbrev pub deck_moves : {P D : Type 0} → Basis D → (D → ℕ) → DeckMoves P
+deck_moves b failures = record {
+  waits = λ port starts later. (later ≡ port) × (starts ≡ false → AtSomeMoment b (λ g. is_over g ≡ true));
+  flushes = λ port answer later. (later ≡ port) × AnswersFlush b failures answer;
+  rests = λ port later. later ≡ port;
+}

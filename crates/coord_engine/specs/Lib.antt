@@ -3,7 +3,6 @@ pub mod Calls
 pub mod Closing
 pub mod Flights
 pub mod Flushing
-pub mod Flying
 pub mod Handing
 pub mod Named
 pub mod WorkedNames

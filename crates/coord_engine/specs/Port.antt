@@ -1,4 +1,5 @@
 -- What is asked of a port for each output, and which step each packet makes.
+use Rattle.std.specs.Prelude.{◌≡◌, ℕ, Bool}
 use Rattle.coord_types.specs.declared.outputs.Output.{Output}
 use Rattle.coord_types.specs.declared.outputs.Output.TheVariants as output
 use Rattle.coord_types.specs.declared.packets.Packet.{Packet}
@@ -18,3 +19,8 @@ delivery_of (output.Signalled u epoch) = Signal u epoch
 abbrev pub step_of : Packet → Step
 step_of (Carried p) = Take p
 step_of (Receipted p) = Clear p
+
+-- a port was asked for a delivery, and is the same
+abbrev pub IsHanded : {P : Type 0} → (P → ℕ → Packet → Bool → Type 0) → (P → ℕ → ℕ → Bool → Type 0) → P → Delivery → P → Type 0
+IsHanded carried signalled port (Carry to packet) later = ((answer : Bool) × carried port to packet answer) × (later ≡ port)
+IsHanded carried signalled port (Signal node epoch) later = ((answer : Bool) × signalled port node epoch answer) × (later ≡ port)

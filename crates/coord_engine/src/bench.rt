@@ -33,7 +33,7 @@ pub trait Bench {
         ensures { moves.puts_down self.old self.new };
 }
 
-/// Whether a packet has to wait after this answer to its step: there was no room for it.
+/// Whether the packet has to wait, since there was no room for its step.
 fn has_to_wait(answer: &Result<(), Refusal>) -> bool
     ensures { result ≡ has_to_wait answer.now }
 {

@@ -1,16 +1,15 @@
 //! The engine: the value under a lock, and a condition on which callers wait.
 
-ghost use Rattle.std.specs.Prelude.{◌≡◌, ◌<◌, [], false, true, length, None, IfErr, IfNone, IfOk, IfSome, OnErr};
+ghost use Rattle.std.specs.Prelude.{◌≡◌, ◌<◌, [], false, true, length, Err, None, Ok, Some, IfErr, IfNone, IfOk, IfSome, MatchResult, OnErr};
+ghost use Rattle.coord_ledger.specs.declared.mark.Mark.TheVariants.{New};
 ghost use Rattle.coord_ledger.specs.ledger.Calls.{keeps_store, releases_in};
 ghost use Rattle.coord_ledger.specs.ledger.State.{IsCollectable, reply_of};
 ghost use Rattle.coord_engine.specs.Calls.{RefusesTicket};
 ghost use Rattle.coord_engine.specs.Closing.{IsSince, RefusesClosing};
-ghost use Rattle.coord_engine.specs.Flights.{ComesBack, RefusesFlush};
+ghost use Rattle.coord_engine.specs.Flights.{ComesBack, Commits, RefusesFlush};
 ghost use Rattle.coord_engine.specs.State.{based_on, most_shares};
 ghost use Rattle.coord_engine.specs.Threads.{AtSomeMoment, Closes, Flushes, Leaves, RefusesShow, SendsAgain, Shows, Submits};
 
-use crate::flying::fly;
-use crate::hangar::EngineHangar;
 use crate::{CloseFault, Closed, Collected, Guarded, Origin, Share};
 use coord_disk::Disk;
 use coord_ledger::{Flight, Ledger, Releases, Seen, Ticket};
@@ -21,6 +20,30 @@ use std::alloc::{AllocError, Global};
 use std::sync::ledger::Blank;
 use std::sync::{Condvar, Mutex, Wait};
 use std::thread;
+
+/// Commits a flight.
+fn commit<D: Disk>(flight: &mut Flight<D>) -> Result<(), CommitFault>
+    ensures { flight.old.mark ≡ New → Commits D.failures flight.old result flight.new }
+{
+    flight.commit()
+}
+
+/// What is told of a flight that was committed so and came back with these releases. Where it was not
+/// settled they are none.
+fn told(
+    committed: Result<(), CommitFault>,
+    releases: Releases,
+) -> Result<Option<Releases>, CommitFault>
+    ensures { MatchResult committed (λ _. result ≡ Ok (Some releases)) (λ fault. result ≡ Err fault) }
+{
+    match committed {
+        Ok(()) => Ok(Some(releases)),
+        Err(fault) => {
+            releases.lose_rest();
+            Err(fault)
+        }
+    }
+}
 
 /// One ledger that threads share. Each call but `collect`, `flush_once` and `close` takes the lock
 /// once.
@@ -84,6 +107,24 @@ impl<D: Disk, L: Origin> Engine<D, L> {
             self.work.notify_all();
         }
         answer
+    }
+
+    /// Accepts a step as `submit` does, and lets the flusher sleep: whoever posts steps that come
+    /// together wakes it behind the last, so that one flight takes them.
+    pub fn post<R: Wait>(&self, rt: &R, step: Step, mine: &mut Share<L>) -> Result<Ticket, Refusal>
+        ensures { AtSomeMoment (based_on D.keeps_model D.present L.base L.before)
+            (Submits {D = D} step result mine.old mine.new) }
+    {
+        let mut guarded = self.guarded.lock(rt);
+        guarded.keeps();
+        guarded.submit(step, mine)
+    }
+
+    /// Wakes a flusher that waits for steps, where there is something to flush.
+    pub fn wake_flusher<R: Wait>(&self, rt: &R) {
+        if !self.guarded.lock(rt).is_idle() {
+            self.work.notify_all();
+        }
     }
 
     /// Waits until the ticket's step is settled, and gives its reply. `Stranger` refuses a ticket
@@ -163,10 +204,15 @@ impl<D: Disk, L: Origin> Engine<D, L> {
         ensures refused { IfErr result
             (RefusesFlush (based_on D.keeps_model D.present L.base L.before) D.failures) }
     {
-        let mut hangar = EngineHangar::new(rt, self);
-        let told = fly(&mut hangar);
-        hangar.leave();
-        told
+        let mut flight = match self.begin(rt) {
+            Ok(Some(flight)) => flight,
+            Ok(None) => return Ok(None),
+            Err(_) => return Err(CommitFault::OutOfMemory),
+        };
+        let committed = commit(&mut flight);
+        let releases = self.end(rt, flight);
+        self.wake_all();
+        told(committed, releases)
     }
 
     /// Wakes all that wait, for replies or for steps.

@@ -1,7 +1,12 @@
 //! Flights as they are needed, and what they release handed to a port.
 
-ghost use Rattle.std.specs.Prelude.{◌≡◌, length};
-ghost use Rattle.coord_engine.specs.Flushing.{HasFlushed};
+ghost use Rattle.std.specs.Prelude.{◌≡◌, Bool, false, true, length};
+ghost use Rattle.coord_engine.specs.Flushing.{HasFlushed, deck_moves};
+ghost use Rattle.coord_engine.specs.Handing.{TakesAll, deliveries_of};
+ghost use Rattle.coord_engine.specs.Pacing.{is_over};
+ghost use Rattle.coord_engine.specs.Port.{IsHanded};
+ghost use Rattle.coord_engine.specs.State.{based_on};
+ghost use Rattle.coord_engine.specs.Threads.{AtSomeMoment};
 
 use crate::handing::{Taker, hand_each};
 use crate::port::{Delivery, Port};
@@ -10,6 +15,7 @@ use coord_disk::Disk;
 use coord_ledger::Releases;
 use coord_store::CommitFault;
 use coord_types::{NodeId, Packet};
+use std::marker::Model;
 use std::sync::Wait;
 use std::time::{Clock, Duration, Instant};
 use std::{io, thread};
@@ -17,8 +23,8 @@ use std::{io, thread};
 /// How many milliseconds a flight waits for packets that are in hand.
 const PATIENCE: u64 = 5;
 
-/// Which part of what the last flight took the next one waits for callers to come again: what is
-/// waited for in vain then costs a sixteenth of a flight, and who comes in time has no flight to wait.
+/// A flight waits for returning callers for at most this part of the last flight's time. A wait in
+/// vain costs a sixteenth of a flight; a caller who comes in time saves a whole one.
 const CALLERS_PART: u32 = 16;
 
 /// How many milliseconds a flusher that found no memory waits before it tries again.
@@ -35,7 +41,7 @@ pub trait Deck: Taker {
     fn wait(&mut self) -> bool
         ensures { moves.waits self.old result self.new };
 
-    /// Has the next flight flown.
+    /// Sends the next flight out, commits it and takes it back.
     fn flush(&mut self) -> Result<Option<Releases>, CommitFault>
         ensures { moves.flushes self.old result self.new };
 
@@ -64,7 +70,7 @@ pub fn flush_all<K: Deck, R: Wait>(rt: &R, deck: &mut K)
     }
 }
 
-/// A deck over an engine and a port.
+/// A deck over an engine and a port. Contracts see the port.
 #[derive(Drop)]
 struct EngineDeck<'a, D: Disk, L: Origin, P: Port, R: Wait> {
     rt: &'a R,
@@ -76,7 +82,9 @@ struct EngineDeck<'a, D: Disk, L: Origin, P: Port, R: Wait> {
 
 impl<'a, D: Disk, L: Origin, P: Port, R: Wait> EngineDeck<'a, D, L, P, R> {
     /// No flight has flown.
-    fn new(rt: &'a R, engine: &'a Engine<D, L>, port: &'a P) -> Self {
+    fn new(rt: &'a R, engine: &'a Engine<D, L>, port: &'a P) -> Self
+        ensures { result ≡ port.now }
+    {
         EngineDeck {
             rt,
             engine,
@@ -86,9 +94,16 @@ impl<'a, D: Disk, L: Origin, P: Port, R: Wait> EngineDeck<'a, D, L, P, R> {
     }
 }
 
+impl<'a, D: Disk, L: Origin, P: Port, R: Wait> Model for EngineDeck<'a, D, L, P, R> {
+    ghost Value = { P };
+
+    ghost view = { λ d. d.port.now };
+}
+
 impl<'a, D: Disk, L: Origin, P: Port, R: Wait> Taker for EngineDeck<'a, D, L, P, R> {
-    // Nothing is known of what lies behind a lock, nor of a port.
-    ghost takes = { λ _ _ _. Unit {0} };
+    ghost use Rattle.coord_engine.specs.Port.{IsHanded};
+
+    ghost takes = { IsHanded P.carried P.signalled };
 
     fn take(&mut self, delivery: Delivery) {
         match delivery {
@@ -103,12 +118,10 @@ impl<'a, D: Disk, L: Origin, P: Port, R: Wait> Taker for EngineDeck<'a, D, L, P,
 }
 
 impl<'a, D: Disk, L: Origin, P: Port, R: Wait + Clock> Deck for EngineDeck<'a, D, L, P, R> {
-    ghost moves = { record {
-      waits = λ _ _ _. Unit {0};
-      flushes = λ _ _ _. Unit {0};
-      rests = λ _ _.
-          Unit {0};
-    } };
+    ghost use Rattle.coord_engine.specs.Flushing.{deck_moves};
+    ghost use Rattle.coord_engine.specs.State.{based_on};
+
+    ghost moves = { deck_moves (based_on D.keeps_model D.present L.base L.before) D.failures };
 
     fn wait(&mut self) -> bool {
         self.engine.waits_for_flight(self.rt, self.patience)
@@ -126,7 +139,7 @@ impl<'a, D: Disk, L: Origin, P: Port, R: Wait + Clock> Deck for EngineDeck<'a, D
     }
 }
 
-/// How long callers are waited for after a flight that left then. Not at all where no clock can be
+/// How long to wait for callers after a flight that left at `start`; not at all if no clock can be
 /// read.
 fn patience_since<R: Clock>(rt: &R, start: io::Result<Instant>) -> Duration {
     let Ok(start) = start else {
@@ -139,8 +152,11 @@ fn patience_since<R: Clock>(rt: &R, start: io::Result<Instant>) -> Duration {
 }
 
 impl<D: Disk, L: Origin> Engine<D, L> {
-    /// A packet is handed to a port: it is in hand, unless the port says that it is lost.
-    fn hand_packet<P: Port, R: Wait>(&self, rt: &R, port: &P, to: NodeId, packet: Packet) {
+    /// Hands a packet to a port: it is in hand, unless the port says that it is lost. It is counted
+    /// before the port has it, since its worker may be done with it first.
+    fn hand_packet<P: Port, R: Wait>(&self, rt: &R, port: &P, to: NodeId, packet: Packet)
+        ensures { (answer : Bool) × P.carried port.now to packet answer }
+    {
         self.guarded.lock(rt).raise_in_hand();
         if !port.carry(to, packet) {
             self.put_down(rt);
@@ -160,7 +176,11 @@ impl<D: Disk, L: Origin> Engine<D, L> {
 
     /// Waits until a flight can start, then so long for callers that may come again, and then a
     /// little for packets that are in hand. False once none will start any more.
-    fn waits_for_flight<R: Wait + Clock>(&self, rt: &R, for_callers: Duration) -> bool {
+    fn waits_for_flight<R: Wait + Clock>(&self, rt: &R, for_callers: Duration) -> bool
+        ensures { result ≡ false →
+            AtSomeMoment (based_on D.keeps_model D.present L.base L.before) (λ g.
+            is_over g ≡ true) }
+    {
         let guarded = self
             .work
             .wait_while(rt, self.guarded.lock(rt), |guarded| guarded.is_idle());
@@ -181,6 +201,7 @@ impl<D: Disk, L: Origin> Engine<D, L> {
         if waited.timed_out() {
             guarded.forget_in_hand();
         }
+        guarded.keeps();
         !guarded.is_over()
     }
 }
@@ -193,7 +214,9 @@ pub fn hand_over<D: Disk, L: Origin, P: Port, R: Wait>(
     port: &P,
     releases: Releases,
 ) -> u64
-    ensures { result ≡ length releases }
+    ensures count { result ≡ length releases }
+    ensures handed { (later : P) ×
+        TakesAll (IsHanded P.carried P.signalled) port.now (deliveries_of releases) later }
 {
     hand_each(&mut EngineDeck::new(rt, engine, port), releases)
 }
@@ -209,6 +232,10 @@ pub fn flusher<D: Disk, L: Origin, P: Port, R: Wait + Clock>(
     rt: &R,
     engine: &Engine<D, L>,
     port: &P,
-) {
+)
+    ensures { (later : P) × HasFlushed
+        (deck_moves (based_on D.keeps_model D.present L.base L.before) D.failures)
+        (IsHanded P.carried P.signalled) port.now later }
+{
     flush_all(rt, &mut EngineDeck::new(rt, engine, port));
 }

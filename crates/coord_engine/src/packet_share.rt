@@ -7,8 +7,8 @@ use crate::Share;
 use std::marker::Model;
 use std::sync::ledger::Ledger as Count;
 
-/// A share whose notes are all of packets' steps. A thread that hands it back has said so by its
-/// type, which is all that is known of a thread's result.
+/// A share whose notes are all of packets' steps. Its type says so, and the type is all that is
+/// known of what a thread hands back.
 #[derive(Drop)]
 pub struct PacketShare<L: Count> {
     pub(crate) share: Share<L>,

@@ -8,12 +8,26 @@ use coord_types::{NodeId, Output, Packet, Step};
 /// What carries released packets to the workers of nodes, and signals to their services. No promise
 /// rests on it: what it takes may be lost, come twice or come late, and it answers false where it
 /// knows that something is lost.
+///
+/// `carried` and `signalled` say that it was asked so, and what it answered. A port has no need to
+/// say more of them than it does here; to code that works at any port they show what was asked.
 pub trait Port {
+    ghost use Rattle.std.specs.Prelude.{ℕ, Bool, ⊤};
+    ghost use Rattle.coord_types.specs.declared.packets.Packet.{Packet as Asked};
+
+    /// It was asked to carry a packet to a node, and answered so.
+    ghost carried: { Self → ℕ → Asked → Bool → Type 0 } = { λ _ _ _ _. ⊤ };
+
+    /// It was asked to signal an epoch to a node, and answered so.
+    ghost signalled: { Self → ℕ → ℕ → Bool → Type 0 } = { λ _ _ _ _. ⊤ };
+
     /// Carries a packet to this node.
-    fn carry(&self, to: NodeId, packet: Packet) -> bool;
+    fn carry(&self, to: NodeId, packet: Packet) -> bool
+        ensures { carried self.now to packet result };
 
     /// Says to the service at this node that a reset has ended there, with the epoch that began.
-    fn signal(&self, node: NodeId, epoch: u64) -> bool;
+    fn signal(&self, node: NodeId, epoch: u64) -> bool
+        ensures { signalled self.now node epoch result };
 }
 
 /// What is asked of a port for an output.

@@ -1,6 +1,8 @@
 //! Packets that came, submitted as steps.
 
-ghost use Rattle.coord_engine.specs.Working.{AddsPackets};
+ghost use Rattle.coord_engine.specs.Benches.{HasWorked};
+ghost use Rattle.coord_engine.specs.State.{based_on};
+ghost use Rattle.coord_engine.specs.Working.{AddsPackets, bench_moves};
 
 use crate::bench::{Bench, work};
 use crate::{Engine, Origin, PacketShare, Share};
@@ -8,9 +10,10 @@ use coord_disk::Disk;
 use coord_types::{Packet, Refusal, Step};
 use crossbeam_channel::Receiver;
 use std::alloc::Global;
+use std::marker::Model;
 use std::sync::Wait;
 
-/// A bench over an engine, a channel and a share.
+/// A bench over an engine, a channel and a share. Contracts see the share's notes.
 #[derive(Drop)]
 struct EngineBench<'a, D: Disk, L: Origin, R: Wait> {
     rt: &'a R,
@@ -19,10 +22,20 @@ struct EngineBench<'a, D: Disk, L: Origin, R: Wait> {
     share: Share<L>,
 }
 
+impl<'a, D: Disk, L: Origin, R: Wait> Model for EngineBench<'a, D, L, R> {
+    ghost use Rattle.std.specs.Prelude.{List};
+    ghost use Rattle.coord_ledger.specs.declared.ticket.Note.{Note};
+
+    ghost Value = { List Note };
+
+    ghost view = { λ b. b.share };
+}
+
 impl<'a, D: Disk, L: Origin, R: Wait> Bench for EngineBench<'a, D, L, R> {
+    ghost use Rattle.coord_engine.specs.State.{based_on};
     ghost use Rattle.coord_engine.specs.Working.{bench_moves};
 
-    ghost moves = { bench_moves (λ s. s.share) };
+    ghost moves = { bench_moves (based_on D.keeps_model D.present L.base L.before) };
 
     fn receive(&mut self) -> Option<Packet> {
         self.packets.recv(self.rt).ok()
@@ -58,7 +71,9 @@ pub fn worker<D: Disk, L: Origin, R: Wait>(
     packets: Receiver<Packet>,
     share: Share<L>,
 ) -> Share<L>
-    ensures { AddsPackets share result }
+    ensures worked { HasWorked
+        (bench_moves (based_on D.keeps_model D.present L.base L.before)) share result }
+    ensures packets { AddsPackets share result }
 {
     let mut bench = EngineBench {
         rt,

@@ -14,4 +14,3 @@ pub mod Safe
 pub mod Silent
 pub mod Moved
 pub mod SignalsOnce
-pub mod WorkedRuns

@@ -2,4 +2,3 @@
 pub mod Laws
 pub mod Commits
 pub mod Moving
-pub mod WorkedRuns

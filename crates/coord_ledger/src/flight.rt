@@ -28,7 +28,9 @@ pub struct Flight<D: Disk> {
     pub(crate) steps: Vec<Step>,
     /// The settled world when it went out, once the store's own is the one after the steps.
     pub(crate) before: Option<World>,
-    /// The world after the steps, until it is the store's.
+    /// The world after the steps, until it is the store's: a copy of the front world where the flight
+    /// has all that is pending. After a commit that found no memory it may be gone, and the next try
+    /// makes it anew.
     pub(crate) next: Option<World>,
     pub(crate) mark: Mark,
     pub(crate) store: Store<D>,

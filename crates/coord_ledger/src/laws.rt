@@ -96,7 +96,7 @@ pub fn moved_answers_alike()
     ensures { MovedAnswersAlike }
 {}
 
-/// And it stays such a ledger, until a crash.
+/// It stays one whose base is moved, until a crash.
 #[tactic(auto, using(crate::proofs::machine::Moved::moved_goes_on))]
 pub fn moved_goes_on()
     ensures { MovedGoesOn }

@@ -33,9 +33,11 @@ pub struct Ledger<D: Disk> {
     alloc: Global,
     base: World,
     trail: Vec<Step>,
-    /// The kinds of the replies to the steps of the trail.
+    /// The kinds of the replies to the steps of the trail, so that `collect` compares exactly and
+    /// takes no memory.
     kinds: Vec<Kind>,
-    /// What the steps behind the settled ones gave out: it is released once they are settled.
+    /// What the steps behind the settled ones gave out when they were carried out, at `hand_in`: it is
+    /// released once they are settled, and nothing of it grows with settled steps.
     given: VecDeque<Vec<Output>>,
     /// How many steps of the trail are settled.
     done: usize,

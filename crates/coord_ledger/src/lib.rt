@@ -21,8 +21,7 @@
 //! early. [`run_events`] is the same without the disk. `specs/ledger/Follows.antt` has what a run
 //! keeps from one event to the next.
 //!
-//! [`laws`] proves of the machine what the main theorem stands on, and [`runs`] has runs whose
-//! answers are known.
+//! [`laws`] proves of the machine what the main theorem stands on.
 #![tactic(auto)]
 
 mod driver;
@@ -35,7 +34,6 @@ mod ledger;
 mod mark;
 mod release;
 mod releases;
-pub mod runs;
 mod seen;
 mod settling;
 mod ticket;

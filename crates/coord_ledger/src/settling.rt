@@ -44,7 +44,7 @@ pub fn push_all(rows: &mut Vec<Release>, step: u64, outputs: &[Output]) -> Resul
     Ok(())
 }
 
-/// What the first so many of some steps release, which are numbered from here on and gave these out.
+/// The releases of the first `size` steps, which are numbered from `first` on and gave out `given`.
 pub fn released(
     alloc: Global,
     first: u64,
@@ -63,7 +63,7 @@ pub fn released(
     Ok(rows)
 }
 
-/// Drops what the first so many of some steps gave out.
+/// Drops what the first `size` steps gave out.
 pub fn drop_first(given: &mut VecDeque<Vec<Output>>, size: usize)
     ensures { listed given.new.items ≡ drop size (listed given.old.items) }
 {

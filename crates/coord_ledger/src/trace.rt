@@ -37,8 +37,9 @@ impl RunFaultKind {
     }
 }
 
-/// A run that ended early: at which event, counted from 0, or at how many where the last flight
-/// could not be taken back; and what was answered and released before. The ledger is gone.
+/// A run that ended early: the index of the event at which it did, or the number of events if the
+/// last flight could not be taken back; and what was answered and released before. The ledger is
+/// gone.
 #[derive(Debug, Drop)]
 pub struct RunFault {
     pub at: usize,

@@ -38,6 +38,13 @@ abbrev pub seen_after : Result Reply Refusal → ℕ → ℕ
 seen_after (Ok reply) seen = max seen reply.step
 seen_after (Err refusal) seen = seen
 
+-- what is said to a step that was posted: its reply once it is settled, or why there will be none
+abbrev pub Replies : {D : Type 0} → Basis D → Result Claim Refusal → Result Reply Refusal → Type 0
+Replies {D} b (Ok claim) (Ok reply) = AtSomeMoment b (λ g. CollectsAs {D = D} g.ledger claim (Settled reply))
+Replies {D} b (Ok claim) (Err refusal) = AtSomeMoment b (λ g. CollectsAs {D = D} g.ledger claim (Refused refusal claim))
+Replies {D} b (Err why) (Ok reply) = ⊥
+Replies {D} b (Err why) (Err refusal) = refusal ≡ why
+
 -- the settled world is shown, of which the desk has seen no more
 abbrev pub ShowsTo : {D : Type 0} → Basis D → Result shown.Shown Refusal → ℕ → ℕ → Type 0
 ShowsTo {D} b (Ok view) before after = AtSomeMoment b (Shows {D = D} view before after)
@@ -55,3 +62,12 @@ DeskAnswers {D} b d request.Show answer e =
     (result : Result shown.Shown Refusal) × (answer ≡ show_answer result) × ShowsTo b result d.seen e.seen × (e.notes ≡ d.notes)
 DeskAnswers {D} b d request.Resend answer e = (result : Result ℕ Refusal) × (answer ≡ resend_answer result) × Resends b result × (e ≡ d)
 DeskAnswers {D} b d request.Close answer e = (answer ≡ Closed) × (e ≡ d)
+
+-- an order is submitted, and nothing more of the settled world is known; nothing else is posted
+abbrev pub DeskPosts : {D : Type 0} → Basis D → DeskState → Request → Result Claim Refusal → DeskState → Type 0
+DeskPosts {D} b d (request.Order client number command) posted e = AtSomeMoment b (Submits {D = D} (step.Order client number command) posted d.notes e.notes) × (e.seen ≡ d.seen)
+DeskPosts {D} b d request posted e = ⊥
+
+-- then its reply is waited for, and nothing more is noted
+abbrev pub DeskReplies : {D : Type 0} → Basis D → DeskState → Result Claim Refusal → Result Reply Refusal → DeskState → Type 0
+DeskReplies {D} b d posted reply e = Replies b posted reply × (e.notes ≡ d.notes) × (e.seen ≡ seen_after reply d.seen)

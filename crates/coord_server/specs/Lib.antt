@@ -1,5 +1,7 @@
 pub mod Ending
 pub mod EngineDesk
+pub mod Halves
 pub mod Lives
 pub mod Printed
+pub mod Told
 pub mod Workers

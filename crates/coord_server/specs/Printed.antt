@@ -1,9 +1,11 @@
 -- The lines that a server prints, and what prints them.
-use Rattle.std.specs.Prelude.{◌≡◌, ◌⊎◌, ℕ, Bool, false, List, ◌++◌, codes, decimal}
+use Rattle.std.specs.Prelude.{◌≡◌, ◌⊎◌, ℕ, Bool, false, List, [], ◌∷◌, ◌++◌, Option, codes, decimal}
+use Rattle.std.specs.Io.KnownBytes.{Appends}
 use Rattle.std.specs.Net.Text.{socket_text}
 use Rattle.std.specs.declared.net.socket_addr.SocketAddr.{SocketAddr}
 use Rattle.coord_server.specs.declared.fault.ServerFault.{ServerFault}
 use Rattle.coord_server.specs.declared.fault.ServerFault.TheVariants as fault
+use Rattle.coord_server.specs.declared.local.Signal.{Signal}
 
 -- the server listens at this address
 abbrev pub listening_line : SocketAddr → List ℕ
@@ -25,3 +27,18 @@ new_printer output = record { output = output; is_broken = false }
 -- what is told of a line that was not printed
 abbrev pub IsOfPrinting : ServerFault → Type 0
 IsOfPrinting met = (met ≡ fault.OutOfMemory) ⊎ (met ≡ fault.Write)
+
+-- `contents` are the bytes of an output, where they are known
+module _ {W : Type 0} (contents : W → Option (List ℕ)) where
+  -- the line of an address was printed
+  abbrev pub TellsAddress : PrinterState W → PrinterState W → Type 0
+  TellsAddress p q = (address : SocketAddr) × Appends (contents p.output) (contents q.output) (listening_line address) × (q.is_broken ≡ false)
+
+  -- the line of a signal was printed, or nothing of it, for want of memory
+  abbrev pub Prints : PrinterState W → Signal → PrinterState W → Type 0
+  Prints p s q = (Appends (contents p.output) (contents q.output) (signal_line s.node s.epoch) × (q.is_broken ≡ false)) ⊎ (q ≡ p)
+
+  -- these signals were printed, each once and in order
+  abbrev pub PrintsEach : PrinterState W → List Signal → PrinterState W → Type 0
+  PrintsEach p [] q = q ≡ p
+  PrintsEach p (s ∷ later) q = (m : PrinterState W) × Prints p s m × PrintsEach m later q

@@ -1,39 +1,42 @@
 //! How old a life of the server is.
 
+ghost use Rattle.std.specs.Prelude.{◌≡◌, ◌*◌, true};
+ghost use Rattle.coord_engine.specs.State.{based_on};
+ghost use Rattle.coord_server.specs.Ending.{HasKept};
+
 use coord_disk::Disk;
 use coord_engine::{Engine, Origin};
 use std::sync::Wait;
 
-/// Tells when a life is to end. No promise rests on it but the bound of memory.
-pub trait Age: Drop {
-    /// Whether no connection is to begin in this life any more.
-    fn is_old(&self) -> bool;
-
-    /// Whether the connection that is open is to end.
-    fn is_too_old(&self) -> bool;
-}
-
-/// The age of an engine: how many steps it keeps.
+/// Tells by how many steps an engine keeps when its life is to end.
 #[derive(Drop)]
-pub struct EngineAge<'a, D: Disk, L: Origin, R: Wait> {
+pub struct Age<'a, D: Disk, L: Origin, R: Wait> {
     rt: &'a R,
     engine: &'a Engine<D, L>,
     most: usize,
 }
 
-impl<'a, D: Disk, L: Origin, R: Wait> EngineAge<'a, D, L, R> {
+impl<'a, D: Disk, L: Origin, R: Wait> Age<'a, D, L, R> {
     /// It is old once it keeps so many steps, and too old once it keeps twice as many.
-    pub fn new(rt: &'a R, engine: &'a Engine<D, L>, most: usize) -> Self {
-        EngineAge { rt, engine, most }
+    pub fn new(rt: &'a R, engine: &'a Engine<D, L>, most: usize) -> Self
+        ensures { result.most ≡ most }
+    {
+        Age { rt, engine, most }
     }
-}
 
-impl<D: Disk, L: Origin, R: Wait> Age for EngineAge<'_, D, L, R> {
-    fn is_old(&self) -> bool {
+    /// Whether no connection is to begin in this life any more.
+    pub fn is_old(&self) -> bool
+        ensures { result ≡ true →
+            HasKept (based_on D.keeps_model D.present L.base L.before) self.now.most }
+    {
         self.engine.kept(self.rt) >= self.most
     }
 
-    fn is_too_old(&self) -> bool {
+    /// Whether the connection that is open is to end.
+    pub fn is_too_old(&self) -> bool
+        ensures { result ≡ true →
+            HasKept (based_on D.keeps_model D.present L.base L.before) (2 * self.now.most) }
+    {
         self.engine.kept(self.rt) / 2 >= self.most
     }
 }

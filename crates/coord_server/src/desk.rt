@@ -3,12 +3,12 @@
 ghost use Rattle.std.specs.Prelude.{◌≡◌};
 ghost use Rattle.coord_types.specs.declared.refusals.Refusal.TheVariants.{OutOfMemory};
 ghost use Rattle.coord_engine.specs.State.{based_on};
-ghost use Rattle.coord_server.specs.EngineDesk.{DeskAnswers, Orders, Resends, ShowsTo};
+ghost use Rattle.coord_server.specs.EngineDesk.{Replies, Resends, ShowsTo};
 
 use coord_admin::Desk;
 use coord_disk::Disk;
 use coord_engine::{Engine, Origin, Port, Share, hand_over};
-use coord_ledger::Seen;
+use coord_ledger::{Seen, Ticket};
 use coord_types::{Client, Command, Refusal, Reply, Step};
 use coord_view::View;
 use std::marker::Model;
@@ -62,17 +62,16 @@ impl<'a, D: Disk, L: Origin, P: Port, R: Wait> EngineDesk<'a, D, L, P, R> {
     }
 }
 
-/// Submits a step, and waits for its reply.
-fn order<D: Disk, L: Origin, R: Wait>(
+/// Waits for the reply to a step, for which the flusher is woken first.
+fn collect<D: Disk, L: Origin, R: Wait>(
     rt: &R,
     engine: &Engine<D, L>,
-    step: Step,
-    share: &mut Share<L>,
+    posted: Result<Ticket, Refusal>,
 ) -> Result<Reply, Refusal>
-    ensures { Orders (based_on D.keeps_model D.present L.base L.before) step result share.old
-        share.new }
+    ensures { Replies (based_on D.keeps_model D.present L.base L.before) posted result }
 {
-    let ticket = engine.submit(rt, step, share)?;
+    let ticket = posted?;
+    engine.wake_flusher(rt);
     match engine.collect(rt, ticket) {
         Ok(reply) => Ok(reply),
         Err((refusal, ticket)) => {
@@ -82,7 +81,7 @@ fn order<D: Disk, L: Origin, R: Wait>(
     }
 }
 
-/// Shows the settled world, of which the desk has seen no more.
+/// Shows the settled world, which is no older than what the desk has shown before.
 fn show<D: Disk, L: Origin, R: Wait>(
     rt: &R,
     engine: &Engine<D, L>,
@@ -109,13 +108,25 @@ fn resend<D: Disk, L: Origin, P: Port, R: Wait>(
 
 impl<'a, D: Disk, L: Origin, P: Port, R: Wait> Desk for EngineDesk<'a, D, L, P, R> {
     ghost use Rattle.coord_engine.specs.State.{based_on};
-    ghost use Rattle.coord_server.specs.EngineDesk.{DeskAnswers};
+    ghost use Rattle.coord_server.specs.EngineDesk.{DeskAnswers, DeskPosts, DeskReplies};
+    ghost use Rattle.coord_server.specs.Halves.{desk_answered, desk_apart};
+
+    /// A ticket for the reply, or why the order was refused.
+    type Posted = Result<Ticket, Refusal>;
 
     ghost answers = { DeskAnswers (based_on D.keeps_model D.present L.base L.before) };
 
-    fn order(&mut self, client: Client, number: u64, command: Command) -> Result<Reply, Refusal> {
+    ghost posts = { DeskPosts (based_on D.keeps_model D.present L.base L.before) };
+
+    ghost replies = { DeskReplies (based_on D.keeps_model D.present L.base L.before) };
+
+    fn post(&mut self, client: Client, number: u64, command: Command) -> Result<Ticket, Refusal> {
         let step = Step::Order(client, number, command);
-        let reply = order(self.rt, self.engine, step, &mut self.share)?;
+        self.engine.post(self.rt, step, &mut self.share)
+    }
+
+    fn reply(&mut self, posted: Result<Ticket, Refusal>) -> Result<Reply, Refusal> {
+        let reply = collect(self.rt, self.engine, posted)?;
         self.seen.note(reply.step);
         Ok(reply)
     }
@@ -129,4 +140,8 @@ impl<'a, D: Disk, L: Origin, P: Port, R: Wait> Desk for EngineDesk<'a, D, L, P, 
     }
 
     fn close(&mut self) {}
+
+    ghost is_answered = { desk_answered (based_on D.keeps_model D.present L.base L.before) };
+
+    ghost stays_apart = { desk_apart (based_on D.keeps_model D.present L.base L.before) };
 }

@@ -20,8 +20,8 @@ pub struct Ended<D: Disk, C> {
 }
 
 impl<D: Disk, C> Ended<D, C> {
-    /// What is told of all that was met: a stopped store first, then what ended the serving, then an
-    /// output that failed. None where the server was closed and nothing else was met.
+    /// The one fault to tell: a stopped store first, then what ended the serving, then a failed
+    /// output. None if the server was closed and nothing failed.
     pub fn fault(&self) -> Option<ServerFault>
         ensures { result ≡ fault_at_end
             (has_stopped self.now.closed.store) self.now.served self.now.is_broken }

@@ -2,6 +2,7 @@
 //! contracts are the laws.
 
 ghost use Rattle.coord_server.specs.Lives.{ClosedLivesAreOne, LivesAreOne};
+ghost use Rattle.coord_server.specs.Told.{LivesLeaveSteps, RepliesNameSteps};
 
 use coord_admin::Callers;
 use coord_disk::Disk;
@@ -12,7 +13,19 @@ pub fn lives_are_one<D: Disk, C: Callers>()
     ensures { LivesAreOne D.keeps_model D.present C.met }
 {}
 
-/// So they are where a line has closed the last one.
+/// The same, where a line has closed the last life.
 pub fn closed_lives_are_one<D: Disk>()
     ensures { ClosedLivesAreOne D.keeps_model D.present }
+{}
+
+/// An order that is told a reply was noted just then, with the number that it is told, or it repeats
+/// one. What a desk has noted stands in the trail of its life, each note at its number.
+pub fn replies_name_steps<D: Disk>()
+    ensures { RepliesNameSteps D }
+{}
+
+/// Whatever a crash may leave of the disk of a life gives the world after its settled steps, or after
+/// a stop that of those and the next ones, which were in doubt.
+pub fn lives_leave_steps<D: Disk>()
+    ensures { LivesLeaveSteps D }
 {}

@@ -26,6 +26,7 @@ mod printer;
 mod printing;
 mod resting;
 mod serving;
+mod setting;
 
 pub use desk::EngineDesk;
 pub use ended::Ended;

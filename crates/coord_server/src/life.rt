@@ -1,33 +1,33 @@
 //! One life of a server: an engine with its threads, from a store to what is left of it.
 
-ghost use Rattle.std.specs.Prelude.{◌≡◌, [], ◌∷◌, ◌++◌, false, length, IfErr, IfOk, IfSome, None, vec_len};
+ghost use Rattle.std.specs.Prelude.{◌≡◌, ◌≤◌, [], false, length, IfErr, IfOk, None, vec_capacity};
 ghost use Rattle.coord_engine.specs.State.{based_on};
-ghost use Rattle.coord_engine.specs.declared.closed.CloseFault.{CloseFault};
 ghost use Rattle.coord_store.specs.Kept.{has_stopped};
 ghost use Rattle.coord_engine.specs.Closing.{IsSince};
 ghost use Rattle.coord_engine.specs.Threads.{AtSomeMoment, Closes};
-ghost use Rattle.coord_server.specs.Ending.{AddsWorkers, IsOfStart, IsOneHistory, ServesLife};
-ghost use Rattle.coord_server.specs.EngineDesk.{DeskState};
-ghost use Rattle.coord_server.specs.Workers.{AreAll};
+ghost use Rattle.coord_server.specs.Ending.{IsLife};
 
-use crate::crew::{Ran, run};
+use crate::crew::{Begun, Ran, run};
 use crate::left::Left;
+use crate::printing::Opening;
+use crate::setting::Setting;
 use crate::{LocalPort, ServerFault, WORKERS};
 use coord_admin::Callers;
 use coord_disk::Disk;
-use coord_engine::{CloseFault, Closed, Engine, Origin, PacketShare, Share};
+use coord_engine::{Closed, Engine, Origin, Share};
 use coord_ledger::Ledger;
 use coord_store::Store;
 use coord_types::Packet;
 use crossbeam_channel::{Receiver, Sender};
 use std::alloc::{AllocError, Global};
+use std::io::Write;
 use std::marker::Brand;
 use std::sync::Wait;
 use std::sync::ledger::Blank;
 use std::thread::Threads;
 use std::time::Clock;
 
-/// What is left of a life, and of those who called.
+/// What is left of a life, and of the callers.
 #[derive(Drop)]
 pub struct Life<D: Disk, C> {
     pub closed: Closed<D>,
@@ -35,31 +35,31 @@ pub struct Life<D: Disk, C> {
     pub left: Left,
 }
 
-/// Serves a store to those who call, until a line closes it or the engine keeps so many steps, and
-/// gives back what is left of the engine. What was accepted is settled first. Where a fault was met
-/// before, nobody is served.
+/// Serves a store to those who call, until a line closes it or the life is old, and gives back what
+/// is left of the engine. What was accepted is settled first. The first life opens the output.
 ///
 /// An error is `OutOfMemory`, where the life did not begin, or that the engine was not taken apart.
-pub fn serve_life<D: Disk + Send, C: Callers + Drop, R: Threads + Wait + Clock + Sync>(
-    rt: &R,
-    alloc: Global,
-    most: usize,
+pub fn serve_life<
+    D: Disk + Send,
+    C: Callers + Drop,
+    W: Write + Drop,
+    R: Threads + Wait + Clock + Sync,
+>(
+    setting: &Setting<'_, R>,
     store: Store<D>,
     callers: C,
     port: &LocalPort<&R>,
-    met: Option<ServerFault>,
+    opening: Option<Opening<W>>,
 ) -> Result<Life<D, C>, ServerFault>
-    requires going { has_stopped store ≡ false }
-    requires met { IfSome met IsOfStart }
-    ensures { IfOk result (λ life. (desk : DeskState) ×
-        ServesLife (based_on D.keeps_model D.present store.world []) C.met callers life.callers desk
-        life.left × IsOneHistory (based_on D.keeps_model D.present store.world []) desk.notes
-        life.closed.store life.closed.base life.closed.trail.items life.closed.settled) }
+    requires { has_stopped store ≡ false }
+    ensures { IfOk result (λ life.
+        IsLife (based_on D.keeps_model D.present store.world []) C.met callers life.callers
+        life.left life.closed.store life.closed.base life.closed.trail.items life.closed.settled) }
 {
-    match Ledger::adopt(alloc, store) {
+    match Ledger::adopt(setting.alloc, store) {
         Ok(ledger) => {
             let blank = Blank::new(65536);
-            serve_ledger::<D, Brand, C, R>(rt, alloc, most, blank, ledger, callers, port, met)
+            serve_ledger::<D, Brand, C, W, R>(setting, blank, ledger, callers, port, opening)
         }
         Err(_) => Err(ServerFault::OutOfMemory),
     }
@@ -69,93 +69,77 @@ fn serve_ledger<
     D: Disk + Send,
     L: Origin + Send + Sync,
     C: Callers + Drop,
+    W: Write + Drop,
     R: Threads + Wait + Clock + Sync,
 >(
-    rt: &R,
-    alloc: Global,
-    most: usize,
+    setting: &Setting<'_, R>,
     blank: Blank,
     ledger: Ledger<D>,
     callers: C,
     port: &LocalPort<&R>,
-    met: Option<ServerFault>,
+    opening: Option<Opening<W>>,
 ) -> Result<Life<D, C>, ServerFault>
     requires name { blank.name ≡ L.name }
     requires parts { (blank.parts ≡ L.parts) × (L.parts ≡ 65536) }
     requires home { ledger.out ≡ None }
     requires base { ledger.log.base ≡ L.base }
     requires before { (ledger.log.trail ≡ L.before) × (L.before ≡ []) }
-    requires met { IfSome met IsOfStart }
-    ensures { IfOk result (λ life. (desk : DeskState) ×
-        ServesLife (based_on D.keeps_model D.present L.base L.before) C.met callers life.callers
-        desk life.left × IsOneHistory
-        (based_on D.keeps_model D.present L.base L.before) desk.notes life.closed.store
-        life.closed.base life.closed.trail.items life.closed.settled) }
+    ensures { IfOk result (λ life.
+        IsLife (based_on D.keeps_model D.present L.base L.before) C.met callers life.callers
+        life.left life.closed.store life.closed.base life.closed.trail.items life.closed.settled) }
 {
-    let engine: Engine<D, L> = Engine::new(alloc, blank, ledger);
-    match begin(rt, alloc, &engine, port) {
-        Ok(begun) => live_and_close(rt, alloc, most, engine, begun, callers, port, met),
+    let engine: Engine<D, L> = Engine::new(setting.alloc, blank, ledger);
+    match begin(setting, &engine, port) {
+        Ok(begun) => live_and_close(setting, engine, begun, callers, port, opening),
         Err(fault) => {
             drop(engine);
             drop(callers);
+            drop(opening);
             Err(fault)
         }
     }
 }
 
-/// What a life begins with.
-#[derive(Drop)]
-struct Begun<L: Origin> {
-    /// The desk's share.
-    own: Share<L>,
-    /// Room for all shares: none of them may be lost for want of memory.
-    room: Vec<Share<L>>,
-    /// What the workers receive.
-    packets: Vec<Receiver<Packet>>,
-}
-
-/// Makes room for all shares and a channel for each worker, and gives out the desk's share.
+/// Makes room for all that a life may not lose and a channel for each worker, and gives out the
+/// desk's share.
 fn begin<D: Disk, L: Origin, R: Wait>(
-    rt: &R,
-    alloc: Global,
+    setting: &Setting<'_, R>,
     engine: &Engine<D, L>,
     port: &LocalPort<&R>,
 ) -> Result<Begun<L>, ServerFault>
     ensures own { IfOk result (λ begun. begun.own ≡ []) }
-    ensures room { IfOk result (λ begun. begun.room.items ≡ []) }
+    ensures room { IfOk result (λ begun. (begun.room.items ≡ []) × (9 ≤ vec_capacity begun.room)) }
     ensures packets { IfOk result (λ begun. length begun.packets.items ≡ 8) }
     ensures fault { IfErr result (λ fault. fault ≡ ServerFault.OutOfMemory) }
 {
-    let (room, packets) = connect(alloc, port)?;
-    match engine.share(rt) {
-        Some(own) => Ok(Begun { own, room, packets }),
-        None => {
-            drop(room);
-            drop(packets);
-            Err(ServerFault::OutOfMemory)
-        }
-    }
+    let Some(own) = engine.share(setting.rt) else {
+        return Err(ServerFault::OutOfMemory);
+    };
+    Ok(begun_with(setting.alloc, port, own)?)
 }
 
-/// Room for all shares, and what the workers receive of that which the port carries from now on.
-fn connect<L: Origin, R: Wait>(
+/// What a life begins with whose desk has this share. What the port carries from now on comes to
+/// its workers.
+fn begun_with<L: Origin, R: Wait>(
     alloc: Global,
     port: &LocalPort<&R>,
-) -> Result<(Vec<Share<L>>, Vec<Receiver<Packet>>), AllocError>
-    ensures room { IfOk result (λ made. made.0.items ≡ []) }
-    ensures packets { IfOk result (λ made. length made.1.items ≡ 8) }
+    own: Share<L>,
+) -> Result<Begun<L>, AllocError>
+    ensures own { IfOk result (λ begun. begun.own ≡ own) }
+    ensures room { IfOk result (λ begun. (begun.room.items ≡ []) × (9 ≤ vec_capacity begun.room)) }
+    ensures packets { IfOk result (λ begun. length begun.packets.items ≡ 8) }
 {
-    let room = Vec::with_capacity(alloc, usize::from(WORKERS) + 1)?;
-    match channels(alloc) {
-        Ok((to, packets)) => {
-            port.connect(to);
-            Ok((room, packets))
-        }
-        Err(fault) => {
-            drop(room);
-            Err(fault)
-        }
-    }
+    let workers = usize::from(WORKERS);
+    let room = Vec::with_capacity(alloc, workers + 1)?;
+    let threads = Vec::with_capacity(alloc, workers)?;
+    let (to, packets) = channels(alloc)?;
+    port.connect(to);
+    Ok(Begun {
+        own,
+        room,
+        threads,
+        packets,
+    })
 }
 
 /// Runs the threads of a life, and takes its engine apart.
@@ -163,43 +147,29 @@ fn live_and_close<
     D: Disk + Send,
     L: Origin + Send + Sync,
     C: Callers + Drop,
+    W: Write + Drop,
     R: Threads + Wait + Clock + Sync,
 >(
-    rt: &R,
-    alloc: Global,
-    most: usize,
+    setting: &Setting<'_, R>,
     engine: Engine<D, L>,
     begun: Begun<L>,
     callers: C,
     port: &LocalPort<&R>,
-    met: Option<ServerFault>,
+    opening: Option<Opening<W>>,
 ) -> Result<Life<D, C>, ServerFault>
     requires parts { L.parts ≡ 65536 }
     requires before { L.before ≡ [] }
     requires own { begun.own ≡ [] }
-    requires room { begun.room.items ≡ [] }
-    requires packets { length begun.packets.items ≡ 8 }
-    requires met { IfSome met IsOfStart }
-    ensures { IfOk result (λ life. (desk : DeskState) ×
-        ServesLife (based_on D.keeps_model D.present L.base L.before) C.met callers life.callers
-        desk life.left × IsOneHistory
-        (based_on D.keeps_model D.present L.base L.before) desk.notes life.closed.store
-        life.closed.base life.closed.trail.items life.closed.settled) }
+    requires room { (begun.room.items ≡ []) × (9 ≤ vec_capacity begun.room) }
+    ensures { IfOk result (λ life.
+        IsLife (based_on D.keeps_model D.present L.base L.before) C.met callers life.callers
+        life.left life.closed.store life.closed.base life.closed.trail.items life.closed.settled) }
 {
-    let Begun { own, room, packets } = begun;
-    let ran = run(rt, alloc, most, &engine, port, packets, own, callers, met);
-    let Ran {
-        own,
-        workers,
-        callers,
-        left,
-    } = ran;
-    match all_shares(room, own, workers) {
-        Ok(shares) => closed_life(engine, shares, callers, left),
-        Err(_) => {
+    match run(setting, &engine, port, begun, callers, opening) {
+        Ok(ran) => closed_life(engine, ran),
+        Err(fault) => {
             drop(engine);
-            drop(callers);
-            Err(ServerFault::OutOfMemory)
+            Err(fault)
         }
     }
 }
@@ -207,19 +177,22 @@ fn live_and_close<
 /// What is left of a life, once its engine is taken apart with all shares.
 fn closed_life<D: Disk, L: Origin, C: Drop>(
     engine: Engine<D, L>,
-    shares: Vec<Share<L>>,
-    callers: C,
-    left: Left,
+    ran: Ran<L, C>,
 ) -> Result<Life<D, C>, ServerFault>
     requires parts { L.parts ≡ 65536 }
-    requires all { AreAll (vec_len shares) left }
+    requires all { length ran.shares.items ≡ 9 }
     ensures { IfOk result (λ life.
-        IsSince L.base L.before shares.items life.closed.base life.closed.trail.items ×
+        IsSince L.base L.before ran.shares.items life.closed.base life.closed.trail.items ×
         AtSomeMoment (based_on D.keeps_model D.present L.base L.before)
         (Closes life.closed.store life.closed.base life.closed.trail.items life.closed.settled
-        shares.items) × (life.callers ≡ callers) × (life.left ≡ left)) }
+        ran.shares.items) × (life.callers ≡ ran.callers) × (life.left ≡ ran.left)) }
 {
-    match close(engine, shares, left) {
+    let Ran {
+        shares,
+        callers,
+        left,
+    } = ran;
+    match close(engine, shares) {
         Ok(closed) => Ok(Life {
             closed,
             callers,
@@ -232,66 +205,13 @@ fn closed_life<D: Disk, L: Origin, C: Drop>(
     }
 }
 
-/// A share is missing where a thread could not be started, and that is told first.
-fn not_closed(left: Left, fault: CloseFault) -> ServerFault {
-    match left {
-        Left::Ended(Some(met)) => met,
-        _ => ServerFault::NotClosed(fault),
-    }
-}
-
-/// The desk's share, and behind it those of the workers.
-fn all_shares<L: Origin>(
-    room: Vec<Share<L>>,
-    own: Share<L>,
-    workers: Vec<PacketShare<L>>,
-) -> Result<Vec<Share<L>>, AllocError>
-    requires { room.items ≡ [] }
-    ensures added { IfOk result (λ all. AddsWorkers (own ∷ []) all.items) }
-    ensures every { IfOk result (λ all. all.items ≡ (own ∷ []) ++ workers.items) }
-{
-    match with_own(room, own) {
-        Ok(first) => with_workers(first, workers),
-        Err(fault) => {
-            drop(workers);
-            Err(fault)
-        }
-    }
-}
-
-/// The desk's share, in room that was taken for all.
-fn with_own<L: Origin>(room: Vec<Share<L>>, own: Share<L>) -> Result<Vec<Share<L>>, AllocError>
-    requires { room.items ≡ [] }
-    ensures { IfOk result (λ first. first.items ≡ own ∷ []) }
-{
-    let mut shares = room;
-    shares.push(own)?;
-    Ok(shares)
-}
-
-/// And behind it those of the workers.
-fn with_workers<L: Origin>(
-    first: Vec<Share<L>>,
-    workers: Vec<PacketShare<L>>,
-) -> Result<Vec<Share<L>>, AllocError>
-    ensures added { IfOk result (λ all. AddsWorkers first.items all.items) }
-    ensures every { IfOk result (λ all. all.items ≡ first.items ++ workers.items) }
-{
-    let mut shares = first;
-    for worker in workers {
-        shares.push(worker.into_share())?;
-    }
-    Ok(shares)
-}
-
 /// Takes an engine apart, with the shares of the desk and of the workers.
 fn close<D: Disk, L: Origin>(
     engine: Engine<D, L>,
     shares: Vec<Share<L>>,
-    left: Left,
 ) -> Result<Closed<D>, ServerFault>
     requires parts { L.parts ≡ 65536 }
-    requires all { AreAll (vec_len shares) left }
+    requires all { length shares.items ≡ 9 }
     ensures since { IfOk result (λ closed.
         IsSince L.base L.before shares.items closed.base closed.trail.items) }
     ensures closed { IfOk result (λ closed.
@@ -300,7 +220,7 @@ fn close<D: Disk, L: Origin>(
 {
     match engine.close(shares) {
         Ok(closed) => Ok(closed),
-        Err((fault, _engine, _shares)) => Err(not_closed(left, fault)),
+        Err((fault, _engine, _shares)) => Err(ServerFault::NotClosed(fault)),
     }
 }
 

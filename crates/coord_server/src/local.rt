@@ -8,8 +8,7 @@ use coord_types::{NodeId, Packet};
 use crossbeam_channel::Sender;
 use std::sync::{Mutex, Wait};
 
-/// How many workers there are. Each has the nodes whose numbers leave the same rest on division by
-/// this.
+/// How many workers there are. A node belongs to the worker with the node's number modulo this.
 pub const WORKERS: u8 = 8;
 
 /// A reset has ended at this node, and this epoch has begun.

@@ -49,8 +49,9 @@ impl<W: Write> Printer<W> {
         self.is_broken
     }
 
-    /// Says that a reset has ended at a node, with the epoch that began. Whether it was written.
-    /// Where it was not, and lines are printed on, there was no memory for it, and nothing of it was.
+    /// Prints that a reset has ended at a node, with the epoch that began, and answers whether the
+    /// line was written. If it was not and later lines are, there was no memory for it, and no part
+    /// of it was written.
     pub fn print_signal(&mut self, node: NodeId, epoch: u64) -> bool
         ensures written { result ≡ true →
             Appends (W.contents self.old.output) (W.contents self.new.output)
@@ -66,8 +67,9 @@ impl<W: Write> Printer<W> {
         }
     }
 
-    /// Says at which address the server listens. Where it does not, why: the output failed, or there
-    /// was no memory for the line. Where lines are printed on then, nothing of it was.
+    /// Prints the address at which the server listens, or answers why not: the output failed, or
+    /// there was no memory for the line. In the second case no part of it was written, and later
+    /// lines are.
     pub fn print_address(&mut self, address: SocketAddr) -> Result<(), ServerFault>
         ensures written { OnOk result (Appends (W.contents self.old.output)
             (W.contents self.new.output) (listening_line address)) }
@@ -111,7 +113,7 @@ fn write_line<W: Write>(output: &mut W, line: &str) -> Result<(), ServerFault>
     told(output.flush())
 }
 
-/// What is told of an output: want of memory, or else that it failed.
+/// The fault of an output: want of memory if it says so, else that it failed.
 fn told(answer: io::Result<()>) -> Result<(), ServerFault>
     ensures ok { OnOk answer (IsOk result) }
     ensures memory { IfErr answer (λ error. error_kind error ≡ ErrorKind.OutOfMemory →

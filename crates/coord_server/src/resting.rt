@@ -1,26 +1,32 @@
 //! Those who call, as far as one life of the server serves them.
 
-ghost use Rattle.std.specs.Prelude.{◌≡◌, false};
+ghost use Rattle.std.specs.Prelude.{◌≡◌, ◌*◌, ◌⊎◌, ◌||◌, false, true};
+ghost use Rattle.coord_engine.specs.State.{based_on};
+ghost use Rattle.coord_server.specs.Ending.{HasKept};
 
 use crate::age::Age;
 use coord_admin::{Callers, Duplex, NotRead, NotWritten};
+use coord_disk::Disk;
+use coord_engine::Origin;
 use std::io;
 use std::io::ErrorKind;
 use std::net::SocketAddr;
+use std::sync::Wait;
 
 /// Those who call, until a life is old: then no one is served any more, and the next life takes over.
 #[derive(Drop)]
-pub struct LifeCallers<'a, C, A> {
+pub struct LifeCallers<'a, C, D: Disk, L: Origin, R: Wait> {
     callers: C,
-    age: &'a A,
+    age: &'a Age<'a, D, L, R>,
     rests: bool,
 }
 
-impl<'a, C: Callers, A: Age> LifeCallers<'a, C, A> {
+impl<'a, C: Callers, D: Disk, L: Origin, R: Wait> LifeCallers<'a, C, D, L, R> {
     /// None has called in this life.
-    pub fn new(callers: C, age: &'a A) -> Self
+    pub fn new(callers: C, age: &'a Age<'a, D, L, R>) -> Self
         ensures callers { result.callers ≡ callers }
         ensures begins { result.rests ≡ false }
+        ensures age { result.age.now ≡ age.now }
     {
         LifeCallers {
             callers,
@@ -29,7 +35,7 @@ impl<'a, C: Callers, A: Age> LifeCallers<'a, C, A> {
         }
     }
 
-    /// Whether no one is served any more since the life is old.
+    /// Whether the life is old, so that no one is served any more.
     pub fn rests(&self) -> bool
         ensures { result ≡ self.now.rests }
     {
@@ -49,18 +55,27 @@ impl<'a, C: Callers, A: Age> LifeCallers<'a, C, A> {
     }
 }
 
-impl<'a, C: Callers, A: Age> Callers for LifeCallers<'a, C, A> {
-    type Line = LifeLine<'a, C::Line, A>;
+impl<'a, C: Callers, D: Disk, L: Origin, R: Wait> Callers for LifeCallers<'a, C, D, L, R> {
+    type Line = LifeLine<'a, C::Line, D, L, R>;
 
     ghost met = { λ a talks b. C.met a.callers talks b.callers };
 
     ghost begins = { λ line. C.begins line.line };
 
+    // It rests, since the life is old, or the next one was waited for.
+    ghost failed = { λ a b. ((b.rests ≡ true) ×
+        HasKept (based_on D.keeps_model D.present L.base L.before) b.age.now.most)
+        ⊎ C.failed a.callers b.callers };
+
+    // A client whose connection was cut is let read the last answer first, as one that has closed.
+    ghost ended = { λ a line has_closed b.
+        C.ended a.callers line.line (has_closed || line.is_cut) b.callers };
+
     fn address(&self) -> io::Result<SocketAddr> {
         self.callers.address()
     }
 
-    fn next(&mut self) -> io::Result<LifeLine<'a, C::Line, A>> {
+    fn next(&mut self) -> io::Result<LifeLine<'a, C::Line, D, L, R>> {
         if self.age.is_old() {
             self.rests = true;
             return Err(ErrorKind::TimedOut.into());
@@ -72,8 +87,7 @@ impl<'a, C: Callers, A: Age> Callers for LifeCallers<'a, C, A> {
         })
     }
 
-    /// A client whose connection was cut is let read the last answer first.
-    fn end(&mut self, line: LifeLine<'a, C::Line, A>, has_closed: bool) {
+    fn end(&mut self, line: LifeLine<'a, C::Line, D, L, R>, has_closed: bool) {
         let LifeLine {
             line,
             age: _,
@@ -91,16 +105,21 @@ impl<'a, C: Callers, A: Age> Callers for LifeCallers<'a, C, A> {
 /// A connection that is cut once its life is too old: each line that ended has its reply then, and
 /// nothing more is read.
 #[derive(Drop)]
-pub struct LifeLine<'a, N, A> {
+pub struct LifeLine<'a, N, D: Disk, L: Origin, R: Wait> {
     line: N,
-    age: &'a A,
+    age: &'a Age<'a, D, L, R>,
     is_cut: bool,
 }
 
-impl<'a, N: Duplex, A: Age> Duplex for LifeLine<'a, N, A> {
+impl<'a, N: Duplex, D: Disk, L: Origin, R: Wait> Duplex for LifeLine<'a, N, D, L, R> {
     ghost exchanged = { λ a came went b. N.exchanged a.line came went b.line };
 
     ghost has_ended = { λ a. N.has_ended a.line };
+
+    // It is cut, since the life is too old, or the connection was asked.
+    ghost asked = { λ a is_within_line b. ((b.is_cut ≡ true) ×
+        HasKept (based_on D.keeps_model D.present L.base L.before) (2 * b.age.now.most))
+        ⊎ N.asked a.line is_within_line b.line };
 
     fn receive(&mut self, buffer: &mut [u8], is_within_line: bool) -> Result<usize, NotRead> {
         if self.age.is_too_old() {

@@ -1,7 +1,10 @@
 //! A store that is served until a line closes it.
 
-ghost use Rattle.std.specs.Prelude.{◌≡◌, false, IfErr, IfOk, None, Some};
-ghost use Rattle.coord_store.specs.Kept.{has_stopped};
+ghost use Rattle.std.specs.Prelude.{◌≡◌, false, true, ℕ, List, IfErr, IfOk, None, Some};
+ghost use Rattle.coord_admin.specs.Times.{IsUsual};
+ghost use Rattle.coord_disk.specs.Model.Present.{IsImage};
+ghost use Rattle.coord_store.specs.Kept.{ImagesGive, has_stopped};
+ghost use Rattle.coord_store.specs.Recovered.{Recovered};
 ghost use Rattle.coord_server.specs.Ending.{fault_at_end};
 ghost use Rattle.coord_server.specs.Lives.{EndsOneHistory, HasLived, HasLivedToClose};
 
@@ -40,8 +43,40 @@ pub fn serve_store<
         closed.trail.items closed.settled) }
     ensures whole { IfOk result (λ closed.
         EndsOneHistory store.world closed.store closed.base closed.trail.items closed.settled) }
+    ensures images { IfOk result (λ closed. D.keeps_model closed.store.disk ≡ true →
+        (image : List ℕ) → IsImage (D.present closed.store.disk) image →
+        Recovered image closed.store.world) }
 {
     let callers = Accepted::new(rt, listener, Patience::usual());
+    serve_accepted(rt, alloc, store, callers, output)
+}
+
+/// Serves a store to the connections of a listener whose clients are waited for as usual.
+fn serve_accepted<
+    D: Disk + Send,
+    S: Read + Write + OpenStream + Drop,
+    A: OpenListener<Stream = S>,
+    W: Write + Send + Drop,
+    R: Threads + Wait + Clock + Sync,
+>(
+    rt: &R,
+    alloc: Global,
+    store: Store<D>,
+    callers: Accepted<'_, A, R>,
+    output: W,
+) -> Result<Closed<D>, ServerFault>
+    requires going { has_stopped store ≡ false }
+    requires patience { IsUsual callers }
+    ensures going { IfOk result (λ closed. has_stopped closed.store ≡ false) }
+    ensures lives { IfOk result (λ closed.
+        HasLivedToClose D.keeps_model D.present store.world closed.store closed.base
+        closed.trail.items closed.settled) }
+    ensures whole { IfOk result (λ closed.
+        EndsOneHistory store.world closed.store closed.base closed.trail.items closed.settled) }
+    ensures images { IfOk result (λ closed. D.keeps_model closed.store.disk ≡ true →
+        (image : List ℕ) → IsImage (D.present closed.store.disk) image →
+        Recovered image closed.store.world) }
+{
     let ended = serve_callers(rt, alloc, store, callers, output)?;
     closed_of(ended)
 }
@@ -85,6 +120,10 @@ pub fn serve_callers<
     ensures whole { IfOk result (λ ended.
         EndsOneHistory store.world ended.closed.store ended.closed.base ended.closed.trail.items
         ended.closed.settled) }
+    ensures images { IfOk result (λ ended. D.keeps_model ended.closed.store.disk ≡ true →
+        ImagesGive D.present ended.closed.store) }
 {
-    serve_lives(rt, alloc, LIFE_STEPS, store, callers, output)
+    let ended = serve_lives(rt, alloc, LIFE_STEPS, store, callers, output)?;
+    ended.closed.store.images_give_world();
+    Ok(ended)
 }

@@ -37,11 +37,12 @@ fn first_snapshot(alloc: Global, version: Version) -> Result<Vec<u8>, AllocError
 }
 
 impl<D: Disk> Store<D> {
-    /// Makes a store of the world before any step, on an empty device.
+    /// Makes a store of the world before any step, on an empty device: it formats the device and then
+    /// opens it, by at most six calls.
     ///
     /// A half has `half_size` bytes, from 32,768 to 16,777,216. The version of the world is 1 or 2. A
     /// refusal hands the disk back: after `Device` its bytes are open, and `OutOfMemory` may leave the store
-    /// made.
+    /// made. A device that does not give back what was written may be refused as `NoMagic` or `BadRecord`.
     pub fn create(
         alloc: Global,
         mut disk: D,

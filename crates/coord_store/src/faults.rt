@@ -35,6 +35,7 @@ pub enum StoreFault {
     /// The world of the snapshot is not legal.
     Violated(Violation),
     /// This node, and none with a lesser number, is in a reset, so the store is not raised to version 2.
+    /// `migrate` alone answers this, and `Stopped`.
     NotQuiet(NodeId),
     /// The device has failed before.
     Stopped,

@@ -16,7 +16,8 @@ use coord_types::Step;
 use coord_world::{Verdict, World};
 use std::alloc::AllocError;
 
-/// Takes steps, each of them fresh, with the world from before them all as the settled one.
+/// Takes steps, each of them fresh, with the world from before them all as the settled one. It is
+/// public, since a ledger makes the world after a flight so where it can't take its front world.
 pub fn take_all(world: &mut World, steps: &[Step]) -> Result<(), AllocError>
     requires legal { Legal world.old }
     requires fresh { AllFresh world.old world.old steps.now }
@@ -40,8 +41,8 @@ fn within_ranges(steps: &[Step])
     }
 }
 
-/// The world after steps, each of them fresh, with the world from before them all as the settled
-/// one: the one that was made of them before, or else a copy that takes them.
+/// The world after these fresh steps: the one that the caller made of them before, or else a copy
+/// that takes them now.
 pub(crate) fn led_to(
     world: &World,
     steps: &[Step],

@@ -190,6 +190,50 @@ fn a_connection_that_lasts(rt: HostRuntime) {
     assert!(rt; is_cut_off(&rt, rt.alloc(), Holder::Asks));
 }
 
+/// How often a client asks, ten milliseconds apart, where it may be silent for two thirds of that time.
+const ASKED: u64 = 150;
+
+/// Asks again and again. How often it was answered.
+fn ask_on<R: Clock>(rt: &R, stream: &mut TcpStream) -> u64 {
+    let mut buffer = [0; 512];
+    for asked in 0..ASKED {
+        match held_once(Holder::Asks, stream, &mut buffer) {
+            Ok(false) => thread::sleep(rt, Duration::from_millis(10)),
+            _ => return asked,
+        }
+    }
+    ASKED
+}
+
+/// Whether a client that asks on is answered for longer than it may be silent.
+fn is_answered_on<
+    R: Net<Stream = TcpStream, Listener = TcpListener> + Threads + Clock + Sync + Abort,
+>(rt: &R, alloc: Global) -> bool {
+    let mut patience = Patience::usual();
+    patience.silence = Duration::from_millis(1_000);
+    let (listener, address) = listens(rt);
+    let mut asking = TcpStream::connect(rt, address).expect(rt, "no connection");
+    let closing = closes(rt, address);
+    let (asked, ()) = thread::join(
+        rt,
+        || {
+            let asked = ask_on(rt, &mut asking);
+            asking.shutdown(Shutdown::Write).expect(rt, "no end");
+            asked
+        },
+        || serves(rt, alloc, &listener, patience),
+    );
+    drop(asking);
+    drop(listener);
+    is_told(rt, alloc, closing, CLOSED) && asked == ASKED
+}
+
+/// The time for which a client may be silent begins anew with each line.
+#[test]
+fn a_client_that_asks_on(rt: HostRuntime) {
+    assert!(rt; is_answered_on(&rt, rt.alloc()));
+}
+
 /// Whether this text, sent again and again, is refused at last.
 fn is_refused<L: Duplex>(line: &mut L, text: &[u8]) -> bool {
     for _ in 0..64 {

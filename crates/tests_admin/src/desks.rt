@@ -31,14 +31,17 @@ fn node(id: NodeId, mode: Mode, parent: Option<NodeId>, epoch: u64) -> NodeView 
 }
 
 impl Desk for OneLink {
+    type Posted = ();
+
     ghost answers = { λ _ _ _ _. ⊤ };
 
-    fn order(
-        &mut self,
-        _client: Client,
-        _number: u64,
-        _command: Command,
-    ) -> Result<Reply, Refusal> {
+    ghost posts = { λ _ _ _ _. ⊤ };
+
+    ghost replies = { λ _ _ _ _. ⊤ };
+
+    fn post(&mut self, _client: Client, _number: u64, _command: Command) {}
+
+    fn reply(&mut self, _posted: ()) -> Result<Reply, Refusal> {
         Err(Refusal::OutOfMemory)
     }
 
@@ -76,4 +79,8 @@ impl Desk for OneLink {
     }
 
     fn close(&mut self) {}
+
+    ghost is_answered = { λ _ _ _ _ _ _ _ _. tt };
+
+    ghost stays_apart = { λ a _ _ _ _ _ _ _ _. (a, tt, tt) };
 }

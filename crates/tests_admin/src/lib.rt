@@ -13,3 +13,5 @@ mod lines;
 mod memory;
 #[cfg(test)]
 mod scripted;
+#[cfg(test)]
+mod together;

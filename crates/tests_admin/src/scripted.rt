@@ -17,6 +17,8 @@ const CLOSED: &[u8] = b"{\"kind\":\"closed\"}\n";
 enum Client {
     /// It leaves before it is accepted, and the listener tells it so.
     Leaves(ErrorKind),
+    /// The listener fails with this number of Linux instead.
+    Fails(i32),
     /// Its stream takes no options.
     Unready,
     /// It says nothing for longer than a read waits.
@@ -87,6 +89,7 @@ impl<'a, T: Clock> OpenListener for &'a Script<T> {
         match client {
             Client::Breaks => Err(io::Error::other("broken")),
             Client::Leaves(kind) => Err(kind.into()),
+            Client::Fails(code) => Err(io::Error::from_raw_os_error(code)),
             _ => Ok((
                 Scripted {
                     client,
@@ -305,6 +308,45 @@ fn no_room_for_a_connection(rt: HostRuntime) {
     let gives_up = [Client::Waits(ACCEPT_TRIES + 1); 6];
     assert!(rt; ended(&rt, rt.alloc(), waits, patience()) == closed_as(1));
     assert!(rt; ended(&rt, rt.alloc(), gives_up, patience()) == broken_as(0));
+}
+
+/// What accept(2) has fail with one connection alone: EPERM, EINTR, ENONET, EPROTO, ENOPROTOOPT,
+/// EOPNOTSUPP, ENETDOWN, ENETUNREACH, ECONNABORTED, ECONNRESET, EHOSTDOWN, EHOSTUNREACH; and what may
+/// pass: ENOMEM, ENFILE, EMFILE, ENOBUFS.
+const PASSING: [i32; 16] = [
+    1, 4, 64, 71, 92, 95, 100, 101, 103, 104, 112, 113, 12, 23, 24, 105,
+];
+
+/// EBADF, EFAULT, EINVAL and ENOTSOCK.
+const LASTING: [i32; 4] = [9, 14, 22, 88];
+
+/// What becomes of a client that closes the desk behind a listener that fails so once.
+fn behind_failure<T: Clock>(rt: &T, alloc: Global, code: i32) -> Met {
+    let mut clients = [Client::Closes; 6];
+    clients[0] = Client::Fails(code);
+    ended(rt, alloc, clients, patience())
+}
+
+/// A failure to accept that is of one connection, or that may pass, ends no server.
+#[test]
+fn failures_to_accept_that_pass(rt: HostRuntime) {
+    for code in PASSING {
+        assert!(rt;
+            behind_failure(&rt, rt.alloc(), code) == closed_as(2),
+            "{code}"
+        );
+    }
+}
+
+/// Any other one does.
+#[test]
+fn failures_to_accept_that_last(rt: HostRuntime) {
+    for code in LASTING {
+        assert!(rt;
+            behind_failure(&rt, rt.alloc(), code) == broken_as(1),
+            "{code}"
+        );
+    }
 }
 
 /// The times that a client is waited for.

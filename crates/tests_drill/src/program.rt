@@ -1,14 +1,16 @@
 //! Runs of the program.
 
-use coord_commands::run;
+use coord_commands::run_program;
 use std::alloc::{AllocError, Global};
 use std::fs::File;
+use std::io;
 use std::io::Read;
 use std::net::Net;
 use std::rt::Files;
 use std::sync::Wait;
 use std::thread::Threads;
 use std::time::Clock;
+use std::vec::IntoIter;
 
 /// What a run of the program is to end with: its exit status, what it prints, and its fault line.
 pub(crate) type Ending<'a> = (u8, &'a str, &'a str);
@@ -31,18 +33,16 @@ pub(crate) fn ended<
     R: Read,
 >(rt: &S, words: &str, input: &mut R) -> Result<Ended, AllocError> {
     let given = words_of(rt.alloc(), words)?;
-    let ended = ended_of(rt, given.as_slice(), input);
-    drop(given);
-    ended
+    ended_with(rt, Ok(given.into_iter()), input)
 }
 
-fn ended_of<S: Files<File = File> + Net + Threads + Wait + Clock + Sync + AllocGlobal, R: Read>(
-    rt: &S,
-    words: &[String],
-    input: &mut R,
-) -> Result<Ended, AllocError> {
+/// What it ended with where its words come so, or could not be had.
+pub(crate) fn ended_with<
+    S: Files<File = File> + Net + Threads + Wait + Clock + Sync + AllocGlobal,
+    R: Read,
+>(rt: &S, words: io::Result<IntoIter<String>>, input: &mut R) -> Result<Ended, AllocError> {
     let (mut output, mut errors) = streams(rt.alloc())?;
-    let status = run(rt, words, input, &mut output, &mut errors);
+    let status = run_program(rt, words, input, &mut output, &mut errors);
     Ok((status, output, errors))
 }
 

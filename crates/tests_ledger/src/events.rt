@@ -44,8 +44,8 @@ fn each_event_is_answered(rt: HostRuntime) -> Result<(), Fail> {
     Ok(())
 }
 
-// The last call of a commit fails, and then the device crashes. Where a device in memory fails an
-// earlier one, so does the opening.
+// The last call of a commit fails, and then the device crashes: the order that comes again is a new
+// step or a repeat. Where a device in memory fails an earlier call, so does the opening.
 fn torn(alloc: Global, which: usize, answers: &str) -> Result<bool, Fail> {
     let scene = Scene::new()?;
     let events = [
@@ -56,6 +56,9 @@ fn torn(alloc: Global, which: usize, answers: &str) -> Result<bool, Fail> {
         Event::Show,
         Event::Submit(scene.add(2, scene.second)),
         Event::Crash,
+        Event::Submit(scene.add(1, scene.first)),
+        Event::Submit(scene.add(1, scene.second)),
+        Event::Collect(0),
     ];
     let disk = BlipDisk::new(chosen(alloc, which)?, GATE);
     let (trace, disk) = ran(alloc, disk, &events)?;
@@ -73,9 +76,11 @@ fn chosen(alloc: Global, which: usize) -> Result<MemDisk, Fail> {
 
 fn are_torn(alloc: Global) -> Result<bool, Fail> {
     let lost =
-        "[Accepted(1), Begun(1), Failed(Device), Finished(0), Refused(Stopped), Refused(Stopped), Opened(0)]";
+        "[Accepted(1), Begun(1), Failed(Device), Finished(0), Refused(Stopped), Refused(Stopped), Opened(0), \
+                   Accepted(1), Refused(NumberReused), Waiting]";
     let kept =
-        "[Accepted(1), Begun(1), Failed(Device), Finished(0), Refused(Stopped), Refused(Stopped), Opened(1)]";
+        "[Accepted(1), Begun(1), Failed(Device), Finished(0), Refused(Stopped), Refused(Stopped), Opened(1), \
+                   Repeated(1), Refused(NumberReused), Collected(Reply { step: 1, kind: Done })]";
     Ok(torn(alloc, 0, lost)? && torn(alloc, 1, kept)?)
 }
 

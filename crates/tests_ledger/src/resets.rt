@@ -84,7 +84,8 @@ fn releases_come_in_order(rt: HostRuntime) -> Result<(), Fail> {
     Ok(())
 }
 
-// The last order comes again after a crash, and then others of its number and out of turn.
+// The last order comes again after a crash, and then others of its number and out of turn, and a
+// confirmation of a reset that was not announced.
 fn push_repeated(events: &mut Vec<Event>, scene: &Scene) -> Result<(), AllocError> {
     push_reset(events, scene)?;
     events.extend_from_slice(&[
@@ -93,13 +94,16 @@ fn push_repeated(events: &mut Vec<Event>, scene: &Scene) -> Result<(), AllocErro
         Event::Collect(0),
         Event::Submit(scene.reset(4, scene.second)),
         Event::Submit(scene.reset(6, scene.first)),
+        Event::Submit(scene.confirm(1, scene.first, 1)),
+        Event::Begin,
     ])
 }
 
 fn is_repeated(alloc: Global, events: &[Event]) -> Result<bool, Fail> {
     let answers =
         "[Accepted(1), Accepted(2), Accepted(3), Accepted(4), Begun(4), Committed, Finished(4), Opened(4), \
-                   Repeated(4), Collected(Reply { step: 4, kind: Started }), Refused(NumberReused), Refused(OutOfTurn)]";
+                   Repeated(4), Collected(Reply { step: 4, kind: Started }), Refused(NumberReused), Refused(OutOfTurn), \
+                   Refused(BadEpoch), Nothing]";
     are_answered(alloc, made(alloc)?, events, answers)
 }
 

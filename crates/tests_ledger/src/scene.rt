@@ -6,10 +6,11 @@ use std::test::Fail;
 /// The incarnation of the link that the third step makes.
 pub(crate) const LINK: u64 = 3;
 
-/// Client 1, and four nodes of group 1.
+/// Client 1, another client, and four nodes of group 1.
 #[derive(Clone, Copy)]
 pub(crate) struct Scene {
     client: Client,
+    other: Client,
     group: Group,
     pub(crate) first: NodeId,
     pub(crate) second: NodeId,
@@ -21,6 +22,7 @@ impl Scene {
     pub(crate) fn new() -> Result<Self, Fail> {
         Ok(Scene {
             client: Client::new(1).ok_or("client")?,
+            other: Client::new(2).ok_or("client")?,
             group: Group::new(1).ok_or("group")?,
             first: NodeId::new(1).ok_or("node")?,
             second: NodeId::new(2).ok_or("node")?,
@@ -37,6 +39,11 @@ impl Scene {
     /// Its order of this number resets a node.
     pub(crate) fn reset(&self, number: u64, node: NodeId) -> Step {
         Step::Order(self.client, number, Command::Reset(node))
+    }
+
+    /// The order of this number of another client confirms that a node has done a reset.
+    pub(crate) fn confirm(&self, number: u64, node: NodeId, epoch: u64) -> Step {
+        Step::Order(self.other, number, Command::Confirm(node, epoch))
     }
 
     /// Its first three orders: the first two nodes are added, and linked.

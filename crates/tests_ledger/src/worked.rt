@@ -159,11 +159,26 @@ fn keeps_committed(alloc: Global) -> Result<bool, Fail> {
         Event::Begin,
         Event::Commit,
         Event::Submit(scene.add(5, scene.third)),
+        Event::Show,
         Event::Crash,
         Event::Finish,
+        Event::Show,
         Event::Resend,
     ];
-    let answers = "[Accepted(4), Begun(1), Committed, Accepted(5), Opened(4), NoFlight, Resent(1)]";
+    let answers = "[Accepted(4), Begun(1), Committed, Accepted(5), \
+                   Shown(View { accepted: 5, settled: 3, \
+                   nodes: [NodeView { node: Identifier { number: 1 }, group: Identifier { number: 1 }, mode: Ready, \
+                   parent: None, epoch: 0, confirmed: 0 }, \
+                   NodeView { node: Identifier { number: 2 }, group: Identifier { number: 1 }, mode: Ready, \
+                   parent: None, epoch: 0, confirmed: 0 }], \
+                   links: [LinkView { a: Identifier { number: 1 }, b: Identifier { number: 2 }, inc: 3 }] }), \
+                   Opened(4), NoFlight, \
+                   Shown(View { accepted: 4, settled: 4, \
+                   nodes: [NodeView { node: Identifier { number: 1 }, group: Identifier { number: 1 }, mode: Abort, \
+                   parent: None, epoch: 0, confirmed: 0 }, \
+                   NodeView { node: Identifier { number: 2 }, group: Identifier { number: 1 }, mode: Ready, \
+                   parent: None, epoch: 0, confirmed: 0 }], \
+                   links: [LinkView { a: Identifier { number: 1 }, b: Identifier { number: 2 }, inc: 3 }] }), Resent(1)]";
     goes(alloc, &scene, &behind, answers, &[sent(&scene, 0)])
 }
 

@@ -20,9 +20,6 @@ pub(crate) const CLOSE: &str = "{\"op\":\"close\"}\n";
 
 const CLOSED: &str = "{\"kind\":\"closed\"}\n";
 
-/// The row of a node at which a reset has ended begins so behind its number and group, and ends so.
-const SIGNALLED: &str = ",1,\"ready\",0,1,0]";
-
 /// The replies to these lines.
 pub(crate) fn ask<R: Net<Stream = TcpStream, Listener = TcpListener> + Abort>(
     rt: &R,
@@ -47,9 +44,9 @@ pub(crate) fn told<R: Abort>(rt: &R, alloc: Global, mut stream: TcpStream) -> St
     told.expect(rt, "no replies")
 }
 
-/// How many nodes are shown to have signalled.
-fn signalled(shown: String) -> usize {
-    let count = shown.as_str().matches(SIGNALLED).count();
+/// How many rows of nodes end so.
+fn rows_with(shown: String, end: &str) -> usize {
+    let count = shown.as_str().matches(end).count();
     drop(shown);
     count
 }
@@ -61,15 +58,30 @@ pub(crate) fn is_text(text: String, wanted: &str) -> bool {
     is_wanted
 }
 
-/// Asks until at least so many nodes have signalled. Whether they have.
-pub(crate) fn all_signal<R: Clock + Net<Stream = TcpStream, Listener = TcpListener> + Abort>(
+/// Asks until at least so many nodes are shown to be ready in this epoch. Whether they are.
+pub(crate) fn all_begin<R: Clock + Net<Stream = TcpStream, Listener = TcpListener> + Abort>(
     rt: &R,
     alloc: Global,
     address: SocketAddr,
     nodes: usize,
+    epoch: u64,
+) -> bool {
+    let end = format!(in alloc; ",1,\"ready\",0,{epoch},0]").expect(rt, "no memory");
+    let all = all_end(rt, alloc, address, nodes, &end);
+    drop(end);
+    all
+}
+
+/// Asks until the rows of at least so many nodes end so. Whether they do.
+fn all_end<R: Clock + Net<Stream = TcpStream, Listener = TcpListener> + Abort>(
+    rt: &R,
+    alloc: Global,
+    address: SocketAddr,
+    nodes: usize,
+    end: &str,
 ) -> bool {
     for _ in 0..LOOKS {
-        if signalled(ask(rt, alloc, address, SHOW)) >= nodes {
+        if rows_with(ask(rt, alloc, address, SHOW), end) >= nodes {
             return true;
         }
         thread::sleep(rt, Duration::from_millis(1));
@@ -95,7 +107,7 @@ pub(crate) fn asks<R: Clock + Net<Stream = TcpStream, Listener = TcpListener> + 
     nodes: u8,
 ) {
     drop(ask(rt, alloc, address, lines));
-    assert!(rt; all_signal(rt, alloc, address, usize::from(nodes)));
+    assert!(rt; all_begin(rt, alloc, address, usize::from(nodes), 1));
     close(rt, alloc, address);
 }
 

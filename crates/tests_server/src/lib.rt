@@ -4,13 +4,19 @@
 #[cfg(test)]
 mod asking;
 #[cfg(test)]
+mod epochs;
+#[cfg(test)]
 mod kill;
 #[cfg(test)]
 mod lives;
 #[cfg(test)]
+mod local;
+#[cfg(test)]
 mod loopback;
 #[cfg(test)]
 mod memory;
+#[cfg(test)]
+mod pending;
 #[cfg(test)]
 mod printing;
 #[cfg(test)]
@@ -19,3 +25,5 @@ mod rings;
 mod short_of_memory;
 #[cfg(test)]
 mod slow_output;
+#[cfg(test)]
+mod together;

@@ -36,10 +36,20 @@ struct Forgetful<E: Desk> {
 }
 
 impl<E: Desk> Desk for Forgetful<E> {
+    type Posted = E::Posted;
+
     ghost answers = { λ _ _ _ _. Unit {0} };
 
-    fn order(&mut self, client: Client, number: u64, command: Command) -> Result<Reply, Refusal> {
-        let reply = self.desk.order(client, number, command)?;
+    ghost posts = { λ _ _ _ _. Unit {0} };
+
+    ghost replies = { λ _ _ _ _. Unit {0} };
+
+    fn post(&mut self, client: Client, number: u64, command: Command) -> E::Posted {
+        self.desk.post(client, number, command)
+    }
+
+    fn reply(&mut self, posted: E::Posted) -> Result<Reply, Refusal> {
+        let reply = self.desk.reply(posted)?;
         if self.has_forgotten {
             return Ok(reply);
         }
@@ -58,6 +68,10 @@ impl<E: Desk> Desk for Forgetful<E> {
     fn close(&mut self) {
         self.desk.close()
     }
+
+    ghost is_answered = { λ _ _ _ _ _ _ _ _. tt };
+
+    ghost stays_apart = { λ a _ _ _ _ _ _ _ _. (a, tt, tt) };
 }
 
 /// Sends the line. Whether it is told its reply; None where it is told that there was no memory, or

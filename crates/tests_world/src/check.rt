@@ -278,7 +278,17 @@ const TOLD: [(&str, &str); 12] = [
 ];
 
 // What is told of worlds of version 2.
-const TOLD_OF_DISTANCES: [(&str, &str); 6] = [
+const TOLD_OF_DISTANCES: [(&str, &str); 7] = [
+    // a miscount comes before an Abort that carries 2 from distance 0, though it is of the other lane
+    (
+        "2 1 A",
+        "0000000000000004 02
+        01 01 01 00 0000000000000002 0000000000000000 0000000000000000 0000000000000000
+        02 01 00 00 0000000000000000 0000000000000000 0000000000000000 0000000000000000
+        01 01 02 0000000000000003
+        0000000000000000 0000000000000000 01 00 0000000000000002
+        0000000000000000 0000000000000001 00 00",
+    ),
     // an Abort from distance 0 that carries 2
     (
         "1 2 H",

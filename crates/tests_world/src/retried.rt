@@ -4,7 +4,9 @@
 
 ghost use Rattle.coord_world.specs.protocol.Legal.{Legal};
 
-use coord_types::{Client, Command, Group, Kind, NodeId, Step, Version};
+use coord_types::{
+    Client, Command, DataPacket, Group, Kind, Msg, NodeId, ReceiptPacket, Step, Version,
+};
 use coord_world::{Outcome, Verdict, World};
 use std::alloc::{AllocError, Global};
 use std::test::Fail;
@@ -53,33 +55,59 @@ fn taken_then(world: &mut World, before: &World, step: &Step) -> Result<Outcome,
     Ok(world.apply(step)?)
 }
 
-fn orders(node: NodeId, other: NodeId, group: Group) -> [(Command, Kind, usize); 5] {
+// A reset of two linked nodes up to its first Ready, and then the link goes.
+fn steps(client: Client, node: NodeId, other: NodeId, group: Group) -> [(Step, Kind, usize); 8] {
     [
-        (Command::Add(node, group), Kind::Done, 0),
-        (Command::Add(other, group), Kind::Done, 0),
-        (Command::Join(node, other), Kind::Done, 0),
-        (Command::Reset(node), Kind::Started, 1),
-        (Command::Drop(node, other), Kind::Done, 1),
+        (order(client, 1, Command::Add(node, group)), Kind::Done, 0),
+        (order(client, 2, Command::Add(other, group)), Kind::Done, 0),
+        (order(client, 3, Command::Join(node, other)), Kind::Done, 0),
+        (order(client, 4, Command::Reset(node)), Kind::Started, 1),
+        (front(node, other, Msg::Abort(0)), Kind::Taken, 2),
+        (front(other, node, Msg::Ack), Kind::Taken, 2),
+        (receipt(node, other), Kind::Cleared, 1),
+        (order(client, 5, Command::Drop(node, other)), Kind::Done, 1),
     ]
 }
 
-// Whether an order was answered with this kind and this count of outputs.
+fn order(client: Client, number: u64, command: Command) -> Step {
+    Step::Order(client, number, command)
+}
+
+// The first packet of a lane that was made by the third step.
+fn front(from: NodeId, to: NodeId, msg: Msg) -> Step {
+    Step::Take(DataPacket {
+        from,
+        to,
+        inc: 3,
+        number: 1,
+        msg,
+    })
+}
+
+// Its receipt.
+fn receipt(from: NodeId, to: NodeId) -> Step {
+    Step::Clear(ReceiptPacket {
+        from,
+        to,
+        inc: 3,
+        number: 1,
+    })
+}
+
+// Whether a step was answered with this kind and this count of outputs.
 fn is_answered(outcome: Outcome, kind: Kind, outputs: usize) -> bool {
     let is_so = outcome.reply.kind == kind && outcome.outputs.len() == outputs;
     drop(outcome);
     is_so
 }
 
-// Whether each order is taken with its kind and its count of outputs.
-fn takes_all(world: &mut World, orders: &[(Command, Kind, usize)]) -> Result<bool, Fail>
+// Whether each step is taken with its kind and its count of outputs.
+fn takes_all(world: &mut World, steps: &[(Step, Kind, usize)]) -> Result<bool, Fail>
     requires { Legal world.old }
     ensures { Legal world.new }
 {
-    let client = Client::new(1).ok_or("a client's number")?;
-    let mut number = 0u64;
-    for (command, kind, outputs) in orders {
-        number = number.saturating_add(1);
-        let outcome = taken(world, &Step::Order(client, number, *command))?;
+    for (step, kind, outputs) in steps {
+        let outcome = taken(world, step)?;
         if !is_answered(outcome, *kind, *outputs) {
             return Ok(false);
         }
@@ -89,9 +117,12 @@ fn takes_all(world: &mut World, orders: &[(Command, Kind, usize)]) -> Result<boo
 
 fn retries(alloc: Global) -> Result<bool, Fail> {
     let (node, other) = (NodeId::new(1).ok_or("node")?, NodeId::new(2).ok_or("node")?);
-    let group = Group::new(1).ok_or("group")?;
+    let (client, group) = (
+        Client::new(1).ok_or("client")?,
+        Group::new(1).ok_or("group")?,
+    );
     let mut world = World::empty(alloc, Version::new(1).unwrap());
-    let takes_all = takes_all(&mut world, orders(node, other, group).as_slice());
+    let takes_all = takes_all(&mut world, steps(client, node, other, group).as_slice());
     drop(world);
     takes_all
 }

@@ -368,8 +368,9 @@ fn at_most_2_to_the_40_steps_and_128_links(rt: HostRuntime) -> Result<(), Fail> 
     Ok(())
 }
 
-/// Whether a world of version 1 in which every node is Ready becomes one of version 2.
-fn is_raised(world: &World) -> Result<bool, AllocError>
+/// Whether a world of version 1 in which every node is Ready becomes one of version 2 with as
+/// many lanes, and the same last order.
+fn is_raised(world: &World, lanes: usize) -> Result<bool, AllocError>
     requires { Legal world.now }
 {
     if world.version().number() != 1 || world.first_busy().is_some() {
@@ -377,13 +378,42 @@ fn is_raised(world: &World) -> Result<bool, AllocError>
     }
     let raised = world.raised()?;
     let is_second = raised.version().number() == 2 && raised.count() == world.count();
+    let has_lanes = raised.lanes().len() == lanes && raised.last(client()) == world.last(client());
     drop(raised);
-    Ok(is_second)
+    Ok(is_second && has_lanes)
 }
 
 fn is_empty_world_raised(alloc: Global) -> Result<bool, AllocError> {
     let world = World::empty(alloc, version());
-    let raised = is_raised(&world);
+    let raised = is_raised(&world, 0);
+    drop(world);
+    raised
+}
+
+/// Two nodes, of which 64 is one, are linked.
+fn link_with_64(world: &mut World) -> Result<(), AllocError>
+    requires { Legal world.old }
+    ensures { Legal world.new }
+{
+    let _ = takes(world, &order(1, Command::Add(id(63), group())))?;
+    let _ = takes(world, &order(2, Command::Add(id(64), group())))?;
+    let _ = takes(world, &order(3, Command::Join(id(63), id(64))))?;
+    Ok(())
+}
+
+/// Whether a world of two linked nodes is raised, and node 64 is told as busy once it is reset.
+fn is_raised_until_64_resets(world: &mut World) -> Result<bool, AllocError>
+    requires { Legal world.old }
+{
+    link_with_64(world)?;
+    let is_raised = is_raised(world, 2)?;
+    let _ = takes(world, &order(4, Command::Reset(id(64))))?;
+    Ok(is_raised && world.first_busy() == Some(id(64)))
+}
+
+fn are_links_raised(alloc: Global) -> Result<bool, AllocError> {
+    let mut world = World::empty(alloc, version());
+    let raised = is_raised_until_64_resets(&mut world);
     drop(world);
     raised
 }
@@ -398,6 +428,7 @@ fn is_told_as_busy(alloc: Global) -> Result<bool, AllocError> {
 
 #[test]
 fn a_quiet_world_is_raised(rt: HostRuntime) -> Result<(), Fail> {
-    assert!(rt; is_empty_world_raised(rt.alloc())? && is_told_as_busy(rt.alloc())?);
+    let are_raised = is_empty_world_raised(rt.alloc())? && are_links_raised(rt.alloc())?;
+    assert!(rt; are_raised && is_told_as_busy(rt.alloc())?);
     Ok(())
 }

@@ -13,7 +13,8 @@ use coord_disk::Disk;
 use coord_types::Step;
 use std::sync::ledger::{Book, Ledger as Count, Share as Part};
 
-/// With all parts of the count in hand, the shares' notes are as many as the book has counted.
+/// Takes all parts of the count together: the shares' notes are then as many as the book has
+/// counted.
 fn gather<L: Count>(book: Book<L>, rest: Part<L>, shares: Vec<Share<L>>)
     requires parts { rest.parts + length shares.items ≡ L.parts }
     requires amount { rest.amount ≡ 0 }

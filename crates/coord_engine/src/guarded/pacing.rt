@@ -54,7 +54,7 @@ impl<D: Disk, L: Origin> Guarded<D, L> {
         self.in_hand = self.in_hand.saturating_sub(1);
     }
 
-    /// What is still in hand was waited for long enough.
+    /// Stops waiting for the packets that are still in hand.
     pub fn forget_in_hand(&mut self)
         ensures { self.new ≡ with_in_hand self.old 0 }
     {
@@ -69,7 +69,7 @@ impl<D: Disk, L: Origin> Guarded<D, L> {
         steps_from(trail, trail.len() - self.ledger.pending())
     }
 
-    /// The orders are counted that leave with the next flight.
+    /// Counts the orders that leave with the next flight.
     pub fn count_leaving(&mut self)
         ensures { self.new ≡ with_awaited self.old (leaving_orders self.old) }
     {
@@ -85,7 +85,7 @@ impl<D: Disk, L: Origin> Guarded<D, L> {
         self.awaited = if steps <= MOST_AWAITED { steps } else { 0 };
     }
 
-    /// Callers were waited for long enough.
+    /// Stops waiting for callers.
     pub fn forget_awaited(&mut self)
         ensures { self.new ≡ with_awaited self.old 0 }
     {

@@ -1,7 +1,7 @@
 -- A run that ends early: at an event, before the first one or behind the last one.
 use Rattle.std.proofs.Common.{◌≡◌, ℕ, ◌<◌, Bool, List, [], length, get_or, Option, Some, None, refl, sym, ap, ◌∙◌, subst, arith, inl, inr, slice_get, take, IsSomeAnd}
 use Rattle.std.specs.Option.{option_map}
-use Rattle.std.proofs.lemmas.Option.{slice_get_past, slice_get_within}
+use Rattle.std.proofs.lemmas.Option.{slice_get_past}
 use Rattle.coord_disk.specs.Model.Present.{Present}
 use Rattle.coord_ledger.specs.Facade.{Answer, Broke, Drives, EndsAt, Event, FlightOut, FlightState, Follows, Good, HasCause, Held, IsCommitted, IsConsistent, IsCutShort, IsEventFault, IsGivenBack, IsGivenUp, IsLost, IsPromised, LedgerState, Machine, Promised, Release, RunFaultKind, disk_held, flight_out, model_of, run, started}
 use Rattle.coord_ledger.specs.declared.trace.RunFaultKind.TheVariants.{OutOfMemory, Store}

@@ -19,7 +19,7 @@ use Rattle.coord_ledger.specs.ledger.Follows.{ImagesGive}
 use Rattle.coord_ledger.specs.machine.After.{after, finished}
 use Rattle.coord_ledger.specs.machine.Answers.{IsOneOf, answers, kept}
 use Rattle.coord_ledger.specs.machine.Consistent.{EventInRange, IsConsistent, IsConsistentLog}
-use Rattle.coord_ledger.specs.machine.Log.{Log, cut_to, front_world, has_stopped, settled_world, with_settled, with_step, world_after}
+use Rattle.coord_ledger.specs.machine.Log.{Log, cut_to, front_world, has_stopped, settled_world, with_settled, with_step}
 use Rattle.coord_ledger.specs.machine.Machine.{Machine, adopted}
 use Rattle.coord_ledger.specs.machine.Runs.{Answered, run}
 use Rattle.coord_ledger.specs.machine.Submits.{is_full, verdict}

@@ -33,11 +33,11 @@ use Rattle.coord_ledger.specs.declared.events.Event.TheVariants.{Commit, Crash}
 use Rattle.coord_ledger.specs.declared.release.Release.{Release}
 use Rattle.coord_ledger.specs.ledger.State.{LedgerState}
 use Rattle.coord_ledger.specs.machine.After.{after, finished, releases_of}
-use Rattle.coord_ledger.specs.machine.Answers.{IsOneOf, answers, kept}
+use Rattle.coord_ledger.specs.machine.Answers.{IsOneOf, kept}
 use Rattle.coord_ledger.specs.machine.Log.{Log, accepted_count, moved, settled_steps, world_after}
 use Rattle.coord_ledger.specs.machine.Machine.{Machine}
 use Rattle.coord_ledger.specs.machine.Runs.{Answered, run}
-use Rattle.coord_ledger.specs.promises.Moments.{LeavesWithin, Reopens, touches_disk}
+use Rattle.coord_ledger.specs.promises.Moments.{LeavesWithin, touches_disk}
 use Rattle.coord_ledger.specs.promises.Parts.{IsPartOf, released_first}
 
 -- ---- wherever it is stopped

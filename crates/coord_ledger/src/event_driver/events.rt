@@ -19,7 +19,7 @@ use coord_disk::CrashDisk;
 use std::alloc::Global;
 
 impl<D: CrashDisk> Run<D> {
-    /// Gives up all but what was released, for want of memory.
+    /// Ends the run for want of memory, and keeps only what was released.
     pub fn lose(self) -> Broken<D>
         ensures kind { result.kind ≡ OutOfMemory }
         ensures released { result.released.items ≡ self.released }

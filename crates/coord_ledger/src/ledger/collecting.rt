@@ -33,7 +33,7 @@ fn is_step_at(trail: &[Step], place: usize, ticket: &Ticket) -> bool
     is_same_step(&trail[place], &ticket.what)
 }
 
-/// Whether its kind stands at this place of the kinds.
+/// Whether the ticket's kind of reply stands at this place.
 fn is_kind_at(kinds: &[Kind], place: usize, ticket: &Ticket) -> bool
     requires { place < length kinds.now }
     ensures { IsTrue result ↔ (slice_get kinds.now place ≡ Some ticket.now.kind) }
@@ -54,7 +54,7 @@ fn stands_at(trail: &[Step], kinds: &[Kind], place: usize, ticket: &Ticket) -> b
     is_kind_at(kinds, place, ticket)
 }
 
-/// The reply that the ticket stands for where its step is settled, and else the ticket.
+/// The ticket's reply if its step is settled, and else the ticket.
 fn replied(ticket: Ticket, settled: bool) -> Result<Reply, Ticket>
     ensures settled { IfOk result (λ reply. (reply ≡ reply_of ticket) × (settled ≡ true)) }
     ensures waiting { IfErr result (λ back. (back ≡ ticket) × (settled ≡ false)) }

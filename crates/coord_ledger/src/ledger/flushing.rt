@@ -17,7 +17,7 @@ use coord_world::World;
 use std::alloc::AllocError;
 use std::mem::replace;
 
-/// So many steps behind the settled ones.
+/// The next `size` steps behind the settled ones.
 fn next_steps(trail: &[Step], done: usize, size: usize) -> &[Step]
     requires { done + size ≤ length trail.now }
     ensures { result.now ≡ take size (drop done trail.now) }
@@ -26,7 +26,7 @@ fn next_steps(trail: &[Step], done: usize, size: usize) -> &[Step]
 }
 
 impl<D: Disk> Ledger<D> {
-    /// The world after the next steps: the front world, where no others are behind them.
+    /// The world after these next steps: the front world, if they are all that is pending.
     fn world_behind(&self, steps: &[Step]) -> Result<World, AllocError>
         requires { steps.now ≡ take (length steps.now) (pending self.now.log) }
         ensures { IfOk result (λ world. world ≡ fold (settled_world self.now.log) steps.now) }
@@ -148,7 +148,7 @@ impl<D: Disk> Ledger<D> {
         }
     }
 
-    /// Takes back a flight of its own that was not committed, or was torn.
+    /// Takes back the ledger's own flight, which was torn or never committed.
     fn take_back(&mut self, flight: Flight<D>)
         requires own { IsOut self.old flight }
         requires uncommitted { flight.mark ≢ Mark.Good }
@@ -161,7 +161,7 @@ impl<D: Disk> Ledger<D> {
         }
     }
 
-    /// Takes back a flight of its own that was committed, once its steps led to this world.
+    /// Takes back the ledger's own flight, whose committed steps lead to this world.
     fn take_settled(&mut self, flight: Flight<D>, settled: World)
         requires own { IsOut self.old flight }
         requires good { flight.mark ≡ Mark.Good }
@@ -175,7 +175,7 @@ impl<D: Disk> Ledger<D> {
         drop(replace(&mut self.settled, settled));
     }
 
-    /// Takes back a flight of its own. Where it finds no memory it gives the flight back.
+    /// Takes back the ledger's own flight. Without memory it hands the flight back.
     fn land(&mut self, flight: Flight<D>) -> Result<Releases, Flight<D>>
         requires { IsOut self.old flight }
         ensures own { IsOut self.old flight }

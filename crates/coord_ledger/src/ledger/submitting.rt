@@ -18,7 +18,7 @@ use coord_world::{Outcome, Verdict};
 use std::alloc::AllocError;
 
 impl<D: Disk> Ledger<D> {
-    /// What it says to a step, memory aside.
+    /// What the ledger says to a step, as if there was always memory.
     fn judge(&self, step: &Step) -> Result<Verdict, Refusal>
         ensures { result ≡ verdict self.now.log step.now }
     {
@@ -35,7 +35,7 @@ impl<D: Disk> Ledger<D> {
         verdict
     }
 
-    /// Adds a step that is fresh, to be answered with this kind, and gives its reply.
+    /// Accepts a fresh step, whose reply will have this kind, and gives the reply.
     fn accept(&mut self, step: Step, kind: Kind) -> Result<Reply, AllocError>
         requires { verdict self.old.log step ≡ Ok (Verdict.Fresh kind) }
         ensures accepted { IfOk result (λ _. self.new ≡ with_accepted self.old step) }

@@ -13,7 +13,18 @@ const WORLD: [u8; 112] = [
     0,
 ];
 
-// The same in version 2, where each node has a distance.
+// The same without the Ack.
+const SILENT_WORLD: [u8; 111] = [
+    0, 0, 0, 0, 0, 0, 0, 3, 2, //
+    1, 1, 0, 0, 0, 0, 0, 0, 0, 0, 0, 0, 0, 0, 0, 0, 0, 0, 0, 0, 0, 0, 0, 0, 0, 0, 0, 0, //
+    2, 1, 0, 0, 0, 0, 0, 0, 0, 0, 0, 0, 0, 0, 0, 0, 0, 0, 0, 0, 0, 0, 0, 0, 0, 0, 0, 0, //
+    1, 1, 2, 0, 0, 0, 0, 0, 0, 0, 3, //
+    0, 0, 0, 0, 0, 0, 0, 0, 0, 0, 0, 0, 0, 0, 0, 0, 0, //
+    0, 0, 0, 0, 0, 0, 0, 0, 0, 0, 0, 0, 0, 0, 0, 0, 0, //
+    0,
+];
+
+// The first world in version 2, where each node has a distance.
 const DISTANT_WORLD: [u8; 128] = [
     0, 0, 0, 0, 0, 0, 0, 3, 2, //
     1, 1, 0, 0, 0, 0, 0, 0, 0, 0, 0, 0, 0, 0, 0, 0, 0, 0, 0, 0, 0, 0, 0, 0, 0, 0, 0, 0, //
@@ -114,6 +125,31 @@ fn are_spelled_alike(alloc: Global, version: u8) -> Result<bool, AllocError> {
 #[test]
 fn worlds_are_read_and_written(rt: HostRuntime) -> Result<(), Fail> {
     assert!(rt; are_spelled(rt.alloc())?);
+    Ok(())
+}
+
+fn silent_bytes() -> &'static [u8] {
+    &SILENT_WORLD
+}
+
+// Whether a world differs from the one whose lane has nothing in its queue, seen from both.
+fn differs_from_silent(alloc: Global, world: &World) -> Result<bool, CodecFault> {
+    let silent = read_world(alloc, 1, silent_bytes())?;
+    let differs = silent != *world && *world != silent;
+    drop(silent);
+    Ok(differs)
+}
+
+fn is_told_from_silent(alloc: Global) -> Result<bool, CodecFault> {
+    let world = read_world(alloc, 1, bytes_of(Near))?;
+    let differs = differs_from_silent(alloc, &world);
+    drop(world);
+    differs
+}
+
+#[test]
+fn a_longer_queue_makes_another_world(rt: HostRuntime) -> Result<(), Fail> {
+    assert!(rt; is_told_from_silent(rt.alloc())?);
     Ok(())
 }
 

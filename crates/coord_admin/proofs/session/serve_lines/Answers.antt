@@ -7,7 +7,7 @@ use Rattle.coord_admin.proofs.Stream.{all-append, breaks-behind, broken-end, clo
 use Rattle.coord_admin.proofs.session.serve_lines.Goals as goal
 
 pub loop-init : goal.loop-init
-loop-init g c = (search rules, ([], search rules, ([], [], refl, g.met.C.Duplex.at_rest _, λ more. rw c.new-line.ensures (sym (lines_on-empty more)))))
+loop-init g c = ((search rules, c.requires.queue), ([], search rules, ([], [], refl, g.met.C.Duplex.at_rest _, λ more. rw c.new-line.ensures (sym (lines_on-empty more)))))
 
 pub returns-in_default-clause-served : goal.returns-in_default-clause-served
 returns-in_default-clause-served g c =
@@ -85,7 +85,7 @@ loop-preserved g c =
     let so_far = inv.1.2 in
     let came = take c.in-Ok.count c.receive.new.buffer in
     let now = c.in-Ok-false.ensures.open (search rules) in (
-      search rules,
+      (search rules, c.take.ensures.queue),
       (
         seen ++ came,
         omega (arith, inv.1.1, length-append seen came, length-take-le c.in-Ok.count c.receive.new.buffer (search rules)),
@@ -100,4 +100,19 @@ loop-preserved g c =
     )
 
 pub returns-in-Ok-finish-clause-end : goal.returns-in-Ok-finish-clause-end
-returns-in-Ok-finish-clause-end g c = λ _. c.finish.ensures.end (c.in-Ok.ensures.end c.if-count-eq0.true c.loop.invariant.0)
+returns-in-Ok-finish-clause-end g c = λ _. c.finish.ensures.end (c.in-Ok.ensures.end c.if-count-eq0.true c.loop.invariant.0.0)
+
+pub take-requires : goal.take-requires
+take-requires g c = c.loop.invariant.0.1
+
+pub returns-in_default-clause-queue : goal.returns-in_default-clause-queue
+returns-in_default-clause-queue g c = c.loop.invariant.0.1
+
+pub returns-in-Ok-finish-clause-queue : goal.returns-in-Ok-finish-clause-queue
+returns-in-Ok-finish-clause-queue g c = c.loop.invariant.0.1
+
+pub returns-in-Err-clause-queue : goal.returns-in-Err-clause-queue
+returns-in-Err-clause-queue g c = c.loop.invariant.0.1
+
+pub returns-clause-queue : goal.returns-clause-queue
+returns-clause-queue g c = c.loop.invariant.0.1

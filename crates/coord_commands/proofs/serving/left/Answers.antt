@@ -1,6 +1,5 @@
 use Rattle.std.proofs.Common.{◌≡◌, ℕ, List, Option, Some, None, true, false, is_some, refl, subst}
 use Rattle.coord_store.specs.Recovered.{Recovered}
-use Rattle.coord_world.specs.protocol.NumberedWorld.{World}
 use Rattle.coord_commands.proofs.Opening.{if_keeps}
 use Rattle.coord_commands.proofs.serving.left.Goals as goal
 
@@ -10,8 +9,5 @@ none_of (Some x) is = cc
 
 pub returns : goal.returns
 returns g c =
-    if_keeps (g.D.Disk.keeps_model c.into_disk.result) (g.D.Disk.present c.into_disk.result) (λ (known : List ℕ). (w : World) × Recovered known w)
-    (λ keeps. (
-      c.args.closed.store.world,
-      c.into_disk.ensures.reopens (subst (λ d. g.D.Disk.keeps_model d ≡ true) c.into_disk.ensures.disk keeps) (none_of c.args.closed.store.torn c.requires),
-    ))
+    if_keeps (g.D.Disk.keeps_model c.into_disk.result) (g.D.Disk.present c.into_disk.result) (λ (known : List ℕ). Recovered known c.args.closed.store.world)
+    (λ keeps. c.into_disk.ensures.reopens (subst (λ d. g.D.Disk.keeps_model d ≡ true) c.into_disk.ensures.disk keeps) (none_of c.args.closed.store.torn c.requires))

@@ -1,0 +1,107 @@
+"""Orders that are sent together: how many are answered in a second over one connection, and how many syncs each takes.
+
+The words are a folder of a real file system, the file of a library that counts syncs and has them wait
+(syncs.c.txt), and programs, each as NAME=PATH. Over the file as it is and over one whose syncs wait a millisecond
+first, with 1, 4, 16, 64 and 256 orders sent before the first answer is read, by 16 clients in turn and by one client:
+each program by turns, so that all meet the same noise. An order resets a node without links, and is one step.
+"""
+
+import os
+import statistics
+import struct
+import sys
+import time
+
+sys.path.insert(0, os.path.join(os.path.dirname(os.path.abspath(__file__)), "..", "..", "tools"))
+from connection import Connection  # noqa: E402
+from served.clients import Lost  # noqa: E402
+from served.server import Server  # noqa: E402
+
+CLIENTS, ROUNDS, SECONDS = 16, 3, 0.6
+TOPOLOGY = "half = 16777216\n" + "".join(f"[[node]]\nid = {node}\ngroup = 1\n" for node in range(1, CLIENTS + 1))
+WAITS = {"file": 0, "+1 ms": 1000}
+AT_ONCE = (1, 4, 16, 64, 256)
+FINISHED = b'{"kind":"finished"'
+
+
+class Orders:
+    """Resets, by so many clients in turn, each of its own node and numbered on from its last one."""
+
+    def __init__(self):
+        self.numbers = {client: 0 for client in range(1, CLIENTS + 1)}
+        self.numbers[CLIENTS] = CLIENTS  # which has added the nodes
+
+    def lines(self, clients, count):
+        for place in range(count):
+            client = place % clients + 1
+            self.numbers[client] += 1
+            yield b'{"op":"reset","client":%d,"number":%d,"node":%d}\n' % (client, self.numbers[client], client)
+
+
+class Measured:
+    """A program that serves a store of its own."""
+
+    def __init__(self, name, program, folder, library, disk):
+        self.name, self.counter = name, f"{folder}/{name}-{WAITS[disk]}.count"
+        with open(self.counter, "wb") as file:
+            file.write(bytes(8))
+        self.server = Server(program, f"{folder}/{name}-{WAITS[disk]}.store")
+        self.server.found(TOPOLOGY)
+        words = {"LD_PRELOAD": library, "SYNC_COUNT": self.counter, "SYNC_WAITS": str(WAITS[disk])}
+        if not self.server.start("env", *(f"{word}={value}" for word, value in words.items())):
+            raise Lost(f"{name} did not start: {self.server.ended()}")
+        self.connection, self.orders = Connection(self.server.address), Orders()
+
+    def syncs(self):
+        with open(self.counter, "rb") as file:
+            return struct.unpack("=Q", file.read(8))[0]
+
+    def measure(self, clients, at_once):
+        """Orders a second, and syncs an order."""
+        self.ask(clients, at_once)
+        begun, before, count = time.perf_counter(), self.syncs(), 0
+        while (spent := time.perf_counter() - begun) < SECONDS:
+            self.ask(clients, at_once)
+            count += at_once
+        return count / spent, (self.syncs() - before) / count
+
+    def ask(self, clients, count):
+        for reply in self.connection.ask(*self.orders.lines(clients, count)):
+            if not reply.startswith(FINISHED):
+                raise Lost(f"{self.name}: a reset was answered {reply}")
+
+    def close(self):
+        self.connection.close()
+        self.server.must_close()
+
+
+def tell(disk, clients, at_once, measured):
+    rows = {one.name: [] for one in measured}
+    for _ in range(ROUNDS):
+        for one in measured:
+            rows[one.name].append(one.measure(clients, at_once))
+    for name, row in rows.items():
+        rates, syncs = zip(*row)
+        print(f"{disk:6} {clients:3} clients {at_once:4} at once  {name:8}"
+              f"{statistics.median(rates):10.0f} a second ({min(rates):.0f} to {max(rates):.0f})"
+              f"{statistics.median(syncs):8.3f} syncs each", flush=True)
+
+
+def main():
+    folder, library, *programs = sys.argv[1:]
+    for disk in WAITS:
+        measured = [Measured(*program.split("=", 1), folder, library, disk) for program in programs]
+        try:
+            for clients in (CLIENTS, 1):
+                for at_once in AT_ONCE:
+                    tell(disk, clients, at_once, measured)
+            for one in measured:
+                one.close()
+        except Lost as lost:
+            sys.exit(f"LOST: {lost}")
+        finally:
+            for one in measured:
+                one.server.end()
+
+
+main()

@@ -1,0 +1,103 @@
+"""What a person is told of an order that was not taken: what was found, and what to do."""
+
+from __future__ import annotations
+
+from collections.abc import Iterable, Mapping
+from typing import Any
+
+from .answers import Fault, Faulted, NotNow, NotTaken, Refusal, Refused
+from .view import Node, View
+
+# The last column of the table of refusals in docs/PROTOCOL.md, in its words; some refusals say all by themselves.
+WHAT_TO_DO = {
+    Refusal.STOPPED: "the same order with the same number after the next start; `close` ends the server",
+    Refusal.OUT_OF_MEMORY: "the same order again",
+    Refusal.EXHAUSTED: "this store takes no further step: make a new one",
+    Refusal.OUT_OF_TURN: "the client lost its count, or the store is an older copy: find the count (`resetctl count`)",
+    Refusal.NUMBER_REUSED: "two send as one client, or one has forgotten what it sent: the same",
+    Refusal.UNKNOWN_NODE: "look at `show`",
+    Refusal.HAS_LINKS: "drop its links first",
+    Refusal.OTHER_GROUP: "a node changes its group by being removed and added",
+    Refusal.NO_LINK: "an old packet is refused for ever: let it go",
+    Refusal.DEGREE_FULL: "drop one first",
+    Refusal.LINKS_FULL: "drop one first",
+    Refusal.BAD_EPOCH: "it was confirmed before, or the node went back: look at `show`",
+    Refusal.OLD: "nothing: repeats are expected",
+    Refusal.EARLY: "`resend` tells which packets are due",
+    Refusal.DIFFERS: "find who made the packet: this world did not",
+    Refusal.NOT_RELEASED: "the same",
+    Refusal.PENDING_FULL: "the same order after a while",
+}
+
+RANGES = "nodes are 1 to 64, groups and clients 1 to 16, a number and an epoch below 2^64"
+WHAT_IS_WRONG = {
+    Fault.UNFINISHED: "the line was cut",
+    Fault.TOO_LONG: "a line has at most 512 bytes",
+    Fault.BAD_TEXT: "a line is UTF-8",
+    Fault.BAD_JSON: "a line is one JSON object",
+    Fault.BAD_REQUEST: f"{RANGES}; nothing was carried out",
+    Fault.UNKNOWN_OP: "this coordinator does not know the command",
+}
+MOST_AT_NODE, MOST_LINKS = 16, 128
+
+
+def explained(fault: NotTaken | NotNow, order: Mapping[str, Any], view: View | None = None) -> str:
+    """A refusal or a fault with what was found in the present view, or else with what to do."""
+    text = ""
+    if isinstance(fault, Refused) and fault.refusal is not None:
+        text = (found(fault.refusal, order, view) if view else "") or WHAT_TO_DO.get(fault.refusal, "")
+    elif isinstance(fault, Faulted) and fault.fault is not None:
+        text = WHAT_IS_WRONG.get(fault.fault, "")
+    elif isinstance(fault, NotNow):
+        text = next((WHAT_TO_DO[each] for each in (Refusal.STOPPED, Refusal.OUT_OF_MEMORY, Refusal.PENDING_FULL)
+                     if each.name.replace("_", "").lower() == fault.name.lower()), "")
+    return f"{fault}: {text}" if text else str(fault)
+
+
+def found(refusal: Refusal, order: Mapping[str, Any], view: View) -> str:
+    """What the view says of an order that was refused; nothing where the view has changed since, and would take it."""
+    names = [int(order[name]) for name in ("node", "a", "b") if name in order]
+    rows = {row.node: row for row in view.nodes}
+    absent = [node for node in names if node not in rows]
+    if refusal is Refusal.UNKNOWN_NODE and absent:
+        return f"there is no node {absent[0]}; there are {numbers(rows) or 'none'}"
+    if absent or not names:
+        return ""
+    return of_node(refusal, rows[names[0]], view) if len(names) == 1 else of_ends(refusal, rows[names[0]], rows[names[1]], view)
+
+
+def of_node(refusal: Refusal, row: Node, view: View) -> str:
+    """The same of an order that names one node."""
+    if refusal is Refusal.NODE_EXISTS:
+        return f"node {row.node} is there, in group {row.group}"
+    if refusal is Refusal.HAS_LINKS and (near := linked_with(row.node, view)):
+        return f"node {row.node} is linked with {numbers(near)}: drop these links first"
+    if refusal is Refusal.BAD_EPOCH:
+        return f"node {row.node} is at epoch {row.epoch}, and {row.confirmed} is confirmed"
+    return ""
+
+
+def of_ends(refusal: Refusal, a: Node, b: Node, view: View) -> str:
+    """The same of an order that names the ends of a link."""
+    near = {row.node: linked_with(row.node, view) for row in (a, b)}
+    if refusal is Refusal.SAME_NODE:
+        return "a link has two ends"
+    if refusal is Refusal.OTHER_GROUP:
+        return f"node {a.node} is in group {a.group}, node {b.node} in group {b.group}: " + WHAT_TO_DO[refusal]
+    if refusal is Refusal.LINK_EXISTS and b.node in near[a.node]:
+        return f"{a.node} and {b.node} are linked"
+    if refusal is Refusal.NO_LINK and b.node not in near[a.node]:
+        return f"{a.node} and {b.node} are not linked; {a.node} is with {numbers(near[a.node]) or 'none'}"
+    if refusal is Refusal.DEGREE_FULL and (full := [node for node in near if len(near[node]) >= MOST_AT_NODE]):
+        return f"node {full[0]} has {MOST_AT_NODE} links: drop one first"
+    if refusal is Refusal.LINKS_FULL and len(view.links) >= MOST_LINKS:
+        return f"{MOST_LINKS} links stand: drop one first"
+    return ""
+
+
+def linked_with(node: int, view: View) -> list[int]:
+    return sorted({link.a + link.b - node for link in view.links if node in (link.a, link.b)})
+
+
+def numbers(nodes: Iterable[int]) -> str:
+    return ", ".join(str(node) for node in sorted(nodes))

@@ -1,0 +1,98 @@
+"""`resetctl`: a person's side of a coordinator.
+
+Exit statuses: 0 done; 1 refused, with the refusal on standard error, or `diff` or `why` found something; 2 wrong
+words, or a topology file that can't be read; 3 no answer within --patience; 4 the folder of this client's numbers
+can't be used, or they are not found. `health` ends as monitoring checks do: 0 well, 1 warning, 2 critical, 3 unknown.
+"""
+
+from __future__ import annotations
+
+import argparse
+import os
+import sys
+
+from .. import __version__
+from ..answers import Away, NotTaken
+from ..files import Held
+from ..orders import CLIENTS, CountLost, CountNotFound
+from ..port import TooLong
+from ..store_file import NoStore, Restless
+from ..topology import BadTopology
+from . import changes, checks, looks, restored, stores
+from .base import AWAY, COUNT, REFUSED, WRONG_WORDS, Control, complain
+
+LEFT, INTERRUPTED = 141, 130  # as a shell has them of an end by SIGPIPE and SIGINT
+
+COMMANDS = (*looks.COMMANDS, *changes.COMMANDS, *restored.COMMANDS, *checks.COMMANDS, *stores.COMMANDS)
+
+
+def parser() -> argparse.ArgumentParser:
+    top = argparse.ArgumentParser(prog="resetctl", description=__doc__, formatter_class=argparse.RawDescriptionHelpFormatter)
+    top.add_argument("--version", action="version", version=f"resetctl {__version__}")
+    top.add_argument("--address", default=os.environ.get("RESETD_ADDRESS", "127.0.0.1:4170"),
+                     help="HOST:PORT of the coordinator, or several with commas between (RESETD_ADDRESS, 127.0.0.1:4170)")
+    top.add_argument("--client", type=int, choices=CLIENTS, metavar="C",
+                     default=int(os.environ.get("RESETD_CLIENT", CLIENTS[-1])), help="the client that orders (RESETD_CLIENT, 16)")
+    top.add_argument("--state", default=os.environ.get("RESETCTL_STATE", default_state()), metavar="FOLDER",
+                     help="where this client's numbers are kept (RESETCTL_STATE, ~/.local/state/resetctl)")
+    top.add_argument("--patience", type=float, metavar="SECONDS",
+                     help="how long the same line is sent again while no answer comes (30; of what only looks 2)")
+    top.add_argument("--seconds", type=float, metavar="SECONDS", help="how long one answer may take (20; of what only looks 2)")
+    top.add_argument("--quiet", action="store_true", help="prints no reply of an order, of resend and of close")
+    commands = top.add_subparsers(dest="command", required=True, metavar="COMMAND")
+    for command in COMMANDS:
+        each = commands.add_parser(command.name, help=command.about, description=f"{command.about}.",
+                                   epilog="Exit statuses and what all commands take: resetctl --help.")
+        each.set_defaults(call=command.call, is_look=command.is_look)
+        command.add_words(each)
+    return top
+
+
+def is_within(path: str, folder: str) -> bool:
+    """Whether a path is this folder or stands below it."""
+    return os.path.join(path, "").startswith(os.path.join(folder, ""))
+
+
+def default_state() -> str:
+    """Where the numbers of a person's client are kept."""
+    if "STATE_DIRECTORY" in os.environ:  # given by systemd
+        return os.environ["STATE_DIRECTORY"].split(":")[0]
+    return os.path.join(os.environ.get("XDG_STATE_HOME", os.path.expanduser("~/.local/state")), "resetctl")
+
+
+def main(arguments: list[str] | None = None) -> int:
+    """Runs one command, and answers its exit status."""
+    top = parser()
+    words = top.parse_args(arguments)
+    try:
+        control = Control(words)
+    except ValueError as fault:
+        top.error(str(fault))
+    try:
+        return int(words.call(control))
+    except BadTopology as fault:
+        complain(f"{words.topology}: {fault}")
+        return WRONG_WORDS
+    except TooLong as fault:
+        complain(str(fault))
+        return WRONG_WORDS
+    except (NoStore, Restless) as fault:
+        complain(f"{words.file}: {fault}")
+        return REFUSED
+    except (CountLost, CountNotFound, Held, ValueError) as fault:
+        complain(f"{fault}{'; resetctl count finds the number' if isinstance(fault, CountLost) else ''}")
+        return COUNT
+    except NotTaken as refused:
+        complain(control.why(refused))
+        return REFUSED
+    except Away as away:
+        complain(control.why(away))
+        return AWAY
+    except BrokenPipeError:  # who read what is printed has left
+        os.dup2(os.open(os.devnull, os.O_WRONLY), sys.stdout.fileno())
+        return LEFT
+    except OSError as fault:
+        complain(f"{fault.filename}: {fault.strerror}")
+        return COUNT if is_within(str(fault.filename), control.folder) or is_within(control.folder, str(fault.filename)) else REFUSED
+    except KeyboardInterrupt:
+        return INTERRUPTED

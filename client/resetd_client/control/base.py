@@ -1,0 +1,140 @@
+"""What all commands share: their words, the port, one client's orders in a folder, and what they tell a person."""
+
+from __future__ import annotations
+
+import argparse
+import os
+import sys
+import threading
+from collections.abc import Callable, Iterator, Mapping
+from contextlib import contextmanager
+from dataclasses import dataclass
+from typing import Any, TypeVar
+
+from ..advice import explained
+from ..answers import Away, NotNow, NotTaken, Refused, Reply
+from ..orders import CountLost, Order, Orders
+from ..port import Port, patiently
+from ..view import View
+
+DONE, REFUSED, WRONG_WORDS, AWAY, COUNT = 0, 1, 2, 3, 4
+PATIENCE, SECONDS = 30.0, 20.0
+LOOK_SECONDS = 2.0  # how long a command that only looks waits, in all and for one answer
+SILENCE_SECONDS = 1.0  # after so long without an answer a person is told what is waited for
+Words = argparse.Namespace
+T = TypeVar("T")
+
+
+def no_words(_: argparse.ArgumentParser) -> None:
+    """A command without words of its own."""
+
+
+@dataclass(frozen=True)
+class Command:
+    """A row of the table of commands. `is_look` says that it only looks, and so waits for no more than 2 s."""
+
+    name: str
+    about: str
+    call: Callable[[Control], int]
+    add_words: Callable[[argparse.ArgumentParser], None] = no_words
+    is_look: bool = False
+
+
+class Control:
+    """A command's words, and what it speaks with."""
+
+    def __init__(self, words: Words) -> None:
+        self.words = words
+        self.patience: float = words.patience if words.patience is not None else LOOK_SECONDS if words.is_look else PATIENCE
+        self.seconds: float = words.seconds if words.seconds is not None else LOOK_SECONDS if words.is_look else SECONDS
+        self.port = Port(words.address, self.seconds)
+        self.folder = os.path.join(words.state, words.address.replace(":", "_").replace("/", "_"))
+        self._asked: Mapping[str, Any] = {}
+
+    def tell(self, text: str) -> None:
+        """Prints the reply of an order."""
+        if not self.words.quiet:
+            print(text, flush=True)
+
+    def patient(self, call: Callable[[], T]) -> T:
+        """Makes a call until it is answered or the patience is over, and says at once what it waits for."""
+        with told_after(SILENCE_SECONDS, f"waits for an answer of {self.words.address}") as timer:
+            def tell(away: Away) -> None:
+                timer.cancel()
+                complain(f"{self.why(away)}; tried again for {self.patience:g} s")
+            return patiently(call, self.patience, tell)
+
+    def show(self) -> View:
+        return self.patient(self.port.show)
+
+    def orders(self) -> Orders:
+        """The orders of the client, whose count is found again where another person has ordered as the same one."""
+        folder = os.path.join(self.folder, f"client-{self.words.client}")
+        return Orders(self.port, self.words.client, folder, recovers=True, held_seconds=10.0, told=complain)
+
+    def settle(self, book: Orders) -> None:
+        """Sends orders of an earlier call again that have no answer yet, and tells what came of them."""
+        if not book.unanswered:
+            return
+        left = book.unanswered
+        complain(f"sent again, since there was no answer: {'; '.join(map(told_order, left))}")
+        try:
+            for order, outcome in zip(left, self.patient(book.settle)):
+                complain(f"{told_order(order)}: {outcome if isinstance(outcome, NotTaken) else told_reply(outcome)}")
+        except CountLost:
+            complain(f"client {self.words.client} has ordered since: whether that was carried out, show tells; it is given up")
+            self.patient(book.recover)
+
+    def carry_out(self, book: Orders, op: str, **members: int) -> Reply:
+        """One order. A reply of a step that was there before is another one's: the count is not this client's."""
+        self._asked = {"op": op, **members}
+        accepted = self.show().accepted
+        return self.patient(lambda: book.order(op, above=accepted, **members))
+
+    def carry_out_all(self, book: Orders, orders: list[Order], above: int) -> Iterator[Reply]:
+        """The replies of orders that are sent together, of steps above this one. Raises what the first that was not
+        taken was answered."""
+        for order, outcome in zip(orders, self.patient(lambda: book.order_all(orders, above=above))):
+            if isinstance(outcome, NotTaken):
+                self._asked = order
+                raise outcome
+            yield outcome
+
+    def why(self, fault: NotTaken | Away) -> str:
+        """A refusal, a fault or a silence, with what was found or what to do."""
+        if isinstance(fault, NotNow):
+            return f"the server answers {explained(fault, {})}"
+        if isinstance(fault, Away):
+            return f"no answer: {fault}"
+        view = None
+        if isinstance(fault, Refused) and self._asked:
+            try:
+                view = self.port.show()
+            except (Away, NotTaken):
+                pass
+        return explained(fault, self._asked, view)
+
+
+@contextmanager
+def told_after(seconds: float, text: str) -> Iterator[threading.Timer]:
+    """Tells a person something where the body takes longer than this, and doesn't cancel it."""
+    timer = threading.Timer(seconds, complain, [text])
+    timer.daemon = True
+    timer.start()
+    try:
+        yield timer
+    finally:
+        timer.cancel()
+
+
+def complain(text: str) -> None:
+    print(f"resetctl: {text}", file=sys.stderr, flush=True)
+
+
+def told_order(order: Mapping[str, Any]) -> str:
+    return " ".join(str(word) for word in order.values())
+
+
+def told_reply(reply: Reply) -> str:
+    """A reply as a line; of one that was lost with a connection the step is not known."""
+    return f"{reply.kind} {reply.step}" if reply.step else reply.kind

@@ -1,0 +1,109 @@
+"""Commands that order: each order is made once."""
+
+from __future__ import annotations
+
+import argparse
+from collections.abc import Callable
+
+from ..orders import MOST_TRIED
+from ..orders import Order as Line
+from ..topology import BadTopology, Network, Order, plan, read_topology
+from ..view import View
+from .base import DONE, REFUSED, Command, Control, complain, told_order, told_reply
+
+NUMBERS = {"node": "1 to 64", "group": "1 to 16", "a": "one end", "b": "the other end", "epoch": "the shown epoch"}
+
+
+def order(control: Control) -> int:
+    """Carries out one order, and prints its reply."""
+    words = control.words
+    members = {name: getattr(words, name) for name in NUMBERS if hasattr(words, name)}
+    with control.orders() as book:
+        control.settle(book)
+        control.tell(told_reply(control.carry_out(book, words.command, **members)))
+    return DONE
+
+
+def resend(control: Control) -> int:
+    control.tell(f"resent {control.patient(control.port.resend)}")
+    return DONE
+
+
+def close(control: Control) -> int:
+    """Ends the server. That it answers Stopped to all else does not matter here."""
+    control.port.close()
+    control.tell("closed")
+    return DONE
+
+
+def count(control: Control) -> int:
+    """Finds the number of the client's last order, and writes it down."""
+    words = control.words
+    with control.orders() as book:
+        for each in book.unanswered:
+            complain(f"given up, and perhaps carried out: {told_order(each)}")
+        print(f"client {words.client}: {control.patient(lambda: book.recover(words.most))}")
+    return DONE
+
+
+def wanted(control: Control, view: View) -> list[Order]:
+    """The orders that make the network what the topology file wants."""
+    try:
+        with open(control.words.topology, "rb") as file:
+            want = read_topology(file.read())
+    except OSError as fault:
+        raise BadTopology(fault.strerror) from fault
+    return plan(Network.of(view), want)
+
+
+def diff(control: Control) -> int:
+    """Prints the orders that `apply` would make."""
+    orders = wanted(control, control.show())
+    for each in orders:
+        print(each)
+    return REFUSED if orders else DONE
+
+
+def apply(control: Control) -> int:
+    """Makes the orders, each once, all but the first together. Where it is stopped in between, the same words again
+    go on."""
+    with control.orders() as book:
+        control.settle(book)
+        view = control.show()
+        orders = wanted(control, view)
+        lines: list[Line] = [{"op": each.op, **each.members} for each in orders]
+        for each, reply in zip(orders, control.carry_out_all(book, lines, view.accepted)):
+            print(f"{told_reply(reply)}: {each}", flush=True)
+    print(f"{len(orders)} orders; the network is what {control.words.topology} wants")
+    return DONE
+
+
+def numbers(*names: str) -> Callable[[argparse.ArgumentParser], None]:
+    def add_words(parser: argparse.ArgumentParser) -> None:
+        for name in names:
+            parser.add_argument(name, type=int, metavar=name.upper(), help=NUMBERS[name])
+    return add_words
+
+
+def add_count_words(parser: argparse.ArgumentParser) -> None:
+    parser.add_argument("--most", type=int, default=MOST_TRIED, help=f"how many numbers are tried ({MOST_TRIED})")
+
+
+def add_topology_words(parser: argparse.ArgumentParser) -> None:
+    parser.add_argument("topology", metavar="TOPOLOGY", help="a topology file (docs/FORMATS.md)")
+
+
+COMMANDS = (
+    Command("reset", "asks for a reset at a node: it reaches all that links connect with it", order, numbers("node")),
+    Command("confirm", "says that a node's service has begun an epoch", order, numbers("node", "epoch")),
+    Command("add", "adds a node", order, numbers("node", "group")),
+    Command("remove", "removes a node that has no links", order, numbers("node")),
+    Command("join", "links two nodes", order, numbers("a", "b")),
+    Command("drop", "takes the link of two nodes away", order, numbers("a", "b")),
+    Command("resend", "has what is on its way sent again, where a wave stands still", resend),
+    Command("close", "ends the server in order", close),
+    Command("count", "finds the number of this client's last order where it was lost", count, add_count_words),
+    Command("diff", "prints the orders that would make the network what a topology file wants; status 1 where there are some",
+            diff, add_topology_words, is_look=True),
+    Command("apply", "makes these orders, each once", apply, add_topology_words),
+)

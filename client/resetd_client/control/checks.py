@@ -1,0 +1,73 @@
+"""Commands for monitoring."""
+
+from __future__ import annotations
+
+import argparse
+import os
+import time
+
+from .. import files
+from ..answers import Away, NotNow, NotTaken
+from ..health import Bounds, Level, Since, check, metrics
+from ..port import patiently
+from ..signal_lag import Signals
+from .base import DONE, Command, Control
+
+
+def health(control: Control) -> int:
+    """Prints what is wrong, or `well`."""
+    words = control.words
+    try:
+        os.makedirs(control.folder, exist_ok=True)
+        since = Since(os.path.join(control.folder, "health.json"), time.time())
+        signals = Signals(words.signals, os.path.join(control.folder, "signals.json")) if words.signals else None
+        found = check(control.port, since, Bounds(words.steps, words.wave, words.unconfirmed), control.patience, signals)
+        if found.is_stopped and words.close_stopped:
+            control.port.close()
+            print("resetctl: the server answered Stopped, and was closed")
+    except (Away, NotTaken, OSError) as fault:
+        print(f"resetd UNKNOWN: {fault}")
+        return Level.UNKNOWN
+    print(f"resetd {found.level.name}: {'; '.join(found.findings) or 'well'}")
+    return found.level
+
+
+def write_metrics(control: Control) -> int:
+    """Writes the metrics to a file, as a whole, or prints them."""
+    view, is_stopped = None, False
+    try:
+        view = patiently(control.port.show, control.patience)
+    except NotNow as not_now:
+        is_stopped = not_now.name == "Stopped"
+    except Away:
+        pass
+    text = metrics(view, is_stopped)
+    if control.words.file == "-":
+        print(text, end="")
+    else:
+        files.keep(control.words.file, text)
+        os.chmod(control.words.file, 0o644)
+    return DONE
+
+
+def add_health_words(parser: argparse.ArgumentParser) -> None:
+    parser.add_argument("--steps", type=float, default=5.0, metavar="SECONDS", help="how long steps may wait for the disk (5)")
+    parser.add_argument("--wave", type=float, default=5.0, metavar="SECONDS", help="how long a wave may stand still (5)")
+    parser.add_argument("--unconfirmed", type=float, default=60.0, metavar="SECONDS",
+                        help="how long an epoch may be unconfirmed (60)")
+    parser.add_argument("--signals", metavar="FILE", help="warns where the server's file of signals lacks lines")
+    parser.add_argument("--close-stopped", action="store_true",
+                        help="closes a server that answers Stopped, so that its service manager starts it again")
+
+
+def add_metrics_words(parser: argparse.ArgumentParser) -> None:
+    parser.add_argument("file", metavar="FILE", nargs="?", default="-",
+                        help="a file, which is replaced as a whole (standard output)")
+
+
+COMMANDS = (
+    Command("health", "looks whether all is well: status 0 well, 1 warning, 2 critical, 3 unknown", health, add_health_words,
+            is_look=True),
+    Command("metrics", "writes metrics for node_exporter's collector of text files", write_metrics, add_metrics_words,
+            is_look=True),
+)

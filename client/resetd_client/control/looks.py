@@ -1,0 +1,97 @@
+"""Commands that look at the nodes and links."""
+
+from __future__ import annotations
+
+import argparse
+import json
+import shutil
+import sys
+import time
+from datetime import datetime
+
+from ..answers import Away, NotNow
+from ..view import View
+from .base import DONE, Command, Control
+
+MARKS = {"ready": "·", "abort": "A", "converge": "C"}
+LEGEND = "· through  o to be confirmed  A abort  C converge; epoch/confirmed"
+
+
+def show(control: Control) -> int:
+    """Prints the nodes and links as tables, or as one line of JSON with --json."""
+    view = control.show()
+    print(json.dumps(view.members(), separators=(",", ":")) if control.words.json else table(view), flush=True)
+    return DONE
+
+
+def table(view: View) -> str:
+    """A view for people's eyes."""
+    near: dict[int, list[int]] = {}
+    for link in view.links:
+        near.setdefault(link.a, []).append(link.b)
+        near.setdefault(link.b, []).append(link.a)
+    waiting = view.accepted - view.settled
+    lines = [f"{view.settled} steps on the disk" + (f", {waiting} waiting" if waiting else ""),
+             "node group mode     parent epoch confirmed  linked with"]
+    for row in view.nodes:
+        lines.append(f"{row.node:4d} {row.group:5d} {row.mode:8s} {row.parent or '-':>6} {row.epoch:5d} "
+                     f"{row.confirmed:9d}{' ' if row.is_begun else '*'} {' '.join(map(str, sorted(near.get(row.node, []))))}")
+    if any(not row.is_begun for row in view.nodes):
+        lines.append("* in a reset, or begun and not confirmed")
+    return "\n".join(line.rstrip() for line in lines)
+
+
+def watch(control: Control) -> int:
+    """Draws the mode of each node, in place, as it changes; where the output is no terminal, a line with the time for
+    each change."""
+    until = time.monotonic() + control.words.for_seconds if control.words.for_seconds else None
+    is_terminal = sys.stdout.isatty()
+    seen: list[str] | None = None
+    while until is None or time.monotonic() < until:
+        picture = looked(control)
+        if picture != seen:
+            draw(picture, seen) if is_terminal else note(picture)
+            seen = picture
+        time.sleep(control.words.every)
+    return DONE
+
+
+def looked(control: Control) -> list[str]:
+    """A mark for each node's mode, in order, with how many steps there are, and each node that is not through; or why
+    there is no view."""
+    try:
+        view = control.port.show()
+    except NotNow as not_now:
+        return [f"the server answers {not_now.name}"]
+    except Away as away:
+        return [f"no answer: {away}"]
+    marks = "".join(MARKS.get(node.mode, "?") if node.mode != "ready" or node.is_begun else "o" for node in view.nodes)
+    rest = [f"{node.node}:{node.epoch}/{node.confirmed}" for node in view.nodes if not node.is_begun]
+    return [f"[{marks}] {view.settled} steps", " ".join(rest) or "equal at every node"]
+
+
+def draw(picture: list[str], before: list[str] | None) -> None:
+    """Draws over what was drawn before; a line that the terminal would break can't be drawn over."""
+    width = shutil.get_terminal_size().columns - 1
+    up = f"\x1b[{len(before) + 1}A\x1b[J" if before is not None else ""
+    print(up + "\n".join(line[:width] for line in [picture[0], LEGEND, *picture[1:]]), flush=True)
+
+
+def note(picture: list[str]) -> None:
+    print(datetime.now().astimezone().isoformat(timespec="milliseconds"), *picture, sep="  ", flush=True)
+
+
+def add_show_words(parser: argparse.ArgumentParser) -> None:
+    parser.add_argument("--json", action="store_true", help="as one line, of the form that the port answers")
+
+
+def add_watch_words(parser: argparse.ArgumentParser) -> None:
+    parser.add_argument("--every", type=float, default=0.2, metavar="SECONDS", help="how often it looks (0.2)")
+    parser.add_argument("--for", dest="for_seconds", type=float, metavar="SECONDS", help="ends after so long (never)")
+
+
+COMMANDS = (
+    Command("show", "prints the nodes and links", show, add_show_words, is_look=True),
+    Command("watch", "draws the modes of the nodes as they change; where the output is no terminal, a line a change", watch,
+            add_watch_words, is_look=True),
+)

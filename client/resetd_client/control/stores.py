@@ -1,0 +1,130 @@
+"""Commands that read a store's file, also while it is served."""
+
+from __future__ import annotations
+
+import argparse
+import os
+from collections.abc import Iterator
+
+from ..store_file import HEADER, MAGIC, Store, open_store, read_half, read_store, reader_of, store_of
+from ..why import Finding, lock_holders, of_address, of_file
+from .base import DONE, REFUSED, WRONG_WORDS, Command, Control, complain
+
+
+def why(control: Control) -> int:
+    """Prints what stands behind a fault of a start: of a store's file and of an address."""
+    words = control.words
+    findings = list(of_file(words.file))
+    if words.at:
+        findings += of_address(words.at, control.seconds, words.file)
+    for finding in findings:
+        print(f"{finding.about:8s} {finding.text}", flush=True)
+    told = told_start(findings)
+    print(told or "nothing seen here stands in the way of a start")
+    return REFUSED if told else DONE
+
+
+def told_start(findings: list[Finding]) -> str:
+    """With which word a start of the server would end now, or a server later; nothing where there is none."""
+    faults = sorted((finding for finding in findings if finding.fault), key=lambda finding: finding.fault != "Usage")
+    told = [f"a start now would end with {finding.fault}: {finding.about}: {finding.text}" for finding in faults[:1]]
+    told += [f"a server that runs meets {finding.later}: {finding.about}: {finding.text}" for finding in findings if finding.later]
+    return "\n".join(told)
+
+
+def steps(control: Control) -> int:
+    """Prints the steps of a store, each with its batch, the steps of which were settled together."""
+    store = read_store(control.words.file, control.words.before)
+    half, rows = store.half, list(store_rows(store))
+    print(f"version {half.version}, half {half.index}: {store.world.count} steps in the snapshot, of which each client's last "
+          f"order is known, and {store.count - store.world.count} in {len(store.batches)} batches")
+    for row in rows:
+        print(row)
+    return DONE
+
+
+def store_rows(store: Store) -> Iterator[str]:
+    for session in sorted(store.world.sessions, key=lambda session: session.step):
+        yield f"{session.step:8d}  snapshot           {session}"
+    for batch in store.batches:
+        for place, step in enumerate(batch.steps):
+            yield f"{batch.first + place:8d}  {f'{batch.first}-{batch.last}':17s}  {step}"
+
+
+def backup(control: Control) -> int:
+    """Copies a store that may be served meanwhile."""
+    words = control.words
+    descriptor = open_store(words.file)
+    try:
+        if (refusal := why_not(words.out, os.fstat(descriptor))):
+            complain(f"{words.out}: {refusal}")
+            return WRONG_WORDS
+        store = store_of(read_half(reader_of(descriptor)))
+        put(words.out, store.half.file(), os.fstat(descriptor))
+    finally:
+        os.close(descriptor)
+    control.tell(f"copied {store.count} steps, version {store.half.version}")
+    return DONE
+
+
+def why_not(out: str, source: os.stat_result) -> str:
+    """Why a copy may not be put here: only what is absent, empty or another copy is replaced."""
+    try:
+        descriptor = open_store(out)
+    except FileNotFoundError:
+        return ""
+    try:
+        found, head = os.fstat(descriptor), os.read(descriptor, HEADER)
+    finally:
+        os.close(descriptor)
+    if os.path.samestat(found, source):
+        return "this is the store itself"
+    if lock_holders(found):
+        return "a process has it locked: nothing is put onto a store that is served"
+    return "" if not head or head[1:9] == MAGIC else "it holds something else than a store"
+
+
+def put(path: str, data: bytes, like: os.stat_result) -> None:
+    """Puts a file in place as a whole, and has it on the disk; with the mode and, where it may, the owner of another."""
+    new = f"{path}.new"
+    with open(os.open(new, os.O_WRONLY | os.O_CREAT | os.O_TRUNC, 0o600), "wb") as file:
+        file.write(data)
+        os.fchmod(file.fileno(), like.st_mode & 0o777)
+        if os.geteuid() == 0:
+            os.fchown(file.fileno(), like.st_uid, like.st_gid)
+        file.flush()
+        os.fsync(file.fileno())
+    os.replace(new, path)
+    folder = os.open(os.path.dirname(os.path.abspath(path)), os.O_RDONLY)
+    try:
+        os.fsync(folder)
+    finally:
+        os.close(folder)
+
+
+def add_why_words(parser: argparse.ArgumentParser) -> None:
+    add_file_words(parser)
+    parser.add_argument("at", metavar="ADDRESS", nargs="?", help="the address of the server, A.B.C.D:P")
+
+
+def add_file_words(parser: argparse.ArgumentParser) -> None:
+    parser.add_argument("file", metavar="FILE", help="the store")
+
+
+def add_steps_words(parser: argparse.ArgumentParser) -> None:
+    add_file_words(parser)
+    parser.add_argument("--before", action="store_true", help="the half of before the last checkpoint, which stands until the next one")
+
+
+def add_backup_words(parser: argparse.ArgumentParser) -> None:
+    add_file_words(parser)
+    parser.add_argument("out", metavar="OUT", help="the copy; one that is there is replaced as a whole")
+
+
+COMMANDS = (
+    Command("why", "prints what stands behind a fault of a start: of the store's file and of the address; status 1 where there "
+            "is a reason", why, add_why_words, is_look=True),
+    Command("steps", "prints the steps of a store, each with its batch, the steps of which were settled together", steps,
+            add_steps_words),
+    Command("backup", "copies a store, which may be served meanwhile", backup, add_backup_words),
+)

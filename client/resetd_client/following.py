@@ -1,0 +1,91 @@
+"""What looks at a coordinator again and again, until it is stopped."""
+
+from __future__ import annotations
+
+import random
+import time
+from collections.abc import Callable, Mapping
+
+from .answers import Away, NotTaken, Outcome, Refusal, Refused
+from .orders import Order, Orders, warn
+from .port import patiently
+from .signals import Clock, Wake, Wakes
+from .view import View
+
+STOP_SECONDS = 0.1  # of a wait that is looked into for a `stop`
+
+
+class Stopped(Exception):
+    """`stop` was called."""
+
+
+class Following:
+    """Looks, waits for a wake-up, and looks again. `look` is another one's, and so is how long to wait."""
+
+    def __init__(self, orders: Orders, told: Callable[[str], None] = warn) -> None:
+        self.orders, self._told = orders, told
+        self._is_stopping = False  # no lock, since a signal's handler may set it
+        self._asked: set[int] = set()  # nodes for which resets were asked, and none of which has talked since
+
+    def look(self) -> View:
+        """One look at `show`, and all that it asks for."""
+        raise NotImplementedError
+
+    def stop(self) -> None:
+        """Ends `follow`, from any thread or a signal's handler, within a moment or after the answer that it waits
+        for."""
+        self._is_stopping = True
+
+    def _look_patiently(self) -> View | None:
+        """A look, made again and again while the coordinator is away. None once `stop` was called."""
+        wait, is_told = 0.1, False
+        while not self._is_stopping:
+            try:
+                return self.look()
+            except Stopped:
+                return None
+            except Away as away:
+                if not is_told:
+                    self._told(f"{away}; tried again")
+            is_told = True
+            self._wait(Clock(), wait * random.uniform(0.75, 1.25))
+            wait = min(wait * 1.5, 2.0)
+        return None
+
+    def _wait(self, wakes: Wakes, seconds: float, is_due: Callable[[], bool] = lambda: False) -> Wake:
+        """Waits for a wake-up, or until something is due or `stop` is called."""
+        until = time.monotonic() + seconds
+        while not self._is_stopping:
+            left = until - time.monotonic()
+            wake = wakes.wait(max(0.0, min(left, STOP_SECONDS)))
+            if wake is not Wake.QUIET or left <= 0 or is_due():
+                return wake
+        return Wake.END
+
+    def _confirm(self, epochs: Mapping[int, int]) -> None:
+        """Confirms epochs of nodes, however long the coordinator is away. That one was confirmed before, or that a
+        node has gone or went back meanwhile, is no fault: the next look sees it. Raises Refused for all else, and
+        Stopped."""
+        self._order([{"op": "confirm", "node": node, "epoch": epoch} for node, epoch in epochs.items()],
+                    {Refusal.BAD_EPOCH, Refusal.UNKNOWN_NODE})
+
+    def _ask_reset(self, node: int, why: str) -> None:
+        """Asks for a reset, and tells of the first in a row. That the node has gone meanwhile is no fault. Raises as
+        `_confirm` does."""
+        if node not in self._asked:
+            self._told(f"node {node}: {why}: a reset is asked for")
+        self._asked.add(node)
+        self._order([{"op": "reset", "node": node}], {Refusal.UNKNOWN_NODE})
+
+    def _order(self, orders: list[Order], passed: set[Refusal]) -> None:
+        """Carries out orders; those refusals of them pass."""
+        def ordered() -> list[Outcome]:
+            if self._is_stopping:
+                raise Stopped
+            return self.orders.order_all(orders)
+        while orders:
+            outcomes = patiently(ordered)
+            last = outcomes[-1]
+            if isinstance(last, NotTaken) and not (isinstance(last, Refused) and last.refusal in passed):
+                raise last
+            orders = orders[len(outcomes):]

@@ -1,0 +1,61 @@
+"""After a restore: a reset in each group of linked nodes, so that no service takes its old start for the present one.
+
+A restored store may show an epoch as confirmed that a service began in another past. A node whose epoch has risen
+since is unconfirmed, so its service begins anew at its next look, whatever it had begun before.
+"""
+
+from __future__ import annotations
+
+import time
+
+from .answers import Away
+from .orders import Orders
+from .port import Port, patiently
+from .view import Node, View
+
+LOOK_SECONDS = 0.05
+
+
+def renew(port: Port, orders: Orders, seconds: float) -> str:
+    """Asks for a reset in each group of linked nodes, waits until the epoch of every node has risen, and says so.
+    It finds the client's count first, which a restore changes. Harmless when it is repeated. Raises Away where a
+    node's epoch has not risen within so many seconds."""
+    patiently(orders.recover, seconds)
+    view = first = patiently(port.show, seconds)
+    until = time.monotonic() + seconds
+    while behind := not_risen(first, view):
+        if time.monotonic() > until:
+            raise Away(f"no new epoch yet at {named(behind)}; `resetctl resend`, and then the same words again")
+        for group in groups(view):
+            due = [node for node in group if node.node in behind]
+            if due and all(node.mode == "ready" for node in group):
+                reset(orders, due[0].node, view.accepted, seconds)
+        time.sleep(LOOK_SECONDS)
+        view = patiently(port.show, seconds)
+    return f"a reset in each of {len(groups(first))} groups: all {len(first.nodes)} nodes have a new epoch"
+
+
+def reset(orders: Orders, node: int, accepted: int, seconds: float) -> None:
+    """One reset. Its step is above those that were accepted before."""
+    patiently(lambda: orders.order("reset", above=accepted, node=node), seconds)
+
+
+def not_risen(first: View, view: View) -> frozenset[int]:
+    """The nodes whose epoch is not above the one that they had, of those that are still there."""
+    epochs = {node.node: node.epoch for node in first.nodes}
+    return frozenset(node.node for node in view.nodes if node.epoch <= epochs.get(node.node, -1))
+
+
+def groups(view: View) -> list[tuple[Node, ...]]:
+    """The nodes in groups, each of which a reset of one of its nodes reaches."""
+    found: list[tuple[Node, ...]] = []
+    rest = {node.node for node in view.nodes}
+    while rest:
+        group = view.connected(min(rest))
+        found.append(group)
+        rest -= {node.node for node in group}
+    return found
+
+
+def named(nodes: frozenset[int]) -> str:
+    return f"node{'s' if len(nodes) > 1 else ''} {', '.join(map(str, sorted(nodes)))}"

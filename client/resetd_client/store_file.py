@@ -1,0 +1,199 @@
+"""A store's file, read by docs/FORMATS.md, also while it is served: what it holds, and a copy of it."""
+
+from __future__ import annotations
+
+import os
+from collections.abc import Callable
+from dataclasses import dataclass
+
+from .store_grammar import VERSIONS, Batch, NotSpelled, World, batch_of, world_of
+
+MAGIC = b"ACRRESET"
+HEADER = 17
+HALVES = range(32_768, 16_777_217)
+MOST_SNAPSHOT, MOST_BODY = 16_384, 8_192
+TOP = 5  # the version byte and the length of the snapshot
+MOST_PASSES = 1_000
+
+Read = Callable[[int, int], bytes]
+
+
+class NoStore(Exception):
+    """The file does not read as a store: the name that `resetd` has for it, and where it stops."""
+
+    def __init__(self, name: str, place: int, what: str) -> None:
+        super().__init__(f"{name}: at byte {place}, {what}")
+        self.name, self.place = name, place
+
+
+class Restless(Exception):
+    """Each pass over a served store met a checkpoint."""
+
+
+@dataclass(frozen=True)
+class Half:
+    """What one half of a store reads as: its version, its snapshot, and the bodies behind open gates. `start` is the
+    half's place in the file, `places` are those of the bodies."""
+
+    size: int
+    index: int
+    version: int
+    snapshot: bytes
+    bodies: tuple[bytes, ...]
+
+    @property
+    def start(self) -> int:
+        return HEADER + self.index * self.size
+
+    @property
+    def used(self) -> int:
+        """How many of the half's bytes are in use, its closed gate with them."""
+        return TOP + len(self.snapshot) + 1 + sum(len(body) + 5 for body in self.bodies)
+
+    @property
+    def places(self) -> list[int]:
+        place, places = self.start + TOP + len(self.snapshot) + 5, []
+        for body in self.bodies:
+            places.append(place)
+            place += len(body) + 5
+        return places
+
+    def file(self) -> bytes:
+        """The bytes of a store that holds just this, in its first half."""
+        parts = [b"\0", MAGIC, self.size.to_bytes(8, "big"), bytes([self.version]), len(self.snapshot).to_bytes(4, "big"),
+                 self.snapshot]
+        for body in self.bodies:
+            parts += [b"\1", len(body).to_bytes(4, "big"), body]
+        return b"".join([*parts, b"\0"])
+
+
+@dataclass(frozen=True)
+class Store:
+    """A half whose snapshot spells a world, and its bodies batches that go on from there."""
+
+    half: Half
+    world: World
+    batches: tuple[Batch, ...]
+
+    @property
+    def count(self) -> int:
+        """How many steps it has."""
+        return self.batches[-1].last if self.batches else self.world.count
+
+
+def store_of(half: Half) -> Store:
+    """The store that a half spells. Whether the world takes the steps, `resetd check` tells. Raises NoStore."""
+    if half.version not in VERSIONS:
+        raise NoStore("BadSnapshot", half.start, f"version {half.version} is not known")
+    try:
+        world = world_of(half.snapshot, half.version)
+    except NotSpelled as fault:
+        raise NoStore("BadSnapshot", half.start + TOP + fault.place, f"the snapshot spells no world ({fault.kind})") from None
+    count, batches = world.count, list[Batch]()
+    for place, body in zip(half.places, half.bodies):
+        try:
+            batch = batch_of(body, half.version)
+        except NotSpelled as fault:
+            raise NoStore("BadBatch", place + fault.place, f"batch {len(batches)} is no batch ({fault.kind})") from None
+        if batch.first != count + 1:
+            raise NoStore("BadBatch", place, f"batch {len(batches)} begins with step {batch.first}, and {count + 1} is due")
+        batches.append(batch)
+        count = batch.last
+    return Store(half, world, tuple(batches))
+
+
+def read_half(read: Read, is_other: bool = False) -> Half:
+    """The half that is selected, or the other one, as it stood at one moment of this call, also while the store is
+    served. Every order that was answered before the call is in it. Raises NoStore and Restless."""
+    head = read(0, HEADER)
+    size = int.from_bytes(head[9:], "big")
+    if len(head) < HEADER or head[1:9] != MAGIC or size not in HALVES:
+        raise NoStore("NoMagic", min(len(head), 1), "no store begins so")
+    for _ in range(MOST_PASSES):
+        if (half := one_pass(read, size, is_other)) is not None:
+            return half
+    raise Restless(f"{MOST_PASSES} times a checkpoint came in between")
+
+
+def one_pass(read: Read, size: int, is_other: bool) -> Half | None:
+    """One pass over a half; None where a checkpoint came in between.
+
+    A half is written anew only while the other one is selected. So the selector is the same before and behind the first
+    reading of the top, and behind the walk, and then the top is still the same: each checkpoint has a new count of
+    steps.
+    """
+    selector = selected(read)
+    index = selector ^ is_other
+    top = top_of(read, HEADER + index * size)
+    if selected(read) != selector:
+        return None
+    fault = None
+    try:
+        half = walked(read, size, index, top)
+    except NoStore as found:
+        fault = found
+    is_still = selected(read) == selector and top_of(read, HEADER + index * size) == top
+    if is_still and fault:
+        raise fault
+    return half if is_still else None
+
+
+def selected(read: Read) -> int:
+    """Which half the selector names."""
+    return read(0, 1)[0] % 2
+
+
+def top_of(read: Read, start: int) -> bytes:
+    """The version, the length of the snapshot, and the snapshot, as far as they go."""
+    reading = read(start, TOP + MOST_SNAPSHOT)
+    return reading[:TOP + int.from_bytes(reading[1:TOP], "big")]
+
+
+def walked(read: Read, size: int, index: int, top: bytes) -> Half:
+    """A half from its top to its first closed gate. A gate opens only once its body and the closed gate behind that are
+    written. So each gate is read by a call that began after the one before it was seen open, with the body between
+    them. Raises NoStore."""
+    start = HEADER + index * size
+
+    def with_gate(place: int, length: int, most: int, what: str) -> tuple[bytes, int]:
+        """A field, and the gate behind it."""
+        if length > most:
+            raise NoStore("BadRecord", start + place - 4, f"{what} of {length} bytes is longer than {most}")
+        field = read(start + place, length + 1)
+        if place + length >= size or len(field) <= length:
+            raise NoStore("BadRecord", start + place, f"{what} of {length} bytes with its gate runs past the end")
+        return field[:-1], field[-1]
+
+    snapshot, gate = with_gate(TOP, int.from_bytes(top[1:TOP], "big"), MOST_SNAPSHOT, "a snapshot")
+    place, bodies = TOP + len(snapshot) + 1, list[bytes]()
+    while gate != 0:
+        length = int.from_bytes(read(start + place, 4), "big")
+        body, gate = with_gate(place + 4, length, MOST_BODY, "a body")
+        place += 4 + length + 1
+        bodies.append(body)
+    return Half(size, index, top[0], top[TOP:], tuple(bodies))
+
+
+def reader_of(descriptor: int) -> Read:
+    """Reads from an open file, as far as it goes."""
+    def read(place: int, length: int) -> bytes:
+        parts = []
+        while length and (part := os.pread(descriptor, length, place)):
+            parts.append(part)
+            place, length = place + len(part), length - len(part)
+        return b"".join(parts)
+    return read
+
+
+def open_store(path: str) -> int:
+    """A descriptor of a regular file; what is none is not waited for."""
+    return os.open(path, os.O_RDONLY | os.O_NONBLOCK | os.O_CLOEXEC)
+
+
+def read_store(path: str, is_other: bool = False) -> Store:
+    """The store on a file. Raises NoStore, Restless, OSError."""
+    descriptor = open_store(path)
+    try:
+        return store_of(read_half(reader_of(descriptor), is_other))
+    finally:
+        os.close(descriptor)

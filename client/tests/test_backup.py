@@ -1,0 +1,77 @@
+"""Copies of a store that is served, under load."""
+
+from __future__ import annotations
+
+import os
+import stat
+import subprocess
+import tempfile
+import unittest
+
+from backups import Lost, Trial
+from case import PROGRAM, Case
+from real import Real
+
+
+@unittest.skipUnless(PROGRAM, "RESETD names no program that serves")
+class Backups(unittest.TestCase):
+    def trial(self, is_planted: bool) -> Trial:
+        folder = tempfile.TemporaryDirectory()
+        self.addCleanup(folder.cleanup)
+        trial = Trial(folder.name, is_planted)
+        self.addCleanup(trial.end)
+        return trial
+
+    def test_copies_under_load(self) -> None:
+        trial = self.trial(False)
+        trial.copies(50)
+        self.assertGreater(len(trial.halves), 1)
+
+    def test_a_wrong_copy_is_found(self) -> None:
+        self.assertRaises(Lost, self.trial(True).copies, 50)
+
+
+@unittest.skipUnless(PROGRAM, "RESETD names no program that serves")
+class Words(Case):
+    is_real = True
+
+    def setUp(self) -> None:
+        super().setUp()
+        assert isinstance(self.server, Real)
+        self.server.ring(3)
+        self.store, self.out = self.server.store, f"{self.folder}/copy"
+
+    def test_a_copy_is_a_store_and_replaces_one(self) -> None:
+        os.chmod(self.store, 0o640)
+        for count in (5, 6):
+            self.assertEqual(self.run_words("backup", self.store, self.out), (0, f"copied {count} steps, version 2\n", ""))
+            done = subprocess.run([PROGRAM, "check", self.out], capture_output=True, encoding="utf-8", check=False)
+            self.assertEqual(done.stdout, f"legal {count}\n")
+            self.assertEqual(stat.S_IMODE(os.stat(self.out).st_mode), 0o640)
+            self.server.by_somebody("add", node=9, group=1) if count == 5 else None
+        self.assertEqual(os.listdir(self.folder), ["copy"])
+
+    def test_what_is_not_replaced(self) -> None:
+        with open(f"{self.folder}/text", "w", encoding="utf-8") as file:
+            file.write("something else than a store")
+        self.run_words("backup", self.store, self.out)
+        for source, out, said in ((self.store, self.store, "this is the store itself"),
+                                  (self.out, self.store, "a process has it locked: nothing is put onto a store that is served"),
+                                  (self.store, f"{self.folder}/text", "it holds something else than a store")):
+            self.assertEqual(self.run_words("backup", source, out), (2, "", f"resetctl: {out}: {said}\n"))
+
+    def test_what_is_no_store(self) -> None:
+        self.assertEqual(self.run_words("backup", f"{self.store}.toml", self.out)[0], 1)
+        self.assertEqual(self.run_words("backup", f"{self.folder}/none", self.out)[0], 1)
+        self.assertFalse(os.path.exists(self.out))
+
+    def test_steps_say_who_asked_for_a_reset_and_when_it_settled(self) -> None:
+        self.run_words("reset", "1")
+        self.server.settled()
+        status, out, _ = self.run_words("steps", self.store)
+        rows = out.splitlines()
+        self.assertEqual((status, rows[0]), (0, f"version 2, half 0: 0 steps in the snapshot, of which each client's last order is "
+                                                f"known, and {len(rows) - 1} in {len({row.split()[1] for row in rows[1:]})} batches"))
+        self.assertEqual(rows[1].split(), ["1", "1-5", "client", "16", "order", "1:", "add", "1", "1"])
+        self.assertEqual(rows[6].split(), ["6", "6-6", "client", "16", "order", "6:", "reset", "1"])
+        self.assertEqual(rows[7].split()[:6], ["7", "7-7", "2", "takes", "abort", "1"])

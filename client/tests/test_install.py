@@ -1,0 +1,52 @@
+"""The library as one that is installed: by pip without a network, with types that mypy checks."""
+
+from __future__ import annotations
+
+import os
+import shutil
+import subprocess
+import sys
+import tempfile
+import unittest
+
+CLIENT = os.path.join(os.path.dirname(os.path.abspath(__file__)), "..")
+SERVICE = """
+from resetd_client import Member, Orders, Port
+port = Port("127.0.0.1:4170")
+member = Member(port, Orders(port, 3, "folder"), {node}, None, lambda epoch: None)
+with member.in_run("tag") as run:
+    epoch: int = run.epoch
+"""
+
+
+class Installed(unittest.TestCase):
+    def setUp(self) -> None:
+        temporary = tempfile.TemporaryDirectory()
+        self.addCleanup(temporary.cleanup)
+        self.folder = temporary.name
+
+    def run_words(self, *words: str, **environment: str) -> tuple[int, str]:
+        done = subprocess.run(words, cwd=self.folder, env={**os.environ, "PYTHONDONTWRITEBYTECODE": "1", **environment},
+                              capture_output=True, encoding="utf-8", check=False)
+        return done.returncode, done.stdout + done.stderr
+
+    def test_pip_installs_it_without_an_index(self) -> None:
+        status, told = self.run_words(sys.executable, "-m", "pip", "install", "--no-index", "--target", "there", CLIENT)
+        self.assertEqual(status, 0, told)
+        status, told = self.run_words(sys.executable, "-c", "import resetd_client as r; print(r.__version__, r.__file__)",
+                                      PYTHONPATH="there")
+        self.assertIn(f"{self.folder}/there/resetd_client", told)
+        self.assertTrue(os.path.exists(f"{self.folder}/there/resetd_client/py.typed"))
+        status, told = self.run_words(f"{self.folder}/there/bin/resetctl", "--version", PYTHONPATH="there")
+        self.assertEqual(status, 0, told)
+
+    @unittest.skipUnless(shutil.which("mypy"), "mypy is not installed (apt-get install mypy): no types are checked")
+    def test_its_types_hold_and_are_seen_from_outside(self) -> None:
+        words = ("mypy", "--strict", "--cache-dir", f"{self.folder}/cache")
+        status, told = self.run_words(*words, f"{CLIENT}/resetd_client", f"{CLIENT}/build_wheel.py", f"{CLIENT}/resetctl")
+        self.assertEqual(status, 0, told)
+        for node, expected in (("3", 0), ('"three"', 1)):
+            with open(f"{self.folder}/service.py", "w", encoding="utf-8") as file:
+                file.write(SERVICE.format(node=node))
+            status, told = self.run_words(*words, "service.py", MYPYPATH=CLIENT)
+            self.assertEqual(status, expected, told)

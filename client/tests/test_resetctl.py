@@ -1,0 +1,195 @@
+"""`resetctl`, by its words."""
+
+from __future__ import annotations
+
+import io
+import json
+import os
+import socket
+import time
+from contextlib import redirect_stderr, redirect_stdout
+
+from case import ROOT, Case, over_both
+from resetd_client.control import main
+
+
+class Controls(Case):
+    def setUp(self) -> None:
+        super().setUp()
+        self.server.ring(2)
+
+    def test_orders(self) -> None:
+        status, out, _ = self.run_words("reset", "1")
+        self.assertEqual((status, out.split()[0]), (0, "started"))
+        self.server.settled()
+        for words, said in ((("confirm", "1", "1"), "done"), (("drop", "2", "1"), "done"), (("remove", "2"), "done"),
+                            (("resend",), "resent"), (("--quiet", "reset", "1"), "")):
+            status, out, _ = self.run_words(*words)
+            self.assertEqual((status, out.split()[:1]), (0, said.split()))
+        self.assertEqual(self.run_words("close")[:2], (0, "closed\n"))
+
+    def test_a_refusal_says_what_was_found(self) -> None:
+        for node in (3, 4):
+            self.run_words("add", str(node), str(node - 2))
+        self.run_words("join", "2", "3")
+        self.run_words("reset", "1")
+        self.server.settled()
+        self.run_words("confirm", "1", "1")
+        for words, said in (("add 1 1", "7 NodeExists: node 1 is there, in group 1"),
+                            ("reset 9", "6 UnknownNode: there is no node 9; there are 1, 2, 3, 4"),
+                            ("remove 2", "8 HasLinks: node 2 is linked with 1, 3: drop these links first"),
+                            ("join 1 1", "9 SameNode: a link has two ends"),
+                            ("join 1 4", "10 OtherGroup: node 1 is in group 1, node 4 in group 2: a node changes its group "
+                                         "by being removed and added"),
+                            ("join 1 2", "11 LinkExists: 1 and 2 are linked"),
+                            ("drop 1 3", "12 NoLink: 1 and 3 are not linked; 1 is with 2"),
+                            ("confirm 1 1", "15 BadEpoch: node 1 is at epoch 1, and 1 is confirmed")):
+            self.assertEqual(self.run_words(*words.split()), (1, "", f"resetctl: {said}\n"))
+
+    def test_a_mistyped_number_locks_nothing(self) -> None:
+        self.assertEqual(self.run_words("reset", "1")[0], 0)
+        self.server.settled()
+        status, _, told = self.run_words("reset", "65")
+        self.assertEqual((status, told), (1, "resetctl: BadRequest: nodes are 1 to 64, groups and clients 1 to 16, a number and "
+                                             "an epoch below 2^64; nothing was carried out\n"))
+        status, _, told = self.run_words("reset", "1" * 600)
+        self.assertEqual(status, 2)
+        self.assertIn("a line has at most 512 bytes", told)
+        self.assertEqual((self.run_words("reset", "2")[0], self.run_words("reset", "2")[2]), (0, ""))
+        self.server.settled()
+        self.assertEqual(self.server.row(1)[1], 3)
+
+    def test_an_old_lock_of_a_mistyped_number_opens(self) -> None:
+        folder = f"{self.folder}/{self.server.address.replace(':', '_')}/client-16"
+        os.makedirs(folder)
+        with open(f"{folder}/order.json", "w", encoding="utf-8") as file:
+            json.dump({"number": self.server.last(16) + 1, "answered": False, "order": {"op": "reset", "node": 65}}, file)
+        status, _, told = self.run_words("reset", "1")
+        self.assertEqual((status, told.count("reset 65")), (0, 2))
+        self.assertEqual(self.run_words("reset", "1")[2], "")
+
+    def test_two_people(self) -> None:
+        for turn, person in enumerate(("alice", "bob", "alice", "alice", "bob", "bob", "alice")):
+            status, out, told = self.run_words("--state", f"{self.folder}/{person}", "reset", "1")
+            self.assertEqual((status, out.split()[0]), (0, "started"), told)
+            self.server.settled()
+            self.assertEqual(self.server.row(1)[1], turn + 1)
+
+    def test_two_people_who_order_the_same_and_something_else(self) -> None:
+        self.run_words("reset", "1")
+        self.run_words("--state", f"{self.folder}/bob", "add", "5", "1")
+        self.assertEqual(self.run_words("join", "2", "5")[0], 0)
+        self.assertEqual(self.run_words("--state", f"{self.folder}/bob", "drop", "2", "5")[0], 0)
+        self.assertEqual(self.run_words("remove", "5")[0], 0)
+
+    def test_an_order_of_before_that_another_person_overtook_is_given_up(self) -> None:
+        self.run_words("reset", "1")
+        self.server.faults = ["", "lose"]
+        self.assertEqual(self.run_words("reset", "2")[0], 3)
+        self.run_words("--state", f"{self.folder}/bob", "add", "5", "1")
+        status, _, told = self.run_words("add", "6", "1")
+        self.assertEqual(status, 0)
+        self.assertIn("it is given up", told)
+        self.server.settled()
+        self.assertEqual(self.server.row(1)[1], 1)
+
+    def test_the_count_of_another_person_is_found_by_hand_too(self) -> None:
+        self.run_words("reset", "1")
+        self.run_words("--state", f"{self.folder}/other", "reset", "1")
+        last = self.server.last(16)
+        self.assertEqual(self.run_words("count")[:2], (0, f"client 16: {last}\n"))
+
+    def test_an_order_that_had_no_answer_is_made_once(self) -> None:
+        self.run_words("reset", "1")
+        self.server.settled()
+        self.server.faults = ["", "mute"]
+        self.assertEqual(self.run_words("reset", "2")[0], 3)
+        self.server.settled()
+        status, _, told = self.run_words("confirm", "1", "1")
+        self.assertEqual((status, self.server.row(1)), (0, [1, 2, 1]))
+        self.assertIn("sent again, since there was no answer: reset 2", told)
+
+    def test_no_silence(self) -> None:
+        began = time.monotonic()
+        status, _, told = self.run_words("--patience", "0.5", "show", address="127.0.0.1:1")
+        self.assertEqual(status, 3)
+        self.assertEqual(told, "resetctl: no answer: 127.0.0.1:1: Connection refused; tried again for 0.5 s\n"
+                               "resetctl: no answer: 127.0.0.1:1: Connection refused\n")
+        self.assertLess(time.monotonic() - began, 3)
+
+    def test_what_looks_waits_two_seconds(self) -> None:
+        with socket.create_server(("127.0.0.1", 0)) as silent:
+            address = f"127.0.0.1:{silent.getsockname()[1]}"
+            for words in (["show"], ["health"], ["metrics"], ["diff", os.path.join(ROOT, "examples/ring.toml")]):
+                began = time.monotonic()
+                out, err = io.StringIO(), io.StringIO()
+                with redirect_stdout(out), redirect_stderr(err):
+                    main(["--address", address, "--state", self.folder, *words])
+                self.assertTrue(1.5 < time.monotonic() - began < 4.5, words)
+                if words[0] == "show":
+                    self.assertEqual(err.getvalue(), f"resetctl: waits for an answer of {address}\nresetctl: no answer: {address}: "
+                                     "connected, and no answer for 2 s: another client may keep the one connection\n")
+
+    def test_something_else_at_the_address(self) -> None:
+        self.server.faults = ["<!DOCTYPE HTML>"] * 3
+        for words in (["show"], ["reset", "1"]):
+            status, _, told = self.run_words(*words)
+            self.assertEqual((status, told), (1, f"resetctl: {self.server.address} is no coordinator: it said "
+                                                 "'<!DOCTYPE HTML>'\n"))
+        self.assertEqual(self.run_words("health")[:2], (3, f"resetd UNKNOWN: {self.server.address} is no coordinator: it said "
+                                                           "'<!DOCTYPE HTML>'\n"))
+
+    def test_files_that_cannot_be_used(self) -> None:
+        for words, status in ((["metrics", f"{self.folder}/none/file"], 1), (["steps", f"{self.folder}/none"], 1),
+                              (["--state", "/dev/null/state", "reset", "1"], 4)):
+            self.assertEqual(self.run_words(*words)[0], status, words)
+
+    def test_stopped_says_what_to_do(self) -> None:
+        self.server.is_stopped = True
+        self.assertEqual(self.run_words("reset", "1")[2], "resetctl: the server answers Stopped: the same order with the same "
+                                                          "number after the next start; `close` ends the server\n")
+
+    def test_show(self) -> None:
+        self.server.reset(1)
+        self.assertIn("   2     1 ready         -     1         0* 1\n", self.run_words("show")[1])
+        self.assertEqual(json.loads(self.run_words("show", "--json")[1])["nodes"][0], [1, 1, "ready", 0, 1, 0])
+
+    def test_diff_and_apply(self) -> None:
+        path = f"{self.folder}/want.toml"
+        with open(path, "w", encoding="utf-8") as file:
+            file.write("".join(f"[[node]]\nid = {n}\ngroup = 1\n" for n in (1, 3)) + "[[link]]\na = 1\nb = 3\n")
+        self.assertEqual(self.run_words("diff", path)[:2], (1, "add 3 1\njoin 1 3\ndrop 1 2\nremove 2\n"))
+        self.assertEqual(self.run_words("apply", path)[0], 0)
+        self.assertEqual(self.run_words("diff", path)[:2], (0, ""))
+        self.assertEqual(self.server.pairs(), [(1, 3)])
+        self.assertEqual(self.run_words("diff", f"{self.folder}/none")[0], 2)
+
+    def test_apply_that_was_stopped_goes_on(self) -> None:
+        path = f"{self.folder}/want.toml"
+        with open(path, "w", encoding="utf-8") as file:
+            file.write("".join(f"[[node]]\nid = {n}\ngroup = 1\n" for n in (1, 2, 3, 4)))
+        self.run_words("reset", "1")
+        for before in (1, 2):  # show; what had no answer, and show
+            self.server.faults = [*[""] * before, "mute"]
+            self.assertEqual(self.run_words("apply", path)[0], 3)
+        status, _, told = self.run_words("apply", path)
+        self.assertEqual(status, 0)
+        self.assertIn("sent again, since there was no answer: add 4 1; drop 1 2", told)
+        self.assertEqual((sorted(self.server.nodes), self.server.pairs()), ([1, 2, 3, 4], []))
+
+    def test_health_and_metrics(self) -> None:
+        self.assertEqual(self.run_words("health")[:2], (0, "resetd OK: well\n"))
+        self.server.is_stopped = True
+        status, text, _ = self.run_words("health", "--close-stopped")
+        self.assertEqual((status, self.server.seen[-1]), (2, {"op": "close"}))
+        self.run_words("metrics", f"{self.folder}/resetd.prom")
+        with open(f"{self.folder}/resetd.prom", encoding="utf-8") as file:
+            self.assertIn("resetd_stopped 1\n", file.read())
+
+    def test_watch(self) -> None:
+        self.server.reset(1)
+        text = self.run_words("watch", "--for", "0.3", "--every", "0.1")[1]
+        self.assertRegex(text, r"^\d{4}-\d\d-\d\dT\d\d:\d\d:\d\d\.\d{3}[+-]\d\d:\d\d  \[oo\] \d+ steps  1:1/0 2:1/0\n$")
+
+
+load_tests = over_both

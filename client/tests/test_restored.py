@@ -1,0 +1,50 @@
+"""`resetctl restored`: a reset in each group, and every node at a new epoch."""
+
+from __future__ import annotations
+
+from case import Case, in_memory, over_both
+from resetd_client import Away
+from resetd_client.restored import renew
+
+
+class Restored(Case):
+    def epochs(self) -> list[int]:
+        return [self.server.row(node)[1] for node in self.nodes]
+
+    def setUp(self) -> None:
+        super().setUp()
+        self.nodes = (1, 2, 3, 8, 9, 12)
+        self.server.ring(3)
+        for node in (8, 9, 12):
+            self.server.by_somebody("add", node=node, group=1)
+        self.server.by_somebody("join", a=8, b=9)
+
+    def test_each_group_has_one_reset(self) -> None:
+        for times in (1, 2):
+            told = renew(self.port, self.orders(name=str(times)), 20)
+            self.assertEqual((told, self.epochs()), (
+                "a reset in each of 3 groups: all 6 nodes have a new epoch", [times] * 6))
+
+    def test_after_a_restore_the_count_is_found(self) -> None:
+        copy = self.server.copy()
+        orders = self.orders()
+        for _ in range(5):
+            orders.order("reset", node=1)
+            self.server.settled()
+        self.server.restore(copy)
+        renew(self.port, orders, 20)
+        self.assertEqual(self.epochs(), [1] * 6)
+
+    def test_the_command(self) -> None:
+        status, out, _ = self.run_words("--patience", "20", "restored")
+        self.assertEqual((status, out, self.epochs()), (0, "a reset in each of 3 groups: all 6 nodes have a new epoch\n", [1] * 6))
+
+    @in_memory
+    def test_a_node_that_gets_no_new_epoch_is_named(self) -> None:
+        reset = self.server.reset
+        self.server.reset = lambda node: None if node == 12 else reset(node)
+        with self.assertRaisesRegex(Away, "node 12;"):
+            renew(self.port, self.orders(), 1)
+
+
+load_tests = over_both

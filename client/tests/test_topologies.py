@@ -1,0 +1,62 @@
+"""Topology files, and the orders between two networks."""
+
+from __future__ import annotations
+
+import os
+import unittest
+
+from case import ROOT
+from resetd_client.topology import BadTopology, Network, plan, read_topology
+
+
+class Topologies(unittest.TestCase):
+    def network(self, nodes: dict[int, int], *links: tuple[int, int]) -> Network:
+        return Network(dict(nodes), set(links))
+
+    def words(self, have: Network, want: Network) -> list[str]:
+        return [str(order) for order in plan(have, want)]
+
+    def test_nothing_to_do(self) -> None:
+        self.assertEqual(self.words(self.network({1: 1}), self.network({1: 1})), [])
+
+    def test_joins_come_before_drops_and_removals_last(self) -> None:
+        have = self.network({1: 1, 2: 1, 3: 1}, (1, 2), (2, 3))
+        want = self.network({1: 1, 2: 1, 4: 1}, (1, 2), (1, 4), (2, 4))
+        self.assertEqual(self.words(have, want), ["add 4 1", "join 1 4", "join 2 4", "drop 2 3", "remove 3"])
+
+    def test_a_changed_group_is_a_removal_and_an_addition(self) -> None:
+        have = self.network({1: 1, 2: 1}, (1, 2))
+        want = self.network({1: 2, 2: 2}, (1, 2))
+        self.assertEqual([word.split("    #")[0] for word in self.words(have, want)],
+                         ["drop 1 2", "remove 1", "add 1 2", "remove 2", "add 2 2", "join 1 2"])
+
+    def test_a_drop_comes_first_where_there_is_no_room(self) -> None:
+        star = {node: 1 for node in range(1, 19)}
+        have = self.network(star, *((1, node) for node in range(2, 18)))
+        want = self.network(star, *((1, node) for node in range(3, 19)))
+        self.assertEqual(self.words(have, want), [
+            "drop 1 2    # before 1 and 18 are joined: there is no room for both", "join 1 18"])
+
+    def test_all_links_are_taken(self) -> None:
+        nodes = {node: 1 for node in range(1, 65)}
+        ring = [(node, node + 1) for node in range(1, 64)]
+        chords = [(node, node + 2) for node in range(1, 63)]
+        have = self.network(nodes, *ring, *chords, (1, 60), (1, 61), (1, 62))
+        want = self.network(nodes, *ring, *chords, (2, 60), (2, 61), (2, 62))
+        self.assertEqual(len(have.links), 128)
+        now = self.network(nodes, *have.links)
+        for order in plan(have, want):
+            link = (order.members["a"], order.members["b"])
+            now.links ^= {link}
+            self.assertLessEqual(len(now.links), 128)
+        self.assertEqual(now.links, want.links)
+
+    def test_files(self) -> None:
+        with open(os.path.join(ROOT, "examples/ring.toml"), "rb") as file:
+            ring = read_topology(file.read())
+        self.assertEqual((len(ring.groups), len(ring.links)), (8, 8))
+        for text in ("x", "ring = 1", "node = 1", "half = 1", "[[node]]\nid = 1", "[[node]]\nid = 65\ngroup = 1",
+                     "[[node]]\nid = true\ngroup = 1", "[[node]]\nid = 1\ngroup = 1\n[[link]]\na = 1\nb = 1",
+                     "[[node]]\nid = 1\ngroup = 1\n[[link]]\na = 1\nb = 2",
+                     "[[node]]\nid = 1\ngroup = 1\n[[node]]\nid = 2\ngroup = 2\n[[link]]\na = 1\nb = 2"):
+            self.assertRaises(BadTopology, read_topology, text.encode())

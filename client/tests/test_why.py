@@ -1,0 +1,156 @@
+"""`resetctl why`: what stands behind one word of a start."""
+
+from __future__ import annotations
+
+import fcntl
+import os
+import resource
+import socket
+import subprocess
+import unittest
+from unittest import mock
+
+from case import PROGRAM, Case
+from real import Real
+from resetd_client.why import lock_holders
+from test_store_file import APPENDED, CHECKPOINTED, FRESH
+
+
+class Files(Case):
+    def put(self, data: bytes) -> str:
+        path = f"{self.folder}/store"
+        with open(path, "wb") as file:
+            file.write(data)
+        os.chmod(path, 0o640)
+        return path
+
+    def why(self, *words: str) -> tuple[int, list[str]]:
+        status, out, told = self.run_words("why", *words)
+        self.assertEqual(told, "")
+        return status, out.splitlines()
+
+    def test_a_store(self) -> None:
+        for data, count, index, used in ((APPENDED, 1, 0, 45), (CHECKPOINTED, 0, 1, 17)):
+            status, lines = self.why(self.put(data))
+            self.assertEqual((status, lines[-1]), (0, "nothing seen here stands in the way of a start"))
+            self.assertIn(f"store    half {index} is read; {used} of its 32,768 bytes are in use", lines)
+            self.assertTrue(any(line.startswith(f"store    version 1, {count} steps: 0 in the snapshot") for line in lines))
+            self.assertRegex(lines[1], rf"^file     a file of {len(data):,} bytes, -rw-r----- \S+:\S+$")
+            self.assertIn("lock     nobody on this machine holds it", lines)
+
+    def test_where_it_stops_to_read(self) -> None:
+        for data, told in ((b"", "NoMagic: at byte 0, no store begins so: the file is empty"),
+                           (APPENDED[:50], "BadRecord: at byte 38, a body of 23 bytes with its gate runs past the end"),
+                           (FRESH[:17] + b"\3" + FRESH[18:], "BadSnapshot: at byte 17, version 3 is not known"),
+                           (APPENDED[:48] + b"\7" + APPENDED[49:], "BadBatch: at byte 48, batch 0 is no batch (BadByte)")):
+            status, lines = self.why(self.put(data))
+            name = told.split(":")[0]
+            self.assertEqual((status, lines[-1]), (1, f"a start now would end with {name}: store: does not read: {told}"))
+
+    def test_what_is_no_file(self) -> None:
+        os.mkfifo(f"{self.folder}/fifo")
+        os.symlink(f"{self.folder}/nowhere", f"{self.folder}/link")
+        for path, told in (("none", "NoMagic: file: No such file or directory; a start would make an empty one"),
+                           ("link", "NoMagic: file: No such file or directory; a start would make an empty one"),
+                           ("none/store", f"Device: folder: {self.folder}/none: No such file or directory"),
+                           (".", "Device: file: a folder of "), ("fifo", "Device: file: a FIFO of 0 bytes, p")):
+            status, lines = self.why(f"{self.folder}/{path}")
+            self.assertEqual(status, 1)
+            self.assertTrue(lines[-1].startswith(f"a start now would end with {told}"), lines)
+
+    def test_who_holds_the_lock(self) -> None:
+        store = self.put(FRESH)
+        with open(store, "rb") as file:
+            fcntl.flock(file, fcntl.LOCK_EX)
+            status, lines = self.why(store)
+            found = os.stat(store)
+            other_device = os.stat_result([*found[:2], found.st_dev + 1, *found[3:10]])
+            self.assertEqual((lock_holders(found), lock_holders(other_device)), ([os.getpid()], []))
+        self.assertEqual(status, 1)
+        self.assertTrue(any(line.startswith(f"lock     held by process {os.getpid()} (") for line in lines), lines)
+
+    def test_a_limit_and_a_mode(self) -> None:
+        store = self.put(FRESH)
+        before = resource.getrlimit(resource.RLIMIT_FSIZE)
+        resource.setrlimit(resource.RLIMIT_FSIZE, (65_552, before[1]))
+        self.addCleanup(resource.setrlimit, resource.RLIMIT_FSIZE, before)
+        status, lines = self.why(store)
+        self.assertEqual((status, lines[-1]), (1, "a server that runs meets the end by a signal: limit: this shell may let a file "
+                                                  "grow to 65,552 bytes alone: beyond it ends by SIGXFSZ, without a word"))
+        with mock.patch("os.access", return_value=False):
+            self.assertIn("a start now would end with Device: access: ", self.why(store)[1][-2])
+
+    def test_addresses(self) -> None:
+        store = self.put(FRESH)
+        with socket.create_server(("127.0.0.1", 0)) as other:
+            status, lines = self.why(store, f"127.0.0.1:{other.getsockname()[1]}")
+        self.assertEqual(status, 1)
+        self.assertRegex(lines[-1], rf"^a start now would end with Socket: address: process {os.getpid()} \(.*\) listens there")
+        self.assertTrue(any("connected, and no answer for 2 s" in line for line in lines))
+        for address, name in (("localhost:4170", "Usage"), ("127.0.0.1:0", "Usage"), ("192.0.2.7:4170", "Socket")):
+            status, lines = self.why(store, address)
+            self.assertTrue(lines[-1].startswith(f"a start now would end with {name}: address: "), lines)
+
+    def test_a_coordinator_with_another_store(self) -> None:
+        self.server.ring(2)
+        status, lines = self.why(self.put(FRESH), self.server.address)
+        self.assertEqual(status, 1)
+        self.assertTrue(any(line.startswith("a server that runs meets a loss: answer: that is not the store on this file")
+                            for line in lines))
+
+
+@unittest.skipUnless(PROGRAM, "RESETD names no program to compare with")
+class BesideTheProgram(Case):
+    """The word that it foretells is the one of the program."""
+
+    is_real = True
+
+    def foretold(self, path: str, address: str) -> str:
+        last = self.run_words("why", path, address)[1].splitlines()
+        told = [line for line in last if line.startswith("a start now would end with ")]
+        return told[0].split()[6].rstrip(":") if told else ""
+
+    def ended(self, path: str, address: str) -> str:
+        """The word with which a start ends; nothing where it listens."""
+        with subprocess.Popen([PROGRAM, "serve", path, address], stdout=subprocess.PIPE, stderr=subprocess.PIPE,
+                              encoding="utf-8") as process:
+            assert process.stdout and process.stderr
+            listens = process.stdout.readline()
+            process.kill()
+            return "" if listens else process.stderr.read().split()[1]
+
+    def test_each_start(self) -> None:
+        assert isinstance(self.server, Real)
+        self.server.ring(2)
+        os.mkfifo(f"{self.folder}/fifo")
+        for name, data in (("good", FRESH), ("empty", b""), ("cut", APPENDED[:50]), ("text", b"something else than a store"),
+                           ("later", FRESH[:17] + b"\3" + FRESH[18:]), ("batch", APPENDED[:48] + b"\7" + APPENDED[49:])):
+            with open(f"{self.folder}/{name}", "wb") as file:
+                file.write(data)
+        free = f"127.0.0.1:{free_port()}"
+        for path in ("good", "empty", "cut", "text", "later", "batch", "fifo", ".", "none", "none/store", self.server.store):
+            place = os.path.join(self.folder, path)
+            self.assertEqual(self.foretold(place, free), self.ended(place, free), path)
+        for address in ("localhost:4170", "127.0.0.1", "192.0.2.7:4170", self.server.behind):
+            self.assertEqual(self.foretold(f"{self.folder}/good", address), self.ended(f"{self.folder}/good", address), address)
+
+    def test_a_store_that_is_served(self) -> None:
+        assert isinstance(self.server, Real) and self.server.process
+        self.server.ring(2)
+        _, out, _ = self.run_words("why", self.server.store, self.server.behind)
+        self.assertIn(f"held by process {self.server.process.pid} ({PROGRAM} serve {self.server.store} 127.0.0.1:0)", out)
+        self.assertIn("a coordinator with 2 nodes and 3 steps on the disk", out)
+        self.assertNotIn("that is not the store on this file", out)
+
+    def test_a_file_that_was_cut_under_its_server(self) -> None:
+        assert isinstance(self.server, Real)
+        self.server.ring(2)
+        self.server.reset(1)
+        os.truncate(self.server.store, 100)
+        self.assertIn("that is not the store on this file", self.run_words("why", self.server.store, self.server.behind)[1])
+
+
+def free_port() -> int:
+    with socket.create_server(("127.0.0.1", 0)) as listener:
+        port: int = listener.getsockname()[1]
+        return port

@@ -1,0 +1,13 @@
+use Rattle.std.proofs.Common.{◌≡◌, ℕ, List, [], ◌++◌, take}
+use Rattle.coord_admin.specs.declared.answer.Answer.{Answer}
+use Rattle.coord_admin.specs.Replies.{reply_lines}
+use Rattle.coord_admin.specs.Stream.{AreWritten}
+use Rattle.coord_admin.proofs.writing.write_answers.Given as goal
+
+-- what was written so far, and the text behind it, are the lines of the answers so far
+abbrev pub invariant-loop-answer : goal.invariant-loop-answer
+invariant-loop-answer g l =
+    (out : List ℕ) × (told : List Answer)
+    × AreWritten (take l.answer-index l.answers) told
+    × g.C.Duplex.exchanged l.fn.connection [] out l.connection
+    × (reply_lines told ≡ out ++ l.text.items)

@@ -1,0 +1,25 @@
+-- The times that a client is waited for (docs/OPERATING.md names them).
+use Rattle.std.specs.Prelude.{◌≡◌, ℕ, ◌*◌}
+use Rattle.std.specs.Duration.{as_nanos}
+use Rattle.coord_admin.specs.declared.patience.Patience.{Patience}
+use Rattle.coord_admin.specs.declared.patience.TheConstants.{ACCEPT_TRIES, DISCARD_READS}
+
+abbrev pub seconds : ℕ → ℕ
+seconds n = n * 1000000000
+
+abbrev pub milliseconds : ℕ → ℕ
+milliseconds n = n * 1000000
+
+-- the times of a server: of a line, of a reply, between two lines, of a connection, behind a close, and between two tries to accept
+pub record IsUsual (p : Patience) : Type 0 where
+  pub line : as_nanos p.line ≡ seconds 10
+  pub reply : as_nanos p.reply ≡ seconds 10
+  pub silence : as_nanos p.silence ≡ seconds 15
+  pub connection : as_nanos p.connection ≡ seconds 600
+  pub discard : as_nanos p.discard ≡ seconds 1
+  pub accept_rest : as_nanos p.accept_rest ≡ milliseconds 100
+
+-- how often it is tried again to accept, and how many reads of 512 bytes are made behind a close
+pub record CountsAreUsual : Type 0 where
+  pub tries : ACCEPT_TRIES ≡ 100
+  pub reads : DISCARD_READS ≡ 128

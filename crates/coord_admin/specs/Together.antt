@@ -1,0 +1,57 @@
+-- Orders that are posted one behind the other before the first of them has its reply, and then replied in turn.
+use Rattle.std.specs.Prelude.{◌≡◌, ◌≤◌, Bool, true, false, List, [], ◌∷◌, length, map, Result, Ok}
+use Rattle.coord_types.specs.declared.limits.TheConstants.{MAX_BATCH_STEPS}
+use Rattle.coord_types.specs.declared.refusals.Refusal.{Refusal}
+use Rattle.coord_types.specs.declared.steps.Reply.{Reply}
+use Rattle.coord_lines.specs.Lines.{Line}
+use Rattle.coord_admin.specs.declared.request.Request.{Request}
+use Rattle.coord_admin.specs.declared.request.Request.TheVariants.{Order}
+use Rattle.coord_admin.specs.declared.answer.Answer.{Answer}
+use Rattle.coord_admin.specs.Requests.{asked_by}
+use Rattle.coord_admin.specs.Replies.{order_answer}
+
+abbrev pub is_order : Request → Bool
+is_order (Order client number command) = true
+is_order request = false
+
+-- the lines ask for these orders
+abbrev pub AskFor : List Line → List Request → Type 0
+AskFor [] [] = Unit {0}
+AskFor (line ∷ lines) (order ∷ orders) = (asked_by line ≡ Ok order) × (is_order order ≡ true) × AskFor lines orders
+AskFor lines orders = ⊥
+
+-- the lines are orders that were posted together: no more than a flight takes
+abbrev pub ArePosted : List Line → Type 0
+ArePosted lines = (length lines ≤ MAX_BATCH_STEPS) × ((orders : List Request) × AskFor lines orders)
+
+-- a desk was asked one request after the other
+abbrev pub AllAnswered : {D : Type 0} → (D → Request → Answer → D → Type 0) → D → List Request → List Answer → D → Type 0
+AllAnswered answers d [] [] e = e ≡ d
+AllAnswered {D} answers d (request ∷ requests) (a ∷ told) e = (f : D) × answers d request a f × AllAnswered answers f requests told e
+AllAnswered answers d requests told e = ⊥
+
+-- `posts d r p e`: the desk d may post the order r as p, and then is e
+module _ {D P : Type 0} (posts : D → Request → P → D → Type 0) where
+  -- orders were posted, one behind the other
+  abbrev pub AllPosted : D → List Request → List P → D → Type 0
+  AllPosted d [] [] e = e ≡ d
+  AllPosted d (order ∷ orders) (p ∷ posted) e = (f : D) × posts d order p f × AllPosted f orders posted e
+  AllPosted d orders posted e = ⊥
+
+  -- the orders of these lines were posted, and none has its reply
+  abbrev pub AwaitReplies : D → List Line → List P → D → Type 0
+  AwaitReplies d lines posted e = (orders : List Request) × AskFor lines orders × AllPosted d orders posted e
+
+-- `replies d p r e`: the desk d may reply r to what was posted as p, and then is e
+module _ {D P : Type 0} (replies : D → P → Result Reply Refusal → D → Type 0) where
+  -- what was posted was replied to, each in turn
+  abbrev pub AllReplied : D → List P → List (Result Reply Refusal) → D → Type 0
+  AllReplied d [] [] e = e ≡ d
+  AllReplied d (p ∷ posted) (r ∷ results) e = (f : D) × replies d p r f × AllReplied f posted results e
+  AllReplied d posted results e = ⊥
+
+-- orders that were posted together and replied in turn were answered as by a desk that was asked one after the other
+abbrev pub AnswersInTurn : {D P : Type 0} → (D → Request → Answer → D → Type 0) → (D → Request → P → D → Type 0) → (D → P → Result Reply Refusal → D → Type 0) → Type 0
+AnswersInTurn {D} {P} answers posts replies =
+    (d e f : D) (orders : List Request) (posted : List P) (results : List (Result Reply Refusal))
+    → AllPosted posts d orders posted e → AllReplied replies e posted results f → AllAnswered answers d orders (map order_answer results) f

@@ -1,0 +1,62 @@
+//! What follows a failure to accept.
+
+ghost use Rattle.std.specs.Prelude.{◌≡◌};
+ghost use Rattle.std.specs.IoError.{error_kind, raw_os_error};
+ghost use Rattle.coord_admin.specs.Accepting.{failure_in, failure_of, failure_of_kind, failure_of_number, numbered};
+
+use std::io::{Error, ErrorKind};
+
+/// What a failure to accept asks for.
+#[derive(Clone, Copy, Debug, PartialEq, Eq)]
+pub enum Failure {
+    /// A connection has failed before it was accepted. The next one is waited for.
+    OfClient,
+    /// Files or memory were short. It may pass.
+    OfMeans,
+    /// The listener is of no use any more.
+    OfListener,
+}
+
+impl Failure {
+    /// By the error's number, where the system has given it one, and else by its kind.
+    pub fn of(error: &Error) -> Self
+        ensures { result ≡ failure_of (raw_os_error error.now) (error_kind error.now) }
+    {
+        match error.raw_os_error() {
+            Some(code) => Failure::of_number(code),
+            None => Failure::of_kind(error.kind()),
+        }
+    }
+
+    fn of_number(code: i32) -> Self
+        ensures { result ≡ failure_of_number code }
+    {
+        if code < 0 {
+            return Failure::OfListener;
+        }
+        numbered(code.unsigned_abs())
+    }
+
+    fn of_kind(kind: ErrorKind) -> Self
+        ensures { result ≡ failure_of_kind kind }
+    {
+        match kind {
+            ErrorKind::ConnectionAborted | ErrorKind::ConnectionReset | ErrorKind::Interrupted => {
+                Failure::OfClient
+            }
+            ErrorKind::OutOfMemory => Failure::OfMeans,
+            _ => Failure::OfListener,
+        }
+    }
+}
+
+/// By the numbers of Linux.
+fn numbered(code: u32) -> Failure
+    ensures { result ≡ failure_in numbered code }
+{
+    match code {
+        1 | 4 | 64 | 71 | 92 | 95 | 100 | 101 | 103 | 104 | 112 | 113 => Failure::OfClient,
+        12 | 23 | 24 | 105 => Failure::OfMeans,
+        _ => Failure::OfListener,
+    }
+}

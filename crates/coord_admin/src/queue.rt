@@ -1,0 +1,135 @@
+//! Orders that were posted and wait for their replies.
+
+ghost use Rattle.std.specs.Prelude.{◌≡◌, ◌+◌, ◌<◌, ◌≤◌, ◌++◌, ◌∷◌, true, [], List, ℕ, map, IfOk, OnErr, OnOk, Result, vec_capacity, vec_len};
+ghost use Rattle.std.specs.VecDeque.{deque_capacity, deque_len};
+ghost use Rattle.coord_lines.specs.Lines.{Line};
+ghost use Rattle.coord_types.specs.declared.limits.TheConstants.{MAX_BATCH_STEPS};
+ghost use Rattle.coord_types.specs.declared.refusals.Refusal.{Refusal};
+ghost use Rattle.coord_types.specs.declared.steps.Reply.{Reply};
+ghost use Rattle.coord_admin.specs.declared.answer.Answer.{Answer};
+ghost use Rattle.coord_admin.specs.Replies.{order_answer, reply_lines};
+ghost use Rattle.coord_admin.specs.Stream.{AllGet, BreaksOff, GoesOn};
+ghost use Rattle.coord_admin.specs.Together.{AllReplied, AwaitReplies, is_order};
+
+use crate::answer::Answer;
+use crate::asking::order_answer;
+use crate::desk::Desk;
+use crate::duplex::{Duplex, NotWritten};
+use crate::request::Request;
+use crate::writing::write_answers;
+use coord_types::MAX_BATCH_STEPS;
+use std::alloc::{AllocError, Global};
+use std::collections::VecDeque;
+
+/// Orders that were posted and have no replies yet, no more than a flight takes. It takes its memory
+/// when it is made.
+pub struct Queue<D: Desk> {
+    pub(crate) posted: VecDeque<D::Posted>,
+    /// Room for their answers. It is empty but while they are written.
+    answers: Vec<Answer>,
+    ghost few: { deque_len posted ≤ MAX_BATCH_STEPS },
+    ghost has_room: { (MAX_BATCH_STEPS ≤ deque_capacity posted) ×
+        (MAX_BATCH_STEPS ≤ vec_capacity answers) × (vec_len answers ≡ 0) },
+}
+
+impl<D: Desk> Queue<D> {
+    /// Without an order.
+    pub fn new(alloc: Global) -> Result<Self, AllocError>
+        ensures { IfOk result (λ queue. queue.posted.items ≡ []) }
+    {
+        let answers = Vec::with_capacity(alloc, MAX_BATCH_STEPS)?;
+        let posted = VecDeque::with_capacity(alloc, MAX_BATCH_STEPS)?;
+        Ok(Queue { posted, answers })
+    }
+
+    /// Is let go.
+    pub fn destroy(self)
+        requires { self.posted.items ≡ [] }
+    {
+        let Queue { posted, answers } = self;
+        drop(answers);
+        posted.destroy_empty();
+    }
+
+    /// Posts an order.
+    pub fn post(&mut self, desk: &mut D, order: Request)
+        requires room { deque_len self.old.posted < MAX_BATCH_STEPS }
+        requires order { is_order order ≡ true }
+        ensures { (p : D.Posted) × D.posts desk.old order p desk.new ×
+            (self.new.posted.items ≡ self.old.posted.items ++ p ∷ []) }
+    {
+        match order {
+            Request::Order(client, number, command) => {
+                let posted = desk.post(client, number, command);
+                self.posted.push_back_reserved(posted);
+            }
+            _ => unreachable!(),
+        }
+    }
+
+    /// Answers all where they are as many as a flight takes.
+    pub fn make_room<C: Duplex>(
+        &mut self,
+        alloc: Global,
+        connection: &mut C,
+        desk: &mut D,
+    ) -> Result<(), NotWritten>
+        ensures made { OnOk result (deque_len self.new.posted < MAX_BATCH_STEPS) }
+        ensures whole { OnOk result ((d : D) (lines : List Line) →
+            AwaitReplies D.posts d lines self.old.posted.items desk.old → (told : List Answer)
+            × GoesOn D.answers D.posts d lines told self.new.posted.items desk.new
+            × C.exchanged connection.old [] (reply_lines told) connection.new) }
+        ensures part { OnErr result ((d : D) (lines : List Line) →
+            AwaitReplies D.posts d lines self.old.posted.items desk.old → (part : List ℕ)
+            × C.exchanged connection.old [] part connection.new
+            × ((left : List Line) → BreaksOff D.answers d (lines ++ left) part desk.new)) }
+        ensures empty { OnErr result (self.new.posted.items ≡ []) }
+    {
+        if self.posted.len() < MAX_BATCH_STEPS {
+            return Ok(());
+        }
+        self.answer_all(alloc, connection, desk)
+    }
+
+    /// Waits for the replies to all orders, in turn, and writes them. Where they can't be written,
+    /// all were waited for.
+    pub fn answer_all<C: Duplex>(
+        &mut self,
+        alloc: Global,
+        connection: &mut C,
+        desk: &mut D,
+    ) -> Result<(), NotWritten>
+        ensures whole { OnOk result ((d : D) (lines : List Line) →
+            AwaitReplies D.posts d lines self.old.posted.items desk.old → (told : List Answer)
+            × AllGet D.answers d lines told desk.new
+            × C.exchanged connection.old [] (reply_lines told) connection.new) }
+        ensures part { OnErr result ((d : D) (lines : List Line) →
+            AwaitReplies D.posts d lines self.old.posted.items desk.old → (part : List ℕ)
+            × C.exchanged connection.old [] part connection.new
+            × ((left : List Line) → BreaksOff D.answers d (lines ++ left) part desk.new)) }
+        ensures empty { self.new.posted.items ≡ [] }
+    {
+        if self.posted.is_empty() {
+            return Ok(());
+        }
+        reply_all(desk, &mut self.posted, &mut self.answers);
+        let written = write_answers(alloc, connection, &self.answers);
+        self.answers.clear();
+        written
+    }
+}
+
+/// Waits for the reply to each order, in turn.
+fn reply_all<D: Desk>(desk: &mut D, posted: &mut VecDeque<D::Posted>, answers: &mut Vec<Answer>)
+    requires { vec_len answers.old + deque_len posted.old ≤ vec_capacity answers.old }
+    ensures replied { (results : List (Result Reply Refusal))
+        × AllReplied D.replies desk.old posted.old.items results desk.new
+        × (answers.new.items ≡ answers.old.items ++ map order_answer results) }
+    ensures none_left { posted.new.items ≡ [] }
+    ensures room { deque_capacity posted.new ≡ deque_capacity posted.old }
+    ensures memory { vec_capacity answers.old ≤ vec_capacity answers.new }
+{
+    while let Some(order) = posted.pop_front() {
+        answers.push_reserved(order_answer(desk.reply(order)));
+    }
+}

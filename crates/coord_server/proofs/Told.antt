@@ -1,0 +1,61 @@
+-- What a reply, and what is left of a disk, tell of the steps of a life.
+use Rattle.std.proofs.Common.{◌≡◌, ◌⊎◌, ℕ, ◌+◌, ◌-◌, ◌≤◌, true, false, List, [], ◌∷◌, ◌++◌, Option, Some, None, Result, Ok, Err, length, take, is_some, refl, sym, ap, ◌∙◌, subst, inl, inr, arith, IfSome}
+use Rattle.coord_disk.specs.Model.Present.{IsImage, Present}
+use Rattle.coord_types.specs.declared.refusals.Refusal.{Refusal}
+use Rattle.coord_types.specs.declared.steps.Reply.{Reply}
+use Rattle.coord_types.specs.declared.steps.Step.{Step}
+use Rattle.coord_store.specs.Kept.{Kept, has_stopped}
+use Rattle.coord_store.specs.Recovered.{Recovered}
+use Rattle.coord_world.specs.Facade.{World, fold}
+use Rattle.coord_world.specs.declared.verdicts.Verdict.{Verdict}
+use Rattle.coord_world.specs.declared.verdicts.Verdict.TheVariants.{Fresh, Repeat}
+use Rattle.coord_ledger.specs.declared.ticket.Note.{Note}
+use Rattle.coord_ledger.specs.Facade.{Claim, LedgerGives, LedgerState, Log, GivesSettled as LogGives, reply_of, settled_world}
+use Rattle.coord_engine.specs.Facade.{AnswersStep, Basis, GuardedState, LedgerAndNotes, engine_verdict, note_of}
+use Rattle.coord_server.specs.EngineDesk.{Orders}
+use Rattle.coord_server.specs.Ending.{IsOneHistory}
+use Rattle.coord_server.specs.Told.{GivesSettled, LivesLeaveSteps, NamesItsStep, RepliesNameSteps}
+
+-- ---- replies
+
+named : {D : Type 0} (s : Step) (v : Result Verdict Refusal) (before after : LedgerAndNotes D) (claim : Claim) (reply : Reply) → reply ≡ reply_of claim → AnswersStep s v before (Ok claim) after → NamesItsStep s reply before.notes after.notes
+named s (Ok (Fresh kind)) before after claim reply is answer =
+    let what : claim.what ≡ s = ap (λ (c : Claim). c.what) answer.0 in
+    let note : note_of claim ≡ record { step = reply.step; what = s } = (λ i. record { step = (ap (λ (r : Reply). r.step) (sym is)) i; what = what i }) in
+    inl (ap (λ (x : LedgerAndNotes _). x.notes) answer.1 ∙ ap (λ n. before.notes ++ n ∷ []) note)
+named s (Ok (Repeat kept)) before after claim reply is answer = inr (ap (λ (x : LedgerAndNotes _). x.notes) answer.1)
+named s (Err why) before after claim reply is answer = absurd answer
+
+pub replies_name_steps : (D : Type 0) → RepliesNameSteps D
+replies_name_steps D b s reply before after (claim, accepted, collected) =
+    named s (engine_verdict accepted.state s) (record { ledger = accepted.state.ledger; notes = before }) (record { ledger = accepted.so.0; notes = after }) claim reply collected.so.0 accepted.so.1
+
+-- ---- disks
+
+of_disk : {D : Type 0} (o : Option D) (d : D) (P : D → Type 0) → o ≡ Some d → IfSome o P → P d
+of_disk o d P is so = subst (λ x. IfSome x P) is so
+
+gives : {D : Type 0} (store : Kept D) (base : World) (trail : List Step) (settled : ℕ) (log : Log) (doubt : Option ℕ) (image : List ℕ) → log.doubt ≡ doubt
+    → base ≡ log.base → trail ≡ log.trail → settled ≡ log.base.count + log.settled → store.world ≡ settled_world log → has_stopped store ≡ is_some log.doubt
+    → IfSome doubt (λ size. log.settled + size ≤ length log.trail) → LogGives log doubt image → GivesSettled store base trail settled image
+gives store base trail settled log None image at same_base same_trail counted world stopped fits is = inl (subst (Recovered image) (sym world) is)
+gives store base trail settled log (Some size) image at same_base same_trail counted world stopped fits (inl is) = inl (subst (Recovered image) (sym world) is)
+gives store base trail settled log (Some size) image at same_base same_trail counted world stopped fits (inr is) =
+    let count : base.count ≡ log.base.count = ap (λ (w : World). w.count) same_base in
+    let long : length trail ≡ length log.trail = ap length same_trail in
+    let place : log.settled + size ≡ settled - base.count + size = omega (arith, counted, count) in
+    let here : fold log.base (take (log.settled + size) log.trail) ≡ fold base (take (settled - base.count + size) trail) =
+    ap (λ n. fold log.base (take n log.trail)) place ∙ ap (λ (l : List Step). fold log.base (take (settled - base.count + size) l)) (sym same_trail) ∙ ap (λ (w : World). fold w (take (settled - base.count + size) trail)) (sym same_base) in
+    inr (size, stopped ∙ ap is_some at, omega (arith, counted, count, long, fits), subst (Recovered image) here is)
+
+fits_of : (log : Log) (doubt : Option ℕ) (P : ℕ → Type 0) → IfSome doubt (λ size. (1 ≤ size) × (log.settled + size ≤ length log.trail) × P size) → IfSome doubt (λ size. log.settled + size ≤ length log.trail)
+fits_of log None P is = tt
+fits_of log (Some size) P is = is.1
+
+pub lives_leave_steps : (D : Type 0) → LivesLeaveSteps D
+lives_leave_steps D b desk store base trail settled history keeps image is =
+    let g = history.closed.state in
+    let so = history.closed.so in
+    let held = history.closed.held in
+    let images : LedgerGives b.present g.ledger store.disk = of_disk g.ledger.disk store.disk (λ disk. b.keeps_model disk ≡ true → LedgerGives b.present g.ledger disk) so.4 held.images keeps in
+    gives store base trail settled g.ledger.log g.ledger.log.doubt image refl so.1 so.2 so.3 so.5 so.6 (fits_of g.ledger.log g.ledger.log.doubt (λ _. g.ledger.out ≡ None) held.doubt) (images image is)

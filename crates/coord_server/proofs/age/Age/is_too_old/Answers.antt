@@ -1,0 +1,9 @@
+use Rattle.std.proofs.Common.{◌≤◌, ◌/◌, arith}
+use Rattle.std.proofs.lemmas.Bool.Decides.{nat_tests}
+use Rattle.coord_server.proofs.age.Age.is_too_old.Goals as goal
+
+pub returns : goal.returns
+returns g c = λ old.
+    let kept = c.kept.ensures.so in
+    let le : c.args.self.now.most ≤ c.kept.result / 2 = grind (arith, nat_tests) in
+    record { state = c.kept.ensures.state; held = c.kept.ensures.held; so = omega (arith, le, kept) }

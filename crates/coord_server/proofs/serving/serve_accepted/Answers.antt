@@ -1,0 +1,30 @@
+use Rattle.std.proofs.Common.{◌≡◌, true, false, sym, subst}
+use Rattle.std.proofs.lemmas.Result.{IfOk-weaker}
+use Rattle.std.specs.Prelude.{⊤}
+use Rattle.coord_store.specs.Kept.{ImagesGive, has_stopped}
+use Rattle.coord_server.specs.Lives.{EndsOneHistory, HasLivedToClose}
+use Rattle.coord_server.proofs.Ends.{closed_lives, not_stopped, only_world}
+use Rattle.coord_server.proofs.serving.serve_accepted.Goals as goal
+
+pub returns-clause-lives : goal.returns-clause-lives
+returns-clause-lives g c =
+    let ended = c.in_ok-ended.ended in
+    IfOk-weaker c.closed_of.result _ _
+    (λ closed is. subst (λ k. HasLivedToClose g.D.Disk.keeps_model g.D.Disk.present c.args.store.world k.store k.base k.trail.items k.settled) (sym is.0)
+    (closed_lives g.D.Disk.keeps_model g.D.Disk.present (λ _ _ _. ⊤) (has_stopped ended.closed.store) ended.served ended.is_broken c.args.store.world c.args.callers ended.callers ended.closed.store ended.closed.base ended.closed.trail.items ended.closed.settled is.1 c.in_ok-ended.ensures.lives))
+    c.closed_of.ensures.closed
+
+pub returns-clause-images : goal.returns-clause-images
+returns-clause-images g c =
+    let ended = c.in_ok-ended.ended in
+    IfOk-weaker c.closed_of.result _ _
+    (λ closed is keeps.
+    only_world g.D.Disk.present closed.store (subst (λ k. has_stopped k.store ≡ false) (sym is.0) (not_stopped (has_stopped ended.closed.store) ended.served ended.is_broken is.1))
+    (subst (λ k. ImagesGive g.D.Disk.present k.store) (sym is.0) (c.in_ok-ended.ensures.images (subst (λ k. g.D.Disk.keeps_model k.store.disk ≡ true) is.0 keeps))))
+    c.closed_of.ensures.closed
+
+pub returns-clause-whole : goal.returns-clause-whole
+returns-clause-whole g c =
+    IfOk-weaker c.closed_of.result _ _
+    (λ closed is. subst (λ k. EndsOneHistory c.args.store.world k.store k.base k.trail.items k.settled) (sym is.0) c.in_ok-ended.ensures.whole)
+    c.closed_of.ensures.closed

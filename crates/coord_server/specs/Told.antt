@@ -1,0 +1,32 @@
+-- What a reply, and what is left of a disk, tell of the steps of a life.
+use Rattle.std.specs.Prelude.{◌≡◌, ◌⊎◌, ℕ, ◌+◌, ◌-◌, ◌≤◌, true, List, [], ◌∷◌, ◌++◌, Ok, length, take}
+use Rattle.coord_disk.specs.Model.Present.{IsImage}
+use Rattle.coord_types.specs.declared.steps.Reply.{Reply}
+use Rattle.coord_types.specs.declared.steps.Step.{Step}
+use Rattle.coord_store.specs.Kept.{Kept, has_stopped}
+use Rattle.coord_store.specs.Recovered.{Recovered}
+use Rattle.coord_world.specs.Facade.{World, fold}
+use Rattle.coord_ledger.specs.declared.ticket.Note.{Note}
+use Rattle.coord_engine.specs.State.{Basis}
+use Rattle.coord_server.specs.EngineDesk.{Orders}
+use Rattle.coord_server.specs.Ending.{IsOneHistory}
+
+-- an order that is told a reply was noted just then, with the number that it is told; or nothing was, since it repeats one
+abbrev pub NamesItsStep : Step → Reply → List Note → List Note → Type 0
+NamesItsStep s reply before after = (after ≡ before ++ record { step = reply.step; what = s } ∷ []) ⊎ (after ≡ before)
+
+-- so is each reply of a desk
+abbrev pub RepliesNameSteps : Type 0 → Type 0
+RepliesNameSteps D = (b : Basis D) (s : Step) (reply : Reply) (before after : List Note) → Orders b s (Ok reply) before after → NamesItsStep s reply before after
+
+-- these bytes give the world after the settled steps of a life; or after a stop that of those and the next ones, which were in doubt
+abbrev pub GivesSettled : {D : Type 0} → Kept D → World → List Step → ℕ → List ℕ → Type 0
+GivesSettled store base trail settled bytes =
+    Recovered bytes store.world
+    ⊎ ((size : ℕ) × (has_stopped store ≡ true) × (settled + size ≤ base.count + length trail) × Recovered bytes (fold base (take (settled - base.count + size) trail)))
+
+-- whatever a crash may leave of the disk of a life gives so
+abbrev pub LivesLeaveSteps : Type 0 → Type 0
+LivesLeaveSteps D =
+    (b : Basis D) (desk : List Note) (store : Kept D) (base : World) (trail : List Step) (settled : ℕ) → IsOneHistory b desk store base trail settled
+    → b.keeps_model store.disk ≡ true → (image : List ℕ) → IsImage (b.present store.disk) image → GivesSettled store base trail settled image

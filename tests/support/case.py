@@ -1,0 +1,63 @@
+"""A test with a scratch folder."""
+
+import os
+import shutil
+import tempfile
+import time
+import unittest
+
+from .program import PROGRAM, ROOT, ran
+
+OPTIONAL = "optional: "  # how the reason begins of what may be skipped in CI too
+
+
+def until(what, holds, seconds=120.0):
+    """Waits until something holds, and gives what it holds by. It is looked at often, so nothing waits on a clock."""
+    end = time.monotonic() + seconds
+    while not (found := holds()):
+        if time.monotonic() > end:
+            raise AssertionError(f"within {seconds} s {what} did not come")
+        time.sleep(0.005)
+    return found
+
+
+class Case(unittest.TestCase):
+    """`takes` is in about how many seconds: what takes longest begins first. `program` is what it runs, and `programs` are
+    the variables that name what has to be built for it."""
+
+    maxDiff = 2_000
+    takes = 1
+    program = PROGRAM
+    programs = ("RESETD",)
+
+    def setUp(self):
+        self.folder = tempfile.mkdtemp(prefix="resetd-test-")
+        self.addCleanup(shutil.rmtree, self.folder, ignore_errors=True)
+
+    def path(self, name):
+        return os.path.join(self.folder, name)
+
+    def write(self, name, text):
+        """Writes a file, and answers its path."""
+        with open(self.path(name), "wb") as file:
+            file.write(text if isinstance(text, bytes) else text.encode())
+        return self.path(name)
+
+    def read(self, name):
+        with open(self.path(name), "rb") as file:
+            return file.read()
+
+    def made(self, topology, name="store"):
+        """Makes a store of a topology, and answers its path."""
+        ended = ran("init", self.path(name), self.write(f"{name}.toml", topology), program=self.program)
+        self.assertEqual((ended.status, ended.told), (0, ""))
+        return self.path(name)
+
+    def needs(self, what, has, is_optional=False):
+        """What a test can't do without: where it lacks, the test is skipped, which fails in CI unless it is optional."""
+        if not has:
+            self.skipTest(f"{OPTIONAL if is_optional else ''}it needs {what}")
+
+
+def tool(name):
+    return os.path.join(ROOT, "tools", name)

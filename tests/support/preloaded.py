@@ -1,0 +1,106 @@
+"""A library that stands ahead of the C library in a program, and changes what a few calls of the system answer."""
+
+import shutil
+import subprocess
+
+SOURCE = r"""
+#define _GNU_SOURCE
+#include <errno.h>
+#include <fcntl.h>
+#include <stdio.h>
+#include <stdlib.h>
+#include <string.h>
+#include <sys/socket.h>
+#include <sys/syscall.h>
+#include <time.h>
+#include <unistd.h>
+static long setting(const char *name) { return getenv(name) ? atol(getenv(name)) : 0; }
+// Behind the first ACCEPT_AFTER clients, each further one comes only after ACCEPT_TIMES calls that fail with ACCEPT_ERROR.
+// What goes out to a client is kept by the system up to SEND_BUFFER bytes.
+int accept4(int socket, struct sockaddr *address, socklen_t *length, int flags) {
+    static long clients, failures;
+    if (clients >= setting("ACCEPT_AFTER") && failures < setting("ACCEPT_TIMES")) {
+        failures += 1;
+        errno = setting("ACCEPT_ERROR");
+        return -1;
+    }
+    int client = syscall(SYS_accept4, socket, address, length, flags);
+    if (client >= 0) {
+        int most = setting("SEND_BUFFER");
+        if (most) setsockopt(client, SOL_SOCKET, SO_SNDBUF, &most, sizeof most);
+        clients += 1;
+        failures = 0;
+    }
+    return client;
+}
+// The clock goes CLOCK_FACTOR times as fast, from the first look at it.
+int clock_gettime(clockid_t id, struct timespec *time) {
+    static long begun;
+    int status = syscall(SYS_clock_gettime, id, time);
+    if (id == CLOCK_MONOTONIC && setting("CLOCK_FACTOR") && status == 0) {
+        long now = time->tv_sec * 1000000000 + time->tv_nsec;
+        if (!begun) begun = now;
+        now = begun + (now - begun) * setting("CLOCK_FACTOR");
+        time->tv_sec = now / 1000000000;
+        time->tv_nsec = now % 1000000000;
+    }
+    return status;
+}
+// Calls of a device and what goes out are written down in the file CALLS, a line each: what is to be written before it is,
+// and a sync once it is over. So what stands before a line was done before what stands behind it.
+static void note(const char *call, int file, long place, const void *bytes, size_t count) {
+    static int calls;
+    if (!getenv("CALLS")) return;
+    if (!calls) calls = syscall(SYS_openat, AT_FDCWD, getenv("CALLS"), O_WRONLY | O_CREAT | O_APPEND, 0600);
+    char *line = malloc(2 * count + 80);
+    int length = sprintf(line, "%s %d %ld ", call, file, place);
+    for (size_t at = 0; at < count; at++) length += sprintf(line + length, "%02x", ((const unsigned char *)bytes)[at]);
+    line[length++] = '\n';
+    syscall(SYS_write, calls, line, length);
+    free(line);
+}
+ssize_t pwrite64(int file, const void *bytes, size_t count, off_t place) {
+    note("write", file, place, bytes, count);
+    return syscall(SYS_pwrite64, file, bytes, count, place);
+}
+ssize_t pwrite(int file, const void *bytes, size_t count, off_t place) { return pwrite64(file, bytes, count, place); }
+// A sync takes SYNC_MILLIS longer.
+static int synced(int number, int file) {
+    usleep(1000 * setting("SYNC_MILLIS"));
+    int status = syscall(number, file);
+    if (status == 0) note("sync", file, 0, "", 0);
+    return status;
+}
+int fsync(int file) { return synced(SYS_fsync, file); }
+int fdatasync(int file) { return synced(SYS_fdatasync, file); }
+ssize_t send(int socket, const void *bytes, size_t count, int flags) {
+    note("out", socket, 0, bytes, count);
+    return syscall(SYS_sendto, socket, bytes, count, flags, 0, 0);
+}
+ssize_t write(int file, const void *bytes, size_t count) {
+    note("out", file, 0, bytes, count);
+    return syscall(SYS_write, file, bytes, count);
+}
+// A read gives at most READ_MOST bytes.
+ssize_t read(int file, void *buffer, size_t count) {
+    size_t most = setting("READ_MOST");
+    return syscall(SYS_read, file, buffer, most && most < count ? most : count);
+}
+"""
+
+
+def has_compiler():
+    return shutil.which("cc") is not None
+
+
+def compiled(folder):
+    """The library, in this folder."""
+    with open(f"{folder}/preloaded.c", "w", encoding="ascii") as file:
+        file.write(SOURCE)
+    subprocess.run(["cc", "-O1", "-shared", "-fPIC", "-o", f"{folder}/preloaded.so", f"{folder}/preloaded.c"], check=True)
+    return f"{folder}/preloaded.so"
+
+
+def environment(folder, **settings):
+    """What a program's environment is to have, so that its calls are changed in this way."""
+    return {"LD_PRELOAD": compiled(folder), **{name: str(value) for name, value in settings.items()}}

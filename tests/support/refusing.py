@@ -1,0 +1,103 @@
+"""A program to which chosen allocations are refused.
+
+All that the program allocates goes through two functions of its runtime, `rattle_alloc` and `rattle_realloc`, which call
+those of the C library. A library that is loaded with the program leads these two calls to its own, which count, and refuse
+the allocations from one number on, as many as are named. The places of the two functions are read from the program's file.
+"""
+
+import os
+import struct
+import subprocess
+import sys
+
+from .program import ran
+
+SOURCE = r"""
+#define _GNU_SOURCE
+#include <dlfcn.h>
+#include <fcntl.h>
+#include <link.h>
+#include <stdlib.h>
+#include <string.h>
+#include <sys/mman.h>
+#include <unistd.h>
+static void *(*real_malloc)(size_t), *(*real_realloc)(void *, size_t);
+static long *calls, first, many;
+static long setting(const char *name) { return getenv(name) ? atol(getenv(name)) : 0; }
+static int refuses(void) {
+    long call = __atomic_add_fetch(calls, 1, __ATOMIC_SEQ_CST);
+    return first <= call && call < first + many;
+}
+static void *counted_malloc(size_t size) { return refuses() ? 0 : real_malloc(size); }
+static void *counted_realloc(void *kept, size_t size) { return refuses() ? 0 : real_realloc(kept, size); }
+static int first_object(struct dl_phdr_info *info, size_t size, void *base) {
+    *(unsigned char **)base = (unsigned char *)info->dlpi_addr;
+    return 1;
+}
+// Leads the one call in a function to a target, by a jump on a page of its own near the program.
+static void lead(unsigned char *function, void *target) {
+    unsigned char *call = memchr(function, 0xe8, 40), *page = (unsigned char *)((long)function & ~4095L), *jump = MAP_FAILED;
+    int all = PROT_READ | PROT_WRITE | PROT_EXEC, how = MAP_PRIVATE | MAP_ANONYMOUS | MAP_FIXED_NOREPLACE;
+    for (long far = 1 << 20; call && jump == MAP_FAILED && far < 1 << 30; far += 1 << 16)
+        jump = mmap(page - far, 4096, all, how, -1, 0);
+    if (jump == MAP_FAILED || mprotect(page, 8192, all)) _exit(99);
+    memcpy(jump, "\xff\x25\0\0\0\0", 6);
+    memcpy(jump + 6, &target, 8);
+    int distance = jump - (call + 5);
+    memcpy(call + 1, &distance, 4);
+    mprotect(page, 8192, PROT_READ | PROT_EXEC);
+}
+__attribute__((constructor)) static void begin(void) {
+    unsigned char *base = 0;
+    // the count stands in a file, since the program ends without a farewell
+    calls = mmap(0, sizeof *calls, PROT_READ | PROT_WRITE, MAP_SHARED, open(getenv("ALLOCATIONS"), O_RDWR), 0);
+    if (calls == MAP_FAILED) _exit(99);
+    first = setting("REFUSE_FIRST");
+    many = setting("REFUSE_MANY");
+    real_malloc = dlsym(RTLD_DEFAULT, "malloc");
+    real_realloc = dlsym(RTLD_DEFAULT, "realloc");
+    dl_iterate_phdr(first_object, &base);
+    lead(base + setting("ALLOC_AT"), counted_malloc);
+    lead(base + setting("REALLOC_AT"), counted_realloc);
+}
+"""
+
+
+def places(program, names):
+    """Where these functions stand in a program, by the table of names in its file."""
+    with open(program, "rb") as file:
+        text = file.read()
+    at, size, count = struct.unpack_from("<Q", text, 40)[0], *struct.unpack_from("<HH", text, 58)
+    sections = [struct.unpack_from("<IIQQQQIIQQ", text, at + size * each) for each in range(count)]
+    found = {}
+    for _, kind, _, _, offset, length, link, *_ in sections:
+        for place in range(offset, offset + length, 24) if kind == 2 else ():
+            name, _, _, _, value, _ = struct.unpack_from("<IBBHQQ", text, place)
+            begin = sections[link][4] + name
+            word = text[begin:text.index(b"\0", begin)].decode()
+            if word in names:
+                found[word] = value
+    return [found[name] for name in names]
+
+
+class Refusing:
+    """The library, for one program, in this folder."""
+
+    def __init__(self, program, folder):
+        self.program, self.folder = program, folder
+        self.alloc, self.realloc = places(program, ["rattle_alloc", "rattle_realloc"])
+        with open(f"{folder}/refusing.c", "w", encoding="ascii") as file:
+            file.write(SOURCE)
+        subprocess.run(["cc", "-O1", "-shared", "-fPIC", "-o", f"{folder}/refusing.so", f"{folder}/refusing.c"], check=True)
+
+    def ran(self, *words, first=0, many=1, **how):
+        """Runs the program, so many of whose allocations are refused from this number on: how it ended, and how many
+        allocations it asked for."""
+        settings = {"REFUSE_FIRST": first, "REFUSE_MANY": many, "ALLOC_AT": self.alloc, "REALLOC_AT": self.realloc,
+                    "ALLOCATIONS": f"{self.folder}/allocations", "LD_PRELOAD": f"{self.folder}/refusing.so"}
+        with open(f"{self.folder}/allocations", "wb") as file:
+            file.write(bytes(8))
+        environment = {**os.environ, **{name: str(value) for name, value in settings.items()}}
+        ended = ran(*words, program=self.program, env=environment, **how)
+        with open(f"{self.folder}/allocations", "rb") as file:
+            return ended, int.from_bytes(file.read(), sys.byteorder)

@@ -1,0 +1,33 @@
+"""What is looked for in what a server has printed, and how its answers look."""
+
+from .case import Case
+
+DONE, STARTED, FINISHED, JOINED = "done", "started", "finished", "joined"
+
+
+def answered(kind, step):
+    return {"kind": kind, "step": step}
+
+
+def refused(number, name):
+    return {"name": name, "refused": number}
+
+
+def expected_signals(shown):
+    return {(row[0], epoch) for row in shown["nodes"] for epoch in range(1, row[4] + 1)}
+
+
+class Served(Case):
+    def expect_each_signal_once(self, server):
+        """As many signals as the epochs say, each once, those of a node in the order of its epochs."""
+        shown = server.show()
+        wanted = expected_signals(shown)
+        signals = server.await_signals(len(wanted))
+        self.assertEqual((len(signals), set(signals)), (len(wanted), wanted))
+        for row in shown["nodes"]:
+            self.assertEqual([epoch for node, epoch in signals if node == row[0]], list(range(1, row[4] + 1)))
+
+    def expect_closed(self, server, signals):
+        """The server ends in order, having printed its first line and so many signals."""
+        ended = server.close()
+        self.assertEqual((ended.status, ended.told, len(ended.printed.splitlines())), (0, "", 1 + signals))

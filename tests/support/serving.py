@@ -1,0 +1,137 @@
+"""A server over a store, and the connections to it."""
+
+import json
+import os
+import socket
+import subprocess
+
+from .case import until
+from .program import PATIENCE, PROGRAM, Ended
+
+
+class Connection:
+    """A connection of a client."""
+
+    def __init__(self, address, buffer=None):
+        host, port = address.rsplit(":", 1)
+        self.socket = socket.socket()
+        if buffer:
+            self.socket.setsockopt(socket.SOL_SOCKET, socket.SO_RCVBUF, buffer)
+        self.socket.settimeout(PATIENCE)
+        self.socket.connect((host, int(port)))
+        self.came = b""
+
+    def send(self, *requests):
+        self.socket.sendall(b"".join(map(spelled, requests)))
+
+    def line(self):
+        """The next line, as it came: nothing where the server has ended the connection."""
+        while b"\n" not in self.came:
+            if not (more := self.socket.recv(65_536)):
+                return b""
+            self.came += more
+        line, self.came = self.came.split(b"\n", 1)
+        return line + b"\n"
+
+    def reply(self):
+        return json.loads(self.line())
+
+    def rest(self):
+        """All lines up to the end of the connection. One that is torn off raises ConnectionResetError."""
+        lines = []
+        while line := self.line():
+            lines.append(line)
+        return lines
+
+    def __enter__(self):
+        return self
+
+    def __exit__(self, *_):
+        self.socket.close()
+
+
+def spelled(request):
+    return request if isinstance(request, bytes) else json.dumps(request).encode() + b"\n"
+
+
+class Serving:
+    """`resetd serve` over a store, whose output goes to a file. It is killed at the end, unless it has ended."""
+
+    def __init__(self, store, program=None, address="127.0.0.1:0", env=None, before=(), **how):
+        self.store, self.output = store, f"{store}.signals"
+        with open(self.output, "ab") as output, open(f"{store}.errors", "wb") as errors:
+            self.begin = output.tell()
+            self.process = subprocess.Popen(
+                [*before, program or PROGRAM, "serve", store, address], stdin=subprocess.DEVNULL,
+                **{"stdout": output, "stderr": errors, "env": {**os.environ, **(env or {})}, **how})
+
+    def __enter__(self):
+        try:
+            self.address = until("a first line", self.first_line).removeprefix("listening ")
+        except BaseException:
+            self.kill()
+            raise
+        return self
+
+    def __exit__(self, *_):
+        self.kill()
+
+    def first_line(self):
+        if not (lines := self.lines()) and self.process.poll() is not None:
+            raise AssertionError(f"the server ended before its first line: {self.ended()}")
+        return lines[0] if lines else None
+
+    def lines(self):
+        """The whole lines that it has printed."""
+        with open(self.output, "rb") as file:
+            file.seek(self.begin)
+            return file.read().decode().split("\n")[:-1]
+
+    def signals(self):
+        """The node and the epoch of each signal that it has printed."""
+        return [tuple(map(int, line.split()[1:])) for line in self.lines() if line.startswith("signal ")]
+
+    def await_signals(self, count):
+        """So many signals, or more, once they are printed."""
+        return until(f"signal {count}", lambda: len(found := self.signals()) >= count and found)
+
+    def connect(self, buffer=None):
+        return Connection(self.address, buffer)
+
+    def ask(self, request):
+        """The answer to one request, over a connection of its own."""
+        with self.connect() as connection:
+            connection.send(request)
+            return connection.reply()
+
+    def order(self, number, op, client=1, **members):
+        return self.ask({"op": op, "client": client, "number": number, **members})
+
+    def show(self):
+        return self.ask({"op": "show"})
+
+    def await_quiet(self, epoch=None):
+        """Waits until each node is ready, in this epoch where one is given, with nothing on its way."""
+        def quiet():
+            rows = self.show()["nodes"]
+            return all(row[2] == "ready" and row[4] == (row[4] if epoch is None else epoch) for row in rows) and \
+                self.ask({"op": "resend"}) == {"count": 0, "kind": "resent"}
+        until(f"the end of a reset, epoch {epoch}", quiet)
+
+    def close(self):
+        """Ends it in order: how it ended."""
+        answer = self.ask({"op": "close"})
+        if answer != {"kind": "closed"}:
+            raise AssertionError(f"a close was answered {answer}")
+        return self.ended()
+
+    def ended(self, seconds=PATIENCE):
+        """Waits for its end: its status, what it printed, and its fault."""
+        status = self.process.wait(timeout=seconds)
+        with open(f"{self.store}.errors", encoding="utf-8") as errors:
+            return Ended(status, "".join(f"{line}\n" for line in self.lines()), errors.read())
+
+    def kill(self):
+        if self.process.poll() is None:
+            self.process.kill()
+        self.process.wait()

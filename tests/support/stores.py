@@ -1,0 +1,79 @@
+"""Stores and topologies as bytes, by docs/FORMATS.md."""
+
+HALF = 32_768
+HEADER = 17
+READY, ABORT, CONVERGE = 0, 1, 2
+NO_LANE = (0, 0, ())
+# Messages of a queue, in version 1 and as those of version 2 that carry no distance.
+ACK, IS_READY = b"\1", b"\2"
+
+
+def wide(number):
+    return number.to_bytes(8, "big")
+
+
+def topology(nodes, links=(), half=None):
+    """The text of a topology: nodes as (id, group), links as (a, b)."""
+    return "".join([f"half = {half}\n" if half else "",
+                    *(f"[[node]]\nid = {node}\ngroup = {group}\n" for node, group in nodes),
+                    *(f"[[link]]\na = {a}\nb = {b}\n" for a, b in links)])
+
+
+def ring(nodes, half=HALF):
+    """The text of a ring of so many nodes of one group."""
+    return topology([(node, 1) for node in range(1, nodes + 1)],
+                    [(node, node % nodes + 1) for node in range(1, nodes + 1)], half)
+
+
+def node(number, mode=READY, parent=0, awaits=(), epoch=0, confirmed=0, distance=0, version=1):
+    """The row of a node of group 1."""
+    awaited = sum(1 << other - 1 for other in awaits)
+    row = bytes([number, 1, mode, parent]) + wide(awaited) + wide(epoch) + wide(confirmed)
+    return row + (wide(distance) if version == 2 else b"")
+
+
+def abort(distance=0, version=1):
+    return b"\0" + (wide(distance) if version == 2 else b"")
+
+
+def lane(base, got, queue):
+    return wide(base) + wide(got) + bytes([len(queue)]) + b"".join(queue)
+
+
+def link(a, b, incarnation, there=NO_LANE, back=NO_LANE):
+    """The row of a link: its lane from a to b, and the one back, each as (base, got, queue)."""
+    return bytes([a, b]) + wide(incarnation) + lane(*there) + lane(*back)
+
+
+def world(count, nodes, links=()):
+    """A world of so many steps and no client."""
+    return wide(count) + bytes([len(nodes)]) + b"".join(nodes) + bytes([len(links)]) + b"".join(links) + b"\0"
+
+
+EMPTY_WORLD = world(0, [])
+
+
+def add(node, client=1, number=1):
+    """An order of a client that adds a node to group 1."""
+    return b"\0" + bytes([client]) + wide(number) + bytes([0, node, 1])
+
+
+def batch(first, *steps):
+    """The body of a batch."""
+    return wide(first) + len(steps).to_bytes(2, "big") + b"".join(steps)
+
+
+def store(snapshot=EMPTY_WORLD, version=1, bodies=(), half=HALF):
+    """A store whose first half has a snapshot and the bodies of batches."""
+    text = bytes([version]) + len(snapshot).to_bytes(4, "big") + snapshot
+    for body in bodies:
+        text += b"\1" + len(body).to_bytes(4, "big") + body
+    return b"\0ACRRESET" + wide(half) + text + b"\0"
+
+
+def version_of(path):
+    """The version of the half that a store selects."""
+    with open(path, "rb") as file:
+        selector, half = file.read(1)[0], int.from_bytes(file.read(16)[8:], "big")
+        file.seek(HEADER + selector % 2 * half)
+        return file.read(1)[0]

@@ -1,0 +1,72 @@
+"""What stands behind a close: it is discarded, so that the client can read the answer, and holds up no end."""
+
+import socket
+import threading
+import time
+
+from support.case import Case
+from support.serving import Serving
+from support.stores import topology
+
+DISCARD = 1  # for how many seconds it is discarded
+LATE = 10  # seconds by which a busy machine may be late
+
+
+class BehindAClose(Case):
+    takes = 6
+
+    def test_further_lines_are_discarded(self):
+        for behind in (b'{"op":"show"}\n', b'{"op":"show"}\n' * 2_000, b" " * 40_000):
+            with self.subTest(behind=len(behind)), Serving(self.made(topology([(1, 1)]), f"store{len(behind)}")) as server, \
+                    server.connect() as connection:
+                connection.send(b'{"op":"close"}\n' + behind)
+                # a connection that is torn off raises here
+                self.assertEqual(connection.rest(), [b'{"kind":"closed"}\n'])
+                connection.socket.close()
+                self.assertEqual((server.ended().status, server.ended().told), (0, ""))
+
+    def test_lines_that_come_later_are_discarded(self):
+        with Serving(self.made(topology([(1, 1)]))) as server, server.connect() as connection:
+            connection.send({"op": "close"})
+            time.sleep(0.2)
+            connection.send(b'{"op":"show"}\n' * 100)
+            self.assertEqual(connection.rest(), [b'{"kind":"closed"}\n'])
+            connection.socket.close()
+            self.assertEqual(server.ended().status, 0)
+
+    def test_a_client_that_stays_holds_up_no_end(self):
+        with Serving(self.made(topology([(1, 1)]))) as server, server.connect() as connection:
+            connection.send({"op": "close"})
+            self.assertEqual(connection.line(), b'{"kind":"closed"}\n')
+            begun = time.monotonic()
+            self.assertEqual(server.ended().status, 0)
+            self.assertLess(time.monotonic() - begun, DISCARD + LATE)
+
+    def test_a_client_that_sends_on_holds_up_no_end(self):
+        with Serving(self.made(topology([(1, 1)]))) as server, server.connect() as connection:
+            connection.send({"op": "close"})
+            self.assertEqual(connection.line(), b'{"kind":"closed"}\n')
+            sender = threading.Thread(target=self.send_on, args=[connection], daemon=True)
+            begun = time.monotonic()
+            sender.start()
+            self.assertEqual(server.ended().status, 0)
+            self.assertLess(time.monotonic() - begun, DISCARD + LATE)
+            sender.join(30)
+
+    @staticmethod
+    def send_on(connection):
+        """A few bytes at a time, without an end."""
+        try:
+            for _ in range(3_000):
+                connection.socket.send(b"x")
+                time.sleep(0.005)
+        except OSError:
+            pass
+
+    def test_a_client_that_has_left(self):
+        with Serving(self.made(topology([(1, 1)]))) as server:
+            with server.connect() as connection:
+                connection.send({"op": "close"})
+                self.assertEqual(connection.line(), b'{"kind":"closed"}\n')
+                connection.socket.setsockopt(socket.SOL_SOCKET, socket.SO_LINGER, b"\1\0\0\0\0\0\0\0")
+            self.assertEqual((server.ended().status, server.ended().told), (0, ""))

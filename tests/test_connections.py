@@ -1,0 +1,104 @@
+"""Clients that come in great numbers, that leave too early, or half."""
+
+import socket
+import threading
+
+from support.case import Case
+from support.serving import Serving
+from support.stores import ring, topology
+
+RESENT = {"count": 0, "kind": "resent"}
+GONE_AT_ONCE = b"\1\0\0\0\0\0\0\0"  # of SO_LINGER: a close resets the connection
+
+
+class Connections(Case):
+    takes = 8
+
+    def serving(self):
+        return Serving(self.made(topology([(1, 1)])))
+
+    def test_two_hundred_one_after_the_other(self):
+        with self.serving() as server:
+            for number in range(1, 201):
+                self.assertEqual(server.order(number, "reset", node=1), {"kind": "finished", "step": number + 1})
+            self.assertEqual(server.await_signals(200), [(1, epoch) for epoch in range(1, 201)])
+            self.assertEqual(server.close().status, 0)
+
+    def test_two_hundred_at_once(self):
+        """Each has its answer, in whatever order they are served."""
+        with self.serving() as server:
+            answers, lock = [], threading.Lock()
+
+            def call(number):
+                answer = server.ask({"op": "resend"}) if number > 1 else server.order(1, "reset", node=1)
+                with lock:
+                    answers.append(answer)
+
+            callers = [threading.Thread(target=call, args=[number]) for number in range(1, 201)]
+            for caller in callers:
+                caller.start()
+            for caller in callers:
+                caller.join()
+            self.assertEqual(len(answers), 200)
+            self.assertEqual([answer for answer in answers if answer != RESENT], [{"kind": "finished", "step": 2}])
+            self.assertEqual(server.close().status, 0)
+
+    def test_clients_that_left_before_they_were_served(self):
+        """Some have sent a line, of which nobody can say whether it was carried out; the next one has its turn."""
+        with self.serving() as server:
+            with server.connect() as first:
+                first.send({"op": "show"})
+                first.line()
+                for number in range(60):
+                    with server.connect() as other:
+                        other.send(*[{"op": "resend"}] * (number % 3))
+                        if number % 2:
+                            other.socket.setsockopt(socket.SOL_SOCKET, socket.SO_LINGER, GONE_AT_ONCE)
+            self.assertEqual(server.ask({"op": "resend"}), RESENT)
+            self.assertEqual(server.close().status, 0)
+
+    def test_a_client_that_says_it_sends_no_more(self):
+        """It still has all its answers, and then the connection ends."""
+        with self.serving() as server, server.connect() as connection:
+            connection.send({"op": "resend"}, {"op": "resend"}, b'{"op":"sh')
+            connection.socket.shutdown(socket.SHUT_WR)
+            resent = b'{"count":0,"kind":"resent"}\n'
+            self.assertEqual(connection.rest(), [resent, resent, b'{"fault":"Unfinished"}\n'])
+
+    def test_a_client_that_sends_nothing_and_says_so(self):
+        with self.serving() as server:
+            for _ in range(20):
+                with server.connect() as connection:
+                    connection.socket.shutdown(socket.SHUT_WR)
+                    self.assertEqual(connection.rest(), [])
+
+    def test_an_order_of_a_client_that_left_is_kept(self):
+        """It had no answer; sent again, it has the answer of its one step."""
+        with Serving(self.made(ring(8))) as server:
+            for number in range(1, 11):
+                with server.connect() as connection:
+                    connection.send({"op": "reset", "client": 3, "number": number, "node": 1})
+                    connection.socket.shutdown(socket.SHUT_RD)
+                first = server.order(number, "reset", 3, node=1)
+                self.assertIn(first["kind"], ("started", "joined"))
+                self.assertEqual(server.order(number, "reset", 3, node=1), first)
+            server.await_quiet()
+
+    def test_many_lines_of_one_connection(self):
+        """A thousand that are sent before the first answer is read: the answers come in their order."""
+        with self.serving() as server, server.connect() as connection:
+            sent = [{"op": "reset", "client": 1, "number": number, "node": 1} for number in range(1, 1_001)]
+            sender = threading.Thread(target=connection.send, args=sent)
+            sender.start()
+            self.assertEqual([connection.reply()["step"] for _ in sent], list(range(2, 1_002)))
+            sender.join()
+
+    def test_a_second_connection_after_each_kind_of_end(self):
+        """Behind a line that is too long, one that is cut, and one that was reset."""
+        with self.serving() as server:
+            for last in (b"x" * 600 + b"\n", b"x" * 600, b'{"op":"resend"}', b"\xff\xff\n", b"\0" * 5_000):
+                with server.connect() as connection:
+                    connection.send(last)
+                    connection.socket.shutdown(socket.SHUT_WR)
+                    connection.rest()
+                self.assertEqual(server.ask({"op": "resend"}), RESENT)

@@ -1,0 +1,131 @@
+"""What the device has at each moment: an answer and a signal go out only once their step is there for good.
+
+The calls of the program are written down as it serves. From them this makes what a power cut may leave at a moment: all
+that was synced, and of what was written since any first part. Each such file has to be a legal store with every step that
+was answered, or whose signal was printed, before that moment.
+"""
+
+import random
+import re
+
+from support import preloaded, stores
+from support.case import Case
+from support.program import ran
+from support.serving import Serving
+from support.stores import topology
+
+STEP = re.compile(rb'"step":(\d+)\}\n')
+SIGNAL = re.compile(rb"^signal 1 (\d+)\n")
+
+
+class Device:
+    """A file as the calls have it: what is synced, and the writes since."""
+
+    def __init__(self, content):
+        self.synced, self.since = bytearray(content), []
+
+    def write(self, place, text):
+        self.since.append((place, text))
+
+    def sync(self):
+        for place, text in self.since:
+            put(self.synced, place, text)
+        self.since = []
+
+    def images(self):
+        """What a power cut may leave: of each write since the last sync nothing, a part or all, in every mixture."""
+        images = [bytes(self.synced)]
+        for place, text in self.since:
+            parts = {0, 1, len(text) // 2, len(text) - 1, len(text)}
+            images = [with_part(before, place, text[:part]) for before in images for part in sorted(parts)]
+        return images
+
+
+def put(content, place, text):
+    content.extend(bytes(max(0, place + len(text) - len(content))))
+    content[place:place + len(text)] = text
+
+
+def with_part(before, place, text):
+    content = bytearray(before)
+    if text:
+        put(content, place, text)
+    return bytes(content)
+
+
+def calls_of(path):
+    """The calls that were written down: of each its name, its file, its place and its bytes."""
+    with open(path, encoding="ascii") as file:
+        for line in file:
+            name, descriptor, place, text = line.rstrip("\n").split(" ")
+            yield name, int(descriptor), int(place), bytes.fromhex(text)
+
+
+class Moments(Case):
+    takes = 60
+
+    def setUp(self):
+        super().setUp()
+        self.needs("a C compiler", preloaded.has_compiler())
+
+    def moments(self, before, calls):
+        """After each call that changes something: the device, and the greatest step that was answered so far."""
+        device, answered, store = Device(before), 1, None
+        for name, descriptor, place, text in calls:
+            if name == "write":
+                store = descriptor
+                device.write(place, text)
+            elif name == "sync" and descriptor == store:
+                device.sync()
+            elif name == "out":
+                steps = [int(step) for step in STEP.findall(text)] + [int(epoch) + 1 for epoch in SIGNAL.findall(text)]
+                answered = max([answered, *steps])
+            yield name, place, device, answered
+
+    def expect_kept(self, image, answered):
+        """A file that a power cut left has all that was answered."""
+        ended = ran("check", self.write("left", image))
+        self.assertEqual((ended.status, ended.told), (0, ""), ended.printed)
+        self.assertGreaterEqual(int(ended.printed.split()[1]), answered)
+
+    def served(self, first, last):
+        """Serves resets of one node, from one number to another: the store before, and the calls."""
+        store, calls = self.made(topology([(1, 1)], half=stores.HALF)), self.path("calls")
+        self.reset(store, range(1, first), at_once=50)
+        before = self.read("store")
+        self.reset(store, range(first, last + 1), env=preloaded.environment(self.folder, CALLS=calls))
+        return before, list(calls_of(calls))
+
+    def reset(self, store, numbers, at_once=1, **how):
+        with Serving(store, **how) as server:
+            with server.connect() as connection:
+                for first in range(numbers.start, numbers.stop, at_once):
+                    each = range(first, min(first + at_once, numbers.stop))
+                    connection.send(*({"op": "reset", "client": 1, "number": number, "node": 1} for number in each))
+                    self.assertEqual([connection.reply()["step"] for _ in each], [1 + number for number in each])
+            self.assertEqual(server.close().status, 0)
+
+    def test_each_moment_of_a_few_orders(self):
+        before, calls = self.served(1, 6)
+        seen = set()
+        for name, _, device, answered in self.moments(before, calls):
+            for image in device.images():
+                self.expect_kept(image, answered)
+            seen.add((name, answered))
+        self.assertLessEqual({("out", step) for step in range(2, 8)}, seen)
+        self.assertEqual(ran("check", self.path("left")).printed, "legal 7\n")
+
+    def test_moments_of_many_orders_and_checkpoints(self):
+        """All moments of two checkpoints, which move the journal to the other half and back, and some of the others."""
+        choice, selectors, near = random.Random(1), [], 0
+        before, calls = self.served(1_150, 2_450)
+        for name, place, device, answered in self.moments(before, calls):
+            if name == "write" and place == 0:
+                selectors.append(device.since[-1][1])
+            if name == "write" and (place == 0 or len(device.since[-1][1]) > 60):
+                near = 6
+            near -= 1
+            if near > 0 or choice.random() < 0.004:
+                for image in device.images():
+                    self.expect_kept(image, answered)
+        self.assertEqual((selectors, answered), ([b"\1", b"\0"], 2_451))

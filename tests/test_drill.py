@@ -1,0 +1,104 @@
+"""The drill over the program's own standard input: the worked runs, and runs that are longer than they."""
+
+import glob
+import os
+import subprocess
+
+from support.case import Case
+from support.program import PATIENCE, PROGRAM, Ended, ran
+
+RUNS = os.path.join(os.path.dirname(os.path.abspath(__file__)), "drill")
+
+
+def drilled(text):
+    return ran("drill", given=text.encode())
+
+
+class WorkedRuns(Case):
+    """Each text of the folder drill: what is read, and what is printed for it."""
+
+    def runs(self):
+        for path in sorted(glob.glob(f"{RUNS}/*.in")):
+            with open(path, "rb") as given, open(path.removesuffix(".in") + ".out", "rb") as wanted:
+                yield os.path.basename(path), given.read(), wanted.read()
+
+    def test_each_is_printed(self):
+        count = 0
+        for name, given, wanted in self.runs():
+            with self.subTest(run=name):
+                self.assertEqual(ran("drill", given=given), Ended(0, wanted.decode(), ""))
+                count += 1
+        self.assertGreater(count, 20)
+
+    def test_input_in_pieces(self):
+        """An answer comes before the end of the input: each line is answered as it is read."""
+        for name, given, wanted in self.runs():
+            with self.subTest(run=name):
+                drill = subprocess.Popen([PROGRAM, "drill"], stdin=subprocess.PIPE, stdout=subprocess.PIPE)
+                printed = b""
+                for line in given.splitlines(keepends=True)[:40]:
+                    for piece in (line[:3], line[3:]):
+                        drill.stdin.write(piece)
+                        drill.stdin.flush()
+                drill.stdin.write(b"".join(given.splitlines(keepends=True)[40:]))
+                printed += drill.communicate(timeout=PATIENCE)[0]
+                self.assertEqual((drill.returncode, printed.decode()), (0, wanted.decode()))
+
+    def test_an_answer_does_not_wait_for_the_next_line(self):
+        with subprocess.Popen([PROGRAM, "drill"], stdin=subprocess.PIPE, stdout=subprocess.PIPE) as drill:
+            for line, answer in ((b"add 1 1\n", b"done 1\n"), (b"reset 1\n", b"finished 2\n"), (b"", b"signal 1 1\n")):
+                drill.stdin.write(line)
+                drill.stdin.flush()
+                self.assertEqual(drill.stdout.readline(), answer)
+            drill.stdin.close()
+            self.assertEqual(drill.wait(PATIENCE), 0)
+
+
+class LongRuns(Case):
+    def test_a_crash_after_many_steps(self):
+        """Every step that was settled is there again, far beyond a thousand."""
+        for count in (1_002, 3_000):
+            text = "add 1 1\n" + "reset 1\n" * (count - 1) + "crash\n" + "reset 1\ncheck\nshow\n"
+            wanted = "done 1\n" + "".join(f"finished {step}\nsignal 1 {step - 1}\n" for step in range(2, count + 1))
+            wanted += f"opened {count}\nfinished {count + 1}\nsignal 1 {count}\nlegal\n"
+            wanted += f"view {count + 1} {count + 1}\nnode 1 1 ready 0 {count} 0\n"
+            self.assertEqual(drilled(text), Ended(0, wanted, ""))
+
+    def test_a_second_epoch_and_a_second_crash(self):
+        text = "add 1 1\nadd 2 1\njoin 1 2\n"
+        wanted = "done 1\ndone 2\ndone 3\n"
+        step, number = 3, 0
+        for epoch in range(1, 41):
+            # abort to 2, ack back, ready to 2; each is taken and cleared
+            text += "reset 1\ntake 1 2\nclear 1 2\ntake 2 1\nclear 2 1\ntake 1 2\nclear 1 2\ncrash\n"
+            there, back = number * 2 + 1, number + 1
+            wanted += f"started {step + 1}\ndata 1 2 {there} abort\n"
+            wanted += f"taken {step + 2}\nreceipt 1 2 {there}\ndata 2 1 {back} ack\n"
+            wanted += f"cleared {step + 3}\n"
+            wanted += f"taken {step + 4}\nreceipt 2 1 {back}\nsignal 1 {epoch}\ndata 1 2 {there + 1} ready\n"
+            wanted += f"cleared {step + 5}\n"
+            wanted += f"taken {step + 6}\nreceipt 1 2 {there + 1}\nsignal 2 {epoch}\n"
+            wanted += f"cleared {step + 7}\nopened {step + 7}\n"
+            step, number = step + 7, number + 1
+        self.assertEqual(drilled(text), Ended(0, wanted, ""))
+
+    def test_a_last_line_without_its_end(self):
+        self.assertEqual(drilled("add 1 1\nadd 2 1"), Ended(0, "done 1\ndone 2\n", ""))
+
+    def test_lines_that_are_bad(self):
+        """They are counted from 1, skipped ones too."""
+        bad = ["add 1", "add  1 1", " add 1 1", "add 1 1 ", "add 1 1\r", "fly", "add 65 1", "#" * 513]
+        text = "".join(f"{line}\n" for line in ["# a comment", "", *bad]) + "#" * 512
+        self.assertEqual(drilled(text), Ended(0, "".join(f"bad line {line}\n" for line in range(3, 11)), ""))
+        self.assertEqual(ran("drill", given=b"\xff\nadd 1 1\n"), Ended(0, "bad line 1\ndone 1\n", ""))
+
+    def test_no_input(self):
+        """Standard input that is closed can't be read."""
+        done = subprocess.run(["sh", "-c", 'exec "$0" drill <&-', PROGRAM], capture_output=True, timeout=PATIENCE)
+        self.assertEqual(Ended(done.returncode, done.stdout.decode(), done.stderr.decode()), Ended(3, "", "resetd: Read\n"))
+
+    def test_an_input_that_is_a_folder(self):
+        folder = os.open(self.folder, os.O_RDONLY)
+        self.addCleanup(os.close, folder)
+        done = subprocess.run([PROGRAM, "drill"], stdin=folder, capture_output=True, timeout=PATIENCE)
+        self.assertEqual((done.returncode, done.stdout, done.stderr), (3, b"", b"resetd: Read\n"))

@@ -1,0 +1,97 @@
+"""How a server ends by what others do: signals, a second server on its file or at its address."""
+
+import os
+import signal
+
+from support import stores
+from support.case import Case
+from support.program import Ended, faulted, ran
+from support.serving import Serving
+from support.stores import ring, topology
+
+SERVED_ALREADY = faulted(3, "Device")
+
+
+class Ends(Case):
+    takes = 5
+
+    def test_a_signal_ends_it_as_a_crash_does(self):
+        """In the midst of a reset too: the next start goes on, and no node is signalled twice."""
+        store = self.made(ring(8))
+        for number, each in enumerate((signal.SIGTERM, signal.SIGKILL, signal.SIGTERM, signal.SIGINT), 1):
+            with Serving(store) as server:
+                self.assertEqual(server.order(number, "reset", node=1)["kind"], "started")
+                server.process.send_signal(each)
+                self.assertEqual((server.ended().status, server.ended().told), (-each, ""))
+                first = server.signals()
+            self.assertEqual(ran("check", store).status, 0)
+            with Serving(store) as server:
+                server.await_quiet(number)
+                self.assertEqual(server.order(number, "reset", node=1)["kind"], "started")
+                self.assertEqual(len(set(first) & set(server.signals())), 0)
+                self.assertEqual(server.close().status, 0)
+
+    def test_two_servers_on_one_file(self):
+        """The second one says Device, and the first one goes on."""
+        store = self.made(topology([(1, 1)]))
+        with Serving(store) as server:
+            for number in (1, 2):
+                self.assertEqual(ran("serve", store, "127.0.0.1:0"), SERVED_ALREADY)
+                self.assertEqual(ran("migrate", store), SERVED_ALREADY)
+                self.assertEqual(ran("init", store, f"{store}.toml"), SERVED_ALREADY)
+                self.assertEqual(server.order(number, "reset", node=1), {"kind": "finished", "step": 1 + number})
+                # these take no lock
+                self.assertEqual(ran("check", store), Ended(0, f"legal {1 + number}\n", ""))
+                self.assertEqual(ran("show", store).status, 0)
+            self.assertEqual(server.close().status, 0)
+        with Serving(store) as server:
+            self.assertEqual(server.order(3, "reset", node=1), {"kind": "finished", "step": 4})
+
+    def test_two_servers_at_one_address(self):
+        """The second one says Socket, and has written nothing."""
+        with Serving(self.made(topology([(1, 1)]))) as server:
+            other = self.made(topology([(2, 2)]), "other")
+            before = self.read("other")
+            self.assertEqual(ran("serve", other, server.address), faulted(3, "Socket"))
+            self.assertEqual(self.read("other"), before)
+            # FILE is judged before the socket
+            self.assertEqual(ran("serve", self.write("no", "no store at all, no"), server.address), faulted(1, "NoMagic"))
+            self.assertEqual(server.close().status, 0)
+
+    def test_an_address_of_another_machine(self):
+        store = self.made(topology([(1, 1)]))
+        self.assertEqual(ran("serve", store, "192.0.2.1:4170"), faulted(3, "Socket"))
+
+    def test_the_address_that_is_named(self):
+        """It can be had again at once by the next start."""
+        store = self.made(topology([(1, 1)]))
+        with Serving(store) as server:
+            address = server.address
+            self.assertNotEqual(address, "127.0.0.1:0")
+            server.ask({"op": "show"})
+            server.kill()
+        for number in range(1, 4):
+            with Serving(store, address=address) as server:
+                self.assertEqual(server.address, address)
+                self.assertEqual(server.order(number, "reset", node=1), {"kind": "finished", "step": 1 + number})
+                self.assertEqual(server.close().status, 0)
+
+    def test_a_device_that_fails(self):
+        """A limit on the size of the file: each later order and `show` is Stopped, and the close ends with Device."""
+        store = self.made(topology([(1, 1)], half=stores.HALF))
+        most = os.path.getsize(store) + 300
+        limit = ["sh", "-c", f'trap "" XFSZ; exec prlimit --fsize={most} "$@"', "sh"]
+        with Serving(store, before=limit) as server:
+            answers = [server.order(number, "reset", node=1) for number in range(1, 40)]
+            done = [answer for answer in answers if "kind" in answer]
+            stopped = {"name": "Stopped", "refused": 1}
+            self.assertEqual(answers, done + [stopped] * (len(answers) - len(done)))
+            self.assertGreater(len(answers), len(done))
+            self.assertEqual((server.show(), server.order(1, "reset", node=1)), (stopped, stopped))
+            self.assertEqual(server.ask({"op": "resend"}), {"count": 0, "kind": "resent"})
+            ended = server.close()
+            self.assertEqual((ended.status, ended.told), (3, "resetd: Device\n"))
+        with Serving(store) as server:
+            shown = server.show()
+            self.assertGreaterEqual(shown["accepted"], 1 + len(done))
+            self.assertEqual(server.order(len(done), "reset", node=1), done[-1])

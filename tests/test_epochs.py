@@ -1,0 +1,101 @@
+"""Resets through many epochs: every signal once and in order, far beyond the first ones."""
+
+import os
+
+from support import stores
+from support.program import Ended, ran
+from support.served import FINISHED, JOINED, STARTED, Served, answered
+from support.serving import Serving
+from support.stores import ring, topology
+
+
+class Epochs(Served):
+    takes = 20
+
+    def test_a_ring_of_8_through_20_epochs(self):
+        """One wave after the other, each begun at another node."""
+        with Serving(self.made(ring(8))) as server:
+            for epoch in range(1, 21):
+                reply = server.order(epoch, "reset", node=(epoch * 3) % 8 + 1)
+                self.assertEqual(reply["kind"], STARTED)
+                server.await_quiet(epoch)
+                wave = server.await_signals(8 * epoch)[8 * (epoch - 1):]
+                self.assertEqual(sorted(wave), [(node, epoch) for node in range(1, 9)])
+                self.assertEqual(wave[0][0], (epoch * 3) % 8 + 1, "a wave's first node is signalled first")
+            self.expect_each_signal_once(server)
+            self.expect_closed(server, 8 * 20)
+
+    def test_the_links_of_high_nodes(self):
+        """A ring of 64, so every node has a worker that carries its packets."""
+        with Serving(self.made(ring(64))) as server:
+            for epoch in range(1, 5):
+                self.assertEqual(server.order(epoch, "reset", node=65 - epoch * 16)["kind"], STARTED)
+                server.await_quiet(epoch)
+            self.expect_each_signal_once(server)
+            self.expect_closed(server, 64 * 4)
+
+    def test_several_that_ask_at_once(self):
+        """Those that begin or join one wave: as many signals of each node as its epoch says."""
+        with Serving(self.made(ring(16))) as server:
+            for number in range(1, 11):
+                for client in range(1, 9):
+                    self.assertIn(server.order(number, "reset", client, node=2 * client)["kind"], (STARTED, JOINED))
+            server.await_quiet()
+            self.expect_each_signal_once(server)
+
+
+class ManySignals(Served):
+    takes = 15
+
+    def test_one_node_that_is_reset_a_thousand_times(self):
+        with Serving(self.made(topology([(64, 16)], half=stores.HALF))) as server, server.connect() as connection:
+            for first in range(1, 1_001, 50):
+                numbers = range(first, first + 50)
+                connection.send(*({"op": "reset", "client": 2, "number": number, "node": 64} for number in numbers))
+                for number in numbers:
+                    self.assertEqual(connection.reply(), answered(FINISHED, 1 + number))
+            self.assertEqual(server.await_signals(1_000), [(64, epoch) for epoch in range(1, 1_001)])
+            connection.send({"op": "close"})
+            self.assertEqual(connection.rest(), [b'{"kind":"closed"}\n'])
+            wanted = f"listening {server.address}\n" + "".join(f"signal 64 {epoch}\n" for epoch in range(1, 1_001))
+            self.assertEqual(server.ended(), Ended(0, wanted, ""))
+        self.assertEqual(ran("show", server.store).printed, "view 1001 1001\nnode 64 16 ready 0 1000 0\n")
+
+    def test_seven_hundred_waves_over_one_link(self):
+        """Packets far beyond the first ones of a link: each wave takes two of one lane and one of the other."""
+        waves = 700
+        with Serving(self.made(topology([(1, 1), (2, 1)], [(1, 2)], stores.HALF))) as server, server.connect() as connection:
+            for epoch in range(1, waves + 1):
+                connection.send({"op": "reset", "client": 1, "number": epoch, "node": epoch % 2 + 1})
+                self.assertEqual(connection.reply()["kind"], STARTED)
+                server.await_signals(2 * epoch)
+            connection.socket.close()
+            server.await_quiet(waves)
+            self.expect_each_signal_once(server)
+            self.expect_closed(server, 2 * waves)
+
+
+class ManySteps(Served):
+    takes = 100
+
+    def test_a_hundred_thousand_steps_in_one_life(self):
+        """Waves over as many links as there may be, asked for by all clients at once."""
+        links = [(node, (node + far - 1) % 64 + 1) for far in (1, 9) for node in range(1, 65)]
+        store = self.made(topology([(node, 1) for node in range(1, 65)], links, 1_048_576))
+        with Serving(store) as server:
+            server.await_quiet()
+            threads = os.listdir(f"/proc/{server.process.pid}/task")
+            number, steps = 0, 0
+            while steps < 110_000:
+                number += 1
+                with server.connect() as connection:
+                    nodes = {client: (7 * client + number) % 64 + 1 for client in range(1, 16)}
+                    connection.send(*({"op": "reset", "client": client, "number": number, "node": node}
+                                      for client, node in nodes.items()))
+                    self.assertLessEqual({connection.reply()["kind"] for _ in range(15)}, {STARTED, JOINED})
+                server.await_quiet()
+                steps = server.show()["accepted"]
+            self.assertEqual(os.listdir(f"/proc/{server.process.pid}/task"), threads)
+            self.expect_each_signal_once(server)
+            self.assertEqual(server.close().status, 0)
+        self.assertEqual(ran("check", store).printed, f"legal {steps}\n")

@@ -1,0 +1,106 @@
+"""`init`: the store that it makes, each fault of it, and what stands then."""
+
+import os
+
+from support import stores
+from support.case import Case
+from support.program import Ended, faulted, ran
+from support.stores import topology
+
+PAIR = topology([(1, 1), (2, 1)], [(1, 2)])
+REFUSED = [
+    ("6 UnknownNode", topology([(1, 1)], [(1, 2)])),
+    ("7 NodeExists", topology([(1, 1), (1, 2)])),
+    ("9 SameNode", topology([(64, 1)], [(64, 64)])),
+    ("10 OtherGroup", topology([(1, 1), (2, 16)], [(1, 2)])),
+    ("11 LinkExists", topology([(1, 1), (2, 1)], [(1, 2), (2, 1)])),
+    ("13 DegreeFull", topology([(node, 1) for node in range(1, 19)], [(1, node) for node in range(2, 19)])),
+    ("14 LinksFull", topology([(node, 1) for node in range(1, 65)],
+                              [(node, (node + far - 1) % 64 + 1) for far in (1, 2) for node in range(1, 65)] + [(1, 33)])),
+]
+UNREAD = [
+    ("NotToml", "nodes"), ("NotToml", b"\xff\xfe"), ("NotToml", "#" * 65_536 + "\n"),
+    ("NotToml", "half = 32768\nhalf = 32768\n"),
+    ("BadKey", "halves = 32768\n"), ("BadKey", "[[node]]\nid = 1\n"), ("BadKey", "[[node]]\nid = 1\ngroup = 1\nname = 1\n"),
+    ("BadKey", "[[link]]\na = 1\n"), ("BadKey", "[[link]]\na = 1\nc = 2\n"),
+    ("BadValue", "half = 32767\n"), ("BadValue", "half = 16777217\n"), ("BadValue", 'half = "32768"\n'),
+    ("BadValue", "node = 1\n"),
+    ("BadValue", topology([(0, 1)])), ("BadValue", topology([(65, 1)])), ("BadValue", topology([(1, 17)])),
+    ("BadValue", topology([(1, 0)])), ("BadValue", topology([], [(1, 65)])), ("BadValue", topology([], [(0, 1)])),
+    ("BadValue", "[[node]]\nid = 1.0\ngroup = 1\n"),
+]
+
+
+class Init(Case):
+    def init(self, text, name="store"):
+        return ran("init", self.path(name), self.write("topology", text))
+
+    def test_a_pair(self):
+        self.assertEqual(self.init(PAIR), Ended(0, "created 3\n", ""))
+        self.assertEqual(ran("check", self.path("store")), Ended(0, "legal 3\n", ""))
+        self.assertEqual(ran("show", self.path("store")),
+                         Ended(0, "view 3 3\nnode 1 1 ready 0 0 0\nnode 2 1 ready 0 0 0\nlink 1 2 3\n", ""))
+
+    def test_the_bytes_of_a_pair(self):
+        """An empty world of version 2 in the first half, and one batch behind it."""
+        self.assertEqual(self.init(topology([(7, 1)], half=40_000))[0], 0)
+        order = b"\0\x10" + stores.wide(1) + b"\0\7\1"
+        whole = stores.store(version=2, bodies=[stores.batch(1, order)], half=40_000)
+        self.assertEqual(self.read("store"), whole)
+
+    def test_the_usual_half(self):
+        self.assertEqual(self.init(topology([(1, 1)]))[0], 0)
+        self.assertEqual(self.read("store")[9:17], stores.wide(65_536))
+
+    def test_an_empty_topology(self):
+        self.assertEqual(self.init(""), Ended(0, "created 0\n", ""))
+        self.assertEqual(ran("show", self.path("store")), Ended(0, "view 0 0\n", ""))
+
+    def test_the_largest_network(self):
+        links = [(node, (node + far - 1) % 64 + 1) for far in (1, 2) for node in range(1, 65)]
+        self.assertEqual(self.init(topology([(node, 16) for node in range(1, 65)], links)),
+                         Ended(0, "created 192\n", ""))
+        self.assertEqual(ran("check", self.path("store")), Ended(0, "legal 192\n", ""))
+        shown = ran("show", self.path("store")).printed.splitlines()
+        self.assertEqual((len(shown), shown[64]), (1 + 64 + 128, "node 64 16 ready 0 0 0"))
+
+    def test_an_empty_file_is_filled(self):
+        self.write("store", "")
+        self.assertEqual(self.init(PAIR), Ended(0, "created 3\n", ""))
+
+    def test_refused_orders(self):
+        """An empty store is left."""
+        for number, (name, text) in enumerate(REFUSED):
+            with self.subTest(refusal=name):
+                self.assertEqual(self.init(text, f"store{number}"), faulted(1, name))
+                self.assertEqual(ran("check", self.path(f"store{number}")), Ended(0, "legal 0\n", ""))
+
+    def test_topologies_that_are_not_read(self):
+        """The file is not touched: it is not even made."""
+        for name, text in UNREAD:
+            with self.subTest(fault=name, text=text[:60]):
+                self.assertEqual(self.init(text), faulted(1, name))
+                self.assertFalse(os.path.exists(self.path("store")))
+
+    def test_a_file_that_holds_something(self):
+        for content in (b"\0", b"something else", stores.store()):
+            with self.subTest(content=content[:20]):
+                self.write("store", content)
+                self.assertEqual(self.init(PAIR), faulted(1, "NotEmpty"))
+                self.assertEqual(self.read("store"), content)
+
+    def test_a_topology_that_is_not_there(self):
+        for path in (self.path("none"), self.folder):
+            self.assertEqual(ran("init", self.path("store"), path), faulted(3, "Read"))
+        self.assertEqual(os.listdir(self.folder), [])
+
+    def test_a_file_that_can_not_be_made(self):
+        for path in (self.folder, self.path("none/store")):
+            self.assertEqual(ran("init", path, self.write("topology", PAIR)), faulted(3, "Device"))
+
+    def test_faults_in_their_order(self):
+        """The topology is judged before the file, and an order after it."""
+        self.write("store", "something")
+        self.assertEqual(self.init("halves = 1"), faulted(1, "BadKey"))
+        self.assertEqual(self.init(REFUSED[0][1]), faulted(1, "NotEmpty"))
+        self.assertEqual(ran("init", self.folder, self.path("none")), faulted(3, "Read"))

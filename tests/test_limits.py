@@ -1,0 +1,78 @@
+"""A server for which the system has few descriptors, or few threads."""
+
+import os
+import resource
+import subprocess
+
+from support import preloaded
+from support.case import Case, tool
+from support.program import PROGRAM, faulted, ran
+from support.serving import Serving
+from support.stores import topology
+
+
+class Descriptors(Case):
+    def test_none_is_left_for_a_while(self):
+        """A client waits, and is served once there is one again; twice."""
+        with Serving(self.made(topology([(1, 1)]))) as server:
+            usual = resource.prlimit(server.process.pid, resource.RLIMIT_NOFILE)
+            used = max(map(int, os.listdir(f"/proc/{server.process.pid}/fd"))) + 1
+            for _ in range(2):
+                resource.prlimit(server.process.pid, resource.RLIMIT_NOFILE, (used, usual[1]))
+                with self.unanswered(server) as connection:
+                    resource.prlimit(server.process.pid, resource.RLIMIT_NOFILE, usual)
+                    connection.socket.settimeout(30)
+                    self.assertEqual(connection.reply(), {"count": 0, "kind": "resent"})
+            self.assertEqual(server.close().status, 0)
+
+    def unanswered(self, server):
+        """A client that waits: the second one at the latest, since a call that waits for a client has its descriptor."""
+        for _ in range(2):
+            connection = server.connect()
+            connection.send({"op": "resend"})
+            connection.socket.settimeout(1)
+            try:
+                connection.line()
+                connection.socket.close()
+            except TimeoutError:
+                return connection
+        self.fail("a client was served without a descriptor")
+
+    def test_too_few_to_begin(self):
+        """It says which one it could not have, and leaves the store as it was."""
+        store, seen = self.made(topology([(1, 1)])), set()
+        before = self.read("store")
+        for most in range(4, 12):
+            words = ["prlimit", f"--nofile={most}", PROGRAM, "serve", store, "127.0.0.1:0"]
+            with subprocess.Popen(words, stdout=subprocess.PIPE, stderr=subprocess.PIPE) as server:
+                line = server.stdout.readline()
+                if line:
+                    server.kill()
+                told = server.stderr.read().decode()
+                server.wait()
+            with self.subTest(most=most):
+                self.assertIn((line[:10], told), [(b"listening ", ""), (b"", "resetd: Device\n"), (b"", "resetd: Socket\n")])
+            seen.add(told or line[:10])
+        self.assertEqual(seen, {b"listening ", "resetd: Device\n", "resetd: Socket\n"})
+        self.assertEqual((self.read("store"), ran("check", store).status), (before, 0))
+
+
+class Threads(Case):
+    takes = 20
+
+    def test_it_serves_with_all_of_them_or_not_at_all(self):
+        """tools/few_threads, as root."""
+        self.needs("root", os.geteuid() == 0)
+        done = subprocess.run([tool("few_threads"), PROGRAM], capture_output=True, text=True, timeout=160)
+        self.assertEqual((done.returncode, done.stderr), (0, ""), done.stdout)
+
+
+class Reads(Case):
+    takes = 60
+
+    def test_an_end_that_does_not_come(self):
+        """A drill reads 1,048,576 times, and no more."""
+        self.needs("a C compiler", preloaded.has_compiler())
+        environment = {**os.environ, **preloaded.environment(self.folder, READ_MOST=1)}
+        ended = ran("drill", given=b"\n" * 1_048_577, env=environment)
+        self.assertEqual(ended, faulted(3, "Turns"))

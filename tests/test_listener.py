@@ -1,0 +1,62 @@
+"""A listener that fails: what may pass is waited for, and what does not pass ends the server."""
+
+import errno
+import os
+
+from support import preloaded
+from support.case import Case
+from support.serving import Serving
+from support.stores import topology
+
+# accept(2): an error of the network that is already pending on the new socket is passed on, and is to be tried again.
+PASSES = ["ECONNABORTED", "EINTR", "EPROTO", "ENETDOWN", "ENOPROTOOPT", "EHOSTDOWN", "ENONET", "EHOSTUNREACH",
+          "ENETUNREACH", "EPERM", "EMFILE", "ENFILE", "ENOMEM", "ENOBUFS"]
+ENDS_IT = ["EBADF", "EINVAL", "ENOTSOCK", "EFAULT"]
+ALWAYS = 1_000_000_000
+
+
+class Listener(Case):
+    takes = 10
+
+    def setUp(self):
+        super().setUp()
+        self.needs("a C compiler", preloaded.has_compiler())
+
+    def serving(self, name, times, after=0):
+        settings = {"ACCEPT_ERROR": getattr(errno, name), "ACCEPT_TIMES": times, "ACCEPT_AFTER": after}
+        store = self.made(topology([(1, 1)]), f"store-{name}-{after}")
+        return Serving(store, env=preloaded.environment(self.folder, **settings))
+
+    def test_what_passes(self):
+        """Before each client it fails three times."""
+        for name in PASSES:
+            with self.subTest(error=name), self.serving(name, 3) as server:
+                for number in (1, 2, 3):
+                    self.assertEqual(server.order(number, "reset", node=1), {"kind": "finished", "step": 1 + number})
+                self.assertEqual(server.close().status, 0)
+
+    def test_what_does_not_pass(self):
+        """At once, or behind the first clients."""
+        for name in ENDS_IT:
+            for after in (0, 2):
+                with self.serving(name, ALWAYS, after) as server:
+                    for number in range(1, after + 1):
+                        self.assertEqual(server.order(number, "reset", node=1), {"kind": "finished", "step": 1 + number})
+                    ended = server.ended(60)
+                    self.assertEqual((name, ended.status, ended.told), (name, 3, "resetd: Socket\n"))
+                    signals = "".join(f"signal 1 {epoch}\n" for epoch in range(1, after + 1))
+                    self.assertEqual(ended.printed, f"listening {server.address}\n{signals}")
+
+    def test_what_lasts(self):
+        """It fails sixty times in turn, and the server does not spin meanwhile."""
+        for name in ("ENFILE", "EPROTO"):
+            with self.subTest(error=name), self.serving(name, 60) as server:
+                self.assertEqual(server.ask({"op": "resend"}), {"count": 0, "kind": "resent"})
+                self.assertLess(processor_seconds(server.process.pid), 3)
+
+
+def processor_seconds(process):
+    """What a process has used of the processors."""
+    with open(f"/proc/{process}/stat", encoding="ascii") as file:
+        words = file.read().rsplit(")", 1)[1].split()
+    return (int(words[11]) + int(words[12])) / os.sysconf("SC_CLK_TCK")

@@ -1,0 +1,100 @@
+"""A server whose lives end after 32 steps: nothing of what clients see changes with them."""
+
+import os
+import threading
+
+from support.program import SHORT, SHORT_STEPS
+from support.served import Served
+from support.serving import Serving
+from support.stores import ring, topology
+
+LIVES = 50
+MANY = 1_000  # lines, more than a life takes, and fewer bytes than are discarded behind its end
+FLUSHER = 2  # the third thread, in the order of their numbers: each life has its own
+
+
+class Lives(Served):
+    takes = 30
+    program = SHORT
+    programs = ("RESETD_SHORT",)
+
+    def flusher(self, server):
+        """The number of the present life's flusher."""
+        threads = sorted(map(int, os.listdir(f"/proc/{server.process.pid}/task")))
+        return threads[FLUSHER] if len(threads) > FLUSHER else None
+
+    def test_a_ring_through_fifty_lives(self):
+        """Lives are counted as they are seen; all signals come, once and in order."""
+        lives, epoch = set(), 0
+        with Serving(self.made(ring(8)), program=SHORT) as server:
+            while len(lives) < LIVES and epoch < 400:
+                epoch += 1
+                self.assertEqual(server.order(epoch, "reset", node=epoch % 8 + 1)["kind"], "started")
+                lives.add(self.flusher(server))
+                server.await_quiet(epoch)
+                lives.add(self.flusher(server))
+            self.assertGreaterEqual(len(lives), LIVES)
+            self.assertGreaterEqual(server.show()["accepted"], LIVES * SHORT_STEPS // 2)
+            self.expect_each_signal_once(server)
+            self.expect_closed(server, 8 * epoch)
+
+    def test_orders_are_answered_the_same_in_a_later_life(self):
+        with Serving(self.made(topology([(1, 1), (2, 1)])), program=SHORT) as server:
+            kept = [server.order(1, "reset", client, node=1) for client in range(2, 9)]
+            first = self.flusher(server)
+            for number in range(1, 200):
+                self.assertEqual(server.order(number, "reset", node=2), {"kind": "finished", "step": 9 + number})
+            self.assertNotEqual(self.flusher(server), first)
+            self.assertEqual([server.order(1, "reset", client, node=1) for client in range(2, 9)], kept)
+            wanted = [(1, epoch) for epoch in range(1, 8)] + [(2, epoch) for epoch in range(1, 200)]
+            self.assertEqual(server.await_signals(206), wanted)
+            self.expect_closed(server, 206)
+
+    def test_a_connection_that_stays_is_ended_behind_a_reply(self):
+        """Whatever it has sent, it reads all answers that were given, and the end; the rest is sent again."""
+        with Serving(self.made(topology([(1, 1)])), program=SHORT) as server:
+            answered, connections = 0, 0
+            while answered < 1_400:
+                connections += 1
+                with server.connect() as connection:
+                    connection.send(*({"op": "reset", "client": 1, "number": number, "node": 1}
+                                      for number in range(answered + 1, answered + MANY + 1)))
+                    lines = connection.rest()
+                self.assertLess(len(lines), MANY)
+                for line in lines:
+                    answered += 1
+                    self.assertEqual(line, b'{"kind":"finished","step":%d}\n' % (answered + 1))
+            self.assertGreater(connections, 1)
+            self.assertEqual(server.close().status, 0)
+            signals = server.signals()
+            self.assertGreaterEqual(len(signals), answered)
+            self.assertEqual(signals, [(1, epoch) for epoch in range(1, len(signals) + 1)])
+
+    def test_a_close_behind_many_lives(self):
+        """Its answer can be read though lines stand behind it, and all is settled."""
+        with Serving(self.made(topology([(1, 1)])), program=SHORT) as server:
+            for number in range(1, 101):
+                server.order(number, "reset", node=1)
+            with server.connect() as connection:
+                connection.send(b'{"op":"close"}\n' + b'{"op":"show"}\n' * 2_000)
+                self.assertEqual(connection.rest(), [b'{"kind":"closed"}\n'])
+            ended = server.ended()
+            self.assertEqual((ended.status, ended.told, len(ended.printed.splitlines())), (0, "", 101))
+
+    def test_two_clients_across_lives(self):
+        """Each waits for its turn, and each order is carried out once."""
+        with Serving(self.made(topology([(1, 1), (2, 2)])), program=SHORT) as server:
+            steps = {1: [], 2: []}
+
+            def orders(client):
+                for number in range(1, 101):
+                    steps[client].append(server.order(number, "reset", client, node=client)["step"])
+
+            callers = [threading.Thread(target=orders, args=[client]) for client in steps]
+            for caller in callers:
+                caller.start()
+            for caller in callers:
+                caller.join()
+            self.assertEqual(sorted(steps[1] + steps[2]), list(range(3, 203)))
+            self.assertEqual([sorted(each) == each for each in steps.values()], [True, True])
+            self.expect_each_signal_once(server)

@@ -1,0 +1,98 @@
+"""Commands of which each allocation in turn is refused: they end as with ample memory, or tell it and leave all as it was."""
+
+import os
+import re
+
+from support import preloaded, stores
+from support.case import Case
+from support.program import PROGRAM, Ended, faulted, ran
+from support.refusing import Refusing
+from support.stores import ABORT, batch, link, node, topology, world
+
+NO_MEMORY = faulted(4, "OutOfMemory")
+ALL = 10**9
+PAIR = topology([(1, 1), (2, 1)], [(1, 2)])
+IN_A_RESET = world(4, [node(1, ABORT, awaits=[2]), node(2)], [link(1, 2, 3, (0, 0, [stores.abort()]))])
+CHECKED = [faulted(1, "NoMagic"), Ended(0, "legal 0\n", ""), Ended(0, "legal 3\n", "")]
+# How an answer of a drill tells that its ledger lacked memory, or its disk, which is in memory and fails for nothing else.
+ENDS = [(0, ""), (4, "resetd: OutOfMemory\n"), (3, "resetd: Device\n")]
+LACKS = re.compile(r"^(no 2 OutOfMemory|commit 1 OutOfMemory|commit 2 Device)$", re.MULTILINE)
+VIOLATED = world(4, [node(64, ABORT)])
+
+
+class Memory(Case):
+    takes = 20
+
+    def setUp(self):
+        super().setUp()
+        self.needs("a C compiler", preloaded.has_compiler())
+        self.refusing = Refusing(PROGRAM, self.folder)
+
+    def each_refusal(self, words, prepare, given=b""):
+        """Runs a command with each of its allocations refused, alone or with all behind it: where that was, how it ends
+        with ample memory, and how it ended.
+
+        The words take many, the same each time: of those that a command without a file takes too, only some are refused."""
+        usual = self.refusing.ran("check", self.path("none/store"))[1]
+        prepare()
+        ample, count = self.refusing.ran(*words, given=given)
+        for first in range(1, count + 1):
+            for many in (1, ALL) if first > usual - 5 or first % 16 == 0 else ():
+                prepare()
+                ended, _ = self.refusing.ran(*words, first=first, many=many, given=given)
+                yield f"{words[0]}, {many} from {first} of {count}", ample, ended
+
+    def expect_unchanged(self, wanted, *words, content):
+        """The command ends as wanted, or for want of memory, and its file stays as it was."""
+        path, told = self.path("store"), 0
+        for where, ample, ended in self.each_refusal([words[0], path, *words[1:]], lambda: self.write("store", content)):
+            self.assertEqual(ample, wanted)
+            self.assertIn(ended, (wanted, NO_MEMORY), where)
+            self.assertEqual(self.read("store"), content, where)
+            told += ended == NO_MEMORY
+        self.assertGreater(told, 10)
+
+    def test_a_store_is_never_overwritten(self):
+        for content in (stores.store(bodies=[batch(1, stores.add(1))]), b"\0"):
+            self.expect_unchanged(faulted(1, "NotEmpty"), "init", self.write("topology", PAIR), content=content)
+
+    def test_what_only_reads(self):
+        content = stores.store(bodies=[batch(1, stores.add(1))])
+        self.expect_unchanged(Ended(0, "legal 1\n", ""), "check", content=content)
+        self.expect_unchanged(Ended(0, "view 1 1\nnode 1 1 ready 0 0 0\n", ""), "show", content=content)
+        self.expect_unchanged(Ended(1, "violated 64 64 N\n", ""), "check", content=stores.store(VIOLATED))
+
+    def test_a_migration_that_is_refused(self):
+        self.expect_unchanged(faulted(1, "NotQuiet 1"), "migrate", content=stores.store(IN_A_RESET))
+        self.expect_unchanged(faulted(1, "Violated"), "migrate", content=stores.store(VIOLATED))
+
+    def test_a_migration(self):
+        """The store has version 1, and is as it was, or version 2: then it may be that the line was not printed."""
+        content, path = stores.store(bodies=[batch(1, stores.add(1))]), self.path("store")
+        for where, ample, ended in self.each_refusal(["migrate", path], lambda: self.write("store", content)):
+            self.assertEqual(ample, Ended(0, "migrated 1\n", ""))
+            self.assertIn(ended, (ample, NO_MEMORY), where)
+            if stores.version_of(path) == 1:
+                self.assertEqual((ended, self.read("store")), (NO_MEMORY, content), where)
+            else:
+                self.assertEqual(ran("check", path), Ended(0, "legal 1\n", ""), where)
+
+    def test_a_store_that_is_made(self):
+        """None, an empty one, or a whole one, though its line may not be printed."""
+        store, words = self.path("store"), ["init", self.path("store"), self.write("topology", PAIR)]
+        for where, ample, ended in self.each_refusal(words, lambda: os.path.exists(store) and os.remove(store)):
+            self.assertEqual(ample, Ended(0, "created 3\n", ""))
+            self.assertIn(ended, (ample, NO_MEMORY), where)
+            if os.path.exists(store):
+                self.assertIn(ran("check", store), CHECKED[2 * (ended == ample):], where)
+
+    def test_a_drill(self):
+        """It prints a first part of what it prints with ample memory, in whole answers; or an answer tells what it lacks."""
+        with open(os.path.join(os.path.dirname(os.path.abspath(__file__)), "drill", "stored-run.in"), "rb") as file:
+            given = file.read()
+        for where, ample, ended in self.each_refusal(["drill"], lambda: None, given):
+            self.assertEqual(ample.status, 0)
+            self.assertIn((ended.status, ended.told), ENDS, where)
+            if not LACKS.search(ended.printed):
+                self.assertTrue(ample.printed.startswith(ended.printed), where)
+                self.assertEqual(ended.status == 0, ended.printed == ample.printed, where)

@@ -1,0 +1,51 @@
+"""Where output can't be written: `resetd: Write`, and what was done is done."""
+
+import subprocess
+
+from support import stores
+from support.case import Case
+from support.program import PATIENCE, PROGRAM, Ended, ran
+from support.stores import topology
+
+PAIR = topology([(1, 1), (2, 1)], [(1, 2)])
+LOST = (3, "resetd: Write\n")
+
+
+def by_shell(redirected, *words):
+    """Runs the program by a shell's redirections: its status, and its fault."""
+    done = subprocess.run(["sh", "-c", f'exec "$0" "$@" {redirected}', PROGRAM, *words], stdin=subprocess.DEVNULL,
+                          capture_output=True, timeout=PATIENCE)
+    return done.returncode, done.stderr.decode()
+
+
+class Unprinted(Case):
+    def test_every_command_says_so(self):
+        """With an output that is full, or closed."""
+        for redirected in (">/dev/full", ">&-"):
+            topology_path, store = self.write("topology", PAIR), self.path("store" + redirected[1:3].replace("/", "f"))
+            with self.subTest(output=redirected):
+                self.assertEqual(by_shell(redirected, "init", store, topology_path), LOST)
+                self.assertEqual(ran("check", store), Ended(0, "legal 3\n", ""))
+                for command in ("check", "show", "migrate"):
+                    self.assertEqual(by_shell(redirected, command, store), LOST)
+                self.assertEqual(by_shell(redirected, "serve", store, "127.0.0.1:0"), LOST)
+                self.assertEqual(ran("check", store), Ended(0, "legal 3\n", ""))
+
+    def test_a_migration_is_done_though_it_is_not_told(self):
+        path = self.write("store", stores.store())
+        self.assertEqual(by_shell(">/dev/full", "migrate", path), LOST)
+        self.assertEqual(stores.version_of(path), 2)
+
+    def test_a_drill_ends_where_it_can_not_print(self):
+        for redirected in (">/dev/full", ">&-"):
+            self.assertEqual(by_shell(f"{redirected} <{self.write('lines', 'add 1 1')}", "drill"), LOST)
+
+    def test_a_violation_that_is_not_printed(self):
+        path = self.write("store", stores.store(stores.world(4, [stores.node(64, stores.ABORT)])))
+        self.assertEqual(by_shell(">/dev/full", "check", path), LOST)
+
+    def test_a_fault_line_that_can_not_be_written(self):
+        """The status tells it."""
+        for redirected in ("2>/dev/full", "2>&-", ">&- 2>&-"):
+            self.assertEqual(by_shell(redirected, "check", self.path("none/store"))[0], 3)
+            self.assertEqual(by_shell(redirected, "help")[0], 2)

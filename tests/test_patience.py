@@ -1,0 +1,177 @@
+"""For how long a client is waited for: each time of docs/OPERATING.md, against a client that provokes it."""
+
+import threading
+import time
+
+from support import preloaded
+from support.case import Case
+from support.serving import Serving
+from support.stores import ring, topology
+
+LINE, REPLY, SILENCE, CONNECTION = 10, 10, 15, 600
+LATE = 10  # seconds by which a busy machine may be late
+SHOW = {"op": "show"}
+
+
+def ended_after(connection):
+    """Waits until the server has ended a connection: the seconds that it took."""
+    connection.socket.settimeout(SILENCE + LATE + 2)
+    began = time.monotonic()
+    try:
+        while connection.socket.recv(65_536):
+            pass
+    except ConnectionResetError:
+        pass
+    return time.monotonic() - began
+
+
+def untaken(connection):
+    """How many bytes the system keeps of what the server has sent to a client that does not read; None where the
+    connection is over."""
+    client, server = connection.socket.getsockname()[1], connection.socket.getpeername()[1]
+    with open("/proc/net/tcp", encoding="ascii") as rows:
+        for row in rows:
+            words = row.split()
+            if words[1].endswith(f":{server:04X}") and words[2].endswith(f":{client:04X}") and words[3] == "01":
+                return int(words[4].split(":")[0], 16)
+    return None
+
+
+class Patience(Case):
+    takes = 25
+
+    def serving(self, nodes=1, **how):
+        return Serving(self.made(ring(nodes) if nodes > 2 else topology([(1, 1)])), **how)
+
+    def expect_within(self, seconds, begun, end, early=0.5):
+        """It took as long as that, and the server serves the next client."""
+        took = time.monotonic() - begun
+        self.assertGreater(took, seconds - early)
+        self.assertLess(took, seconds + LATE)
+        self.assertEqual(end.ask({"op": "resend"}), {"count": 0, "kind": "resent"})
+
+    def test_a_client_that_says_nothing(self):
+        with self.serving() as server, server.connect() as connection:
+            begun = time.monotonic()
+            ended_after(connection)
+            self.expect_within(SILENCE, begun, server)
+
+    def test_a_client_that_says_nothing_behind_a_reply(self):
+        with self.serving() as server, server.connect() as connection:
+            for _ in range(2):
+                connection.send(SHOW)
+                connection.line()
+                begun = time.monotonic()
+                time.sleep(1)
+            ended_after(connection)
+            self.expect_within(SILENCE, begun, server)
+
+    def test_a_second_client_that_says_nothing(self):
+        """One that waits meanwhile has its turn then, and its own time."""
+        with self.serving() as server, server.connect() as first, server.connect() as second:
+            begun = time.monotonic()
+            first.send(SHOW)
+            first.line()
+            first.socket.close()
+            second.send(SHOW)
+            second.line()
+            begun = time.monotonic()
+            ended_after(second)
+            self.expect_within(SILENCE, begun, server)
+
+    def test_a_line_that_trickles(self):
+        """A byte each half second: the line's time begins with its first byte."""
+        for first in ([], [SHOW]):
+            with self.subTest(behind=first), Serving(self.made(topology([(1, 1)]), f"store{len(first)}")) as server, \
+                    server.connect() as connection:
+                connection.send(*first)
+                begun = self.trickle(connection)
+                self.expect_within(LINE, begun, server)
+
+    def trickle(self, connection):
+        """Sends a byte each half second until the server ends the connection: since when."""
+        connection.socket.settimeout(0.5)
+        begun = time.monotonic()
+        while time.monotonic() < begun + LINE + LATE + 2:
+            try:
+                connection.socket.sendall(b" ")
+                while connection.socket.recv(65_536):
+                    pass
+                return begun
+            except TimeoutError:
+                continue
+            except OSError:
+                return begun
+        return begun
+
+    def test_the_rest_of_a_line(self):
+        """A first part, and then nothing."""
+        with self.serving() as server, server.connect() as connection:
+            connection.send(b'{"op":"sh')
+            begun = time.monotonic()
+            ended_after(connection)
+            self.expect_within(LINE, begun, server)
+
+    def test_lines_that_are_slow_but_in_time(self):
+        """Each takes some seconds, and all more than any one time."""
+        with self.serving() as server, server.connect() as connection:
+            for _ in range(4):
+                for part in (b'{"op"', b':"resend', b'"}\n'):
+                    connection.send(part)
+                    time.sleep(2)
+                self.assertEqual(connection.line(), b'{"count":0,"kind":"resent"}\n')
+
+    def test_a_client_that_talks(self):
+        """A line each second, for longer than a silence may last."""
+        with self.serving() as server, server.connect() as connection:
+            for _ in range(SILENCE + 5):
+                connection.send({"op": "resend"})
+                self.assertEqual(connection.line(), b'{"count":0,"kind":"resent"}\n')
+                time.sleep(1)
+
+    def test_replies_that_are_not_taken(self):
+        """Views of a large ring fill what the system keeps for a client; ten seconds later the next one has its turn."""
+        self.needs("a C compiler", preloaded.has_compiler())
+        with self.serving(64, env=preloaded.environment(self.folder, SEND_BUFFER=4_096)) as server, \
+                server.connect(buffer=4_096) as connection, server.connect() as second:
+            second.send({"op": "resend"})
+            second.socket.settimeout(0.05)
+            sender = threading.Thread(target=self.send_all, args=[connection, b'{"op":"show"}\n' * 5_000], daemon=True)
+            sender.start()
+            began = moved = time.monotonic()
+            size = 0
+            while time.monotonic() < began + 120:
+                if (now := untaken(connection)) not in (None, size):
+                    size, moved = now, time.monotonic()
+                try:
+                    self.assertEqual(second.reply(), {"count": 0, "kind": "resent"})
+                    break
+                except TimeoutError:
+                    continue
+            self.assertGreater(size, 0)
+            # that a reply has not moved since is seen late
+            self.expect_within(REPLY, moved, server, early=4)
+            sender.join(30)
+
+    @staticmethod
+    def send_all(connection, text):
+        try:
+            connection.socket.sendall(text)
+        except OSError:
+            pass
+
+    def test_a_connection_that_lasts(self):
+        """By a clock that goes sixty times as fast; the second client has as long as the first one."""
+        self.needs("a C compiler", preloaded.has_compiler())
+        with self.serving(env=preloaded.environment(self.folder, CLOCK_FACTOR=60)) as server:
+            for _ in range(2):
+                with server.connect() as connection:
+                    begun = time.monotonic()
+                    while time.monotonic() < begun + 60:
+                        connection.send({"op": "resend"})
+                        if not connection.line():
+                            break
+                        last = time.monotonic()
+                        time.sleep(0.1)
+                    self.assertGreater((last - begun) * 60, CONNECTION - 60)
+                    self.assertLess((last - begun) * 60, CONNECTION + 60 * LATE)

@@ -1,0 +1,69 @@
+"""A device whose syncs take long: what is accepted and not yet settled is seen by nobody but in a count."""
+
+import time
+
+from support import preloaded
+from support.case import Case
+from support.serving import Serving
+from support.stores import ring, topology
+
+SECONDS = 0.4  # of each sync, of which a flight has two
+LONG = 3.0
+
+
+class SlowDevice(Case):
+    takes = 15
+
+    def serving(self, text, seconds=SECONDS):
+        self.needs("a C compiler", preloaded.has_compiler())
+        settings = {"SYNC_MILLIS": int(seconds * 1_000)}
+        return Serving(self.made(text, f"store{seconds}"), env=preloaded.environment(self.folder, **settings))
+
+    def test_a_reply_waits_for_its_step(self):
+        with self.serving(topology([(1, 1)])) as server:
+            for number in (1, 2, 3):
+                begun = time.monotonic()
+                self.assertEqual(server.order(number, "reset", node=1), {"kind": "finished", "step": 1 + number})
+                self.assertGreater(time.monotonic() - begun, 2 * SECONDS)
+            self.assertEqual(server.close().status, 0)
+
+    def test_what_is_shown_and_sent_again_while_a_step_waits(self):
+        """The packet of a reset is taken at once, and that step waits: the settled world still has the packet on its way."""
+        shown, resent = self.in_a_flight(SECONDS) or self.in_a_flight(LONG)
+        self.assertEqual((shown["accepted"], shown["settled"]), (5, 4))
+        self.assertEqual(shown["nodes"], [[1, 1, "abort", 0, 0, 0], [2, 1, "ready", 0, 0, 0]])
+        self.assertEqual(resent, {"count": 1, "kind": "resent"})
+
+    def in_a_flight(self, seconds):
+        """What is shown and sent again while the second step of a reset waits: None where the machine was too busy."""
+        with self.serving(topology([(1, 1), (2, 1)], [(1, 2)]), seconds) as server:
+            self.assertEqual(server.order(1, "reset", node=1), {"kind": "started", "step": 4})
+            with server.connect() as connection:
+                connection.send({"op": "show"}, {"op": "resend"}, {"op": "show"})
+                shown, resent, again = connection.reply(), connection.reply(), connection.reply()
+            server.await_quiet(1)
+            self.assertEqual(sorted(server.await_signals(2)), [(1, 1), (2, 1)])
+        return (shown, resent) if shown == again else None
+
+    def test_no_signal_before_it_is_settled(self):
+        """Each node of which one is printed is shown in its new epoch."""
+        with self.serving(ring(4)) as server:
+            self.assertEqual(server.order(1, "reset", node=1)["kind"], "started")
+            while len(server.signals()) < 4:
+                printed = server.signals()
+                epochs = {row[0]: row[4] for row in server.show()["nodes"]}
+                self.assertEqual([(epoch, epochs[node]) for node, epoch in printed], [(1, 1)] * len(printed))
+            self.assertEqual(server.close().status, 0)
+
+    def test_a_close_settles_what_was_accepted(self):
+        """The close of one client does not wait for a wave, and no step of it that was accepted is lost."""
+        with self.serving(ring(4)) as server:
+            self.assertEqual(server.order(1, "reset", node=1)["kind"], "started")
+            accepted = server.show()["accepted"]
+            self.assertEqual(server.close().status, 0)
+            signals = server.signals()
+        with Serving(server.store) as server:
+            self.assertGreaterEqual(server.show()["accepted"], accepted)
+            server.await_quiet(1)
+            rest = server.await_signals(4 - len(signals))
+            self.assertEqual(sorted(signals + rest), [(node, 1) for node in range(1, 5)])

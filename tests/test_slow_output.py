@@ -1,0 +1,105 @@
+"""An output that is slow, that is left, and that is full in the midst: the server goes on."""
+
+import fcntl
+import os
+import subprocess
+
+from support import stores
+from support.case import Case
+from support.program import Ended
+from support.serving import Serving
+from support.stores import topology
+
+SIGNALS = 500  # more than a page of lines
+
+
+class Piped(Serving):
+    """A server whose output is a pipe of one page, which nobody reads but for its first line."""
+
+    def __init__(self, store, **how):
+        self.reader, writer = os.pipe()
+        fcntl.fcntl(writer, fcntl.F_SETPIPE_SZ, 4_096)
+        self.printed = b""
+        super().__init__(store, stdout=writer, **how)
+        os.close(writer)
+
+    def __exit__(self, *_):
+        super().__exit__()
+        self.leave()
+
+    def first_line(self):
+        """Read byte by byte, so that nothing behind it is taken out of the pipe."""
+        while not self.printed.endswith(b"\n"):
+            if not (byte := os.read(self.reader, 1)):
+                raise AssertionError(f"the server ended before its first line: {self.process.wait()}")
+            self.printed += byte
+        return self.printed.decode().rstrip("\n")
+
+    def read_on(self):
+        while more := os.read(self.reader, 65_536):
+            self.printed += more
+
+    def leave(self):
+        """Reads no more."""
+        if self.reader is not None:
+            os.close(self.reader)
+        self.reader = None
+
+    def lines(self):
+        return self.printed.decode().split("\n")[:-1]
+
+
+class SlowOutput(Case):
+    takes = 20
+
+    def reset(self, server, numbers):
+        """Orders over one connection, each of which is answered though nothing is printed."""
+        with server.connect() as connection:
+            for number in numbers:
+                connection.send({"op": "reset", "client": 1, "number": number, "node": 1})
+                self.assertEqual(connection.reply(), {"kind": "finished", "step": number + 1})
+
+    def test_an_output_that_is_not_read(self):
+        """It holds up no answer. After the close the server ends only once all is printed."""
+        with Piped(self.made(topology([(1, 1)], half=stores.HALF))) as server:
+            self.reset(server, range(1, SIGNALS + 1))
+            self.assertEqual(server.ask({"op": "close"}), {"kind": "closed"})
+            with self.assertRaises(subprocess.TimeoutExpired):
+                server.process.wait(2)
+            server.read_on()
+            wanted = f"listening {server.address}\n" + "".join(f"signal 1 {epoch}\n" for epoch in range(1, SIGNALS + 1))
+            self.assertEqual(server.ended(), Ended(0, wanted, ""))
+
+    def test_a_reader_that_leaves(self):
+        """No more is printed, and the close ends with Write."""
+        with Piped(self.made(topology([(1, 1)]))) as server:
+            self.reset(server, range(1, 4))
+            server.leave()
+            self.reset(server, range(4, 30))
+            self.assertEqual(server.show()["nodes"], [[1, 1, "ready", 0, 29, 0]])
+            ended = server.close()
+            self.assertEqual((ended.status, ended.told), (3, "resetd: Write\n"))
+
+    def test_a_reader_that_leaves_a_server_that_waits_for_it(self):
+        with Piped(self.made(topology([(1, 1)], half=stores.HALF))) as server:
+            self.reset(server, range(1, SIGNALS + 1))
+            self.assertEqual(server.ask({"op": "close"}), {"kind": "closed"})
+            server.leave()
+            self.assertEqual((server.ended().status, server.ended().told), (3, "resetd: Write\n"))
+
+    def test_an_output_that_is_full_in_the_midst(self):
+        """A line is torn, no more are printed, and the close ends with Write; the next start prints again."""
+        store = self.made(topology([(1, 1)]))
+        first = len("listening 127.0.0.1:12345\n")
+        most = 1_000_000
+        self.write("store.signals", b"")
+        os.truncate(f"{store}.signals", most - first - len("signal 1 1\nsig"))
+        with Serving(store, before=["sh", "-c", f'trap "" XFSZ; exec prlimit --fsize={most} "$@"', "sh"]) as server:
+            self.reset(server, range(1, 20))
+            ended = server.close()
+            self.assertEqual((ended.status, ended.told), (3, "resetd: Write\n"))
+        self.assertEqual(self.read("store.signals")[-14 - first:], f"listening {server.address}\nsignal 1 1\nsig".encode())
+        with Serving(store) as server:
+            self.reset(server, range(20, 22))
+            self.assertEqual(server.await_signals(2), [(1, 20), (1, 21)])
+            self.assertEqual(server.close().status, 0)

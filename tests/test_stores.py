@@ -1,0 +1,177 @@
+"""`check`, `show`, `migrate` and `serve` over stores of all kinds: what each prints, and what it leaves."""
+
+import os
+
+from support import stores
+from support.case import Case
+from support.program import Ended, faulted, ran
+from support.stores import ACK, ABORT, CONVERGE, IS_READY, abort, add, batch, link, node, world
+
+PAIR = [node(1), node(2)]
+COMMANDS = {"check": [], "show": [], "migrate": [], "serve": ["127.0.0.1:0"]}
+REFUSED = [
+    ("NoMagic", b""), ("NoMagic", b"\0ACRRESET"), ("NoMagic", b"something that is no store"),
+    ("NoMagic", stores.store(half=32_767)), ("NoMagic", stores.store(half=16_777_217)),
+    ("BadRecord", stores.store()[:17]), ("BadRecord", stores.store()[:-1]), ("BadRecord", stores.store()[:-3]),
+    ("BadRecord", b"\1" + stores.store()[1:]),
+    ("BadSnapshot", stores.store(version=0)), ("BadSnapshot", stores.store(version=3)),
+    ("BadSnapshot", stores.store(b"\0" * 10)), ("BadSnapshot", stores.store(b"\0" * 12)),
+    ("BadSnapshot", stores.store(world(2, PAIR), version=2)),
+    ("BadBatch", stores.store(bodies=[b""])), ("BadBatch", stores.store(bodies=[batch(2, add(1))])),
+    ("BadBatch", stores.store(bodies=[batch(1, add(65))])),
+    ("BadBatch", stores.store(bodies=[batch(1, add(1)), batch(3, add(2, number=2))])),
+    ("BadStep", stores.store(bodies=[batch(1, add(1, number=2))])),
+    ("BadStep", stores.store(bodies=[batch(1, add(1), add(1, number=2))])),
+    ("BadStep", stores.store(bodies=[batch(1, add(1)), batch(2, add(1, number=2))])),
+]
+# An Ack that nobody awaits: the worked dump of docs/FORMATS.md.
+UNAWAITED = world(3, PAIR, [link(1, 2, 3, back=(0, 0, [ACK]))])
+
+
+def linked(low, high, there=stores.NO_LANE, back=stores.NO_LANE):
+    """A world of version 1 with the nodes 2 and 64, after 4 steps."""
+    return world(4, [low, high], [link(2, 64, 3, there, back)])
+
+
+QUIET_2, QUIET_64 = node(2), node(64)
+WAITS_2, WAITS_64 = node(2, ABORT, awaits=[64]), node(64, ABORT, awaits=[2])
+# The first fault of each world, as `check` prints it.
+VIOLATED = [
+    ("64 64 N", world(4, [node(64, ABORT)])),
+    ("2 2 N", linked(node(2, CONVERGE), QUIET_64, (0, 1, []))),
+    ("2 64 A", linked(QUIET_2, QUIET_64, (0, 1, []))),
+    ("64 2 A", linked(QUIET_2, QUIET_64, back=(1, 0, []))),
+    ("2 64 B", linked(QUIET_2, QUIET_64, back=(0, 0, [ACK]))),
+    ("64 2 B", linked(QUIET_2, WAITS_64)),
+    ("2 64 C", linked(QUIET_2, QUIET_64, (0, 0, [IS_READY, IS_READY]))),
+    ("2 64 D", linked(WAITS_2, QUIET_64, (0, 0, [abort(), IS_READY]))),
+    ("2 64 E", linked(QUIET_2, node(64, CONVERGE, 2))),
+    ("64 2 E", linked(node(2, CONVERGE, 64), QUIET_64)),
+    ("2 64 F", linked(node(2, CONVERGE, 64), node(64, CONVERGE, 2))),
+    ("2 64 G", linked(WAITS_2, QUIET_64, (0, 0, [IS_READY]), (0, 0, [ACK]))),
+]
+
+
+def in_reset(at, other, version=1):
+    """A legal world of two nodes, one of which has just begun a reset."""
+    lane = (0, 0, [abort(1, version)])
+    rows = {at: node(at, ABORT, awaits=[other], version=version), other: node(other, version=version)}
+    lanes = (lane, stores.NO_LANE) if at < other else (stores.NO_LANE, lane)
+    low, high = sorted(rows)
+    return world(4, [rows[low], rows[high]], [link(low, high, 3, *lanes)])
+
+
+class Refused(Case):
+    def test_what_is_no_store_is_refused_and_stays(self):
+        for name, content in REFUSED:
+            for command, more in COMMANDS.items():
+                with self.subTest(fault=name, command=command, content=content.hex()[-60:]):
+                    path = self.write("store", content)
+                    self.assertEqual(ran(command, path, *more), faulted(1, name))
+                    self.assertEqual(self.read("store"), content)
+
+    def test_a_file_that_is_not_there(self):
+        """It is made, and is no store."""
+        for command, more in COMMANDS.items():
+            with self.subTest(command=command):
+                self.assertEqual(ran(command, self.path(command), *more), faulted(1, "NoMagic"))
+                self.assertEqual(self.read(command), b"")
+
+    def test_a_file_that_can_not_be_opened(self):
+        for command, more in COMMANDS.items():
+            for path in (self.folder, self.path("none/store")):
+                with self.subTest(command=command, path=path):
+                    self.assertEqual(ran(command, path, *more), faulted(3, "Device"))
+        self.assertEqual(os.listdir(self.folder), [])
+
+    def test_a_world_that_is_not_legal(self):
+        """`check` alone says where, and nothing is written."""
+        path = self.write("store", stores.store(UNAWAITED))
+        self.assertEqual(ran("check", path), Ended(1, "violated 1 2 B\n", ""))
+        for command in ("show", "migrate", "serve"):
+            with self.subTest(command=command):
+                self.assertEqual(ran(command, path, *COMMANDS[command]), faulted(1, "Violated"))
+        self.assertEqual(self.read("store"), stores.store(UNAWAITED))
+
+
+class Checked(Case):
+    def check(self, snapshot, version=1):
+        return ran("check", self.write("store", stores.store(snapshot, version)))
+
+    def test_the_first_fault(self):
+        for fault, snapshot in VIOLATED:
+            with self.subTest(fault=fault):
+                self.assertEqual(self.check(snapshot), Ended(1, f"violated {fault}\n", ""))
+
+    def test_a_distance_that_differs(self):
+        """It is told behind a fault of an earlier letter, though that is of the other end."""
+        rows = [node(2, ABORT, awaits=[64], version=2), node(64, version=2)]
+        queue = (0, 0, [abort(3, 2)])
+        self.assertEqual(self.check(world(4, rows, [link(2, 64, 3, queue)]), 2), Ended(1, "violated 2 64 H\n", ""))
+        both = world(4, rows, [link(2, 64, 3, queue, (0, 1, []))])
+        self.assertEqual(self.check(both, 2), Ended(1, "violated 64 2 A\n", ""))
+
+    def test_legal_worlds(self):
+        for version in (1, 2):
+            for at, other in ((1, 2), (64, 63)):
+                with self.subTest(version=version, at=at):
+                    self.assertEqual(self.check(in_reset(at, other, version), version), Ended(0, "legal 4\n", ""))
+
+    def test_batches_go_on_from_the_snapshot(self):
+        bodies = [batch(1, add(1), add(2, number=2)), batch(3, add(64, client=16))]
+        path = self.write("store", stores.store(bodies=bodies))
+        self.assertEqual(ran("check", path), Ended(0, "legal 3\n", ""))
+        rows = "".join(f"node {number} 1 ready 0 0 0\n" for number in (1, 2, 64))
+        self.assertEqual(ran("show", path), Ended(0, f"view 3 3\n{rows}", ""))
+
+    def test_a_selector_is_even_or_odd(self):
+        """A torn write may leave any byte there."""
+        whole = stores.store(bodies=[batch(1, add(1))]).ljust(stores.HEADER + stores.HALF, b"\xaa")
+        other = stores.store(bodies=[batch(1, add(1), add(2, number=2))])[stores.HEADER:]
+        for selector, count in ((0, 1), (1, 2), (2, 1), (254, 1), (255, 2)):
+            path = self.write("store", bytes([selector]) + whole[1:] + other)
+            self.assertEqual(ran("check", path), Ended(0, f"legal {count}\n", ""))
+
+    def test_what_is_shown_of_a_reset(self):
+        path = self.write("store", stores.store(in_reset(64, 63)))
+        shown = "view 4 4\nnode 63 1 ready 0 0 0\nnode 64 1 abort 0 0 0\nlink 63 64 3\n"
+        self.assertEqual(ran("show", path), Ended(0, shown, ""))
+        rows = [node(1, CONVERGE, 2, epoch=3, confirmed=2), node(2, ABORT, awaits=[1], epoch=4)]
+        path = self.write("store", stores.store(world(9, rows, [link(1, 2, 3, (0, 0, [ACK]))])))
+        shown = "view 9 9\nnode 1 1 converge 2 3 2\nnode 2 1 abort 0 4 0\nlink 1 2 3\n"
+        self.assertEqual(ran("show", path), Ended(0, shown, ""))
+
+
+class Migrated(Case):
+    def test_a_store_of_version_1(self):
+        for content, count in ((stores.store(), 0), (stores.store(world(3, PAIR, [link(1, 2, 3)])), 3),
+                               (stores.store(bodies=[batch(1, add(64))]), 1)):
+            with self.subTest(count=count):
+                path = self.write("store", content)
+                shown = ran("show", path)
+                self.assertEqual(ran("migrate", path), Ended(0, f"migrated {count}\n", ""))
+                self.assertEqual((stores.version_of(path), ran("show", path)), (2, shown))
+                self.assertEqual(ran("check", path), Ended(0, f"legal {count}\n", ""))
+
+    def test_one_of_version_2_is_not_written_to(self):
+        content = stores.store(version=2, bodies=[batch(1, add(1))])
+        path = self.write("store", content)
+        for _ in range(2):
+            self.assertEqual(ran("migrate", path), Ended(0, "migrated 1\n", ""))
+            self.assertEqual(self.read("store"), content)
+
+    def test_a_node_in_a_reset(self):
+        """The least one is told, and nothing is written."""
+        for at, other in ((1, 2), (2, 1), (1, 64), (64, 1), (63, 64), (64, 63)):
+            content = stores.store(in_reset(at, other))
+            path = self.write("store", content)
+            with self.subTest(at=at):
+                self.assertEqual(ran("migrate", path), faulted(1, f"NotQuiet {at}"))
+                self.assertEqual(self.read("store"), content)
+        rows = [node(2, CONVERGE, 64), node(64, ABORT, awaits=[2])]
+        path = self.write("store", stores.store(world(9, rows, [link(2, 64, 3, (0, 0, [ACK]))])))
+        self.assertEqual(ran("migrate", path), faulted(1, "NotQuiet 2"))
+
+    def test_one_of_version_2_in_a_reset_is_migrated(self):
+        path = self.write("store", stores.store(in_reset(64, 63, 2), version=2))
+        self.assertEqual(ran("migrate", path), Ended(0, "migrated 4\n", ""))

@@ -1,0 +1,40 @@
+"""Word lists that the program refuses: one line on standard error, status 2, and nothing touched."""
+
+import os
+
+from support.case import Case
+from support.program import faulted, ran
+
+WORD_LISTS = [
+    [], ["help"], ["--help"], ["-h"], ["--version"], ["-V"], ["version"], [""], ["Drill"], ["drill", "store"],
+    ["init"], ["init", "store"], ["init", "store", "topology", "more"], ["init", "--", "store", "topology"],
+    ["check"], ["check", "store", "more"], ["check", "--help"], ["show"], ["show", "store", "more"],
+    ["migrate"], ["migrate", "store", "2"], ["serve"], ["serve", "store"], ["serve", "store", "127.0.0.1:0", "more"],
+    ["serve", "--store", "store", "127.0.0.1:0"], ["check", "store", "check", "store"],
+]
+NO_ADDRESSES = [
+    "", "127.0.0.1", "127.0.0.1:", ":4170", "4170", "localhost:4170", "127.0.0.1:65536", "127.0.0.1:-1", "127.0.0.1:+1",
+    "127.0.0.1:x", "256.0.0.1:4170", "127.0.1:4170", "127.0.0.0.1:4170", "[::1]:4170", " 127.0.0.1:4170",
+    "127.0.0.1:4170 ", "127.0.0.1 :4170", "0x7f.0.0.1:4170",
+]
+
+
+class Words(Case):
+    def test_refused_words(self):
+        for words in WORD_LISTS:
+            with self.subTest(words=words):
+                self.assertEqual(ran(*words, cwd=self.folder), faulted(2, "Usage"))
+        self.assertEqual(os.listdir(self.folder), [])
+
+    def test_words_that_are_no_utf_8(self):
+        for words in ([b"\xff"], [b"check", b"\xff"], [b"serve", b"store", b"127.0.0.1:\xff"]):
+            with self.subTest(words=words):
+                ended = ran(*words, cwd=self.folder)
+                self.assertNotEqual((ended.status, ended.told), (0, ""))
+                self.assertEqual(ended.printed, "")
+
+    def test_no_address(self):
+        for address in NO_ADDRESSES:
+            with self.subTest(address=address):
+                self.assertEqual(ran("serve", "store", address, cwd=self.folder), faulted(2, "Usage"))
+        self.assertEqual(os.listdir(self.folder), [])

@@ -1,0 +1,163 @@
+#!/usr/bin/env python3
+"""A member of a work queue, for the trials of tools/test_services: it hands items on to the next member, in order.
+
+Member 1 makes items 1, 2, 3 and so on and hands them to member 2, which hands them to 3, and so round to 1. Each start
+has a name of its own, which the coordinator does not know and the tag does not hold; each message has the names of
+all starts that it comes from. So a member tells where it hears of two starts of one member within one start of its
+own (MIXED), and where an item is left out (GAP).
+
+usage: queue_member NODE ADDR FOLDER OWN PEER SIGNALS [WITHOUT..]
+    OWN and PEER are ports. WITHOUT is what a trial leaves out, to see that it is missed:
+    greatest    an epoch is begun that was begun before, or a lower one
+    party       a start talks with whoever is connected
+    reset       a member without a start of the shown epoch begins it, confirmed or not, and asks for no reset
+"""
+
+import json
+import os
+import secrets
+import signal
+import socket
+import socketserver
+import sys
+import threading
+import time
+
+sys.dont_write_bytecode = True
+sys.path.insert(0, os.path.join(os.path.dirname(os.path.abspath(__file__)), "..", "..", "client"))
+from resetd_client import Due, Follower, Member, Orders, OutOfRun, Port, Starts, keep  # noqa: E402
+
+AHEAD = 5  # items that are on their way round
+PAUSE = 0.01
+LOOK_SECONDS = 0.3
+
+
+class Weaker(Starts):
+    """The rule of a member without a part of it."""
+
+    without = frozenset()
+
+    def due(self, view, row):
+        due = super().due(view, row)
+        if due is not Due.RESET:
+            return due
+        if row.epoch > row.confirmed and "greatest" in self.without:
+            return Due.BEGIN
+        if row.epoch == row.confirmed and row.epoch != self.begun and "reset" in self.without:
+            return Due.BEGIN
+        if row.epoch == row.confirmed == self.begun and "party" in self.without:
+            return Due.WAIT if view.awaited(row.node) else Due.TALK
+        return due
+
+
+class Queue:
+    """The work: how many items were taken from the member before, and how many the next one has taken."""
+
+    def __init__(self, node, folder):
+        self.node, self.path = node, os.path.join(folder, "work")
+        self.work = None
+        if os.path.exists(self.path):
+            with open(self.path, encoding="utf-8") as file:
+                self.work = json.load(file)
+
+    def begin(self, epoch):
+        """Drops the work in hand, and loads the common start: no item was made."""
+        name = secrets.token_hex(4)
+        self.keep({"epoch": epoch, "taken": 0, "handed": 0, "starts": {str(self.node): name}})
+        self.tell(f"starts anew, epoch {epoch}")
+
+    def next(self):
+        """The next message, None where there is no item to hand on."""
+        item = self.work["handed"] + 1
+        if item > self.work["taken"] + (AHEAD if self.node == 1 else 0):
+            return None
+        return {"from": self.node, "item": item, "starts": self.work["starts"]}
+
+    def take(self, message):
+        """Takes an item, and answers how many were taken. One that comes again was taken before."""
+        starts, item = self.joined(message["starts"]), message["item"]
+        if item > self.work["taken"] + 1:
+            self.tell(f"GAP: item {item} came after {self.work['taken']}")
+        self.keep({**self.work, "starts": starts, "taken": max(item, self.work["taken"])})
+        return {"taken": item, "starts": starts}
+
+    def note_handed(self, answer):
+        self.keep({**self.work, "starts": self.joined(answer["starts"]), "handed": answer["taken"]})
+
+    def joined(self, starts):
+        mine = self.work["starts"]
+        for node, name in starts.items():
+            if mine.get(node, name) != name:
+                self.tell(f"MIXED: start {name} of member {node}, and {mine[node]} before, in one start of epoch "
+                          f"{self.work['epoch']}")
+        return {**starts, **mine}
+
+    def keep(self, work):
+        keep(self.path, json.dumps(work) + "\n")
+        self.work = work
+
+    def tell(self, text):
+        print(f"queue {self.node}: {text}", flush=True)
+
+
+def listen(port, member, queue):
+    """Takes items from the member before. A connection begins with the tag of its run."""
+    class Handler(socketserver.StreamRequestHandler):
+        def handle(self):
+            try:
+                tag = self.rfile.readline().decode().strip()
+                for line in self.rfile:
+                    with member.in_run(tag):
+                        answer = queue.take(json.loads(line))
+                    self.wfile.write(json.dumps(answer).encode() + b"\n")
+            except (OutOfRun, OSError, ValueError):
+                pass
+
+    class Listener(socketserver.ThreadingTCPServer):
+        allow_reuse_address = daemon_threads = True
+    Listener(("127.0.0.1", port), Handler).serve_forever()
+
+
+def send(port, member, queue):
+    """Hands items to the next member, as long as there is a run."""
+    while True:
+        try:
+            with member.in_run(wait=1) as run:
+                pass
+            with socket.create_connection(("127.0.0.1", port), timeout=5) as connection:
+                hand_on(connection, run.tag, member, queue)
+        except (OutOfRun, OSError, ValueError):
+            time.sleep(PAUSE)
+
+
+def hand_on(connection, tag, member, queue):
+    answers = connection.makefile("r", encoding="utf-8")
+    connection.sendall(f"{tag}\n".encode())
+    while True:
+        with member.in_run(tag):
+            message = queue.next()
+        if message:
+            connection.sendall(json.dumps(message).encode() + b"\n")
+            answer = json.loads(answers.readline())
+            with member.in_run(tag):
+                queue.note_handed(answer)
+        time.sleep(PAUSE)
+
+
+def main():
+    node, address, folder, own, peer, signals, *without = sys.argv[1:]
+    os.makedirs(folder, exist_ok=True)
+    queue = Queue(int(node), folder)
+    port = Port(address, 10)
+    orders = Orders(port, int(node), folder, recovers=True, held_seconds=5)
+    member = Member(port, orders, int(node), queue.work["epoch"] if queue.work else None, queue.begin)
+    if without:
+        Weaker.without = frozenset(without)
+        member._starts.__class__ = Weaker
+    for call, place in ((listen, own), (send, peer)):
+        threading.Thread(target=call, args=(int(place), member, queue), daemon=True).start()
+    signal.signal(signal.SIGTERM, lambda *_: member.stop())
+    member.follow(Follower(signals), LOOK_SECONDS)
+
+
+main()

@@ -1,0 +1,334 @@
+"""Trials of a work queue of three members, for which the store or a member goes back, comes again or is exchanged.
+
+In each of them a start of a member could be taken for another one. The members themselves tell where they hear of two
+starts of one member in one run (MIXED), and where an item is left out (GAP).
+"""
+
+import json
+import os
+import random
+import shutil
+import signal
+import subprocess
+import sys
+import time
+
+from .services import ROOT, Away, Failed, Trial, free_ports, read
+
+MEMBER = f"{ROOT}/tools/served/queue_member.py"
+WEAKER = {"greatest", "party", "reset"}
+
+
+class Queue(Trial):
+    """A coordinator and the three members of a work queue, each of which can be down."""
+
+    def __init__(self, words, folder, nodes):
+        super().__init__(words, folder, nodes)
+        self.ports = free_ports(nodes)
+        self.up = {}
+        self.asked = 0
+
+    def begin(self):
+        """All members are up, one reset is through, and items go round."""
+        self.goes_on("at first")
+        self.reset_epochs(*self.nodes)
+        self.goes_on("after the first reset")
+
+    def start_member(self, node):
+        if node in self.up:
+            return
+        with open(f"{self.folder}/{node}.lines", "ab") as lines:
+            self.up[node] = subprocess.Popen(
+                [sys.executable, MEMBER, str(node), self.server.address, f"{self.folder}/{node}", str(self.ports[node - 1]),
+                 str(self.ports[node % len(self.ports)]), self.server.signals, *sorted(WEAKER & self.words.without)],
+                stdin=subprocess.DEVNULL, stdout=lines, stderr=lines)
+
+    def start_all(self):
+        for node in self.nodes:
+            self.start_member(node)
+
+    def down(self, *nodes):
+        """Signal 9 to members."""
+        for node in nodes:
+            member = self.up.pop(node, None)
+            if member:
+                member.kill()
+                member.wait()
+
+    def stop_helpers(self):
+        self.down(*self.nodes)
+        super().stop_helpers()
+
+    def work(self, node):
+        return json.loads(read(f"{self.folder}/{node}/work") or '{"taken": 0, "epoch": null, "starts": {}}')
+
+    def starts(self):
+        """The name of each member's start, where it has one."""
+        return {node: self.work(node)["starts"].get(str(node)) for node in self.nodes}
+
+    def goes_on(self, what, since=None):
+        """All members are up, items go round, and no member mixed two runs. Where `since` has the starts of an earlier
+        moment, each member has another one."""
+        self.start_all()
+        seen = {}
+
+        def holds():
+            starts = self.starts()
+            for node in self.nodes:
+                work = self.work(node)
+                first = seen.setdefault(node, {}).setdefault(starts[node], work["taken"])
+                if work["taken"] < first + 3 or (since and since[node] == starts[node]):
+                    return False
+            return True
+        try:
+            self.expect(f"items go round {what}", holds)
+        finally:
+            self.expect_whole(what)
+
+    def expect_whole(self, what):
+        """No member has told of a fault."""
+        for node in self.nodes:
+            faults = [line for line in read(f"{self.folder}/{node}.lines").splitlines() if "MIXED" in line or "GAP" in line]
+            if faults:
+                raise Failed(f"{what}: {faults[0]}")
+        for node, member in self.up.items():
+            if member.poll() is not None:
+                raise Failed(f"{what}: member {node} has ended: {read(f'{self.folder}/{node}.lines').splitlines()[-3:]}")
+
+    def copy(self, name="copy"):
+        """A copy of the store, by the words of the page: it is closed meanwhile."""
+        self.close()
+        shutil.copy(self.server.store, f"{self.folder}/{name}")
+        self.start()
+        return f"{self.folder}/{name}"
+
+    def reset_epochs(self, *nodes):
+        """A reset of some members that are up: each of them has begun and confirmed it."""
+        self.expect("no reset is under way", lambda: all(row.mode == "ready" for row in self.port.show().nodes))
+        before = {row.node: row.epoch for row in self.port.show().nodes}
+        self.reset(nodes[0])
+
+        def holds():
+            rows = {row.node: row for row in self.port.show().nodes}
+            return all(rows[node].epoch > before[node] and rows[node].is_begun for node in nodes)
+        self.expect(f"members {nodes} have begun", holds)
+
+    def unlink(self, node):
+        for other in self.nodes:
+            if other != node:
+                self.order("drop", a=node, b=other)
+
+    def link(self, node):
+        for other in self.nodes:
+            if other != node:
+                self.order("join", a=node, b=other)
+
+    def add_again(self, node, resets=0):
+        """A node without links is removed and added again, so often reset alone, and linked as it was."""
+        self.order("remove", node=node)
+        self.order("add", node=node, group=1)
+        for _ in range(resets):
+            self.order("reset", node=node)
+        self.link(node)
+
+    def epoch(self, node):
+        return self.port.show().node(node).epoch
+
+
+# The ways in which a node may show, confirmed, the epoch that its service has begun, though its start is another one
+# than that which the others talked with. Each leaves the network whole; what has to hold then is looked for after it.
+
+def with_one_down(trial):
+    """The store is put back while a member is down that has not begun what was forgotten."""
+    copy = trial.copy()
+    trial.down(3)
+    trial.reset_epochs(1, 2)
+    trial.put_back(copy)
+
+
+def between_confirms(trial):
+    """The copy was taken when one member had not confirmed yet."""
+    trial.down(3)
+    trial.reset_epochs(1, 2)
+    copy = trial.copy()
+    trial.goes_on("after the copy")
+    trial.put_back(copy)
+
+
+def twice(trial):
+    """The wrong copy is put back at first, while a member is down, and then the right one."""
+    old = trial.copy("old")
+    trial.reset_epochs(1, 2, 3)
+    trial.goes_on("between the copies")
+    new = trial.copy("new")
+    trial.down(1)
+    trial.put_back(old)
+    trial.reset_epochs(2, 3)
+    trial.put_back(new)
+
+
+def while_served(trial):
+    """A copy of a store that is served is put back, if it reads, while a member is down that has not begun what was
+    forgotten."""
+    served = f"{trial.folder}/served"
+    shutil.copy(trial.server.store, served)
+    trial.down(2)
+    trial.reset_epochs(1, 3)
+    if subprocess.run([trial.words.program, "check", served], capture_output=True, check=False).returncode == 0:
+        trial.put_back(served)
+
+
+def added_again_down(trial):
+    """A member is removed while it is down, the others are reset, and it is added again and reset to the epoch that
+    it has begun."""
+    trial.down(3)
+    epoch = trial.epoch(3)
+    trial.unlink(3)
+    trial.reset_epochs(1, 2)
+    trial.add_again(3, resets=epoch)
+    trial.order("confirm", node=3, epoch=epoch)
+
+
+def added_again_up(trial):
+    """A member is removed and added again while it is up."""
+    trial.unlink(2)
+    trial.add_again(2)
+
+
+def moved(trial):
+    """A member goes on on another host, without its work."""
+    trial.down(2)
+    shutil.rmtree(f"{trial.folder}/2")
+
+
+def moved_and_added_again(trial):
+    """A member is removed and added again, reset alone to the epoch that it had, and goes on without its work."""
+    trial.down(2)
+    epoch = trial.epoch(2)
+    trial.unlink(2)
+    trial.add_again(2, resets=epoch)
+    shutil.rmtree(f"{trial.folder}/2")
+
+
+def work_lost(trial):
+    """A member's work is lost, and its other files are not."""
+    trial.down(2)
+    os.remove(f"{trial.folder}/2/work")
+
+
+def own_copy(trial):
+    """A member's own folder is put back from a copy."""
+    trial.down(3)
+    shutil.copytree(f"{trial.folder}/3", f"{trial.folder}/of3", dirs_exist_ok=True)
+    trial.start_member(3)
+    trial.reset_epochs(1, 2, 3)
+    trial.goes_on("after the copy of the folder")
+    trial.down(3)
+    shutil.rmtree(f"{trial.folder}/3")
+    shutil.copytree(f"{trial.folder}/of3", f"{trial.folder}/3")
+
+
+def new_store(trial):
+    """A store is made anew under the same services, and reset to the epoch that they have begun, while one is down."""
+    trial.down(3)
+    epoch = trial.epoch(3)
+    trial.close()
+    os.remove(trial.server.store)
+    status, told = trial.server.command("init", f"{trial.server.store}.toml")
+    if status != 0:
+        raise Failed(f"resetd init: {told}")
+    trial.start()
+    trial.orders.recover()
+    for _ in range(epoch):
+        trial.order("reset", node=1)
+
+
+def old_host(trial):
+    """Another host takes over with an old copy, no service is stopped, and one was down since before."""
+    copy = trial.copy()
+    trial.down(2)
+    trial.reset_epochs(1, 3)
+    trial.server.kill()
+    shutil.copy(copy, trial.server.store)
+    trial.start()
+    trial.orders.recover()
+
+
+def confirmed_for(trial):
+    """The person on call confirms for a member that is down, and it comes back with its work."""
+    trial.down(3)
+    trial.reset_epochs(1, 2)
+    trial.order("confirm", node=3, epoch=trial.epoch(3))
+    time.sleep(0.5)
+
+
+def parted(trial):
+    """A member's links are dropped, it is reset alone, and linked again."""
+    trial.unlink(3)
+    trial.reset_epochs(3)
+    trial.link(3)
+
+
+def plain_reset(trial):
+    """A reset while a member is down, and a kill of the server in it."""
+    trial.down(trial.choice.choice(list(trial.nodes)))
+    trial.reset(trial.choice.choice(list(trial.nodes)), is_killed=True)
+
+
+def by_the_page(trial):
+    """A reset is forgotten that no member has begun. By the words of the page: services stopped, the copy put back,
+    `resetctl restored`, services started."""
+    copy = trial.copy()
+    trial.down(*trial.nodes)
+    trial.reset(1)
+    trial.put_back(copy)
+    trial.renew()
+
+
+def between_confirms_without_files(trial):
+    """The copy was taken when one member had not confirmed yet, and that member has lost all its files since."""
+    trial.down(3)
+    trial.reset_epochs(1, 2)
+    copy = trial.copy()
+    trial.goes_on("after the copy")
+    trial.down(3)
+    trial.put_back(copy)
+    shutil.rmtree(f"{trial.folder}/3")
+    trial.renew()
+
+
+# those that take a reset for each epoch come first, while there are few
+WAYS = (new_store, added_again_down, added_again_up, moved_and_added_again, with_one_down, between_confirms, twice,
+        while_served, moved, work_lost, own_copy, old_host, confirmed_for, parted, between_confirms_without_files)
+# after these every member has to have another start than before
+RENEWING = (plain_reset, by_the_page)
+EVENTS = 20
+
+
+def happen(trial, way, when):
+    """One of the ways, and what has to hold after it."""
+    since = trial.starts() if way in RENEWING else None
+    try:
+        way(trial)
+    except (Failed, Away) as failed:
+        raise Failed(f"{way.__name__} {when}: {failed}") from failed
+    trial.goes_on(f"after {way.__name__} {when}", since)
+
+
+def starts(trial):
+    """Each way once, one after the other."""
+    trial.choice = random.Random(1)
+    trial.begin()
+    for place, way in enumerate((*WAYS, *RENEWING), 1):
+        happen(trial, way, f"({place})")
+    return f"{len(WAYS) + len(RENEWING)} ways"
+
+
+def queue(trial):
+    """Random ways, one after the other."""
+    seed = trial.words.seed if trial.words.seed is not None else random.randrange(1 << 32)
+    trial.choice = random.Random(seed)
+    trial.begin()
+    for event in range(1, EVENTS + 1):
+        happen(trial, trial.choice.choice((*WAYS, *RENEWING, *RENEWING)), f"({event} of seed {seed})")
+    return f"{EVENTS} events of seed {seed}"

@@ -1,0 +1,179 @@
+"""A coordinator, and services around it that can be stopped and started again."""
+
+import os
+import random
+import shutil
+import socket
+import subprocess
+import sys
+import time
+
+from .server import Server
+
+ROOT = os.path.dirname(os.path.dirname(os.path.dirname(os.path.abspath(__file__))))
+sys.path.insert(0, os.path.join(ROOT, "client"))
+from resetd_client import Away, Orders, Port, patiently  # noqa: E402, F401
+
+OPERATOR = 16
+
+
+class Failed(Exception):
+    """A trial did not do what it has to."""
+
+
+class Trial:
+    """A coordinator, what it needs, and the helpers that were started; all end with it."""
+
+    def __init__(self, words, folder, nodes, is_ring=True):
+        self.words, self.folder, self.nodes = words, folder, range(1, nodes + 1)
+        self.server = Server(words.program, f"{folder}/store")
+        self.helpers = []
+        links = [(node, node % nodes + 1) for node in self.nodes][:nodes if is_ring and nodes > 2 else nodes - 1]
+        done = self.server.found(
+            "".join(f"[[node]]\nid = {node}\ngroup = 1\n" for node in self.nodes) +
+            "".join(f"[[link]]\na = {a}\nb = {b}\n" for a, b in links))
+        if done[0] != 0:
+            raise Failed(f"resetd init: {done}")
+        self.start()
+        self.port = Port(self.server.address, 10)
+        self.orders = Orders(self.port, OPERATOR, f"{folder}/operator", told=lambda _: None)
+
+    def start(self):
+        if not self.server.start():
+            raise Failed(f"the coordinator did not start: {self.server.ended()}")
+        self.server.wanted = self.server.address  # the next start is at the same address
+
+    def kill(self):
+        """Signal 9, and a new start."""
+        self.server.kill()
+        self.start()
+
+    def close(self):
+        if self.server.close() != (0, ""):
+            raise Failed("the coordinator did not end in order")
+
+    def run(self, program, *words, name, stdin=subprocess.DEVNULL):
+        """Starts one of the examples, whose lines go to a file of this name."""
+        with open(f"{self.folder}/{name}.lines", "ab") as lines:
+            self.helpers.append(subprocess.Popen([f"{ROOT}/examples/{program}", *map(str, words)],
+                                                 stdin=stdin, stdout=lines, stderr=lines))
+        return self.helpers[-1]
+
+    def services(self):
+        """An example service for each node."""
+        for node in self.nodes:
+            self.service(node)
+
+    def service(self, node):
+        """An example service, which reads the file of signals from its start: the processes that it is."""
+        tail = subprocess.Popen(["tail", "-n", "+1", "-F", self.server.signals], stdout=subprocess.PIPE,
+                                stderr=subprocess.DEVNULL)
+        self.helpers.append(tail)
+        service = self.run("service", node, self.server.address, f"{self.folder}/{node}", "--look", 1, name=node,
+                           stdin=tail.stdout)
+        tail.stdout.close()
+        return tail, service
+
+    def stop_helpers(self, *some):
+        """Signal 9 to some helpers, or to all."""
+        stopped = some or tuple(self.helpers)
+        for helper in stopped:
+            helper.kill()
+        for helper in stopped:
+            helper.wait()
+            self.helpers.remove(helper)
+
+    def order(self, op, **members):
+        return patiently(lambda: self.orders.order(op, **members), 20)
+
+    def reset(self, node=1, is_killed=False):
+        """Asks for a reset. Where the server is killed, that is somewhere in it."""
+        self.order("reset", node=node)
+        if is_killed:
+            time.sleep(random.uniform(0, 0.004))
+            self.kill()
+
+    def begun(self, node):
+        """How often a service has begun anew, and the epoch of the last time."""
+        if not os.path.exists(f"{self.folder}/{node}.lines"):
+            return 0, None
+        with open(f"{self.folder}/{node}.lines", encoding="utf-8") as lines:
+            epochs = [int(line.split()[-1]) for line in lines if "starts anew" in line]
+        return len(epochs), epochs[-1] if epochs else None
+
+    def expect(self, what, holds, seconds=None):
+        """Waits until something holds."""
+        until = time.monotonic() + (seconds or self.words.seconds)
+        while not holds():
+            if time.monotonic() > until:
+                raise Failed(f"{what}, within {seconds or self.words.seconds} s: {self.told()}")
+            time.sleep(0.05)
+
+    def told(self):
+        rows = patiently(self.port.show, 5).nodes
+        return "shown (node, epoch, confirmed) " + \
+            " ".join(f"{row.node}:{row.epoch}/{row.confirmed}" for row in rows if row.node < 20) + \
+            "; begun (node, last epoch, times) " + " ".join(
+                f"{node}:{last}/{times}" for node in self.nodes if node < 20
+                for times, last in [self.begun(node)])
+
+    def expect_begun(self, what, before=None, nodes=None):
+        """Every service has begun anew, after as many times as it had begun before, the epoch that its node has, and
+        confirmed it."""
+        before = before or {}
+
+        def holds():
+            rows = {row.node: row for row in patiently(self.port.show, 5).nodes}
+            return all(self.begun(node)[0] > before.get(node, 0) and rows[node].is_begun
+                       and self.begun(node)[1] == rows[node].epoch for node in nodes or self.nodes)
+        self.expect(what, holds)
+
+    def times(self):
+        return {node: self.begun(node)[0] for node in self.nodes}
+
+    def reset_all(self, what, node=1, is_killed=False):
+        """A reset, after which every service begins anew."""
+        before = self.times()
+        self.reset(node, is_killed)
+        self.expect_begun(what, before)
+
+    def put_back(self, copy):
+        """The store is what it was when the copy was taken."""
+        self.close()
+        shutil.copy(copy, self.server.store)
+        self.start()
+        self.orders.recover()
+
+    def renew(self):
+        """What the page says to do once a restored store is served."""
+        if "restored" not in self.words.without:
+            status, told = self.resetctl("restored")
+            if status != 0 or "have a new epoch" not in told:
+                raise Failed(f"resetctl restored: status {status}, {told}")
+
+    def resetctl(self, *words):
+        """A command of the person on call, with a client of its own. Its status and what it printed."""
+        done = subprocess.run([f"{ROOT}/client/resetctl", "--address", self.server.address, "--client", str(OPERATOR - 1),
+                               "--state", f"{self.folder}/state", *words], capture_output=True, encoding="utf-8", check=False)
+        return done.returncode, done.stdout + done.stderr
+
+    def end(self):
+        self.stop_helpers()
+        self.orders.close()
+        if self.server.process and self.server.process.poll() is None:
+            self.server.kill()
+
+
+def free_ports(count):
+    sockets = [socket.create_server(("127.0.0.1", 0)) for _ in range(count)]
+    ports = [each.getsockname()[1] for each in sockets]
+    for each in sockets:
+        each.close()
+    return ports
+
+
+def read(path):
+    if not os.path.exists(path):
+        return ""
+    with open(path, encoding="utf-8") as file:
+        return file.read()

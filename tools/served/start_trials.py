@@ -1,0 +1,94 @@
+"""Trials of stores that go back and of members that come again, with the example services."""
+
+import shutil
+
+from .services import read
+from .signal_trials import begin_first
+
+
+def restore(trial):
+    """A store is put back that was copied before two resets: one while service 3 was down, one while all were, which
+    nobody has begun. Every service begins anew, and later resets go through as before."""
+    trial.services()
+    trial.expect_begun("the services began")
+    third = trial.helpers[-2:]
+    trial.close()
+    shutil.copy(trial.server.store, f"{trial.folder}/copy")
+    trial.start()
+    before = trial.times()
+    trial.stop_helpers(*third)
+    trial.reset()
+    trial.expect_begun("a reset while service 3 is down", before, nodes=(1, 2))
+    put_back(trial, before, up=(1, 2))
+    shutil.copy(trial.server.store, f"{trial.folder}/copy")
+    trial.start()
+    before = trial.times()
+    trial.stop_helpers()
+    trial.reset()
+    put_back(trial, before, up=())
+    trial.start()
+    trial.reset_all("the first reset after a restore", is_killed=True)
+    trial.reset_all("the second reset after a restore")
+
+
+def put_back(trial, before, up):
+    """By the words of the page, with services that are up and others that are started behind it; then a close."""
+    trial.put_back(f"{trial.folder}/copy")
+    trial.renew()
+    for node in trial.nodes:
+        if node not in up:
+            trial.service(node)
+    trial.expect_begun("the restored store", before)
+    trial.close()
+
+
+def again(trial):
+    """A member is removed, added again and reset: it begins anew, though it had begun that epoch before."""
+    begin_first(trial)
+    before = trial.times()
+    for other in (1, 2):
+        trial.order("drop", a=3, b=other)
+    trial.order("remove", node=3)
+    trial.order("add", node=3, group=1)
+    for other in (1, 2):
+        trial.order("join", a=3, b=other)
+    trial.reset(is_killed=True)
+    trial.expect_begun("the reset after node 3 was removed and added again", before)
+
+
+def plain(trial):
+    """A member in plain bash beside two behind a gateway: they begin together, and come to one tag."""
+    def up():
+        trial.run("gateway", "1-2", 1, trial.server.address, f"{trial.folder}/gateway", "--signals",
+                  trial.server.signals, "--look", 0.3, name="gateway")
+        for node in (1, 2):
+            trial.run("member", f"{trial.folder}/gateway/{node}", name=node)
+        trial.run("plain_member", 3, *trial.server.address.split(":"), f"{trial.folder}/3", name=3)
+
+    def goes_on(what, before=None):
+        trial.expect_begun(what, before)
+        trial.expect(f"one run {what}", lambda: len(tags := {
+            read(f"{trial.folder}/{name}/run").strip().split(" ")[-1] for name in ("gateway/1", "gateway/2", "3")}) == 1 and tags != {""})
+    up()
+    goes_on("at first")
+    trial.reset_all("a reset")
+    trial.close()
+    shutil.copy(trial.server.store, f"{trial.folder}/copy")
+    trial.start()
+    trial.reset_all("a reset with a kill in it", is_killed=True)
+    goes_on("after it")
+    before = trial.times()
+    trial.stop_helpers()
+    trial.put_back(f"{trial.folder}/copy")
+    up()
+    goes_on("after a restore", before)
+    before = trial.times()
+    for other in (1, 2):
+        trial.order("drop", a=3, b=other)
+    trial.order("remove", node=3)
+    trial.order("add", node=3, group=1)
+    trial.order("join", a=3, b=1)
+    goes_on("after it was removed and added again", before)
+    trial.stop_helpers()
+    up()
+    goes_on("after an end")
