@@ -34,7 +34,7 @@ pub fn run_program<
         LacksWords OutOfMemory result (files_around (R.remaining input.old)
         (W.contents output.old) (E.contents errors.old)) (files_around (R.remaining input.new)
         (W.contents output.new) (E.contents errors.new))
-        ⊎ ((came : List String) × Drains I.next_gives words came ×
+        ⊎ ((came : List I.Item) × Drains I.next_gives words came ×
         Runs (map string_bytes came) result (files_around (R.remaining input.old)
         (W.contents output.old) (E.contents errors.old)) (files_around (R.remaining input.new)
         (W.contents output.new) (E.contents errors.new)))) }
