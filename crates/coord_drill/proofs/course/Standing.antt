@@ -56,7 +56,7 @@ module _ {D : Type 0} (disk : Ghosts D) (crashes : D → D → Type 0) where
         kept = subst (λ m. AllKept m [] (disk.present begun)) same (first_kept d.driver begun may there on);
       }
 
--- ---- what is asked
+  -- ---- what is asked
 
   -- how often the disk has failed in events
   pub failed_is : (old new : D) (before now : Option D) (es : List Event) (given : List Answer) → ((n : ℕ) → HasFailed disk.failures before n → HasFailed disk.failures now (n + failed_until es given)) → before ≡ Some old → now ≡ Some new → disk.failures new ≡ disk.failures old + failed_until es given

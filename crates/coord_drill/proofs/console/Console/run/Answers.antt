@@ -51,8 +51,8 @@ returns-then-count-eq0-clause-failed g c =
     let consumed = Consumes-none _ _ _ inv.2.0 c.read_once.new.buf c.in-Ok.count inv.2.1 c.in-Ok.ensures.bytes.0 c.if-count-eq0.true in
     IfErr-weaker c.finish.result _ _
     (λ refused both.
-        let breaks = takes_break g.D.Disk g.D.CrashDisk.crashes d.drill 0 d.line inv.2.0 _ _ s.drill s.number s.line inv.2.3 [] _ refused.0 refused.1 both.1 in
-        (inv.2.0, consumed, subst (λ seen. BreaksOff g.D.Disk g.D.CrashDisk.crashes d.drill 1 (lines_on d.line seen) (g.W.Write.contents c.args.writer.now) (g.W.Write.contents c.finish.new.writer) refused.0 refused.1) (append-nil inv.2.0) breaks, λ e. absurd (both.0.1 e)))
+    let breaks = takes_break g.D.Disk g.D.CrashDisk.crashes d.drill 0 d.line inv.2.0 _ _ s.drill s.number s.line inv.2.3 [] _ refused.0 refused.1 both.1 in
+    (inv.2.0, consumed, subst (λ seen. BreaksOff g.D.Disk g.D.CrashDisk.crashes d.drill 1 (lines_on d.line seen) (g.W.Write.contents c.args.writer.now) (g.W.Write.contents c.finish.new.writer) refused.0 refused.1) (append-nil inv.2.0) breaks, λ e. absurd (both.0.1 e)))
     (if_err_both _ _ c.finish.result c.finish.ensures.fault c.finish.ensures.failed)
 
 pub returns-in_err-console-clause-failed : goal.returns-in_err-console-clause-failed

@@ -31,11 +31,16 @@ returns-in-Ok-print_opened-clause-told g c =
     let leads : IsPromised g.D.Disk d Crash → Leads g.D.Disk g.D.CrashDisk.crashes d.driver (event.Crash ∷ []) (Opened count ∷ []) w =
     λ promised. leads_one g.D.Disk g.D.CrashDisk.crashes d.driver w event.Crash (Opened count) after_crash tt c.survives.ensures c.survives-2.ensures c.in-Ok.ensures.model
     (λ n has. let none : n ≡ n + 0 = omega arith in subst (HasFailed g.D.Disk.failures (disk_driven w)) none (c.in-Ok.ensures.failures n has))
-    (λ b s is follows. c.in-Ok.ensures.answered b s is follows promised.0) c.in-Ok.ensures.disk in
-    (line, (text, λ promised.
-        let led = leads promised in
-        carries g.D.Disk g.D.CrashDisk.crashes d _ Crash (Opened count ∷ []) line refl begins led (no_refusal _ refl, tt) (crash_line (drill_of d.driver.ledger d.holds d.has_begun) count)
-        (crash_after g.D.Disk g.D.CrashDisk.crashes d.driver w d.holds d.has_begun count (run_of g.D.Disk g.D.CrashDisk.crashes d.driver w (event.Crash ∷ []) (Opened count ∷ []) begins led) c.in-Ok.ensures.anew)))
+    (λ b s is follows. c.in-Ok.ensures.answered b s is follows promised.0) c.in-Ok.ensures.disk in (
+      line,
+      (
+        text,
+        λ promised.
+            let led = leads promised in
+            carries g.D.Disk g.D.CrashDisk.crashes d _ Crash (Opened count ∷ []) line refl begins led (no_refusal _ refl, tt) (crash_line (drill_of d.driver.ledger d.holds d.has_begun) count)
+            (crash_after g.D.Disk g.D.CrashDisk.crashes d.driver w d.holds d.has_begun count (run_of g.D.Disk g.D.CrashDisk.crashes d.driver w (event.Crash ∷ []) (Opened count ∷ []) begins led) c.in-Ok.ensures.anew),
+      ),
+    )
 
 pub returns-in-Err-print_opened-clause-cut : goal.returns-in-Err-print_opened-clause-cut
 returns-in-Err-print_opened-clause-cut g c promised =
