@@ -3,14 +3,13 @@
 from __future__ import annotations
 
 import random
-import threading
 import time
 from collections.abc import Callable, Mapping
 
 from .answers import Away, NotTaken, Outcome, Refusal, Refused
 from .orders import Order, Orders, warn
 from .port import patiently
-from .signals import Wake, Wakes
+from .signals import Clock, Wake, Wakes
 from .view import View
 
 STOP_SECONDS = 0.1  # of a wait that is looked into for a `stop`
@@ -25,7 +24,7 @@ class Following:
 
     def __init__(self, orders: Orders, told: Callable[[str], None] = warn) -> None:
         self.orders, self._told = orders, told
-        self._stopping = threading.Event()
+        self._is_stopping = False  # no lock, since a signal's handler may set it
         self._asked: set[int] = set()  # nodes for which resets were asked, and none of which has talked since
 
     def look(self) -> View:
@@ -33,13 +32,14 @@ class Following:
         raise NotImplementedError
 
     def stop(self) -> None:
-        """Ends `follow`, from any thread, within a moment or after the answer that it waits for."""
-        self._stopping.set()
+        """Ends `follow`, from any thread or a signal's handler, within a moment or after the answer that it waits
+        for."""
+        self._is_stopping = True
 
     def _look_patiently(self) -> View | None:
         """A look, made again and again while the coordinator is away. None once `stop` was called."""
         wait, is_told = 0.1, False
-        while not self._stopping.is_set():
+        while not self._is_stopping:
             try:
                 return self.look()
             except Stopped:
@@ -48,14 +48,14 @@ class Following:
                 if not is_told:
                     self._told(f"{away}; tried again")
             is_told = True
-            self._stopping.wait(wait * random.uniform(0.75, 1.25))
+            self._wait(Clock(), wait * random.uniform(0.75, 1.25))
             wait = min(wait * 1.5, 2.0)
         return None
 
     def _wait(self, wakes: Wakes, seconds: float, is_due: Callable[[], bool] = lambda: False) -> Wake:
         """Waits for a wake-up, or until something is due or `stop` is called."""
         until = time.monotonic() + seconds
-        while not self._stopping.is_set():
+        while not self._is_stopping:
             left = until - time.monotonic()
             wake = wakes.wait(max(0.0, min(left, STOP_SECONDS)))
             if wake is not Wake.QUIET or left <= 0 or is_due():
@@ -80,7 +80,7 @@ class Following:
     def _order(self, orders: list[Order], passed: set[Refusal]) -> None:
         """Carries out orders; those refusals of them pass."""
         def ordered() -> list[Outcome]:
-            if self._stopping.is_set():
+            if self._is_stopping:
                 raise Stopped
             return self.orders.order_all(orders)
         while orders:

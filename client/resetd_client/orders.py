@@ -18,7 +18,7 @@ Order = dict[str, Any]
 
 CLIENTS = range(1, 17)
 MOST_TRIED = 200_000  # numbers, where a lost count is looked for: some seconds
-FIRST_PROBES, PROBES = 4, 1_024  # of them over one connection, the first and the others
+FIRST_PROBES, PROBES = 4, 1_024  # of them over one connection, at first, and at most
 MOST_RECOVERIES = 3  # of the count for one series: others may order as the same client meanwhile
 MOST_NUMBER = (1 << 64) - 1
 NEXT_IS = frozenset({Refusal.BAD_EPOCH, Refusal.UNKNOWN_NODE})
@@ -266,7 +266,7 @@ def find_count(port: Port, client: int, near: int = 0, most: int = MOST_TRIED) -
                 return number - 1
             if answer.refusal is not Refusal.OUT_OF_TURN:
                 raise answer
-        tried, at_once = tried + len(part), PROBES
+        tried, at_once = tried + len(part), min(16 * at_once, PROBES)
     raise CountNotFound(
         f"client {client}: {tried} numbers were tried, around {near} and none above {greatest}, and none is its last "
         f"or its next: use a client that was never used, or try more")

@@ -44,7 +44,7 @@ class Signals:
             begun, text = file.tell(), file.read()
         now = Mark(self._path, found.st_ino, begun + text.rfind(b"\n") + 1, shown)
         lacking = []
-        if mark and is_same and not LISTENING.search(text) and not went_back(mark.epochs, shown):
+        if mark and is_same and not LISTENING.search(text):
             there = {(int(line[1]), int(line[2])) for line in SIGNAL.finditer(text)}
             lacking = [(node, epoch) for node, epoch in shown.items()
                        if epoch > mark.epochs.get(node, 0) and (node, epoch) not in there]
@@ -59,8 +59,3 @@ class Signals:
             return Mark(str(kept["path"]), int(kept["inode"]), int(kept["place"]), epochs)
         except (ValueError, KeyError, TypeError, AttributeError):
             return None
-
-
-def went_back(before: dict[int, int], now: dict[int, int]) -> bool:
-    """Whether a node has a lower epoch: it was removed and added again, or the store is another one."""
-    return any(epoch < before.get(node, 0) for node, epoch in now.items())

@@ -95,7 +95,7 @@ class Lagging(Case):
 
     def test_lines_of_before_its_first_look_may_be_gone(self) -> None:
         self.server.reset(1)
-        self.assertEqual((self.look(0), self.look(10)), ((), ()))
+        self.assertEqual((self.look(0), self.look(10), self.look(20)), ((), (), ()))
 
     def test_lines_that_a_kill_or_a_new_file_took_may_be_gone(self) -> None:
         self.look(0)
@@ -114,7 +114,7 @@ class Lagging(Case):
         self.look(0)
         for op, members in (("drop", {"a": 1, "b": 2}), ("remove", {"node": 2}), ("add", {"node": 2, "group": 1})):
             self.server.by_somebody(op, **members)
-        self.assertEqual((self.look(10), self.look(20)), ((), ()))
+        self.assertEqual((self.look(10), self.look(20), self.look(30)), ((), (), ()))
 
     def test_no_file(self) -> None:
         os.remove(self.path)

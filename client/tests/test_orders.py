@@ -7,7 +7,7 @@ from unittest import mock
 
 from case import Case, in_memory, over_both
 from resetd_client import (
-    Away, CountLost, CountNotFound, Fault, Faulted, Held, NotNow, Port, Refused, Reply, find_count, patiently)
+    Away, CountLost, CountNotFound, Fault, Faulted, Held, NotNow, Orders, Port, Refused, Reply, find_count, patiently)
 from resetd_client.answers import CARRIED_OUT, Outcome
 from resetd_client.orders import Order, outwards
 from resetd_client.port import TooLong
@@ -186,6 +186,15 @@ class Together(Case):
         before = self.server.connections
         self.patient(self.adds(*range(3, 60)))
         self.assertEqual(self.server.connections - before, 2)
+
+    def test_in_one_packet_to_the_program(self) -> None:
+        if not self.is_real:
+            self.skipTest("the program alone")
+        book = Orders(Port(self.server.behind, 10), 2, f"{self.folder}/direct", told=self.told.append)
+        self.addCleanup(book.close)
+        outcomes = book.order_all([*self.adds(*range(3, 60)), {"op": "reset", "node": 1}, *self.adds(1, 60)])
+        self.assertEqual([type(outcome) for outcome in outcomes], [*[Reply] * 58, Refused])
+        self.assertEqual((self.nodes(), self.server.last(2)), (list(range(1, 60)), 58))
 
     def test_more_than_one_part(self) -> None:
         pairs = [(3, 4), *[(a, b) for a in range(1, 13) for b in range(a + 1, 13)]]

@@ -148,7 +148,7 @@ def main():
     node, address, folder, own, peer, signals, *without = sys.argv[1:]
     os.makedirs(folder, exist_ok=True)
     queue = Queue(int(node), folder)
-    port = Port(address, 10)
+    port = Port(address, 30)
     orders = Orders(port, int(node), folder, recovers=True, held_seconds=5)
     member = Member(port, orders, int(node), queue.work["epoch"] if queue.work else None, queue.begin)
     if without:

@@ -297,9 +297,9 @@ def between_confirms_without_files(trial):
     trial.renew()
 
 
-WAYS = (with_one_down, between_confirms, twice, while_served, added_again_down, added_again_up, moved,
-        moved_and_added_again, work_lost, own_copy, new_store, old_host, confirmed_for, parted,
-        between_confirms_without_files)
+# those that take a reset for each epoch come first, while there are few
+WAYS = (new_store, added_again_down, added_again_up, moved_and_added_again, with_one_down, between_confirms, twice,
+        while_served, moved, work_lost, own_copy, old_host, confirmed_for, parted, between_confirms_without_files)
 # after these every member has to have another start than before
 RENEWING = (plain_reset, by_the_page)
 EVENTS = 20

@@ -35,7 +35,7 @@ class Trial:
         if done[0] != 0:
             raise Failed(f"resetd init: {done}")
         self.start()
-        self.port = Port(self.server.address, 10)
+        self.port = Port(self.server.address, 30)
         self.orders = Orders(self.port, OPERATOR, f"{folder}/operator", told=lambda _: None)
 
     def start(self):

@@ -25,8 +25,9 @@ use std::alloc::{AllocError, Global};
 /// The most reads of one call of `serve`.
 pub const MOST_READS: u64 = 1_048_576;
 
-/// The most bytes that one read asks for: room for the orders of a flight, of 128 bytes each.
-const READ_LEN: usize = 32_768;
+/// The most bytes that one read asks for: some forty orders. A connection may be cut between two reads,
+/// so what one read brings is no more than a part of what a client sends.
+const READ_LEN: usize = 2_048;
 
 /// How a call of `serve` ends well.
 #[derive(Clone, Copy, Debug, PartialEq, Eq)]

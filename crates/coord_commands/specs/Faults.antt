@@ -56,7 +56,7 @@ abbrev pub fault_of_drill : DrillFault → Fault
 fault_of_drill of_drill.Read = Read
 fault_of_drill of_drill.Write = Write
 fault_of_drill of_drill.TooManyReads = TooManyReads
-fault_of_drill of_drill.Device = Store of_store.Device
+fault_of_drill (of_drill.Store fault) = Store fault
 fault_of_drill of_drill.OutOfMemory = OutOfMemory
 
 abbrev pub fault_of_server : ServerFault → Fault

@@ -36,9 +36,9 @@ abbrev pub GivesEitherVersion : Option Present → Option Present → Type 0
 GivesEitherVersion before after = IfSome before (λ old. IfSome after (λ new. (image : List ℕ) → IsImage new image → IsEitherVersion old image))
 
 -- nor does it at any moment from the one disk to the other, in which the device has failed so often
-pub record Raises {D : Type 0} (keeps_model : D → Bool) (present : D → Present) (clock : D → ℕ) (left_since : D → ℕ → List ℕ → Type 0) (failures : D → ℕ) (failed : ℕ) (old new : D) : Type 0 where
+pub record Raises {D : Type 0} (keeps_model : D → Bool) (present : D → Present) (clock : D → ℕ) (left_since : D → ℕ → List ℕ → Type 0) (failures_of : D → ℕ) (failed : ℕ) (old new : D) : Type 0 where
   pub any_moment : keeps_model old ≡ true → LeavesOnly clock left_since old new (IsEitherVersion (present old))
-  pub failures : failures new ≡ failures old + failed
+  pub failures : failures_of new ≡ failures_of old + failed
 
 -- so with the disk of a name, which was taken and put back
 pub record RaisesNamed {D : Type 0} (keeps_model : D → Bool) (present : D → Present) (clock : D → ℕ) (left_since : D → ℕ → List ℕ → Type 0) (failures : D → ℕ) (failed : ℕ) (before after : Option Present) : Type 0 where

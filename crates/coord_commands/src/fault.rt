@@ -122,7 +122,7 @@ impl From<coord_drill::Fault> for Fault {
             coord_drill::Fault::Read => Fault::Read,
             coord_drill::Fault::Write => Fault::Write,
             coord_drill::Fault::TooManyReads => Fault::TooManyReads,
-            coord_drill::Fault::Device => Fault::Store(StoreFault::Device),
+            coord_drill::Fault::Store(fault) => Fault::Store(fault),
             coord_drill::Fault::OutOfMemory => Fault::OutOfMemory,
         }
     }

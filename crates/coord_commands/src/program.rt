@@ -1,6 +1,7 @@
 //! The whole program, over its words, its streams and a runtime.
 
-ghost use Rattle.std.specs.Prelude.{◌≡◌, ◌≢◌, ◌⊎◌, List, Err, IfErr, IfOk, map, string_bytes};
+ghost use Rattle.std.specs.Prelude.{◌≡◌, ◌≢◌, ◌⊎◌, List, String, Err, IfErr, IfOk, map, string_bytes};
+ghost use Rattle.std.specs.Global.{Global};
 ghost use Rattle.std.specs.Iterator.{Drains, IsFinite};
 ghost use Rattle.std.specs.IoError.{error_kind};
 ghost use Rattle.coord_commands.specs.Running.{LacksWords, Runs, files_around};
@@ -34,7 +35,7 @@ pub fn run_program<
         LacksWords OutOfMemory result (files_around (R.remaining input.old)
         (W.contents output.old) (E.contents errors.old)) (files_around (R.remaining input.new)
         (W.contents output.new) (E.contents errors.new))
-        ⊎ ((came : List String) × Drains I.next_gives words came ×
+        ⊎ ((came : List (String Global)) × Drains I.next_gives words came ×
         Runs (map string_bytes came) result (files_around (R.remaining input.old)
         (W.contents output.old) (E.contents errors.old)) (files_around (R.remaining input.new)
         (W.contents output.new) (E.contents errors.new)))) }

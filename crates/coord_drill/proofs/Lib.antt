@@ -1,3 +1,4 @@
 mod requests
 pub mod does
+pub mod course
 mod prints

@@ -6,4 +6,8 @@ pub mod Settled
 pub mod Verdicts
 pub mod LineResponds
 pub mod Moments
+pub mod Tells
+pub mod Cuts
+pub mod Crashes
+pub mod Raising
 pub mod Flushes

@@ -78,11 +78,7 @@ pub record IsAnswered (s : DrillState) (a : Asked) (given : List Answer) (told :
   pub printed : told ≡ asked_lines s a given
   pub goes_on : t ≡ after_asked s a given
 
--- so with some answers
-abbrev pub Does : DrillState → Asked → List ℕ → DrillState → Type 0
-Does s a told t = (given : List Answer) × IsAnswered s a given told t
-
--- so may the line of this number, by what it asks for; a bad line asks for nothing
-abbrev pub Responds : DrillState → ℕ → Option Request → List ℕ → DrillState → Type 0
-Responds s n None told t = (told ≡ bad_line n) × (t ≡ s)
-Responds s n (Some r) told t = Does s (asked (front_world s.log) r) told t
+-- so may the line of this number, by what it asks for and these answers; a bad line asks for nothing
+abbrev pub Responds : DrillState → ℕ → Option Request → List Answer → List ℕ → DrillState → Type 0
+Responds s n None given told t = (given ≡ []) × (told ≡ bad_line n) × (t ≡ s)
+Responds s n (Some r) given told t = IsAnswered s (asked (front_world s.log) r) given told t

@@ -4,6 +4,7 @@ use Rattle.std.specs.Str.{is_utf8}
 use Rattle.coord_lines.specs.Lines.{Line, lines_of}
 pub use Rattle.coord_lines.specs.Written.{WritesFirstPart}
 use Rattle.coord_world.specs.protocol.NumberedWorld.{no_world}
+use Rattle.coord_ledger.specs.declared.events.Answer.{Answer}
 use Rattle.coord_drill.specs.declared.request.Request.{Request}
 use Rattle.coord_drill.specs.declared.request.Request.TheVariants.{Version2}
 use Rattle.coord_drill.specs.Answered.{Responds}
@@ -30,21 +31,23 @@ abbrev pub asked_by : DrillState → List ℕ → Option Request
 asked_by s line = parsed (version_of s) line >>= unless_late s
 
 -- a skipped line prints nothing and changes nothing
-abbrev pub UnlessSkipped : Bool → DrillState → List ℕ → DrillState → Type 0 → Type 0
-UnlessSkipped true s told t Otherwise = (told ≡ []) × (t ≡ s)
-UnlessSkipped false s told t Otherwise = Otherwise
+abbrev pub UnlessSkipped : Bool → DrillState → List Answer → List ℕ → DrillState → Type 0 → Type 0
+UnlessSkipped true s given told t Otherwise = (given ≡ []) × (told ≡ []) × (t ≡ s)
+UnlessSkipped false s given told t Otherwise = Otherwise
 
--- the line of this number may print this and leave the drill so; a line over the limit is bad, be it a comment or not
-abbrev pub LineResponds : DrillState → ℕ → Line → List ℕ → DrillState → Type 0
-LineResponds s n None told t = Responds s n None told t
-LineResponds s n (Some line) told t = UnlessSkipped (is_skipped line) s told t (Responds s n (asked_by s line) told t)
+-- With these answers to its events the line of this number may print this and leave the drill so; a line over the limit
+-- is bad, be it a comment or not.
+abbrev pub LineResponds : DrillState → ℕ → Line → List Answer → List ℕ → DrillState → Type 0
+LineResponds s n None given told t = Responds s n None given told t
+LineResponds s n (Some line) given told t = UnlessSkipped (is_skipped line) s given told t (Responds s n (asked_by s line) given told t)
 
 -- a text that is what a line prints, and behind it what is printed to the drill that it leaves
-pub record PrintsOn (Line : List ℕ → DrillState → Type 0) (Behind : DrillState → List ℕ → Type 0) (text : List ℕ) : Type 0 where
+pub record PrintsOn (Line : List Answer → List ℕ → DrillState → Type 0) (Behind : DrillState → List ℕ → Type 0) (text : List ℕ) : Type 0 where
+  pub given : List Answer
   pub told : List ℕ
   pub after : DrillState
   pub rest : List ℕ
-  pub line : Line told after
+  pub line : Line given told after
   pub behind : Behind after rest
   pub whole : text ≡ told ++ rest
 

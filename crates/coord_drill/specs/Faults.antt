@@ -1,5 +1,6 @@
 -- Which faults may come, and how they are told.
 use Rattle.std.specs.Prelude.{◌≡◌, ◌≢◌, ◌⊎◌, ℕ, Bool, true, false, Result, Ok, IsErr, MatchResult}
+use Rattle.coord_store.specs.Refused.{failed_in}
 use Rattle.coord_store.specs.declared.faults.StoreFault.{StoreFault}
 use Rattle.coord_store.specs.declared.faults.StoreFault.TheVariants as store
 use Rattle.coord_ledger.specs.declared.trace.RunFaultKind.{RunFaultKind}
@@ -7,15 +8,15 @@ use Rattle.coord_ledger.specs.declared.trace.RunFaultKind.TheVariants as of_run
 use Rattle.coord_drill.specs.declared.asked.Asked.{Asked}
 use Rattle.coord_drill.specs.declared.asked.Asked.TheVariants.{Crash, Version2}
 use Rattle.coord_drill.specs.declared.fault.Fault.{Fault}
-use Rattle.coord_drill.specs.declared.fault.Fault.TheVariants.{Device, OutOfMemory, Read, TooManyReads, Write}
+use Rattle.coord_drill.specs.declared.fault.Fault.TheVariants.{OutOfMemory, Read, Store, TooManyReads, Write}
 
 -- want of memory
 abbrev pub IsOfMemory : Fault → Type 0
 IsOfMemory fault = fault ≡ OutOfMemory
 
--- or a failure of the drill's own disk
+-- or the store is refused on the drill's disk
 abbrev pub IsOfDisk : Fault → Type 0
-IsOfDisk fault = IsOfMemory fault ⊎ (fault ≡ Device)
+IsOfDisk fault = IsOfMemory fault ⊎ ((why : StoreFault) × (fault ≡ Store why))
 
 -- or one of the writer
 abbrev pub IsOfWriting : Fault → Type 0
@@ -25,13 +26,13 @@ IsOfWriting fault = IsOfMemory fault ⊎ (fault ≡ Write)
 abbrev pub IsOfWork : Fault → Type 0
 IsOfWork fault = (fault ≢ Read) × (fault ≢ TooManyReads)
 
--- what is asked may make a disk, or open one again
+-- what is asked may raise a store, or open one again
 abbrev pub opens_disk : Asked → Bool
 opens_disk Crash = true
 opens_disk Version2 = true
 opens_disk asked = false
 
--- only then a failure of the disk may end it
+-- only then a refused store may end it
 abbrev pub MayEndBy : Bool → Fault → Type 0
 MayEndBy true fault = IsOfDisk fault
 MayEndBy false fault = IsOfMemory fault
@@ -39,15 +40,28 @@ MayEndBy false fault = IsOfMemory fault
 abbrev pub MayEnd : Asked → Fault → Type 0
 MayEnd a fault = MayEndBy (opens_disk a) fault
 
--- a store that is refused on the drill's own disk was so for want of memory, or else the disk failed
+-- how a refused store is told
 abbrev pub store_fault : StoreFault → Fault
 store_fault store.OutOfMemory = OutOfMemory
-store_fault fault = Device
+store_fault why = Store why
 
 -- a crash whose disk was not opened again lacked memory, or is told as its store's fault
 abbrev pub reopen_fault : RunFaultKind → Fault
 reopen_fault of_run.OutOfMemory = OutOfMemory
 reopen_fault (of_run.Store fault) = store_fault fault
+
+-- how often the disk has failed in what is told so
+abbrev pub failed_by : Fault → ℕ
+failed_by (Store why) = failed_in why
+failed_by fault = 0
+
+-- on a disk that keeps the model a line is cut short for want of memory, or because the disk failed
+abbrev pub IsPassing : Fault → Type 0
+IsPassing fault = IsOfMemory fault ⊎ (fault ≡ Store store.Device)
+
+-- no store was refused
+abbrev pub IsOfNoStore : Fault → Type 0
+IsOfNoStore fault = (why : StoreFault) → fault ≢ Store why
 
 -- of a write's answer the bytes that were taken are told; a fault is one where none were, and so may none be
 abbrev pub TellsOfWrite : {E : Type 0} → Result ℕ E → Result ℕ Fault → Type 0

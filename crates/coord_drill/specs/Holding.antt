@@ -1,21 +1,15 @@
 -- What the code holds: a ledger with its store at home, and a ticket for each pending step; and what it prints of these.
-use Rattle.std.specs.Prelude.{◌≡◌, ℕ, ◌-◌, ◌==◌, nat_le, List, [], ◌∷◌, ◌++◌, Option, Some, None, if◌then◌else◌, Bool}
+use Rattle.std.specs.Prelude.{◌≡◌, ◌⊎◌, ℕ, ◌-◌, ◌==◌, nat_le, List, [], ◌∷◌, ◌++◌, Option, Some, None, if◌then◌else◌, Bool}
 use Rattle.std.specs.List.{AllByRecursion}
-use Rattle.std.specs.Option.{option_map_or}
-use Rattle.coord_disk.specs.Disks.Memory.{present_of}
-use Rattle.coord_disk.specs.Model.Present.{Present}
-use Rattle.coord_disk.specs.declared.memory.MemDisk.{MemDisk}
-use Rattle.coord_store.specs.Kept.{made}
 use Rattle.coord_types.specs.declared.steps.Step.{Step}
 use Rattle.coord_world.specs.Facade.{World, next, no_world, reply}
 use Rattle.coord_ledger.specs.declared.events.Answer.{Answer}
 use Rattle.coord_ledger.specs.declared.events.Answer.TheVariants.{Begun, Committed, Failed, Finished, Nothing}
 use Rattle.coord_ledger.specs.declared.release.Release.{Release}
-use Rattle.coord_ledger.specs.Facade.{Claim, Driven, IsGranted, LedgerState, Log, claimed, front_world, ledger_over, log_over, pending, reply_of, settled_world, settling_releases}
+use Rattle.coord_ledger.specs.Facade.{Claim, Driven, IsGranted, LedgerState, Log, claimed, front_world, log_over, pending, reply_of, settled_world, settling_releases}
 use Rattle.coord_drill.specs.Drill.{DrillState}
 use Rattle.coord_drill.specs.Printed.{commit_line, output_line, reply_line}
 use Rattle.coord_drill.specs.declared.drill.Drill.{Drill}
-use Rattle.coord_drill.specs.declared.drill.TheConstants.{HALF_SIZE}
 use Rattle.coord_drill.specs.declared.drill.flying.Flown.{Flown}
 use Rattle.coord_drill.specs.declared.drill.flying.Flown.TheVariants as flown
 
@@ -25,38 +19,31 @@ claims_of w [] = []
 claims_of w (s ∷ ss) = claimed s (reply w s) ∷ claims_of (next w s) ss
 
 -- a ticket for each pending step
-abbrev pub IsHeld : LedgerState MemDisk → List Claim → Type 0
+abbrev pub IsHeld : {D : Type 0} → LedgerState D → List Claim → Type 0
 IsHeld l claims = claims ≡ claims_of (settled_world l.log) (pending l.log)
 
--- a drill holds these, and no flight is out; it goes without only once it has ended with a fault
-abbrev pub IsReadyWith : Option (Driven MemDisk) → List Claim → Type 0
-IsReadyWith None claims = ⊥
-IsReadyWith (Some v) claims = (v.flight ≡ None) × IsHeld v.ledger claims
+-- a driver with these tickets, of which no flight is out
+abbrev pub IsReadyWith : {D : Type 0} → Driven D → List Claim → Type 0
+IsReadyWith v claims = (v.flight ≡ None) × IsHeld v.ledger claims
 
-abbrev pub IsReady : Drill → Type 0
+abbrev pub IsReady : {D : Type 0} → Drill D → Type 0
 IsReady d = IsReadyWith d.driver d.tickets.items
 
--- its store is at home, and its disk is so
-abbrev pub HasDisk : Drill → Present → Type 0
-HasDisk d present = (v : Driven MemDisk) × (disk : MemDisk) × (d.driver ≡ Some v) × (v.ledger.disk ≡ Some disk) × (present_of disk ≡ present)
-
 -- the state of a drill over this ledger
-abbrev pub drill_of : LedgerState MemDisk → Bool → Bool → DrillState
+abbrev pub drill_of : {D : Type 0} → LedgerState D → Bool → Bool → DrillState
 drill_of l holds begun = record { log = l.log; holds = holds; has_begun = begun }
 
-abbrev pub state_of : Drill → DrillState
-state_of d = record { log = option_map_or (λ v. v.ledger.log) d.driver (log_over (no_world 1)); holds = d.holds; has_begun = d.has_begun }
+abbrev pub state_of : {D : Type 0} → Drill D → DrillState
+state_of d = drill_of d.driver.ledger d.holds d.has_begun
 
-abbrev pub front_of : Drill → World
-front_of d = front_world (state_of d).log
+abbrev pub front_of : {D : Type 0} → Drill D → World
+front_of d = front_world d.driver.ledger.log
 
 -- ---- what calls make of a ledger
 
--- it is over the world of this version before any step, and so is its disk
-pub record IsMade (version : ℕ) (l : LedgerState MemDisk) : Type 0 where
-  pub disk : MemDisk
-  pub adopted : l ≡ ledger_over (no_world version) disk
-  pub present : present_of disk ≡ made HALF_SIZE version
+-- no step was accepted: it is over the world of version 1 or 2 before any step
+abbrev pub IsEmptyLog : Log → Type 0
+IsEmptyLog log = (log ≡ log_over (no_world 1)) ⊎ (log ≡ log_over (no_world 2))
 
 -- its steps are settled: the base stays, and what is released is what they give
 pub record Settles (old : Log) (releases : List Release) (new : Log) : Type 0 where

@@ -5,9 +5,12 @@ pub mod Asked
 pub mod Drill
 pub mod Printed
 pub mod Answered
+pub mod Told
 pub mod Drilled
 pub mod Laws
 pub mod WorkedLines
 pub mod Holding
+pub mod Course
 pub mod Moments
+pub mod Lines
 pub mod Facade

@@ -1,85 +1,184 @@
--- What a line does to the drill's disk, moment by moment.
+-- What a line does to the drill's disk, moment by moment, as the code's functions say it of each other.
 --
--- The events of a line are a run of the driver, from the ledger that the line before left, with just the answers that
--- the line's text and the drill's new state go by. Of that run holds what is kept of every run of events: its answers
--- are the event machine's, and the headline's chain of moments (`EachMoment`) leads from the disk as it was before the
--- line to the disk that is then held. So at each moment of the line, whatever the disk may hold gives the world after a
--- prefix of the accepted steps, a legal one, with each step that was settled, and those are the steps whose replies,
--- packets and signals are printed.
-use Rattle.std.specs.Prelude.{◌≡◌, ◌≢◌, ℕ, List, [], ◌∷◌, ◌++◌, true, Option, Some, None, Result}
+-- The events of a line lead from one driver to another, whatever machine the first one follows: with just the answers
+-- that the line's text and the drill's new state go by. The answers are that machine's, what is then driven follows it,
+-- and the headline's chain of moments (`EachMoment`) leads from the disk as it was before the line to the disk then.
+use Rattle.std.specs.Prelude.{◌≡◌, ◌≢◌, ◌⊎◌, ℕ, ◌+◌, ◌≤◌, List, [], ◌∷◌, length, take, false, true, Option, Some, None, Result}
 use Rattle.std.specs.List.{AllByRecursion}
-use Rattle.coord_disk.specs.Disks.History.{LeftSince}
-use Rattle.coord_disk.specs.Disks.Memory.{CrashesByChoice, clock_of, past_of, present_of}
-use Rattle.coord_disk.specs.declared.memory.MemDisk.{MemDisk}
+use Rattle.coord_disk.specs.Model.Moments.{LeavesOnly}
+use Rattle.coord_disk.specs.declared.disk.Disk.{Ghosts}
+use Rattle.coord_store.specs.Facade.{GivesEither}
+use Rattle.coord_store.specs.Migrating.{risen}
+use Rattle.coord_store.specs.Kept.{made}
 use Rattle.coord_types.specs.declared.refusals.Refusal.{Refusal}
 use Rattle.coord_types.specs.declared.refusals.Refusal.TheVariants.{OutOfMemory}
 use Rattle.coord_types.specs.declared.steps.Reply.{Reply}
 use Rattle.coord_types.specs.declared.steps.Step.{Step}
+use Rattle.coord_world.specs.Facade.{no_world}
 use Rattle.coord_ledger.specs.declared.events.Answer.{Answer}
 use Rattle.coord_ledger.specs.declared.events.Answer.TheVariants.{Refused}
 use Rattle.coord_ledger.specs.declared.events.Event.{Event}
 use Rattle.coord_ledger.specs.declared.events.Event.TheVariants.{Submit}
 use Rattle.coord_ledger.specs.declared.handed.Handed.{Handed}
-use Rattle.coord_ledger.specs.Facade.{Beside, Driven, Drives, HandedTo, LedgerState, answer_to, held, run}
+use Rattle.coord_ledger.specs.Facade.{Answered, Beside, Driven, EachMoment, EventInRange, Follows, HandedTo, HasFailed, IsConsistent, LedgerState, Machine, MayBegin, Reopens, Survives, answer_to, disk_driven, failed_until, has_stopped, held, ledger_over, model_driven, nothing_beside, run, settled_count, settled_world, started}
 use Rattle.coord_drill.specs.Answered.{IsAnswered, flight_lines}
+use Rattle.coord_drill.specs.Course.{AllKept, Place, start}
 use Rattle.coord_drill.specs.Drill.{flight_events, line_events, machine_of, seen_as}
-use Rattle.coord_drill.specs.Holding.{IsMade, state_of}
+use Rattle.coord_drill.specs.Faults.{IsOfMemory, IsPassing, failed_by}
+use Rattle.coord_drill.specs.Holding.{IsEmptyLog, state_of}
 use Rattle.coord_drill.specs.declared.asked.Asked.{Asked}
-use Rattle.coord_drill.specs.declared.asked.Asked.TheVariants.{Version2}
+use Rattle.coord_drill.specs.declared.asked.Asked.TheVariants.{Crash, Version2}
 use Rattle.coord_drill.specs.declared.drill.Drill.{Drill}
+use Rattle.coord_drill.specs.declared.drill.TheConstants.{HALF_SIZE}
+use Rattle.coord_drill.specs.declared.fault.Fault.{Fault}
 
--- these events with these answers are a run from a ledger at home, that has come to what is driven
-pub record IsRun (l : LedgerState MemDisk) (events : List Event) (given : List Answer) (d : Driven MemDisk) : Type 0 where
+-- ---- events
+
+-- events have led from this disk to one that is held now
+pub record LedDisk {D : Type 0} (disk : Ghosts D) (crashes : D → D → Type 0) (s : Machine) (events : List Event) (given : List Answer) (old : D) (now : Option D) : Type 0 where
+  pub new : D
+  pub holds : now ≡ Some new
+  pub keeps : disk.keeps_model new ≡ true
+  pub moments : EachMoment disk.present disk.clock disk.left_since crashes true s events given old new
+
+-- events have led from one driver to another, where the first follows this machine
+pub record Led {D : Type 0} (disk : Ghosts D) (crashes : D → D → Type 0) (s : Machine) (events : List Event) (given : List Answer) (d new : Driven D) : Type 0 where
   pub beside : Beside
-  pub first : MemDisk
-  pub home : l.disk ≡ Some first
-  pub drives : Drives present_of clock_of (λ disk. LeftSince (past_of disk)) CrashesByChoice true first l events given (held d beside)
+  pub in_range : AllByRecursion EventInRange events
+  pub answered : Answered s events given
+  pub consistent : IsConsistent (run s events given)
+  pub follows : Follows (held new beside) (run s events given)
+  pub moments : (old : D) → disk_driven d ≡ Some old → disk.keeps_model old ≡ true → LedDisk disk crashes s events given old (disk_driven new)
+  pub failed : (n : ℕ) → HasFailed disk.failures (disk_driven d) n → HasFailed disk.failures (disk_driven new) (n + failed_until events given)
 
--- a run may begin at what a drill holds
-abbrev pub Begins : Option (Driven MemDisk) → Type 0
-Begins None = ⊥
-Begins (Some d) = IsRun d.ledger [] [] d
+-- so whatever machine it follows
+abbrev pub Leads : {D : Type 0} → Ghosts D → (D → D → Type 0) → Driven D → List Event → List Answer → Driven D → Type 0
+Leads disk crashes d events given new = (b : Beside) (s : Machine) → IsConsistent s → Follows (held d b) s → Led disk crashes s events given d new
 
--- a run that has come to the one goes on to the other
-abbrev pub GoesOnTo : Driven MemDisk → List Event → List Answer → Driven MemDisk → Type 0
-GoesOnTo d events given new = (l : LedgerState MemDisk) (es : List Event) (gs : List Answer) → IsRun l es gs d → IsRun l (es ++ events) (gs ++ given) new
+-- a driver follows the machine over its own log
+pub record Begins {D : Type 0} (d : Driven D) : Type 0 where
+  pub consistent : IsConsistent (started d.ledger)
+  pub follows : Follows (held d nothing_beside) (started d.ledger)
 
--- by the events of a flight
-abbrev pub GoesBy : Driven MemDisk → List Answer → Driven MemDisk → Type 0
-GoesBy d given new = GoesOnTo d (flight_events given) given new
+-- from there the events have led to another driver
+abbrev pub IsRun : {D : Type 0} → Ghosts D → (D → D → Type 0) → Driven D → List Event → List Answer → Driven D → Type 0
+IsRun disk crashes d events given new = Led disk crashes (started d.ledger) events given d new
 
--- a driver is handed a step, and runs go on by that
-pub record Hands (d : Driven MemDisk) (x : Step) (answer : Result Handed Refusal) (new : Driven MemDisk) : Type 0 where
+-- so a flight does
+abbrev pub GoesBy : {D : Type 0} → Ghosts D → (D → D → Type 0) → Driven D → List Answer → Driven D → Type 0
+GoesBy disk crashes d given new = Leads disk crashes d (flight_events given) given new
+
+-- Of these events, by their answers, a first part was answered, and the disk was given up as it was then.
+pub record LeadsPart {D : Type 0} (disk : Ghosts D) (crashes : D → D → Type 0) (d : Driven D) (events : List Answer → List Event) (lost : D) : Type 0 where
+  pub given : List Answer
+  pub mid : Driven D
+  pub moments : Leads disk crashes d (take (length given) (events given)) given mid
+  pub left : disk_driven mid ≡ Some lost
+
+-- a driver is handed a step
+pub record Hands {D : Type 0} (disk : Ghosts D) (crashes : D → D → Type 0) (d : Driven D) (x : Step) (answer : Result Handed Refusal) (new : Driven D) : Type 0 where
   pub handed : HandedTo d.ledger x answer new.ledger
   pub flight : new.flight ≡ d.flight
-  pub moments : GoesOnTo d (Submit x ∷ []) (answer_to answer ∷ []) new
+  pub stays : disk_driven new ≡ disk_driven d
+  pub moments : Leads disk crashes d (Submit x ∷ []) (answer_to answer ∷ []) new
 
--- so with what a drill holds
-abbrev pub GoesOn : Option (Driven MemDisk) → List Event → List Answer → Option (Driven MemDisk) → Type 0
-GoesOn None events given new = ⊥
-GoesOn (Some d) events given None = ⊥
-GoesOn (Some d) events given (Some new) = GoesOnTo d events given new
+-- ---- the line `version 2`
 
--- a line is a run of its events; the line `version 2` makes a new disk
-abbrev pub Moves : Asked → List Event → List Answer → Driven MemDisk → Driven MemDisk → Type 0
-Moves Version2 events given d new = IsMade 2 new.ledger
-Moves other events given d new = IsRun d.ledger events given new
+-- these bytes give the settled world, in its own version or in version 2
+abbrev pub GivesRaised : {D : Type 0} → Driven D → List ℕ → Type 0
+GivesRaised d = GivesEither (settled_world d.ledger.log) (risen (settled_world d.ledger.log))
 
-abbrev pub MovesFrom : Asked → List Event → List Answer → Option (Driven MemDisk) → Option (Driven MemDisk) → Type 0
-MovesFrom a events given None new = ⊥
-MovesFrom a events given (Some d) None = ⊥
-MovesFrom a events given (Some d) (Some new) = Moves a events given d new
+-- the store at home, which has not stopped, was raised, and is the new ledger's
+pub record RaisesTo {D : Type 0} (disk : Ghosts D) (crashes : D → D → Type 0) (d new : Driven D) : Type 0 where
+  pub begins : MayBegin disk.keeps_model disk.present disk.clock disk.left_since crashes new
+  pub old : D
+  pub there : disk_driven d ≡ Some old
+  pub raised : D
+  pub is : new.ledger ≡ ledger_over (risen (settled_world d.ledger.log)) raised
+  pub now : disk_driven new ≡ Some raised
+  pub keeps : disk.keeps_model old ≡ true → disk.keeps_model raised ≡ true
+  pub failed : disk.failures raised ≡ disk.failures old
+  pub moments : has_stopped d.ledger.log ≡ false → disk.keeps_model old ≡ true → LeavesOnly disk.clock disk.left_since old raised (GivesRaised d)
+
+-- it was given up at a moment of that, for this fault
+pub record RaisesPart {D : Type 0} (disk : Ghosts D) (d : Driven D) (why : Fault) (lost : D) : Type 0 where
+  pub old : D
+  pub there : disk_driven d ≡ Some old
+  pub moments : has_stopped d.ledger.log ≡ false → disk.keeps_model old ≡ true → LeavesOnly disk.clock disk.left_since old lost (GivesRaised d)
+  pub cause : IsEmptyLog d.ledger.log → IsPassing why
+  pub failed : disk.failures lost ≡ disk.failures old + failed_by why
+
+-- ---- what is asked
+
+-- events, or the raising of the store
+abbrev pub LeadsBy : {D : Type 0} → Ghosts D → (D → D → Type 0) → Asked → Drill D → List Answer → Drill D → Type 0
+LeadsBy disk crashes Version2 d given new = RaisesTo disk crashes d.driver new.driver
+LeadsBy disk crashes a d given new = Leads disk crashes d.driver (line_events d.holds a given) given new.driver
 
 -- what is asked prints this and leaves this drill: text, state and disk go by the same answers to its events
-pub record Carries (d : Drill) (a : Asked) (told : List ℕ) (new : Drill) : Type 0 where
+pub record Carries {D : Type 0} (disk : Ghosts D) (crashes : D → D → Type 0) (d : Drill D) (a : Asked) (told : List ℕ) (new : Drill D) : Type 0 where
   pub given : List Answer
   pub answered : IsAnswered (state_of d) a given told (state_of new)
-  pub moments : MovesFrom a (line_events d.holds a given) given d.driver new.driver
+  pub moments : LeadsBy disk crashes a d given new
+
+-- What is said of a line's moments: on a disk that keeps the model, and of `version 2` before any step.
+abbrev pub IsPromised : {D : Type 0} → Ghosts D → Drill D → Asked → Type 0
+IsPromised disk d a = (model_driven disk.keeps_model d.driver ≡ Some true) × (a ≡ Version2 → IsEmptyLog d.driver.ledger.log)
+
+abbrev pub CarriesIf : {D : Type 0} → Ghosts D → (D → D → Type 0) → Drill D → Asked → List ℕ → Drill D → Type 0
+CarriesIf disk crashes d a told new = IsPromised disk d a → Carries disk crashes d a told new
+
+-- the disk was given up in a crash, behind the taking of an image
+pub record IsLostInCrash {D : Type 0} (disk : Ghosts D) (crashes : D → D → Type 0) (d : Driven D) (why : Fault) (lost : D) : Type 0 where
+  pub moments : (b : Beside) (s : Machine) → IsConsistent s → Follows (held d b) s → (old : D) → disk_driven d ≡ Some old → disk.keeps_model old ≡ true → Reopens disk.present disk.clock disk.left_since crashes (Survives s) old lost
+  pub cause : model_driven disk.keeps_model d ≡ Some true → IsPassing why
+  pub failed : (n : ℕ) → HasFailed disk.failures (disk_driven d) n → disk.failures lost ≡ n + failed_by why
+
+-- for want of memory behind a part of its events
+abbrev pub LacksMemory : {D : Type 0} → Ghosts D → (D → D → Type 0) → Asked → Drill D → Fault → D → Type 0
+LacksMemory disk crashes a d why lost = IsOfMemory why × LeadsPart disk crashes d.driver (line_events d.holds a) lost
+
+-- what is asked was cut short for this fault, and this disk given up
+abbrev pub Cuts : {D : Type 0} → Ghosts D → (D → D → Type 0) → Asked → Drill D → Fault → D → Type 0
+Cuts disk crashes Version2 d why lost = RaisesPart disk d.driver why lost
+Cuts disk crashes Crash d why lost = LacksMemory disk crashes Crash d why lost ⊎ IsLostInCrash disk crashes d.driver why lost
+Cuts disk crashes a d why lost = LacksMemory disk crashes a d why lost
+
+abbrev pub CutsIf : {D : Type 0} → Ghosts D → (D → D → Type 0) → Asked → Drill D → Fault → D → Type 0
+CutsIf disk crashes a d why lost = IsPromised disk d a → Cuts disk crashes a d why lost
 
 -- a flight prints this and leaves this drill, whatever tickets the machine has given before it
-pub record Flies (d : Drill) (told : List ℕ) (new : Drill) : Type 0 where
+pub record Flies {D : Type 0} (disk : Ghosts D) (crashes : D → D → Type 0) (d : Drill D) (told : List ℕ) (new : Drill D) : Type 0 where
   pub given : List Answer
   pub with_memory : AllByRecursion (λ answer. answer ≢ Refused OutOfMemory) given
   pub printed : told ≡ flight_lines (state_of d).log given
   pub goes_on : (tickets : List (Option Reply)) → state_of new ≡ seen_as (run (record (machine_of (state_of d)) { tickets = tickets }) (flight_events given) given) d.holds d.has_begun
-  pub moments : GoesOn d.driver (flight_events given) given new.driver
+  pub moments : GoesBy disk crashes d.driver given new.driver
+
+-- ---- where the code's drill is
+
+-- It stands at this place, on a disk that keeps the model. What was told of is settled, and as long as no step was
+-- accepted its world is empty.
+pub record Stands {D : Type 0} (disk : Ghosts D) (d : Drill D) (p : Place D) : Type 0 where
+  pub state : p.state ≡ state_of d
+  pub holds : disk_driven d.driver ≡ Some p.disk
+  pub keeps : disk.keeps_model p.disk ≡ true
+  pub consistent : IsConsistent p.machine
+  pub beside : Beside
+  pub follows : Follows (held d.driver beside) p.machine
+  pub told : AllByRecursion (λ n. n ≤ settled_count p.machine.log) p.told
+  pub empty : p.state.has_begun ≡ false → IsEmptyLog p.state.log
+  pub kept : AllKept p.machine p.told (disk.present p.disk)
+
+-- a ledger over a store that was made on this disk
+pub record IsMade {D : Type 0} (disk : Ghosts D) (given : D) (l : LedgerState D) : Type 0 where
+  pub begun : D
+  pub is : l ≡ ledger_over (no_world 1) begun
+  pub keeps : disk.keeps_model begun ≡ disk.keeps_model given
+  pub made : disk.keeps_model given ≡ true → disk.present begun ≡ made HALF_SIZE 1
+
+-- a store was just made on its disk
+pub record IsBegun {D : Type 0} (disk : Ghosts D) (d : Drill D) : Type 0 where
+  pub begun : D
+  pub made : disk.present begun ≡ made HALF_SIZE 1
+  pub stands : Stands disk d (start begun)

@@ -1,14 +1,19 @@
 //! A drill over a reader and a writer.
 
-ghost use Rattle.std.specs.Prelude.{◌≡◌, ◌++◌, ◌<◌, ◌≤◌, ◌+◌, ◌-◌, ◌^◌, ℕ, List, [], OnOk, OnErr, IfErr, IfOk, IfSome, Some, length};
+ghost use Rattle.std.specs.Prelude.{◌≡◌, ◌⊎◌, ◌<◌, ◌≤◌, ◌+◌, ◌-◌, ◌^◌, ℕ, List, [], true, OnOk, IfErr, IfOk, IfSome, Some, length};
 ghost use Rattle.std.specs.Io.KnownBytes.{Appends, Consumes, IsAtEnd};
+ghost use Rattle.coord_ledger.specs.Facade.{disk_driven};
 ghost use Rattle.coord_lines.specs.Lines.{lines_on};
-ghost use Rattle.coord_world.specs.protocol.NumberedWorld.{no_world};
-ghost use Rattle.coord_drill.specs.Drill.{drill_over};
-ghost use Rattle.coord_drill.specs.Drilled.{IsDrilled, Prints, WritesFirstPart};
+ghost use Rattle.coord_drill.specs.Course.{BrokeOff, Ended, NotMade};
+ghost use Rattle.coord_drill.specs.Drilled.{IsDrilled, WritesFirstPart};
 ghost use Rattle.coord_drill.specs.Faults.{IsOfDisk, IsOfWork};
-ghost use Rattle.coord_drill.specs.Holding.{IsReady, state_of};
+ghost use Rattle.coord_drill.specs.Holding.{IsReady};
+ghost use Rattle.coord_drill.specs.Lines.{BreaksOff, EndsWith, Takes};
+ghost use Rattle.coord_drill.specs.Moments.{IsBegun};
 ghost use Rattle.coord_drill.specs.declared.fault.Fault.TheVariants.{TooManyReads};
+ghost use Rattle.coord_disk.specs.Disks.Memory.{choice_of, present_of};
+ghost use Rattle.coord_disk.specs.Model.Present.{whole};
+ghost use Rattle.coord_disk.specs.declared.choice.Choice.TheVariants.{Kept};
 
 mod lines;
 
@@ -16,6 +21,7 @@ use crate::answers::read_once;
 use crate::drill::Drill;
 use crate::fault::Fault;
 use crate::writing::{fault_of, write_text};
+use coord_disk::{Choice, CrashDisk, Disk, MemDisk};
 use coord_lines::LineBuffer;
 use std::alloc::Global;
 use std::io::{Read, Write};
@@ -26,8 +32,9 @@ pub const MOST_READS: u64 = 1_048_576;
 /// The most bytes that one read asks for.
 const READ_LEN: usize = 512;
 
-/// Reads requests to the end of the input, a line each, and prints what becomes of each. Where it
-/// fails, a first part is printed of what may be printed for the input that was read.
+/// Reads requests to the end of the input, a line each, and prints what becomes of each: the drill
+/// over a disk in memory, of which a crash keeps what a read gives. Where it fails, a first part is
+/// printed of what may be printed for the input that was read.
 pub fn coord_drill<R: Read, W: Write>(
     alloc: Global,
     reader: &mut R,
@@ -43,16 +50,56 @@ pub fn coord_drill<R: Read, W: Write>(
         WritesFirstPart (W.contents writer.old) (W.contents writer.new) text)
         × (fault ≡ TooManyReads → MOST_READS ≤ length seen)) }
 {
-    let mut console = Console::new(alloc)?;
-    let ended = console.run(alloc, reader, writer);
-    console.end();
-    ended
+    match coord_drill_on(alloc, reader, writer, new_disk(alloc)) {
+        Ok(_disk) => Ok(()),
+        Err((fault, _disk)) => Err(fault),
+    }
 }
 
-/// A drill that takes its input in pieces of any length. It has to be spent, by `end`. Once a call
-/// has failed it serves for nothing else.
-struct Console {
-    drill: Drill,
+/// Reads requests to the end of the input, a line each, and prints what becomes of each; its store
+/// is made on the disk, which has to be empty. The disk is given back, where it fails too.
+///
+/// The main theorem, over a disk that keeps the model: at each moment of the whole input, between
+/// its lines and inside them, until the end or the fault, whatever a crash may leave of the disk is
+/// the world after a first part of the accepted steps, a legal one, and that part holds every step
+/// whose reply, packet or signal was printed (`specs/Course.antt`).
+pub fn coord_drill_on<R: Read, W: Write, D: CrashDisk>(
+    alloc: Global,
+    reader: &mut R,
+    writer: &mut W,
+    disk: D,
+) -> Result<D, (Fault, D)>
+    ensures ended { D.keeps_model disk ≡ true → IfOk result (λ last. (seen text : List ℕ)
+        × Consumes (R.remaining reader.old) (R.remaining reader.new) seen
+        × Ended ⟦<D as Disk>⟧ D.crashes seen text last
+        × Appends (W.contents writer.old) (W.contents writer.new) text) }
+    ensures end { OnOk result (IsAtEnd (R.remaining reader.new)) }
+    ensures failed { D.keeps_model disk ≡ true → IfErr result (λ refused. ((seen : List ℕ)
+        × Consumes (R.remaining reader.old) (R.remaining reader.new) seen
+        × BrokeOff ⟦<D as Disk>⟧ D.crashes seen (W.contents writer.old) (W.contents writer.new)
+        refused.0 refused.1
+        × (refused.0 ≡ TooManyReads → MOST_READS ≤ length seen))
+        ⊎ (NotMade ⟦<D as Disk>⟧ disk refused.0 refused.1
+        × (R.remaining reader.new ≡ R.remaining reader.old)
+        × (W.contents writer.new ≡ W.contents writer.old))) }
+{
+    Console::new(alloc, disk)?.run(alloc, reader, writer)
+}
+
+/// A disk in memory with nothing on it, of which a crash keeps what a read gives.
+fn new_disk(alloc: Global) -> MemDisk
+    ensures empty { present_of result ≡ whole [] }
+    ensures choice { choice_of result ≡ Kept }
+{
+    let mut disk = MemDisk::new(alloc);
+    disk.choose(Choice::Kept);
+    disk
+}
+
+/// A drill that takes its input in pieces of any length. It has to be spent, by `into_disk`. A call
+/// that fails gives the disk back.
+struct Console<D: CrashDisk> {
+    drill: Drill<D>,
     line: LineBuffer,
     /// How many lines have ended.
     number: u64,
@@ -60,111 +107,121 @@ struct Console {
     text: String,
 }
 
-impl Console {
-    fn new(alloc: Global) -> Result<Self, Fault>
+impl<D: CrashDisk> Console<D> {
+    fn new(alloc: Global, disk: D) -> Result<Self, (Fault, D)>
         ensures ready { IfOk result (λ console. IsReady console.drill) }
-        ensures drill { IfOk result (λ console. state_of console.drill ≡ drill_over (no_world 1)) }
+        ensures begun { D.keeps_model disk ≡ true →
+            IfOk result (λ console. IsBegun ⟦<D as Disk>⟧ console.drill) }
         ensures line { IfOk result (λ console. console.line ≡ Some []) }
         ensures number { IfOk result (λ console. console.number ≡ 0) }
-        ensures fault { IfErr result IsOfDisk }
+        ensures not_made { D.keeps_model disk ≡ true →
+            IfErr result (λ refused. NotMade ⟦<D as Disk>⟧ disk refused.0 refused.1) }
+        ensures fault { IfErr result (λ refused. IsOfDisk refused.0) }
     {
         Ok(Console {
-            drill: Drill::new(alloc)?,
+            drill: Drill::new(alloc, disk)?,
             line: LineBuffer::new(),
             number: 0,
             text: String::new(alloc),
         })
     }
 
-    /// Reads to the end of the input.
+    /// Reads to the end of the input, and gives the disk back.
     fn run<R: Read, W: Write>(
-        &mut self,
+        self,
         alloc: Global,
         reader: &mut R,
         writer: &mut W,
-    ) -> Result<(), Fault>
-        requires ready { IsReady self.old.drill }
-        requires number { self.old.number ≡ 0 }
-        ensures printed { OnOk result (IfSome (R.remaining reader.old) (λ input. (text : List ℕ)
-            × Prints (state_of self.old.drill) 1 (lines_on self.old.line input) text
-            × Appends (W.contents writer.old) (W.contents writer.new) text)) }
-        ensures end { OnOk result (IsAtEnd (R.remaining reader.new)) }
-        ensures failed { IfErr result (λ fault. (seen : List ℕ)
+    ) -> Result<D, (Fault, D)>
+        requires ready { IsReady self.drill }
+        requires number { self.number ≡ 0 }
+        ensures ended { IfOk result (λ last. (seen : List ℕ)
             × Consumes (R.remaining reader.old) (R.remaining reader.new) seen
-            × ((text : List ℕ) × Prints (state_of self.old.drill) 1
-            (lines_on self.old.line seen) text ×
-            WritesFirstPart (W.contents writer.old) (W.contents writer.new) text)
-            × (fault ≡ TooManyReads → MOST_READS ≤ length seen)) }
+            × EndsWith ⟦<D as Disk>⟧ D.crashes self.drill 1 (lines_on self.line seen)
+            (W.contents writer.old) (W.contents writer.new) last) }
+        ensures end { OnOk result (IsAtEnd (R.remaining reader.new)) }
+        ensures failed { IfErr result (λ refused. (seen : List ℕ)
+            × Consumes (R.remaining reader.old) (R.remaining reader.new) seen
+            × BreaksOff ⟦<D as Disk>⟧ D.crashes self.drill 1 (lines_on self.line seen)
+            (W.contents writer.old) (W.contents writer.new) refused.0 refused.1
+            × (refused.0 ≡ TooManyReads → MOST_READS ≤ length seen)) }
     {
+        let mut console = self;
         let mut bytes = [0; READ_LEN];
         for _ in 0..MOST_READS {
             let count = match read_once(reader, &mut bytes) {
                 Ok(count) => count,
-                Err(fault) => return Err(fault),
+                Err(fault) => return Err((fault, console.into_disk())),
             };
             if count == 0 {
-                return self.finish(writer);
+                return console.finish(writer);
             }
-            self.answer(alloc, &bytes[..count], writer)?;
+            console = console.answer(alloc, &bytes[..count], writer)?;
         }
-        Err(Fault::TooManyReads)
+        Err((Fault::TooManyReads, console.into_disk()))
     }
 
     /// Takes a piece of the input, and prints in one write what its lines print. Where a line fails,
     /// what was printed before it is written.
-    fn answer<W: Write>(&mut self, alloc: Global, piece: &[u8], writer: &mut W) -> Result<(), Fault>
-        requires ready { IsReady self.old.drill }
-        requires number { self.old.number + length piece.now < 2 ^ 64 - 1 }
-        ensures ready { OnOk result (IsReady self.new.drill) }
-        ensures number { OnOk result (self.new.number ≤ self.old.number + length piece.now) }
-        ensures printed { OnOk result ((text : List ℕ) ×
-            Appends (W.contents writer.old) (W.contents writer.new) text
-            × ((more rest : List ℕ) →
-            Prints (state_of self.new.drill) (self.new.number + 1)
-            (lines_on self.new.line more) rest
-            → Prints (state_of self.old.drill) (self.old.number + 1)
-            (lines_on self.old.line (piece.now ++ more)) (text ++ rest))) }
-        ensures failed { OnErr result ((text : List ℕ)
-            × Prints (state_of self.old.drill) (self.old.number + 1)
-            (lines_on self.old.line piece.now) text
-            × WritesFirstPart (W.contents writer.old) (W.contents writer.new) text) }
-        ensures fault { IfErr result IsOfWork }
+    fn answer<W: Write>(
+        self,
+        alloc: Global,
+        piece: &[u8],
+        writer: &mut W,
+    ) -> Result<Self, (Fault, D)>
+        requires ready { IsReady self.drill }
+        requires number { self.number + length piece.now < 2 ^ 64 - 1 }
+        ensures ready { IfOk result (λ console. IsReady console.drill) }
+        ensures number { IfOk result (λ console. console.number ≤ self.number + length piece.now) }
+        ensures taken { IfOk result (λ console. Takes ⟦<D as Disk>⟧ D.crashes
+            self.drill self.number self.line piece.now []
+            (W.contents writer.old) (W.contents writer.new)
+            console.drill console.number console.line) }
+        ensures failed { IfErr result (λ refused. BreaksOff ⟦<D as Disk>⟧ D.crashes
+            self.drill (self.number + 1) (lines_on self.line piece.now)
+            (W.contents writer.old) (W.contents writer.new) refused.0 refused.1) }
+        ensures fault { IfErr result (λ refused. IsOfWork refused.0) }
     {
         let mut text = Vec::new(alloc);
         let taken = self.take(piece, &mut text);
-        write_text(writer, &text)?;
-        taken
-    }
-
-    /// Ends the input. Its last line may lack its line feed.
-    fn finish<W: Write>(&mut self, writer: &mut W) -> Result<(), Fault>
-        requires ready { IsReady self.old.drill }
-        requires number { self.old.number < 2 ^ 64 - 1 }
-        ensures printed { OnOk result ((text : List ℕ)
-            × Prints (state_of self.old.drill) (self.old.number + 1)
-            (lines_on self.old.line []) text
-            × Appends (W.contents writer.old) (W.contents writer.new) text) }
-        ensures failed { OnErr result ((text : List ℕ)
-            × Prints (state_of self.old.drill) (self.old.number + 1)
-            (lines_on self.old.line []) text
-            × WritesFirstPart (W.contents writer.old) (W.contents writer.new) text) }
-        ensures fault { IfErr result IsOfWork }
-    {
-        self.end_line(writer)?;
-        if let Err(error) = writer.flush() {
-            return Err(fault_of(&error));
+        match write_text(writer, &text) {
+            Ok(()) => taken,
+            Err(fault) => match taken {
+                Ok(console) => Err((fault, console.into_disk())),
+                Err((_, disk)) => Err((fault, disk)),
+            },
         }
-        Ok(())
     }
 
-    /// Ends the drill.
-    fn end(self) {
+    /// Ends the input, and gives the disk back. Its last line may lack its line feed.
+    fn finish<W: Write>(self, writer: &mut W) -> Result<D, (Fault, D)>
+        requires ready { IsReady self.drill }
+        requires number { self.number < 2 ^ 64 - 1 }
+        ensures ended { IfOk result (λ last. EndsWith ⟦<D as Disk>⟧ D.crashes
+            self.drill (self.number + 1) (lines_on self.line [])
+            (W.contents writer.old) (W.contents writer.new) last) }
+        ensures failed { IfErr result (λ refused. BreaksOff ⟦<D as Disk>⟧ D.crashes
+            self.drill (self.number + 1) (lines_on self.line [])
+            (W.contents writer.old) (W.contents writer.new) refused.0 refused.1) }
+        ensures fault { IfErr result (λ refused. IsOfWork refused.0) }
+    {
+        let disk = self.end_line(writer)?.into_disk();
+        match writer.flush() {
+            Ok(()) => Ok(disk),
+            Err(error) => Err((fault_of(&error), disk)),
+        }
+    }
+
+    /// Ends the drill, and gives its disk back.
+    fn into_disk(self) -> D
+        ensures { disk_driven self.drill.driver ≡ Some result }
+    {
         let Console {
             drill,
             line: _,
             number: _,
             text: _,
         } = self;
-        drill.end();
+        drill.into_disk()
     }
 }

@@ -12,8 +12,8 @@ pub enum Fault {
     Write,
     /// The end of the input was not met within `MOST_READS` reads.
     TooManyReads,
-    /// The disk failed while it was made or opened.
-    Device,
+    /// The store was not made on the disk, not opened after a crash, or not raised.
+    Store(StoreFault),
     /// There was not enough memory.
     OutOfMemory,
 }
@@ -24,11 +24,10 @@ impl From<StoreFault> for Fault {
 
     ghost from_gives = { λ told fault. fault ≡ store_fault told };
 
-    // The bytes of a drill's disk are a store's, so no other fault is met.
     fn from(fault: StoreFault) -> Fault {
         match fault {
             StoreFault::OutOfMemory => Fault::OutOfMemory,
-            _ => Fault::Device,
+            why => Fault::Store(why),
         }
     }
 }

@@ -1,9 +1,11 @@
 //! The drill: requests read line by line from a reader, and what becomes of each printed to a
 //! writer.
 //!
-//! It stands on a ledger over a disk in memory. Each accepted step is settled at once by one flight,
+//! It stands on a ledger over a disk that may crash: that of [`coord_drill`] is one in memory, and
+//! [`coord_drill_on`] takes any. Each accepted step is settled at once by one flight,
 //! unless steps are held; a crash loses what is not settled. It begins in version 1, and is one of
-//! version 2 from a line `version 2` on, which is read before its first accepted step alone. What is
+//! version 2 from a line `version 2` on, which is read before its first accepted step alone: the
+//! empty store is raised where it stands. What is
 //! read and printed of an Abort goes by the version.
 //!
 //! `specs/Grammar.antt` says what a line asks for and `specs/Asked.antt` what that is by the front
@@ -11,9 +13,11 @@
 //! line; `specs/Answered.antt` what is printed to it, and `specs/Printed.antt` the lines themselves,
 //! but for those of a view, which are coord_view's.
 //! Memory, the device and a crash choose among the machine's answers: that is the luck of a line.
-//! `specs/Drilled.antt` says what may be printed to a whole input, for some luck at each line. The
-//! main theorem is the contract of [`coord_drill`]: what was written may be printed to all that was
-//! read. The grammar's law is that of [`spelled_is_read`]: no two requests share a line.
+//! `specs/Drilled.antt` says what may be printed to a whole input, for some luck at each line, and
+//! `specs/Course.antt` what the disk goes through meanwhile. The main theorem is the contract of
+//! [`coord_drill_on`]: what was written is printed to all that was read, and at each moment of that
+//! whatever a crash may leave of the disk is a legal world after a first part of the accepted steps,
+//! with every step of which anything was printed. The grammar's law is that of [`spelled_is_read`]: no two requests share a line.
 #![tactic(auto)]
 
 mod answers;
@@ -28,6 +32,6 @@ mod request;
 mod words;
 mod writing;
 
-pub use console::{MOST_READS, coord_drill};
+pub use console::{MOST_READS, coord_drill, coord_drill_on};
 pub use fault::Fault;
 pub use laws::{spelled_is_read, worked_lines};

@@ -35,6 +35,7 @@ pub fn write_text<W: Write>(writer: &mut W, text: &[u8]) -> Result<(), Fault>
 pub fn fault_of(error: &Error) -> Fault
     ensures memory { error_kind error.now ≡ ErrorKind.OutOfMemory → result ≡ Fault.OutOfMemory }
     ensures other { error_kind error.now ≢ ErrorKind.OutOfMemory → result ≡ Fault.Write }
+    ensures fault { IsOfWriting result }
 {
     match error.kind() {
         ErrorKind::OutOfMemory => Fault::OutOfMemory,

@@ -14,6 +14,8 @@ mod folders;
 #[cfg(test)]
 mod migrating;
 #[cfg(test)]
+mod over_disks;
+#[cfg(test)]
 mod program;
 #[cfg(test)]
 mod scripts;

@@ -1,37 +1,19 @@
 -- What flights, steps and crashes print, and what becomes of the drill, by the answers to their events.
-use Rattle.std.proofs.Common.{Bool, ◌≡◌, ℕ, true, false, cond, List, [], ◌∷◌, Ok, Err, Option, Some, None, refl, sym, ap, ◌∙◌, subst}
-use Rattle.std.specs.Option.{option_map_or}
+use Rattle.std.proofs.Common.{Bool, ◌≡◌, ℕ, true, false, cond, List, [], ◌∷◌, Ok, Err, Some, None, refl, sym, ap, ◌∙◌}
 use Rattle.coord_types.specs.declared.steps.Kind.{Kind}
-use Rattle.coord_world.specs.protocol.NumberedWorld.{World, no_world}
+use Rattle.coord_disk.specs.declared.disk.Disk.{Ghosts}
+use Rattle.coord_world.specs.protocol.NumberedWorld.{World}
 use Rattle.coord_ledger.specs.declared.events.Event.TheVariants as event
-use Rattle.coord_ledger.specs.Facade.{Claim, Driven, IsAnew, LedgerState, after_submit, held, ledger_over, log_over, pending, run as after_run, settled_count, settled_world, started, verdict, with_step}
+use Rattle.coord_ledger.specs.Facade.{Claim, Driven, IsAnew, LedgerState, after_submit, held, ledger_over, pending, run as after_run, settled_count, settled_world, started, verdict, with_step}
 use Rattle.coord_ledger.proofs.follows.Follows.{log_behind}
 use Rattle.coord_drill.specs.Answered.{asked_lines, flight_lines, kept_line, repeat_line}
 use Rattle.coord_drill.specs.Drill.{DrillState, after_asked, flight_events, machine_of, seen_as}
 use Rattle.coord_drill.specs.declared.asked.Asked.TheVariants.{Crash, Submit}
-use Rattle.coord_drill.specs.Facade.{Accepted, Answer, Drill, Fresh, IsHeld, IsReady, IsReadyWith, IsRun, MemDisk, Opened, Refusal, Refused, Repeat, Repeated, Reply, Step, claims_of, drill_of, opened_line, pending_line, refusal_line, state_of}
-
--- ---- drills over a ledger
-
-pub state_is : (d : Drill) (v : Driven MemDisk) → d.driver ≡ Some v → state_of d ≡ drill_of v.ledger d.holds d.has_begun
-state_is d v is = ap (λ o. record { log = option_map_or (λ (k : Driven MemDisk). k.ledger.log) o (log_over (no_world 1)); holds = d.holds; has_begun = d.has_begun }) is
-
-pub driver_of : (d : Drill) → IsReady d → (v : Driven MemDisk) × (d.driver ≡ Some v)
-driver_of d ready = by_driver d.driver refl ready
-  where
-    by_driver : (o : Option (Driven MemDisk)) → d.driver ≡ o → IsReadyWith o d.tickets.items → (v : Driven MemDisk) × (d.driver ≡ Some v)
-    by_driver None is ready = absurd ready
-    by_driver (Some v) is ready = (v, is)
-
-pub held_is : (d : Drill) (v : Driven MemDisk) → d.driver ≡ Some v → IsReady d → IsHeld v.ledger d.tickets.items
-held_is d v is ready = (subst (λ o. IsReadyWith o d.tickets.items) is ready).1
-
-pub home_is : (d : Drill) (v : Driven MemDisk) → d.driver ≡ Some v → IsReady d → v.flight ≡ None
-home_is d v is ready = (subst (λ o. IsReadyWith o d.tickets.items) is ready).0
+use Rattle.coord_drill.specs.Facade.{Accepted, Answer, Fresh, IsHeld, IsRun, Opened, Refusal, Refused, Repeat, Repeated, Reply, Step, claims_of, drill_of, opened_line, pending_line, refusal_line}
 
 -- nothing is pending in a ledger that was just made
-pub new_held : (l : LedgerState MemDisk) (w : World) (disk : MemDisk) (claims : List Claim) → l ≡ ledger_over w disk → claims ≡ [] → IsHeld l claims
-new_held l w disk claims is none = none ∙ ap (λ (m : LedgerState MemDisk). claims_of (settled_world m.log) (pending m.log)) (sym is)
+pub new_held : {D : Type 0} (l : LedgerState D) (w : World) (disk : D) (claims : List Claim) → l ≡ ledger_over w disk → claims ≡ [] → IsHeld l claims
+new_held {D} l w disk claims is none = none ∙ ap (λ (m : LedgerState D). claims_of (settled_world m.log) (pending m.log)) (sym is)
 
 -- ---- steps
 
@@ -85,9 +67,9 @@ unfolding asked_lines
 crash_line s count = refl
 
 -- it is seen from the world that was opened
-pub crash_after : (v w : Driven MemDisk) (holds begun : Bool) (count : ℕ) → IsRun v.ledger (event.Crash ∷ []) (Opened count ∷ []) w → IsAnew w → drill_of w.ledger false begun ≡ after_asked (drill_of v.ledger holds begun) Crash (Opened count ∷ [])
+pub crash_after : {D : Type 0} (disk : Ghosts D) (crashes : D → D → Type 0) (v w : Driven D) (holds begun : Bool) (count : ℕ) → IsRun disk crashes v (event.Crash ∷ []) (Opened count ∷ []) w → IsAnew w → drill_of w.ledger false begun ≡ after_asked (drill_of v.ledger holds begun) Crash (Opened count ∷ [])
 unfolding after_asked
-crash_after v w holds begun count run anew =
+crash_after {D} disk crashes v w holds begun count run anew =
     let m = after_run (started v.ledger) (event.Crash ∷ []) (Opened count ∷ []) in
-    let none = ap (λ (d : Driven MemDisk). d.ledger.log.settled) anew.is in
-    ap (λ g. record { log = g; holds = false; has_begun = begun }) (log_behind (held w run.beside) m run.drives.consistent run.drives.follows none)
+    let none = ap (λ (d : Driven D). d.ledger.log.settled) anew.is in
+    ap (λ g. record { log = g; holds = false; has_begun = begun }) (log_behind (held w run.beside) m run.consistent run.follows none)

@@ -1,19 +1,19 @@
 -- What a flight makes of a drill, what is printed of it, and the tickets that stay.
-use Rattle.std.proofs.Common.{◌≡◌, ◌≢◌, ℕ, Bool, true, false, cond, List, [], ◌∷◌, drop, take, Option, Some, None, refl, sym, ap, ◌∙◌, subst, arith, inl, inr, is_some, ◌-◌}
+use Rattle.std.proofs.Common.{◌≡◌, ◌≢◌, ℕ, Bool, true, false, cond, List, [], ◌∷◌, drop, length, take, Option, Some, None, refl, sym, ap, ◌∙◌, subst, arith, inl, inr, is_some, ◌-◌}
 use Rattle.std.specs.List.{AllByRecursion}
 use Rattle.std.specs.Option.{option_map}
 use Rattle.std.proofs.lemmas.List.{drop-drop, take-append-drop}
+use Rattle.coord_disk.specs.declared.disk.Disk.{Ghosts}
 use Rattle.coord_types.specs.declared.refusals.Refusal.TheVariants.{OutOfMemory}
 use Rattle.coord_store.specs.declared.faults.CommitFault.TheVariants as commit
 use Rattle.coord_world.specs.Facade.{World, fold, outs}
 use Rattle.coord_ledger.proofs.follows.Follows.{log_is}
 use Rattle.coord_ledger.proofs.machine.Logs.{world-add}
 use Rattle.coord_ledger.specs.declared.events.Event.TheVariants.{Begin}
-use Rattle.coord_ledger.specs.Facade.{Claim, Driven, IsGranted, IsOneOf, Log, Machine, flight_out, held, next_size, pending, run as after_run, settled_count, settled_world, settling_releases, started, stays_home, to_begin, with_doubt, with_settled}
-use Rattle.coord_drill.specs.Facade.{AreGranted, Begun, Drill, DrillState, Flies, Flown, FlownTo, GoesBy, GoesOnTo, Lands, IsHeld, IsReadyWith, IsRun, MemDisk, Nothing, Refused, Release, Reply, claims_of, collected_lines, drill_of, flight_events, flight_lines, flown_answers, flown_lines, landed_answers, landing_events, left_by, machine_of, seen_as, settled_lines, waiting}
+use Rattle.coord_ledger.specs.Facade.{Claim, Driven, IsGranted, IsOneOf, Log, Machine, flight_out, held, next_size, nothing_beside, pending, run as after_run, settled_count, settled_world, settling_releases, started, stays_home, to_begin, with_doubt, with_settled}
+use Rattle.coord_drill.specs.Facade.{AreGranted, Begins, Begun, Drill, Flies, Flown, FlownTo, GoesBy, Lands, IsHeld, IsReadyWith, IsRun, Leads, LeadsPart, Nothing, Refused, Release, Reply, claims_of, collected_lines, drill_of, flight_events, flight_lines, flown_answers, flown_lines, landed_answers, landing_events, left_by, machine_of, seen_as, settled_lines, waiting}
 use Rattle.coord_drill.specs.declared.drill.flying.Flown.TheVariants as flown
-use Rattle.coord_drill.proofs.does.Does.{state_is}
-use Rattle.coord_drill.proofs.does.Moments.{goes_on, goes_then}
+use Rattle.coord_drill.proofs.does.Moments.{leads_then}
 use Rattle.coord_drill.proofs.does.Settled.{collected_are, fold_version, granted_from, waiting_are}
 use Rattle.coord_drill.proofs.does.Verdicts.{no_refusal}
 
@@ -36,9 +36,20 @@ flown_to old mid new (flown.Settled rs) same back = subst (λ g. Lands g (flown.
 flown_to old mid new (flown.Failed fault) same back = subst (λ g. Lands g (flown.Failed fault) new) same back
 
 -- the departure of a flight, and then its commit and its return
-pub flown_by : (v out new : Driven MemDisk) (r : Flown) (b count : ℕ) → Lands out.ledger.log r new.ledger.log → GoesOnTo v (Begin ∷ []) (Begun b ∷ []) out → GoesOnTo out landing_events (landed_answers r count) new → GoesBy v (flown_answers r b count) new
-flown_by v out new flown.Nothing b count back begun landed = absurd back
-flown_by v out new r b count back begun landed = goes_then v out new (Begin ∷ []) landing_events (Begun b ∷ []) (landed_answers r count) begun landed
+pub flown_by : {D : Type 0} (disk : Ghosts D) (crashes : D → D → Type 0) (v out new : Driven D) (r : Flown) (b count : ℕ) → Lands out.ledger.log r new.ledger.log → Leads disk crashes v (Begin ∷ []) (Begun b ∷ []) out → Leads disk crashes out landing_events (landed_answers r count) new →
+    GoesBy disk crashes v (flown_answers r b count) new
+flown_by disk crashes v out new flown.Nothing b count back begun landed = absurd back
+flown_by disk crashes v out new r b count back begun landed = leads_then disk crashes v out new (Begin ∷ []) landing_events (Begun b ∷ []) (landed_answers r count) begun landed
+
+-- the departure of a flight, where a part of the rest was answered
+pub flown_part : {D : Type 0} (disk : Ghosts D) (crashes : D → D → Type 0) (v out : Driven D) (b : ℕ) (lost : D) → Leads disk crashes v (Begin ∷ []) (Begun b ∷ []) out → LeadsPart disk crashes out (λ _. landing_events) lost → LeadsPart disk crashes v flight_events lost
+flown_part disk crashes v out b lost begun part =
+    record {
+      given = Begun b ∷ part.given;
+      mid = part.mid;
+      moments = leads_then disk crashes v out part.mid (Begin ∷ []) (take (length part.given) landing_events) (Begun b ∷ []) part.given begun part.moments;
+      left = part.left;
+    }
 
 pub flown_memory : (r : Flown) (b count : ℕ) → AllByRecursion (λ answer. answer ≢ Refused OutOfMemory) (flown_answers r b count)
 flown_memory flown.Nothing b count = (no_refusal _ refl, tt)
@@ -62,7 +73,7 @@ flew m (flown.Failed fault) b count = refl
 
 -- ---- the drill that goes by it
 
-module _ (v w : Driven MemDisk) (claims : List Claim) (all : IsHeld v.ledger claims) (count : ℕ) where
+module _ {D : Type 0} (disk : Ghosts D) (crashes : D → D → Type 0) (v w : Driven D) (claims : List Claim) (all : IsHeld v.ledger claims) (count : ℕ) where
   abbrev log : Log
   log = v.ledger.log
 
@@ -70,13 +81,13 @@ module _ (v w : Driven MemDisk) (claims : List Claim) (all : IsHeld v.ledger cla
   b = next_size log
 
   abbrev Runs : Flown → Type 0
-  Runs r = IsRun v.ledger (flight_events (flown_answers r b count)) (flown_answers r b count) w
+  Runs r = IsRun disk crashes v (flight_events (flown_answers r b count)) (flown_answers r b count) w
 
   abbrev After : Flown → Machine
   After r = after_run (started v.ledger) (flight_events (flown_answers r b count)) (flown_answers r b count)
 
   by_base : (r : Flown) → Runs r → w.ledger.log.base ≡ (After r).log.base → w.ledger.log ≡ (After r).log
-  by_base r run same = log_is (held w run.beside) (After r) run.drives.consistent run.drives.follows same
+  by_base r run same = log_is (held w run.beside) (After r) run.consistent run.follows same
 
   is : (r : Flown) → Runs r → FlownTo log r w.ledger.log → w.ledger.log ≡ flew_log log r b
   is flown.Nothing run to = to
@@ -90,10 +101,10 @@ module _ (v w : Driven MemDisk) (claims : List Claim) (all : IsHeld v.ledger cla
 
   -- no flight is out
   home : (r : Flown) → Runs r → w.flight ≡ None
-  home flown.Nothing run = none_out flight_out w.flight run.drives.follows.flight
-  home (flown.Settled rs) run = none_out flight_out w.flight run.drives.follows.flight
-  home (flown.Failed commit.Device) run = none_out flight_out w.flight run.drives.follows.flight
-  home (flown.Failed fault) run = none_out flight_out w.flight run.drives.follows.flight
+  home flown.Nothing run = none_out flight_out w.flight run.follows.flight
+  home (flown.Settled rs) run = none_out flight_out w.flight run.follows.flight
+  home (flown.Failed commit.Device) run = none_out flight_out w.flight run.follows.flight
+  home (flown.Failed fault) run = none_out flight_out w.flight run.follows.flight
 
   -- ---- of a flight that is settled
 
@@ -146,7 +157,7 @@ module _ (v w : Driven MemDisk) (claims : List Claim) (all : IsHeld v.ledger cla
   held_by (flown.Failed commit.Device) run to = tickets_stay (with_doubt log b) (is (flown.Failed commit.Device) run to) refl
   held_by (flown.Failed fault) run to = tickets_stay log (is (flown.Failed fault) run to) refl
 
-  pub flown_ready : (r : Flown) (left : List Claim) → Runs r → FlownTo log r w.ledger.log → left ≡ left_by (settled_world w.ledger.log) r claims → IsReadyWith (Some w) left
+  pub flown_ready : (r : Flown) (left : List Claim) → Runs r → FlownTo log r w.ledger.log → left ≡ left_by (settled_world w.ledger.log) r claims → IsReadyWith w left
   flown_ready r left run to same = (home r run, same ∙ held_by r run to)
 
   pub flown_told : (r : Flown) → Runs r → FlownTo log r w.ledger.log → flown_lines (settled_world w.ledger.log) r claims ≡ flight_lines log (flown_answers r b count)
@@ -159,20 +170,19 @@ module _ (v w : Driven MemDisk) (claims : List Claim) (all : IsHeld v.ledger cla
       ap (λ g. record { log = g; holds = holds; has_begun = begun }) (is r run to ∙ sym (flew (record (machine_of (drill_of v.ledger holds begun)) { tickets = tickets }) r b count))
 
 -- a drill that sent a flight out and took it back
-pub flies : (d new : Drill) (v w : Driven MemDisk) (r : Flown) → d.driver ≡ Some v → new.driver ≡ Some w → new.holds ≡ d.holds → new.has_begun ≡ d.has_begun → IsHeld v.ledger d.tickets.items → IsRun v.ledger [] [] v →
-    FlownTo v.ledger.log r w.ledger.log → GoesBy v (flown_answers r (next_size v.ledger.log) (settled_count w.ledger.log)) w → Flies d (flown_lines (settled_world w.ledger.log) r d.tickets.items) new
-flies d new v w r is now holds begun all begins to by =
+pub flies : {D : Type 0} (disk : Ghosts D) (crashes : D → D → Type 0) (d new : Drill D) (r : Flown) → new.holds ≡ d.holds → new.has_begun ≡ d.has_begun → IsHeld d.driver.ledger d.tickets.items → Begins d.driver →
+    FlownTo d.driver.ledger.log r new.driver.ledger.log → GoesBy disk crashes d.driver (flown_answers r (next_size d.driver.ledger.log) (settled_count new.driver.ledger.log)) new.driver →
+    Flies disk crashes d (flown_lines (settled_world new.driver.ledger.log) r d.tickets.items) new
+flies disk crashes d new r holds begun all begins to by =
+    let v = d.driver in
+    let w = new.driver in
     let count = settled_count w.ledger.log in
     let given = flown_answers r (next_size v.ledger.log) count in
-    let told = flown_lines (settled_world w.ledger.log) r d.tickets.items in
-    let seen = state_is d v is in
-    let run = by v.ledger [] [] begins in
+    let run = by nothing_beside (started v.ledger) begins.consistent begins.follows in
     record {
       given = given;
       with_memory = flown_memory r (next_size v.ledger.log) count;
-      printed = subst (λ (s : DrillState). told ≡ flight_lines s.log given) (sym seen) (flown_told v w d.tickets.items all count r run to);
-      goes_on = λ tickets.
-          state_is new w now ∙ (λ i. drill_of w.ledger (holds i) (begun i)) ∙ flown_leaves v w d.tickets.items all count d.holds d.has_begun tickets r run to
-          ∙ ap (λ (s : DrillState). seen_as (after_run (record (machine_of s) { tickets = tickets }) (flight_events given) given) d.holds d.has_begun) (sym seen);
-      moments = goes_on d.driver new.driver v w (flight_events given) given is now by;
+      printed = flown_told disk crashes v w d.tickets.items all count r run to;
+      goes_on = λ tickets. (λ i. drill_of w.ledger (holds i) (begun i)) ∙ flown_leaves disk crashes v w d.tickets.items all count d.holds d.has_begun tickets r run to;
+      moments = by;
     }

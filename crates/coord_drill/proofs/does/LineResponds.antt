@@ -84,27 +84,27 @@ may_line s other = none s
 
 -- ---- lines
 
-abbrev pub Somehow : (List ℕ → DrillState → Type 0) → Type 0
-Somehow P = (told : List ℕ) × (t : DrillState) × P told t
+abbrev pub Somehow : (List Answer → List ℕ → DrillState → Type 0) → Type 0
+Somehow P = (given : List Answer) × (told : List ℕ) × (t : DrillState) × P given told t
 
 responds_somehow : (s : DrillState) (n : ℕ) (r : Option Request) → Somehow (Responds s n r)
-responds_somehow s n None = (bad_line n, s, (refl, refl))
+responds_somehow s n None = ([], bad_line n, s, (refl, refl, refl))
 responds_somehow s n (Some r) =
     let a = asked (front_world s.log) r in
     let may = may_line s a in
-    (asked_lines s a may.given, after_asked s a may.given, (may.given, record { answered = may.answered; with_memory = may.with_memory; printed = refl; goes_on = refl }))
+    (may.given, asked_lines s a may.given, after_asked s a may.given, record { answered = may.answered; with_memory = may.with_memory; printed = refl; goes_on = refl })
 
 pub line_somehow : (s : DrillState) (n : ℕ) (line : Line) → Somehow (LineResponds s n line)
 line_somehow s n None = responds_somehow s n None
 line_somehow s n (Some line) = unless (is_skipped line)
   where
-    unless : (b : Bool) → Somehow (λ told t. UnlessSkipped b s told t (Responds s n (asked_by s line) told t))
-    unless true = ([], s, (refl, refl))
+    unless : (b : Bool) → Somehow (λ given told t. UnlessSkipped b s given told t (Responds s n (asked_by s line) given told t))
+    unless true = ([], [], s, (refl, refl, refl))
     unless false = responds_somehow s n (asked_by s line)
 
 pub prints_somehow : (s : DrillState) (n : ℕ) (lines : List Line) → (text : List ℕ) × Prints s n lines text
 prints_somehow s n [] = ([], refl)
 prints_somehow s n (l ∷ ls) =
     let one = line_somehow s n l in
-    let rest = prints_somehow one.1 (n + 1) ls in
-    (one.0 ++ rest.0, record { told = one.0; after = one.1; rest = rest.0; line = one.2; behind = rest.1; whole = refl })
+    let rest = prints_somehow one.2 (n + 1) ls in
+    (one.1 ++ rest.0, record { given = one.0; told = one.1; after = one.2; rest = rest.0; line = one.3; behind = rest.1; whole = refl })

@@ -1,118 +1,150 @@
 //! The lines of a drill's input.
 
-ghost use Rattle.std.specs.Prelude.{◌≡◌, ◌++◌, ◌<◌, ◌≤◌, ◌+◌, ◌-◌, ◌^◌, ℕ, List, [], OnOk, OnErr, IfErr, Some, length, option_and_then, string_bytes};
+ghost use Rattle.std.specs.Prelude.{◌≡◌, ◌++◌, ◌<◌, ◌≤◌, ◌+◌, ◌-◌, ◌^◌, [], ◌∷◌, IfErr, IfOk, OnOk, Some, length, string_bytes};
 ghost use Rattle.std.specs.Option.{option_copied};
-ghost use Rattle.std.specs.Io.KnownBytes.{Appends};
+ghost use Rattle.coord_ledger.specs.Facade.{disk_driven};
 ghost use Rattle.coord_lines.specs.Lines.{lines_on, IsWithin};
-ghost use Rattle.coord_drill.specs.Answered.{Responds};
-ghost use Rattle.coord_drill.specs.Drill.{DrillState};
-ghost use Rattle.coord_drill.specs.Drilled.{asked_by, is_skipped, LineResponds, Prints, WritesFirstPart};
+ghost use Rattle.coord_drill.specs.Drilled.{is_skipped};
 ghost use Rattle.coord_drill.specs.Faults.{IsOfDisk, IsOfWork};
-ghost use Rattle.coord_drill.specs.Holding.{IsReady, Tells, state_of};
+ghost use Rattle.coord_drill.specs.Holding.{IsReady, Tells};
+ghost use Rattle.coord_drill.specs.Printed.{bad_line};
+ghost use Rattle.coord_drill.specs.declared.fault.Fault.TheVariants.{OutOfMemory};
+ghost use Rattle.coord_drill.specs.Lines.{BreaksOff, CarriesLine, CarriesOut, CutsLine, Takes};
 
 use super::Console;
 use crate::drill::Drill;
 use crate::fault::Fault;
 use crate::print::print_bad_line;
 use crate::writing::write_text;
+use coord_disk::{CrashDisk, Disk};
 use std::io::Write;
 
-impl Console {
+impl<D: CrashDisk> Console<D> {
     /// Takes a piece of the input.
-    pub(super) fn take<W: Write>(&mut self, piece: &[u8], writer: &mut W) -> Result<(), Fault>
-        requires ready { IsReady self.old.drill }
-        requires number { self.old.number + length piece.now < 2 ^ 64 - 1 }
-        ensures ready { OnOk result (IsReady self.new.drill) }
-        ensures number { OnOk result (self.new.number ≤ self.old.number + length piece.now) }
-        ensures printed { OnOk result ((text : List ℕ) ×
-            Appends (W.contents writer.old) (W.contents writer.new) text
-            × ((more rest : List ℕ) →
-            Prints (state_of self.new.drill) (self.new.number + 1)
-            (lines_on self.new.line more) rest
-            → Prints (state_of self.old.drill) (self.old.number + 1)
-            (lines_on self.old.line (piece.now ++ more)) (text ++ rest))) }
-        ensures failed { OnErr result ((text : List ℕ)
-            × Prints (state_of self.old.drill) (self.old.number + 1)
-            (lines_on self.old.line piece.now) text
-            × WritesFirstPart (W.contents writer.old) (W.contents writer.new) text) }
-        ensures fault { IfErr result IsOfWork }
+    pub(super) fn take<W: Write>(self, piece: &[u8], writer: &mut W) -> Result<Self, (Fault, D)>
+        requires ready { IsReady self.drill }
+        requires number { self.number + length piece.now < 2 ^ 64 - 1 }
+        ensures ready { IfOk result (λ console. IsReady console.drill) }
+        ensures number { IfOk result (λ console. console.number ≤ self.number + length piece.now) }
+        ensures taken { IfOk result (λ console. Takes ⟦<D as Disk>⟧ D.crashes
+            self.drill self.number self.line piece.now []
+            (W.contents writer.old) (W.contents writer.new)
+            console.drill console.number console.line) }
+        ensures failed { IfErr result (λ refused. BreaksOff ⟦<D as Disk>⟧ D.crashes
+            self.drill (self.number + 1) (lines_on self.line piece.now)
+            (W.contents writer.old) (W.contents writer.new) refused.0 refused.1) }
+        ensures fault { IfErr result (λ refused. IsOfWork refused.0) }
     {
+        let mut console = self;
         let mut rest = piece;
-        while let Some(behind) = self.line.take(rest) {
-            self.end_line(writer)?;
+        while let Some(behind) = console.line.take(rest) {
+            console = console.end_line(writer)?;
             rest = behind;
         }
-        Ok(())
+        Ok(console)
     }
 
     /// Carries out the line that has come in, prints its answer, and begins the next one.
-    pub(super) fn end_line<W: Write>(&mut self, writer: &mut W) -> Result<(), Fault>
-        requires ready { IsReady self.old.drill }
-        requires number { self.old.number < 2 ^ 64 - 1 }
-        ensures ready { OnOk result (IsReady self.new.drill) }
-        ensures printed { OnOk result ((told : List ℕ)
-            × LineResponds (state_of self.old.drill) (self.old.number + 1) self.old.line told
-            (state_of self.new.drill)
-            × Appends (W.contents writer.old) (W.contents writer.new) told) }
-        ensures failed { OnErr result ((told : List ℕ) × (t : DrillState)
-            × LineResponds (state_of self.old.drill) (self.old.number + 1) self.old.line told t
-            × WritesFirstPart (W.contents writer.old) (W.contents writer.new) told) }
-        ensures fault { IfErr result IsOfWork }
-        ensures number { OnOk result (self.new.number ≡ self.old.number + 1) }
-        ensures line { OnOk result (self.new.line ≡ Some []) }
-        ensures within { IsWithin self.old.line }
+    pub(super) fn end_line<W: Write>(self, writer: &mut W) -> Result<Self, (Fault, D)>
+        requires ready { IsReady self.drill }
+        requires number { self.number < 2 ^ 64 - 1 }
+        ensures ready { IfOk result (λ console. IsReady console.drill) }
+        ensures carried { IfOk result (λ console. CarriesOut ⟦<D as Disk>⟧ D.crashes
+            self.drill (self.number + 1) (self.line ∷ [])
+            (W.contents writer.old) (W.contents writer.new) console.drill) }
+        ensures failed { IfErr result (λ refused. BreaksOff ⟦<D as Disk>⟧ D.crashes
+            self.drill (self.number + 1) (self.line ∷ [])
+            (W.contents writer.old) (W.contents writer.new) refused.0 refused.1) }
+        ensures fault { IfErr result (λ refused. IsOfWork refused.0) }
+        ensures number { IfOk result (λ console. console.number ≡ self.number + 1) }
+        ensures line { IfOk result (λ console. console.line ≡ Some []) }
+        ensures within { IsWithin self.line }
     {
-        self.answer_line()?;
-        write_text(writer, self.text.as_bytes())
+        let console = self.answer_line()?;
+        match write_text(writer, console.text.as_bytes()) {
+            Ok(()) => Ok(console),
+            Err(fault) => Err((fault, console.into_disk())),
+        }
     }
 
     /// Carries out the line that has come in, with its answer as the text, and begins the next one.
-    fn answer_line(&mut self) -> Result<(), Fault>
-        requires ready { IsReady self.old.drill }
-        requires number { self.old.number < 2 ^ 64 - 1 }
-        ensures ready { OnOk result (IsReady self.new.drill) }
-        ensures told { OnOk result (LineResponds (state_of self.old.drill)
-            (self.old.number + 1) self.old.line (string_bytes self.new.text)
-            (state_of self.new.drill)) }
-        ensures fault { IfErr result IsOfDisk }
-        ensures number { OnOk result (self.new.number ≡ self.old.number + 1) }
-        ensures line { OnOk result (self.new.line ≡ Some []) }
-        ensures within { IsWithin self.old.line }
+    fn answer_line(self) -> Result<Self, (Fault, D)>
+        requires ready { IsReady self.drill }
+        requires number { self.number < 2 ^ 64 - 1 }
+        ensures ready { IfOk result (λ console. IsReady console.drill) }
+        ensures carried { IfOk result (λ console. CarriesLine ⟦<D as Disk>⟧ D.crashes
+            self.drill (self.number + 1) self.line (string_bytes console.text) console.drill) }
+        ensures cut { IfErr result (λ refused.
+            CutsLine ⟦<D as Disk>⟧ D.crashes self.drill self.line refused.0 refused.1) }
+        ensures fault { IfErr result (λ refused. IsOfDisk refused.0) }
+        ensures number { IfOk result (λ console. console.number ≡ self.number + 1) }
+        ensures line { IfOk result (λ console. console.line ≡ Some []) }
+        ensures within { IsWithin self.line }
     {
-        self.number += 1;
-        self.text.clear();
-        match self.line.get() {
-            Some(line) if is_skipped(line) => {}
-            line => respond(&mut self.drill, line, self.number, &mut self.text)?,
-        }
-        self.line.clear();
-        Ok(())
+        let Console {
+            drill,
+            mut line,
+            number,
+            mut text,
+        } = self;
+        let number = number + 1;
+        text.clear();
+        let drill = respond(drill, line.get(), number, &mut text)?;
+        line.clear();
+        Ok(Console {
+            drill,
+            line,
+            number,
+            text,
+        })
     }
 }
 
-/// Carries out what the line of this number asks for, and adds its answer to a text. A bad line
-/// asks for nothing, and so does one over the limit, for which None stands.
-fn respond(
-    drill: &mut Drill,
+/// Carries out what the line of this number asks for, and adds its answer to a text. A line that is
+/// skipped asks for nothing, and so does a bad one. For a line over the limit None stands.
+fn respond<D: CrashDisk>(
+    drill: Drill<D>,
     line: Option<&[u8]>,
     number: u64,
     text: &mut String,
-) -> Result<(), Fault>
-    requires ready { IsReady drill.old }
-    ensures ready { OnOk result (IsReady drill.new) }
-    ensures told { OnOk result (Tells (string_bytes text.old) (string_bytes text.new)
-        (λ told. Responds (state_of drill.old) number
-        (option_and_then (asked_by (state_of drill.old)) (option_copied line.entry)) told
-        (state_of drill.new))) }
-    ensures fault { IfErr result IsOfDisk }
+) -> Result<Drill<D>, (Fault, D)>
+    requires ready { IsReady drill }
+    ensures ready { IfOk result IsReady }
+    ensures carried { IfOk result (λ new. Tells (string_bytes text.old) (string_bytes text.new)
+        (λ told. CarriesLine ⟦<D as Disk>⟧ D.crashes drill number (option_copied line.entry) told
+        new)) }
+    ensures cut { IfErr result (λ refused.
+        CutsLine ⟦<D as Disk>⟧ D.crashes drill (option_copied line.entry) refused.0
+        refused.1) }
+    ensures fault { IfErr result (λ refused. IsOfDisk refused.0) }
 {
-    let request = match line {
-        Some(line) => drill.read(line),
-        None => None,
+    let Some(line) = line else {
+        return tell_bad(drill, number, text);
     };
-    match request {
+    if is_skipped(line) {
+        return Ok(drill);
+    }
+    match drill.read(line) {
         Some(request) => drill.answer(&request, text),
-        None => Ok(print_bad_line(text, number)?),
+        None => tell_bad(drill, number, text),
+    }
+}
+
+/// Adds the answer to a bad line.
+fn tell_bad<D: CrashDisk>(
+    drill: Drill<D>,
+    number: u64,
+    text: &mut String,
+) -> Result<Drill<D>, (Fault, D)>
+    ensures same { IfOk result (λ new. new ≡ drill) }
+    ensures told { OnOk result (string_bytes text.new ≡
+        string_bytes text.old ++ bad_line number) }
+    ensures lost { IfErr result (λ refused. disk_driven drill.driver ≡ Some refused.1) }
+    ensures fault { IfErr result (λ refused. refused.0 ≡ OutOfMemory) }
+{
+    match print_bad_line(text, number) {
+        Ok(()) => Ok(drill),
+        Err(_) => Err(drill.lost()),
     }
 }
 

@@ -1,39 +1,58 @@
 //! The disk crashes, and is opened again.
 
-ghost use Rattle.std.specs.Prelude.{◌≡◌, OnOk, string_bytes, IfErr};
+ghost use Rattle.std.specs.Prelude.{◌≡◌, IfErr, IfOk, string_bytes};
 ghost use Rattle.coord_drill.specs.Faults.{IsOfDisk, reopen_fault};
 ghost use Rattle.coord_drill.specs.Holding.{IsReady, Tells};
-ghost use Rattle.coord_drill.specs.Moments.{Carries};
-ghost use Rattle.coord_drill.specs.declared.asked.Asked.TheVariants.{Crash};
+ghost use Rattle.coord_drill.specs.Moments.{CarriesIf, CutsIf};
+ghost use Rattle.coord_drill.specs.declared.asked.Asked.TheVariants as ask;
 
-use super::{Drill, forget_all, put};
+use super::{Drill, forget_all};
 use crate::fault::Fault;
 use crate::print::print_opened;
+use coord_disk::{CrashDisk, Disk};
 use coord_ledger::RunFaultKind;
 
-impl Drill {
+impl<D: CrashDisk> Drill<D> {
     /// Crashes the disk, and goes on with what is opened. Pending steps are lost.
-    pub(super) fn crash(&mut self, text: &mut String) -> Result<(), Fault>
-        requires ready { IsReady self.old }
-        ensures ready { OnOk result (IsReady self.new) }
-        ensures told { OnOk result (Tells (string_bytes text.old) (string_bytes text.new) (λ told.
-            Carries self.old Crash told self.new)) }
-        ensures fault { IfErr result IsOfDisk }
+    pub(super) fn crash(self, text: &mut String) -> Result<Self, (Fault, D)>
+        requires ready { IsReady self }
+        ensures ready { IfOk result IsReady }
+        ensures told { IfOk result (λ drill. Tells (string_bytes text.old) (string_bytes text.new)
+            (λ told. CarriesIf ⟦<D as Disk>⟧ D.crashes self ask.Crash told drill)) }
+        ensures cut { IfErr result (λ refused.
+            CutsIf ⟦<D as Disk>⟧ D.crashes ask.Crash self refused.0
+            refused.1) }
+        ensures fault { IfErr result (λ refused. IsOfDisk refused.0) }
     {
-        self.driver();
-        let Some(driver) = self.driver.take() else {
-            unreachable!()
-        };
-        let (count, driver) = match driver.crash(self.alloc) {
+        let Drill {
+            alloc,
+            driver,
+            mut tickets,
+            holds: _,
+            has_begun,
+        } = self;
+        forget_all(&mut tickets);
+        driver.begins();
+        driver.survives();
+        let (count, driver) = match driver.crash(alloc) {
             Ok(opened) => opened,
-            Err((kind, _disk)) => return Err(told_as(kind)),
+            Err((kind, disk)) => {
+                tickets.destroy_empty();
+                return Err((told_as(kind), disk));
+            }
         };
         driver.survives();
-        put(&mut self.driver, driver);
-        forget_all(&mut self.tickets);
-        self.holds = false;
-        print_opened(text, count)?;
-        Ok(())
+        let drill = Drill {
+            alloc,
+            driver,
+            tickets,
+            holds: false,
+            has_begun,
+        };
+        match print_opened(text, count) {
+            Ok(()) => Ok(drill),
+            Err(_) => Err(drill.lost()),
+        }
     }
 }
 

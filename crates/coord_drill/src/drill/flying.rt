@@ -1,22 +1,22 @@
 //! Flights: pending steps are settled, and what they gave out is printed.
 
-ghost use Rattle.std.specs.Prelude.{◌≡◌, ◌≤◌, ◌-◌, ◌∷◌, ◌++◌, ℕ, List, [], None, OnOk, IfOk, IfSome, IfNone, string_bytes, IfErr};
+ghost use Rattle.std.specs.Prelude.{◌≡◌, ◌≤◌, ◌-◌, ◌∷◌, ◌++◌, ℕ, List, [], None, Some, OnOk, IfOk, IfSome, IfNone, string_bytes, IfErr};
 ghost use Rattle.std.specs.List.{AllByRecursion};
 ghost use Rattle.coord_ledger.specs.declared.events.Answer.TheVariants.{Finished};
 ghost use Rattle.coord_ledger.specs.declared.events.Event.TheVariants.{Finish};
 ghost use Rattle.coord_ledger.specs.declared.release.Release.{Release as Row};
-ghost use Rattle.coord_ledger.specs.Facade.{IsGranted, next_size, reply_of, settled_count, settled_world, settling_releases};
-ghost use Rattle.coord_drill.specs.Drill.{landing_events};
+ghost use Rattle.coord_ledger.specs.Facade.{IsGranted, disk_driven, next_size, reply_of, settled_count, settled_world, settling_releases};
+ghost use Rattle.coord_drill.specs.Drill.{flight_events, landing_events};
 ghost use Rattle.coord_drill.specs.Faults.{IsOfMemory};
 ghost use Rattle.coord_drill.specs.Holding.{AreGranted, FlownTo, IsReady, Lands, Tells, behind, collected_lines, flown_answers, flown_lines, landed_answers, left, left_by, released_lines, waiting};
-ghost use Rattle.coord_drill.specs.Moments.{Carries, Flies, GoesBy, GoesOnTo};
-ghost use Rattle.coord_drill.specs.declared.asked.Asked.TheVariants.{Flush};
+ghost use Rattle.coord_drill.specs.Moments.{CarriesIf, CutsIf, Flies, GoesBy, Leads, LeadsPart};
+ghost use Rattle.coord_drill.specs.declared.asked.Asked.TheVariants as ask;
 ghost use Rattle.coord_drill.specs.declared.fault.Fault.TheVariants.{OutOfMemory};
 
-use super::{Drill, put};
+use super::{Drill, forget};
 use crate::fault::Fault;
 use crate::print::{print_commit_fault, print_count, print_output, print_reply};
-use coord_disk::MemDisk;
+use coord_disk::{CrashDisk, Disk};
 use coord_ledger::{Answer, Driver, Ledger, Release, Releases, Ticket};
 use coord_store::CommitFault;
 use coord_types::{Reply, Version};
@@ -34,48 +34,75 @@ enum Flown {
 }
 
 /// What became of a flight, and the driver with no flight out.
-struct Landing {
+struct Landing<D: CrashDisk> {
     flown: Flown,
-    driver: Driver<MemDisk>,
+    driver: Driver<D>,
 }
 
-impl Drill {
+impl<D: CrashDisk> Drill<D> {
     /// Settles pending steps in one flight, and prints how many steps are settled then.
-    pub(super) fn flush(&mut self, text: &mut String) -> Result<(), Fault>
-        requires ready { IsReady self.old }
-        ensures ready { OnOk result (IsReady self.new) }
-        ensures told { OnOk result (Tells (string_bytes text.old) (string_bytes text.new) (λ told.
-            Carries self.old Flush told self.new)) }
-        ensures fault { IfErr result IsOfMemory }
+    pub(super) fn flush(self, text: &mut String) -> Result<Self, (Fault, D)>
+        requires ready { IsReady self }
+        ensures ready { IfOk result IsReady }
+        ensures told { IfOk result (λ drill. Tells (string_bytes text.old) (string_bytes text.new)
+            (λ told. CarriesIf ⟦<D as Disk>⟧ D.crashes self ask.Flush told drill)) }
+        ensures cut { IfErr result (λ refused.
+            CutsIf ⟦<D as Disk>⟧ D.crashes ask.Flush self refused.0
+            refused.1) }
+        ensures fault { IfErr result (λ refused. IsOfMemory refused.0) }
     {
-        self.driver();
-        self.fly(text)?;
-        Ok(print_count(text, self.driver().ledger().settled().count())?)
+        self.driver.begins();
+        let drill = self.fly(text)?;
+        match print_count(text, drill.driver.ledger().settled().count()) {
+            Ok(()) => Ok(drill),
+            Err(_) => Err(drill.lost()),
+        }
     }
 
     /// Sends the next pending steps out in one flight, if any may go, and takes it back. Prints what
     /// it settled, or why it was not committed.
-    pub(super) fn fly(&mut self, text: &mut String) -> Result<(), Fault>
-        requires ready { IsReady self.old }
-        ensures ready { OnOk result (IsReady self.new) }
-        ensures told { OnOk result (Tells (string_bytes text.old) (string_bytes text.new) (λ told.
-            Flies self.old told self.new)) }
-        ensures fault { IfErr result IsOfMemory }
+    pub(super) fn fly(self, text: &mut String) -> Result<Self, (Fault, D)>
+        requires ready { IsReady self }
+        ensures ready { IfOk result IsReady }
+        ensures told { IfOk result (λ drill. Tells (string_bytes text.old) (string_bytes text.new)
+            (λ told. Flies ⟦<D as Disk>⟧ D.crashes self told drill)) }
+        ensures cut { IfErr result (λ refused.
+            LeadsPart ⟦<D as Disk>⟧ D.crashes self.driver flight_events refused.1) }
+        ensures fault { IfErr result (λ refused. IsOfMemory refused.0) }
     {
-        self.driver();
-        let Some(driver) = self.driver.take() else {
-            unreachable!()
+        let Drill {
+            alloc,
+            driver,
+            mut tickets,
+            holds,
+            has_begun,
+        } = self;
+        driver.begins();
+        let Landing { flown, driver } = match send_out(driver) {
+            Ok(landing) => landing,
+            Err(refused) => {
+                forget(tickets);
+                return Err(refused);
+            }
         };
-        let Landing { flown, driver } = send_out(driver)?;
-        let printed = print_flown(driver.ledger(), &mut self.tickets, flown, text);
-        put(&mut self.driver, driver);
-        Ok(printed?)
+        let printed = print_flown(driver.ledger(), &mut tickets, flown, text);
+        let drill = Drill {
+            alloc,
+            driver,
+            tickets,
+            holds,
+            has_begun,
+        };
+        match printed {
+            Ok(()) => Ok(drill),
+            Err(_) => Err(drill.lost()),
+        }
     }
 }
 
 /// Prints what became of a flight: what its steps gave out, or why it was not committed.
-fn print_flown(
-    ledger: &Ledger<MemDisk>,
+fn print_flown<D: CrashDisk>(
+    ledger: &Ledger<D>,
     tickets: &mut VecDeque<Ticket>,
     flown: Flown,
     text: &mut String,
@@ -93,14 +120,17 @@ fn print_flown(
     }
 }
 
-/// Sends the next steps out, commits them, and takes the flight back.
-fn send_out(driver: Driver<MemDisk>) -> Result<Landing, Fault>
+/// Sends the next steps out, commits them, and takes the flight back. Where it finds no memory, it
+/// gives the disk back.
+fn send_out<D: CrashDisk>(driver: Driver<D>) -> Result<Landing<D>, (Fault, D)>
     requires home { driver.flight ≡ None }
     ensures flown { IfOk result (λ r. FlownTo driver.ledger.log r.flown r.driver.ledger.log) }
-    ensures moments { IfOk result (λ r. GoesBy driver
+    ensures moments { IfOk result (λ r. GoesBy ⟦<D as Disk>⟧ D.crashes driver
         (flown_answers r.flown (next_size driver.ledger.log) (settled_count r.driver.ledger.log))
         r.driver) }
-    ensures fault { IfErr result IsOfMemory }
+    ensures cut { IfErr result (λ refused.
+        LeadsPart ⟦<D as Disk>⟧ D.crashes driver flight_events refused.1) }
+    ensures fault { IfErr result (λ refused. IsOfMemory refused.0) }
 {
     driver.begins();
     driver.survives();
@@ -117,13 +147,16 @@ fn send_out(driver: Driver<MemDisk>) -> Result<Landing, Fault>
 }
 
 /// Commits the flight that is out, and takes it back.
-fn land(driver: Driver<MemDisk>) -> Result<Landing, Fault>
+fn land<D: CrashDisk>(driver: Driver<D>) -> Result<Landing<D>, (Fault, D)>
     ensures lands { IfOk result (λ r. Lands driver.ledger.log r.flown r.driver.ledger.log) }
-    ensures moments { IfOk result (λ r. GoesOnTo driver landing_events
+    ensures moments { IfOk result (λ r. Leads ⟦<D as Disk>⟧ D.crashes driver landing_events
         (landed_answers r.flown (settled_count r.driver.ledger.log)) r.driver) }
-    ensures fault { IfErr result IsOfMemory }
+    ensures cut { IfErr result (λ refused.
+        LeadsPart ⟦<D as Disk>⟧ D.crashes driver (λ _. landing_events) refused.1) }
+    ensures fault { IfErr result (λ refused. IsOfMemory refused.0) }
 {
     let mut driver = driver;
+    driver.survives();
     let answer = driver.commit();
     driver.survives();
     let (releases, driver) = take_back(driver)?;
@@ -147,13 +180,14 @@ fn land(driver: Driver<MemDisk>) -> Result<Landing, Fault>
 }
 
 /// Takes the flight that is out back. Where there is no memory for what it releases, all is lost.
-fn take_back(driver: Driver<MemDisk>) -> Result<(Releases, Driver<MemDisk>), Fault>
+fn take_back<D: CrashDisk>(driver: Driver<D>) -> Result<(Releases, Driver<D>), (Fault, D)>
     ensures base { IfOk result (λ r. r.1.ledger.log.base ≡ driver.ledger.log.base) }
     ensures released { IfOk result (λ r. r.0 ≡ settling_releases driver.ledger.log
         (r.1.ledger.log.settled - driver.ledger.log.settled)) }
-    ensures moments { IfOk result (λ r. GoesOnTo driver (Finish ∷ [])
+    ensures moments { IfOk result (λ r. Leads ⟦<D as Disk>⟧ D.crashes driver (Finish ∷ [])
         (Finished (settled_count r.1.ledger.log) ∷ []) r.1) }
-    ensures fault { IfErr result IsOfMemory }
+    ensures disk { IfErr result (λ refused. disk_driven driver ≡ Some refused.1) }
+    ensures fault { IfErr result (λ refused. IsOfMemory refused.0) }
 {
     driver.survives();
     let (landed, driver) = driver.finish();
@@ -167,18 +201,18 @@ fn take_back(driver: Driver<MemDisk>) -> Result<(Releases, Driver<MemDisk>), Fau
 }
 
 /// Gives a driver up that found no memory.
-fn lost(driver: Driver<MemDisk>) -> Fault
-    ensures { result ≡ OutOfMemory }
+fn lost<D: CrashDisk>(driver: Driver<D>) -> (Fault, D)
+    ensures fault { result.0 ≡ OutOfMemory }
+    ensures disk { disk_driven driver ≡ Some result.1 }
 {
-    let _disk = driver.into_disk();
-    Fault::OutOfMemory
+    (Fault::OutOfMemory, driver.into_disk())
 }
 
 /// Collects the replies of the steps that are settled, and prints each before what its step
 /// released.
 #[tactic(auto, using(crate::proofs::does::Settled::looked_at))]
-fn print_settled(
-    ledger: &Ledger<MemDisk>,
+fn print_settled<D: CrashDisk>(
+    ledger: &Ledger<D>,
     tickets: &mut VecDeque<Ticket>,
     mut releases: Releases,
     text: &mut String,
@@ -196,8 +230,8 @@ fn print_settled(
 }
 
 #[tactic(auto, using(crate::proofs::does::Settled::looked_at))]
-fn print_collected(
-    ledger: &Ledger<MemDisk>,
+fn print_collected<D: CrashDisk>(
+    ledger: &Ledger<D>,
     tickets: &mut VecDeque<Ticket>,
     releases: &mut Releases,
     text: &mut String,
@@ -237,7 +271,7 @@ fn next_settled(tickets: &mut VecDeque<Ticket>, settled: u64) -> Option<Ticket>
 
 /// The reply to a step that is settled.
 #[tactic(auto, using(crate::proofs::does::Settled::collectable))]
-fn collected(ledger: &Ledger<MemDisk>, ticket: Ticket) -> Reply
+fn collected<D: CrashDisk>(ledger: &Ledger<D>, ticket: Ticket) -> Reply
     requires granted { IsGranted ledger.now.log ticket }
     requires settled { ticket.step ≤ (settled_world ledger.now.log).count }
     ensures { result ≡ reply_of ticket }

@@ -1,55 +1,70 @@
 //! Steps are handed in.
 
-ghost use Rattle.std.specs.Prelude.{◌≡◌, ◌++◌, OnOk, string_bytes, IfErr};
+ghost use Rattle.std.specs.Prelude.{◌≡◌, ◌++◌, OnOk, IfOk, IfErr, string_bytes};
 ghost use Rattle.coord_ledger.specs.Facade.{IsGranted, reply_of, settled_count};
 ghost use Rattle.coord_drill.specs.Answered.{kept_line};
 ghost use Rattle.coord_drill.specs.Faults.{IsOfMemory};
 ghost use Rattle.coord_drill.specs.Holding.{IsReady, Tells};
-ghost use Rattle.coord_drill.specs.Moments.{Carries, Hands};
-ghost use Rattle.coord_drill.specs.declared.asked.Asked.TheVariants.{Submit};
+ghost use Rattle.coord_drill.specs.Moments.{CarriesIf, CutsIf, Hands};
+ghost use Rattle.coord_drill.specs.declared.asked.Asked.TheVariants as ask;
 
 use super::Drill;
 use crate::fault::Fault;
 use crate::print::{print_pending, print_refusal, print_reply};
-use coord_disk::MemDisk;
+use coord_disk::{CrashDisk, Disk};
 use coord_ledger::{Driver, Handed, Ledger, Ticket};
 use coord_types::{Refusal, Step};
 use std::alloc::AllocError;
 
-impl Drill {
+impl<D: CrashDisk> Drill<D> {
     /// Hands a step in. An accepted one is settled at once, unless steps are held.
-    pub(super) fn submit(&mut self, step: Step, text: &mut String) -> Result<(), Fault>
-        requires ready { IsReady self.old }
-        ensures ready { OnOk result (IsReady self.new) }
-        ensures told { OnOk result (Tells (string_bytes text.old) (string_bytes text.new) (λ told.
-            Carries self.old (Submit step) told self.new)) }
-        ensures fault { IfErr result IsOfMemory }
+    pub(super) fn submit(self, step: Step, text: &mut String) -> Result<Self, (Fault, D)>
+        requires ready { IsReady self }
+        ensures ready { IfOk result IsReady }
+        ensures told { IfOk result (λ drill. Tells (string_bytes text.old) (string_bytes text.new)
+            (λ told. CarriesIf ⟦<D as Disk>⟧ D.crashes self (ask.Submit step) told drill)) }
+        ensures cut { IfErr result (λ refused.
+            CutsIf ⟦<D as Disk>⟧ D.crashes (ask.Submit step) self refused.0
+            refused.1) }
+        ensures fault { IfErr result (λ refused. IsOfMemory refused.0) }
     {
-        self.driver();
-        let Some(driver) = &mut self.driver else {
-            unreachable!()
-        };
-        self.tickets.reserve(1)?;
-        match hand_in(driver, step) {
+        let mut drill = self;
+        drill.driver.begins();
+        drill.driver.survives();
+        if drill.tickets.reserve(1).is_err() {
+            return Err(drill.lost());
+        }
+        match hand_in(&mut drill.driver, step) {
             Ok(Handed::Accepted(ticket)) => {
                 let number = ticket.step();
-                self.tickets.push_back_reserved(ticket);
-                self.has_begun = true;
-                if self.holds {
-                    return Ok(print_pending(text, number)?);
+                drill.tickets.push_back_reserved(ticket);
+                drill.has_begun = true;
+                if !drill.holds {
+                    return drill.fly(text);
                 }
-                self.fly(text)
+                match print_pending(text, number) {
+                    Ok(()) => Ok(drill),
+                    Err(_) => Err(drill.lost()),
+                }
             }
-            Ok(Handed::Repeated(ticket)) => Ok(print_kept(driver.ledger(), ticket, text)?),
-            Err(Refusal::OutOfMemory) => Err(Fault::OutOfMemory),
-            Err(refusal) => Ok(print_refusal(text, refusal)?),
+            Ok(Handed::Repeated(ticket)) => {
+                match print_kept(drill.driver.ledger(), ticket, text) {
+                    Ok(()) => Ok(drill),
+                    Err(_) => Err(drill.lost()),
+                }
+            }
+            Err(Refusal::OutOfMemory) => Err(drill.lost()),
+            Err(refusal) => match print_refusal(text, refusal) {
+                Ok(()) => Ok(drill),
+                Err(_) => Err(drill.lost()),
+            },
         }
     }
 }
 
 /// Hands a step in to a driver.
-fn hand_in(driver: &mut Driver<MemDisk>, step: Step) -> Result<Handed, Refusal>
-    ensures { Hands driver.old step result driver.new }
+fn hand_in<D: CrashDisk>(driver: &mut Driver<D>, step: Step) -> Result<Handed, Refusal>
+    ensures { Hands ⟦<D as Disk>⟧ D.crashes driver.old step result driver.new }
 {
     driver.survives();
     let handed = driver.submit(step);
@@ -59,7 +74,11 @@ fn hand_in(driver: &mut Driver<MemDisk>, step: Step) -> Result<Handed, Refusal>
 }
 
 /// Prints the reply that is kept for a repeat, once its step is settled.
-fn print_kept(ledger: &Ledger<MemDisk>, ticket: Ticket, text: &mut String) -> Result<(), AllocError>
+fn print_kept<D: CrashDisk>(
+    ledger: &Ledger<D>,
+    ticket: Ticket,
+    text: &mut String,
+) -> Result<(), AllocError>
     requires { IsGranted ledger.now.log ticket }
     ensures { OnOk result (string_bytes text.new ≡
         string_bytes text.old ++ kept_line (settled_count ledger.now.log) (reply_of ticket)) }

@@ -1,10 +1,13 @@
 //! What changes nothing: refusals, what is sent again, the check, and what is shown.
 
-ghost use Rattle.std.specs.Prelude.{◌≡◌, ◌++◌, OnOk, string_bytes, IfErr};
+ghost use Rattle.std.specs.Prelude.{◌≡◌, ◌++◌, [], OnOk, IfErr, IfOk, string_bytes};
+ghost use Rattle.coord_world.specs.protocol.Outputs.{again};
+ghost use Rattle.coord_ledger.specs.Facade.{settled_world};
 ghost use Rattle.coord_drill.specs.Answered.{shown_lines};
 ghost use Rattle.coord_drill.specs.Faults.{IsOfMemory};
 ghost use Rattle.coord_drill.specs.Holding.{IsReady, Tells};
-ghost use Rattle.coord_drill.specs.Moments.{Carries};
+ghost use Rattle.coord_drill.specs.Moments.{CarriesIf, CutsIf};
+ghost use Rattle.coord_drill.specs.Printed.{output_lines};
 ghost use Rattle.coord_drill.specs.declared.asked.Asked.TheVariants as ask;
 
 use super::Drill;
@@ -12,93 +15,143 @@ use super::flying::print_released;
 use crate::fault::Fault;
 use crate::print::{print_fault, print_idle, print_refusal};
 use coord_check::check;
-use coord_disk::MemDisk;
+use coord_disk::{CrashDisk, Disk};
 use coord_ledger::{Ledger, Seen};
 use coord_types::Refusal;
 use coord_view::print_view;
+use std::alloc::AllocError;
 
-impl Drill {
+impl<D: CrashDisk> Drill<D> {
     /// Prints that a lane is not there.
-    #[tactic(auto, using(crate::proofs::does::Moments::tells_refusal))]
-    pub(super) fn refuse(&self, refusal: Refusal, text: &mut String) -> Result<(), Fault>
-        requires ready { IsReady self.now }
-        ensures told { OnOk result (Tells (string_bytes text.old) (string_bytes text.new) (λ told.
-            Carries self.now (ask.Refuse refusal) told self.now)) }
-        ensures fault { IfErr result IsOfMemory }
+    pub(super) fn refuse(self, refusal: Refusal, text: &mut String) -> Result<Self, (Fault, D)>
+        requires ready { IsReady self }
+        ensures ready { IfOk result IsReady }
+        ensures told { IfOk result (λ drill. Tells (string_bytes text.old) (string_bytes text.new)
+            (λ told. CarriesIf ⟦<D as Disk>⟧ D.crashes self (ask.Refuse refusal) told drill)) }
+        ensures cut { IfErr result (λ refused.
+            CutsIf ⟦<D as Disk>⟧ D.crashes (ask.Refuse refusal) self refused.0
+            refused.1) }
+        ensures fault { IfErr result (λ refused. IsOfMemory refused.0) }
     {
-        self.driver();
-        print_refusal(text, refusal)?;
-        Ok(())
+        self.driver.survives();
+        let printed = print_refusal(text, refusal);
+        match printed {
+            Ok(()) => Ok(self),
+            Err(_) => Err(self.lost()),
+        }
     }
 
     /// Prints that nothing waits on a lane.
-    #[tactic(auto, using(crate::proofs::does::Moments::tells_idle))]
-    pub(super) fn idle(&self, text: &mut String) -> Result<(), Fault>
-        requires ready { IsReady self.now }
-        ensures told { OnOk result (Tells (string_bytes text.old) (string_bytes text.new) (λ told.
-            Carries self.now ask.Nothing told self.now)) }
-        ensures fault { IfErr result IsOfMemory }
+    pub(super) fn idle(self, text: &mut String) -> Result<Self, (Fault, D)>
+        requires ready { IsReady self }
+        ensures ready { IfOk result IsReady }
+        ensures told { IfOk result (λ drill. Tells (string_bytes text.old) (string_bytes text.new)
+            (λ told. CarriesIf ⟦<D as Disk>⟧ D.crashes self ask.Nothing told drill)) }
+        ensures cut { IfErr result (λ refused.
+            CutsIf ⟦<D as Disk>⟧ D.crashes ask.Nothing self refused.0
+            refused.1) }
+        ensures fault { IfErr result (λ refused. IsOfMemory refused.0) }
     {
-        self.driver();
-        print_idle(text)?;
-        Ok(())
+        self.driver.survives();
+        let printed = print_idle(text);
+        match printed {
+            Ok(()) => Ok(self),
+            Err(_) => Err(self.lost()),
+        }
     }
 
     /// Prints what is sent again of the settled world.
-    #[tactic(auto, using(crate::proofs::does::Moments::tells_resent, crate::proofs::does::Settled::resent_lines, crate::proofs::does::Settled::looked_at))]
-    pub(super) fn resend(&self, text: &mut String) -> Result<(), Fault>
-        requires ready { IsReady self.now }
-        ensures told { OnOk result (Tells (string_bytes text.old) (string_bytes text.new) (λ told.
-            Carries self.now ask.Resend told self.now)) }
-        ensures fault { IfErr result IsOfMemory }
+    pub(super) fn resend(self, text: &mut String) -> Result<Self, (Fault, D)>
+        requires ready { IsReady self }
+        ensures ready { IfOk result IsReady }
+        ensures told { IfOk result (λ drill. Tells (string_bytes text.old) (string_bytes text.new)
+            (λ told. CarriesIf ⟦<D as Disk>⟧ D.crashes self ask.Resend told drill)) }
+        ensures cut { IfErr result (λ refused.
+            CutsIf ⟦<D as Disk>⟧ D.crashes ask.Resend self refused.0
+            refused.1) }
+        ensures fault { IfErr result (λ refused. IsOfMemory refused.0) }
     {
-        let ledger = self.driver().ledger();
-        let mut releases = ledger.resend()?;
-        let mut ahead = releases.next();
-        // All of it is as of step 0.
-        let version = ledger.settled().version();
-        let printed = print_released(text, version, 0, &mut ahead, &mut releases);
-        releases.lose_rest();
-        printed?;
-        Ok(())
+        self.driver.survives();
+        let printed = print_resent(self.driver.ledger(), text);
+        match printed {
+            Ok(()) => Ok(self),
+            Err(_) => Err(self.lost()),
+        }
     }
 
     /// Checks the front world.
-    #[tactic(auto, using(crate::proofs::does::Moments::tells_check))]
-    pub(super) fn check(&self, text: &mut String) -> Result<(), Fault>
-        requires ready { IsReady self.now }
-        ensures told { OnOk result (Tells (string_bytes text.old) (string_bytes text.new) (λ told.
-            Carries self.now ask.Check told self.now)) }
-        ensures fault { IfErr result IsOfMemory }
+    pub(super) fn check(self, text: &mut String) -> Result<Self, (Fault, D)>
+        requires ready { IsReady self }
+        ensures ready { IfOk result IsReady }
+        ensures told { IfOk result (λ drill. Tells (string_bytes text.old) (string_bytes text.new)
+            (λ told. CarriesIf ⟦<D as Disk>⟧ D.crashes self ask.Check told drill)) }
+        ensures cut { IfErr result (λ refused.
+            CutsIf ⟦<D as Disk>⟧ D.crashes ask.Check self refused.0
+            refused.1) }
+        ensures fault { IfErr result (λ refused. IsOfMemory refused.0) }
     {
-        let ledger = self.driver().ledger();
-        print_fault(text, check(ledger.front()))?;
-        Ok(())
+        self.driver.survives();
+        let printed = print_fault(text, check(self.driver.ledger().front()));
+        match printed {
+            Ok(()) => Ok(self),
+            Err(_) => Err(self.lost()),
+        }
     }
 
     /// Shows the settled world.
-    #[tactic(auto, using(crate::proofs::does::Moments::tells_show))]
-    pub(super) fn show(&self, text: &mut String) -> Result<(), Fault>
-        requires ready { IsReady self.now }
-        ensures told { OnOk result (Tells (string_bytes text.old) (string_bytes text.new) (λ told.
-            Carries self.now ask.Show told self.now)) }
-        ensures fault { IfErr result IsOfMemory }
+    pub(super) fn show(self, text: &mut String) -> Result<Self, (Fault, D)>
+        requires ready { IsReady self }
+        ensures ready { IfOk result IsReady }
+        ensures told { IfOk result (λ drill. Tells (string_bytes text.old) (string_bytes text.new)
+            (λ told. CarriesIf ⟦<D as Disk>⟧ D.crashes self ask.Show told drill)) }
+        ensures cut { IfErr result (λ refused.
+            CutsIf ⟦<D as Disk>⟧ D.crashes ask.Show self refused.0
+            refused.1) }
+        ensures fault { IfErr result (λ refused. IsOfMemory refused.0) }
     {
-        let ledger = self.driver().ledger();
-        print_shown(ledger, text)
+        self.driver.survives();
+        let printed = print_shown(self.driver.ledger(), text);
+        match printed {
+            Ok(()) => Ok(self),
+            Err(_) => Err(self.lost()),
+        }
+    }
+
+    /// From now on accepted steps are not settled at once.
+    pub(super) fn hold(self) -> Self
+        requires ready { IsReady self }
+        ensures ready { IsReady result }
+        ensures told { CarriesIf ⟦<D as Disk>⟧ D.crashes self ask.Hold [] result }
+    {
+        let mut drill = self;
+        drill.driver.survives();
+        drill.holds = true;
+        drill
     }
 }
 
+/// Prints what a ledger sends again. All of it is as of step 0.
+#[tactic(auto, using(crate::proofs::does::Settled::resent_lines, crate::proofs::does::Settled::looked_at))]
+fn print_resent<D: CrashDisk>(ledger: &Ledger<D>, text: &mut String) -> Result<(), AllocError>
+    ensures { OnOk result (string_bytes text.new ≡ string_bytes text.old ++ output_lines
+        (settled_world ledger.now.log).version (again (settled_world ledger.now.log))) }
+{
+    let mut releases = ledger.resend()?;
+    let mut ahead = releases.next();
+    let version = ledger.settled().version();
+    let printed = print_released(text, version, 0, &mut ahead, &mut releases);
+    releases.lose_rest();
+    printed
+}
+
 /// Prints what a ledger shows.
-fn print_shown(ledger: &Ledger<MemDisk>, text: &mut String) -> Result<(), Fault>
-    ensures printed { OnOk result (string_bytes text.new ≡
+fn print_shown<D: CrashDisk>(ledger: &Ledger<D>, text: &mut String) -> Result<(), AllocError>
+    ensures { OnOk result (string_bytes text.new ≡
         string_bytes text.old ++ shown_lines ledger.now.log) }
-    ensures fault { IfErr result IsOfMemory }
 {
     match ledger.show(&mut Seen::new()) {
-        Ok(view) => print_view(text, &view)?,
-        Err(Refusal::OutOfMemory) => return Err(Fault::OutOfMemory),
-        Err(refusal) => print_refusal(text, refusal)?,
+        Ok(view) => print_view(text, &view),
+        Err(Refusal::OutOfMemory) => Err(AllocError),
+        Err(refusal) => print_refusal(text, refusal),
     }
-    Ok(())
 }

@@ -1,15 +1,19 @@
-use Rattle.std.proofs.Common.{[], rules}
-use Rattle.std.proofs.lemmas.Result.{IfErr-weaker}
-use Rattle.std.proofs.KnownBytes.{Consumes-nil}
-use Rattle.coord_lines.specs.Lines.{lines_of}
-use Rattle.coord_world.specs.protocol.NumberedWorld.{no_world}
-use Rattle.coord_drill.specs.Facade.{IsOfDisk, drill_over}
-use Rattle.coord_drill.proofs.prints.FirstParts.{first_part-none}
-use Rattle.coord_drill.proofs.does.LineResponds.{prints_somehow}
-use Rattle.coord_drill.proofs.prints.Prints.{disk_is_work}
+use Rattle.std.proofs.Common.{◌≡◌, ℕ, List, [], refl, sym, ◌∙◌, inl, inr}
+use Rattle.std.specs.Io.KnownBytes.{Appends}
+use Rattle.std.proofs.KnownBytes.{Consumes-whole}
+use Rattle.coord_drill.specs.Drilled.{IsDrilled}
+use Rattle.coord_drill.proofs.prints.Prints.{broke_prints, ended_prints, never_reads, nothing_seen, nothing_written}
 use Rattle.coord_drill.proofs.console.coord_drill.Goals as goal
 
-pub returns-in_err-console-clause-failed : goal.returns-in_err-console-clause-failed
-returns-in_err-console-clause-failed g c =
-    let some = prints_somehow (drill_over (no_world 1)) 1 (lines_of []) in
-    IfErr-weaker c.from_residual.result IsOfDisk _ (λ fault of. ([], Consumes-nil _, (some.0, some.1, first_part-none _ some.0), λ e. absurd ((disk_is_work fault of).1 e))) (search rules)
+pub returns-in-Ok-clause-printed : goal.returns-in-Ok-clause-printed
+returns-in-Ok-clause-printed g c =
+    let done = c.in-Ok.ensures.ended refl in
+    Consumes-whole _ _ done.0 (λ input. (text : List ℕ) × IsDrilled input text × Appends (g.W.Write.contents c.args.writer.now) (g.W.Write.contents c.coord_drill_on.new.writer) text) done.2 c.in-Ok.ensures.end
+    (done.1, ended_prints _ _ done.0 done.1 _ done.3, done.4)
+
+pub returns-in-Err-clause-failed : goal.returns-in-Err-clause-failed
+returns-in-Err-clause-failed g c =
+    elim (c.in-Err.ensures.failed refl) [
+      | inl broke ↦ (broke.0, broke.1, broke_prints _ _ broke.0 _ _ _ _ broke.2, broke.3)
+      | inr none ↦ ([], nothing_seen _ _ none.1, nothing_written _ _ none.2, λ e. absurd (never_reads none.0.why (sym none.0.fault_is ∙ e)))
+    ]

@@ -1,10 +1,15 @@
-use Rattle.std.proofs.Common.{ap, ◌∙◌}
-use Rattle.coord_ledger.specs.ledger.State.{ledger_over}
+use Rattle.std.proofs.Common.{◌≡◌, ◌+◌, refl, ap, ◌∙◌, sym, arith, subst}
+use Rattle.coord_store.specs.Kept.{Kept}
+use Rattle.coord_store.specs.declared.faults.StoreFault.TheVariants.{OutOfMemory}
+use Rattle.coord_drill.specs.Facade.{failed_by}
+use Rattle.coord_drill.proofs.does.Crashes.{told_failures}
 use Rattle.coord_drill.proofs.drill.new_ledger.Goals as goal
 
-pub returns-in-Ok-clause-made : goal.returns-in-Ok-clause-made
-returns-in-Ok-clause-made c = record {
-  disk = c.in_ok-new_store.field-0.disk;
-  adopted = c.in-Ok.ensures.adopted ∙ ap (λ w. ledger_over w c.in_ok-new_store.field-0.disk) c.in_ok-new_store.ensures.world;
-  present = c.in_ok-new_store.ensures.bytes;
-}
+pub returns-in-Err-clause-not_made : goal.returns-in-Err-clause-not_made
+returns-in-Err-clause-not_made g c on =
+    record { why = c.in-Err.fault; fault_is = c.into.ensures; refused = c.in-Err.ensures.fault on; failed = c.in-Err.ensures.failures ∙ ap (λ n. g.D.Disk.failures c.args.disk + n) (sym (ap failed_by c.into.ensures ∙ told_failures c.in-Err.fault)) }
+
+pub returns-in-Err-adopt-clause-not_made : goal.returns-in-Err-adopt-clause-not_made
+returns-in-Err-adopt-clause-not_made g c on =
+    let same = ap g.D.Disk.failures (c.into_disk.ensures.disk ∙ ap (λ (k : Kept g.row.D.Denot). k.disk) c.in-Err-adopt.ensures.back) ∙ c.in-Ok.ensures.failures in
+    record { why = OutOfMemory; fault_is = refl; refused = tt; failed = omega (arith, same) }

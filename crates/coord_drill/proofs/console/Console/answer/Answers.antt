@@ -1,17 +1,28 @@
-use Rattle.std.proofs.Common.{◌++◌, ◌+◌, [], rules}
-use Rattle.coord_lines.specs.Lines.{lines_on}
-use Rattle.coord_drill.specs.Facade.{Prints, state_of}
-use Rattle.coord_drill.proofs.does.LineResponds.{prints_somehow}
-use Rattle.coord_drill.proofs.prints.Prints.{prints-so_far, put_cut}
+use Rattle.std.proofs.Common.{◌≡◌, ◌+◌, rules}
+use Rattle.std.proofs.lemmas.Result.{IfErr-weaker, IfOk-weaker}
+use Rattle.coord_drill.proofs.prints.FirstParts.{first_part-all}
+use Rattle.coord_drill.proofs.prints.Pieces.{breaks_unwritten, breaks_written, of_writing, takes_unwritten, takes_written}
 use Rattle.coord_drill.proofs.console.Console.answer.Goals as goal
 
-pub returns-in_err-write_text-clause-failed : goal.returns-in_err-write_text-clause-failed
-returns-in_err-write_text-clause-failed g c =
-    let old = c.args.self.now in
-    let new = c.take-taken.new.self in
-    let piece = c.args.piece.now in
-    let part = put_cut c.take-taken.result c.take-taken.new.writer.items (Prints (state_of old.drill) (old.number + 1) (lines_on old.line piece))
-    (λ more. Prints (state_of old.drill) (old.number + 1) (lines_on old.line (piece ++ more))) (λ more. Prints (state_of new.drill) (new.number + 1) (lines_on new.line more))
-    (prints-so_far (state_of old.drill) (old.number + 1) old.line piece) (prints_somehow (state_of new.drill) (new.number + 1) (lines_on new.line []))
-    (rw c.new-text.ensures.items at c.take-taken.ensures.printed) (rw c.new-text.ensures.items at c.take-taken.ensures.failed) _ _ (rw c.deref.ensures.value at c.in_err-write_text.ensures.err) in
-    search rules
+pub returns-in-Ok-clause-taken : goal.returns-in-Ok-clause-taken
+returns-in-Ok-clause-taken g c =
+    let d = c.args.self in
+    IfOk-weaker c.take-taken.result _ _ (λ console taken. takes_written g.D.Disk g.D.CrashDisk.crashes d.drill d.number d.line c.args.piece.now c.take-taken.new.writer.items _ _ console.drill console.number console.line taken (rw c.deref.ensures.value at c.in-Ok.ensures.ok))
+    (rw c.new-text.ensures.items at c.take-taken.ensures.taken)
+
+pub returns-in-Ok-clause-failed : goal.returns-in-Ok-clause-failed
+returns-in-Ok-clause-failed g c =
+    let d = c.args.self in
+    IfErr-weaker c.take-taken.result _ _ (λ refused breaks. breaks_written g.D.Disk g.D.CrashDisk.crashes d.drill d.number d.line c.args.piece.now c.take-taken.new.writer.items _ _ refused.0 refused.1 breaks (first_part-all _ _ _ (rw c.deref.ensures.value at c.in-Ok.ensures.ok)))
+    (rw c.new-text.ensures.items at c.take-taken.ensures.failed)
+
+pub returns-in-Ok-taken-clause-failed : goal.returns-in-Ok-taken-clause-failed
+returns-in-Ok-taken-clause-failed g c =
+    let d = c.args.self in
+    let console = c.in-Ok-taken.console in
+    takes_unwritten g.D.Disk g.D.CrashDisk.crashes d.drill d.number d.line c.args.piece.now c.take-taken.new.writer.items _ _ console.drill console.number console.line c.in-Err.fault _ (rw c.new-text.ensures.items at c.in-Ok-taken.ensures.taken) (rw c.deref.ensures.value at c.in-Err.ensures.err) (of_writing c.in-Err.fault c.in-Err.ensures.fault) c.into_disk.ensures
+
+pub returns-clause-failed : goal.returns-clause-failed
+returns-clause-failed g c =
+    let d = c.args.self in
+    breaks_unwritten g.D.Disk g.D.CrashDisk.crashes d.drill d.number d.line c.args.piece.now c.take-taken.new.writer.items _ _ c.in-Err-taken.field-0-0 c.in-Err.fault c.in-Err-taken.disk c.in-Err.ensures.fault (rw c.new-text.ensures.items at c.in-Err-taken.ensures.failed) (rw c.deref.ensures.value at c.in-Err.ensures.err)

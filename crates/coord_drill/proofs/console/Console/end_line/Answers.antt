@@ -1,14 +1,22 @@
-use Rattle.std.proofs.Common.{◌+◌, rules, string_bytes}
-use Rattle.coord_drill.specs.Facade.{state_of}
-use Rattle.coord_drill.proofs.prints.Prints.{line_failed, line_unwritten}
+use Rattle.std.proofs.Common.{◌≡◌, ◌+◌, rules, string_bytes}
+use Rattle.coord_drill.proofs.does.Moments.{passed_on}
+use Rattle.coord_drill.proofs.prints.Pieces.{carries_line, line_cut, line_unwritten, of_writing}
 use Rattle.coord_drill.proofs.console.Console.end_line.Goals as goal
 
-pub returns-in_err-answer_line-clause-failed : goal.returns-in_err-answer_line-clause-failed
-returns-in_err-answer_line-clause-failed g c =
-    let s = c.args.self.now in
-    line_unwritten c.from_residual.result (state_of s.drill) (s.number + 1) s.line _
+pub returns-in_err-console-clause-failed : goal.returns-in_err-console-clause-failed
+returns-in_err-console-clause-failed g c =
+    let d = c.args.self in
+    let fault = c.in_err-console.field-0.0 in
+    passed_on c.from_residual.result fault _ c.from_residual.ensures.1 (line_cut g.D.Disk g.D.CrashDisk.crashes d.drill (d.number + 1) d.line _ fault.0 fault.1 c.in_err-console.ensures.cut)
 
-pub returns-clause-failed : goal.returns-clause-failed
-returns-clause-failed g c =
-    let s = c.args.self.now in
-    line_failed c.write_text.result (state_of s.drill) (s.number + 1) s.line (string_bytes c.answer_line.new.self.text) _ _ _ c.in_ok-answer_line.ensures.told (search rules)
+pub returns-in-Ok-clause-carried : goal.returns-in-Ok-clause-carried
+returns-in-Ok-clause-carried g c =
+    let d = c.args.self in
+    let console = c.in_ok-console.console in
+    carries_line g.D.Disk g.D.CrashDisk.crashes d.drill console.drill (d.number + 1) d.line (string_bytes console.text) _ _ c.in_ok-console.ensures.carried (search rules)
+
+pub returns-in-Err-clause-failed : goal.returns-in-Err-clause-failed
+returns-in-Err-clause-failed g c =
+    let d = c.args.self in
+    let console = c.in_ok-console.console in
+    line_unwritten g.D.Disk g.D.CrashDisk.crashes d.drill console.drill (d.number + 1) d.line (string_bytes console.text) _ _ c.in-Err.fault _ c.in_ok-console.ensures.carried (search rules) (of_writing c.in-Err.fault c.in-Err.ensures.fault) c.into_disk.ensures

@@ -1,24 +1,31 @@
-use Rattle.std.proofs.Common.{◌+◌, rules}
+use Rattle.std.proofs.Common.{◌≡◌, ◌+◌, [], ◌∷◌, rules}
 use Rattle.std.proofs.KnownBytes.{Appends-kept}
-use Rattle.coord_drill.specs.Holding.{state_of}
-use Rattle.coord_drill.proofs.prints.Prints.{end_failed, prints-end}
-use Rattle.coord_drill.proofs.prints.FirstParts.{first_part-all}
+use Rattle.coord_drill.specs.Facade.{CarriesOut}
+use Rattle.coord_drill.proofs.does.Moments.{passed_on}
+use Rattle.coord_drill.proofs.prints.Pieces.{breaks_behind, last_breaks, last_ends, of_writing}
 use Rattle.coord_drill.proofs.console.Console.finish.Goals as goal
 
 pub returns-in_err-end_line-clause-failed : goal.returns-in_err-end_line-clause-failed
 returns-in_err-end_line-clause-failed g c =
-    let s = c.args.self.now in
-    let part = end_failed (state_of s.drill) (s.number + 1) s.line c.end_line.ensures.within _ _ c.in_err-end_line.ensures.failed in
-    search rules
+    let d = c.args.self in
+    let fault = c.in_err-end_line.field-0.0 in
+    passed_on c.from_residual.result fault _ c.from_residual.ensures.1 (last_breaks g.D.Disk g.D.CrashDisk.crashes d.drill (d.number + 1) d.line _ _ fault.0 fault.1 c.end_line.ensures.within c.in_err-end_line.ensures.failed)
+
+pub returns-in-Ok-clause-ended : goal.returns-in-Ok-clause-ended
+returns-in-Ok-clause-ended g c =
+    let d = c.args.self in
+    let console = c.in_ok-end_line.field-0 in
+    let out = c.in_ok-end_line.ensures.carried in
+    let kept : CarriesOut g.D.Disk g.D.CrashDisk.crashes d.drill (d.number + 1) (d.line ∷ []) (g.W.Write.contents c.args.writer.now) (g.W.Write.contents c.flush.new.self) console.drill =
+    record { text = out.text; wrote = Appends-kept _ _ _ _ out.wrote c.in-Ok.ensures.bytes; goes = out.goes } in
+    last_ends g.D.Disk g.D.CrashDisk.crashes d.drill console.drill (d.number + 1) d.line _ _ _ c.end_line.ensures.within kept c.into_disk-disk.ensures
 
 pub returns-in-Err-clause-failed : goal.returns-in-Err-clause-failed
 returns-in-Err-clause-failed g c =
-    let s = c.args.self.now in
-    let ended = c.in_ok-end_line.ensures.printed in
-    (ended.0, prints-end (state_of s.drill) (s.number + 1) s.line c.end_line.ensures.within ended.0 _ ended.1, first_part-all _ _ _ (Appends-kept _ _ _ _ ended.2 c.in-Err.ensures.bytes))
-
-pub returns-clause-printed : goal.returns-clause-printed
-returns-clause-printed g c =
-    let s = c.args.self.now in
-    let ended = c.in_ok-end_line.ensures.printed in
-    (ended.0, prints-end (state_of s.drill) (s.number + 1) s.line c.end_line.ensures.within ended.0 _ ended.1, Appends-kept _ _ _ _ ended.2 c.in_default.ensures.bytes)
+    let d = c.args.self in
+    let console = c.in_ok-end_line.field-0 in
+    let out = c.in_ok-end_line.ensures.carried in
+    let kept : CarriesOut g.D.Disk g.D.CrashDisk.crashes d.drill (d.number + 1) (d.line ∷ []) (g.W.Write.contents c.args.writer.now) (g.W.Write.contents c.flush.new.self) console.drill =
+    record { text = out.text; wrote = Appends-kept _ _ _ _ out.wrote c.in-Err.ensures.bytes; goes = out.goes } in
+    last_breaks g.D.Disk g.D.CrashDisk.crashes d.drill (d.number + 1) d.line _ _ _ _ c.end_line.ensures.within
+    (breaks_behind g.D.Disk g.D.CrashDisk.crashes d.drill console.drill (d.number + 1) (d.line ∷ []) [] (d.line ∷ []) _ _ c.fault_of.result _ (search rules) kept (of_writing c.fault_of.result c.fault_of.ensures.fault) c.into_disk-disk.ensures)

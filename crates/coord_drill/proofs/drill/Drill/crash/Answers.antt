@@ -1,31 +1,55 @@
-use Rattle.std.proofs.Common.{◌≡◌, ◌++◌, [], ◌∷◌, Some, true, refl, sym, ap, subst, rules, string_bytes}
-use Rattle.std.specs.Option.{option_map}
+use Rattle.std.proofs.Common.{◌≡◌, ◌+◌, ◌++◌, [], ◌∷◌, Some, refl, sym, ap, ◌∙◌, subst, arith, rules, string_bytes, inr}
 use Rattle.coord_ledger.specs.declared.events.Event.TheVariants as event
-use Rattle.coord_ledger.specs.ledger.Driven.{Driven, after_crash}
-use Rattle.coord_drill.specs.Facade.{IsReadyWith, MemDisk, Opened, drill_of, opened_line}
+use Rattle.coord_ledger.specs.Facade.{HasFailed, after_crash, disk_driven, failed_in}
+use Rattle.coord_drill.specs.Drill.{line_events}
+use Rattle.coord_drill.specs.Facade.{IsPassing, IsPromised, Leads, Opened, drill_of, failed_by, opened_line, reopen_fault}
 use Rattle.coord_drill.specs.declared.asked.Asked.TheVariants.{Crash}
-use Rattle.coord_drill.proofs.does.Does.{crash_after, crash_line, new_held}
-use Rattle.coord_drill.proofs.does.Moments.{begins_at, carries, run_on}
+use Rattle.coord_drill.proofs.does.Crashes.{crash_cause, crash_failed}
+use Rattle.coord_drill.proofs.does.Cuts.{cuts_part}
+use Rattle.coord_drill.proofs.does.Does.{crash_after, crash_line}
+use Rattle.coord_drill.proofs.does.Moments.{all_led, begins_by, carries, leads_one, run_of}
 use Rattle.coord_drill.proofs.does.Verdicts.{no_refusal}
 use Rattle.coord_drill.proofs.drill.Drill.crash.Goals as goal
 
-pub returns-clause-ready : goal.returns-clause-ready
-returns-clause-ready c =
-    let anew = c.in-Ok.ensures.anew in
-    subst (λ o. IsReadyWith o c.forget_all.new.tickets.items) (sym c.put.ensures)
-    (ap (λ (v : Driven MemDisk). v.flight) anew.is, new_held c.in-Ok.opened.1.ledger anew.world anew.disk c.forget_all.new.tickets.items (ap (λ (v : Driven MemDisk). v.ledger) anew.is) c.forget_all.ensures)
+pub returns-in-Err-clause-cut : goal.returns-in-Err-clause-cut
+returns-in-Err-clause-cut g c promised =
+    let told = c.told_as.ensures.told in
+    inr (record {
+      moments = λ b s is follows old there keeps. (c.in-Err.ensures.disk b s is follows old there keeps).reopens;
+      cause = λ on. subst IsPassing (sym told) (crash_cause _ c.in-Err.kind c.in-Err.ensures.cause on);
+      failed = λ n has. c.in-Err.ensures.failures n has ∙ ap (λ k. n + k) (sym (ap failed_by told ∙ crash_failed c.in-Err.kind));
+    })
 
-pub returns-clause-told : goal.returns-clause-told
-returns-clause-told c =
-    let d = c.args.self.now in
-    let v = c.in-Some.driver in
+pub returns-in-Ok-print_opened-clause-told : goal.returns-in-Ok-print_opened-clause-told
+returns-in-Ok-print_opened-clause-told g c =
+    let d = c.args.self in
     let w = c.in-Ok.opened.1 in
     let count = c.in-Ok.opened.0 in
-    let is : d.driver ≡ Some v = search rules in
     let line = opened_line count in
     let text : string_bytes c.print_opened.new.text ≡ string_bytes c.args.text.now ++ line = search rules in
-    let run =
-    run_on v.ledger [] [] v w event.Crash (Opened count) after_crash tt
-    (λ disk b s there consistent follows. c.in-Ok.ensures.answered b s consistent follows (ap (option_map (λ (x : MemDisk). true)) there))
-    c.in-Ok.ensures.disk c.survives.ensures (begins_at d.driver v is c.driver.ensures.begins) in
-    (line, (text, carries d _ v w Crash (Opened count ∷ []) line is c.put.ensures refl run (no_refusal _ refl, tt) (crash_line (drill_of v.ledger d.holds d.has_begun) count) (crash_after v w d.holds d.has_begun count run c.in-Ok.ensures.anew)))
+    let begins = begins_by g.D.Disk g.D.CrashDisk.crashes d.driver c.begins.ensures in
+    let leads : IsPromised g.D.Disk d Crash → Leads g.D.Disk g.D.CrashDisk.crashes d.driver (event.Crash ∷ []) (Opened count ∷ []) w =
+    λ promised. leads_one g.D.Disk g.D.CrashDisk.crashes d.driver w event.Crash (Opened count) after_crash tt c.survives.ensures c.survives-2.ensures c.in-Ok.ensures.model
+    (λ n has. let none : n ≡ n + 0 = omega arith in subst (HasFailed g.D.Disk.failures (disk_driven w)) none (c.in-Ok.ensures.failures n has))
+    (λ b s is follows. c.in-Ok.ensures.answered b s is follows promised.0) c.in-Ok.ensures.disk in (
+      line,
+      (
+        text,
+        λ promised.
+            let led = leads promised in
+            carries g.D.Disk g.D.CrashDisk.crashes d _ Crash (Opened count ∷ []) line refl begins led (no_refusal _ refl, tt) (crash_line (drill_of d.driver.ledger d.holds d.has_begun) count)
+            (crash_after g.D.Disk g.D.CrashDisk.crashes d.driver w d.holds d.has_begun count (run_of g.D.Disk g.D.CrashDisk.crashes d.driver w (event.Crash ∷ []) (Opened count ∷ []) begins led) c.in-Ok.ensures.anew),
+      ),
+    )
+
+pub returns-in-Err-print_opened-clause-cut : goal.returns-in-Err-print_opened-clause-cut
+returns-in-Err-print_opened-clause-cut g c promised =
+    let d = c.args.self in
+    let w = c.in-Ok.opened.1 in
+    let count = c.in-Ok.opened.0 in
+    let begins = begins_by g.D.Disk g.D.CrashDisk.crashes d.driver c.begins.ensures in
+    let led : Leads g.D.Disk g.D.CrashDisk.crashes d.driver (event.Crash ∷ []) (Opened count ∷ []) w =
+    leads_one g.D.Disk g.D.CrashDisk.crashes d.driver w event.Crash (Opened count) after_crash tt c.survives.ensures c.survives-2.ensures c.in-Ok.ensures.model
+    (λ n has. let none : n ≡ n + 0 = omega arith in subst (HasFailed g.D.Disk.failures (disk_driven w)) none (c.in-Ok.ensures.failures n has))
+    (λ b s is follows. c.in-Ok.ensures.answered b s is follows promised.0) c.in-Ok.ensures.disk in
+    cuts_part g.D.Disk g.D.CrashDisk.crashes d Crash _ _ refl c.lost.ensures.fault (all_led g.D.Disk g.D.CrashDisk.crashes d.driver w (line_events d.holds Crash) (Opened count ∷ []) _ begins led c.lost.ensures.disk)

@@ -6,10 +6,10 @@ use Rattle.coord_drill.proofs.drill.flying.print_collected.Given as goal
 
 -- what is printed and what is still to be printed, and the tickets that stay
 abbrev pub invariant-loop-ticket : goal.invariant-loop-ticket
-invariant-loop-ticket l =
+invariant-loop-ticket g l =
     (string_bytes l.text ++ collected_lines l.version l.settled l.tickets.items (left l.ahead l.releases) ≡ string_bytes l.initial.text ++ collected_lines l.version l.settled l.initial.tickets.items (left l.initial.ahead l.initial.releases))
     × (waiting l.settled l.tickets.items ≡ waiting l.settled l.initial.tickets.items)
     × AllByRecursion (IsGranted l.ledger.log) l.tickets.items
 
 abbrev pub decreases-loop-ticket : goal.decreases-loop-ticket
-decreases-loop-ticket l = length l.tickets.items
+decreases-loop-ticket g l = length l.tickets.items

@@ -1,16 +1,16 @@
 use Rattle.std.proofs.Common.{refl}
 use Rattle.coord_ledger.specs.declared.events.Event.TheVariants.{Submit}
 use Rattle.coord_ledger.specs.ledger.Driven.{answer_to, with_claim}
-use Rattle.coord_drill.proofs.does.Moments.{run_aside}
+use Rattle.coord_drill.proofs.does.Moments.{leads_aside}
 use Rattle.coord_drill.proofs.drill.submitting.hand_in.Goals as goal
 
 pub returns : goal.returns
-returns c =
+returns g c =
     let handed = c.submit-handed.result in
     record {
       handed = c.submit-handed.ensures.handed;
       flight = c.submit-handed.ensures.flight;
-      moments = λ l es gs run.
-          run_aside l es gs c.args.driver.now c.submit-handed.new.self (Submit c.args.step) (answer_to handed) (λ b. with_claim b handed) c.within_ranges.ensures refl (λ s. refl) c.submit-handed.ensures.disk c.submit-handed.ensures.answered
-          c.survives.ensures c.survives-2.ensures run;
+      stays = c.submit-handed.ensures.disk;
+      moments = leads_aside g.D.Disk g.D.CrashDisk.crashes c.args.driver.now c.submit-handed.new.self (Submit c.args.step) (answer_to handed) (λ b. with_claim b handed) c.within_ranges.ensures c.survives.ensures c.survives-2.ensures g.met.D.Disk.only_now refl (λ s. refl) refl c.submit-handed.ensures.disk
+          c.submit-handed.ensures.answered;
     }

@@ -1,0 +1,27 @@
+-- How a store that is refused is told.
+use Rattle.std.proofs.Common.{◌≡◌, Bool, true, Option, Some, refl, sym, ap, subst, inl, inr}
+use Rattle.coord_store.specs.Refused.{IsPassing as IsStorePassing, failed_in as failed_in_store}
+use Rattle.coord_store.specs.declared.faults.StoreFault.{StoreFault}
+use Rattle.coord_store.specs.declared.faults.StoreFault.TheVariants as store
+use Rattle.coord_ledger.specs.declared.events.Event.TheVariants.{Crash}
+use Rattle.coord_ledger.specs.declared.trace.RunFaultKind.{RunFaultKind}
+use Rattle.coord_ledger.specs.declared.trace.RunFaultKind.TheVariants as of_run
+use Rattle.coord_ledger.specs.Facade.{IsEventFault, failed_in}
+use Rattle.coord_drill.specs.Facade.{IsPassing, failed_by, reopen_fault, store_fault}
+
+pub told_failures : (why : StoreFault) → failed_by (store_fault why) ≡ failed_in_store why
+told_failures store.OutOfMemory = refl
+told_failures why = refl
+
+-- want of memory, or a failure of the device
+pub told_passing : (why : StoreFault) → IsStorePassing why → IsPassing (store_fault why)
+told_passing why (inl memory) = inl (ap store_fault memory)
+told_passing why (inr device) = inr (ap store_fault device)
+
+pub crash_failed : (kind : RunFaultKind) → failed_by (reopen_fault kind) ≡ failed_in kind
+crash_failed of_run.OutOfMemory = refl
+crash_failed (of_run.Store why) = told_failures why
+
+pub crash_cause : (model : Option Bool) (kind : RunFaultKind) → IsEventFault model Crash kind → model ≡ Some true → IsPassing (reopen_fault kind)
+crash_cause model of_run.OutOfMemory cause on = inl refl
+crash_cause model (of_run.Store why) cause on = told_passing why (cause.2 on)

@@ -1,0 +1,77 @@
+//! The line `version 2`: the empty store is raised where it stands.
+
+ghost use Rattle.std.specs.Prelude.{◌≡◌, None, [], IfErr, IfOk};
+ghost use Rattle.coord_ledger.specs.Facade.{at_home};
+ghost use Rattle.coord_drill.specs.Faults.{IsOfDisk};
+ghost use Rattle.coord_drill.specs.Holding.{IsReady};
+ghost use Rattle.coord_drill.specs.Moments.{CarriesIf, CutsIf, RaisesPart, RaisesTo};
+ghost use Rattle.coord_drill.specs.declared.asked.Asked.TheVariants as ask;
+
+use super::{Drill, forget_all};
+use crate::fault::Fault;
+use coord_disk::{CrashDisk, Disk};
+use coord_ledger::{Driver, Ledger};
+use std::alloc::Global;
+
+impl<D: CrashDisk> Drill<D> {
+    /// Goes on in version 2.
+    pub(super) fn begin_version_2(self) -> Result<Self, (Fault, D)>
+        requires ready { IsReady self }
+        ensures ready { IfOk result IsReady }
+        ensures told { IfOk result (λ drill.
+            CarriesIf ⟦<D as Disk>⟧ D.crashes self ask.Version2 [] drill) }
+        ensures cut { IfErr result (λ refused.
+            CutsIf ⟦<D as Disk>⟧ D.crashes ask.Version2 self refused.0
+            refused.1) }
+        ensures fault { IfErr result (λ refused. IsOfDisk refused.0) }
+    {
+        let Drill {
+            alloc,
+            driver,
+            mut tickets,
+            holds,
+            has_begun,
+        } = self;
+        forget_all(&mut tickets);
+        match raise(alloc, driver) {
+            Ok(driver) => Ok(Drill {
+                alloc,
+                driver,
+                tickets,
+                holds,
+                has_begun,
+            }),
+            Err(refused) => {
+                tickets.destroy_empty();
+                Err(refused)
+            }
+        }
+    }
+}
+
+/// Raises the store of a ledger at home to version 2, and goes on over it. What is pending is lost.
+fn raise<D: CrashDisk>(alloc: Global, driver: Driver<D>) -> Result<Driver<D>, (Fault, D)>
+    requires home { driver.flight ≡ None }
+    ensures home { IfOk result (λ new. new.flight ≡ None) }
+    ensures raised { IfOk result (RaisesTo ⟦<D as Disk>⟧ D.crashes driver) }
+    ensures cut { IfErr result (λ refused. RaisesPart ⟦<D as Disk>⟧ driver refused.0 refused.1) }
+    ensures fault { IfErr result (λ refused. IsOfDisk refused.0) }
+{
+    driver.begins();
+    let Ok(mut store) = driver.into_ledger().close() else {
+        unreachable!()
+    };
+    store.images_give_world();
+    match store.migrate() {
+        Ok(()) => {}
+        Err(fault) => return Err((fault.into(), store.into_disk())),
+    }
+    match Ledger::adopt(alloc, store) {
+        Ok(ledger) => {
+            let driver = Driver::over(ledger);
+            driver.begins();
+            Ok(driver)
+        }
+        Err((_, store)) => Err((Fault::OutOfMemory, store.into_disk())),
+    }
+}
