@@ -63,3 +63,13 @@ is_done P (Err fault) ok so = absurd (false≢true ok)
 -- what is an error with a fault
 pub err_last : {A : Type 0} (P : Fault → Type 0) (result : Result A Fault) (fault : Fault) → result ≡ Err fault → P fault → IfErr result P
 err_last P result fault is has = subst (λ r. IfErr r P) (sym is) has
+
+cut_weaker : (P Q : List ℕ → Type 0) (old new : Option (List ℕ)) (fault : Fault) → ((line : List ℕ) → P line → Q line) → IsCutShort P old new fault → IsCutShort Q old new fault
+cut_weaker P Q old new fault so (inl kept) = inl kept
+cut_weaker P Q old new fault so (inr part) = inr (part.0, (part.1.0, so part.1.0 part.1.1, part.1.2))
+
+-- what is said of faults and of what is printed, or less
+pub ends_weaker : (Q R : Fault → Type 0) (P S : List ℕ → Type 0) (status : ℕ) (old new : Streams) → ((fault : Fault) → Q fault → R fault) → ((line : List ℕ) → P line → S line) → Ends Q P status old new → Ends R S status old new
+ends_weaker Q R P S status old new faults lines (inl done) = inl (record { number = done.number; printed = (done.printed.0, lines done.printed.0 done.printed.1, done.printed.2); silent = done.silent })
+ends_weaker Q R P S status old new faults lines (inr failed) =
+    inr (record { fault = failed.fault; possible = faults failed.fault failed.possible; number = failed.number; told = failed.told; cut = cut_weaker P S old.output new.output failed.fault lines failed.cut })

@@ -6,7 +6,10 @@ use Rattle.coord_store.specs.Facade.{Kept, Recovered}
 use Rattle.coord_types.specs.declared.steps.Step.{Step}
 use Rattle.coord_world.specs.protocol.NumberedWorld.{World}
 use Rattle.coord_commands.specs.Folders.{bytes_of, known_of, reads}
-use Rattle.coord_commands.specs.Serving.{GivesWorld, IsServedToEnd}
+use Rattle.coord_server.specs.declared.fault.ServerFault.{ServerFault}
+use Rattle.coord_server.specs.declared.fault.ServerFault.TheVariants as of_server
+use Rattle.coord_commands.specs.Faults.{fault_of_server}
+use Rattle.coord_commands.specs.Serving.{GivesWorld, IsOfServing, IsServedToEnd}
 
 -- what holds of the bytes of a disk that keeps the model, holds of them where they are known
 pub if_keeps : (keeps : Bool) (known : Present) (P : List ℕ → Type 0) → (keeps ≡ true → P known.read) → IfSome (reads (if keeps then Some known else None)) P
@@ -33,10 +36,23 @@ module _ {D : Type 0} (keeps_model : D → Bool) (present : D → Present) where
     closed = put_back after left store.world gives back;
   }
 
+-- known bytes give a world
+pub gives_some : (o : Option (List ℕ)) (w : World) → IfSome o (λ known. Recovered known w) → GivesWorld o
+gives_some None w is = tt
+gives_some (Some known) w is = (w, is)
+
 -- then the bytes give a world before and after it
 pub gave : {D : Type 0} (keeps_model : D → Bool) (present : D → Present) (bytes after : Option (List ℕ)) → IsServedToEnd keeps_model present bytes after → GivesWorld bytes × GivesWorld after
-gave keeps_model present bytes after is = (some bytes is.began is.opened, some after is.store.world is.closed)
-  where
-    some : (o : Option (List ℕ)) (w : World) → IfSome o (λ known. Recovered known w) → GivesWorld o
-    some None w is = tt
-    some (Some known) w is = (w, is)
+gave keeps_model present bytes after is = (gives_some bytes is.began is.opened, gives_some after is.store.world is.closed)
+
+-- of a disk that was taken and opened
+pub gives_taken : {D : Type 0} (keeps_model : D → Bool) (present : D → Present) (before : Option Present) (taken : D) (w : World) → known_of keeps_model present taken ≡ before → IfSome (bytes_of keeps_model present taken) (λ known. Recovered known w) → GivesWorld (reads before)
+gives_taken keeps_model present before taken w is opened = gives_some (reads before) w (subst (λ k. IfSome (reads k) (λ known. Recovered known w)) is opened)
+
+-- the faults of serving, where the disk gave a world
+pub of_serving : (bytes : Option (List ℕ)) (fault : ServerFault) → GivesWorld bytes → IsOfServing bytes (fault_of_server fault)
+of_serving bytes of_server.OutOfMemory gives = tt
+of_serving bytes of_server.Socket gives = gives
+of_serving bytes of_server.Device gives = tt
+of_serving bytes of_server.Write gives = gives
+of_serving bytes (of_server.NotClosed fault) gives = gives

@@ -1,11 +1,11 @@
 -- Words that are refused.
-use Rattle.std.proofs.Common.{◌≡◌, ◌⊎◌, inl, inr, ℕ, List, Option, None, true, subst, sym}
+use Rattle.std.proofs.Common.{◌≡◌, ◌⊎◌, inl, inr, ℕ, List, Option, None, Result, Ok, Err, IfErr, IfOk, true, subst, sym}
 use Rattle.std.proofs.KnownBytes.{Keeps-refl}
 use Rattle.clap.specs.Words.{Text, takes}
 use Rattle.coord_disk.specs.Model.Present.{Present}
 use Rattle.coord_drill.specs.Drilled.{WritesFirstPart}
 use Rattle.coord_commands.specs.Faults.{fault_line, fault_status}
-use Rattle.coord_commands.specs.Running.{IsOfWords, RefusesWords}
+use Rattle.coord_commands.specs.Running.{IsOfWords, LacksWords, RefusesWords, files_around}
 use Rattle.coord_commands.specs.Words.{resetd, task_of}
 use Rattle.coord_commands.specs.declared.fault.Fault.{Fault}
 use Rattle.coord_commands.specs.declared.fault.Fault.TheVariants.{Usage, OutOfMemory}
@@ -23,3 +23,19 @@ refused_words words fault status input output old new holds says why is told =
       fails = record { fault = fault; possible = of_words words fault why; number = is; told = told; cut = inl (Keeps-refl output) };
       unread = Keeps-refl input;
     }
+
+-- words that could not be had
+pub lacks : (fault wanted : Fault) (status : ℕ) (input output old new : Option (List ℕ)) → fault ≡ wanted → status ≡ fault_status fault → WritesFirstPart old new (fault_line fault) → LacksWords wanted status (files_around input output old) (files_around input output new)
+lacks fault wanted status input output old new is number told = record { fails = record { fault = fault; possible = is; number = number; told = told; cut = inl (Keeps-refl output) }; unread = Keeps-refl input }
+
+pub on_ok : {A E : Type 0} (r : Result A E) (P Q : A → Type 0) → ((x : A) → P x → Q x) → IfOk r P → IfOk r Q
+on_ok (Ok x) P Q so is = so x is
+on_ok (Err e) P Q so is = tt
+
+pub on_err : {A E : Type 0} (r : Result A E) (P Q : E → Type 0) → ((x : E) → P x → Q x) → IfErr r P → IfErr r Q
+on_err (Ok x) P Q so is = tt
+on_err (Err e) P Q so is = so e is
+
+-- the fault of an error
+pub its_fault : {A : Type 0} (fault other : Fault) → ◌≡◌ {A = Result A Fault} (Err fault) (Err other) → fault ≡ other
+its_fault fault other same = cc
