@@ -3,7 +3,8 @@
 
 ghost use Rattle.coord_config.specs.Written.{WrittenIsRead};
 
-/// Every topology within the limits can be written, and what is written of it is read as it.
+/// What is written of a topology within the limits is read as that topology, wherever it is a
+/// document of TOML within the limit of a text. That it always is no clause says.
 pub fn written_is_read()
     ensures { WrittenIsRead }
 {}

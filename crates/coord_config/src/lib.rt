@@ -6,7 +6,7 @@
 //! `BadKey` where some key is missing or has no meaning; `BadValue` where the keys are right and a
 //! value is of another type or out of its limits; `NotToml` where the text is over its limit or is
 //! no TOML as the crate `toml` reads it; or `OutOfMemory`. Repeated nodes and links, and too many of
-//! them, are no fault of the file. `laws` has that every topology can be written and is read back,
+//! them, are no fault of the file. `laws` has that what is written of a topology is read back as it,
 //! and `runs` texts whose answers are computed through the definitions.
 #![tactic(auto)]
 

@@ -21,7 +21,7 @@ fn came(answer: io::Result<usize>) -> Result<usize, Fault>
     }
 }
 
-/// How many bytes were taken in a write of some, or the fault. One that was interrupted took none.
+/// How many bytes a write took, or its fault. An interrupted write took none.
 fn taken(answer: io::Result<usize>) -> Result<usize, Fault>
     ensures some { IfOk answer (λ count. count ≢ 0 → result ≡ Ok count) }
     ensures none { IfOk answer (λ count. count ≡ 0 → result ≡ Err Fault.Write) }

@@ -17,7 +17,7 @@ pub enum Asked {
     Refuse(Refusal),
     /// Nothing: no message waits on its lane.
     Nothing,
-    /// To give out again what may have been lost.
+    /// To send again what may have been lost.
     Resend,
     /// To check the front world.
     Check,

@@ -39,7 +39,7 @@ pub struct Drill<D: CrashDisk> {
     tickets: VecDeque<Ticket>,
     /// Accepted steps are not settled at once.
     holds: bool,
-    /// A step was accepted, be it lost since.
+    /// Whether a step was ever accepted, even if a crash lost it.
     has_begun: bool,
 }
 
@@ -145,7 +145,7 @@ fn new_ledger<D: CrashDisk>(alloc: Global, disk: D) -> Result<Ledger<D>, (Fault,
     }
 }
 
-/// Gives all tickets up.
+/// Spends all tickets without collecting them.
 fn forget(mut tickets: VecDeque<Ticket>) {
     forget_all(&mut tickets);
     tickets.destroy_empty();

@@ -17,7 +17,7 @@ pub enum Request {
     Data(DataPacket),
     /// Just this receipt comes.
     Receipt(ReceiptPacket),
-    /// What may have been lost is given out again.
+    /// What may have been lost is sent again.
     Resend,
     /// The front world is checked.
     Check,

@@ -97,7 +97,7 @@ impl<'a> Words<'a> {
 fn number_in(word: &str) -> Option<u64>
     ensures { result ≡ number_of word.now }
 {
-    // A leading plus would be read.
+    // `parse` would accept a leading plus, which is no digit.
     if word.starts_with('+') {
         return None;
     }

@@ -56,7 +56,7 @@ impl<D: CrashDisk> Drill<D> {
     }
 }
 
-/// How a crash that was not answered is told.
+/// The fault of a crash after which the disk could not be opened.
 fn told_as(kind: RunFaultKind) -> Fault
     ensures told { result ≡ reopen_fault kind }
     ensures fault { IsOfDisk result }

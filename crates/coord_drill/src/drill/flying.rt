@@ -33,7 +33,7 @@ enum Flown {
     Failed(CommitFault),
 }
 
-/// What became of a flight, and the driver with no flight out.
+/// What became of a flight, and the driver, which has no flight out any more.
 struct Landing<D: CrashDisk> {
     flown: Flown,
     driver: Driver<D>,
@@ -59,8 +59,8 @@ impl<D: CrashDisk> Drill<D> {
         }
     }
 
-    /// Sends the next pending steps out in one flight, if any may go, and takes it back. Prints what
-    /// it settled, or why it was not committed.
+    /// Settles the next pending steps by one flight, if a flight may leave. Prints what it settled,
+    /// or why it was not committed.
     pub(super) fn fly(self, text: &mut String) -> Result<Self, (Fault, D)>
         requires ready { IsReady self }
         ensures ready { IfOk result IsReady }
@@ -179,7 +179,7 @@ fn land<D: CrashDisk>(driver: Driver<D>) -> Result<Landing<D>, (Fault, D)>
     }
 }
 
-/// Takes the flight that is out back. Where there is no memory for what it releases, all is lost.
+/// Takes back the flight that is out. Without memory for its releases the drill is lost.
 fn take_back<D: CrashDisk>(driver: Driver<D>) -> Result<(Releases, Driver<D>), (Fault, D)>
     ensures base { IfOk result (λ r. r.1.ledger.log.base ≡ driver.ledger.log.base) }
     ensures released { IfOk result (λ r. r.0 ≡ settling_releases driver.ledger.log
@@ -200,7 +200,7 @@ fn take_back<D: CrashDisk>(driver: Driver<D>) -> Result<(Releases, Driver<D>), (
     }
 }
 
-/// Gives a driver up that found no memory.
+/// Drops a driver that ran out of memory.
 fn lost<D: CrashDisk>(driver: Driver<D>) -> (Fault, D)
     ensures fault { result.0 ≡ OutOfMemory }
     ensures disk { disk_driven driver ≡ Some result.1 }
@@ -254,7 +254,7 @@ fn print_collected<D: CrashDisk>(
     Ok(())
 }
 
-/// Takes the next ticket out, if its step is among the first so many.
+/// Removes and gives the oldest ticket, if its step is settled: its number is at most `settled`.
 fn next_settled(tickets: &mut VecDeque<Ticket>, settled: u64) -> Option<Ticket>
     ensures some { IfSome result (λ ticket. (tickets.old.items ≡ ticket ∷ tickets.new.items) ×
         (ticket.step ≤ settled)) }
