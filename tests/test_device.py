@@ -63,7 +63,7 @@ def calls_of(path):
 
 class Moments(Case):
     takes = 60
-    most = 600
+    most = 900
 
     def setUp(self):
         super().setUp()
@@ -92,18 +92,18 @@ class Moments(Case):
     def served(self, first, last):
         """Serves resets of one node, from one number to another: the store before, and the calls."""
         store, calls = self.made(topology([(1, 1)], half=stores.HALF)), self.path("calls")
-        self.reset(store, range(1, first), at_once=50)
+        self.reset(store, range(1, first))
         before = self.read("store")
         self.reset(store, range(first, last + 1), env=preloaded.environment(self.folder, CALLS=calls))
         return before, list(calls_of(calls))
 
-    def reset(self, store, numbers, at_once=1, **how):
+    def reset(self, store, numbers, **how):
+        """One order at a time, so that each takes a flight of its own and as much of the journal."""
         with Serving(store, **how) as server:
             with server.connect() as connection:
-                for first in range(numbers.start, numbers.stop, at_once):
-                    each = range(first, min(first + at_once, numbers.stop))
-                    connection.send(*({"op": "reset", "client": 1, "number": number, "node": 1} for number in each))
-                    self.assertEqual([connection.reply()["step"] for _ in each], [1 + number for number in each])
+                for number in numbers:
+                    connection.send({"op": "reset", "client": 1, "number": number, "node": 1})
+                    self.assertEqual(connection.reply()["step"], 1 + number)
             self.assertEqual(server.close().status, 0)
 
     def test_each_moment_of_a_few_orders(self):

@@ -27,7 +27,7 @@ class Case(unittest.TestCase):
 
     maxDiff = 2_000
     takes = 1
-    most = 300
+    most = 900
     program = PROGRAM
     programs = ("RESETD",)
 

@@ -9,7 +9,7 @@ ROOT = os.path.dirname(os.path.dirname(os.path.dirname(os.path.abspath(__file__)
 PROGRAM = os.environ.get("RESETD", "")
 SHORT = os.environ.get("RESETD_SHORT", "")
 SHORT_STEPS = 32
-PATIENCE = 200  # seconds within which a command has to end
+PATIENCE = 600  # seconds within which a command has to end, on a busy machine too
 
 Ended = namedtuple("Ended", "status printed told")
 
