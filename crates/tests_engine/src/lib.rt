@@ -8,8 +8,6 @@ mod devices;
 #[cfg(test)]
 mod handed;
 #[cfg(test)]
-mod long_life;
-#[cfg(test)]
 mod retried;
 #[cfg(test)]
 mod scripts;
