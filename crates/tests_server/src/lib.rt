@@ -4,8 +4,6 @@
 #[cfg(test)]
 mod asking;
 #[cfg(test)]
-mod epochs;
-#[cfg(test)]
 mod kill;
 #[cfg(test)]
 mod lives;
@@ -15,8 +13,6 @@ mod local;
 mod loopback;
 #[cfg(test)]
 mod memory;
-#[cfg(test)]
-mod pending;
 #[cfg(test)]
 mod printing;
 #[cfg(test)]
