@@ -24,7 +24,7 @@ pub enum JournalFault {
     NoMagic,
     /// The selected half is cut short, or a length in it is over its limit.
     BadRecord,
-    /// The body does not fit into the half.
+    /// Never answered, since `append` asks that the body fits. The number is kept.
     JournalFull,
     /// The device has failed before.
     Stopped,

@@ -55,7 +55,8 @@ wave_on r parent others distance =
     let s : NodeState = record r { mode = Abort; parent = parent; pend = others; distance = distance } in
     record { state = s; message = msg.Abort (carried s); to = others; finished = false }
 
--- a node that was Ready is at this distance, and has nobody to pass the wave on to
+-- A node that was Ready is at this distance, and has nobody to pass the wave on to: it acknowledges at once, and awaits
+-- nobody then by the rule itself, though in a legal world it awaited nobody before
 abbrev pub wave_back : NodeState → ℕ → ℕ → Transition
 wave_back r v distance = record {
   state = record r { mode = Converge; parent = Some v; pend = set.empty; distance = distance };

@@ -9,6 +9,7 @@ use Rattle.coord_world.specs.Facade.{Legal, World, no_world, rows_of}
 use Rattle.coord_store.specs.Recovered.{Gives, Recovered}
 
 -- its disk, its world, and the world that a torn commit was to make. After a fault inside a checkpoint that is there too,
+-- though then only the old world can be on the disk. After a fault inside a checkpoint that is there too,
 -- though then only the old world can be on the disk
 pub record Kept (D : Type 0) : Type 0 where
   pub disk : D

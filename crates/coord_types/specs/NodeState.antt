@@ -9,6 +9,8 @@ use Rattle.coord_types.specs.declared.messages.Mode.TheVariants.{Ready, Abort, C
 -- `version` is the world's; `distance` is how many links lie between the node and the one that began its reset, 0 where it
 -- is Ready, and in version 1 always 0;
 -- `pend` are the neighbours whose acknowledgement is awaited, and `parent` the one that is owed this node's own;
+-- `neighbours` is part of the state, so that a reset rule is a function of one state alone; the type `World` keeps that
+-- they are just the nodes that it has lanes to (`linked` of coord_world's Ranges);
 -- `epoch` counts the signals that it was given, of which those up to `confirmed` are known to have been acted on
 pub record NodeState : Type 0 where
   pub version : ℕ

@@ -1,5 +1,7 @@
-//! The limits of the protocol and of its files. coord_journal, which stands apart, names two of
-//! them again; a law of coord_store shows these equal.
+//! The limits of the protocol and of its files, each once: definitions cite them by these names, as
+//! bodies do. coord_journal, which stands apart, names two of them again; a law of coord_store shows
+//! these equal. A number stays bare where it is part of a format's text, as a byte's value, and equal
+//! numbers of different meaning keep different names.
 
 /// The most nodes, and the greatest number of one.
 pub const MAX_NODES: u8 = 64;

@@ -1,4 +1,5 @@
--- A comparison of worlds that computes: they are the same where they are stored as the same.
+-- A comparison of worlds that computes: they are the same where they are stored as the same. The laws of a comparison need
+-- a test that computes; the code compares the rows of the tables.
 use Rattle.std.specs.Prelude.{◌≡◌, ◌==◌, ◌&&◌, Bool, true, false}
 use Rattle.std.proofs.Common.{refl, ap, ap₂, subst}
 use Rattle.std.specs.Bool.{Decides}

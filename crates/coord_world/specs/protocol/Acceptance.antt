@@ -1,4 +1,5 @@
--- Which steps a world takes, and why it refuses the others.
+-- Which steps a world takes, and why it refuses the others: a list of tests, each with its refusal, that is read from the
+-- front, so the text shows the exact order of refusals.
 use Rattle.std.specs.Prelude.{◌≡◌, ℕ, ◌+◌, ◌*◌, ◌==◌, ◌&&◌, ◌||◌, not, nat_le, nat_lt, Bool, false, true, [], ◌∷◌, ◌++◌, Option, Some, None, Result, Ok, if◌then◌else◌}
 use Rattle.coord_types.specs.NodeSet as set
 use Rattle.coord_types.specs.Table.{get, has, len}

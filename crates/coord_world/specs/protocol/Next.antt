@@ -1,4 +1,7 @@
--- What each step makes of a numbered world.
+-- What each step makes of a numbered world. A step is prepared, and then nodes act: first comes what changes before any
+-- node acts, then a list of transitions, each computed from the world before the step, then the session and the count.
+-- The order of the list is the order of the signals. Both transitions of a drop are computed from the world before it,
+-- since its two ends differ.
 use Rattle.std.specs.Prelude.{ℕ, ◌+◌, ◌==◌, ◌&&◌, Bool, List, [], ◌∷◌, if◌then◌else◌}
 use Rattle.coord_types.specs.Table.{insert, remove, change}
 use Rattle.coord_types.specs.NodeState.{NodeState, new_node}
