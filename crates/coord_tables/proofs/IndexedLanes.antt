@@ -9,7 +9,6 @@ use Rattle.std.specs.FinMap.Entries.{find, find-put, is_sorted, length-put, leng
 use Rattle.coord_types.specs.Table.{get, from_sorted, insert}
 use Rattle.coord_types.proofs.Tables.{get-from_sorted}
 use Rattle.coord_types.specs.StepRanges.{IsNode}
-use Rattle.coord_link.specs.LaneMachine.{Lane}
 use Rattle.coord_tables.specs.Pairs.{pair_cmp, pair_cmp_total}
 use Rattle.coord_tables.specs.Places.{pair_place, noted_place, HasKeyAt, IsIndexOfFirst, IsIndexed}
 use Rattle.coord_tables.specs.Place.{IsPlaceOf}
@@ -19,8 +18,8 @@ use Rattle.coord_tables.proofs.Found.{same_pair}
 use Rattle.coord_tables.proofs.PutAtPlace.{put_here}
 use Rattle.coord_tables.proofs.TableEntries.{sorted-put, from_sorted-put}
 
-abbrev pub Entries : Type 0
-Entries = List ((ℕ × ℕ) × Lane)
+abbrev pub Entries : Type 0 → Type 0
+Entries X = List ((ℕ × ℕ) × X)
 
 pair_within : (u v : ℕ) → IsNode u → IsNode v → pair_place u v < 4096
 pair_within u v p q = omega (arith, p.0, p.1, q.0, q.1)
@@ -32,7 +31,7 @@ first_same u v a b p q r s e = omega (arith, p.0, p.1, q.0, q.1, r.0, r.1, s.0, 
 second_same : (u v a b : ℕ) → IsNode u → IsNode v → IsNode a → IsNode b → pair_place u v ≡ pair_place a b → v ≡ b
 second_same u v a b p q r s e = omega (arith, p.0, p.1, q.0, q.1, r.0, r.1, s.0, s.1, e)
 
-none_among : (es : Entries) (k q : ℕ × ℕ) (x : Lane) → find pair_cmp q es ≡ None → eq_by_cmp pair_cmp q k ≡ false → find pair_cmp q (es ++ (k, x) ∷ []) ≡ None
+none_among : {X : Type 0} (es : Entries X) (k q : ℕ × ℕ) (x : X) → find pair_cmp q es ≡ None → eq_by_cmp pair_cmp q k ≡ false → find pair_cmp q (es ++ (k, x) ∷ []) ≡ None
 none_among [] k q x none apart = ap (λ b. cond b (Some x) None) apart
 none_among (e ∷ es) k q x none apart =
     by_test (eq_by_cmp pair_cmp q e.0) (λ b. cond b (Some e.1) (find pair_cmp q es) ≡ None → cond b (Some e.1) (find pair_cmp q (es ++ (k, x) ∷ [])) ≡ None)
@@ -44,9 +43,9 @@ other_pair u v a b apart =
     (λ tied. let one : u ≡ a = grind (arith, nat_tests) in let two : v ≡ b = grind (arith, nat_tests) in absurd (apart (λ i. pair_place (one i) (two i)))) (λ e. refl)
 
 -- the next entry is noted
-pub one_noted : (n : ℕ) (places : List ℕ) (es : Entries) (a b : ℕ) (x : Lane) → IsNode a → IsNode b → slice_get es n ≡ Some ((a, b), x) → IsIndexOfFirst n places es →
+pub one_noted : {X : Type 0} (n : ℕ) (places : List ℕ) (es : Entries X) (a b : ℕ) (x : X) → IsNode a → IsNode b → slice_get es n ≡ Some ((a, b), x) → IsIndexOfFirst n places es →
     IsIndexOfFirst (n + 1) (set places (pair_place a b) (n + 1)) es
-one_noted n places es a b x is_a is_b here index = record {
+one_noted {X} n places es a b x is_a is_b here index = record {
   long = length-set places (pair_place a b) (n + 1) ∙ index.long;
   there = λ u v i p q is. by_test (eqb (pair_place u v) (pair_place a b)) (λ _. HasKeyAt es i (u, v))
       (λ t. let same : pair_place u v ≡ pair_place a b = grind (arith, nat_tests) in
@@ -63,7 +62,7 @@ one_noted n places es a b x is_a is_b here index = record {
       absurd (omega (arith, at)))
       (λ f. let apart : pair_place u v ≢ pair_place a b = λ e. grind (arith, nat_tests, e, f) in
       let before = index.absent u v p q (sym (get_or-set_other places (pair_place a b) (pair_place u v) (n + 1) 0 apart) ∙ is) in
-      ap (find pair_cmp (u, v)) (take_more es n ((a, b), x) (slice_get_within es n _ here) ∙ ap (λ (e : (ℕ × ℕ) × Lane). take n es ++ e ∷ []) (get_or_from_slice_get es n ((a, b), x) ((a, b), x) here))
+      ap (find pair_cmp (u, v)) (take_more es n ((a, b), x) (slice_get_within es n _ here) ∙ ap (λ (e : (ℕ × ℕ) × X). take n es ++ e ∷ []) (get_or_from_slice_get es n ((a, b), x) ((a, b), x) here))
       ∙ none_among (take n es) (a, b) (u, v) x before (other_pair u v a b apart));
 }
   where
@@ -78,7 +77,7 @@ pub none_noted : (n : ℕ) → noted_place n ≡ None → n ≡ 0
 none_noted zero is = refl
 none_noted (suc n) is = cc
 
-module _ (es : Entries) (places : List ℕ) (indexed : IsIndexed es places) where
+module _ {X : Type 0} (es : Entries X) (places : List ℕ) (indexed : IsIndexed es places) where
   module _ (u v : ℕ) (is_u : IsNode u) (is_v : IsNode v) where
     -- what is noted of a pair
     pub at_noted : (i : ℕ) → noted_place (slice_index places (pair_place u v)) ≡ Some i → HasKeyAt es i (u, v)
@@ -88,37 +87,37 @@ module _ (es : Entries) (places : List ℕ) (indexed : IsIndexed es places) wher
     nothing_noted is = get-from_sorted pair_cmp_total es (u, v) indexed.sorted ∙ indexed.index.absent u v is_u is_v (none_noted _ is)
 
   -- what stands at a noted place is found
-  pub get_there : (k : ℕ × ℕ) (i : ℕ) (e : (ℕ × ℕ) × Lane) → HasKeyAt es i k → e ≡ get_or es i e → get {o = pair_cmp_total} (from_sorted es) k ≡ Some e.1
+  pub get_there : (k : ℕ × ℕ) (i : ℕ) (e : (ℕ × ℕ) × X) → HasKeyAt es i k → e ≡ get_or es i e → get {o = pair_cmp_total} (from_sorted es) k ≡ Some e.1
   get_there k i e at is =
       let same : e ≡ (k, at.0) = is ∙ get_or_from_slice_get es i (k, at.0) e at.1 in
-      get-from_sorted pair_cmp_total es k indexed.sorted ∙ found pair_cmp pair_cmp_total es i (k, at.0) indexed.sorted at.1 ∙ ap (λ (z : (ℕ × ℕ) × Lane). Some z.1) (sym same)
+      get-from_sorted pair_cmp_total es k indexed.sorted ∙ found pair_cmp pair_cmp_total es i (k, at.0) indexed.sorted at.1 ∙ ap (λ (z : (ℕ × ℕ) × X). Some z.1) (sym same)
 
-  rises : (xs : Entries) (j i : ℕ) (e f : (ℕ × ℕ) × Lane) → is_sorted pair_cmp xs ≡ true → j < i → slice_get xs j ≡ Some e → slice_get xs i ≡ Some f → is_lt (pair_cmp e.0 f.0) ≡ true
+  rises : (xs : Entries X) (j i : ℕ) (e f : (ℕ × ℕ) × X) → is_sorted pair_cmp xs ≡ true → j < i → slice_get xs j ≡ Some e → slice_get xs i ≡ Some f → is_lt (pair_cmp e.0 f.0) ≡ true
   rises [] j i e f sorted less here there = cc
   rises (x ∷ xs) zero zero e f sorted less here there = absurd (omega (arith, less))
   rises (x ∷ xs) zero (suc i) e f sorted less here there =
       let same : x ≡ e = cc in
-      ap (λ (z : (ℕ × ℕ) × Lane). is_lt (pair_cmp z.0 f.0)) (sym same) ∙ below_each pair_cmp pair_cmp_total x.0 xs i f (both _ _ sorted).0 there
+      ap (λ (z : (ℕ × ℕ) × X). is_lt (pair_cmp z.0 f.0)) (sym same) ∙ below_each pair_cmp pair_cmp_total x.0 xs i f (both _ _ sorted).0 there
   rises (x ∷ xs) (suc j) zero e f sorted less here there = absurd (omega (arith, less))
   rises (x ∷ xs) (suc j) (suc i) e f sorted less here there = rises xs j i e f (both _ _ sorted).1 (omega (arith, less)) here there
 
-  module _ (k : ℕ × ℕ) (i : ℕ) (x : Lane) (at : HasKeyAt es i k) where
+  module _ (k : ℕ × ℕ) (i : ℕ) (x : X) (at : HasKeyAt es i k) where
     placed : IsPlaceOf pair_cmp es k i
     placed = record {
       within = slice_get_within es i _ at.1;
       lesser_before = λ j e before there. pair_cmp_total.antisymm k e.0 ∙ ap ordering_reverse (is_less _ (rises es j i e (k, at.0) indexed.sorted before there at.1));
-      here = λ e there. let same : e ≡ (k, at.0) = cc in ap (λ (z : (ℕ × ℕ) × Lane). pair_cmp k z.0) same ∙ tied_itself pair_cmp_total k;
+      here = λ e there. let same : e ≡ (k, at.0) = cc in ap (λ (z : (ℕ × ℕ) × X). pair_cmp k z.0) same ∙ tied_itself pair_cmp_total k;
     }
 
     put_there : set es i (k, x) ≡ put pair_cmp k x es
     put_there = put_here pair_cmp k x es i (k, at.0) placed at.1
 
-    key_kept : (xs : Entries) (j n : ℕ) (q : ℕ × ℕ) → HasKeyAt xs j k → HasKeyAt xs n q → HasKeyAt (set xs j (k, x)) n q
+    key_kept : (xs : Entries X) (j n : ℕ) (q : ℕ × ℕ) → HasKeyAt xs j k → HasKeyAt xs n q → HasKeyAt (set xs j (k, x)) n q
     key_kept [] j n q here there = let none = here.1 in cc
     key_kept (y ∷ ys) zero zero q here there =
         let same : y ≡ (k, here.0) = cc in
         let also : y ≡ (q, there.0) = cc in
-        let keys : k ≡ q = ap (λ (z : (ℕ × ℕ) × Lane). z.0) (sym same ∙ also) in
+        let keys : k ≡ q = ap (λ (z : (ℕ × ℕ) × X). z.0) (sym same ∙ also) in
         (x, ap (λ z. Some (z, x)) keys)
     key_kept (y ∷ ys) zero (suc n) q here there = there
     key_kept (y ∷ ys) (suc j) zero q here there = there
@@ -146,19 +145,19 @@ module _ (es : Entries) (places : List ℕ) (indexed : IsIndexed es places) wher
     is_put = ap from_sorted put_there ∙ from_sorted-put pair_cmp_total es k x indexed.sorted
 
 -- one longer at most
-pub put_long : (k : ℕ × ℕ) (x : Lane) (es : Entries) → is_sorted pair_cmp es ≡ true → length (put pair_cmp k x es) ≤ length es + 1
+pub put_long : {X : Type 0} (k : ℕ × ℕ) (x : X) (es : Entries X) → is_sorted pair_cmp es ≡ true → length (put pair_cmp k x es) ≤ length es + 1
 put_long k x es sorted = by_test (is_some (find pair_cmp k es)) (λ b. length (put pair_cmp k x es) ≡ cond b (length es) (length es + 1) → length (put pair_cmp k x es) ≤ length es + 1)
     (λ _ e. omega (arith, e)) (λ _ e. omega (arith, e)) (length-put pair_cmp pair_cmp_total k x es (subst T (sym sorted) tt))
 
-pub out_short : (k : ℕ × ℕ) (es : Entries) → is_sorted pair_cmp es ≡ true → length (where_key pair_cmp (λ q. not (eq_by_cmp pair_cmp k q)) es) ≤ length es
+pub out_short : {X : Type 0} (k : ℕ × ℕ) (es : Entries X) → is_sorted pair_cmp es ≡ true → length (where_key pair_cmp (λ q. not (eq_by_cmp pair_cmp k q)) es) ≤ length es
 out_short k es sorted = let e = length_without pair_cmp pair_cmp_total k es (subst T (sym sorted) tt) in omega (arith, e)
 
 -- a lane that is there isn't absent
-pub not_absent : {A : Type 0} (o : Option Lane) → o ≡ None → IsSome o → A
+pub not_absent : {A X : Type 0} (o : Option X) → o ≡ None → IsSome o → A
 not_absent o none some = cc
 
 -- the key stays where the value is put
-pub set_there : (es : Entries) (i : ℕ) (k : ℕ × ℕ) (x : Lane) (e : (ℕ × ℕ) × Lane) → HasKeyAt es i k → e ≡ get_or es i e → set es i (e.0, x) ≡ set es i (k, x)
-set_there es i k x e at is =
+pub set_there : {X : Type 0} (es : Entries X) (i : ℕ) (k : ℕ × ℕ) (x : X) (e : (ℕ × ℕ) × X) → HasKeyAt es i k → e ≡ get_or es i e → set es i (e.0, x) ≡ set es i (k, x)
+set_there {X} es i k x e at is =
     let same : e ≡ (k, at.0) = is ∙ get_or_from_slice_get es i (k, at.0) e at.1 in
-    ap (λ (z : (ℕ × ℕ) × Lane). set es i (z.0, x)) same
+    ap (λ (z : (ℕ × ℕ) × X). set es i (z.0, x)) same

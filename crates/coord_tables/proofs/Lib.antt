@@ -7,3 +7,5 @@ pub mod SlotTables
 pub mod PutAtPlace
 pub mod SameTables
 pub mod IndexedLanes
+pub mod LinkLanes
+pub mod IndexedLinks

@@ -2,6 +2,7 @@
 
 ghost use Rattle.std.specs.Prelude.{◌≡◌, ◌↔◌, IsTrue};
 
+use crate::links::LinkRow;
 use coord_link::Lane;
 use coord_node::Node;
 use coord_types::{Client, Msg, NodeId, Session};
@@ -74,6 +75,15 @@ impl Same for Lane {
             && self.base() == other.base()
             && self.got() == other.got()
             && is_same_list(self.queue(), other.queue())
+    }
+}
+
+impl Same for LinkRow {
+    fn is_same(&self, other: &LinkRow) -> bool {
+        self.a == other.a
+            && self.b == other.b
+            && self.forth.is_same(&other.forth)
+            && self.back.is_same(&other.back)
     }
 }
 

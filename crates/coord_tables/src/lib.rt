@@ -12,10 +12,15 @@
 
 mod equality;
 mod lane_table;
+mod link_places;
+mod link_table;
+mod links;
 pub mod places;
 mod slot_table;
 mod slots;
 mod sorted;
 
 pub use lane_table::LaneTable;
+pub use link_table::LinkTable;
+pub use links::LinkRow;
 pub use slot_table::{NodeTable, SessionTable, SlotTable};

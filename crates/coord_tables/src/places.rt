@@ -12,7 +12,7 @@ use std::alloc::AllocError;
 pub const PAIRS: usize = MAX_NODES as usize * MAX_NODES as usize;
 
 /// Where a pair stands among all pairs.
-fn pair_place(from: NodeId, to: NodeId) -> usize
+pub fn pair_place(from: NodeId, to: NodeId) -> usize
     ensures value { result ≡ pair_place from to }
     ensures within { result < PAIRS }
     ensures from { IsNode from }

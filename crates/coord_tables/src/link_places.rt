@@ -1,0 +1,70 @@
+//! Where each link stands in the list of links, by its ends.
+
+ghost use Rattle.std.specs.Prelude.{◌≡◌, ◌≤◌, ◌<◌, ◌^◌, ℕ, None, map, length, slice_index, OnOk, OnErr};
+ghost use Rattle.std.specs.FinMap.Entries.{find};
+ghost use Rattle.coord_types.specs.StepRanges.{IsNode};
+ghost use Rattle.coord_tables.specs.Links.{link_entry};
+ghost use Rattle.coord_tables.specs.Pairs.{pair_cmp};
+ghost use Rattle.coord_tables.specs.Place.{IsGapFor};
+ghost use Rattle.coord_tables.specs.Places.{pair_place, noted_place, IsIndexOf};
+
+use crate::links::LinkRow;
+use crate::places::{PAIRS, pair_place};
+use coord_types::NodeId;
+use std::alloc::AllocError;
+use std::cmp::Ordering;
+
+/// Where the link of two nodes stands, of which `a` is the lesser.
+pub fn link_place(places: &[u8], a: NodeId, b: NodeId) -> Option<usize>
+    ensures value { result ≡ noted_place (slice_index places.now (pair_place a b)) }
+    ensures from { IsNode a }
+    ensures to { IsNode b }
+{
+    let pair = pair_place(a, b);
+    if pair >= places.len() {
+        return None;
+    }
+    let place = places[pair];
+    if place == 0 {
+        None
+    } else {
+        Some(place as usize - 1)
+    }
+}
+
+/// Makes places for all pairs, where there are none yet. What is noted stays.
+pub fn grow_places(places: &mut Vec<u8>) -> Result<(), AllocError>
+    requires { length places.old.items ≤ PAIRS }
+    ensures ok { OnOk result (length places.new.items ≡ PAIRS) }
+    ensures most { length places.new.items ≤ PAIRS }
+    ensures kept { (k : ℕ) → slice_index places.new.items k ≡ slice_index places.old.items k }
+    ensures err { OnErr result (places.new.items ≡ places.old.items) }
+{
+    places.resize(PAIRS, 0)
+}
+
+/// Notes where each of these links stands.
+pub fn index_links(places: &mut Vec<u8>, links: &[LinkRow])
+    requires whole { length places.old.items ≡ PAIRS }
+    requires few { length links.now < 2 ^ 8 }
+    ensures { IsIndexOf places.new.items (map link_entry links.now) }
+{
+    places.fill(0);
+    for (at, link) in links.iter().enumerate() {
+        let pair = pair_place(link.a, link.b);
+        places[pair] = at as u8 + 1;
+    }
+}
+
+/// Where a new link would stand, of which `a` is the lesser end: behind those with lesser ends.
+pub fn place_for(links: &[LinkRow], a: NodeId, b: NodeId) -> usize
+    requires { find pair_cmp record { 0 = a; 1 = b } (map link_entry links.now) ≡ None }
+    ensures { IsGapFor pair_cmp (map link_entry links.now) record { 0 = a; 1 = b } result }
+{
+    for (at, link) in links.iter().enumerate() {
+        if (a, b).cmp(&(link.a, link.b)) == Ordering::Less {
+            return at;
+        }
+    }
+    links.len()
+}
