@@ -15,7 +15,7 @@ module _ (version : ℕ) where
   no_row u = get-empty nat_cmp_total u
 
   -- no lane
-  no_lane : (u v : ℕ) → lane_at (no_world version).links u v ≡ None
+  pub no_lane : (u v : ℕ) → lane_at (no_world version).links u v ≡ None
   no_lane u v = ap (option_map (toward u v)) (get-empty pair_cmp_total (ends u v))
 
   -- no session
