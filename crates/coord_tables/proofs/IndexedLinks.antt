@@ -21,7 +21,7 @@ use Rattle.coord_tables.specs.Places.{HasKeyAt, IsIndexOf, IsIndexed, noted_plac
 use Rattle.coord_tables.specs.declared.links.LinkRow.{LinkRow}
 use Rattle.coord_tables.proofs.Cases.{both, by_test}
 use Rattle.coord_tables.proofs.Found.{same_pair}
-use Rattle.coord_tables.proofs.IndexedLanes.{at_noted, is_put, nothing_noted, still_indexed}
+use Rattle.coord_tables.proofs.IndexedEntries.{at_noted, is_put, nothing_noted, still_indexed}
 use Rattle.coord_tables.proofs.KeyedLists.{not_tied}
 use Rattle.coord_tables.proofs.LinkLanes.{same_links, turned_of}
 use Rattle.coord_tables.proofs.PutAtPlace.{put_between}
@@ -39,7 +39,7 @@ module _ (rows : List LinkRow) (places : List ℕ) (are : AreIndexed rows places
   es = map link_entry rows
 
   pub indexed : IsIndexed es places
-  indexed = record { sorted = are.rise.rise; few = omega (arith, are.few, length-map rows link_entry); index = are.index }
+  indexed = record { sorted = are.rise.rise; index = are.index }
 
   -- the row at a place that is noted has the ends that it is noted for
   pub row_there : (a b i : ℕ) → IsNode a → IsNode b → noted_place (slice_index places (pair_place a b)) ≡ Some i → (r : LinkRow) × ((slice_get rows i ≡ Some r) × ((r.a ≡ a) × (r.b ≡ b)))

@@ -5,24 +5,12 @@ ghost use Rattle.std.specs.Prelude.{◌≡◌, ◌↔◌, IsTrue};
 use crate::links::LinkRow;
 use coord_link::Lane;
 use coord_node::Node;
-use coord_types::{Client, Msg, NodeId, Session};
+use coord_types::{Msg, Session};
 
 /// Values whose comparison is exact: it holds where contracts see equal values.
 pub trait Same {
     fn is_same(&self, other: &Self) -> bool
         ensures { IsTrue result ↔ (self.now ≡ other.now) };
-}
-
-impl Same for NodeId {
-    fn is_same(&self, other: &NodeId) -> bool {
-        self == other
-    }
-}
-
-impl Same for Client {
-    fn is_same(&self, other: &Client) -> bool {
-        self == other
-    }
 }
 
 impl Same for Msg {
@@ -84,12 +72,6 @@ impl Same for LinkRow {
             && self.b == other.b
             && self.forth.is_same(&other.forth)
             && self.back.is_same(&other.back)
-    }
-}
-
-impl<K: Same, V: Same> Same for (K, V) {
-    fn is_same(&self, other: &(K, V)) -> bool {
-        self.0.is_same(&other.0) && self.1.is_same(&other.1)
     }
 }
 

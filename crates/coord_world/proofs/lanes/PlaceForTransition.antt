@@ -66,7 +66,7 @@ module _ (w settled : World) (range : InRange w) (legal : Legal w) where
       let more = still (with_transition p u d) after u v (length l.queue + 1) (one_more p u d v l there to) in
       let end : (next w s).links ≡ (with_transitions (with_transition p u d) after).links =
       lanes_done w s ∙ ap (λ ds. (with_transitions (prepared w s) ds).links) are ∙ ap (λ (z : World). z.links) (all_do-append (prepared w s) before ((u, d) ∷ after)) in
-      let short = (lane_short (next w s) u v more.lane (sound_after w settled s range legal fresh) (ap (λ t. get t (u, v)) end ∙ more.there)).queued in
+      let short = (lane_short (next w s) u v more.lane (sound_after w settled s range legal fresh) (ap (λ t. lane_at t u v) end ∙ more.there)).queued in
       omega (arith, more.long, short)
 
   -- the one transition of a Take

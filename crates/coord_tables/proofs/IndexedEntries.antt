@@ -1,4 +1,4 @@
--- A table of places is that of a list, and stays so where a lane is put in place of another.
+-- A table of places is that of a list, and stays so where a value is put in place of another.
 use Rattle.std.proofs.Common.{◌≡◌, ◌≢◌, ℕ, zero, suc, ◌+◌, ◌<◌, ◌≤◌, true, false, not, T, List, [], ◌∷◌, ◌++◌, Option, Some, None, length, take, set, get_or, slice_get, slice_index, cond, eqb, refl, sym, ap, ◌∙◌, subst, arith, is_some, IsSome, get_or-set_same, get_or-set_other}
 use Rattle.std.proofs.lemmas.Bool.Decides.{nat_tests}
 use Rattle.std.proofs.lemmas.List.{length-set, take_more}
@@ -128,11 +128,10 @@ module _ {X : Type 0} (es : Entries X) (places : List ℕ) (indexed : IsIndexed 
         ∙ by_test (eq_by_cmp pair_cmp q k) (λ b. cond b (Some x) (find pair_cmp q es) ≡ None)
         (λ tied. let there = found pair_cmp pair_cmp_total es i (k, at.0) indexed.sorted at.1 in let away = ap (λ z. find pair_cmp z es) (same_pair q k tied) in cc) (λ _. none)
 
-    -- a lane in place of another
+    -- a value in place of another
     pub still_indexed : IsIndexed (set es i (k, x)) places
     still_indexed = record {
       sorted = ap (is_sorted pair_cmp) put_there ∙ sorted-put pair_cmp_total es k x indexed.sorted;
-      few = omega (arith, indexed.few, length-set es i (k, x));
       index = record {
         most = indexed.index.most;
         long = indexed.index.long;
@@ -144,20 +143,6 @@ module _ {X : Type 0} (es : Entries X) (places : List ℕ) (indexed : IsIndexed 
     pub is_put : from_sorted {o = pair_cmp_total} (set es i (k, x)) ≡ insert (from_sorted es) k x
     is_put = ap from_sorted put_there ∙ from_sorted-put pair_cmp_total es k x indexed.sorted
 
--- one longer at most
-pub put_long : {X : Type 0} (k : ℕ × ℕ) (x : X) (es : Entries X) → is_sorted pair_cmp es ≡ true → length (put pair_cmp k x es) ≤ length es + 1
-put_long k x es sorted = by_test (is_some (find pair_cmp k es)) (λ b. length (put pair_cmp k x es) ≡ cond b (length es) (length es + 1) → length (put pair_cmp k x es) ≤ length es + 1)
-    (λ _ e. omega (arith, e)) (λ _ e. omega (arith, e)) (length-put pair_cmp pair_cmp_total k x es (subst T (sym sorted) tt))
-
-pub out_short : {X : Type 0} (k : ℕ × ℕ) (es : Entries X) → is_sorted pair_cmp es ≡ true → length (where_key pair_cmp (λ q. not (eq_by_cmp pair_cmp k q)) es) ≤ length es
-out_short k es sorted = let e = length_without pair_cmp pair_cmp_total k es (subst T (sym sorted) tt) in omega (arith, e)
-
--- a lane that is there isn't absent
+-- what is there isn't absent
 pub not_absent : {A X : Type 0} (o : Option X) → o ≡ None → IsSome o → A
 not_absent o none some = cc
-
--- the key stays where the value is put
-pub set_there : {X : Type 0} (es : Entries X) (i : ℕ) (k : ℕ × ℕ) (x : X) (e : (ℕ × ℕ) × X) → HasKeyAt es i k → e ≡ get_or es i e → set es i (e.0, x) ≡ set es i (k, x)
-set_there {X} es i k x e at is =
-    let same : e ≡ (k, at.0) = is ∙ get_or_from_slice_get es i (k, at.0) e at.1 in
-    ap (λ (z : (ℕ × ℕ) × X). set es i (z.0, x)) same

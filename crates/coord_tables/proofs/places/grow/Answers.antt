@@ -1,7 +1,7 @@
 use Rattle.std.proofs.Common.{◌≡◌, ℕ, ◌-◌, ◌++◌, Bool, true, false, List, if◌then◌else◌, length, replicate, take, ap, ◌∙◌, is_ok, slice_index, refl, arith}
 use Rattle.std.specs.Vec.{vec_len}
 use Rattle.coord_tables.proofs.IndexedLinks.{kept_index}
-use Rattle.coord_tables.proofs.link_places.grow_places.Goals as goal
+use Rattle.coord_tables.proofs.places.grow.Goals as goal
 
 either : (c : Bool) (old grown : List ℕ) (k : ℕ) → slice_index grown k ≡ slice_index old k → slice_index (if c then grown else old) k ≡ slice_index old k
 either true old grown k is = is

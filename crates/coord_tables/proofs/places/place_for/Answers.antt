@@ -9,7 +9,7 @@ use Rattle.coord_tables.specs.Pairs.{pair_cmp}
 use Rattle.coord_tables.specs.declared.links.LinkRow.{LinkRow}
 use Rattle.coord_tables.proofs.Cases.{by_test}
 use Rattle.coord_tables.proofs.IndexedLinks.{none_tied}
-use Rattle.coord_tables.proofs.link_places.place_for.Goals as goal
+use Rattle.coord_tables.proofs.places.place_for.Goals as goal
 
 greater_left : (o : Ordering) → (ordering_index o == 0) ≡ false → is_eq o ≡ false → o ≡ Greater
 greater_left Less less equal = cc
