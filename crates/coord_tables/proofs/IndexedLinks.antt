@@ -56,6 +56,7 @@ module _ (rows : List LinkRow) (places : List ℕ) (are : AreIndexed rows places
   -- what stands at the ends of x and y
   module _ (x y a b : ℕ) (is_a : IsNode a) (is_b : IsNode b) (are_ends : ◌≡◌ {A = ℕ × ℕ} (a, b) (ends x y)) where
     pub lane_absent : noted_place (slice_index places (pair_place a b)) ≡ None → lane_at (links_of rows) x y ≡ None
+    unfolding lane_at
     lane_absent none = ap (λ q. option_map (toward x y) (get (links_of rows) q)) (sym are_ends) ∙ ap (option_map (toward x y)) (nothing_noted es places indexed a b is_a is_b none)
 
     module _ (i : ℕ) (e : LinkRow) (noted : noted_place (slice_index places (pair_place a b)) ≡ Some i) (is : e ≡ get_or rows i e) where
@@ -74,6 +75,7 @@ module _ (rows : List LinkRow) (places : List ℕ) (are : AreIndexed rows places
       link_there = ap (get (links_of rows)) (sym row_ends) ∙ row_found i e row_is
 
       pub lane_there : lane_at (links_of rows) x y ≡ Some (toward x y (lanes_in e))
+      unfolding lane_at
       lane_there = ap (option_map (toward x y)) link_there
 
   pub within : (a b i : ℕ) → IsNode a → IsNode b → noted_place (slice_index places (pair_place a b)) ≡ Some i → i < length rows
@@ -184,6 +186,7 @@ ends_less x y apart = by_test (nat_lt x y) (λ c. nat_lt x y ≡ c → (cond {A 
 
 -- no link where no lane is
 pub no_link : (t : Links) (x y : ℕ) → lane_at t x y ≡ None → get t (ends x y) ≡ None
+unfolding lane_at
 no_link t x y none = of_option (get t (ends x y)) none
   where
     of_option : (o : Option Lanes) → option_map (toward x y) o ≡ None → o ≡ None

@@ -36,6 +36,7 @@ same_ends a b x y = by_test (nat_lt x y) (λ t. nat_lt x y ≡ t → eq_by_cmp p
 module _ (t : Links) where
   -- each lane changed
   pub lane-changed : (f : ℕ × ℕ → Lane → Lane) (x y : ℕ) → lane_at (change_lanes f t) x y ≡ tables.option_map (f (x, y)) (lane_at t x y)
+  unfolding lane_at
   lane-changed f x y = by_test (nat_lt x y) (λ b. option_map (λ l. cond b l.forth l.back) (get (change_lanes f t) (cond b (x, y) (y, x))) ≡ tables.option_map (f (x, y)) (option_map (λ l. cond b l.forth l.back) (get t (cond b (x, y) (y, x)))))
       (λ _. ap (option_map (λ l. l.forth)) (get-change pair_cmp both same_pair t (x, y)) ∙ forth (get t (x, y)))
       (λ _. ap (option_map (λ l. l.back)) (get-change pair_cmp both same_pair t (y, x)) ∙ back (get t (y, x)))
@@ -53,6 +54,7 @@ module _ (t : Links) where
 
   -- two nodes linked
   pub lane-joined : (a b : ℕ) (m : Lane) (x y : ℕ) → lane_at (joined t a b m) x y ≡ cond ((eqb x a && eqb y b) || (eqb x b && eqb y a)) (Some m) (lane_at t x y)
+  unfolding lane_at
   lane-joined a b m x y = ap (option_map (toward x y)) (get-insert t (ends a b) (record { forth = m; back = m }) (ends x y)) ∙ out (eq_by_cmp pair_cmp (ends x y) (ends a b)) (get t (ends x y))
       ∙ ap (λ c. cond c (Some m) (lane_at t x y)) (same_ends a b x y)
     where
@@ -66,6 +68,7 @@ module _ (t : Links) where
 
   -- two nodes no more linked
   pub lane-parted : (a b x y : ℕ) → lane_at (parted t a b) x y ≡ cond ((eqb x a && eqb y b) || (eqb x b && eqb y a)) None (lane_at t x y)
+  unfolding lane_at
   lane-parted a b x y = ap (option_map (toward x y)) (get-remove t (ends a b) (ends x y)) ∙ out (eq_by_cmp pair_cmp (ends x y) (ends a b)) (get t (ends x y))
       ∙ ap (λ c. cond c None (lane_at t x y)) (same_ends a b x y)
     where
@@ -79,6 +82,7 @@ module _ (t : Links) where
 
   -- a lane is there where its link is
   pub lane-linked : (x y : ℕ) → is_some (lane_at t x y) ≡ has t (ends x y)
+  unfolding lane_at
   lane-linked x y = there (toward x y) (get t (ends x y))
 
   -- so each lane has its way back
@@ -142,6 +146,7 @@ module _ (t : Links) where
 
   -- and what is found among them at two nodes is the lane between these
   pub in_order-found : Turned t → (x y : ℕ) → find pair_cmp (x, y) (lanes_in_order t) ≡ lane_at t x y
+  unfolding lane_at
   in_order-found turned x y = sym (get-entries (with_lanes empty (entries t)) (x, y)) ∙ with-found (entries t) empty (turned_entries turned) sorted_entries x y
       ∙ ap (option_or (option_map (toward x y) (find pair_cmp (ends x y) (entries t)))) (get-empty pair_cmp_total (x, y))
       ∙ none (option_map (toward x y) (find pair_cmp (ends x y) (entries t))) ∙ ap (option_map (toward x y)) (sym (get-entries t (ends x y)))
@@ -229,6 +234,7 @@ links-len rows is = len-from_sorted pair_cmp_total (map link_entry rows) is.rise
 
 -- what holds of both lanes of each link holds of each lane
 pub each_lane : (P : Lane → Type 0) (t : Links) → ((k : ℕ × ℕ) (l : Lanes) → get t k ≡ Some l → P l.forth × P l.back) → (x y : ℕ) (l : Lane) → lane_at t x y ≡ Some l → P l
+unfolding lane_at
 each_lane P t each x y l is = of_link (get t (ends x y)) refl is
   where
     either : (c : Bool) (k : Lanes) → P k.forth × P k.back → P (cond c k.forth k.back)
@@ -241,6 +247,7 @@ each_lane P t each x y l is = of_link (get t (ends x y)) refl is
 
 -- each link has two lanes
 pub lanes_at_key : (t : Links) → Turned t → (k : ℕ × ℕ) (l : Lanes) → get t k ≡ Some l → (lane_at t k.0 k.1 ≡ Some l.forth) × (lane_at t k.1 k.0 ≡ Some l.back)
+unfolding lane_at
 lanes_at_key t turned k l there =
     let less : k.0 < k.1 = turned k.0 k.1 (ap is_some there) in
     let up : nat_lt k.0 k.1 ≡ true = grind (arith, nat_tests, less) in
@@ -251,6 +258,7 @@ lanes_at_key t turned k l there =
 
 -- both lanes of a link are of one incarnation
 pub one_inc : (t : Links) → ((k : ℕ × ℕ) (l : Lanes) → get t k ≡ Some l → l.forth.inc ≡ l.back.inc) → (x y : ℕ) (l k : Lane) → lane_at t x y ≡ Some l → lane_at t y x ≡ Some k → l.inc ≡ k.inc
+unfolding lane_at
 one_inc t each x y l k out far = by_test (nat_lt x y) (λ c. nat_lt x y ≡ c → option_map (λ z. cond c z.forth z.back) (get t (cond {A = ℕ × ℕ} c (x, y) (y, x))) ≡ Some l → l.inc ≡ k.inc)
     (λ _ up there. let low : nat_lt y x ≡ false = grind (arith, nat_tests, up) in
     of_link (x, y) (get t (x, y)) refl l k there (ap (λ c. option_map (λ z. cond c z.forth z.back) (get t (cond {A = ℕ × ℕ} c (y, x) (x, y)))) (sym low) ∙ far))

@@ -28,7 +28,7 @@ abbrev pub toward : ℕ → ℕ → Lanes → Lane
 toward x y l = if nat_lt x y then l.forth else l.back
 
 -- the lane from x to y
-abbrev pub lane_at : Links → ℕ → ℕ → Option Lane
+unfoldable pub lane_at : Links → ℕ → ℕ → Option Lane
 lane_at t x y = option_map (toward x y) (get t (ends x y))
 
 -- each link stands with its lesser end first

@@ -16,6 +16,7 @@ module _ (version : ℕ) where
 
   -- no lane
   pub no_lane : (u v : ℕ) → lane_at (no_world version).links u v ≡ None
+  unfolding lane_at
   no_lane u v = ap (option_map (toward u v)) (get-empty pair_cmp_total (ends u v))
 
   -- no session
