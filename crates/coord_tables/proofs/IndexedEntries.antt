@@ -86,12 +86,6 @@ module _ {X : Type 0} (es : Entries X) (places : List ℕ) (indexed : IsIndexed 
     pub nothing_noted : noted_place (slice_index places (pair_place u v)) ≡ None → get {o = pair_cmp_total} (from_sorted es) (u, v) ≡ None
     nothing_noted is = get-from_sorted pair_cmp_total es (u, v) indexed.sorted ∙ indexed.index.absent u v is_u is_v (none_noted _ is)
 
-  -- what stands at a noted place is found
-  pub get_there : (k : ℕ × ℕ) (i : ℕ) (e : (ℕ × ℕ) × X) → HasKeyAt es i k → e ≡ get_or es i e → get {o = pair_cmp_total} (from_sorted es) k ≡ Some e.1
-  get_there k i e at is =
-      let same : e ≡ (k, at.0) = is ∙ get_or_from_slice_get es i (k, at.0) e at.1 in
-      get-from_sorted pair_cmp_total es k indexed.sorted ∙ found pair_cmp pair_cmp_total es i (k, at.0) indexed.sorted at.1 ∙ ap (λ (z : (ℕ × ℕ) × X). Some z.1) (sym same)
-
   rises : (xs : Entries X) (j i : ℕ) (e f : (ℕ × ℕ) × X) → is_sorted pair_cmp xs ≡ true → j < i → slice_get xs j ≡ Some e → slice_get xs i ≡ Some f → is_lt (pair_cmp e.0 f.0) ≡ true
   rises [] j i e f sorted less here there = cc
   rises (x ∷ xs) zero zero e f sorted less here there = absurd (omega (arith, less))
