@@ -166,7 +166,8 @@ pub fn push_all_again(
     ensures { OnOk result (outputs.new.items ≡
         outputs.old.items ++ all_again (lanes_in_order links.now)) }
 {
-    for entry in &links.lanes_in_order(alloc)? {
+    let lanes = links.lanes_in_order(alloc)?;
+    for entry in &lanes {
         push_again(entry, outputs)?;
     }
     Ok(())
