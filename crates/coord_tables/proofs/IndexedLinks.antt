@@ -180,10 +180,6 @@ module _ (rows : List LinkRow) (places : List ℕ) (are : AreIndexed rows places
 
 -- ---- a link more
 
--- different ends
-pub ends_less : (x y : ℕ) → x ≢ y → (ends x y).0 < (ends x y).1
-ends_less x y apart = by_test (nat_lt x y) (λ c. nat_lt x y ≡ c → (cond {A = ℕ × ℕ} c (x, y) (y, x)).0 < (cond {A = ℕ × ℕ} c (x, y) (y, x)).1) (λ _ up. grind (arith, nat_tests, up)) (λ _ down. grind (arith, nat_tests, down, apart)) refl
-
 -- no link where no lane is
 pub no_link : (t : Links) (x y : ℕ) → lane_at t x y ≡ None → get t (ends x y) ≡ None
 unfolding lane_at

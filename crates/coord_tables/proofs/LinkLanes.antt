@@ -355,17 +355,18 @@ module _ (t : Links) (turned : Turned t) (x y : ℕ) (f : Lane → Lane) where
 
 -- ---- each link stays turned
 
+-- the lesser end of two nodes comes first
+pub ends_less : (x y : ℕ) → x ≢ y → (ends x y).0 < (ends x y).1
+ends_less x y apart = by_test (nat_lt x y) (λ c. nat_lt x y ≡ c → (cond {A = ℕ × ℕ} c (x, y) (y, x)).0 < (cond {A = ℕ × ℕ} c (x, y) (y, x)).1) (λ _ up. grind (arith, nat_tests, up)) (λ _ down. grind (arith, nat_tests, down, apart)) refl
+
 pub turned-changed : (f : ℕ × ℕ → Lane → Lane) (t : Links) → Turned t → Turned (change_lanes f t)
 turned-changed f t turned a b there = turned a b (sym (has-changed f t (a, b)) ∙ there)
 
 pub turned-joined : (t : Links) (x y : ℕ) (m : Lane) → x ≢ y → Turned t → Turned (joined t x y m)
 turned-joined t x y m apart turned a b there =
     by_test (eq_by_cmp pair_cmp (a, b) (ends x y)) (λ c. is_some (cond c (Some (record { forth = m; back = m })) (get t (a, b))) ≡ true → a < b)
-    (λ tied _. let same = same_pair (a, b) (ends x y) tied in subst (λ (q : ℕ × ℕ). q.0 < q.1) (sym same) (less x y apart))
+    (λ tied _. let same = same_pair (a, b) (ends x y) tied in subst (λ (q : ℕ × ℕ). q.0 < q.1) (sym same) (ends_less x y apart))
     (λ _ old. turned a b old) (sym (ap is_some (get-insert t (ends x y) (record { forth = m; back = m }) (a, b))) ∙ there)
-  where
-    less : (x y : ℕ) → x ≢ y → (ends x y).0 < (ends x y).1
-    less x y apart = by_test (nat_lt x y) (λ c. nat_lt x y ≡ c → (cond {A = ℕ × ℕ} c (x, y) (y, x)).0 < (cond {A = ℕ × ℕ} c (x, y) (y, x)).1) (λ _ up. grind (arith, nat_tests, up)) (λ _ down. grind (arith, nat_tests, down, apart)) refl
 
 pub turned-parted : (t : Links) (x y : ℕ) → Turned t → Turned (parted t x y)
 turned-parted t x y turned a b there = turned a b (left (eq_by_cmp pair_cmp (a, b) (ends x y)) (get t (a, b)) (sym (ap is_some (get-remove t (ends x y) (a, b))) ∙ there))
