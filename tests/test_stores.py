@@ -1,10 +1,14 @@
 """`check`, `show`, `migrate` and `serve` over stores of all kinds: what each prints, and what it leaves."""
 
 import os
+import socket
+import stat
 
 from support import stores
 from support.case import Case
 from support.program import Ended, faulted, ran
+from support.served import STARTED, answered
+from support.serving import Serving
 from support.stores import ACK, ABORT, CONVERGE, IS_READY, abort, add, batch, link, node, world
 
 PAIR = [node(1), node(2)]
@@ -83,6 +87,34 @@ class Refused(Case):
                 with self.subTest(command=command, path=path):
                     self.assertEqual(ran(command, path, *more), faulted(3, "Device"))
         self.assertEqual(os.listdir(self.folder), [])
+
+    def test_what_is_no_file(self):
+        """It is told before it is opened, which of a pipe would wait for somebody at its other end."""
+        pipe, ring = self.path("pipe"), self.write("ring.toml", stores.ring(3))
+        os.mkfifo(pipe)
+        os.symlink(pipe, self.path("name"))
+        with socket.socket(socket.AF_UNIX) as listener:
+            listener.bind(self.path("socket"))
+        for command, more in {**COMMANDS, "init": [ring]}.items():
+            for path in (pipe, self.path("name"), self.path("socket"), self.folder, "/dev/null", "/dev/zero"):
+                with self.subTest(command=command, path=path):
+                    self.assertEqual(ran(command, path, *more, seconds=10), faulted(3, "Device"))
+        self.assertTrue(stat.S_ISFIFO(os.stat(pipe).st_mode))
+
+    def test_a_link_to_a_store_is_that_store(self):
+        """One that leads nowhere is no file, and none is made."""
+        os.symlink("store", self.path("name"))
+        for command, more in {**COMMANDS, "init": [self.write("ring.toml", stores.ring(3))]}.items():
+            self.assertEqual(ran(command, self.path("name"), *more), faulted(3, "Device"))
+        self.made(stores.ring(3))
+        for command, said in (("check", "legal 6"), ("migrate", "migrated 6"), ("show", "view 6 6")):
+            with self.subTest(command=command):
+                ended = ran(command, self.path("name"))
+                self.assertEqual((ended.status, ended.printed.split("\n")[0], ended.told), (0, said, ""))
+        with Serving(self.path("name")) as server:
+            self.assertEqual(server.order(1, "reset", node=1), answered(STARTED, 7))
+            self.assertEqual(server.close().status, 0)
+        self.assertTrue(os.path.islink(self.path("name")))
 
     def test_a_world_that_is_not_legal(self):
         """`check` alone says where, and nothing is written."""
