@@ -34,6 +34,11 @@ pub trait Duplex {
         ensures failed { OnErr result (exchanged self.old [] [] self.new) }
         ensures asked { asked self.old is_within_line self.new };
 
+    /// Whether more has come in already, so that to take it waits for nothing.
+    fn has_more(&self) -> bool {
+        false
+    }
+
     /// Writes replies whole.
     fn reply(&mut self, text: &[u8]) -> Result<(), NotWritten>
         ensures whole { OnOk result (exchanged self.old [] text.now self.new) }

@@ -129,6 +129,10 @@ impl<'a, N: Duplex, D: Disk, L: Origin, R: Wait> Duplex for LifeLine<'a, N, D, L
         self.line.receive(buffer, is_within_line)
     }
 
+    fn has_more(&self) -> bool {
+        self.line.has_more()
+    }
+
     fn reply(&mut self, text: &[u8]) -> Result<(), NotWritten> {
         self.line.reply(text)
     }
