@@ -26,7 +26,8 @@ pub enum LineFault {
     BadRequest,
     /// Its `op` is none of those that there are.
     UnknownOp,
-    /// There was not enough memory. The request may have been carried out; a repeat tells.
+    /// There was not enough memory. Perhaps the request was carried out: the same order with the
+    /// same number tells.
     OutOfMemory,
 }
 

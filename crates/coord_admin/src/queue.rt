@@ -122,8 +122,8 @@ impl<D: Desk> Queue<D> {
         self.answer_all(alloc, connection, desk)
     }
 
-    /// Waits for the replies to all orders, in turn, and writes them. Where they can't be written,
-    /// all were waited for.
+    /// Waits for the reply to each order, in turn, and writes the replies. Where they can't be
+    /// written, all of them were waited for all the same.
     pub fn answer_all<C: Duplex>(
         &mut self,
         alloc: Global,

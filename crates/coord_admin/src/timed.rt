@@ -12,8 +12,9 @@ use std::time::{Clock, Duration, Instant};
 /// The most calls of `write` for one reply.
 const MOST_WRITES: u64 = 1_048_576;
 
-/// A stream on which no read and no write waits for longer than its patience. No clause can say what
-/// bytes a socket gives and takes: whoever reads and writes by it is generic over [`Duplex`].
+/// A stream whose reads and writes wait no longer than its patience allows. No clause can say which
+/// bytes a socket gives and takes: so whoever reads and writes through it is generic over
+/// [`Duplex`].
 #[derive(Drop)]
 pub struct TimedStream<'a, S, T: Clock> {
     clock: &'a T,

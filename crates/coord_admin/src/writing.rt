@@ -70,7 +70,8 @@ pub fn write_answers<C: Duplex>(
     connection.reply(&text)
 }
 
-/// Adds a line to a text that is to be written. Where there is no memory for it, both are written.
+/// Adds a line to a text that is to be written. Where there is no memory for that, it writes the
+/// text and then the line.
 fn add_line<C: Duplex>(
     connection: &mut C,
     text: &mut Vec<u8>,

@@ -61,8 +61,8 @@ struct Crew<L: Count> {
     workers: Vec<JoinHandle<PacketShare<L>>>,
 }
 
-/// Runs a flusher and a worker on each channel. Once all of them run the output is opened, what may
-/// have been lost is sent again, and those who call are served until the life is old. An error is
+/// Starts a flusher, and a worker on each channel. Once all of them run, it opens the output, sends
+/// again what may have been lost, and serves those who call until the life is old. An error says
 /// that a thread could not be started: then nothing was printed, and nobody was served.
 pub fn run<
     D: Disk + Send,
@@ -94,8 +94,8 @@ pub fn run<
     )
 }
 
-/// Serves while the threads of a scope run, and ends them in order: first the flusher, so that all
-/// that was accepted is settled and handed out, and then the workers.
+/// Serves while the threads of a scope run, and then ends them in order: the flusher first, so that
+/// all that was accepted is settled and handed out; then the workers.
 fn run_in<
     's,
     'r: 's,
@@ -250,7 +250,7 @@ fn serve_over<'a, D: Disk, L: Origin, C: Callers, W: Write + Drop, R: Wait>(
     }
 }
 
-/// Opens the output, where it was not before. Else why not.
+/// Opens the output, where that was not done before; or says why it can't be opened.
 fn open<C: Callers, W: Write + Drop, R: Wait>(
     rt: &R,
     callers: &C,

@@ -27,8 +27,8 @@ pub fn replies_name_steps<D: Disk>()
     ensures { RepliesNameSteps D }
 {}
 
-/// Whatever a crash may leave of the disk of a life gives the world after its settled steps, or after
-/// a stop that of those and the next ones, which were in doubt.
+/// Whatever a crash may leave of a life's disk gives the world after the settled steps; after a
+/// stop perhaps the world after the next ones too, which were in doubt.
 pub fn lives_leave_steps<D: Disk>()
     ensures { LivesLeaveSteps D }
 {}

@@ -115,8 +115,8 @@ fn begin<D: Disk, L: Origin, R: Wait>(
     Ok(begun_with(setting.alloc, port, own)?)
 }
 
-/// What a life begins with whose desk has this share. What the port carries from now on comes to
-/// its workers.
+/// What a life begins with, whose desk has this share. From now on the port carries packets to the
+/// workers of this life.
 fn begun_with<L: Origin, R: Wait>(
     alloc: Global,
     port: &LocalPort<&R>,

@@ -52,7 +52,8 @@ impl<'a, C: Callers, D: Disk, L: Origin, R: Wait> Callers for LifeCallers<'a, C,
         HasKept (based_on D.keeps_model D.present L.base L.before) b.age.now.most
         ⊎ C.failed a.callers b.callers };
 
-    // A client whose connection was cut is let read the last answer first, as one that has closed.
+    // The client of a connection that was cut is given time to read its last answer, as behind a
+    // close.
     ghost ended = { λ a line has_closed b.
         C.ended a.callers line.line (has_closed || line.is_cut) b.callers };
 
