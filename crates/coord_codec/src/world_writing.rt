@@ -19,7 +19,8 @@ use coord_types::{Identifier, Kind, Mode, Msg, NodeId, Session, Version};
 use coord_world::{LinkRow, World};
 use std::alloc::AllocError;
 
-/// What stands by a number in a table of a world, and is written as a row.
+/// What a table of a world keeps at a number, as a node or a client's last order: it is written as
+/// a row.
 trait Row: Copy {
     /// The bytes of its row in a version, with the number that it stands at.
     ghost text: { ℕ → ℕ × Self → List ℕ };
@@ -57,7 +58,7 @@ fn mode_byte(mode: Mode) -> u8
     }
 }
 
-/// The byte of a kind that answers an order; the others have none.
+/// The byte of a kind of reply. Only the kinds that answer an order have one.
 fn kind_byte(kind: Kind) -> u8
     ensures { result ≡ kind_number kind }
 {
