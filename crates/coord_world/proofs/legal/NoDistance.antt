@@ -11,7 +11,7 @@ use Rattle.coord_types.specs.declared.messages.Msg.TheVariants as msg
 use Rattle.coord_types.proofs.Sets.{len_of_items}
 use Rattle.coord_link.specs.LaneMachine.{Lane, transit, is_front_taken}
 use Rattle.coord_node.specs.Rules.{carried, is_empty}
-use Rattle.coord_world.specs.laws.Version1.{AsksNoDistance, Version1AsksNoDistance, is_legal_but_for_distance}
+use Rattle.coord_world.specs.laws.Version1.{Version1AsksNoDistance, is_legal_but_for_distance}
 use Rattle.coord_world.specs.protocol.Links.{strays}
 use Rattle.coord_world.specs.Facade.{CarryWithin, InRange, World, awaits_rightly, farthest, has_right_distances, has_right_parent, is_distance_right, is_legal_node, is_parent_near, is_ready, is_within, link, state, state_or_none, transit_or_none, view}
 use Rattle.coord_world.proofs.legal.SoundView.{at_each}
