@@ -5,9 +5,9 @@ use Rattle.coord_types.specs.Facade.{contains, get}
 use Rattle.coord_types.proofs.Sets.{contains-empty}
 use Rattle.coord_types.proofs.Tables.{get-empty, len-empty}
 use Rattle.std.specs.Option.{option_map}
-use Rattle.coord_tables.specs.Links.{Lanes, ends, toward}
+use Rattle.coord_tables.specs.Links.{Lanes, ends, lane_at, toward}
 use Rattle.coord_tables.proofs.LinkLanes.{turned-empty}
-use Rattle.coord_world.specs.Facade.{InRange, Legal, is_linked, lane_at, no_world, pair_cmp_total, state_or_none}
+use Rattle.coord_world.specs.Facade.{InRange, Legal, is_linked, no_world, pair_cmp_total, state_or_none}
 
 module _ (version : ℕ) where
   -- no node

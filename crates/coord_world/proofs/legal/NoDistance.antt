@@ -13,7 +13,7 @@ use Rattle.coord_link.specs.LaneMachine.{Lane, transit, is_front_taken}
 use Rattle.coord_node.specs.Rules.{carried, is_empty}
 use Rattle.coord_world.specs.laws.Version1.{Version1AsksNoDistance, is_legal_but_for_distance}
 use Rattle.coord_world.specs.protocol.Links.{strays}
-use Rattle.coord_world.specs.Facade.{CarryWithin, InRange, World, awaits_rightly, farthest, has_right_distances, has_right_parent, is_distance_right, is_legal_node, is_parent_near, is_ready, is_within, link, state, state_or_none, transit_or_none, view}
+use Rattle.coord_world.specs.Facade.{CarryWithin, InRange, World, awaits_rightly, farthest, has_right_distances, has_right_parent, is_distance_right, is_legal_node, is_parent_near, is_ready, is_within, lane_at, link, state, state_or_none, transit_or_none, view}
 use Rattle.coord_world.proofs.legal.SoundView.{at_each}
 use Rattle.coord_tables.proofs.Cases.{both, by_test}
 
@@ -69,14 +69,14 @@ module _ (w : World) (range : InRange w) (first : w.version ≡ 1) where
   -- H
   links : (u v : ℕ) → has_right_distances (link (view w) u v) ≡ true
   links u v =
-      let strays_none = no_strays_on_way (get w.lanes (u, v)) (λ l is. range.carried u v l is) in
+      let strays_none = no_strays_on_way (lane_at w.links u v) (λ l is. range.carried u v l is) in
       grind (arith, nat_tests, strays_none, carries_none u, at_none v)
 
   -- a node with a neighbour stands in a world of some steps
   some_steps : (u v : ℕ) → set.contains (state w u).neighbours v ≡ true → 1 ≤ w.count
-  some_steps u v near = of_option (get w.lanes (u, v)) refl (range.linked u v ∙ near)
+  some_steps u v near = of_option (lane_at w.links u v) refl (range.linked u v ∙ near)
     where
-      of_option : (o : Option Lane) → get w.lanes (u, v) ≡ o → is_some o ≡ true → 1 ≤ w.count
+      of_option : (o : Option Lane) → lane_at w.links u v ≡ o → is_some o ≡ true → 1 ≤ w.count
       of_option None is there = cc
       of_option (Some l) is there = let lane = range.lanes u v l is in omega (arith, lane.made, lane.inc)
 

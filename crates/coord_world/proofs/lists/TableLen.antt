@@ -1,5 +1,5 @@
 -- How many entries tables have.
-use Rattle.std.proofs.Common.{◌≡◌, ℕ, ◌+◌, ◌≤◌, true, List, [], ◌∷◌, cond, length, refl, arith, Ordering}
+use Rattle.std.proofs.Common.{◌≡◌, ℕ, ◌+◌, ◌≤◌, true, List, [], ◌∷◌, cond, length, refl, ap, arith, Ordering}
 use Rattle.std.specs.Cmp.{IsTotalOrder}
 use Rattle.std.specs.FinMap.Entries.{length-put, length_without}
 use Rattle.coord_types.specs.NodeSet as set

@@ -3,7 +3,6 @@ use Rattle.std.proofs.Common.{◌≡◌, ℕ, ◌+◌, ◌≤◌, List, [], ◌�
 use Rattle.std.proofs.lemmas.Bool.Decides.{nat_tests}
 use Rattle.std.proofs.lemmas.List.Elements.{All-cons, All-nil}
 use Rattle.std.proofs.lemmas.List.Sums.{sum_by-append, sum_by-cons}
-use Rattle.coord_types.specs.Table.{get}
 use Rattle.coord_types.specs.declared.messages.Msg.{Msg}
 use Rattle.coord_types.specs.declared.outputs.Output.{Output}
 use Rattle.coord_types.specs.declared.outputs.Output.TheVariants.{Receipted, Signalled, Sent}
@@ -13,7 +12,7 @@ use Rattle.coord_types.specs.declared.steps.Step.{Step}
 use Rattle.coord_types.specs.declared.steps.Step.TheVariants.{Order, Take, Clear}
 use Rattle.coord_node.specs.Steps.{transitions}
 use Rattle.coord_link.specs.LaneMachine.{Lane}
-use Rattle.coord_world.specs.Facade.{Links, StepOutcome, World, all_sent, front_packet, had_front, lanes_in_order, next, outputs, outs, receipts, reply, sent_by, signals, state}
+use Rattle.coord_world.specs.Facade.{Links, StepOutcome, World, all_sent, front_packet, had_front, lane_at, lanes_in_order, next, outputs, outs, receipts, reply, sent_by, signals, state}
 use Rattle.coord_world.specs.laws.Waves.{Connected, IsExplained, is_signal_of, signals_of}
 use Rattle.coord_tables.proofs.Cases.{by_test}
 use Rattle.coord_world.proofs.waves.StepEffect.{signals_in}
@@ -31,7 +30,7 @@ module _ (v : ℕ) where
   -- nor do all
   none_sent : (before : Links) (es : List ((ℕ × ℕ) × Lane)) → count_by (is_signal_of v) (all_sent before es) ≡ 0
   none_sent before [] = refl
-  none_sent before (e ∷ es) = sum_by-append signal_in (sent_by (get before e.0) e.0 e.1 e.1.queue) (all_sent before es) ∙ omega (arith, none_sent_by (get before e.0) e.0 e.1 e.1.queue, none_sent before es)
+  none_sent before (e ∷ es) = sum_by-append signal_in (sent_by (lane_at before e.0.0 e.0.1) e.0 e.1 e.1.queue) (all_sent before es) ∙ omega (arith, none_sent_by (lane_at before e.0.0 e.0.1) e.0 e.1 e.1.queue, none_sent before es)
 
   -- nor a receipt
   none_receipted : (s : Step) → count_by (is_signal_of v) (receipts s) ≡ 0

@@ -7,11 +7,11 @@ use Rattle.coord_world.proofs.listings.Assembled.{ids_are_nodes, links_in_order}
 use Rattle.coord_world.proofs.listings.NearSets.{same_with}
 use Rattle.coord_world.proofs.tables.Tables.assemble.Goals as goal
 
-pub from_rows-links-requires-clause-rise : goal.from_rows-links-requires-clause-rise
-from_rows-links-requires-clause-rise c = links_in_order (listed c.args.parts) c.requires
+pub from_rows-requires-clause-rise : goal.from_rows-requires-clause-rise
+from_rows-requires-clause-rise c = links_in_order (listed c.args.parts) c.requires
 
-pub from_rows-links-requires-clause-few : goal.from_rows-links-requires-clause-few
-from_rows-links-requires-clause-few c = let most = c.requires.most_links in omega (arith, most)
+pub from_rows-requires-clause-few : goal.from_rows-requires-clause-few
+from_rows-requires-clause-few c = let most = c.requires.most_links in omega (arith, most)
 
 pub returns : goal.returns
 returns c =
