@@ -13,8 +13,8 @@ LISTENS = "0A"  # the state in /proc/net/tcp
 
 
 def lock_holders(found: os.stat_result) -> list[int]:
-    """The processes of this machine that have a lock on a file. Some file systems give a lock another device's number
-    than the file has: there the process is asked what it has open."""
+    """The processes of this machine that have a lock on a file. On some file systems a lock has another device's number
+    than the file: then it looks at what the process has open."""
     device = f"{os.major(found.st_dev):02x}:{os.minor(found.st_dev):02x}"
     try:
         with open("/proc/locks", encoding="utf-8") as lines:
