@@ -1,6 +1,7 @@
 """Orders and other lines: each kind's reply, its repeat and its refusals, and what a start finds in a store."""
 
 from support import stores
+from support.case import until
 from support.program import ran
 from support.served import DONE, FINISHED, STARTED, Served, answered, refused
 from support.serving import Serving
@@ -116,6 +117,20 @@ class Stores(Served):
                 self.expect_each_signal_once(server)
                 self.expect_closed(server, 2)
                 self.assertEqual(stores.version_of(server.store), version)
+
+    def test_all_that_may_be_lost_is_sent_again(self):
+        """A front on each lane of the largest network; of every second lane it was taken, and its receipt may be lost."""
+        pairs = sorted(tuple(sorted((at, (at + far - 1) % 64 + 1))) for far in (1, 9) for at in range(1, 65))
+        sent, taken = (0, 0, [stores.IS_READY]), (0, 1, [stores.IS_READY])
+        for version in (1, 2):
+            rows = [stores.node(at, epoch=3, version=version) for at in range(1, 65)]
+            links = [stores.link(a, b, 65 + place, sent, taken) for place, (a, b) in enumerate(pairs)]
+            content = stores.store(stores.world(1_000, rows, links), version)
+            with self.subTest(version=version), Serving(self.write(f"store{version}", content)) as server:
+                # each is taken, where it was not, and its receipt clears it; nobody asks for it again meanwhile
+                until("each packet", lambda: server.show()["accepted"] == 1_000 + 128 + 256)
+                self.assertEqual(server.ask({"op": "resend"}), {"count": 0, "kind": "resent"})
+                self.expect_closed(server, 0)
 
     def test_a_store_of_version_1_stays_so(self):
         path = self.write("store", stores.store())

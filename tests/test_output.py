@@ -44,6 +44,16 @@ class Unprinted(Case):
         path = self.write("store", stores.store(stores.world(4, [stores.node(64, stores.ABORT)])))
         self.assertEqual(by_shell(">/dev/full", "check", path), LOST)
 
+    def test_a_store_does_not_take_the_place_of_a_stream(self):
+        """With standard streams closed, what is told of a store goes nowhere, and not into its file."""
+        content, topology_path = stores.store(), self.write("topology", PAIR)
+        for closed in ("<&- >&- 2>&-", ">&- 2>&-", "<&- 2>&-", "2>&-"):
+            for command, more in (("init", [topology_path]), ("check", []), ("show", []), ("serve", ["192.0.2.1:4170"])):
+                with self.subTest(closed=closed, command=command):
+                    path = self.write("store", content)
+                    self.assertEqual(by_shell(closed, command, path, *more)[1], "")
+                    self.assertEqual(self.read("store"), content)
+
     def test_a_fault_line_that_can_not_be_written(self):
         """The status tells it."""
         for redirected in ("2>/dev/full", "2>&-", ">&- 2>&-"):
