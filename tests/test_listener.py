@@ -1,7 +1,8 @@
-"""A listener that fails: what may pass is waited for, and what does not pass ends the server."""
+"""A listener that fails: what may pass is waited for, and what does not pass ends the server. One to which nobody comes."""
 
 import errno
 import os
+import time
 
 from support import preloaded
 from support.case import Case
@@ -55,6 +56,25 @@ class Listener(Case):
                 for _ in range(2):
                     self.assertEqual(server.ask({"op": "resend"}), {"count": 0, "kind": "resent"})
                 self.assertLess(processor_seconds(server.process.pid), 5)
+
+
+class Idle(Case):
+    takes = 3
+
+    def test_a_server_that_nobody_asks(self):
+        """It waits, and takes no processor for that: before the first client, and behind an order of one that stays."""
+        with Serving(self.made(topology([(1, 1)]))) as server:
+            self.expect_rest(server)
+            with server.connect() as connection:
+                connection.send({"op": "reset", "client": 1, "number": 1, "node": 1})
+                self.assertEqual(connection.reply()["step"], 2)
+                self.expect_rest(server)
+            self.assertEqual(server.close().status, 0)
+
+    def expect_rest(self, server):
+        before = processor_seconds(server.process.pid)
+        time.sleep(1)
+        self.assertLess(processor_seconds(server.process.pid) - before, 0.3)
 
 
 def processor_seconds(process):

@@ -114,7 +114,10 @@ class Refused(Served):
             before = refusing.count()
             connection.send(*({"op": "reset", "client": 1, "number": number, "node": 1} for number in range(1, 4)))
             connection.socket.shutdown(socket.SHUT_WR)
-            return self.replies(connection), before, refusing.count()
+            replies, behind = self.replies(connection), refusing.count()
+            # whatever that client had, the next one is served
+            self.assertEqual(server.close().status, 0)
+            return replies, before, behind
 
     def replies(self, connection):
         """All that come. A connection that lacked memory to begin is reset, since it was not read."""
