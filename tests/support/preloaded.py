@@ -15,6 +15,7 @@ SOURCE = r"""
 #include <sys/mman.h>
 #include <sys/socket.h>
 #include <sys/syscall.h>
+#include <sys/time.h>
 #include <time.h>
 #include <unistd.h>
 static long setting(const char *name) { return getenv(name) ? atol(getenv(name)) : 0; }
@@ -99,6 +100,14 @@ ssize_t send(int socket, const void *bytes, size_t count, int flags) {
 ssize_t write(int file, const void *bytes, size_t count) {
     note("out", file, 0, bytes, count);
     return syscall(SYS_write, file, bytes, count);
+}
+// With WAITS it is written down too for how many milliseconds a client is waited for.
+int setsockopt(int socket, int level, int option, const void *value, socklen_t length) {
+    if (getenv("WAITS") && level == SOL_SOCKET && (option == SO_RCVTIMEO || option == SO_SNDTIMEO)) {
+        const struct timeval *time = value;
+        note(option == SO_RCVTIMEO ? "read-within" : "write-within", socket, time->tv_sec * 1000 + time->tv_usec / 1000, "", 0);
+    }
+    return syscall(SYS_setsockopt, socket, level, option, value, length);
 }
 // Where a file is to be made, another process has just made one there: the file MEANWHILE has this name too.
 int open(const char *path, int flags, ...) {
