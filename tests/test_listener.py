@@ -74,7 +74,7 @@ class Idle(Case):
     def expect_rest(self, server):
         before = processor_seconds(server.process.pid)
         time.sleep(1)
-        self.assertLess(processor_seconds(server.process.pid) - before, 0.3)
+        self.assertLess(processor_seconds(server.process.pid) - before, 0.05)
 
 
 def processor_seconds(process):

@@ -119,12 +119,15 @@ class Stores(Served):
                 self.assertEqual(stores.version_of(server.store), version)
 
     def test_all_that_may_be_lost_is_sent_again(self):
-        """A front on each lane of the largest network; of every second lane it was taken, and its receipt may be lost."""
-        pairs = sorted(tuple(sorted((at, (at + far - 1) % 64 + 1))) for far in (1, 9) for at in range(1, 65))
+        """A front on each of 256 lanes. Those to the nodes with a number by 8, which one worker has, are to be taken; those
+        from them were taken, and the receipt may be lost."""
+        others = [node for node in range(1, 65) if node % 8]
+        pairs = sorted(tuple(sorted((8 * hub, others[(7 * hub + near) % 56]))) for hub in range(1, 9) for near in range(16))
         sent, taken = (0, 0, [stores.IS_READY]), (0, 1, [stores.IS_READY])
         for version in (1, 2):
             rows = [stores.node(at, epoch=3, version=version) for at in range(1, 65)]
-            links = [stores.link(a, b, 65 + place, sent, taken) for place, (a, b) in enumerate(pairs)]
+            links = [stores.link(a, b, 65 + place, *((sent, taken) if b % 8 == 0 else (taken, sent)))
+                     for place, (a, b) in enumerate(pairs)]
             content = stores.store(stores.world(1_000, rows, links), version)
             with self.subTest(version=version), Serving(self.write(f"store{version}", content)) as server:
                 # each is taken, where it was not, and its receipt clears it; nobody asks for it again meanwhile

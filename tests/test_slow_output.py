@@ -51,6 +51,7 @@ class Piped(Serving):
 
 class SlowOutput(Case):
     takes = 20
+    most = 300
 
     def reset(self, server, numbers):
         """Orders over one connection, each of which is answered though nothing is printed."""

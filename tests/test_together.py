@@ -106,6 +106,7 @@ class Refused(Served):
     """Orders that come together, where the server is refused one allocation."""
 
     takes = 30
+    most = 300
 
     def orders(self, store, refusing, first=0):
         """Three orders in one packet, behind which nothing comes: their replies, and how many allocations were asked for
