@@ -51,7 +51,7 @@ class Unprinted(Case):
             for command, more in (("init", [topology_path]), ("check", []), ("show", []), ("serve", ["127.0.0.1:0"])):
                 with self.subTest(closed=closed, command=command):
                     path = self.write("store", content)
-                    self.assertEqual(by_shell(closed, command, path, *more, seconds=60)[0], 1 if command == "init" else 3)
+                    self.assertEqual(by_shell(closed, command, path, *more, seconds=30)[0], 1 if command == "init" else 3)
                     self.assertEqual(self.read("store"), content)
 
     def test_a_fault_line_that_can_not_be_written(self):
