@@ -38,10 +38,10 @@ class Lives(Served):
             self.expect_each_signal_once(server)
             self.expect_closed(server, 8 * epoch)
 
-    def test_hundreds_of_lives(self):
+    def test_a_hundred_and_fifty_lives(self):
         """One for each connection, and no more threads than in the first one."""
         with Serving(self.made(topology([(1, 1)])), program=SHORT) as server:
-            lives, threads, count = set(), set(), 300 * SHORT_STEPS
+            lives, threads, count = set(), set(), 150 * SHORT_STEPS
             for first in range(1, count, SHORT_STEPS):
                 numbers = range(first, first + SHORT_STEPS)
                 with server.connect() as connection:
@@ -49,7 +49,7 @@ class Lives(Served):
                     self.assertEqual([connection.reply()["step"] for _ in numbers], [1 + number for number in numbers])
                     lives.add(self.flusher(server))
                     threads.add(len(os.listdir(f"/proc/{server.process.pid}/task")))
-            self.assertEqual((len(lives), len(threads)), (300, 1))
+            self.assertEqual((len(lives), len(threads)), (150, 1))
             self.assertEqual(server.await_signals(count), [(1, epoch) for epoch in range(1, count + 1)])
             self.expect_closed(server, count)
 

@@ -51,11 +51,11 @@ class Piped(Serving):
 
 class SlowOutput(Case):
     takes = 20
-    most = 300
 
     def reset(self, server, numbers):
         """Orders over one connection, each of which is answered though nothing is printed."""
         with server.connect() as connection:
+            connection.socket.settimeout(60)
             for first in range(numbers.start, numbers.stop, 250):
                 each = range(first, min(first + 250, numbers.stop))
                 connection.send(*({"op": "reset", "client": 1, "number": number, "node": 1} for number in each))

@@ -107,13 +107,13 @@ class Refused(Served):
     """Orders that come together, where the server is refused one allocation."""
 
     takes = 30
-    most = 300
 
     def orders(self, store, refusing, first=0):
         """Three orders in one packet, behind which nothing comes: their replies, and how many allocations were asked for
         before them and with them."""
         with Serving(store, env=refusing.environment(first)) as server, server.connect() as connection:
             before = refusing.count()
+            connection.socket.settimeout(60)
             # a connection without memory may be over already
             with contextlib.suppress(OSError):
                 connection.send(*({"op": "reset", "client": 1, "number": number, "node": 1} for number in range(1, 4)))
