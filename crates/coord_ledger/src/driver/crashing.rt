@@ -7,6 +7,7 @@ ghost use Rattle.coord_ledger.specs.declared.events.Event.TheVariants.{Crash};
 ghost use Rattle.coord_ledger.specs.ledger.Driven.{Beside, IsAnew, after_crash, disk_driven, held, model_driven};
 ghost use Rattle.coord_ledger.specs.ledger.Driver.{HasFailed, HeldTouches, IsEventFault, IsLost, IsReopenFault, IsReopened};
 ghost use Rattle.coord_ledger.specs.ledger.Follows.{Follows, FollowsTo};
+ghost use Rattle.coord_ledger.specs.ledger.Meets.{Meets};
 ghost use Rattle.coord_ledger.specs.machine.Consistent.{IsConsistent};
 ghost use Rattle.coord_ledger.specs.machine.Log.{settled_count};
 ghost use Rattle.coord_ledger.specs.machine.Machine.{Machine};
@@ -50,6 +51,8 @@ impl<D: CrashDisk> Driver<D> {
             model_driven D.keeps_model self ≡ Some true
             → IfOk result (λ opened. FollowsTo s Crash (Opened opened.0)
             (held opened.1 (after_crash b))) }
+        ensures meets { model_driven D.keeps_model self ≡ Some true →
+            IfOk result (λ opened. Meets self Crash (Opened opened.0) opened.1) }
         ensures anew { IfOk result (λ opened. IsAnew opened.1) }
         ensures count { IfOk result (λ opened. opened.0 ≡ settled_count opened.1.ledger.log) }
         ensures disk { (b : Beside) (s : Machine) → IsConsistent s → Follows (held self b) s
@@ -67,6 +70,7 @@ impl<D: CrashDisk> Driver<D> {
             IsEventFault (model_driven D.keeps_model self) Crash refused.0) }
     {
         self.survives();
+        self.ledger.log_is_consistent();
         match reopen(alloc, self.into_disk()) {
             Ok(ledger) => {
                 let count = ledger.settled().count();
