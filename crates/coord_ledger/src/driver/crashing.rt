@@ -1,13 +1,19 @@
 //! The disk crashes, and is opened again.
 
-ghost use Rattle.std.specs.Prelude.{◌≡◌, ◌+◌, true, ℕ, IfErr, IfOk, MatchResult, Some};
+ghost use Rattle.std.specs.Prelude.{◌≡◌, ◌+◌, false, true, ℕ, IfErr, IfOk, MatchResult, Some};
 ghost use Rattle.coord_disk.specs.Model.Present.{IsImage};
+ghost use Rattle.coord_store.specs.Kept.{has_stopped};
 ghost use Rattle.coord_ledger.specs.declared.events.Answer.TheVariants.{Opened};
 ghost use Rattle.coord_ledger.specs.declared.events.Event.TheVariants.{Crash};
+ghost use Rattle.coord_ledger.specs.declared.trace.RunFaultKind.TheVariants.{OutOfMemory};
 ghost use Rattle.coord_ledger.specs.ledger.Driven.{Beside, IsAnew, after_crash, disk_driven, held, model_driven};
 ghost use Rattle.coord_ledger.specs.ledger.Driver.{HasFailed, HeldTouches, IsEventFault, IsLost, IsReopenFault, IsReopened};
 ghost use Rattle.coord_ledger.specs.ledger.Follows.{Follows, FollowsTo};
+<<<<<<< Updated upstream
 ghost use Rattle.coord_ledger.specs.ledger.Meets.{Meets};
+=======
+ghost use Rattle.coord_ledger.specs.ledger.State.{ledger_over};
+>>>>>>> Stashed changes
 ghost use Rattle.coord_ledger.specs.machine.Consistent.{IsConsistent};
 ghost use Rattle.coord_ledger.specs.machine.Log.{settled_count};
 ghost use Rattle.coord_ledger.specs.machine.Machine.{Machine};
@@ -37,7 +43,21 @@ fn reopen<D: CrashDisk>(alloc: Global, disk: D) -> Result<Ledger<D>, (RunFaultKi
         Ok(store) => store,
         Err((fault, disk)) => return Err((RunFaultKind::Store(fault), disk)),
     };
-    match Ledger::adopt(alloc, opened) {
+    match adopted(alloc, opened) {
+        Ok(ledger) => Ok(ledger),
+        Err(refused) => Err(refused),
+    }
+}
+
+/// Makes a ledger of a store that was just opened. It is refused for want of memory alone, and gives
+/// the disk back.
+fn adopted<D: CrashDisk>(alloc: Global, store: Store<D>) -> Result<Ledger<D>, (RunFaultKind, D)>
+    requires { has_stopped store ≡ false }
+    ensures adopted { IfOk result (λ ledger. ledger ≡ ledger_over store.world store.disk) }
+    ensures memory { IfErr result (λ refused. refused.0 ≡ OutOfMemory) }
+    ensures back { IfErr result (λ refused. refused.1 ≡ store.disk) }
+{
+    match Ledger::adopt(alloc, store) {
         Ok(ledger) => Ok(ledger),
         Err((_, store)) => Err((RunFaultKind::OutOfMemory, store.into_disk())),
     }
