@@ -9,11 +9,8 @@ ghost use Rattle.coord_ledger.specs.declared.trace.RunFaultKind.TheVariants.{Out
 ghost use Rattle.coord_ledger.specs.ledger.Driven.{Beside, IsAnew, after_crash, disk_driven, held, model_driven};
 ghost use Rattle.coord_ledger.specs.ledger.Driver.{HasFailed, HeldTouches, IsEventFault, IsLost, IsReopenFault, IsReopened};
 ghost use Rattle.coord_ledger.specs.ledger.Follows.{Follows, FollowsTo};
-<<<<<<< Updated upstream
 ghost use Rattle.coord_ledger.specs.ledger.Meets.{Meets};
-=======
 ghost use Rattle.coord_ledger.specs.ledger.State.{ledger_over};
->>>>>>> Stashed changes
 ghost use Rattle.coord_ledger.specs.machine.Consistent.{IsConsistent};
 ghost use Rattle.coord_ledger.specs.machine.Log.{settled_count};
 ghost use Rattle.coord_ledger.specs.machine.Machine.{Machine};
