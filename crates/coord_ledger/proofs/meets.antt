@@ -1,4 +1,5 @@
 -- What a driver makes of each event, as its machine has it.
+pub mod Own
 pub mod Begin
 pub mod Commit
 pub mod Submit
