@@ -4,3 +4,4 @@ pub mod Follows
 pub mod Calls
 pub mod Driver
 pub mod Driven
+pub mod Meets

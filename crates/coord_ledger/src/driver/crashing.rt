@@ -1,12 +1,16 @@
 //! The disk crashes, and is opened again.
 
-ghost use Rattle.std.specs.Prelude.{◌≡◌, ◌+◌, true, ℕ, IfErr, IfOk, MatchResult, Some};
+ghost use Rattle.std.specs.Prelude.{◌≡◌, ◌+◌, false, true, ℕ, IfErr, IfOk, MatchResult, Some};
 ghost use Rattle.coord_disk.specs.Model.Present.{IsImage};
+ghost use Rattle.coord_store.specs.Kept.{has_stopped};
 ghost use Rattle.coord_ledger.specs.declared.events.Answer.TheVariants.{Opened};
 ghost use Rattle.coord_ledger.specs.declared.events.Event.TheVariants.{Crash};
+ghost use Rattle.coord_ledger.specs.declared.trace.RunFaultKind.TheVariants.{OutOfMemory};
 ghost use Rattle.coord_ledger.specs.ledger.Driven.{Beside, IsAnew, after_crash, disk_driven, held, model_driven};
 ghost use Rattle.coord_ledger.specs.ledger.Driver.{HasFailed, HeldTouches, IsEventFault, IsLost, IsReopenFault, IsReopened};
 ghost use Rattle.coord_ledger.specs.ledger.Follows.{Follows, FollowsTo};
+ghost use Rattle.coord_ledger.specs.ledger.Meets.{Meets};
+ghost use Rattle.coord_ledger.specs.ledger.State.{ledger_over};
 ghost use Rattle.coord_ledger.specs.machine.Consistent.{IsConsistent};
 ghost use Rattle.coord_ledger.specs.machine.Log.{settled_count};
 ghost use Rattle.coord_ledger.specs.machine.Machine.{Machine};
@@ -36,7 +40,21 @@ fn reopen<D: CrashDisk>(alloc: Global, disk: D) -> Result<Ledger<D>, (RunFaultKi
         Ok(store) => store,
         Err((fault, disk)) => return Err((RunFaultKind::Store(fault), disk)),
     };
-    match Ledger::adopt(alloc, opened) {
+    match adopted(alloc, opened) {
+        Ok(ledger) => Ok(ledger),
+        Err(refused) => Err(refused),
+    }
+}
+
+/// Makes a ledger of a store that was just opened. It is refused for want of memory alone, and gives
+/// the disk back.
+fn adopted<D: CrashDisk>(alloc: Global, store: Store<D>) -> Result<Ledger<D>, (RunFaultKind, D)>
+    requires { has_stopped store ≡ false }
+    ensures adopted { IfOk result (λ ledger. ledger ≡ ledger_over store.world store.disk) }
+    ensures memory { IfErr result (λ refused. refused.0 ≡ OutOfMemory) }
+    ensures back { IfErr result (λ refused. refused.1 ≡ store.disk) }
+{
+    match Ledger::adopt(alloc, store) {
         Ok(ledger) => Ok(ledger),
         Err((_, store)) => Err((RunFaultKind::OutOfMemory, store.into_disk())),
     }
@@ -50,6 +68,8 @@ impl<D: CrashDisk> Driver<D> {
             model_driven D.keeps_model self ≡ Some true
             → IfOk result (λ opened. FollowsTo s Crash (Opened opened.0)
             (held opened.1 (after_crash b))) }
+        ensures meets { model_driven D.keeps_model self ≡ Some true →
+            IfOk result (λ opened. Meets self Crash (Opened opened.0) opened.1) }
         ensures anew { IfOk result (λ opened. IsAnew opened.1) }
         ensures count { IfOk result (λ opened. opened.0 ≡ settled_count opened.1.ledger.log) }
         ensures disk { (b : Beside) (s : Machine) → IsConsistent s → Follows (held self b) s
@@ -67,6 +87,7 @@ impl<D: CrashDisk> Driver<D> {
             IsEventFault (model_driven D.keeps_model self) Crash refused.0) }
     {
         self.survives();
+        self.ledger.log_is_consistent();
         match reopen(alloc, self.into_disk()) {
             Ok(ledger) => {
                 let count = ledger.settled().count();

@@ -1,11 +1,12 @@
 //! Flights go out, are committed, and come back.
 
 ghost use Rattle.std.specs.Prelude.{◌≡◌, ◌+◌, ◌-◌, List, ℕ, Ok, Some};
-ghost use Rattle.coord_ledger.specs.declared.events.Event.TheVariants.{Begin, Commit};
+ghost use Rattle.coord_ledger.specs.declared.events.Event.TheVariants.{Begin, Commit, Finish};
 ghost use Rattle.coord_ledger.specs.declared.release.Release.{Release as Row};
 ghost use Rattle.coord_ledger.specs.ledger.Driven.{Beside, FinishesTo, disk_driven, held, model_driven};
-ghost use Rattle.coord_ledger.specs.ledger.Driver.{HasFailed, HeldTouches};
+ghost use Rattle.coord_ledger.specs.ledger.Driver.{HasFailed, HeldTouches, HoldsTouched};
 ghost use Rattle.coord_ledger.specs.ledger.Follows.{Follows, FollowsTo};
+ghost use Rattle.coord_ledger.specs.ledger.Meets.{Meets, finish_answer, machine_of};
 ghost use Rattle.coord_ledger.specs.machine.After.{settling_releases};
 ghost use Rattle.coord_ledger.specs.machine.Consistent.{IsConsistent};
 ghost use Rattle.coord_ledger.specs.machine.Machine.{Machine};
@@ -24,6 +25,7 @@ impl<D: CrashDisk> Driver<D> {
     pub fn begin(self) -> (Answer, Self)
         ensures answered { (b : Beside) (s : Machine) → IsConsistent s → Follows (held self b) s →
             FollowsTo s Begin result.0 (held result.1 b) }
+        ensures meets { Meets self Begin result.0 result.1 }
         ensures log { result.1.ledger.log ≡ self.ledger.log }
         ensures disk { disk_driven result.1 ≡ disk_driven self }
     {
@@ -44,6 +46,11 @@ impl<D: CrashDisk> Driver<D> {
     pub fn commit(&mut self) -> Answer
         ensures answered { (b : Beside) (s : Machine) → IsConsistent s →
             Follows (held self.old b) s → FollowsTo s Commit result (held self.new b) }
+        ensures meets { Meets self.old Commit result self.new }
+        ensures touches { (old : D) → disk_driven self.old ≡ Some old
+            → HoldsTouched D.keeps_model D.present D.clock D.left_since D.crashes
+            (found_by_crash (machine_of self.old) Commit result) (touches_disk Commit result) Commit
+            old (disk_driven self.new) }
         ensures ledger { self.new.ledger ≡ self.old.ledger }
         ensures disk { (b : Beside) (s : Machine) → IsConsistent s → Follows (held self.old b) s
             → HeldTouches D.keeps_model D.present D.clock D.left_since D.crashes
@@ -54,6 +61,7 @@ impl<D: CrashDisk> Driver<D> {
         ensures model { model_driven D.keeps_model self.new ≡ model_driven D.keeps_model self.old }
     {
         self.survives();
+        self.ledger.log_is_consistent();
         match &mut self.flight {
             None => Answer::NoFlight,
             Some(flight) => match flight.commit() {
@@ -68,6 +76,7 @@ impl<D: CrashDisk> Driver<D> {
     pub fn finish(self) -> (Result<Option<Releases>, Refusal>, Self)
         ensures answered { (b : Beside) (s : Machine) → IsConsistent s → Follows (held self b) s →
             FinishesTo s b result.0 result.1 }
+        ensures meets { Meets self Finish (finish_answer result.0 result.1) result.1 }
         ensures base { result.1.ledger.log.base ≡ self.ledger.log.base }
         ensures released { (releases : List Row) → result.0 ≡ Ok (Some releases) →
             releases ≡ settling_releases self.ledger.log

@@ -5,6 +5,7 @@ ghost use Rattle.coord_ledger.specs.declared.events.Event.TheVariants.{Submit};
 ghost use Rattle.coord_ledger.specs.ledger.Calls.{HandedTo};
 ghost use Rattle.coord_ledger.specs.ledger.Driven.{Beside, answer_to, disk_driven, held, with_claim};
 ghost use Rattle.coord_ledger.specs.ledger.Follows.{Follows, FollowsTo};
+ghost use Rattle.coord_ledger.specs.ledger.Meets.{Meets};
 ghost use Rattle.coord_ledger.specs.machine.Consistent.{IsConsistent};
 ghost use Rattle.coord_ledger.specs.machine.Machine.{Machine};
 
@@ -19,6 +20,7 @@ impl<D: CrashDisk> Driver<D> {
         ensures answered { (b : Beside) (s : Machine) → IsConsistent s →
             Follows (held self.old b) s →
             FollowsTo s (Submit step) (answer_to result) (held self.new (with_claim b result)) }
+        ensures meets { Meets self.old (Submit step) (answer_to result) self.new }
         ensures handed { HandedTo self.old.ledger step result self.new.ledger }
         ensures flight { self.new.flight ≡ self.old.flight }
         ensures disk { disk_driven self.new ≡ disk_driven self.old }

@@ -1,11 +1,13 @@
 use Rattle.std.proofs.Common.{◌≡◌, ◌+◌, true, sym, ap, ◌∙◌, subst}
 use Rattle.std.specs.Option.{option_map}
 use Rattle.coord_world.specs.protocol.NumberedWorld.{World}
-use Rattle.coord_ledger.specs.Facade.{Crash, Driven, FollowsTo, Opened, after_crash, at_home, disk_driven, failed_in, flight_out, held, kept_by, model_driven}
+use Rattle.coord_ledger.specs.Facade.{Crash, Driven, FollowsTo, ImagesGive, Meets, Opened, after_crash, at_home, disk_driven, failed_in, flight_out, held, kept_by, model_driven, settled_world}
 use Rattle.coord_ledger.proofs.follows.FollowsCrashes.{images_follow}
 use Rattle.coord_ledger.proofs.drives.FollowsTo.{crash_fault, follows_reopened, some_is}
 use Rattle.coord_ledger.proofs.drives.EachMoment.{crash_lost, crash_touches}
 use Rattle.coord_ledger.proofs.drives.Failures.{failed_as, failed_same, failed_so}
+use Rattle.coord_ledger.proofs.meets.Crash.{meets_opened}
+use Rattle.coord_ledger.proofs.meets.Own.{own_consistent}
 use Rattle.coord_ledger.proofs.driver.Driver.crash.Goals as goal
 
 pub returns-in-Ok-clause-answered : goal.returns-in-Ok-clause-answered
@@ -45,3 +47,18 @@ returns-in-Ok-clause-failures g c n so =
 
 pub returns-in-Err-clause-failures : goal.returns-in-Err-clause-failures
 returns-in-Err-clause-failures g c n so = c.in-Err.ensures.failures ∙ ap (λ k. k + failed_in c.in-Err.refused.0) (failed_so g.D.Disk.failures (disk_driven c.args.self) c.into_disk.result n so c.into_disk.ensures.disk)
+
+-- it is an event of its machine
+pub returns-in-Ok-clause-meets : goal.returns-in-Ok-clause-meets
+returns-in-Ok-clause-meets g c on =
+    let d = c.into_disk.result in
+    let inside : Driven g.row.D.Denot = record { ledger = c.self.inside.ledger; flight = c.self.inside.flight } in
+    let keeps : g.D.Disk.keeps_model d ≡ true = some_is (g.D.Disk.keeps_model d) (sym (ap (option_map g.D.Disk.keeps_model) c.into_disk.ensures.disk) ∙ on) in
+    let kept = c.log_is_consistent.ensures in
+    let is = own_consistent inside c.self.invariant kept.log kept.out kept.doubted kept.stopped in
+    let met : Meets c.args.self Crash (Opened (settled_world c.in-Ok.ledger.log).count) (at_home c.in-Ok.ledger) =
+    subst (λ (x : Driven g.row.D.Denot). ImagesGive (g.D.Disk.keeps_model d) (g.D.Disk.present d) x.ledger.log (kept_by x.ledger.log.settled (option_map flight_out x.flight) x.ledger.log.doubt) → Meets x Crash (Opened (settled_world c.in-Ok.ledger.log).count) (at_home c.in-Ok.ledger)) c.self.view_is
+    (λ images. meets_opened inside c.in-Ok.ledger g.D.Disk.keeps_model g.D.Disk.present g.D.Disk.clock g.D.Disk.left_since g.D.CrashDisk.crashes d is images keeps c.in-Ok.ensures.opened) c.into_disk.ensures.images in
+    let count = c.count-count.ensures ∙ ap (λ (w : World). w.count) c.settled.ensures in
+    subst (λ (x : Driven g.row.D.Denot). Meets c.args.self Crash (Opened c.count-count.result) x) (sym c.over.ensures)
+    (subst (λ n. Meets c.args.self Crash (Opened n) (at_home c.in-Ok.ledger)) (sym count) met)

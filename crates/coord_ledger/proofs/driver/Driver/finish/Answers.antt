@@ -1,5 +1,6 @@
 use Rattle.std.proofs.Common.{◌≡◌, ◌-◌, Some, Ok, sym, ap, ◌∙◌, subst}
-use Rattle.coord_ledger.specs.Facade.{Driven, FinishesTo, Follows, held, settling_releases}
+use Rattle.coord_ledger.specs.Facade.{Driven, Finish, Finished, FinishesTo, Follows, HoldsFlight, Meets, NoFlight, Refused, at_home, held, settled_count, settling_releases}
+use Rattle.coord_ledger.proofs.meets.Finish.{meets_back, meets_none_back, meets_refused_back}
 use Rattle.coord_ledger.proofs.drives.Flights.{gave, same_base}
 use Rattle.coord_ledger.proofs.follows.FollowsFlights.{follows_back}
 use Rattle.coord_ledger.proofs.driver.Driver.finish.Goals as goal
@@ -19,3 +20,27 @@ returns-in-Ok-clause-released g c releases is =
     let same : c.in-Ok.releases ≡ releases = cc in
     let gives = c.in-Ok.ensures.released ∙ gave c.self.inside.ledger c.end_flush.new.self c.in-Some.flight c.in-Ok.ensures.taken c.in-Ok.ensures.own in
     sym same ∙ gives ∙ (λ i. settling_releases (c.self.view_is i).ledger.log ((sym c.over-in-Ok.ensures i).ledger.log.settled - (c.self.view_is i).ledger.log.settled))
+
+-- it is an event of its machine
+
+pub returns-in_default-clause-meets : goal.returns-in_default-clause-meets
+returns-in_default-clause-meets g c =
+    let old : Driven g.row.D.Denot = record { ledger = c.self.inside.ledger; flight = c.self.inside.flight } in
+    let same : c.over.result ≡ old = c.over.ensures ∙ (λ i. record { ledger = c.self.inside.ledger; flight = sym c.in_default.is i }) in
+    subst (λ (d : Driven g.row.D.Denot). Meets c.args.self Finish NoFlight d) (sym same)
+    (subst (λ (d : Driven g.row.D.Denot). Meets d Finish NoFlight old) c.self.view_is (meets_none_back old c.in_default.is))
+
+pub returns-in-Ok-clause-meets : goal.returns-in-Ok-clause-meets
+returns-in-Ok-clause-meets g c =
+    let old : Driven g.row.D.Denot = record { ledger = c.self.inside.ledger; flight = c.self.inside.flight } in
+    subst (λ (d : Driven g.row.D.Denot). Meets c.args.self Finish (Finished (settled_count d.ledger.log)) d) (sym c.over-in-Ok.ensures)
+    (subst (λ (d : Driven g.row.D.Denot). Meets d Finish (Finished (settled_count c.end_flush.new.self.log)) (at_home c.end_flush.new.self)) c.self.view_is (meets_back old c.in-Some.flight c.in-Some.is c.end_flush.new.self c.in-Ok.ensures.taken))
+
+pub returns-in-Err-clause-meets : goal.returns-in-Err-clause-meets
+returns-in-Err-clause-meets g c =
+    let old : Driven g.row.D.Denot = record { ledger = c.self.inside.ledger; flight = c.self.inside.flight } in
+    let own = subst (HoldsFlight c.self.inside.ledger) c.in-Some.is c.self.invariant in
+    let new : Driven g.row.D.Denot = record { ledger = c.end_flush.new.self; flight = Some c.in-Err.flight } in
+    let same : old ≡ new = λ i. record { ledger = sym c.in-Err.ensures.unchanged i; flight = (c.in-Some.is ∙ ap Some (sym c.in-Err.ensures.back)) i } in
+    subst (λ (d : Driven g.row.D.Denot). Meets d Finish (Refused c.in-Err.refusal) new) c.self.view_is
+    (subst (λ (d : Driven g.row.D.Denot). Meets old Finish (Refused c.in-Err.refusal) d) same (meets_refused_back old c.in-Some.flight c.in-Some.is c.in-Err.refusal own c.in-Err.ensures.refused))
