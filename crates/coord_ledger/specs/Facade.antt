@@ -29,7 +29,7 @@ pub use Rattle.coord_ledger.specs.ledger.Follows.{Follows, FollowsTo, GivesOneOf
 pub use Rattle.coord_ledger.specs.ledger.Calls.{FlightGives, GivesFlown, GivesSettled, HandedTo, LedgerGives, RefusesFlight, RefusesStep, claimed, keeps_store, next_flight, releases_in, taken_back, with_accepted, with_out}
 pub use Rattle.coord_ledger.specs.ledger.Driver.{Drives, HasFailed, HeldSurvives, HeldTouches, IsEventFault, IsLost, IsPromised, IsReopenFault, IsReopened, brought_home, disk_held, disk_with, model_of}
 pub use Rattle.coord_ledger.specs.ledger.Driven.{Beside, Driven, FinishesTo, IsAnew, MayBegin, after_crash, answer_to, at_home, disk_driven, held, model_driven, nothing_beside, with_claim, with_releases}
-pub use Rattle.coord_ledger.specs.ledger.Meets.{Meets, Shows, finish_answer, given_away, goes_to, machine_of}
+pub use Rattle.coord_ledger.specs.ledger.Meets.{Meets, Shows, finish_answer, goes_to, machine_of}
 pub use Rattle.coord_ledger.specs.promises.Parts.{IsPartOf, released_first}
 pub use Rattle.coord_ledger.specs.promises.Moments.{LeavesWithin, Reopens, touches_disk}
 pub use Rattle.coord_ledger.specs.promises.Headline.{CrashPrefix, EachMoment, IsAgainOf, IsLeft, IsReplyOf, IsSafe, IsTrulyAgain, Promised, Ran, Survives, Touches, ended, found_by_crash, is_crash, is_signal}

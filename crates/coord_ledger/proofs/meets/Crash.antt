@@ -4,12 +4,12 @@ use Rattle.std.specs.Option.{option_map}
 use Rattle.coord_disk.specs.Model.Present.{Present}
 use Rattle.coord_store.proofs.OneWorld.{recovered_is_one}
 use Rattle.coord_world.specs.Facade.{World}
-use Rattle.coord_ledger.specs.Facade.{Crash, Driven, ImagesGive, IsConsistent, IsOneOf, IsReopened, LedgerState, Meets, Opened, adopted, answers, at_home, flight_out, kept, kept_by, machine_of, machine_over, settled_world, world_after}
+use Rattle.coord_ledger.specs.Facade.{Crash, Driven, ImagesGive, IsConsistent, IsOneOf, IsReopened, LedgerState, Machine, Meets, Opened, adopted, answers, at_home, flight_out, kept, kept_by, machine_of, settled_world, started, world_after}
 use Rattle.coord_ledger.proofs.machine.ConsistentFlights.{kept_more}
 use Rattle.coord_ledger.proofs.machine.Lists.{one_mapped}
 use Rattle.coord_ledger.proofs.machine.Logs.{count_after}
 
-pub meets_opened : {D : Type 0} (d : Driven D) (l : LedgerState D) (keeps_model : D → Bool) (present : D → Present) (clock : D → ℕ) (left_since : D → ℕ → List ℕ → Type 0) (crashes : D → D → Type 0) (before : D) → IsConsistent (machine_of d) →
+pub meets_opened : {D : Type 0} (d : Driven D) (l : LedgerState D) (keeps_model : D → Bool) (present : D → Present) (clock : D → ℕ) (left_since : D → ℕ → List ℕ → Type 0) (crashes : D → D → Type 0) (before : D) → IsConsistent (machine_of d (started d.ledger)) →
     ImagesGive (keeps_model before) (present before) d.ledger.log (kept_by d.ledger.log.settled (option_map flight_out d.flight) d.ledger.log.doubt) → keeps_model before ≡ true → IsReopened keeps_model present clock left_since crashes before l → Meets d Crash (Opened (settled_world l.log).count) (at_home l)
 meets_opened {D} d l keeps_model present clock left_since crashes before is images keeps opened =
     let log = d.ledger.log in
@@ -17,12 +17,12 @@ meets_opened {D} d l keeps_model present clock left_since crashes before is imag
     let one = images keeps from.image from.allowed in
     let n = one.steps in
     let world : opened.world ≡ world_after log n = recovered_is_one from.image opened.world (world_after log n) from.recovered one.recovered in
-    let more = kept_more (machine_of d) n is one.allowed in
+    let more = kept_more (machine_of d (started d.ledger)) n is one.allowed in
     let le : n ≤ length log.trail = omega (arith, more.is, more.within) in
     let count : opened.world.count ≡ log.base.count + n = ap (λ (w : World). w.count) world ∙ count_after log n le in
     let back : opened.world.count - log.base.count ≡ n = omega (arith, count) in
     subst (λ (m : LedgerState D). Meets d Crash (Opened (settled_world m.log).count) (at_home m)) (sym opened.is)
     (record {
-      allowed = subst (λ c. IsOneOf (Opened c) (answers (machine_of d) Crash)) (sym count) (one_mapped (λ k. Opened (log.base.count + k)) n (kept (machine_of d)) one.allowed);
-      leaves = ap adopted (world ∙ ap (world_after log) (sym back));
+      allowed = λ m. subst (λ c. IsOneOf (Opened c) (answers (machine_of d m) Crash)) (sym count) (one_mapped (λ k. Opened (log.base.count + k)) n (kept (machine_of d m)) one.allowed);
+      leaves = λ m. ap (λ w. record (adopted w) { released = m.released; replied = m.replied }) (world ∙ ap (world_after log) (sym back));
     })

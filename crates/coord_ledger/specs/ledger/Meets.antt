@@ -1,8 +1,9 @@
 -- A driver as the event machine: what each of its calls makes of it.
 --
--- The machine of a driver is that of its ledger and of the flight that is out of it. It has given nothing out yet: the
--- tickets, the releases and what was shown are its holder's. After a crash its base is the world that was opened.
-use Rattle.std.specs.Prelude.{◌≡◌, ℕ, ◌-◌, ◌≤◌, List, [], Option, Some, None, Result, Ok, Err}
+-- A driver has the log and the flight of a machine. The tickets, what was shown and what was given out are its holder's,
+-- so its calls are events of a machine whatever of these there is. After a crash its log begins with the world that was
+-- opened.
+use Rattle.std.specs.Prelude.{◌≡◌, ◌-◌, ℕ, ◌≤◌, List, Option, Some, None, Result, Ok, Err}
 use Rattle.std.specs.Option.{option_map}
 use Rattle.coord_ledger.specs.declared.events.Answer.{Answer}
 use Rattle.coord_ledger.specs.declared.events.Answer.TheVariants.{Finished, NoFlight, Opened, Refused}
@@ -18,22 +19,19 @@ use Rattle.coord_ledger.specs.machine.Answers.{IsOneOf, answers}
 use Rattle.coord_ledger.specs.machine.Log.{settled_count, world_after}
 use Rattle.coord_ledger.specs.machine.Machine.{Machine, adopted}
 
-abbrev pub machine_of : {D : Type 0} → Driven D → Machine
-machine_of d = record { log = d.ledger.log; flight = option_map flight_out d.flight; tickets = []; seen = 0; released = []; replied = [] }
-
--- what the event gives out is its holder's
-abbrev pub given_away : Machine → Machine
-given_away s = record s { tickets = []; seen = 0; released = []; replied = [] }
+-- this machine with the log and the flight of a driver
+abbrev pub machine_of : {D : Type 0} → Driven D → Machine → Machine
+machine_of d m = record m { log = d.ledger.log; flight = option_map flight_out d.flight }
 
 -- the machine that an event leaves, seen from the world that a crash has opened
 abbrev pub goes_to : Machine → Event → Answer → Machine
-goes_to s Crash (Opened count) = adopted (world_after s.log (count - s.log.base.count))
-goes_to s event answer = given_away (after s event answer)
+goes_to s Crash (Opened count) = record (adopted (world_after s.log (count - s.log.base.count))) { released = s.released; replied = s.replied }
+goes_to s event answer = after s event answer
 
--- an event was met: its answer is one of the machine's, and this is what the machine makes of it
+-- an event was met: its answer is one of the machine's, and the driver is where the machine goes with it
 pub record Meets {D : Type 0} (old : Driven D) (e : Event) (a : Answer) (new : Driven D) : Type 0 where
-  pub allowed : IsOneOf a (answers (machine_of old) e)
-  pub leaves : machine_of new ≡ goes_to (machine_of old) e a
+  pub allowed : (m : Machine) → IsOneOf a (answers (machine_of old m) e)
+  pub leaves : (m : Machine) → machine_of new (goes_to (machine_of old m) e a) ≡ goes_to (machine_of old m) e a
 
 -- as the machine answers a flight that comes back, or does not
 abbrev pub finish_answer : {D : Type 0} → Result (Option (List Release)) Refusal → Driven D → Answer
@@ -45,4 +43,4 @@ finish_answer (Err refusal) d = Refused refusal
 pub record Shows {D : Type 0} (d : Driven D) (s : Machine) : Type 0 where
   pub by : ℕ
   pub within : by ≤ s.log.settled
-  pub is : machine_of d ≡ given_away (with_base_moved s by)
+  pub is : machine_of d s ≡ with_base_moved s by

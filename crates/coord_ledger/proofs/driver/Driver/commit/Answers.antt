@@ -1,9 +1,8 @@
 use Rattle.std.proofs.Common.{◌≡◌, None, Some, false, refl, sym, ap, ◌∙◌, subst}
-use Rattle.coord_ledger.specs.Facade.{Commit, Driven, FlightState, Follows, HeldTouches, HoldsFlight, IsConsistent, Meets, NoFlight, disk_driven, disk_with, failed_at, found_by_crash, held, machine_of, nothing_beside, touches_disk}
+use Rattle.coord_ledger.specs.Facade.{Commit, Driven, FlightState, HeldTouches, Meets, NoFlight, disk_driven, disk_with, failed_at, found_by_crash, held, touches_disk}
 use Rattle.coord_ledger.proofs.drives.EachMoment.{commit_touches, held_untouched, told}
 use Rattle.coord_ledger.proofs.drives.Failures.{failed_aside, failed_committing}
 use Rattle.coord_ledger.proofs.meets.Commit.{meets_commit, meets_no_flight}
-use Rattle.coord_ledger.proofs.meets.Own.{own_consistent, own_follows}
 use Rattle.coord_ledger.proofs.driver.Driver.commit.Goals as goal
 use Rattle.coord_ledger.proofs.driver.Driver.commit.Goals.{in-None, in-Some+in-Ok, in-Some+in-Err}
 
@@ -60,33 +59,4 @@ returns-clause-meets g c =
           subst (λ a. Meets c.args.self.now Commit a new) (ap told w.in-Err.is ∙ sym w.result-is)
           (subst (λ (d : Driven g.row.D.Denot). Meets c.args.self.now Commit (told w.commit.result) d) (sym ((λ i. record { ledger = (w.self-inside-is i).ledger; flight = (w.self-inside-is i).flight }) ∙ (λ i. record { ledger = ledger i; flight = Some w.commit.new.self })))
           (meets_commit c.args.self.now w.in-Some.flight w.commit.new.self (flight w.in-Some.flight w.in-Some.is) w.commit.ensures.same_steps w.commit.result w.commit.ensures.tried w.commit.ensures.again w.commit.ensures.stopped))
-    ]
-
--- what it does to the disk, for its own machine
-pub returns-clause-touches : goal.returns-clause-touches
-returns-clause-touches g c =
-    let d = c.args.self.now in
-    let b = nothing_beside in
-    let s = machine_of d in
-    let kept = c.log_is_consistent.ensures in
-    let inside : Driven g.row.D.Denot = record { ledger = c.self.inside.ledger; flight = c.self.inside.flight } in
-    let is : IsConsistent s = subst (λ (x : Driven g.row.D.Denot). IsConsistent (machine_of x)) c.self.view_is (own_consistent inside c.self.invariant kept.log kept.out kept.doubted kept.stopped) in
-    let follows : Follows (held d b) s = own_follows d (subst (λ (x : Driven g.row.D.Denot). HoldsFlight x.ledger x.flight) c.self.view_is c.self.invariant) in
-    elim c.match-self.branch [
-      | in-None w ↦
-          subst (λ a. HeldTouches {D = g.row.D.Denot} g.D.Disk.keeps_model g.D.Disk.present g.D.Disk.clock g.D.Disk.left_since g.D.CrashDisk.crashes (found_by_crash s Commit a) (touches_disk Commit a) Commit (held c.args.self.now b) (held (record { ledger = c.match-self.self-inside.ledger; flight = c.match-self.self-inside.flight }) b)) (sym w.result-is)
-          (held_untouched g.D.Disk.present g.D.Disk.clock g.D.Disk.left_since g.D.CrashDisk.crashes g.D.Disk.keeps_model g.met.D.Disk.only_now s false Commit (held c.args.self.now b) (held (record { ledger = c.match-self.self-inside.ledger; flight = c.match-self.self-inside.flight }) b) refl
-          ((λ i. disk_with (w.self-inside-is i).ledger.disk (w.self-inside-is i).flight) ∙ ap disk_driven c.self.view_is) (c.survives.ensures b s is follows))
-      | in-Some+in-Ok w ↦
-          subst (λ a. HeldTouches {D = g.row.D.Denot} g.D.Disk.keeps_model g.D.Disk.present g.D.Disk.clock g.D.Disk.left_since g.D.CrashDisk.crashes (found_by_crash s Commit a) (touches_disk Commit a) Commit (held c.args.self.now b) (held (record { ledger = c.match-self.self-inside.ledger; flight = c.match-self.self-inside.flight }) b)) (ap told w.in-Ok.is ∙ sym w.result-is)
-          (commit_touches g.D.Disk.present g.D.Disk.clock g.D.Disk.left_since g.D.CrashDisk.crashes g.D.Disk.keeps_model g.met.D.Disk.only_now (held c.args.self.now b) s w.in-Some.flight w.commit.new.self is follows
-          (sym (ap (λ (d : Driven g.row.D.Denot). d.flight) c.self.view_is) ∙ w.in-Some.is) (c.survives.ensures b s is follows) (held (record { ledger = c.match-self.self-inside.ledger; flight = c.match-self.self-inside.flight }) b)
-          (λ i. disk_with (w.self-inside-is i).ledger.disk (w.self-inside-is i).flight) w.commit.result
-          w.commit.ensures.any_moment w.commit.ensures.any_moment_refused w.commit.ensures.tried w.commit.ensures.again w.commit.ensures.stopped)
-      | in-Some+in-Err w ↦
-          subst (λ a. HeldTouches {D = g.row.D.Denot} g.D.Disk.keeps_model g.D.Disk.present g.D.Disk.clock g.D.Disk.left_since g.D.CrashDisk.crashes (found_by_crash s Commit a) (touches_disk Commit a) Commit (held c.args.self.now b) (held (record { ledger = c.match-self.self-inside.ledger; flight = c.match-self.self-inside.flight }) b)) (ap told w.in-Err.is ∙ sym w.result-is)
-          (commit_touches g.D.Disk.present g.D.Disk.clock g.D.Disk.left_since g.D.CrashDisk.crashes g.D.Disk.keeps_model g.met.D.Disk.only_now (held c.args.self.now b) s w.in-Some.flight w.commit.new.self is follows
-          (sym (ap (λ (d : Driven g.row.D.Denot). d.flight) c.self.view_is) ∙ w.in-Some.is) (c.survives.ensures b s is follows) (held (record { ledger = c.match-self.self-inside.ledger; flight = c.match-self.self-inside.flight }) b)
-          (λ i. disk_with (w.self-inside-is i).ledger.disk (w.self-inside-is i).flight) w.commit.result
-          w.commit.ensures.any_moment w.commit.ensures.any_moment_refused w.commit.ensures.tried w.commit.ensures.again w.commit.ensures.stopped)
     ]
