@@ -4,9 +4,10 @@ use Rattle.std.specs.Option.{option_map}
 use Rattle.std.proofs.Math.Seq.{take-length}
 use Rattle.coord_disk.specs.Model.Present.{Present}
 use Rattle.coord_store.specs.Recovered.{Recovered}
-use Rattle.coord_ledger.specs.Facade.{Answer, Drives, EachMoment, Event, FlightOut, FlightState, Follows, Good, Held, HoldsFlight, ImagesGive, IsConsistent, IsLeft, IsOneOf, LedgerGives, LedgerState, Machine, Mark, New, Promised, Ran, Release, Torn, after_finish, brought_home, disk_held, disk_with, ended, finished, flight_out, kept, kept_by, releases_in, run, started, taken_back, world_after}
+use Rattle.coord_ledger.specs.Facade.{Answer, Driven, Drives, EachMoment, Event, FlightOut, FlightState, Follows, Good, Held, HoldsFlight, ImagesGive, IsConsistent, IsLeft, IsOneOf, LedgerGives, LedgerState, Machine, Mark, New, Promised, Ran, Release, Torn, after_finish, brought_home, disk_held, disk_with, ended, finished, flight_out, kept, kept_by, releases_in, run, started, taken_back, world_after}
 use Rattle.coord_ledger.proofs.follows.FollowsCalls.{ledger_images}
-use Rattle.coord_ledger.proofs.follows.FollowsFlights.{follows_back}
+use Rattle.coord_ledger.proofs.follows.FollowsMet.{follows_back}
+use Rattle.coord_ledger.proofs.meets.Finish.{meets_back}
 use Rattle.coord_ledger.proofs.drives.Drives.{Underway, same_model}
 use Rattle.coord_ledger.proofs.follows.FollowsCrashes.{images_follow}
 use Rattle.coord_ledger.proofs.machine.Safe.{finish_keeps_kept, prefix_from_images}
@@ -28,7 +29,8 @@ is_back {D} h s is follows = by_flight h.flight refl
     by_flight None none = record { held = h; ledger = refl; home = none; follows = subst (Follows h) (sym (ap (finished s) (sym follows.flight ∙ ap (option_map flight_out) none))) follows }
     by_flight (Some f) out =
         let back = taken_back h.ledger (length f.steps) f.mark f.disk in
-        let to = follows_back h s is follows f out back (releases_in f f.mark) refl refl in
+        let d : Driven D = record { ledger = h.ledger; flight = h.flight } in
+        let to = follows_back d (record { claims = h.claims; seen = h.seen; released = h.released }) s is follows f out back (releases_in f f.mark) refl refl (meets_back d f out back refl) in
         record { held = record h { ledger = back; flight = None; released = h.released ++ releases_in f f.mark }; ledger = refl; home = refl; follows = to.follows }
 
 is_left : {D : Type 0} (l : LedgerState D) (t : Machine) → IsBack l t → IsLeft t l

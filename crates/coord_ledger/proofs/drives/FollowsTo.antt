@@ -1,10 +1,9 @@
 -- What a driver makes of any event, and of a crash.
-use Rattle.std.proofs.Common.{◌≡◌, ℕ, Bool, true, false, List, [], Option, Some, None, Ok, Err, refl, sym, ap, ◌∙◌, subst, inl, inr, IfOk, OnErr, Result}
+use Rattle.std.proofs.Common.{◌≡◌, ℕ, Bool, true, false, List, Option, Some, Ok, Err, refl, sym, ap, ◌∙◌, subst, inl, inr, IfOk, OnErr, Result}
 use Rattle.coord_disk.specs.Model.Present.{Present}
 use Rattle.coord_store.proofs.Exclusion.{recovered_is_opened}
-use Rattle.coord_ledger.specs.Facade.{Answer, Crash, Event, FollowsTo, Held, ImagesGive, IsConsistent, IsCutShort, IsEventFault, IsPromised, IsReopenFault, IsReopened, LedgerState, Log, Machine, Opened, Release, RunFaultKind, kept, settled_world, world_after}
+use Rattle.coord_ledger.specs.Facade.{Answer, Crash, Event, FollowsTo, Held, ImagesGive, IsCutShort, IsEventFault, IsPromised, IsReopenFault, Log, Machine, Release, RunFaultKind, world_after}
 use Rattle.coord_ledger.specs.declared.trace.RunFaultKind.TheVariants.{OutOfMemory, Store}
-use Rattle.coord_ledger.proofs.follows.FollowsCalls.{follows_crash}
 
 -- ---- the event that it was
 
@@ -43,11 +42,3 @@ crash_fault model b present lost log counts (Store fault) is images cause = (
       let one = images keeps refused.image refused.allowed in
       recovered_is_opened refused.image (world_after log one.steps) fault one.recovered refused.refused,
 )
-
--- a ledger that was made anew follows it
-pub follows_reopened : {D : Type 0} (s : Machine) (keeps_model : D → Bool) (present : D → Present) (clock : D → ℕ) (left_since : D → ℕ → List ℕ → Type 0) (crashes : D → D → Type 0) (before : D) (l : LedgerState D) (released : List Release) → IsConsistent s → released ≡ s.released → ImagesGive (keeps_model before) (present before) s.log (kept s) → keeps_model before ≡ true → IsReopened keeps_model present clock left_since crashes before l →
-    FollowsTo s Crash (Opened (settled_world l.log).count) (record { ledger = l; flight = None; claims = []; seen = 0; released = released })
-follows_reopened {D} s keeps_model present clock left_since crashes before l released is given images keeps opened =
-    let from = opened.from keeps in
-    subst (λ (m : LedgerState D). FollowsTo s Crash (Opened (settled_world m.log).count) (record { ledger = m; flight = None; claims = []; seen = 0; released = released })) (sym opened.is)
-    (follows_crash s released (keeps_model before) (present before) from.image opened.world opened.disk is given images keeps from.allowed from.recovered)

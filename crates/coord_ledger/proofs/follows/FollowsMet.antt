@@ -1,5 +1,5 @@
 -- What a driver's calls say of its own log and flight, they say of those of the machine of a run: what is held goes on to follow it.
-use Rattle.std.proofs.Common.{◌≡◌, ◌+◌, [], ◌∷◌, ◌++◌, length, take, List, Option, Some, None, Ok, Err, append-nil, false, refl, sym, ap, ◌∙◌, subst, Result}
+use Rattle.std.proofs.Common.{◌≡◌, ℕ, ◌+◌, [], ◌∷◌, ◌++◌, length, take, List, Some, Ok, Err, append-nil, false, refl, sym, ap, ◌∙◌, subst, Result}
 use Rattle.std.specs.Option.{option_map}
 use Rattle.coord_world.specs.Facade.{outs}
 use Rattle.coord_ledger.specs.Facade.{Answer, Begin, Begun, Beside, Claim, Crash, Driven, Event, Finish, Finished, FlightState, Follows, FollowsTo, Fresh, Good, Handed, HandedTo, HoldsFlight, HoldsTickets, IsConsistent, IsOut, LedgerState, Log, Machine, Mark, Meets, New, Opened, Refusal, Release, Repeat, Shows, Step, Submit, Torn, Verdict, accepted_count, after, after_crash, after_submit, answer_to, at_home, claimed, finished, flight_out, held, is_crash, log_back, released_back, releases_in, releases_of, reply_of, settled_count, taken_back, verdict, with_accepted, with_claim, with_releases}
@@ -40,12 +40,12 @@ module _ {D : Type 0} (d : Driven D) (b : Beside) (s : Machine) (is : IsConsiste
 
   -- ---- a flight goes out, or none does
 
-  pub follows_begun : (new : Driven D) (a : Answer) → HoldsFlight new.ledger new.flight → Meets d Begin a new → new.ledger.log ≡ d.ledger.log → FollowsTo s Begin a (held new b)
-  follows_begun new a own meets same = met new b Begin a refl meets own (by_answer a)
+  pub follows_begun : (new : Driven D) (a : Answer) → HoldsFlight new.ledger new.flight → Meets d Begin a new → FollowsTo s Begin a (held new b)
+  follows_begun new a own meets = met new b Begin a refl meets own (by_answer a meets)
     where
-      by_answer : (a : Answer) → Keeps new.ledger.log b (after s Begin a)
-      by_answer (Begun n) = record { tickets = subst (λ g. HoldsTickets g b.claims s.tickets) (sym same) follows.tickets; seen = follows.seen; released = follows.released }
-      by_answer a = record { tickets = subst (λ g. HoldsTickets g b.claims s.tickets) (sym same) follows.tickets; seen = follows.seen; released = follows.released }
+      by_answer : (a : Answer) → Meets d Begin a new → Keeps new.ledger.log b (after s Begin a)
+      by_answer (Begun n) meets = record { tickets = subst (λ (m : Machine). HoldsTickets m.log b.claims s.tickets) (sym (meets.leaves s)) follows.tickets; seen = follows.seen; released = follows.released }
+      by_answer a meets = record { tickets = subst (λ (m : Machine). HoldsTickets m.log b.claims s.tickets) (sym (meets.leaves s)) follows.tickets; seen = follows.seen; released = follows.released }
 
   -- ---- a step is handed in
 
@@ -119,8 +119,8 @@ module _ {D : Type 0} (d : Driven D) (b : Beside) (s : Machine) (is : IsConsiste
 
   -- ---- the disk crashes
 
-  pub follows_opened : (l : LedgerState D) (a : Answer) → l.out ≡ None → Meets d Crash a (at_home l) → FollowsTo s Crash a (held (at_home l) (after_crash b))
-  follows_opened l a home meets = record {
-    allowed = shows_allowed d (at_home l) s is shows Crash a meets;
-    follows = shown (at_home l) (after_crash b) (after s Crash a) (shows_opened d (at_home l) s is shows a meets) home ?;
+  pub follows_opened : (new : Driven D) (count : ℕ) → HoldsFlight new.ledger new.flight → Meets d Crash (Opened count) new → FollowsTo s Crash (Opened count) (held new (after_crash b))
+  follows_opened new count own meets = record {
+    allowed = shows_allowed d new s is shows Crash (Opened count) meets;
+    follows = shown new (after_crash b) (after s Crash (Opened count)) (shows_opened d new s is shows (Opened count) meets) own (record { tickets = tt; seen = refl; released = follows.released });
   }

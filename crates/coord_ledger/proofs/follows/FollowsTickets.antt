@@ -2,7 +2,7 @@
 use Rattle.std.proofs.Common.{◌≡◌, ℕ, ◌≤◌, Bool, false, true, List, [], ◌∷◌, ◌++◌, length, Option, Some, None, refl, sym, ap, ◌∙◌, subst, arith, inl, inr, cond, is_some, nat_le}
 use Rattle.std.proofs.lemmas.Bool.Decides.{nat_tests}
 use Rattle.coord_types.specs.declared.refusals.Refusal.TheVariants.{OutOfMemory, Stopped}
-use Rattle.coord_ledger.specs.Facade.{Answer, Claim, Collect, Collected, Follows, FollowsTo, Held, HoldsTicket, IsCollectable, IsConsistent, IsGranted, IsOneOf, Log, Machine, NoTicket, Refused, Release, Reply, Resend, Resent, Show, Shown, Waiting, accepted_count, answers, reply_of, resent, settled_count, settled_world, spent, ticket, to_collect}
+use Rattle.coord_ledger.specs.Facade.{Answer, Claim, Collect, Collected, Follows, FollowsTo, Held, HoldsTicket, HoldsTickets, IsCollectable, IsConsistent, IsGranted, IsOneOf, Log, Machine, NoTicket, Refused, Release, Reply, Resend, Resent, Show, Shown, Waiting, accepted_count, answers, reply_of, resent, settled_count, settled_world, spent, ticket, to_collect}
 use Rattle.coord_world.specs.protocol.Outputs.{again}
 use Rattle.coord_view.specs.Shown.{shown}
 use Rattle.coord_ledger.proofs.follows.Granted.{holds_at, holds_spent}
@@ -11,6 +11,12 @@ use Rattle.coord_ledger.proofs.follows.Follows.{accepted_is, count_is, settled_i
 module _ {D : Type 0} (h : Held D) (s : Machine) (is : IsConsistent s) (follows : Follows h s) where
   abbrev log : Log
   log = h.ledger.log
+
+  -- an event that leaves the log and the flight
+  aside : (claims : List (Option Claim)) (seen : ℕ) (released : List Release) (tickets : List (Option Reply)) (shown : ℕ) (given : List Release) (replied : List Reply) → HoldsTickets log claims tickets → seen ≡ shown → released ≡ given →
+      Follows (record h { claims = claims; seen = seen; released = released }) (record s { tickets = tickets; seen = shown; released = given; replied = replied })
+  aside claims seen released tickets shown given replied holds same all =
+      record { by = follows.by; within = follows.within; log = follows.log; flight = follows.flight; own = follows.own; tickets = holds; seen = same; released = all }
 
   -- ---- collect
 
@@ -39,16 +45,7 @@ module _ {D : Type 0} (h : Held D) (s : Machine) (is : IsConsistent s) (follows 
         let low : nat_le claim.step (settled_count s.log) ≡ true = grind (arith, nat_tests, here) in
         record {
           allowed = may_collect (Collected (reply_of claim)) (subst (λ b. IsOneOf (Collected (reply_of claim)) (cond b (Collected (reply_of claim)) Waiting ∷ [])) (sym low) (inl refl));
-          follows = record {
-            by = follows.by;
-            within = follows.within;
-            log = follows.log;
-            flight = follows.flight;
-            own = follows.own;
-            tickets = holds_spent log h.claims s.tickets i follows.tickets;
-            seen = follows.seen;
-            released = follows.released;
-          };
+          follows = aside (spent h.claims i) h.seen h.released (spent s.tickets i) s.seen s.released (s.replied ++ reply_of claim ∷ []) (holds_spent log h.claims s.tickets i follows.tickets) follows.seen follows.released;
         }
 
     pub follows_waiting : (IsCollectable log claim → ⊥) → FollowsTo s (Collect i) Waiting h
@@ -66,16 +63,7 @@ module _ {D : Type 0} (h : Held D) (s : Machine) (is : IsConsistent s) (follows 
   follows_resent released given =
       record {
         allowed = inl (ap (λ w. Resent (length (again w))) (settled_is h s is follows));
-        follows = record {
-          by = follows.by;
-          within = follows.within;
-          log = follows.log;
-          flight = follows.flight;
-          own = follows.own;
-          tickets = follows.tickets;
-          seen = follows.seen;
-          released = given ∙ (λ i. follows.released i ++ resent (settled_is h s is follows i));
-        };
+        follows = aside h.claims h.seen released s.tickets s.seen (s.released ++ resent (settled_world s.log)) s.replied follows.tickets follows.seen (given ∙ (λ i. follows.released i ++ resent (settled_is h s is follows i)));
       }
 
   -- nothing greater was shown
@@ -89,16 +77,7 @@ module _ {D : Type 0} (h : Held D) (s : Machine) (is : IsConsistent s) (follows 
   follows_shown going =
       record {
         allowed = may_show false (Shown (shown (accepted_count log) (settled_world log))) going (inl (λ i. Shown (shown (accepted_is h s is follows i) (settled_is h s is follows i))));
-        follows = record {
-          by = follows.by;
-          within = follows.within;
-          log = follows.log;
-          flight = follows.flight;
-          own = follows.own;
-          tickets = follows.tickets;
-          seen = count_is h s is follows;
-          released = follows.released;
-        };
+        follows = aside h.claims (settled_count log) h.released s.tickets (settled_count s.log) s.released s.replied follows.tickets (count_is h s is follows) follows.released;
       }
 
   pub follows_not_shown : is_some h.ledger.log.doubt ≡ true → FollowsTo s Show (Refused Stopped) h

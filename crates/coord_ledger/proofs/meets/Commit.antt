@@ -23,7 +23,7 @@ module _ {D : Type 0} (d : Driven D) (f g : FlightState D) (holds : d.flight ≡
   may k mark a one m = subst (λ o. IsOneOf a (with_flight (option_map flight_out o) (λ x. to_commit x.mark))) (sym holds) (subst (λ x. IsOneOf a (to_commit x)) (sym mark) one)
 
   -- the machine with this flight
-  with_out : Machine → Option FlightOut → Machine
+  abbrev with_out : Machine → Option FlightOut → Machine
   with_out m o = record m { log = d.ledger.log; flight = o }
 
   now : (k : Mark) → g.mark ≡ k → Some (flight_out g) ≡ Some (record { size = length f.steps; mark = k })

@@ -1,10 +1,9 @@
 use Rattle.std.proofs.Common.{◌≡◌, length, Option, Some, None, Ok, sym, ap, ◌∙◌, subst, rules}
 use Rattle.coord_types.specs.declared.refusals.Refusal.TheVariants.{OutOfMemory}
-use Rattle.coord_ledger.specs.Facade.{Answer, Begin, Begun, Driven, FlightState, Follows, FollowsTo, HoldsFlight, LedgerState, Meets, Nothing, Refused, at_home, held}
-use Rattle.coord_ledger.proofs.follows.FollowsCalls.{follows_next}
-use Rattle.coord_ledger.proofs.follows.FollowsFlights.{follows_not_begun, follows_nothing}
+use Rattle.coord_ledger.specs.Facade.{Answer, Begin, Begun, Driven, FlightState, HoldsFlight, LedgerState, Meets, Nothing, Refused, at_home}
+use Rattle.coord_ledger.proofs.follows.FollowsMet.{follows_begun}
 use Rattle.coord_ledger.proofs.drives.Flights.{begun_err, begun_none, begun_some, departs_own}
-use Rattle.coord_ledger.proofs.meets.Begin.{meets_next, meets_not_begun, meets_nothing, meets_out}
+use Rattle.coord_ledger.proofs.meets.Begin.{meets_next, meets_not_begun, meets_nothing}
 use Rattle.coord_ledger.proofs.driver.Driver.begin.Goals as goal
 use Rattle.coord_ledger.proofs.driver.Driver.begin.Goals.{in-Ok-Some, in-Ok-None, in-Err}
 
@@ -22,40 +21,7 @@ invariant_of-result-2 g c =
           subst (λ (p : Answer × Option (FlightState g.row.D.Denot)). HoldsFlight c.begin_flush.new.self p.1) (sym w.answer-is) (ap (λ (l : LedgerState g.row.D.Denot). l.out) w.in-Err.ensures.err ∙ home)
     ]
 
-pub returns-clause-answered : goal.returns-clause-answered
-returns-clause-answered g c b s is follows =
-    let inside : Follows _ s = subst (λ (d : Driven g.row.D.Denot). Follows (held d b) s) (sym c.self.view_is) follows in
-    let empty : Follows (held (at_home c.self.inside.ledger) b) s = subst (λ o. Follows {D = g.row.D.Denot} (held (record { ledger = c.self.inside.ledger; flight = o }) b) s) c.in_default.is inside in
-    let To : Answer × Option (FlightState g.row.D.Denot) → Type 0 = λ p. FollowsTo s Begin p.0 (held (record { ledger = c.begin_flush.new.self; flight = p.1 }) b) in
-    elim c.match-begin_flush.branch [
-      | in-Ok-Some w ↦
-          let departs = begun_some c.self.inside.ledger c.begin_flush.new.self c.begin_flush.result c.begin_flush.ensures.nothing c.begin_flush.ensures.begun w.in-Ok-Some.flight (w.in-Ok-Some.is ∙ ap Ok w.in-Ok-Some.field-0-is) in
-          let many : w.len.result ≡ length w.flight.inside.steps.items = search rules in
-          let size : w.len.result ≡ length w.in-Ok-Some.flight.steps = many ∙ ap (λ (f : FlightState g.row.D.Denot). length f.steps) w.flight.view_is in
-          subst To (sym w.answer-is)
-          (subst (λ n. To (Begun n, Some w.in-Ok-Some.flight)) (sym size)
-          (follows_next _ s w.in-Ok-Some.flight c.begin_flush.new.self is empty departs.goes departs.is departs.now))
-      | in-Ok-None w ↦
-          let stays = begun_none c.self.inside.ledger c.begin_flush.new.self c.begin_flush.result c.begin_flush.ensures.nothing c.begin_flush.ensures.begun (w.in-Ok-None.is ∙ ap Ok w.in-Ok-None.field-0-is) in
-          subst To (sym w.answer-is)
-          (subst (λ l. FollowsTo s Begin Nothing (held (at_home l) b)) (sym stays.1)
-          (follows_nothing _ s is empty stays.0))
-      | in-Err w ↦
-          let goes = begun_err c.self.inside.ledger c.begin_flush.new.self c.begin_flush.result c.begin_flush.ensures.nothing c.begin_flush.ensures.begun _ w.in-Err.is in
-          subst To (sym w.answer-is)
-          (subst (λ l. FollowsTo s Begin (Refused OutOfMemory) (held (at_home l) b)) (sym w.in-Err.ensures.err)
-          (follows_not_begun _ s is empty goes))
-    ]
-
 -- it is an event of its machine
-
-pub returns-in-Some-clause-meets : goal.returns-in-Some-clause-meets
-returns-in-Some-clause-meets g c =
-    let l = c.self.inside.ledger in
-    let out : Driven g.row.D.Denot = record { ledger = l; flight = Some c.in-Some.flight } in
-    subst (λ (d : Driven g.row.D.Denot). Meets d Begin Nothing out) c.self.view_is
-    (subst (λ (o : Option (FlightState g.row.D.Denot)). Meets (record { ledger = l; flight = c.self.inside.flight }) Begin Nothing (record { ledger = l; flight = o })) c.in-Some.is
-    (meets_out (record { ledger = l; flight = c.self.inside.flight }) c.self.invariant c.in-Some.flight c.in-Some.is))
 
 pub returns-clause-meets : goal.returns-clause-meets
 returns-clause-meets g c =
@@ -83,3 +49,7 @@ returns-clause-meets g c =
           (subst (λ l. Meets c.args.self Begin (Refused OutOfMemory) (at_home l)) (sym w.in-Err.ensures.err)
           (subst (λ (d : Driven g.row.D.Denot). Meets d Begin (Refused OutOfMemory) (at_home c.self.inside.ledger)) same (meets_not_begun old home goes)))
     ]
+
+pub returns-clause-answered : goal.returns-clause-answered
+returns-clause-answered g c b s is follows =
+    follows_begun c.args.self b s is follows (record { ledger = c.begin_flush.new.self; flight = c.match-begin_flush.answer.1 }) c.match-begin_flush.answer.0 (invariant_of-result-2 g c) (returns-clause-meets g c)

@@ -1,8 +1,7 @@
-use Rattle.std.proofs.Common.{◌≡◌, None, Some, false, refl, sym, ap, ◌∙◌, subst}
-use Rattle.coord_ledger.specs.Facade.{Commit, Driven, FlightState, HeldTouches, Meets, NoFlight, disk_driven, disk_with, failed_at, found_by_crash, held, touches_disk}
+use Rattle.std.proofs.Common.{false, refl, sym, ap, ◌∙◌, subst}
+use Rattle.coord_ledger.specs.Facade.{Commit, Driven, HeldTouches, disk_driven, disk_with, failed_at, found_by_crash, held, touches_disk}
 use Rattle.coord_ledger.proofs.drives.EachMoment.{commit_touches, held_untouched, told}
 use Rattle.coord_ledger.proofs.drives.Failures.{failed_aside, failed_committing}
-use Rattle.coord_ledger.proofs.meets.Commit.{meets_commit, meets_no_flight}
 use Rattle.coord_ledger.proofs.driver.Driver.commit.Goals as goal
 use Rattle.coord_ledger.proofs.driver.Driver.commit.Goals.{in-None, in-Some+in-Ok, in-Some+in-Err}
 
@@ -41,22 +40,3 @@ returns-clause-failures g c n so =
     ]
 
 -- it is an event of its machine
-pub returns-clause-meets : goal.returns-clause-meets
-returns-clause-meets g c =
-    let new : Driven g.row.D.Denot = record { ledger = c.match-self.self-inside.ledger; flight = c.match-self.self-inside.flight } in
-    let flight = λ (f : FlightState g.row.D.Denot) (is : c.self.inside.flight ≡ Some f). sym (ap (λ (d : Driven g.row.D.Denot). d.flight) c.self.view_is) ∙ is in
-    let ledger = ap (λ (d : Driven g.row.D.Denot). d.ledger) c.self.view_is in
-    elim c.match-self.branch [
-      | in-None w ↦
-          let none : c.args.self.now.flight ≡ None = sym (ap (λ (d : Driven g.row.D.Denot). d.flight) c.self.view_is) ∙ w.in-None.is in
-          subst (λ a. Meets c.args.self.now Commit a new) (sym w.result-is)
-          (subst (λ (d : Driven g.row.D.Denot). Meets c.args.self.now Commit NoFlight d) (sym ((λ i. record { ledger = (w.self-inside-is i).ledger; flight = (w.self-inside-is i).flight }) ∙ c.self.view_is)) (meets_no_flight c.args.self.now none))
-      | in-Some+in-Ok w ↦
-          subst (λ a. Meets c.args.self.now Commit a new) (ap told w.in-Ok.is ∙ sym w.result-is)
-          (subst (λ (d : Driven g.row.D.Denot). Meets c.args.self.now Commit (told w.commit.result) d) (sym ((λ i. record { ledger = (w.self-inside-is i).ledger; flight = (w.self-inside-is i).flight }) ∙ (λ i. record { ledger = ledger i; flight = Some w.commit.new.self })))
-          (meets_commit c.args.self.now w.in-Some.flight w.commit.new.self (flight w.in-Some.flight w.in-Some.is) w.commit.ensures.same_steps w.commit.result w.commit.ensures.tried w.commit.ensures.again w.commit.ensures.stopped))
-      | in-Some+in-Err w ↦
-          subst (λ a. Meets c.args.self.now Commit a new) (ap told w.in-Err.is ∙ sym w.result-is)
-          (subst (λ (d : Driven g.row.D.Denot). Meets c.args.self.now Commit (told w.commit.result) d) (sym ((λ i. record { ledger = (w.self-inside-is i).ledger; flight = (w.self-inside-is i).flight }) ∙ (λ i. record { ledger = ledger i; flight = Some w.commit.new.self })))
-          (meets_commit c.args.self.now w.in-Some.flight w.commit.new.self (flight w.in-Some.flight w.in-Some.is) w.commit.ensures.same_steps w.commit.result w.commit.ensures.tried w.commit.ensures.again w.commit.ensures.stopped))
-    ]

@@ -1,24 +1,14 @@
 use Rattle.std.proofs.Common.{◌≡◌, ◌+◌, true, sym, ap, ◌∙◌, subst}
 use Rattle.std.specs.Option.{option_map}
 use Rattle.coord_world.specs.protocol.NumberedWorld.{World}
-use Rattle.coord_ledger.specs.Facade.{Crash, Driven, FollowsTo, ImagesGive, Meets, Opened, after_crash, at_home, disk_driven, failed_in, flight_out, held, kept_by, model_driven, settled_world}
-use Rattle.coord_ledger.proofs.follows.FollowsCrashes.{images_follow}
-use Rattle.coord_ledger.proofs.drives.FollowsTo.{crash_fault, follows_reopened, some_is}
+use Rattle.coord_ledger.specs.Facade.{Crash, Driven, HoldsFlight, ImagesGive, LedgerState, Meets, Opened, after_crash, at_home, disk_driven, failed_in, flight_out, held, kept_by, model_driven, settled_world}
+use Rattle.coord_ledger.proofs.follows.FollowsMet.{follows_opened}
+use Rattle.coord_ledger.proofs.drives.FollowsTo.{crash_fault, some_is}
 use Rattle.coord_ledger.proofs.drives.EachMoment.{crash_lost, crash_touches}
 use Rattle.coord_ledger.proofs.drives.Failures.{failed_as, failed_same, failed_so}
 use Rattle.coord_ledger.proofs.meets.Crash.{meets_opened}
 use Rattle.coord_ledger.proofs.meets.Own.{own_consistent}
 use Rattle.coord_ledger.proofs.driver.Driver.crash.Goals as goal
-
-pub returns-in-Ok-clause-answered : goal.returns-in-Ok-clause-answered
-returns-in-Ok-clause-answered g c b s is follows on =
-    let d = c.into_disk.result in
-    let keeps : g.D.Disk.keeps_model d ≡ true = some_is (g.D.Disk.keeps_model d) (sym (ap (option_map g.D.Disk.keeps_model) c.into_disk.ensures.disk) ∙ on) in
-    let images = images_follow (held c.args.self b) s (g.D.Disk.keeps_model d) (g.D.Disk.present d) follows c.into_disk.ensures.images in
-    let count = c.count-count.ensures ∙ ap (λ (w : World). w.count) c.settled.ensures in
-    subst (λ (x : Driven g.row.D.Denot). FollowsTo s Crash (Opened c.count-count.result) (held x (after_crash b))) (sym c.over.ensures)
-    (subst (λ n. FollowsTo {D = g.row.D.Denot} s Crash (Opened n) (held (at_home c.in-Ok.ledger) (after_crash b))) (sym count)
-    (follows_reopened s g.D.Disk.keeps_model g.D.Disk.present g.D.Disk.clock g.D.Disk.left_since g.D.CrashDisk.crashes d c.in-Ok.ledger b.released is follows.released images keeps c.in-Ok.ensures.opened))
 
 pub returns-in-Ok-clause-anew : goal.returns-in-Ok-clause-anew
 returns-in-Ok-clause-anew g c = record { world = c.in-Ok.ensures.opened.world; disk = c.in-Ok.ensures.opened.disk; is = c.over.ensures ∙ ap at_home c.in-Ok.ensures.opened.is }
@@ -62,3 +52,9 @@ returns-in-Ok-clause-meets g c on =
     let count = c.count-count.ensures ∙ ap (λ (w : World). w.count) c.settled.ensures in
     subst (λ (x : Driven g.row.D.Denot). Meets c.args.self Crash (Opened c.count-count.result) x) (sym c.over.ensures)
     (subst (λ n. Meets c.args.self Crash (Opened n) (at_home c.in-Ok.ledger)) (sym count) met)
+
+pub returns-in-Ok-clause-answered : goal.returns-in-Ok-clause-answered
+returns-in-Ok-clause-answered g c b s is follows on =
+    let home = ap (λ (l : LedgerState g.row.D.Denot). l.out) c.in-Ok.ensures.opened.is in
+    let own = subst (λ (d : Driven g.row.D.Denot). HoldsFlight d.ledger d.flight) (sym c.over.ensures) home in
+    follows_opened c.args.self b s is follows c.over.result c.count-count.result own (returns-in-Ok-clause-meets g c on)

@@ -1,15 +1,16 @@
 use Rattle.std.proofs.Common.{◌≡◌, ◌-◌, Some, Ok, sym, ap, ◌∙◌, subst}
-use Rattle.coord_ledger.specs.Facade.{Driven, Finish, Finished, FinishesTo, Follows, HoldsFlight, Meets, NoFlight, Refused, at_home, held, settled_count, settling_releases}
-use Rattle.coord_ledger.proofs.meets.Finish.{meets_back, meets_none_back, meets_refused_back}
+use Rattle.coord_ledger.specs.Facade.{Driven, Finish, Finished, FinishesTo, Follows, Meets, at_home, held, settled_count, settling_releases}
+use Rattle.coord_ledger.proofs.meets.Finish.{meets_back}
 use Rattle.coord_ledger.proofs.drives.Flights.{gave, same_base}
-use Rattle.coord_ledger.proofs.follows.FollowsFlights.{follows_back}
+use Rattle.coord_ledger.proofs.follows.FollowsMet.{follows_back}
 use Rattle.coord_ledger.proofs.driver.Driver.finish.Goals as goal
 
 pub returns-in-Ok-clause-answered : goal.returns-in-Ok-clause-answered
 returns-in-Ok-clause-answered g c b s is follows =
-    let inside : Follows _ s = subst (λ (d : Driven g.row.D.Denot). Follows (held d b) s) (sym c.self.view_is) follows in
+    let old : Driven g.row.D.Denot = record { ledger = c.self.inside.ledger; flight = c.self.inside.flight } in
+    let inside : Follows (held old b) s = subst (λ (d : Driven g.row.D.Denot). Follows (held d b) s) (sym c.self.view_is) follows in
     subst (λ (d : Driven g.row.D.Denot). FinishesTo s b (Ok (Some c.in-Ok.releases)) d) (sym c.over-in-Ok.ensures)
-    (follows_back _ s is inside c.in-Some.flight c.in-Some.is c.end_flush.new.self c.in-Ok.releases c.in-Ok.ensures.taken c.in-Ok.ensures.released)
+    (follows_back old b s is inside c.in-Some.flight c.in-Some.is c.end_flush.new.self c.in-Ok.releases c.in-Ok.ensures.taken c.in-Ok.ensures.released (meets_back old c.in-Some.flight c.in-Some.is c.end_flush.new.self c.in-Ok.ensures.taken))
 
 pub returns-in-Ok-clause-base : goal.returns-in-Ok-clause-base
 returns-in-Ok-clause-base g c =
@@ -23,24 +24,8 @@ returns-in-Ok-clause-released g c releases is =
 
 -- it is an event of its machine
 
-pub returns-in_default-clause-meets : goal.returns-in_default-clause-meets
-returns-in_default-clause-meets g c =
-    let old : Driven g.row.D.Denot = record { ledger = c.self.inside.ledger; flight = c.self.inside.flight } in
-    let same : c.over.result ≡ old = c.over.ensures ∙ (λ i. record { ledger = c.self.inside.ledger; flight = sym c.in_default.is i }) in
-    subst (λ (d : Driven g.row.D.Denot). Meets c.args.self Finish NoFlight d) (sym same)
-    (subst (λ (d : Driven g.row.D.Denot). Meets d Finish NoFlight old) c.self.view_is (meets_none_back old c.in_default.is))
-
 pub returns-in-Ok-clause-meets : goal.returns-in-Ok-clause-meets
 returns-in-Ok-clause-meets g c =
     let old : Driven g.row.D.Denot = record { ledger = c.self.inside.ledger; flight = c.self.inside.flight } in
     subst (λ (d : Driven g.row.D.Denot). Meets c.args.self Finish (Finished (settled_count d.ledger.log)) d) (sym c.over-in-Ok.ensures)
     (subst (λ (d : Driven g.row.D.Denot). Meets d Finish (Finished (settled_count c.end_flush.new.self.log)) (at_home c.end_flush.new.self)) c.self.view_is (meets_back old c.in-Some.flight c.in-Some.is c.end_flush.new.self c.in-Ok.ensures.taken))
-
-pub returns-in-Err-clause-meets : goal.returns-in-Err-clause-meets
-returns-in-Err-clause-meets g c =
-    let old : Driven g.row.D.Denot = record { ledger = c.self.inside.ledger; flight = c.self.inside.flight } in
-    let own = subst (HoldsFlight c.self.inside.ledger) c.in-Some.is c.self.invariant in
-    let new : Driven g.row.D.Denot = record { ledger = c.end_flush.new.self; flight = Some c.in-Err.flight } in
-    let same : old ≡ new = λ i. record { ledger = sym c.in-Err.ensures.unchanged i; flight = (c.in-Some.is ∙ ap Some (sym c.in-Err.ensures.back)) i } in
-    subst (λ (d : Driven g.row.D.Denot). Meets d Finish (Refused c.in-Err.refusal) new) c.self.view_is
-    (subst (λ (d : Driven g.row.D.Denot). Meets old Finish (Refused c.in-Err.refusal) d) same (meets_refused_back old c.in-Some.flight c.in-Some.is c.in-Err.refusal own c.in-Err.ensures.refused))
