@@ -2,13 +2,7 @@
 
 ghost use Rattle.std.specs.Prelude.{◌≡◌, IfErr, IfOk, IsSomeAnd, None, Some};
 ghost use Rattle.std.specs.Option.{option_map};
-ghost use Rattle.coord_ledger.specs.declared.mark.Mark.TheVariants.{Good};
-ghost use Rattle.coord_ledger.specs.ledger.Driven.{Beside, MayBegin, at_home, disk_driven, held};
-ghost use Rattle.coord_ledger.specs.ledger.Driver.{HeldSurvives, brought_home};
-ghost use Rattle.coord_ledger.specs.ledger.Follows.{Follows, ImagesGive, flight_out};
-ghost use Rattle.coord_ledger.specs.machine.Answers.{kept_by};
-ghost use Rattle.coord_ledger.specs.machine.Consistent.{IsConsistent};
-ghost use Rattle.coord_ledger.specs.machine.Machine.{Machine};
+ghost use Rattle.coord_ledger.specs.Facade.{Beside, Follows, Good, HeldSurvives, ImagesGive, IsConsistent, Machine, MayBegin, at_home, brought_home, disk_driven, flight_out, held, kept_by};
 
 mod crashing;
 mod flying;
@@ -36,8 +30,7 @@ pub struct Driver<D: CrashDisk> {
 }
 
 impl<D: CrashDisk> Model for Driver<D> {
-    ghost use Rattle.coord_ledger.specs.ledger.Driven.{Driven};
-    ghost use Rattle.coord_ledger.specs.ledger.Follows.{HoldsFlight};
+    ghost use Rattle.coord_ledger.specs.Facade.{Driven, HoldsFlight};
 
     ghost Value = { Driven D };
 

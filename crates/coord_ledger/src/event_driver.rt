@@ -2,11 +2,7 @@
 
 ghost use Rattle.std.specs.Prelude.{◌≡◌, ◌+◌, ℕ, IfErr, IfOk, MatchResult, None, Some, length, take};
 ghost use Rattle.std.specs.Option.{option_map};
-ghost use Rattle.coord_ledger.specs.ledger.Driver.{HasFailed};
-ghost use Rattle.coord_ledger.specs.ledger.State.{started};
-ghost use Rattle.coord_ledger.specs.promises.Broken.{Broke, HasCause};
-ghost use Rattle.coord_ledger.specs.promises.Faults.{failed_in, failed_until};
-ghost use Rattle.coord_ledger.specs.promises.Headline.{Promised, Ran};
+ghost use Rattle.coord_ledger.specs.Facade.{Broke, HasCause, HasFailed, Promised, Ran, failed_in, failed_until, started};
 
 mod crashes;
 mod ending;

@@ -99,8 +99,7 @@ fn copies(world: &World) -> Result<(World, World, World), AllocError>
 }
 
 impl<D: Disk> Ledger<D> {
-    ghost use Rattle.coord_ledger.specs.ledger.Calls.{LedgerGives};
-    ghost use Rattle.coord_ledger.specs.ledger.State.{ledger_over};
+    ghost use Rattle.coord_ledger.specs.Facade.{LedgerGives, ledger_over};
 
     /// A ledger over a store that has not stopped: its world is the base, and no step is accepted
     /// since.

@@ -3,19 +3,8 @@
 ghost use Rattle.std.specs.Prelude.{◌≡◌, ◌+◌, false, true, ℕ, IfErr, IfOk, MatchResult, Some};
 ghost use Rattle.coord_disk.specs.Model.Present.{IsImage};
 ghost use Rattle.coord_store.specs.Kept.{has_stopped};
-ghost use Rattle.coord_ledger.specs.declared.events.Answer.TheVariants.{Opened};
-ghost use Rattle.coord_ledger.specs.declared.events.Event.TheVariants.{Crash};
 ghost use Rattle.coord_ledger.specs.declared.trace.RunFaultKind.TheVariants.{OutOfMemory};
-ghost use Rattle.coord_ledger.specs.ledger.Driven.{Beside, IsAnew, after_crash, disk_driven, held, model_driven};
-ghost use Rattle.coord_ledger.specs.ledger.Driver.{HasFailed, HeldTouches, IsEventFault, IsLost, IsReopenFault, IsReopened};
-ghost use Rattle.coord_ledger.specs.ledger.Follows.{Follows, FollowsTo};
-ghost use Rattle.coord_ledger.specs.ledger.Meets.{Meets};
-ghost use Rattle.coord_ledger.specs.ledger.State.{ledger_over};
-ghost use Rattle.coord_ledger.specs.machine.Consistent.{IsConsistent};
-ghost use Rattle.coord_ledger.specs.machine.Log.{settled_count};
-ghost use Rattle.coord_ledger.specs.machine.Machine.{Machine};
-ghost use Rattle.coord_ledger.specs.promises.Faults.{failed_in};
-ghost use Rattle.coord_ledger.specs.promises.Moments.{Reopens};
+ghost use Rattle.coord_ledger.specs.Facade.{Beside, Crash, Follows, FollowsTo, HasFailed, HeldTouches, IsAnew, IsConsistent, IsEventFault, IsLost, IsReopenFault, IsReopened, Machine, Meets, Opened, Reopens, after_crash, disk_driven, failed_in, held, ledger_over, model_driven, settled_count};
 
 use super::Driver;
 use crate::{Ledger, RunFaultKind};

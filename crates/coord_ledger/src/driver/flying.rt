@@ -1,18 +1,7 @@
 //! Flights go out, are committed, and come back.
 
 ghost use Rattle.std.specs.Prelude.{◌≡◌, ◌+◌, ◌-◌, List, ℕ, Ok, Some};
-ghost use Rattle.coord_ledger.specs.declared.events.Event.TheVariants.{Begin, Commit, Finish};
-ghost use Rattle.coord_ledger.specs.declared.release.Release.{Release as Row};
-ghost use Rattle.coord_ledger.specs.ledger.Driven.{Beside, FinishesTo, disk_driven, held, model_driven};
-ghost use Rattle.coord_ledger.specs.ledger.Driver.{HasFailed, HeldTouches};
-ghost use Rattle.coord_ledger.specs.ledger.Follows.{Follows, FollowsTo};
-ghost use Rattle.coord_ledger.specs.ledger.Meets.{Meets, finish_answer};
-ghost use Rattle.coord_ledger.specs.machine.After.{settling_releases};
-ghost use Rattle.coord_ledger.specs.machine.Consistent.{IsConsistent};
-ghost use Rattle.coord_ledger.specs.machine.Machine.{Machine};
-ghost use Rattle.coord_ledger.specs.promises.Faults.{failed_at};
-ghost use Rattle.coord_ledger.specs.promises.Headline.{found_by_crash};
-ghost use Rattle.coord_ledger.specs.promises.Moments.{touches_disk};
+ghost use Rattle.coord_ledger.specs.Facade.{Begin, Beside, Commit, Finish, FinishesTo, Follows, FollowsTo, HasFailed, HeldTouches, IsConsistent, Machine, Meets, Release as Row, disk_driven, failed_at, finish_answer, found_by_crash, held, model_driven, settling_releases, touches_disk};
 
 use super::Driver;
 use crate::{Answer, Releases};

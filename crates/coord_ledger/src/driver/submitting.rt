@@ -1,13 +1,7 @@
 //! A step is handed in.
 
 ghost use Rattle.std.specs.Prelude.{◌≡◌};
-ghost use Rattle.coord_ledger.specs.declared.events.Event.TheVariants.{Submit};
-ghost use Rattle.coord_ledger.specs.ledger.Calls.{HandedTo};
-ghost use Rattle.coord_ledger.specs.ledger.Driven.{Beside, answer_to, disk_driven, held, with_claim};
-ghost use Rattle.coord_ledger.specs.ledger.Follows.{Follows, FollowsTo};
-ghost use Rattle.coord_ledger.specs.ledger.Meets.{Meets};
-ghost use Rattle.coord_ledger.specs.machine.Consistent.{IsConsistent};
-ghost use Rattle.coord_ledger.specs.machine.Machine.{Machine};
+ghost use Rattle.coord_ledger.specs.Facade.{Beside, Follows, FollowsTo, HandedTo, IsConsistent, Machine, Meets, Submit, answer_to, disk_driven, held, with_claim};
 
 use super::Driver;
 use crate::Handed;

@@ -1,13 +1,7 @@
 //! Crashes of the disk in a run.
 
 ghost use Rattle.std.specs.Prelude.{◌≡◌, ◌+◌, true, ℕ, IfErr, IfOk, MatchResult};
-ghost use Rattle.coord_ledger.specs.declared.events.Event.TheVariants.{Crash};
-ghost use Rattle.coord_ledger.specs.ledger.Driver.{HasFailed, HeldTouches, IsEventFault, IsLost, IsPromised, disk_held, model_of};
-ghost use Rattle.coord_ledger.specs.ledger.Follows.{Follows, FollowsTo};
-ghost use Rattle.coord_ledger.specs.machine.Consistent.{IsConsistent};
-ghost use Rattle.coord_ledger.specs.machine.Machine.{Machine};
-ghost use Rattle.coord_ledger.specs.promises.Broken.{IsCutShort};
-ghost use Rattle.coord_ledger.specs.promises.Faults.{failed_in};
+ghost use Rattle.coord_ledger.specs.Facade.{Crash, Follows, FollowsTo, HasFailed, HeldTouches, IsConsistent, IsCutShort, IsEventFault, IsLost, IsPromised, Machine, disk_held, failed_in, model_of};
 
 use super::flights::Broken;
 use super::released::forget_all;

@@ -1,13 +1,8 @@
 //! The end of a run.
 
 ghost use Rattle.std.specs.Prelude.{◌≡◌, List, None, IfErr, IfOk, IsSomeAnd, MatchResult, Some};
-ghost use Rattle.coord_ledger.specs.declared.events.Answer.{Answer as Reaction};
-ghost use Rattle.coord_ledger.specs.declared.events.Event.{Event as What};
-ghost use Rattle.coord_ledger.specs.declared.mark.Mark.TheVariants.{Good};
 ghost use Rattle.coord_ledger.specs.declared.trace.RunFaultKind.TheVariants.{OutOfMemory};
-ghost use Rattle.coord_ledger.specs.ledger.Driver.{Drives, disk_held};
-ghost use Rattle.coord_ledger.specs.ledger.State.{LedgerState, started};
-ghost use Rattle.coord_ledger.specs.promises.Headline.{Ran};
+ghost use Rattle.coord_ledger.specs.Facade.{Answer as Reaction, Drives, Event as What, Good, LedgerState, Ran, disk_held, started};
 
 use super::flights::Broken;
 use super::released::forget_all;

@@ -1,13 +1,8 @@
 //! The events of a run that move the store: a flight goes out and comes back, and the disk crashes.
 
 ghost use Rattle.std.specs.Prelude.{◌≡◌, IfErr, MatchResult, Some};
-ghost use Rattle.coord_ledger.specs.declared.events.Event.TheVariants.{Begin, Finish};
 ghost use Rattle.coord_ledger.specs.declared.trace.RunFaultKind.TheVariants.{OutOfMemory};
-ghost use Rattle.coord_ledger.specs.ledger.Driver.{disk_held};
-ghost use Rattle.coord_ledger.specs.ledger.Follows.{Follows, FollowsTo};
-ghost use Rattle.coord_ledger.specs.machine.Consistent.{IsConsistent};
-ghost use Rattle.coord_ledger.specs.machine.Machine.{Machine};
-ghost use Rattle.coord_ledger.specs.promises.Broken.{IsLeftOut};
+ghost use Rattle.coord_ledger.specs.Facade.{Begin, Finish, Follows, FollowsTo, IsConsistent, IsLeftOut, Machine, disk_held};
 
 use super::released::{forget_all, push_releases};
 use super::run::Run;

@@ -1,15 +1,7 @@
 //! What a run of events holds between two events.
 
 ghost use Rattle.std.specs.Prelude.{◌≡◌, ◌+◌, ℕ, IfOk, OnErr, Some};
-ghost use Rattle.coord_ledger.specs.declared.events.Event.TheVariants.{Submit, Collect, Resend, Show, Commit};
-ghost use Rattle.coord_ledger.specs.ledger.Driver.{HasFailed, HeldSurvives, HeldTouches, disk_held, model_of};
-ghost use Rattle.coord_ledger.specs.ledger.Follows.{Follows, FollowsTo};
-ghost use Rattle.coord_ledger.specs.machine.Consistent.{IsConsistent};
-ghost use Rattle.coord_ledger.specs.machine.Machine.{Machine};
-ghost use Rattle.coord_ledger.specs.promises.Broken.{IsLeftOut};
-ghost use Rattle.coord_ledger.specs.promises.Faults.{failed_at};
-ghost use Rattle.coord_ledger.specs.promises.Headline.{found_by_crash};
-ghost use Rattle.coord_ledger.specs.promises.Moments.{touches_disk};
+ghost use Rattle.coord_ledger.specs.Facade.{Collect, Commit, Follows, FollowsTo, HasFailed, HeldSurvives, HeldTouches, IsConsistent, IsLeftOut, Machine, Resend, Show, Submit, disk_held, failed_at, found_by_crash, model_of, touches_disk};
 
 use super::released::push_releases;
 use crate::{Answer, Driver, Handed, Release, Seen, Ticket};

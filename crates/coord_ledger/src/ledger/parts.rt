@@ -2,8 +2,7 @@
 
 ghost use Rattle.std.specs.Prelude.{◌≡◌, ◌+◌, ◌≤◌, is_none, is_some, length, None, Some, IfErr, IfOk, IfSome};
 ghost use Rattle.coord_store.specs.Kept.{has_stopped};
-ghost use Rattle.coord_ledger.specs.machine.Consistent.{FitsOut, IsConsistentLog};
-ghost use Rattle.coord_ledger.specs.machine.Log.{pending, settled_count, settled_world};
+ghost use Rattle.coord_ledger.specs.Facade.{FitsOut, IsConsistentLog, pending, settled_count, settled_world};
 
 use super::Ledger;
 use coord_disk::Disk;
