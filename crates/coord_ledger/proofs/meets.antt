@@ -1,7 +1,6 @@
 -- What a driver makes of each event, as its machine has it.
 pub mod Own
 pub mod Begin
-pub mod Commit
 pub mod Submit
 pub mod Finish
 pub mod Crash

@@ -1,10 +1,10 @@
 -- A flight goes out, or none does: an event of the driver's machine.
-use Rattle.std.proofs.Common.{◌≡◌, Bool, true, false, ◌||◌, ◌==◌, ◌∷◌, [], length, Option, Some, None, refl, sym, ap, ◌∙◌, subst, inl, inr, cond, is_some}
+use Rattle.std.proofs.Common.{◌≡◌, Bool, true, false, ◌∷◌, [], length, Option, Some, None, refl, sym, ap, ◌∙◌, subst, inl, inr, cond, is_some}
 use Rattle.std.proofs.lemmas.List.{length-take}
 use Rattle.std.specs.Option.{option_map}
 use Rattle.coord_types.specs.declared.limits.TheConstants.{MAX_BATCH_STEPS}
 use Rattle.coord_types.specs.declared.refusals.Refusal.TheVariants.{OutOfMemory}
-use Rattle.coord_ledger.specs.Facade.{Answer, Begin, Begun, Driven, FlightState, HoldsFlight, IsOneOf, LedgerState, Machine, Meets, Nothing, Refused, answers, flight_out, has_stopped, keeps_store, machine_of, next_size, pending, stays_home}
+use Rattle.coord_ledger.specs.Facade.{Answer, Begin, Begun, Driven, FlightState, HoldsFlight, IsOneOf, LedgerState, Machine, Meets, Nothing, Refused, answers, flight_out, keeps_store, machine_of, next_size, pending, stays_home}
 use Rattle.coord_ledger.proofs.drives.Flights.{Departs}
 
 module _ {D : Type 0} (d : Driven D) (own : HoldsFlight d.ledger d.flight) where
@@ -32,11 +32,3 @@ module _ {D : Type 0} (d : Driven D) (own : HoldsFlight d.ledger d.flight) where
 
   pub meets_not_begun : keeps_store d.ledger ≡ false → Meets d Begin (Refused OutOfMemory) d
   meets_not_begun goes = record { allowed = may false goes (Refused OutOfMemory) (inr (inl refl)); leaves = λ m. refl }
-
-  -- while one is out none goes
-  pub meets_out : (f : FlightState D) → d.flight ≡ Some f → Meets d Begin Nothing d
-  meets_out f holds = meets_nothing (home_is ∙ ap (λ o. stays_home (is_some (option_map flight_out o)) d.ledger.log) holds ∙ always (has_stopped d.ledger.log))
-    where
-      always : (b : Bool) → (b || true || (length (pending d.ledger.log) == 0)) ≡ true
-      always true = refl
-      always false = refl

@@ -4,7 +4,7 @@ use Rattle.std.specs.Option.{option_map}
 use Rattle.coord_disk.specs.Model.Present.{Present}
 use Rattle.coord_store.proofs.OneWorld.{recovered_is_one}
 use Rattle.coord_world.specs.Facade.{World}
-use Rattle.coord_ledger.specs.Facade.{Crash, Driven, ImagesGive, IsConsistent, IsOneOf, IsReopened, LedgerState, Machine, Meets, Opened, adopted, answers, at_home, flight_out, kept, kept_by, machine_of, settled_world, started, world_after}
+use Rattle.coord_ledger.specs.Facade.{Crash, Driven, ImagesGive, IsConsistent, IsOneOf, IsReopened, LedgerState, Meets, Opened, adopted, answers, at_home, flight_out, kept, kept_by, machine_of, settled_world, started, world_after}
 use Rattle.coord_ledger.proofs.machine.ConsistentFlights.{kept_more}
 use Rattle.coord_ledger.proofs.machine.Lists.{one_mapped}
 use Rattle.coord_ledger.proofs.machine.Logs.{count_after}

@@ -1,14 +1,7 @@
--- A flight comes back, or not: an event of the driver's machine.
-use Rattle.std.proofs.Common.{◌≡◌, ℕ, ◌+◌, length, Option, Some, None, refl, sym, ap, subst, arith, inl, inr}
+-- A flight comes back: an event of the driver's machine.
+use Rattle.std.proofs.Common.{◌≡◌, ℕ, length, Some, refl, sym, ap, subst, arith, inl}
 use Rattle.std.specs.Option.{option_map}
-use Rattle.coord_types.specs.declared.refusals.Refusal.TheVariants.{OutOfMemory, Stranger}
-use Rattle.coord_ledger.specs.Facade.{Answer, Driven, Finish, Finished, FlightState, Good, IsOneOf, IsOut, LedgerState, Log, Machine, Mark, Meets, New, NoFlight, Refusal, Refused, RefusesFlight, Torn, after_finish, answers, at_home, finished, flight_out, log_back, machine_of, settled_count, taken_back, to_finish, with_flight}
-
-pub meets_none_back : {D : Type 0} (d : Driven D) → d.flight ≡ None → Meets d Finish NoFlight d
-meets_none_back d none = record {
-  allowed = λ m. subst (λ o. IsOneOf NoFlight (with_flight (option_map flight_out o) (λ x. to_finish (settled_count d.ledger.log) x.size x.mark))) (sym none) (inl refl);
-  leaves = λ m. refl;
-}
+use Rattle.coord_ledger.specs.Facade.{Answer, Driven, Finish, Finished, FlightState, Good, IsOneOf, LedgerState, Log, Machine, Mark, Meets, New, Torn, after_finish, answers, at_home, finished, flight_out, log_back, machine_of, settled_count, taken_back, to_finish, with_flight}
 
 module _ {D : Type 0} (d : Driven D) (f : FlightState D) (holds : d.flight ≡ Some f) where
   may : (a : Answer) → IsOneOf a (to_finish (settled_count d.ledger.log) (length f.steps) f.mark) → (m : Machine) → IsOneOf a (answers (machine_of d m) Finish)
@@ -27,12 +20,3 @@ module _ {D : Type 0} (d : Driven D) (f : FlightState D) (holds : d.flight ≡ S
         allowed = may (Finished (settled_count back.log)) (subst (λ g. IsOneOf (Finished (settled_count g)) (to_finish (settled_count d.ledger.log) (length f.steps) f.mark)) (sym same) (counted d.ledger.log (length f.steps) f.mark));
         leaves = λ m. subst (λ o. machine_of (at_home back) (finished (machine_of d m) (option_map flight_out o)) ≡ finished (machine_of d m) (option_map flight_out o)) (sym holds) (λ i. record (after_finish (machine_of d m) (length f.steps) f.mark) { log = same i });
       }
-
-  pub meets_refused_back : (refusal : Refusal) → IsOut d.ledger f → RefusesFlight d.ledger f refusal → Meets d Finish (Refused refusal) d
-  meets_refused_back Stranger own refuses = absurd (refuses own)
-  -- there is no memory for the list of what it releases
-  meets_refused_back OutOfMemory own refuses = record {
-    allowed = may (Refused OutOfMemory) (subst (λ k. IsOneOf (Refused OutOfMemory) (to_finish (settled_count d.ledger.log) (length f.steps) k)) (sym refuses.1) (inr (inl refl)));
-    leaves = λ m. refl;
-  }
-  meets_refused_back refusal own refuses = absurd refuses

@@ -1,7 +1,7 @@
 -- A driver that is where the machine of a run is goes on to be there: what its calls say of their own log and flight, they say of those of the whole run.
-use Rattle.std.proofs.Common.{◌≡◌, ℕ, ◌+◌, ◌-◌, ◌≤◌, false, List, [], ◌∷◌, map, refl, sym, ap, ◌∙◌, subst, arith, inl, inr}
+use Rattle.std.proofs.Common.{◌≡◌, ℕ, ◌+◌, ◌-◌, false, List, [], ◌∷◌, map, refl, sym, ap, ◌∙◌, subst, arith, inl, inr}
 use Rattle.coord_ledger.specs.laws.Moving.{with_base_moved}
-use Rattle.coord_ledger.specs.Facade.{Answer, Crash, Driven, Event, IsConsistent, IsOneOf, Log, Machine, Meets, Opened, Shows, adopted, after, answers, crashed, goes_to, is_crash, kept, machine_of, moved, world_after}
+use Rattle.coord_ledger.specs.Facade.{Answer, Crash, Driven, Event, IsConsistent, IsOneOf, Machine, Meets, Opened, Shows, adopted, after, answers, crashed, goes_to, is_crash, kept, machine_of, moved, world_after}
 use Rattle.coord_ledger.proofs.machine.ConsistentFlights.{kept_more}
 use Rattle.coord_ledger.proofs.machine.Logs.{moved_base, world-add}
 use Rattle.coord_ledger.proofs.machine.Moved.{crash_reopens, moved_answers_alike, moved_goes_on}

@@ -1,10 +1,9 @@
 -- A step is handed in: an event of the driver's machine.
 use Rattle.std.proofs.Common.{◌≡◌, ◌+◌, Result, Ok, Err, refl, sym, ap, ◌∙◌, subst, inl, inr}
 use Rattle.coord_world.specs.declared.verdicts.Verdict.{Verdict}
-use Rattle.coord_ledger.specs.Facade.{Answer, Claim, Driven, Fresh, Handed, HandedTo, IsOneOf, LedgerState, Machine, Meets, Refusal, RefusesStep, Repeat, Step, Submit, accepted_count, after_submit, answer_to, claimed, machine_of, to_submit, verdict, with_accepted}
+use Rattle.coord_ledger.specs.Facade.{Answer, Claim, Driven, Fresh, Handed, HandedTo, IsOneOf, LedgerState, Machine, Meets, Refusal, RefusesStep, Repeat, Step, Submit, accepted_count, after_submit, answer_to, claimed, machine_of, to_submit, verdict}
 use Rattle.coord_ledger.specs.declared.events.Answer.TheVariants as answer
 use Rattle.coord_ledger.specs.declared.handed.Handed.TheVariants.{Accepted, Repeated}
-use Rattle.coord_types.specs.declared.refusals.Refusal.TheVariants.{OutOfMemory}
 use Rattle.coord_ledger.proofs.machine.ConsistentSteps.{reply_is}
 
 module _ {D : Type 0} (d : Driven D) (new : LedgerState D) (x : Step) where

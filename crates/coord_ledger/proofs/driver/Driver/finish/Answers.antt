@@ -23,9 +23,3 @@ returns-in-Ok-clause-released g c releases is =
     sym same ∙ gives ∙ (λ i. settling_releases (c.self.view_is i).ledger.log ((sym c.over-in-Ok.ensures i).ledger.log.settled - (c.self.view_is i).ledger.log.settled))
 
 -- it is an event of its machine
-
-pub returns-in-Ok-clause-meets : goal.returns-in-Ok-clause-meets
-returns-in-Ok-clause-meets g c =
-    let old : Driven g.row.D.Denot = record { ledger = c.self.inside.ledger; flight = c.self.inside.flight } in
-    subst (λ (d : Driven g.row.D.Denot). Meets c.args.self Finish (Finished (settled_count d.ledger.log)) d) (sym c.over-in-Ok.ensures)
-    (subst (λ (d : Driven g.row.D.Denot). Meets d Finish (Finished (settled_count c.end_flush.new.self.log)) (at_home c.end_flush.new.self)) c.self.view_is (meets_back old c.in-Some.flight c.in-Some.is c.end_flush.new.self c.in-Ok.ensures.taken))
