@@ -25,11 +25,12 @@ pub use Rattle.coord_ledger.specs.machine.After.{after, after_finish, after_subm
 pub use Rattle.coord_ledger.specs.machine.Runs.{Answered, run}
 pub use Rattle.coord_ledger.specs.machine.Consistent.{DoubtFits, EventInRange, FitsOut, FlightFits, IsConsistent, IsConsistentLog, IsTold, TicketFits}
 pub use Rattle.coord_ledger.specs.ledger.State.{Claim, FlightState, IsCollectable, IsGranted, IsInTrail, IsKeptBy, LedgerState, ledger_over, reply_of, started}
-pub use Rattle.coord_ledger.specs.ledger.Follows.{Follows, FollowsTo, GivesOneOf, Held, HoldsFlight, HoldsTicket, HoldsTickets, ImagesGive, IsOut, flight_out}
+pub use Rattle.coord_ledger.specs.ledger.Follows.{GivesOneOf, HoldsFlight, ImagesGive, IsOut, flight_out}
 pub use Rattle.coord_ledger.specs.ledger.Calls.{FlightGives, GivesFlown, GivesSettled, HandedTo, LedgerGives, RefusesFlight, RefusesStep, claimed, keeps_store, next_flight, releases_in, taken_back, with_accepted, with_out}
-pub use Rattle.coord_ledger.specs.ledger.Driver.{Drives, HasFailed, HeldSurvives, HeldTouches, IsEventFault, IsLost, IsPromised, IsReopenFault, IsReopened, brought_home, disk_held, disk_with, model_of}
-pub use Rattle.coord_ledger.specs.ledger.Driven.{Beside, Driven, FinishesTo, IsAnew, MayBegin, after_crash, answer_to, at_home, disk_driven, held, model_driven, nothing_beside, with_claim, with_releases}
-pub use Rattle.coord_ledger.specs.ledger.Meets.{Meets, Shows, finish_answer, goes_to, machine_of}
+pub use Rattle.coord_ledger.specs.ledger.Driver.{Drives, HasFailed, HeldSurvives, HeldTouches, IsEventFault, IsLost, IsPromised, IsReopenFault, IsReopened, MayBegin, brought_home}
+pub use Rattle.coord_ledger.specs.ledger.Driven.{Driven, IsAnew, answer_to, at_home, disk_driven, disk_with, finish_answer, model_driven}
+pub use Rattle.coord_ledger.specs.ledger.Meets.{Meets, Shows, goes_to, machine_of}
+pub use Rattle.coord_ledger.specs.ledger.Held.{Follows, FollowsTo, Held, HoldsTicket, HoldsTickets}
 pub use Rattle.coord_ledger.specs.promises.Parts.{IsPartOf, released_first}
 pub use Rattle.coord_ledger.specs.promises.Moments.{LeavesWithin, Reopens, touches_disk}
 pub use Rattle.coord_ledger.specs.promises.Headline.{CrashPrefix, EachMoment, IsAgainOf, IsLeft, IsReplyOf, IsSafe, IsTrulyAgain, Promised, Ran, Survives, Touches, ended, found_by_crash, is_crash, is_signal}

@@ -2,6 +2,7 @@
 pub mod State
 pub mod Follows
 pub mod Calls
-pub mod Driver
 pub mod Driven
 pub mod Meets
+pub mod Driver
+pub mod Held

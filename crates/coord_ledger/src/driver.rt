@@ -2,7 +2,7 @@
 
 ghost use Rattle.std.specs.Prelude.{◌≡◌, IfErr, IfOk, IsSomeAnd, None, Some};
 ghost use Rattle.std.specs.Option.{option_map};
-ghost use Rattle.coord_ledger.specs.Facade.{Beside, Follows, Good, HeldSurvives, ImagesGive, IsConsistent, Machine, MayBegin, at_home, brought_home, disk_driven, flight_out, held, kept_by};
+ghost use Rattle.coord_ledger.specs.Facade.{Good, HeldSurvives, ImagesGive, IsConsistent, Machine, MayBegin, Shows, at_home, brought_home, disk_driven, flight_out, kept_by};
 
 mod crashing;
 mod flying;
@@ -16,14 +16,14 @@ use std::marker::Model;
 /// shown and what was released are its holder's, so nothing in it grows but the ledger. It has to be
 /// spent, by `into_disk`.
 ///
-/// Each call is an event of the event machine, whatever the holder has beside it (`answered`): what
-/// it is answered is one of the machine's answers, and what is held then follows the machine. It
-/// says what it does to the disk at each of its moments (`disk`), and how much of the ledger's log
-/// stays, so that a holder reads the ledger off the machine. Replies, resends and views are the
-/// ledger's own calls, which change nothing: [`Driver::ledger`].
+/// Each call is an event of the event machine, whatever the holder has beside it (`meets`): what it
+/// is answered is one of the machine's answers, and the driver is then where the machine goes with
+/// it. It says what it does to the disk at each of its moments (`disk`), for each machine that the
+/// driver shows. Replies, resends and views are the ledger's own calls, which change nothing:
+/// [`Driver::ledger`].
 ///
-/// Contracts see `Driven` (`specs/ledger/Driven.antt`); its type keeps that the flight is the
-/// ledger's own.
+/// Contracts see `Driven` (`specs/ledger/Driven.antt`), and the machine of it
+/// (`specs/ledger/Meets.antt`); its type keeps that the flight is the ledger's own.
 pub struct Driver<D: CrashDisk> {
     ledger: Ledger<D>,
     flight: Option<Flight<D>>,
@@ -62,8 +62,8 @@ impl<D: CrashDisk> Driver<D> {
     /// may leave between two events is the world after a prefix of the accepted steps that holds all
     /// that was released, and a legal one.
     pub fn survives(&self)
-        ensures { (b : Beside) (s : Machine) → IsConsistent s → Follows (held self.now b) s →
-            HeldSurvives D.keeps_model D.present (held self.now b) s }
+        ensures { (s : Machine) → IsConsistent s → Shows self.now s →
+            HeldSurvives D.keeps_model D.present (disk_driven self.now) s }
     {
         match &self.flight {
             Some(flight) => flight.images_give_world(),

@@ -3,9 +3,10 @@ use Rattle.std.proofs.Common.{◌≡◌, ℕ, ◌<◌, Bool, List, [], length, g
 use Rattle.std.specs.Option.{option_map}
 use Rattle.std.proofs.lemmas.Option.{slice_get_past}
 use Rattle.coord_disk.specs.Model.Present.{Present}
-use Rattle.coord_ledger.specs.Facade.{Answer, Broke, Drives, EndsAt, Event, FlightOut, FlightState, Follows, Good, HasCause, Held, IsCommitted, IsConsistent, IsCutShort, IsEventFault, IsGivenBack, IsGivenUp, IsLost, IsPromised, LedgerState, Machine, Promised, Release, RunFaultKind, disk_held, flight_out, model_of, run, started}
+use Rattle.coord_ledger.specs.Facade.{Answer, Broke, EndsAt, Event, FlightOut, FlightState, Follows, Good, HasCause, Held, IsCommitted, IsConsistent, IsCutShort, IsEventFault, IsGivenBack, IsGivenUp, IsLost, IsPromised, LedgerState, Machine, Promised, Release, RunFaultKind, disk_driven, flight_out, model_driven, run, started}
 use Rattle.coord_ledger.specs.declared.trace.RunFaultKind.TheVariants.{OutOfMemory, Store}
-use Rattle.coord_ledger.proofs.drives.Drives.{Underway, event_promised, event_there, model_there, same_model}
+use Rattle.coord_ledger.proofs.follows.Follows.{flight_is}
+use Rattle.coord_ledger.proofs.drives.Drives.{Holds, Underway, event_promised, event_there, model_there, same_model}
 
 -- the flight that is held was committed
 committed : {D : Type 0} (f : Option (FlightState D)) (o : Option FlightOut) → option_map flight_out f ≡ o → IsSomeAnd f (λ g. g.mark ≡ Good) → IsCommitted o
@@ -14,22 +15,23 @@ committed (Some f) o is good = (length f.steps, sym is ∙ ap (λ m. Some (recor
 
 module _ {D : Type 0} (present : D → Present) (clock : D → ℕ) (left_since : D → ℕ → List ℕ → Type 0) (crashes : D → D → Type 0) where
   -- for want of memory, with the disk as it is held
-  given_up : (on : Bool) (first lost : D) (start : LedgerState D) (events : List Event) (given : List Answer) (h : Held D) (kind : RunFaultKind) (released : List Release) → (drives : Drives present clock left_since crashes on first start events given h) → kind ≡ OutOfMemory → released ≡ h.released → disk_held h ≡ Some lost →
-      IsGivenUp (run (started start) events given) kind released drives.disk lost
-  given_up on first lost start events given h kind released drives memory kept there = record { memory = memory; released_is = kept ∙ drives.follows.released; same = let same : lost ≡ drives.disk = cc (there, drives.holds) in same }
+  given_up : (on : Bool) (first lost : D) (start : LedgerState D) (events : List Event) (given : List Answer) (h : Held D) (kind : RunFaultKind) (released : List Release) → (all : Holds present clock left_since crashes on first start events given h) → kind ≡ OutOfMemory → released ≡ h.released → disk_driven h.driver ≡ Some lost →
+      IsGivenUp (run (started start) events given) kind released all.drives.disk lost
+  given_up on first lost start events given h kind released all memory kept there = record { memory = memory; released_is = kept ∙ all.follows.released; same = let same : lost ≡ all.drives.disk = cc (there, all.drives.holds) in same }
 
   -- ---- in the loop
 
   module _ (keeps_model : D → Bool) (start : LedgerState D) (events : List Event) (at : ℕ) (given : List Answer) (h : Held D) (way : Underway present clock left_since crashes keeps_model start events at given h) where
     -- behind the last event
-    pub broke_after : (at2 : ℕ) (given2 : List Answer) (kind : RunFaultKind) (released : List Release) (lost : D) → at ≡ length events → at2 ≡ at → given2 ≡ given → kind ≡ OutOfMemory → released ≡ h.released → disk_held h ≡ Some lost → IsSomeAnd h.flight (λ f. f.mark ≡ Good) →
+    pub broke_after : (at2 : ℕ) (given2 : List Answer) (kind : RunFaultKind) (released : List Release) (lost : D) → at ≡ length events → at2 ≡ at → given2 ≡ given → kind ≡ OutOfMemory → released ≡ h.released → disk_driven h.driver ≡ Some lost → IsSomeAnd h.driver.flight (λ f. f.mark ≡ Good) →
         (before : D) → start.disk ≡ Some before → Promised (keeps_model before) events (Broke present clock left_since crashes (started start) events at2 given2 released kind (keeps_model before) before lost)
     broke_after at2 given2 kind released lost last here same memory kept there good before disk promised =
-        let drives = way.drives before disk promised in
+        let all = way.holds before disk promised in
+        let drives = all.drives in
         let s = run (started start) (take at events) given in
         let past : slice_get events at ≡ None = slice_get_past events at (omega (arith, last)) in
         let ends : EndsAt present clock left_since crashes (keeps_model before) s None kind released drives.disk lost =
-        (given_up (keeps_model before) before lost start (take at events) given h kind released drives memory kept there, committed h.flight s.flight drives.follows.flight good) in
+        (given_up (keeps_model before) before lost start (take at events) given h kind released all memory kept there, committed h.driver.flight s.flight (flight_is h.driver s drives.shows) good) in
         let one : Broke present clock left_since crashes (started start) events at given released kind (keeps_model before) before lost =
         record {
           within = omega (arith, last);
@@ -43,17 +45,18 @@ module _ {D : Type 0} (present : D → Present) (clock : D → ℕ) (left_since 
 
     module _ (e : Event) (below : at < length events) (is : e ≡ get_or events at e) where
       -- an event was cut short
-      pub broke_meeting : (at2 : ℕ) (given2 : List Answer) (kind : RunFaultKind) (released : List Release) (lost : D) → at2 ≡ at → given2 ≡ given → ((s : Machine) → IsConsistent s → Follows h s → IsPromised (model_of keeps_model h) e → IsCutShort s e kind released) →
-          ((s : Machine) → IsConsistent s → Follows h s → IsLost keeps_model present clock left_since crashes s e kind h lost) →
+      pub broke_meeting : (at2 : ℕ) (given2 : List Answer) (kind : RunFaultKind) (released : List Release) (lost : D) → at2 ≡ at → given2 ≡ given → ((s : Machine) → IsConsistent s → Follows h s → IsPromised (model_driven keeps_model h.driver) e → IsCutShort s e kind released) →
+          ((s : Machine) → IsConsistent s → Follows h s → IsLost keeps_model present clock left_since crashes s e kind (disk_driven h.driver) lost) →
           (before : D) → start.disk ≡ Some before → Promised (keeps_model before) events (Broke present clock left_since crashes (started start) events at2 given2 released kind (keeps_model before) before lost)
       broke_meeting at2 given2 kind released lost here same cut back before disk promised =
-          let drives = way.drives before disk promised in
+          let all = way.holds before disk promised in
+          let drives = all.drives in
           let s = run (started start) (take at events) given in
           let on = event_promised present clock left_since crashes keeps_model start events at given h way e below is before disk promised in
           let there = event_there present clock left_since crashes keeps_model start events at given h way e below is in
           let model = same_model present clock left_since crashes keeps_model start events at given h way before drives.disk disk drives.holds in
-          let its = subst (λ b. IsGivenBack present clock left_since crashes b s e kind drives.disk lost) model (back s drives.consistent drives.follows drives.disk drives.holds) in
-          let ends : EndsAt present clock left_since crashes (keeps_model before) s (Some e) kind released drives.disk lost = (cut s drives.consistent drives.follows on, its) in
+          let its = subst (λ b. IsGivenBack present clock left_since crashes b s e kind drives.disk lost) model (back s drives.consistent all.follows drives.disk drives.holds) in
+          let ends : EndsAt present clock left_since crashes (keeps_model before) s (Some e) kind released drives.disk lost = (cut s drives.consistent all.follows on, its) in
           let one : Broke present clock left_since crashes (started start) events at given released kind (keeps_model before) before lost =
           record {
             within = omega (arith, below);
@@ -65,29 +68,30 @@ module _ {D : Type 0} (present : D → Present) (clock : D → ℕ) (left_since 
           subst (λ n. Broke present clock left_since crashes (started start) events n given2 released kind (keeps_model before) before lost) (sym here)
           (subst (λ l. Broke present clock left_since crashes (started start) events at l released kind (keeps_model before) before lost) (sym same) one)
 
-      pub caused : (at2 : ℕ) (kind : RunFaultKind) (released : List Release) → at2 ≡ at → IsEventFault (model_of keeps_model h) e kind → (before : D) → start.disk ≡ Some before → HasCause (keeps_model before) events at2 released kind
+      pub caused : (at2 : ℕ) (kind : RunFaultKind) (released : List Release) → at2 ≡ at → IsEventFault (model_driven keeps_model h.driver) e kind → (before : D) → start.disk ≡ Some before → HasCause (keeps_model before) events at2 released kind
       caused at2 kind released here cause before disk = subst (λ n. HasCause (keeps_model before) events n released kind) (sym here) (by_kind kind cause)
         where
           there : slice_get events at ≡ Some e
           there = event_there present clock left_since crashes keeps_model start events at given h way e below is
 
-          by_kind : (k : RunFaultKind) → IsEventFault (model_of keeps_model h) e k → HasCause (keeps_model before) events at released k
+          by_kind : (k : RunFaultKind) → IsEventFault (model_driven keeps_model h.driver) e k → HasCause (keeps_model before) events at released k
           by_kind OutOfMemory cause = inr (inr (e, (there, cause)))
           by_kind (Store fault) cause =
               (there ∙ ap Some cause.0, cause.1, λ on. cause.2 (model_there present clock left_since crashes keeps_model start events at given h way e below is before disk ∙ ap Some on))
 
   -- before the first event
-  pub broke_first : (keeps_model : D → Bool) (start : LedgerState D) (events : List Event) (at2 : ℕ) (given2 : List Answer) (h : Held D) (kind : RunFaultKind) (released : List Release) (lost : D) → at2 ≡ 0 → given2 ≡ [] → kind ≡ OutOfMemory → released ≡ h.released → disk_held h ≡ Some lost → Underway present clock left_since crashes keeps_model start events 0 [] h →
+  pub broke_first : (keeps_model : D → Bool) (start : LedgerState D) (events : List Event) (at2 : ℕ) (given2 : List Answer) (h : Held D) (kind : RunFaultKind) (released : List Release) (lost : D) → at2 ≡ 0 → given2 ≡ [] → kind ≡ OutOfMemory → released ≡ h.released → disk_driven h.driver ≡ Some lost → Underway present clock left_since crashes keeps_model start events 0 [] h →
       (before : D) → start.disk ≡ Some before → Promised (keeps_model before) events (Broke present clock left_since crashes (started start) events at2 given2 released kind (keeps_model before) before lost)
   broke_first keeps_model start events at2 given2 h kind released lost here same memory kept there way before disk promised =
-      let drives = way.drives before disk promised in
+      let all = way.holds before disk promised in
+      let drives = all.drives in
       let one : Broke present clock left_since crashes (started start) events 0 [] released kind (keeps_model before) before lost =
       record {
         within = omega arith;
         answered = drives.answered;
         disk = drives.disk;
         moments = drives.moments;
-        why = inl (refl, given_up (keeps_model before) before lost start [] [] h kind released drives memory kept there);
+        why = inl (refl, given_up (keeps_model before) before lost start [] [] h kind released all memory kept there);
       } in
       subst (λ n. Broke present clock left_since crashes (started start) events n given2 released kind (keeps_model before) before lost) (sym here)
       (subst (λ l. Broke present clock left_since crashes (started start) events 0 l released kind (keeps_model before) before lost) (sym same) one)

@@ -5,7 +5,7 @@ use Rattle.std.specs.Option.{option_map}
 use Rattle.std.proofs.lemmas.Option.{slice_get_read}
 use Rattle.coord_disk.specs.Model.Present.{Present}
 use Rattle.coord_store.proofs.Freshness.{take-push}
-use Rattle.coord_ledger.specs.Facade.{Answer, Claim, CrashPrefix, DoubtFits, Driven, Drives, Event, EventInRange, Follows, FollowsTo, Held, HeldSurvives, HeldTouches, HoldsFlight, IsConsistent, IsConsistentLog, IsPromised, LedgerState, Log, Machine, MayBegin, Promised, Release, Touches, after, at_home, disk_held, disk_with, flight_out, found_by_crash, held, is_crash, model_of, nothing_beside, run, started, touches_disk}
+use Rattle.coord_ledger.specs.Facade.{Answer, Claim, CrashPrefix, DoubtFits, Driven, Drives, Event, EventInRange, Follows, FollowsTo, Held, HeldSurvives, HeldTouches, HoldsFlight, HoldsTickets, IsConsistent, IsConsistentLog, IsOneOf, IsPromised, LedgerState, Log, Machine, MayBegin, Promised, Release, Shows, Touches, after, answers, at_home, disk_driven, disk_with, flight_out, found_by_crash, is_crash, model_driven, run, started, touches_disk}
 use Rattle.coord_ledger.proofs.machine.Consistent.{run_goes_on, stays_consistent}
 use Rattle.coord_ledger.proofs.drives.EachMoment.{moments_on}
 
@@ -22,7 +22,7 @@ doubt_fits log (Some b) doubted = doubted.1
 module _ {D : Type 0} (present : D → Present) (clock : D → ℕ) (left_since : D → ℕ → List ℕ → Type 0) (crashes : D → D → Type 0) where
   -- a run begins where no flight is out
   pub drives_first : (keeps_model : D → Bool) (first : D) (d : Driven D) → d.flight ≡ None → HoldsFlight d.ledger d.flight → IsConsistentLog d.ledger.log → IfSome d.ledger.log.doubt (λ b. (1 ≤ b) × (d.ledger.log.settled + b ≤ length d.ledger.log.trail)) → d.ledger.disk ≡ Some first →
-      ((s : Machine) → IsConsistent s → Follows (held d nothing_beside) s → HeldSurvives keeps_model present (held d nothing_beside) s) → Drives present clock left_since crashes (keeps_model first) first d.ledger [] [] (held d nothing_beside)
+      ((s : Machine) → IsConsistent s → Shows d s → HeldSurvives keeps_model present (disk_driven d) s) → Drives present clock left_since crashes (keeps_model first) first d.ledger [] [] d
   drives_first keeps_model first d none own log_is doubted home survives =
       let log = d.ledger.log in
       let is : IsConsistent (started d.ledger) =
@@ -35,65 +35,68 @@ module _ {D : Type 0} (present : D → Present) (clock : D → ℕ) (left_since 
         told = record { released_settled = tt; once = tt; again = tt; replied_settled = tt; truly = tt };
       } in
       let all : log.settled - 0 ≡ log.settled = omega arith in
-      let follows : Follows (held d nothing_beside) (started d.ledger) =
-      record {
-        by = 0;
-        within = omega arith;
-        log = λ i. record log { settled = sym all i };
-        flight = ap (option_map flight_out) none;
-        own = own;
-        tickets = tt;
-        seen = refl;
-        released = refl;
-      } in
-      let there : disk_held (held d nothing_beside) ≡ Some first = ap (disk_with d.ledger.disk) none ∙ home in
-      record { answered = tt; consistent = is; follows = follows; disk = first; holds = there; moments = (refl, survives (started d.ledger) is follows first there) }
+      let shows : Shows d (started d.ledger) =
+      record { by = 0; within = omega arith; is = λ i. record (started d.ledger) { log = record log { settled = sym all i }; flight = ap (option_map flight_out) none i }; own = own } in
+      let there : disk_driven d ≡ Some first = ap (disk_with d.ledger.disk) none ∙ home in
+      record { answered = tt; consistent = is; shows = shows; disk = first; holds = there; moments = (refl, survives (started d.ledger) is shows first there) }
 
   -- one event more
-  pub drives_on : (keeps_model : D → Bool) (on : Bool) (first : D) (start : LedgerState D) (events : List Event) (given : List Answer) (h new : Held D) (e : Event) (a : Answer) →
-      (drives : Drives present clock left_since crashes on first start events given h) → keeps_model drives.disk ≡ on → EventInRange e → FollowsTo (run (started start) events given) e a new →
-      HeldTouches keeps_model present clock left_since crashes (found_by_crash (run (started start) events given) e a) (touches_disk e a) e h new → ((s : Machine) → IsConsistent s → Follows new s → (disk : D) → disk_held new ≡ Some disk → CrashPrefix s on (present disk)) →
+  pub drives_on : (keeps_model : D → Bool) (on : Bool) (first : D) (start : LedgerState D) (events : List Event) (given : List Answer) (d new : Driven D) (e : Event) (a : Answer) →
+      (drives : Drives present clock left_since crashes on first start events given d) → keeps_model drives.disk ≡ on → EventInRange e → IsOneOf a (answers (run (started start) events given) e) → Shows new (after (run (started start) events given) e a) →
+      HeldTouches keeps_model present clock left_since crashes (found_by_crash (run (started start) events given) e a) (touches_disk e a) e (disk_driven d) (disk_driven new) → ((s : Machine) → IsConsistent s → Shows new s → (disk : D) → disk_driven new ≡ Some disk → CrashPrefix s on (present disk)) →
       Drives present clock left_since crashes on first start (events ++ e ∷ []) (given ++ a ∷ []) new
-  drives_on keeps_model on first start events given h new e a drives same named to touches survives =
+  drives_on keeps_model on first start events given d new e a drives same named allowed shows touches survives =
       let s = run (started start) events given in
-      let more = run_goes_on (started start) events given e a drives.answered to.allowed in
-      let consistent = stays_consistent s e a named drives.consistent to.allowed in
+      let more = run_goes_on (started start) events given e a drives.answered allowed in
+      let consistent = stays_consistent s e a named drives.consistent allowed in
       let moved = touches drives.disk drives.holds in
       record {
         answered = more.0;
         consistent = subst IsConsistent (sym more.1) consistent;
-        follows = subst (Follows new) (sym more.1) to.follows;
+        shows = subst (Shows new) (sym more.1) shows;
         disk = moved.new;
         holds = moved.holds;
         moments = moments_on present clock left_since crashes on (started start) events given e a first drives.disk moved.new drives.moments
             (subst (λ b. Touches present clock left_since crashes b (found_by_crash s e a) (touches_disk e a) e drives.disk moved.new) same moved.touched)
-            (survives (after s e a) consistent to.follows moved.new moved.holds);
+            (survives (after s e a) consistent shows moved.new moved.holds);
       }
+
+  -- what a run keeps after some events, with the lists that it holds beside the driver
+  pub record Holds (on : Bool) (first : D) (start : LedgerState D) (events : List Event) (given : List Answer) (h : Held D) : Type 0 where
+    pub drives : Drives present clock left_since crashes on first start events given h.driver
+    pub follows : Follows h (run (started start) events given)
 
   -- what the loop of a run keeps before the event at this index
   pub record Underway (keeps_model : D → Bool) (start : LedgerState D) (events : List Event) (at : ℕ) (given : List Answer) (h : Held D) : Type 0 where
-    pub same_model : model_of keeps_model h ≡ option_map keeps_model start.disk
-    pub drives : (before : D) → start.disk ≡ Some before → Promised (keeps_model before) events (Drives present clock left_since crashes (keeps_model before) before start (take at events) given h)
+    pub same_model : model_driven keeps_model h.driver ≡ option_map keeps_model start.disk
+    pub holds : (before : D) → start.disk ≡ Some before → Promised (keeps_model before) events (Holds (keeps_model before) before start (take at events) given h)
 
   -- before the first event
   pub underway_first : (keeps_model : D → Bool) (start : LedgerState D) (events : List Event) (given : List Answer) (d : Driven D) (claims : List (Option Claim)) (seen : ℕ) (released : List Release) → d ≡ at_home start →
       MayBegin keeps_model present clock left_since crashes d → claims ≡ [] → seen ≡ 0 → released ≡ [] → given ≡ [] →
-      Underway keeps_model start events 0 given (held d (record { claims = claims; seen = seen; released = released }))
+      Underway keeps_model start events 0 given (record { driver = d; claims = claims; seen = seen; released = released })
   underway_first keeps_model start events given d claims seen released over begins no_claims unseen unreleased unanswered =
-      let same : held d (record { claims = claims; seen = seen; released = released }) ≡ held (at_home start) nothing_beside = λ i. held (over i) (record { claims = no_claims i; seen = unseen i; released = unreleased i }) in
       record {
-        same_model = ap (model_of keeps_model) same;
-        drives = λ before disk promised.
+        same_model = ap (model_driven keeps_model) over;
+        holds = λ before disk promised.
             let there : begins.first ≡ before = let is = sym begins.home ∙ ap (λ (x : Driven D). x.ledger.disk) over ∙ disk in cc in
-            let first = subst (λ x. Drives present clock left_since crashes (keeps_model x) x d.ledger [] [] (held d nothing_beside)) there begins.drives in
-            let drives = subst (λ (x : Driven D). Drives present clock left_since crashes (keeps_model before) before x.ledger [] [] (held x nothing_beside)) over first in
-            subst (λ l. Drives present clock left_since crashes (keeps_model before) before start [] l (held d (record { claims = claims; seen = seen; released = released }))) (sym unanswered)
-            (subst (λ h. Drives present clock left_since crashes (keeps_model before) before start [] [] h) (sym same) drives);
+            let first = subst (λ x. Drives present clock left_since crashes (keeps_model x) x d.ledger [] [] d) there begins.drives in
+            let drives = subst (λ (l : LedgerState D). Drives present clock left_since crashes (keeps_model before) before l [] [] d) (ap (λ (x : Driven D). x.ledger) over) first in
+            subst (λ l. Holds (keeps_model before) before start [] l (record { driver = d; claims = claims; seen = seen; released = released })) (sym unanswered)
+            (record {
+              drives = drives;
+              follows = record {
+                shows = drives.shows;
+                tickets = subst (λ cs. HoldsTickets d.ledger.log cs []) (sym no_claims) tt;
+                seen = unseen;
+                released = unreleased;
+              };
+            });
       }
 
   module _ (keeps_model : D → Bool) (start : LedgerState D) (events : List Event) (at : ℕ) (given : List Answer) (h : Held D) (way : Underway keeps_model start events at given h) where
     -- the disk that is held keeps the model as the first one does
-    pub same_model : (before disk : D) → start.disk ≡ Some before → disk_held h ≡ Some disk → keeps_model disk ≡ keeps_model before
+    pub same_model : (before disk : D) → start.disk ≡ Some before → disk_driven h.driver ≡ Some disk → keeps_model disk ≡ keeps_model before
     same_model before disk first there =
         let is : option_map keeps_model (Some disk) ≡ option_map keeps_model (Some before) = sym (ap (option_map keeps_model) there) ∙ way.same_model ∙ ap (option_map keeps_model) first in
         cc
@@ -102,32 +105,35 @@ module _ {D : Type 0} (present : D → Present) (clock : D → ℕ) (left_since 
       pub event_there : slice_get events at ≡ Some e
       event_there = slice_get_read events (length events) at e refl below is
 
-      pub model_there : (before : D) → start.disk ≡ Some before → model_of keeps_model h ≡ Some (keeps_model before)
+      pub model_there : (before : D) → start.disk ≡ Some before → model_driven keeps_model h.driver ≡ Some (keeps_model before)
       model_there before disk = way.same_model ∙ ap (option_map keeps_model) disk
 
       -- what is promised of a run is promised of each of its events
-      pub event_promised : (before : D) → start.disk ≡ Some before → (keeps_model before ≡ true) ⊎ AllByRecursion (λ x. is_crash x ≡ false) events → IsPromised (model_of keeps_model h) e
+      pub event_promised : (before : D) → start.disk ≡ Some before → (keeps_model before ≡ true) ⊎ AllByRecursion (λ x. is_crash x ≡ false) events → IsPromised (model_driven keeps_model h.driver) e
       event_promised before disk (inl on) = inl (model_there before disk ∙ ap Some on)
       event_promised before disk (inr none) = inr (all_at (λ x. is_crash x ≡ false) events at e event_there none)
 
       -- the event was answered
-      pub underway_on : (new : Held D) (a : Answer) → EventInRange e → ((s : Machine) → IsConsistent s → Follows h s → IsPromised (model_of keeps_model h) e → FollowsTo s e a new) → model_of keeps_model new ≡ model_of keeps_model h →
-          ((s : Machine) → IsConsistent s → Follows h s → HeldTouches keeps_model present clock left_since crashes (found_by_crash s e a) (touches_disk e a) e h new) → ((s : Machine) → IsConsistent s → Follows new s → HeldSurvives keeps_model present new s) →
+      pub underway_on : (new : Held D) (a : Answer) → EventInRange e → ((s : Machine) → IsConsistent s → Follows h s → IsPromised (model_driven keeps_model h.driver) e → FollowsTo s e a new) → model_driven keeps_model new.driver ≡ model_driven keeps_model h.driver →
+          ((s : Machine) → IsConsistent s → Follows h s → HeldTouches keeps_model present clock left_since crashes (found_by_crash s e a) (touches_disk e a) e (disk_driven h.driver) (disk_driven new.driver)) → ((s : Machine) → IsConsistent s → Shows new.driver s → HeldSurvives keeps_model present (disk_driven new.driver) s) →
           Underway keeps_model start events (at + 1) (given ++ a ∷ []) new
       underway_on new a named answered same touches survives =
           record {
             same_model = same ∙ way.same_model;
-            drives = λ before disk promised.
-                let drives = way.drives before disk promised in
+            holds = λ before disk promised.
+                let all = way.holds before disk promised in
+                let drives = all.drives in
                 let s = run (started start) (take at events) given in
-                let to = answered s drives.consistent drives.follows (event_promised before disk promised) in
-                let later = λ (now : D) (there : disk_held new ≡ Some now). new_model new same before now disk there in
-                subst (λ l. Drives present clock left_since crashes (keeps_model before) before start l (given ++ a ∷ []) new) (sym (take-push events at e below is))
-                (drives_on keeps_model (keeps_model before) before start (take at events) given h new e a drives (same_model before drives.disk disk drives.holds) named to (touches s drives.consistent drives.follows)
-                (λ t consistent follows now there. subst (λ b. CrashPrefix t b (present now)) (later now there) (survives t consistent follows now there)));
+                let to = answered s drives.consistent all.follows (event_promised before disk promised) in
+                let later = λ (now : D) (there : disk_driven new.driver ≡ Some now). new_model new same before now disk there in
+                let on = drives_on keeps_model (keeps_model before) before start (take at events) given h.driver new.driver e a drives (same_model before drives.disk disk drives.holds) named to.allowed to.follows.shows (touches s drives.consistent all.follows)
+                (λ t consistent shows now there. subst (λ b. CrashPrefix t b (present now)) (later now there) (survives t consistent shows now there)) in
+                let more = run_goes_on (started start) (take at events) given e a drives.answered to.allowed in
+                subst (λ l. Holds (keeps_model before) before start l (given ++ a ∷ []) new) (sym (take-push events at e below is))
+                (record { drives = on; follows = subst (Follows new) (sym more.1) to.follows });
           }
         where
-          new_model : (new : Held D) → model_of keeps_model new ≡ model_of keeps_model h → (before now : D) → start.disk ≡ Some before → disk_held new ≡ Some now → keeps_model now ≡ keeps_model before
+          new_model : (new : Held D) → model_driven keeps_model new.driver ≡ model_driven keeps_model h.driver → (before now : D) → start.disk ≡ Some before → disk_driven new.driver ≡ Some now → keeps_model now ≡ keeps_model before
           new_model new same before now first there =
               let is : option_map keeps_model (Some now) ≡ option_map keeps_model (Some before) = sym (ap (option_map keeps_model) there) ∙ same ∙ way.same_model ∙ ap (option_map keeps_model) first in
               cc

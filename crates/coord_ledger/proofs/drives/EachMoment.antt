@@ -1,5 +1,5 @@
 -- What a crash may leave at each moment of an event, and of a run.
-use Rattle.std.proofs.Common.{◌≡◌, ◌⊎◌, ℕ, ◌+◌, Bool, true, false, List, [], ◌∷◌, ◌++◌, length, Some, None, Result, Ok, Err, refl, sym, ap, ◌∙◌, subst, inl, inr, IfErr, IfSome, IsErrOf, MatchResult}
+use Rattle.std.proofs.Common.{◌≡◌, ◌⊎◌, ℕ, ◌+◌, Bool, true, false, List, [], ◌∷◌, ◌++◌, length, Option, Some, None, Result, Ok, Err, refl, sym, ap, ◌∙◌, subst, inl, inr, IfErr, IfSome, IsErrOf, MatchResult}
 use Rattle.std.specs.Option.{option_map}
 use Rattle.coord_disk.specs.Model.Moments.{LeavesOnly}
 use Rattle.coord_disk.specs.Model.Present.{Present, IsImage}
@@ -8,10 +8,11 @@ use Rattle.coord_store.specs.Kept.{GivesEither, IsOnlyWorld}
 use Rattle.coord_store.specs.declared.faults.CommitFault.{CommitFault}
 use Rattle.coord_store.specs.declared.faults.CommitFault.TheVariants as fault
 use Rattle.coord_world.specs.protocol.Next.{fold}
-use Rattle.coord_ledger.specs.Facade.{Answer, Commit, Committed, Crash, CrashPrefix, EachMoment, Event, Failed, FlightGives, FlightOut, FlightState, Follows, GivesFlown, GivesOneOf, Good, Held, HeldSurvives, HeldTouches, HoldsFlight, IsConsistent, IsLost, IsOneOf, IsOut, IsReopenFault, IsReopened, IsSafe, LeavesWithin, LedgerGives, LedgerState, Machine, Mark, New, Reopens, RunFaultKind, Survives, Torn, Touches, after, answers, disk_held, disk_with, flight_out, found_by_crash, is_crash, kept, kept_by, marked, run, to_commit, touches_disk, with_flight}
+use Rattle.coord_ledger.specs.Facade.{Answer, Commit, Committed, Crash, CrashPrefix, Driven, EachMoment, Event, Failed, FlightGives, FlightOut, FlightState, GivesFlown, GivesOneOf, Good, HeldSurvives, HeldTouches, HoldsFlight, IsConsistent, IsLost, IsOneOf, IsOut, IsReopenFault, IsReopened, IsSafe, LeavesWithin, LedgerGives, LedgerState, Machine, Mark, New, Reopens, RunFaultKind, Shows, Survives, Torn, Touches, after, answers, disk_driven, disk_with, flight_out, found_by_crash, is_crash, kept, kept_by, marked, run, to_commit, touches_disk, with_flight}
 use Rattle.coord_ledger.specs.laws.Commits.{CommitIsSafe}
 use Rattle.coord_ledger.proofs.follows.FollowsCalls.{flight_gives, ledger_images}
 use Rattle.coord_ledger.proofs.machine.Consistent.{stays_consistent}
+use Rattle.coord_ledger.proofs.follows.Follows.{flight_is, log_moved}
 use Rattle.coord_ledger.proofs.follows.FollowsCrashes.{given_follows}
 use Rattle.coord_ledger.proofs.machine.Safe.{given_survives, kept_is_safe}
 
@@ -32,62 +33,54 @@ commit_is_safe s b is out = (safe s.log.settled (inl refl), safe (s.log.settled 
         let of_torn = kept_is_safe (after s Commit (Failed fault.Device)) n (torn_is_consistent s b is out) may in
         record { legal = of_torn.legal; released = of_torn.released; again = of_torn.again; replied = of_torn.replied; accepted = of_torn.accepted }
 
-module _ {D : Type 0} (h : Held D) (s : Machine) (f : FlightState D) (is : IsConsistent s) (follows : Follows h s) (holds : h.flight ≡ Some f) where
+module _ {D : Type 0} (d : Driven D) (s : Machine) (f : FlightState D) (is : IsConsistent s) (shows : Shows d s) (holds : d.flight ≡ Some f) where
   out : (m : Mark) → f.mark ≡ m → s.flight ≡ Some (record { size = length f.steps; mark = m })
-  out m mark = sym follows.flight ∙ ap (option_map flight_out) holds ∙ ap (λ x. Some (record { size = length f.steps; mark = x })) mark
+  out m mark = sym (flight_is d s shows) ∙ ap (option_map flight_out) holds ∙ ap (λ x. Some (record { size = length f.steps; mark = x })) mark
 
-  own : IsOut h.ledger f
-  own = subst (HoldsFlight h.ledger) holds follows.own
+  own : IsOut d.ledger f
+  own = subst (HoldsFlight d.ledger) holds shows.own
 
   -- what bytes give while it is torn
   pub either_survives : f.mark ≡ New → (bytes : List ℕ) → GivesEither f.world (fold f.world f.steps) bytes → Survives (after s Commit (Failed fault.Device)) bytes
   either_survives new bytes gives =
       let g : FlightState D = record f { mark = Torn } in
-      let its : IsOut h.ledger (record f { mark = Torn }) = record { size = own.size; first = own.first; steps = own.steps; world = own.world } in
-      let there : Follows (record h { flight = Some (record f { mark = Torn }) }) (after s Commit (Failed fault.Device)) =
-      record {
-        by = follows.by;
-        within = follows.within;
-        log = follows.log;
-        flight = ap (marked Torn) (sym (out New new));
-        own = its;
-        tickets = follows.tickets;
-        seen = follows.seen;
-        released = follows.released;
-      } in
+      let torn : Driven D = record { ledger = d.ledger; flight = Some (record f { mark = Torn }) } in
+      let its : IsOut d.ledger (record f { mark = Torn }) = record { size = own.size; first = own.first; steps = own.steps; world = own.world } in
+      let there : Shows torn (after s Commit (Failed fault.Device)) =
+      record { by = shows.by; within = shows.within; is = λ i. record s { log = log_moved d s shows i; flight = ap (marked Torn) (sym (out New new)) i }; own = its } in
       given_survives (after s Commit (Failed fault.Device)) bytes (torn_is_consistent s (length f.steps) is (out New new))
-      (given_follows (record h { flight = Some (record f { mark = Torn }) }) (after s Commit (Failed fault.Device)) bytes there (flight_gives h.ledger (record f { mark = Torn }) bytes its gives))
+      (given_follows torn (after s Commit (Failed fault.Device)) bytes there (flight_gives d.ledger g bytes its gives))
 
   -- and where it was refused for memory
   pub only_survives : f.mark ≡ New → (bytes : List ℕ) → IsOnlyWorld f.world bytes → Survives s bytes
   only_survives new bytes gives =
       given_survives s bytes is
-      (given_follows h s bytes follows
-      (subst (λ o. GivesOneOf h.ledger.log (kept_by h.ledger.log.settled (option_map flight_out o) h.ledger.log.doubt) bytes) (sym holds)
-      (flight_gives h.ledger f bytes own (subst (λ m. GivesFlown m f.world f.steps bytes) (sym new) gives))))
+      (given_follows d s bytes shows
+      (subst (λ o. GivesOneOf d.ledger.log (kept_by d.ledger.log.settled (option_map flight_out o) d.ledger.log.doubt) bytes) (sym holds)
+      (flight_gives d.ledger f bytes own (subst (λ m. GivesFlown m f.world f.steps bytes) (sym new) gives))))
 
 -- ---- between two events
 
-module _ {D : Type 0} (keeps_model : D → Bool) (present : D → Present) (h : Held D) (s : Machine) (is : IsConsistent s) (follows : Follows h s) where
+module _ {D : Type 0} (keeps_model : D → Bool) (present : D → Present) (d : Driven D) (s : Machine) (is : IsConsistent s) (shows : Shows d s) where
   -- with a flight out
-  pub flight_survives : (f : FlightState D) → h.flight ≡ Some f → (keeps_model f.disk ≡ true → FlightGives present f) → HeldSurvives keeps_model present h s
+  pub flight_survives : (f : FlightState D) → d.flight ≡ Some f → (keeps_model f.disk ≡ true → FlightGives present f) → HeldSurvives keeps_model present (disk_driven d) s
   flight_survives f holds gives disk there on image here =
-      let same : f.disk ≡ disk = cc (ap (disk_with h.ledger.disk) holds, there) in
-      let given = gives (ap keeps_model same ∙ on) image (subst (λ d. IsImage (present d) image) (sym same) here) in
+      let same : f.disk ≡ disk = cc (ap (disk_with d.ledger.disk) holds, there) in
+      let given = gives (ap keeps_model same ∙ on) image (subst (λ x. IsImage (present x) image) (sym same) here) in
       given_survives s image is
-      (given_follows h s image follows
-      (subst (λ o. GivesOneOf h.ledger.log (kept_by h.ledger.log.settled (option_map flight_out o) h.ledger.log.doubt) image) (sym holds)
-      (flight_gives h.ledger f image (subst (HoldsFlight h.ledger) holds follows.own) given)))
+      (given_follows d s image shows
+      (subst (λ o. GivesOneOf d.ledger.log (kept_by d.ledger.log.settled (option_map flight_out o) d.ledger.log.doubt) image) (sym holds)
+      (flight_gives d.ledger f image (subst (HoldsFlight d.ledger) holds shows.own) given)))
 
   -- with the store at home
-  pub home_survives : h.flight ≡ None → IfSome h.ledger.disk (λ d. keeps_model d ≡ true → LedgerGives present h.ledger d) → HeldSurvives keeps_model present h s
+  pub home_survives : d.flight ≡ None → IfSome d.ledger.disk (λ x. keeps_model x ≡ true → LedgerGives present d.ledger x) → HeldSurvives keeps_model present (disk_driven d) s
   home_survives none gives disk there on image here =
-      let at_home : h.ledger.disk ≡ Some disk = sym (ap (disk_with h.ledger.disk) none) ∙ there in
-      let each = subst (λ o. IfSome o (λ d. keeps_model d ≡ true → LedgerGives present h.ledger d)) at_home gives in
+      let at_home : d.ledger.disk ≡ Some disk = sym (ap (disk_with d.ledger.disk) none) ∙ there in
+      let each = subst (λ o. IfSome o (λ x. keeps_model x ≡ true → LedgerGives present d.ledger x)) at_home gives in
       given_survives s image is
-      (given_follows h s image follows
-      (subst (λ o. GivesOneOf h.ledger.log (kept_by h.ledger.log.settled (option_map flight_out o) h.ledger.log.doubt) image) (sym none)
-      (ledger_images h.ledger disk (keeps_model disk) present each on image here)))
+      (given_follows d s image shows
+      (subst (λ o. GivesOneOf d.ledger.log (kept_by d.ledger.log.settled (option_map flight_out o) d.ledger.log.doubt) image) (sym none)
+      (ledger_images d.ledger disk (keeps_model disk) present each on image here)))
 
 -- ---- an event
 
@@ -120,23 +113,23 @@ module _ {D : Type 0} (present : D → Present) (clock : D → ℕ) (left_since 
               (within_event e (Survives s) old old other (started clock left_since old (Survives s) (λ image left. prefix on image (only_now old image on left))));
         }
 
-    pub held_untouched : (s : Machine) (touches : Bool) (e : Event) (h new : Held D) → is_crash e ≡ false → disk_held new ≡ disk_held h → HeldSurvives keeps_model present h s → HeldTouches keeps_model present clock left_since crashes s touches e h new
-    held_untouched s touches e h new other same survives old holds = record { new = old; holds = same ∙ holds; touched = untouched s touches e old old other refl (survives old holds) }
+    pub held_untouched : (s : Machine) (touches : Bool) (e : Event) (was now : Option D) → is_crash e ≡ false → now ≡ was → HeldSurvives keeps_model present was s → HeldTouches keeps_model present clock left_since crashes s touches e was now
+    held_untouched s touches e was now other same survives old holds = record { new = old; holds = same ∙ holds; touched = untouched s touches e old old other refl (survives old holds) }
 
     -- so it is in each event but a commit and a crash
-    pub met_aside : (s : Machine) (e what : Event) (a : Answer) (h new : Held D) → e ≡ what → is_crash what ≡ false → found_by_crash s what a ≡ s → disk_held new ≡ disk_held h → HeldSurvives keeps_model present h s →
-        HeldTouches keeps_model present clock left_since crashes (found_by_crash s e a) (touches_disk e a) e h new
-    met_aside s e what a h new event other found same survives =
-        subst (λ x. HeldTouches keeps_model present clock left_since crashes (found_by_crash s x a) (touches_disk x a) x h new) (sym event)
-        (subst (λ t. HeldTouches keeps_model present clock left_since crashes t (touches_disk what a) what h new) (sym found) (held_untouched s (touches_disk what a) what h new other same survives))
+    pub met_aside : (s : Machine) (e what : Event) (a : Answer) (was now : Option D) → e ≡ what → is_crash what ≡ false → found_by_crash s what a ≡ s → now ≡ was → HeldSurvives keeps_model present was s →
+        HeldTouches keeps_model present clock left_since crashes (found_by_crash s e a) (touches_disk e a) e was now
+    met_aside s e what a was now event other found same survives =
+        subst (λ x. HeldTouches keeps_model present clock left_since crashes (found_by_crash s x a) (touches_disk x a) x was now) (sym event)
+        (subst (λ t. HeldTouches keeps_model present clock left_since crashes t (touches_disk what a) what was now) (sym found) (held_untouched s (touches_disk what a) what was now other same survives))
 
     -- a flight was committed, or not
-    module _ (h : Held D) (s : Machine) (f g : FlightState D) (is : IsConsistent s) (follows : Follows h s) (holds : h.flight ≡ Some f) (survives : HeldSurvives keeps_model present h s) (new : Held D) (now : disk_held new ≡ Some g.disk) where
-      its_disk : disk_held h ≡ Some f.disk
-      its_disk = ap (disk_with h.ledger.disk) holds
+    module _ (d : Driven D) (s : Machine) (f g : FlightState D) (is : IsConsistent s) (shows : Shows d s) (holds : d.flight ≡ Some f) (survives : HeldSurvives keeps_model present (disk_driven d) s) (new : Driven D) (now : disk_driven new ≡ Some g.disk) where
+      its_disk : disk_driven d ≡ Some f.disk
+      its_disk = ap (disk_with d.ledger.disk) holds
 
       -- at each moment of it a crash left only what has P
-      leaves : (found : Machine) (P : List ℕ → Type 0) → (keeps_model f.disk ≡ true → LeavesOnly clock left_since f.disk g.disk P) → ((bytes : List ℕ) → P bytes → Survives found bytes) → HeldTouches keeps_model present clock left_since crashes found true Commit h new
+      leaves : (found : Machine) (P : List ℕ → Type 0) → (keeps_model f.disk ≡ true → LeavesOnly clock left_since f.disk g.disk P) → ((bytes : List ℕ) → P bytes → Survives found bytes) → HeldTouches keeps_model present clock left_since crashes found true Commit (disk_driven d) (disk_driven new)
       leaves found P moments each old there =
           let same : f.disk ≡ old = cc (its_disk, there) in
           record {
@@ -144,13 +137,13 @@ module _ {D : Type 0} (present : D → Present) (clock : D → ℕ) (left_since 
             holds = now;
             touched = record {
               untouched = λ no. let never : ⊥ = cc in absurd never;
-              inside = λ on. subst (λ d. LeavesOnly clock left_since d g.disk (Survives found)) same (weaker clock left_since f.disk g.disk P (Survives found) (moments (ap keeps_model same ∙ on)) each);
+              inside = λ on. subst (λ x. LeavesOnly clock left_since x g.disk (Survives found)) same (weaker clock left_since f.disk g.disk P (Survives found) (moments (ap keeps_model same ∙ on)) each);
             };
           }
 
       -- the flight was left as it was
-      alone : g ≡ f → HeldTouches keeps_model present clock left_since crashes s false Commit h new
-      alone same = held_untouched s false Commit h new refl (now ∙ ap (λ (x : FlightState D). Some x.disk) same ∙ sym its_disk) survives
+      alone : g ≡ f → HeldTouches keeps_model present clock left_since crashes s false Commit (disk_driven d) (disk_driven new)
+      alone same = held_untouched s false Commit (disk_driven d) (disk_driven new) refl (now ∙ ap (λ (x : FlightState D). Some x.disk) same ∙ sym its_disk) survives
 
       pub commit_touches : {T : Type 0} (r : Result T CommitFault) →
           (keeps_model f.disk ≡ true → f.mark ≡ New → LeavesOnly clock left_since f.disk g.disk (GivesEither f.world (fold f.world f.steps))) →
@@ -158,22 +151,22 @@ module _ {D : Type 0} (present : D → Present) (clock : D → ℕ) (left_since 
           (f.mark ≡ New → MatchResult r (λ _. g.mark ≡ Good) (λ why. ((why ≡ fault.Device) × (g.mark ≡ Torn)) ⊎ ((why ≡ fault.OutOfMemory) × (g.mark ≡ New)))) →
           (f.mark ≡ Good → (r ≡ Err fault.Again) × (g ≡ f)) →
           (f.mark ≡ Torn → (r ≡ Err fault.Stopped) × (g ≡ f)) →
-          HeldTouches keeps_model present clock left_since crashes (found_by_crash s Commit (told r)) (touches_disk Commit (told r)) Commit h new
+          HeldTouches keeps_model present clock left_since crashes (found_by_crash s Commit (told r)) (touches_disk Commit (told r)) Commit (disk_driven d) (disk_driven new)
       commit_touches {T} r either refused tried again stopped = by_mark f.mark refl
         where
           Goal : Result T CommitFault → Type 0
-          Goal r = HeldTouches keeps_model present clock left_since crashes (found_by_crash s Commit (told r)) (touches_disk Commit (told r)) Commit h new
+          Goal r = HeldTouches keeps_model present clock left_since crashes (found_by_crash s Commit (told r)) (touches_disk Commit (told r)) Commit (disk_driven d) (disk_driven new)
 
           by_result : f.mark ≡ New → (q : Result T CommitFault) → r ≡ q → Goal q
-          by_result new (Ok done) same = leaves (after s Commit (Failed fault.Device)) (GivesEither f.world (fold f.world f.steps)) (λ on. either on new) (either_survives h s f is follows holds new)
+          by_result new (Ok done) same = leaves (after s Commit (Failed fault.Device)) (GivesEither f.world (fold f.world f.steps)) (λ on. either on new) (either_survives d s f is shows holds new)
           by_result new (Err why) same =
               elim (subst (λ q. MatchResult q (λ _. g.mark ≡ Good) (λ why. ((why ≡ fault.Device) × (g.mark ≡ Torn)) ⊎ ((why ≡ fault.OutOfMemory) × (g.mark ≡ New)))) same (tried new)) [
                 | inl device ↦
                     subst (λ x. Goal (Err x)) (sym device.0)
-                    (leaves (after s Commit (Failed fault.Device)) (GivesEither f.world (fold f.world f.steps)) (λ on. either on new) (either_survives h s f is follows holds new))
+                    (leaves (after s Commit (Failed fault.Device)) (GivesEither f.world (fold f.world f.steps)) (λ on. either on new) (either_survives d s f is shows holds new))
                 | inr memory ↦
                     subst (λ x. Goal (Err x)) (sym memory.0)
-                    (leaves s (IsOnlyWorld f.world) (λ on. refused on new (same ∙ ap Err memory.0)) (only_survives h s f is follows holds new))
+                    (leaves s (IsOnlyWorld f.world) (λ on. refused on new (same ∙ ap Err memory.0)) (only_survives d s f is shows holds new))
               ]
 
           by_mark : (m : Mark) → f.mark ≡ m → Goal r
@@ -181,18 +174,18 @@ module _ {D : Type 0} (present : D → Present) (clock : D → ℕ) (left_since 
           by_mark Good mark = subst Goal (sym (again mark).0) (alone (again mark).1)
           by_mark Torn mark = subst Goal (sym (stopped mark).0) (alone (stopped mark).1)
 
-  pub met_commit : {E : Type 0} (keeps_model : D → Bool) (s : Machine) (e : Event) (said : Answer) (answer : Result Answer E) (a : Answer) (h held new : Held D) → e ≡ Commit → answer ≡ Ok said → answer ≡ Ok a → held ≡ new →
-      HeldTouches keeps_model present clock left_since crashes (found_by_crash s Commit said) (touches_disk Commit said) Commit h new → HeldTouches keeps_model present clock left_since crashes (found_by_crash s e a) (touches_disk e a) e h held
-  met_commit keeps_model s e said answer a h held new event says ok is touches =
+  pub met_commit : {E : Type 0} (keeps_model : D → Bool) (s : Machine) (e : Event) (said : Answer) (answer : Result Answer E) (a : Answer) (was now new : Option D) → e ≡ Commit → answer ≡ Ok said → answer ≡ Ok a → now ≡ new →
+      HeldTouches keeps_model present clock left_since crashes (found_by_crash s Commit said) (touches_disk Commit said) Commit was new → HeldTouches keeps_model present clock left_since crashes (found_by_crash s e a) (touches_disk e a) e was now
+  met_commit keeps_model s e said answer a was now new event says ok is touches =
       let same : said ≡ a = cc (says, ok) in
-      subst (λ x. HeldTouches keeps_model present clock left_since crashes (found_by_crash s x a) (touches_disk x a) x h held) (sym event)
-      (subst (HeldTouches keeps_model present clock left_since crashes (found_by_crash s Commit a) (touches_disk Commit a) Commit h) (sym is)
-      (subst (λ b. HeldTouches keeps_model present clock left_since crashes (found_by_crash s Commit b) (touches_disk Commit b) Commit h new) same touches))
+      subst (λ x. HeldTouches keeps_model present clock left_since crashes (found_by_crash s x a) (touches_disk x a) x was now) (sym event)
+      (subst (HeldTouches keeps_model present clock left_since crashes (found_by_crash s Commit a) (touches_disk Commit a) Commit was) (sym is)
+      (subst (λ b. HeldTouches keeps_model present clock left_since crashes (found_by_crash s Commit b) (touches_disk Commit b) Commit was new) same touches))
 
   -- the disk is given back as it was held
-  pub lost_as_held : (keeps_model : D → Bool) (s : Machine) (e : Event) (kind : RunFaultKind) (h : Held D) (lost : D) → is_crash e ≡ false → disk_held h ≡ Some lost → IsLost keeps_model present clock left_since crashes s e kind h lost
-  lost_as_held keeps_model s Crash kind h lost other there old holds = let no : ⊥ = cc in absurd no
-  lost_as_held keeps_model s e kind h lost other there old holds = cc
+  pub lost_as_held : (keeps_model : D → Bool) (s : Machine) (e : Event) (kind : RunFaultKind) (was : Option D) (lost : D) → is_crash e ≡ false → was ≡ Some lost → IsLost keeps_model present clock left_since crashes s e kind was lost
+  lost_as_held keeps_model s Crash kind was lost other there old holds = let no : ⊥ = cc in absurd no
+  lost_as_held keeps_model s e kind was lost other there old holds = cc
 
   -- ---- a crash
 
@@ -209,22 +202,22 @@ module _ {D : Type 0} (present : D → Present) (clock : D → ℕ) (left_since 
       }
 
   -- the disk was crashed and opened again
-  module _ (keeps_model : D → Bool) (h : Held D) (s : Machine) (d : D) (held : disk_held h ≡ Some d) (survives : HeldSurvives keeps_model present h s) where
-    survives_each : (old new : D) → disk_held h ≡ Some old → (keeps_model d ≡ true → Reopens present clock left_since crashes (IsImage (present d)) d new) → keeps_model old ≡ true → Reopens present clock left_since crashes (Survives s) old new
+  module _ (keeps_model : D → Bool) (was : Option D) (s : Machine) (d : D) (held : was ≡ Some d) (survives : HeldSurvives keeps_model present was s) where
+    survives_each : (old new : D) → was ≡ Some old → (keeps_model d ≡ true → Reopens present clock left_since crashes (IsImage (present d)) d new) → keeps_model old ≡ true → Reopens present clock left_since crashes (Survives s) old new
     survives_each old new there moments on =
         let same : d ≡ old = cc (held, there) in
         subst (λ x. Reopens present clock left_since crashes (Survives s) x new) same
         (reopens_more (IsImage (present d)) (Survives s) d new (moments (ap keeps_model same ∙ on)) (λ bytes here. survives d held (ap keeps_model same ∙ on) bytes here))
 
-    pub crash_touches : (l : LedgerState D) (new : Held D) → IsReopened keeps_model present clock left_since crashes d l → disk_held new ≡ l.disk → HeldTouches keeps_model present clock left_since crashes s true Crash h new
-    crash_touches l new opened at_home old there = record {
+    pub crash_touches : (l : LedgerState D) (now : Option D) → IsReopened keeps_model present clock left_since crashes d l → now ≡ l.disk → HeldTouches keeps_model present clock left_since crashes s true Crash was now
+    crash_touches l now opened at_home old there = record {
       new = opened.disk;
       holds = at_home ∙ ap (λ (m : LedgerState D). m.disk) opened.is;
       touched = record { untouched = λ no. let never : ⊥ = cc in absurd never; inside = λ on. survives_each old opened.disk there opened.moments on };
     }
 
     pub crash_lost : (kind : RunFaultKind) (lost : D) → (keeps_model d ≡ true → Reopens present clock left_since crashes (IsImage (present d)) d lost) → IsReopenFault (keeps_model d) (present d) (present lost) kind →
-        IsLost keeps_model present clock left_since crashes s Crash kind h lost
+        IsLost keeps_model present clock left_since crashes s Crash kind was lost
     crash_lost kind lost moments cause old there on =
         let same : d ≡ old = cc (held, there) in
         let keeps = ap keeps_model same ∙ on in

@@ -1,126 +1,146 @@
 -- What a driver's calls say of its own log and flight, they say of those of the machine of a run: what is held goes on to follow it.
-use Rattle.std.proofs.Common.{◌≡◌, ℕ, ◌+◌, [], ◌∷◌, ◌++◌, length, take, List, Some, Ok, Err, append-nil, false, refl, sym, ap, ◌∙◌, subst, Result}
+use Rattle.std.proofs.Common.{◌≡◌, ℕ, ◌+◌, ◌-◌, arith, [], ◌∷◌, ◌++◌, take, List, Option, Some, Ok, Err, append-nil, false, refl, sym, ap, ◌∙◌, subst, Result}
 use Rattle.std.specs.Option.{option_map}
 use Rattle.coord_world.specs.Facade.{outs}
-use Rattle.coord_ledger.specs.Facade.{Answer, Begin, Begun, Beside, Claim, Crash, Driven, Event, Finish, Finished, FlightState, Follows, FollowsTo, Fresh, Good, Handed, HandedTo, HoldsFlight, HoldsTickets, IsConsistent, IsOut, LedgerState, Log, Machine, Mark, Meets, New, Opened, Refusal, Release, Repeat, Shows, Step, Submit, Torn, Verdict, accepted_count, after, after_crash, after_submit, answer_to, at_home, claimed, finished, flight_out, held, is_crash, log_back, released_back, releases_in, releases_of, reply_of, settled_count, taken_back, verdict, with_accepted, with_claim, with_releases}
+use Rattle.coord_ledger.specs.Facade.{Answer, Begin, Begun, Claim, Commit, Committed, Crash, Driven, Event, Failed, Finish, Finished, FlightOut, Follows, FollowsTo, Fresh, Good, HandedTo, Held, HoldsTickets, IsConsistent, LedgerState, Log, Machine, Mark, Meets, New, Opened, Refusal, Refused, Release, Repeat, Step, Submit, Torn, Verdict, accepted_count, after, after_finish, after_submit, claimed, finished, flight_out, is_crash, log_back, machine_of, releases_of, reply_of, settling_releases, verdict, with_accepted}
 use Rattle.coord_ledger.specs.declared.events.Answer.TheVariants as answer
 use Rattle.coord_ledger.specs.declared.handed.Handed.TheVariants.{Accepted, Repeated}
-use Rattle.coord_ledger.proofs.follows.Follows.{pending_is, settled_is, verdict_is}
+use Rattle.coord_store.specs.declared.faults.CommitFault.TheVariants as fault
+use Rattle.coord_ledger.proofs.follows.Follows.{flight_is, pending_is, settled_is, verdict_is}
 use Rattle.coord_ledger.proofs.follows.Granted.{granted_back, granted_later, granted_new, granted_repeat, holds_later, holds_push}
 use Rattle.coord_ledger.proofs.machine.ConsistentSteps.{reply_is}
 use Rattle.coord_ledger.proofs.meets.Shows.{shows_allowed, shows_on, shows_opened}
 
--- what is held beside a driver is the machine's
-record Keeps (log : Log) (b : Beside) (t : Machine) : Type 0 where
-  pub tickets : HoldsTickets log b.claims t.tickets
-  pub seen : b.seen ≡ t.seen
-  pub released : b.released ≡ t.released
+-- what is held beside a driver with this log is the machine's
+pub record Keeps (log : Log) (claims : List (Option Claim)) (seen : ℕ) (released : List Release) (t : Machine) : Type 0 where
+  pub tickets : HoldsTickets log claims t.tickets
+  pub seen_is : seen ≡ t.seen
+  pub released_is : released ≡ t.released
 
-module _ {D : Type 0} (d : Driven D) (b : Beside) (s : Machine) (is : IsConsistent s) (follows : Follows (held d b) s) where
-  shows : Shows d s
-  shows = record { by = follows.by; within = follows.within; is = λ i. record s { log = follows.log i; flight = follows.flight i } }
+module _ {D : Type 0} (h : Held D) (s : Machine) (is : IsConsistent s) (follows : Follows h s) where
+  abbrev d : Driven D
+  d = h.driver
 
-  shown : (new : Driven D) (next : Beside) (t : Machine) → Shows new t → HoldsFlight new.ledger new.flight → Keeps new.ledger.log next t → Follows (held new next) t
-  shown new next t is own keeps = record {
-    by = is.by;
-    within = is.within;
-    log = ap (λ (m : Machine). m.log) is.is;
-    flight = ap (λ (m : Machine). m.flight) is.is;
-    own = own;
-    tickets = keeps.tickets;
-    seen = keeps.seen;
-    released = keeps.released;
+  met : (new : Held D) (e : Event) (a : Answer) → is_crash e ≡ false → Meets d e a new.driver → Keeps new.driver.ledger.log new.claims new.seen new.released (after s e a) → FollowsTo s e a new
+  met new e a calm meets keeps = record {
+    allowed = shows_allowed d new.driver s is follows.shows e a meets;
+    follows = record { shows = shows_on d new.driver s is follows.shows e a calm meets; tickets = keeps.tickets; seen = keeps.seen_is; released = keeps.released_is };
   }
 
-  met : (new : Driven D) (next : Beside) (e : Event) (a : Answer) → is_crash e ≡ false → Meets d e a new → HoldsFlight new.ledger new.flight → Keeps new.ledger.log next (after s e a) → FollowsTo s e a (held new next)
-  met new next e a calm meets own keeps = record {
-    allowed = shows_allowed d new s is shows e a meets;
-    follows = shown new next (after s e a) (shows_on d new s is shows e a calm meets) own keeps;
-  }
+  -- where the log stays
+  same : (log : Log) → log ≡ d.ledger.log → Keeps log h.claims h.seen h.released s
+  same log now = record { tickets = subst (λ g. HoldsTickets g h.claims s.tickets) (sym now) follows.tickets; seen_is = follows.seen; released_is = follows.released }
 
   -- ---- a flight goes out, or none does
 
-  pub follows_begun : (new : Driven D) (a : Answer) → HoldsFlight new.ledger new.flight → Meets d Begin a new → FollowsTo s Begin a (held new b)
-  follows_begun new a own meets = met new b Begin a refl meets own (by_answer a meets)
+  pub follows_begun : (new : Driven D) (a : Answer) → Meets d Begin a new → FollowsTo s Begin a (record h { driver = new })
+  follows_begun new a meets = met (record h { driver = new }) Begin a refl meets (by_answer a meets)
     where
-      by_answer : (a : Answer) → Meets d Begin a new → Keeps new.ledger.log b (after s Begin a)
-      by_answer (Begun n) meets = record { tickets = subst (λ (m : Machine). HoldsTickets m.log b.claims s.tickets) (sym (meets.leaves s)) follows.tickets; seen = follows.seen; released = follows.released }
-      by_answer a meets = record { tickets = subst (λ (m : Machine). HoldsTickets m.log b.claims s.tickets) (sym (meets.leaves s)) follows.tickets; seen = follows.seen; released = follows.released }
+      by_answer : (a : Answer) → Meets d Begin a new → Keeps new.ledger.log h.claims h.seen h.released (after s Begin a)
+      by_answer (Begun n) meets = let kept = same new.ledger.log (ap (λ (m : Machine). m.log) (meets.leaves s)) in record { tickets = kept.tickets; seen_is = kept.seen_is; released_is = kept.released_is }
+      by_answer a meets = same new.ledger.log (ap (λ (m : Machine). m.log) (meets.leaves s))
+
+  -- ---- it is committed, or not
+
+  pub follows_committed : (new : Driven D) (a : Answer) → new.ledger ≡ d.ledger → Meets d Commit a new → FollowsTo s Commit a (record h { driver = new })
+  follows_committed new a ledger meets = met (record h { driver = new }) Commit a refl meets (by_answer a)
+    where
+      kept : Keeps new.ledger.log h.claims h.seen h.released s
+      kept = same new.ledger.log (ap (λ (l : LedgerState D). l.log) ledger)
+
+      by_answer : (a : Answer) → Keeps new.ledger.log h.claims h.seen h.released (after s Commit a)
+      by_answer Committed = record { tickets = kept.tickets; seen_is = kept.seen_is; released_is = kept.released_is }
+      by_answer (Failed fault.Device) = record { tickets = kept.tickets; seen_is = kept.seen_is; released_is = kept.released_is }
+      by_answer (Failed fault.OutOfMemory) = kept
+      by_answer (Failed fault.Full) = kept
+      by_answer (Failed fault.Stopped) = kept
+      by_answer (Failed fault.Again) = kept
+      by_answer a = kept
 
   -- ---- a step is handed in
 
-  module _ (new : LedgerState D) (x : Step) (own : HoldsFlight new d.flight) where
+  module _ (new : Driven D) (x : Step) where
     -- where this is said to the step
-    said : (v : Result Verdict Refusal) (a : Answer) (next : Beside) → verdict d.ledger.log x ≡ v → Meets d (Submit x) a (record { ledger = new; flight = d.flight }) → Keeps new.log next (after_submit s x v a) → FollowsTo s (Submit x) a (held (record { ledger = new; flight = d.flight }) next)
-    said v a next judged meets keeps =
-        met (record { ledger = new; flight = d.flight }) next (Submit x) a refl meets own (subst (λ u. Keeps new.log next (after_submit s x u a)) (sym (sym (verdict_is (held d b) s is follows x) ∙ judged)) keeps)
+    said : (v : Result Verdict Refusal) (a : Answer) (claims : List (Option Claim)) → verdict d.ledger.log x ≡ v → Meets d (Submit x) a new → Keeps new.ledger.log claims h.seen h.released (after_submit s x v a) → FollowsTo s (Submit x) a (record h { driver = new; claims = claims })
+    said v a claims judged meets keeps =
+        met (record h { driver = new; claims = claims }) (Submit x) a refl meets (subst (λ u. Keeps new.ledger.log claims h.seen h.released (after_submit s x u a)) (sym (sym (verdict_is d s is follows.shows x) ∙ judged)) keeps)
 
-    refused : (e : Refusal) (v : Result Verdict Refusal) → new ≡ d.ledger → Keeps new.log b (after_submit s x v (answer.Refused e))
-    refused e v now = by_verdict v
-      where
-        same : Keeps new.log b s
-        same = record { tickets = subst (λ (l : LedgerState D). HoldsTickets l.log b.claims s.tickets) (sym now) follows.tickets; seen = follows.seen; released = follows.released }
-
-        by_verdict : (v : Result Verdict Refusal) → Keeps new.log b (after_submit s x v (answer.Refused e))
-        by_verdict (Ok (Fresh k)) = same
-        by_verdict (Ok (Repeat r)) = same
-        by_verdict (Err w) = same
-
-    pub follows_handed : (r : Result Handed Refusal) → HandedTo d.ledger x r new → Meets d (Submit x) (answer_to r) (record { ledger = new; flight = d.flight }) → FollowsTo s (Submit x) (answer_to r) (held (record { ledger = new; flight = d.flight }) (with_claim b r))
-    follows_handed (Ok (Accepted t)) to meets =
+    pub follows_accepted : (t : Claim) → HandedTo d.ledger x (Ok (Accepted t)) new.ledger → Meets d (Submit x) (answer.Accepted t.step) new → FollowsTo s (Submit x) (answer.Accepted t.step) (record h { driver = new; claims = h.claims ++ Some t ∷ [] })
+    follows_accepted t to meets =
         let log = d.ledger.log in
         let more = (with_accepted d.ledger x).log in
         let claim : Claim = record { step = accepted_count log + 1; what = x; kind = to.kind } in
         let one : t ≡ claim = to.claims ∙ ap (claimed x) (reply_is log x to.kind to.judged) in
-        let tickets = holds_push more b.claims s.tickets claim (reply_of claim) refl (granted_new log x to.kind to.judged) (holds_later log more b.claims s.tickets (granted_later log x) follows.tickets) in
-        said (Ok (Fresh to.kind)) (answer.Accepted t.step) (with_claim b (Ok (Accepted t))) to.judged meets
+        let tickets = holds_push more h.claims s.tickets claim (reply_of claim) refl (granted_new log x to.kind to.judged) (holds_later log more h.claims s.tickets (granted_later log x) follows.tickets) in
+        said (Ok (Fresh to.kind)) (answer.Accepted t.step) (h.claims ++ Some t ∷ []) to.judged meets
         (record {
-          tickets = subst (λ (l : LedgerState D). HoldsTickets l.log (b.claims ++ Some t ∷ []) (s.tickets ++ Some (record { step = t.step; kind = to.kind }) ∷ [])) (sym to.now)
-              (subst (λ (c : Claim). HoldsTickets more (b.claims ++ Some c ∷ []) (s.tickets ++ Some (record { step = c.step; kind = to.kind }) ∷ [])) (sym one) tickets);
-          seen = follows.seen;
-          released = follows.released;
+          tickets = subst (λ (l : LedgerState D). HoldsTickets l.log (h.claims ++ Some t ∷ []) (s.tickets ++ Some (record { step = t.step; kind = to.kind }) ∷ [])) (sym to.now)
+              (subst (λ (c : Claim). HoldsTickets more (h.claims ++ Some c ∷ []) (s.tickets ++ Some (record { step = c.step; kind = to.kind }) ∷ [])) (sym one) tickets);
+          seen_is = follows.seen;
+          released_is = follows.released;
         })
-    follows_handed (Ok (Repeated t)) to meets =
+
+    pub follows_repeated : (t : Claim) → HandedTo d.ledger x (Ok (Repeated t)) new.ledger → Meets d (Submit x) (answer.Repeated t.step) new → FollowsTo s (Submit x) (answer.Repeated t.step) (record h { driver = new; claims = h.claims ++ Some t ∷ [] })
+    follows_repeated t to meets =
         let log = d.ledger.log in
-        let tickets = holds_push log b.claims s.tickets (claimed x to.kept) to.kept refl (granted_repeat log x to.kept to.judged) follows.tickets in
-        said (Ok (Repeat to.kept)) (answer.Repeated t.step) (with_claim b (Ok (Repeated t))) to.judged meets
+        let tickets = holds_push log h.claims s.tickets (claimed x to.kept) to.kept refl (granted_repeat log x to.kept to.judged) follows.tickets in
+        said (Ok (Repeat to.kept)) (answer.Repeated t.step) (h.claims ++ Some t ∷ []) to.judged meets
         (record {
-          tickets = subst (λ (l : LedgerState D). HoldsTickets l.log (b.claims ++ Some t ∷ []) (s.tickets ++ Some to.kept ∷ [])) (sym to.now)
-              (subst (λ (c : Claim). HoldsTickets log (b.claims ++ Some c ∷ []) (s.tickets ++ Some to.kept ∷ [])) (sym to.claims) tickets);
-          seen = follows.seen;
-          released = follows.released;
+          tickets = subst (λ (l : LedgerState D). HoldsTickets l.log (h.claims ++ Some t ∷ []) (s.tickets ++ Some to.kept ∷ [])) (sym to.now)
+              (subst (λ (c : Claim). HoldsTickets log (h.claims ++ Some c ∷ []) (s.tickets ++ Some to.kept ∷ [])) (sym to.claims) tickets);
+          seen_is = follows.seen;
+          released_is = follows.released;
         })
-    follows_handed (Err e) to meets = said (verdict d.ledger.log x) (answer.Refused e) b refl meets (refused e (verdict d.ledger.log x) to.now)
+
+    pub follows_refused : (e : Refusal) → HandedTo d.ledger x (Err e) new.ledger → Meets d (Submit x) (answer.Refused e) new → FollowsTo s (Submit x) (answer.Refused e) (record h { driver = new })
+    follows_refused e to meets = said (verdict d.ledger.log x) (answer.Refused e) h.claims refl meets (by_verdict (verdict d.ledger.log x))
+      where
+        by_verdict : (v : Result Verdict Refusal) → Keeps new.ledger.log h.claims h.seen h.released (after_submit s x v (answer.Refused e))
+        by_verdict (Ok (Fresh k)) = same new.ledger.log (ap (λ (l : LedgerState D). l.log) to.now)
+        by_verdict (Ok (Repeat r)) = same new.ledger.log (ap (λ (l : LedgerState D). l.log) to.now)
+        by_verdict (Err w) = same new.ledger.log (ap (λ (l : LedgerState D). l.log) to.now)
 
   -- ---- a flight comes back
 
-  module _ (f : FlightState D) (holds : d.flight ≡ Some f) where
-    own : IsOut d.ledger f
-    own = subst (HoldsFlight d.ledger) holds follows.own
+  module _ (new : Driven D) (releases : List Release) (given : releases ≡ settling_releases d.ledger.log (new.ledger.log.settled - d.ledger.log.settled)) where
+    -- where no step is settled, none is released
+    unsettled : HoldsTickets new.ledger.log h.claims s.tickets → new.ledger.log.settled ≡ d.ledger.log.settled → Keeps new.ledger.log h.claims h.seen (h.released ++ releases) s
+    unsettled tickets now =
+        let none : new.ledger.log.settled - d.ledger.log.settled ≡ 0 = omega (arith, now) in
+        record { tickets = tickets; seen_is = follows.seen; released_is = ap (λ rs. h.released ++ rs) (given ∙ ap (settling_releases d.ledger.log) none) ∙ append-nil h.released ∙ follows.released }
 
-    -- what it releases by this mark
-    gives : (k : Mark) → b.released ++ releases_in f k ≡ released_back s.released s.log (length f.steps) k
-    gives New = append-nil b.released ∙ follows.released
-    gives Good = λ i. follows.released i ++ releases_of (outs ((own.world ∙ settled_is (held d b) s is follows) i) ((own.steps ∙ ap (take (length f.steps)) (pending_is (held d b) s is follows)) i))
-    gives Torn = append-nil b.released ∙ follows.released
+    by_mark : (size : ℕ) (k : Mark) → new.ledger.log ≡ log_back d.ledger.log size k → Keeps new.ledger.log h.claims h.seen (h.released ++ releases) (after_finish s size k)
+    by_mark size k now = of_mark k now (subst (λ g. HoldsTickets g h.claims s.tickets) (sym now) (holds_later d.ledger.log (log_back d.ledger.log size k) h.claims s.tickets (granted_back d.ledger.log size k) follows.tickets))
+      where
+        of_mark : (k : Mark) → new.ledger.log ≡ log_back d.ledger.log size k → HoldsTickets new.ledger.log h.claims s.tickets → Keeps new.ledger.log h.claims h.seen (h.released ++ releases) (after_finish s size k)
+        of_mark New now tickets = let kept = unsettled tickets (ap (λ (g : Log). g.settled) now) in record { tickets = kept.tickets; seen_is = kept.seen_is; released_is = kept.released_is }
+        of_mark Good now tickets =
+            let all : new.ledger.log.settled - d.ledger.log.settled ≡ size = omega (arith, ap (λ (g : Log). g.settled) now) in
+            record {
+              tickets = tickets;
+              seen_is = follows.seen;
+              released_is = (λ i. follows.released i ++ (given ∙ ap (settling_releases d.ledger.log) all) i) ∙ (λ i. s.released ++ releases_of (outs (settled_is d s is follows.shows i) (take size (pending_is d s is follows.shows i))));
+            }
+        of_mark Torn now tickets = let kept = unsettled tickets (ap (λ (g : Log). g.settled) now) in record { tickets = kept.tickets; seen_is = kept.seen_is; released_is = kept.released_is }
 
-    pub follows_back : (back : LedgerState D) (releases : List Release) → back ≡ taken_back d.ledger (length f.steps) f.mark f.disk → releases ≡ releases_in f f.mark → Meets d Finish (Finished (settled_count back.log)) (at_home back) →
-        FollowsTo s Finish (Finished (settled_count back.log)) (held (at_home back) (with_releases b releases))
-    follows_back back releases taken given meets =
-        let log = d.ledger.log in
-        let flown : s.flight ≡ Some (flight_out f) = sym follows.flight ∙ ap (option_map flight_out) holds in
-        met (at_home back) (with_releases b releases) Finish (Finished (settled_count back.log)) refl meets (ap (λ (l : LedgerState D). l.out) taken)
-        (subst (λ o. Keeps back.log (with_releases b releases) (finished s o)) (sym flown)
-        (record {
-          tickets = subst (λ (l : LedgerState D). HoldsTickets l.log b.claims s.tickets) (sym taken) (holds_later log (log_back log (length f.steps) f.mark) b.claims s.tickets (granted_back log (length f.steps) f.mark) follows.tickets);
-          seen = follows.seen;
-          released = ap (λ l. b.released ++ l) given ∙ gives f.mark;
-        }))
+    pub follows_landed : (count : ℕ) → Meets d Finish (Finished count) new → FollowsTo s Finish (Finished count) (record h { driver = new; released = h.released ++ releases })
+    follows_landed count meets =
+        met (record h { driver = new; released = h.released ++ releases }) Finish (Finished count) refl meets
+        (subst (λ o. Keeps new.ledger.log h.claims h.seen (h.released ++ releases) (finished s o)) (flight_is d s follows.shows) (by_flight (option_map flight_out d.flight) (ap (λ (m : Machine). m.log) (meets.leaves s))))
+      where
+        by_flight : (o : Option FlightOut) → new.ledger.log ≡ (finished (machine_of d s) o).log → Keeps new.ledger.log h.claims h.seen (h.released ++ releases) (finished s o)
+        by_flight None now = unsettled (same new.ledger.log now).tickets (ap (λ (g : Log). g.settled) now)
+        by_flight (Some f) now = by_mark f.size f.mark now
+
+  -- it does not
+  pub follows_not_landed : (new : Driven D) (a : Answer) → ((t : Machine) → after t Finish a ≡ t) → Meets d Finish a new → FollowsTo s Finish a (record h { driver = new })
+  follows_not_landed new a stays meets =
+      met (record h { driver = new }) Finish a refl meets (subst (Keeps new.ledger.log h.claims h.seen h.released) (sym (stays s)) (same new.ledger.log (ap (λ (m : Machine). m.log) (meets.leaves s ∙ stays (machine_of d s)))))
 
   -- ---- the disk crashes
 
-  pub follows_opened : (new : Driven D) (count : ℕ) → HoldsFlight new.ledger new.flight → Meets d Crash (Opened count) new → FollowsTo s Crash (Opened count) (held new (after_crash b))
-  follows_opened new count own meets = record {
-    allowed = shows_allowed d new s is shows Crash (Opened count) meets;
-    follows = shown new (after_crash b) (after s Crash (Opened count)) (shows_opened d new s is shows (Opened count) meets) own (record { tickets = tt; seen = refl; released = follows.released });
+  pub follows_opened : (new : Driven D) (count : ℕ) → Meets d Crash (Opened count) new → FollowsTo s Crash (Opened count) (record { driver = new; claims = []; seen = 0; released = h.released })
+  follows_opened new count meets = record {
+    allowed = shows_allowed d new s is follows.shows Crash (Opened count) meets;
+    follows = record { shows = shows_opened d new s is follows.shows (Opened count) meets; tickets = tt; seen = refl; released = follows.released };
   }

@@ -5,7 +5,7 @@ use Rattle.std.specs.Option.{option_map}
 use Rattle.coord_types.specs.declared.limits.TheConstants.{MAX_BATCH_STEPS}
 use Rattle.coord_types.specs.declared.refusals.Refusal.TheVariants.{OutOfMemory}
 use Rattle.coord_ledger.specs.Facade.{Answer, Begin, Begun, Driven, FlightState, HoldsFlight, IsOneOf, LedgerState, Machine, Meets, Nothing, Refused, answers, flight_out, keeps_store, machine_of, next_size, pending, stays_home}
-use Rattle.coord_ledger.proofs.drives.Flights.{Departs}
+use Rattle.coord_ledger.proofs.drives.Flights.{Departs, departs_own}
 
 module _ {D : Type 0} (d : Driven D) (own : HoldsFlight d.ledger d.flight) where
   out_is : (f : Option (FlightState D)) → HoldsFlight d.ledger f → is_some d.ledger.out ≡ is_some (option_map flight_out f)
@@ -25,10 +25,11 @@ module _ {D : Type 0} (d : Driven D) (own : HoldsFlight d.ledger d.flight) where
       record {
         allowed = may false departs.goes (Begun (length f.steps)) (inl (ap Begun size));
         leaves = λ m. λ i. record m { log = ap (λ (l : LedgerState D). l.log) departs.now i; flight = Some (record { size = length f.steps; mark = ap (λ (g : FlightState D). g.mark) departs.is i }) };
+        own = departs_own d.ledger left f departs;
       }
 
   pub meets_nothing : keeps_store d.ledger ≡ true → Meets d Begin Nothing d
-  meets_nothing home = record { allowed = may true home Nothing (inl refl); leaves = λ m. refl }
+  meets_nothing home = record { allowed = may true home Nothing (inl refl); leaves = λ m. refl; own = own }
 
   pub meets_not_begun : keeps_store d.ledger ≡ false → Meets d Begin (Refused OutOfMemory) d
-  meets_not_begun goes = record { allowed = may false goes (Refused OutOfMemory) (inr (inl refl)); leaves = λ m. refl }
+  meets_not_begun goes = record { allowed = may false goes (Refused OutOfMemory) (inr (inl refl)); leaves = λ m. refl; own = own }

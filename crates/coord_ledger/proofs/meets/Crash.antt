@@ -1,5 +1,5 @@
 -- The disk crashes, and a ledger is made anew: an event of the driver's machine.
-use Rattle.std.proofs.Common.{◌≡◌, ℕ, List, ◌+◌, ◌-◌, ◌≤◌, Bool, true, length, sym, ap, ◌∙◌, subst, arith}
+use Rattle.std.proofs.Common.{◌≡◌, ℕ, List, ◌+◌, ◌-◌, ◌≤◌, Bool, true, length, refl, sym, ap, ◌∙◌, subst, arith}
 use Rattle.std.specs.Option.{option_map}
 use Rattle.coord_disk.specs.Model.Present.{Present}
 use Rattle.coord_store.proofs.OneWorld.{recovered_is_one}
@@ -25,4 +25,5 @@ meets_opened {D} d l keeps_model present clock left_since crashes before is imag
     (record {
       allowed = λ m. subst (λ c. IsOneOf (Opened c) (answers (machine_of d m) Crash)) (sym count) (one_mapped (λ k. Opened (log.base.count + k)) n (kept (machine_of d m)) one.allowed);
       leaves = λ m. ap (λ w. record (adopted w) { released = m.released; replied = m.replied }) (world ∙ ap (world_after log) (sym back));
+      own = refl;
     })

@@ -19,4 +19,5 @@ module _ {D : Type 0} (d : Driven D) (f : FlightState D) (holds : d.flight ≡ S
       record {
         allowed = may (Finished (settled_count back.log)) (subst (λ g. IsOneOf (Finished (settled_count g)) (to_finish (settled_count d.ledger.log) (length f.steps) f.mark)) (sym same) (counted d.ledger.log (length f.steps) f.mark));
         leaves = λ m. subst (λ o. machine_of (at_home back) (finished (machine_of d m) (option_map flight_out o)) ≡ finished (machine_of d m) (option_map flight_out o)) (sym holds) (λ i. record (after_finish (machine_of d m) (length f.steps) f.mark) { log = same i });
+        own = ap (λ (l : LedgerState D). l.out) taken;
       }

@@ -31,6 +31,7 @@ module _ {D : Type 0} (d new : Driven D) (s : Machine) (is : IsConsistent s) (sh
     by = shows.by;
     within = omega (arith, shows.within, (settled_stays s e a is (shows_allowed e a meets)).settled);
     is = goes e a (with_base_moved (after s e a) shows.by) meets (calmly (with_base_moved s shows.by) e a calm ∙ moved_goes_on s shows.by e a is shows.within calm (shows_allowed e a meets));
+    own = meets.own;
   }
 
   pub shows_opened : (a : Answer) → Meets d Crash a new → Shows new (after s Crash a)
@@ -44,5 +45,5 @@ module _ {D : Type 0} (d new : Driven D) (s : Machine) (is : IsConsistent s) (sh
       let world = sym (world-add s.log shows.by (s.log.base.count + n - (moved s.log shows.by).base.count)) ∙ ap (world_after s.log) rest in
       let to : goes_to (with_base_moved s shows.by) Crash a ≡ with_base_moved (crashed s n) n =
       ap (goes_to (with_base_moved s shows.by) Crash) one.2 ∙ ap (λ w. record (adopted w) { released = s.released; replied = s.replied }) world ∙ sym (crash_reopens s n) in
-      let reopened : Shows new (crashed s n) = record { by = n; within = omega arith; is = goes Crash a (with_base_moved (crashed s n) n) meets to } in
+      let reopened : Shows new (crashed s n) = record { by = n; within = omega arith; is = goes Crash a (with_base_moved (crashed s n) n) meets to; own = meets.own } in
       subst (λ b. Shows new (after s Crash b)) (sym one.2) (subst (λ k. Shows new (crashed s k)) (sym back) reopened)

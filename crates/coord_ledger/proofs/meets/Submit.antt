@@ -1,12 +1,12 @@
 -- A step is handed in: an event of the driver's machine.
 use Rattle.std.proofs.Common.{◌≡◌, ◌+◌, Result, Ok, Err, refl, sym, ap, ◌∙◌, subst, inl, inr}
 use Rattle.coord_world.specs.declared.verdicts.Verdict.{Verdict}
-use Rattle.coord_ledger.specs.Facade.{Answer, Claim, Driven, Fresh, Handed, HandedTo, IsOneOf, LedgerState, Machine, Meets, Refusal, RefusesStep, Repeat, Step, Submit, accepted_count, after_submit, answer_to, claimed, machine_of, to_submit, verdict}
+use Rattle.coord_ledger.specs.Facade.{Answer, Claim, Driven, Fresh, Handed, HandedTo, HoldsFlight, IsOneOf, LedgerState, Machine, Meets, Refusal, RefusesStep, Repeat, Step, Submit, accepted_count, after_submit, answer_to, claimed, machine_of, to_submit, verdict}
 use Rattle.coord_ledger.specs.declared.events.Answer.TheVariants as answer
 use Rattle.coord_ledger.specs.declared.handed.Handed.TheVariants.{Accepted, Repeated}
 use Rattle.coord_ledger.proofs.machine.ConsistentSteps.{reply_is}
 
-module _ {D : Type 0} (d : Driven D) (new : LedgerState D) (x : Step) where
+module _ {D : Type 0} (d : Driven D) (new : LedgerState D) (x : Step) (own : HoldsFlight new d.flight) where
   abbrev later : Driven D
   later = record { ledger = new; flight = d.flight }
 
@@ -16,6 +16,7 @@ module _ {D : Type 0} (d : Driven D) (new : LedgerState D) (x : Step) where
   said v a judged one leaves = record {
     allowed = λ m. subst (λ u. IsOneOf a (to_submit (accepted_count d.ledger.log + 1) u)) (sym judged) one;
     leaves = λ m. subst (λ u. machine_of later (after_submit (machine_of d m) x u a) ≡ after_submit (machine_of d m) x u a) (sym judged) (leaves m);
+    own = own;
   }
 
   same : new ≡ d.ledger → (m : Machine) → machine_of later m ≡ machine_of d m

@@ -1,5 +1,5 @@
 -- What a driver holds: the disk, with the ledger or with the flight, and what comes of both.
-use Rattle.std.specs.Prelude.{◌≡◌, ◌⊎◌, ℕ, List, Bool, true, false, Option, Some, None, length}
+use Rattle.std.specs.Prelude.{◌≡◌, ◌⊎◌, ℕ, List, [], Bool, true, false, Option, Some, None, length}
 use Rattle.std.specs.Option.{option_map}
 use Rattle.coord_disk.specs.Model.Present.{Present, IsImage}
 use Rattle.coord_store.specs.Facade.{IsOpenFault, IsPassing, Recovered, RefusesOpen}
@@ -11,7 +11,8 @@ use Rattle.coord_ledger.specs.declared.events.Event.TheVariants.{Crash}
 use Rattle.coord_ledger.specs.declared.trace.RunFaultKind.{RunFaultKind}
 use Rattle.coord_ledger.specs.declared.trace.RunFaultKind.TheVariants.{OutOfMemory, Store}
 use Rattle.coord_ledger.specs.ledger.Calls.{taken_back}
-use Rattle.coord_ledger.specs.ledger.Follows.{Follows, Held}
+use Rattle.coord_ledger.specs.ledger.Driven.{Driven, disk_driven}
+use Rattle.coord_ledger.specs.ledger.Meets.{Shows}
 use Rattle.coord_ledger.specs.ledger.State.{FlightState, LedgerState, ledger_over, started}
 use Rattle.coord_ledger.specs.machine.Consistent.{IsConsistent}
 use Rattle.coord_ledger.specs.machine.Machine.{Machine}
@@ -19,17 +20,6 @@ use Rattle.coord_ledger.specs.machine.Runs.{Answered, run}
 use Rattle.coord_ledger.specs.promises.Broken.{IsGivenBack, wants_memory}
 use Rattle.coord_ledger.specs.promises.Headline.{CrashPrefix, EachMoment, Touches, is_crash}
 use Rattle.coord_ledger.specs.promises.Moments.{Reopens}
-
-abbrev pub disk_with : {D : Type 0} → Option D → Option (FlightState D) → Option D
-disk_with disk None = disk
-disk_with disk (Some f) = Some f.disk
-
-abbrev pub disk_held : {D : Type 0} → Held D → Option D
-disk_held h = disk_with h.ledger.disk h.flight
-
--- whether it keeps the model
-abbrev pub model_of : {D : Type 0} → (D → Bool) → Held D → Option Bool
-model_of keeps_model h = option_map keeps_model (disk_held h)
 
 -- its device has failed so often
 abbrev pub HasFailed : {D : Type 0} → (D → ℕ) → Option D → ℕ → Type 0
@@ -87,25 +77,31 @@ pub record HoldsTouched {D : Type 0} (keeps_model : D → Bool) (present : D →
   pub holds : now ≡ Some new
   pub touched : Touches present clock left_since crashes (keeps_model old) found touches e old new
 
--- so with the disk that is held, where a crash inside the event finds this machine
-abbrev pub HeldTouches : {D : Type 0} → (D → Bool) → (D → Present) → (D → ℕ) → (D → ℕ → List ℕ → Type 0) → (D → D → Type 0) → Machine → Bool → Event → Held D → Held D → Type 0
-HeldTouches {D} keeps_model present clock left_since crashes found touches e h next =
-    (old : D) → disk_held h ≡ Some old → HoldsTouched keeps_model present clock left_since crashes found touches e old (disk_held next)
+-- so with the disk that was held, where a crash inside the event finds this machine
+abbrev pub HeldTouches : {D : Type 0} → (D → Bool) → (D → Present) → (D → ℕ) → (D → ℕ → List ℕ → Type 0) → (D → D → Type 0) → Machine → Bool → Event → Option D → Option D → Type 0
+HeldTouches {D} keeps_model present clock left_since crashes found touches e was now =
+    (old : D) → was ≡ Some old → HoldsTouched keeps_model present clock left_since crashes found touches e old now
 
--- where the event was cut short this disk is given back, for the one that is held
-abbrev pub IsLost : {D : Type 0} → (D → Bool) → (D → Present) → (D → ℕ) → (D → ℕ → List ℕ → Type 0) → (D → D → Type 0) → Machine → Event → RunFaultKind → Held D → D → Type 0
-IsLost {D} keeps_model present clock left_since crashes s e kind h lost =
-    (old : D) → disk_held h ≡ Some old → IsGivenBack present clock left_since crashes (keeps_model old) s e kind old lost
+-- where the event was cut short this disk is given back, for the one that was held
+abbrev pub IsLost : {D : Type 0} → (D → Bool) → (D → Present) → (D → ℕ) → (D → ℕ → List ℕ → Type 0) → (D → D → Type 0) → Machine → Event → RunFaultKind → Option D → D → Type 0
+IsLost {D} keeps_model present clock left_since crashes s e kind was lost =
+    (old : D) → was ≡ Some old → IsGivenBack present clock left_since crashes (keeps_model old) s e kind old lost
 
--- whatever a crash between two events may leave survives
-abbrev pub HeldSurvives : {D : Type 0} → (D → Bool) → (D → Present) → Held D → Machine → Type 0
-HeldSurvives {D} keeps_model present h s = (disk : D) → disk_held h ≡ Some disk → CrashPrefix s (keeps_model disk) (present disk)
+-- whatever a crash between two events may leave of the disk that is held survives
+abbrev pub HeldSurvives : {D : Type 0} → (D → Bool) → (D → Present) → Option D → Machine → Type 0
+HeldSurvives {D} keeps_model present held s = (disk : D) → held ≡ Some disk → CrashPrefix s (keeps_model disk) (present disk)
 
 -- what a driver keeps after some events with these answers, of which the first found this disk
-pub record Drives {D : Type 0} (present : D → Present) (clock : D → ℕ) (left_since : D → ℕ → List ℕ → Type 0) (crashes : D → D → Type 0) (keeps_model : Bool) (first : D) (start : LedgerState D) (events : List Event) (given : List Answer) (h : Held D) : Type 0 where
+pub record Drives {D : Type 0} (present : D → Present) (clock : D → ℕ) (left_since : D → ℕ → List ℕ → Type 0) (crashes : D → D → Type 0) (keeps_model : Bool) (first : D) (start : LedgerState D) (events : List Event) (given : List Answer) (d : Driven D) : Type 0 where
   pub answered : Answered (started start) events given
   pub consistent : IsConsistent (run (started start) events given)
-  pub follows : Follows h (run (started start) events given)
+  pub shows : Shows d (run (started start) events given)
   pub disk : D
-  pub holds : disk_held h ≡ Some disk
+  pub holds : disk_driven d ≡ Some disk
   pub moments : EachMoment present clock left_since crashes keeps_model (started start) events given first disk
+
+-- a run of events may begin at what is driven: from this disk it is a run of none
+pub record MayBegin {D : Type 0} (keeps_model : D → Bool) (present : D → Present) (clock : D → ℕ) (left_since : D → ℕ → List ℕ → Type 0) (crashes : D → D → Type 0) (d : Driven D) : Type 0 where
+  pub first : D
+  pub home : d.ledger.disk ≡ Some first
+  pub drives : Drives present clock left_since crashes (keeps_model first) first d.ledger [] [] d

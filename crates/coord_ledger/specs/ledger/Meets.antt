@@ -3,20 +3,18 @@
 -- A driver has the log and the flight of a machine. The tickets, what was shown and what was given out are its holder's,
 -- so its calls are events of a machine whatever of these there is. After a crash its log begins with the world that was
 -- opened.
-use Rattle.std.specs.Prelude.{◌≡◌, ◌-◌, ℕ, ◌≤◌, List, Option, Some, None, Result, Ok, Err}
+use Rattle.std.specs.Prelude.{◌≡◌, ◌-◌, ℕ, ◌≤◌}
 use Rattle.std.specs.Option.{option_map}
 use Rattle.coord_ledger.specs.declared.events.Answer.{Answer}
-use Rattle.coord_ledger.specs.declared.events.Answer.TheVariants.{Finished, NoFlight, Opened, Refused}
+use Rattle.coord_ledger.specs.declared.events.Answer.TheVariants.{Opened}
 use Rattle.coord_ledger.specs.declared.events.Event.{Event}
 use Rattle.coord_ledger.specs.declared.events.Event.TheVariants.{Crash}
-use Rattle.coord_types.specs.declared.refusals.Refusal.{Refusal}
-use Rattle.coord_ledger.specs.declared.release.Release.{Release}
 use Rattle.coord_ledger.specs.laws.Moving.{with_base_moved}
 use Rattle.coord_ledger.specs.ledger.Driven.{Driven}
-use Rattle.coord_ledger.specs.ledger.Follows.{flight_out}
+use Rattle.coord_ledger.specs.ledger.Follows.{HoldsFlight, flight_out}
 use Rattle.coord_ledger.specs.machine.After.{after}
 use Rattle.coord_ledger.specs.machine.Answers.{IsOneOf, answers}
-use Rattle.coord_ledger.specs.machine.Log.{settled_count, world_after}
+use Rattle.coord_ledger.specs.machine.Log.{world_after}
 use Rattle.coord_ledger.specs.machine.Machine.{Machine, adopted}
 
 -- this machine with the log and the flight of a driver
@@ -28,19 +26,16 @@ abbrev pub goes_to : Machine → Event → Answer → Machine
 goes_to s Crash (Opened count) = record (adopted (world_after s.log (count - s.log.base.count))) { released = s.released; replied = s.replied }
 goes_to s event answer = after s event answer
 
--- an event was met: its answer is one of the machine's, and the driver is where the machine goes with it
+-- An event was met: its answer is one of the machine's, the driver is where the machine goes with it, and its flight is
+-- the ledger's own.
 pub record Meets {D : Type 0} (old : Driven D) (e : Event) (a : Answer) (new : Driven D) : Type 0 where
   pub allowed : (m : Machine) → IsOneOf a (answers (machine_of old m) e)
   pub leaves : (m : Machine) → machine_of new (goes_to (machine_of old m) e a) ≡ goes_to (machine_of old m) e a
-
--- as the machine answers a flight that comes back, or does not
-abbrev pub finish_answer : {D : Type 0} → Result (Option (List Release)) Refusal → Driven D → Answer
-finish_answer (Ok None) d = NoFlight
-finish_answer (Ok (Some releases)) d = Finished (settled_count d.ledger.log)
-finish_answer (Err refusal) d = Refused refusal
+  pub own : HoldsFlight new.ledger new.flight
 
 -- the driver is where the machine of a run is, seen from the world after some settled steps
 pub record Shows {D : Type 0} (d : Driven D) (s : Machine) : Type 0 where
   pub by : ℕ
   pub within : by ≤ s.log.settled
   pub is : machine_of d s ≡ with_base_moved s by
+  pub own : HoldsFlight d.ledger d.flight

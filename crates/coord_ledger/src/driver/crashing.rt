@@ -4,7 +4,7 @@ ghost use Rattle.std.specs.Prelude.{◌≡◌, ◌+◌, false, true, ℕ, IfErr,
 ghost use Rattle.coord_disk.specs.Model.Present.{IsImage};
 ghost use Rattle.coord_store.specs.Kept.{has_stopped};
 ghost use Rattle.coord_ledger.specs.declared.trace.RunFaultKind.TheVariants.{OutOfMemory};
-ghost use Rattle.coord_ledger.specs.Facade.{Beside, Crash, Follows, FollowsTo, HasFailed, HeldTouches, IsAnew, IsConsistent, IsEventFault, IsLost, IsReopenFault, IsReopened, Machine, Meets, Opened, Reopens, after_crash, disk_driven, failed_in, held, ledger_over, model_driven, settled_count};
+ghost use Rattle.coord_ledger.specs.Facade.{Crash, HasFailed, HeldTouches, IsAnew, IsConsistent, IsEventFault, IsLost, IsReopenFault, IsReopened, Machine, Meets, Opened, Reopens, Shows, disk_driven, failed_in, ledger_over, model_driven, settled_count};
 
 use super::Driver;
 use crate::{Ledger, RunFaultKind};
@@ -53,20 +53,16 @@ impl<D: CrashDisk> Driver<D> {
     /// The disk crashes and is opened again, and the flight is gone. The count of the world that was
     /// opened, and its driver; or why none was, and the disk.
     pub fn crash(self, alloc: Global) -> Result<(u64, Self), (RunFaultKind, D)>
-        ensures answered { (b : Beside) (s : Machine) → IsConsistent s → Follows (held self b) s →
-            model_driven D.keeps_model self ≡ Some true
-            → IfOk result (λ opened. FollowsTo s Crash (Opened opened.0)
-            (held opened.1 (after_crash b))) }
         ensures meets { model_driven D.keeps_model self ≡ Some true →
             IfOk result (λ opened. Meets self Crash (Opened opened.0) opened.1) }
         ensures anew { IfOk result (λ opened. IsAnew opened.1) }
         ensures count { IfOk result (λ opened. opened.0 ≡ settled_count opened.1.ledger.log) }
-        ensures disk { (b : Beside) (s : Machine) → IsConsistent s → Follows (held self b) s
+        ensures disk { (s : Machine) → IsConsistent s → Shows self s
             → MatchResult result (λ opened.
             HeldTouches D.keeps_model D.present D.clock D.left_since D.crashes s true Crash
-            (held self b) (held opened.1 (after_crash b))) (λ refused.
+            (disk_driven self) (disk_driven opened.1)) (λ refused.
             IsLost D.keeps_model D.present D.clock D.left_since D.crashes s Crash refused.0
-            (held self b) refused.1) }
+            (disk_driven self) refused.1) }
         ensures failures { (n : ℕ) → HasFailed D.failures (disk_driven self) n
             → MatchResult result (λ opened. HasFailed D.failures (disk_driven opened.1) n)
             (λ refused. D.failures refused.1 ≡ n + failed_in refused.0) }

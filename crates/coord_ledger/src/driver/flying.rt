@@ -1,7 +1,7 @@
 //! Flights go out, are committed, and come back.
 
 ghost use Rattle.std.specs.Prelude.{◌≡◌, ◌+◌, ◌-◌, List, ℕ, Ok, Some};
-ghost use Rattle.coord_ledger.specs.Facade.{Begin, Beside, Commit, Finish, FinishesTo, Follows, FollowsTo, HasFailed, HeldTouches, IsConsistent, Machine, Meets, Release as Row, disk_driven, failed_at, finish_answer, found_by_crash, held, model_driven, settling_releases, touches_disk};
+ghost use Rattle.coord_ledger.specs.Facade.{Begin, Commit, Finish, HasFailed, HeldTouches, IsConsistent, Machine, Meets, Release as Row, Shows, disk_driven, failed_at, finish_answer, found_by_crash, model_driven, settling_releases, touches_disk};
 
 use super::Driver;
 use crate::{Answer, Releases};
@@ -12,8 +12,6 @@ impl<D: CrashDisk> Driver<D> {
     /// A flight goes out. While one is out, none does. Answers `Begun`, `Nothing`, or `Refused` for
     /// want of memory.
     pub fn begin(self) -> (Answer, Self)
-        ensures answered { (b : Beside) (s : Machine) → IsConsistent s → Follows (held self b) s →
-            FollowsTo s Begin result.0 (held result.1 b) }
         ensures meets { Meets self Begin result.0 result.1 }
         ensures log { result.1.ledger.log ≡ self.ledger.log }
         ensures disk { disk_driven result.1 ≡ disk_driven self }
@@ -33,14 +31,12 @@ impl<D: CrashDisk> Driver<D> {
 
     /// The flight that is out is committed. Answers `Committed`, `Failed`, or `NoFlight`.
     pub fn commit(&mut self) -> Answer
-        ensures answered { (b : Beside) (s : Machine) → IsConsistent s →
-            Follows (held self.old b) s → FollowsTo s Commit result (held self.new b) }
         ensures meets { Meets self.old Commit result self.new }
         ensures ledger { self.new.ledger ≡ self.old.ledger }
-        ensures disk { (b : Beside) (s : Machine) → IsConsistent s → Follows (held self.old b) s
+        ensures disk { (s : Machine) → IsConsistent s → Shows self.old s
             → HeldTouches D.keeps_model D.present D.clock D.left_since D.crashes
-            (found_by_crash s Commit result) (touches_disk Commit result) Commit (held self.old b)
-            (held self.new b) }
+            (found_by_crash s Commit result) (touches_disk Commit result) Commit
+            (disk_driven self.old) (disk_driven self.new) }
         ensures failures { (n : ℕ) → HasFailed D.failures (disk_driven self.old) n →
             HasFailed D.failures (disk_driven self.new) (n + failed_at Commit result) }
         ensures model { model_driven D.keeps_model self.new ≡ model_driven D.keeps_model self.old }
@@ -58,8 +54,6 @@ impl<D: CrashDisk> Driver<D> {
     /// The flight that is out comes back: what it releases, or None where no flight is out. For want
     /// of memory it stays out.
     pub fn finish(self) -> (Result<Option<Releases>, Refusal>, Self)
-        ensures answered { (b : Beside) (s : Machine) → IsConsistent s → Follows (held self b) s →
-            FinishesTo s b result.0 result.1 }
         ensures meets { Meets self Finish (finish_answer result.0 result.1) result.1 }
         ensures base { result.1.ledger.log.base ≡ self.ledger.log.base }
         ensures released { (releases : List Row) → result.0 ≡ Ok (Some releases) →

@@ -2,7 +2,7 @@
 
 ghost use Rattle.std.specs.Prelude.{◌≡◌, List, None, IfErr, IfOk, IsSomeAnd, MatchResult, Some};
 ghost use Rattle.coord_ledger.specs.declared.trace.RunFaultKind.TheVariants.{OutOfMemory};
-ghost use Rattle.coord_ledger.specs.Facade.{Answer as Reaction, Drives, Event as What, Good, LedgerState, Ran, disk_held, started};
+ghost use Rattle.coord_ledger.specs.Facade.{Answer as Reaction, Drives, Event as What, Follows, Good, LedgerState, Ran, disk_driven, run, started};
 
 use super::flights::Broken;
 use super::released::forget_all;
@@ -16,13 +16,14 @@ impl<D: CrashDisk> Run<D> {
         ensures ran { (start : LedgerState D) → (first : D) → (events : List What) →
             (given : List Reaction) → (after : D)
             → Drives D.present D.clock D.left_since D.crashes
-            (D.keeps_model after) first start events given self
+            (D.keeps_model after) first start events given self.driver
+            → Follows self (run (started start) events given)
             → IfOk result (λ r. r.1.disk ≡ Some after →
             Ran D.present D.clock D.left_since D.crashes (started start) events given r.0.items r.1
             (D.keeps_model after) first after) }
         ensures home { IfOk result (λ r. r.1.out ≡ None) }
-        ensures disk { MatchResult result (λ r. r.1.disk ≡ disk_held self) (λ broken.
-            disk_held self ≡ Some broken.disk) }
+        ensures disk { MatchResult result (λ r. r.1.disk ≡ disk_driven self.driver) (λ broken.
+            disk_driven self.driver ≡ Some broken.disk) }
         ensures refused { IfErr result (λ broken. broken.released.items ≡ self.released) }
         ensures out { IfErr result (λ _. IsSomeAnd self.flight (λ flight. flight.mark ≡ Good)) }
         ensures kind { IfErr result (λ broken. broken.kind ≡ OutOfMemory) }

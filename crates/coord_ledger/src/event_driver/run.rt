@@ -1,7 +1,7 @@
 //! What a run of events holds between two events.
 
 ghost use Rattle.std.specs.Prelude.{◌≡◌, ◌+◌, ℕ, IfOk, OnErr, Some};
-ghost use Rattle.coord_ledger.specs.Facade.{Collect, Commit, Follows, FollowsTo, HasFailed, HeldSurvives, HeldTouches, IsConsistent, IsLeftOut, Machine, Resend, Show, Submit, disk_held, failed_at, found_by_crash, model_of, touches_disk};
+ghost use Rattle.coord_ledger.specs.Facade.{Collect, Commit, Follows, FollowsTo, HasFailed, HeldSurvives, HeldTouches, IsConsistent, IsLeftOut, Machine, Resend, Show, Shows, Submit, disk_driven, failed_at, found_by_crash, model_driven, touches_disk};
 
 use super::released::push_releases;
 use crate::{Answer, Driver, Handed, Release, Seen, Ticket};
@@ -11,7 +11,7 @@ use std::alloc::AllocError;
 use std::marker::Model;
 
 /// The driver of a ledger, the tickets as they were given, what was shown last, and what was
-/// released. Contracts see `Held` (`specs/ledger/Follows.antt`).
+/// released. Contracts see `Held` (`specs/ledger/Held.antt`).
 pub struct Run<D: CrashDisk> {
     pub driver: Driver<D>,
     pub tickets: Vec<Option<Ticket>>,
@@ -20,13 +20,12 @@ pub struct Run<D: CrashDisk> {
 }
 
 impl<D: CrashDisk> Model for Run<D> {
-    ghost use Rattle.coord_ledger.specs.ledger.Follows.{Held};
+    ghost use Rattle.coord_ledger.specs.ledger.Held.{Held};
 
     ghost Value = { Held D };
 
     ghost view = { λ r. record {
-      ledger = r.driver.ledger;
-      flight = r.driver.flight;
+      driver = r.driver;
       claims = r.tickets.items;
       seen = r.seen;
       released = r.released.items;
@@ -38,8 +37,8 @@ impl<D: CrashDisk> Run<D> {
     /// may leave between two events is the world after a prefix of the accepted steps that holds all
     /// that was released, and a legal one.
     pub fn survives(&self)
-        ensures { (s : Machine) → IsConsistent s → Follows self.now s →
-            HeldSurvives D.keeps_model D.present self.now s }
+        ensures { (s : Machine) → IsConsistent s → Shows self.now.driver s →
+            HeldSurvives D.keeps_model D.present (disk_driven self.now.driver) s }
     {
         self.driver.survives();
     }
@@ -49,7 +48,7 @@ impl<D: CrashDisk> Run<D> {
         ensures answered { (s : Machine) → IsConsistent s → Follows self.old s →
             IfOk result (λ answer. FollowsTo s (Submit step) answer self.new) }
         ensures err { OnErr result (self.new ≡ self.old) }
-        ensures disk { disk_held self.new ≡ disk_held self.old }
+        ensures disk { disk_driven self.new.driver ≡ disk_driven self.old.driver }
     {
         self.tickets.reserve(1)?;
         match self.driver.submit(step) {
@@ -71,7 +70,7 @@ impl<D: CrashDisk> Run<D> {
     pub fn collect(&mut self, index: usize) -> Answer
         ensures answered { (s : Machine) → IsConsistent s → Follows self.old s →
             FollowsTo s (Collect index) result self.new }
-        ensures disk { disk_held self.new ≡ disk_held self.old }
+        ensures disk { disk_driven self.new.driver ≡ disk_driven self.old.driver }
     {
         if index >= self.tickets.len() {
             return Answer::NoTicket;
@@ -96,10 +95,11 @@ impl<D: CrashDisk> Run<D> {
             FollowsTo s Commit result self.new }
         ensures disk { (s : Machine) → IsConsistent s → Follows self.old s
             → HeldTouches D.keeps_model D.present D.clock D.left_since D.crashes
-            (found_by_crash s Commit result) (touches_disk Commit result) Commit self.old self.new }
-        ensures failures { (n : ℕ) → HasFailed D.failures (disk_held self.old) n →
-            HasFailed D.failures (disk_held self.new) (n + failed_at Commit result) }
-        ensures model { model_of D.keeps_model self.new ≡ model_of D.keeps_model self.old }
+            (found_by_crash s Commit result) (touches_disk Commit result) Commit
+            (disk_driven self.old.driver) (disk_driven self.new.driver) }
+        ensures failures { (n : ℕ) → HasFailed D.failures (disk_driven self.old.driver) n →
+            HasFailed D.failures (disk_driven self.new.driver) (n + failed_at Commit result) }
+        ensures model { model_driven D.keeps_model self.new.driver ≡ model_driven D.keeps_model self.old.driver }
     {
         self.driver.commit()
     }
@@ -110,7 +110,7 @@ impl<D: CrashDisk> Run<D> {
             IfOk result (λ answer. FollowsTo s Resend answer self.new) }
         ensures cut { (s : Machine) → IsConsistent s → Follows self.old s →
             OnErr result (IsLeftOut s Resend self.new.released) }
-        ensures disk { disk_held self.new ≡ disk_held self.old }
+        ensures disk { disk_driven self.new.driver ≡ disk_driven self.old.driver }
     {
         match self.driver.ledger().resend() {
             Ok(releases) => {
@@ -125,7 +125,7 @@ impl<D: CrashDisk> Run<D> {
     pub fn show(&mut self) -> Answer
         ensures answered { (s : Machine) → IsConsistent s → Follows self.old s →
             FollowsTo s Show result self.new }
-        ensures disk { disk_held self.new ≡ disk_held self.old }
+        ensures disk { disk_driven self.new.driver ≡ disk_driven self.old.driver }
     {
         match self.driver.ledger().show(&mut self.seen) {
             Ok(view) => Answer::Shown(view),

@@ -2,7 +2,7 @@ use Rattle.std.proofs.Common.{◌≡◌, ◌+◌, [], length, false, Some, Ok, E
 use Rattle.std.proofs.Math.Seq.{take-length}
 use Rattle.std.proofs.lemmas.List.{length-take-le, length_push}
 use Rattle.coord_store.proofs.Freshness.{take-push}
-use Rattle.coord_ledger.specs.Facade.{IsCutShort, IsEventFault, IsLost, Ran, RunFaultKind, disk_driven, disk_held, disk_with, failed_at, failed_in, failed_until, model_of, started}
+use Rattle.coord_ledger.specs.Facade.{IsCutShort, IsEventFault, IsLost, Ran, RunFaultKind, disk_driven, disk_with, failed_at, failed_in, failed_until, model_driven, started}
 use Rattle.coord_ledger.proofs.drives.BreaksOff.{broke_after, broke_first, broke_meeting, caused}
 use Rattle.coord_ledger.proofs.drives.Drives.{Underway, underway_first, underway_on}
 use Rattle.coord_ledger.proofs.drives.Ends.{ran_all}
@@ -43,13 +43,13 @@ returns-in-Err-clause-broke g c =
     c.at-in-Err.result.0.at c.at-in-Err.result.0.trace.answers.items c.at-in-Err.result.0.kind c.at-in-Err.result.0.trace.released.items c.at-in-Err.result.1 c.at-in-Err.ensures.at c.at-in-Err.ensures.answers
     (λ s is follows on. subst (λ k. IsCutShort s c.index-events-at.result k c.at-in-Err.result.0.trace.released.items) (sym c.at-in-Err.ensures.kind)
     (subst (IsCutShort s c.index-events-at.result c.in-Err.broken.kind) (sym c.at-in-Err.ensures.released) (c.in-Err.ensures.answered s is follows on)))
-    (λ s is follows. subst (λ (p : RunFaultKind × g.row.D.Denot). IsLost {D = g.row.D.Denot} g.D.Disk.keeps_model g.D.Disk.present g.D.Disk.clock g.D.Disk.left_since g.D.CrashDisk.crashes s c.index-events-at.result p.0 c.loop-at.held p.1) (sym (λ i. (c.at-in-Err.ensures.kind i, c.at-in-Err.ensures.disk i)))
+    (λ s is follows. subst (λ (p : RunFaultKind × g.row.D.Denot). IsLost {D = g.row.D.Denot} g.D.Disk.keeps_model g.D.Disk.present g.D.Disk.clock g.D.Disk.left_since g.D.CrashDisk.crashes s c.index-events-at.result p.0 (disk_driven c.loop-at.held.driver) p.1) (sym (λ i. (c.at-in-Err.ensures.kind i, c.at-in-Err.ensures.disk i)))
     (c.in-Err.ensures.disk s is follows))
 
 pub returns-in-Err-clause-cause : goal.returns-in-Err-clause-cause
 returns-in-Err-clause-cause g c =
     caused g.D.Disk.present g.D.Disk.clock g.D.Disk.left_since g.D.CrashDisk.crashes g.D.Disk.keeps_model c.args.ledger c.args.events.now c.loop-at.at c.loop-at.answers.items c.loop-at.held c.loop-at.invariant.underway c.index-events-at.result c.loop-at-test.true c.index-events-at.is
-    c.at-in-Err.result.0.at c.at-in-Err.result.0.kind c.at-in-Err.result.0.trace.released.items c.at-in-Err.ensures.at (subst (IsEventFault (model_of g.D.Disk.keeps_model c.loop-at.held) c.index-events-at.result) (sym c.at-in-Err.ensures.kind) c.in-Err.ensures.cause)
+    c.at-in-Err.result.0.at c.at-in-Err.result.0.kind c.at-in-Err.result.0.trace.released.items c.at-in-Err.ensures.at (subst (IsEventFault (model_driven g.D.Disk.keeps_model c.loop-at.held.driver) c.index-events-at.result) (sym c.at-in-Err.ensures.kind) c.in-Err.ensures.cause)
 
 pub returns-in-Err-clause-failures : goal.returns-in-Err-clause-failures
 returns-in-Err-clause-failures g c n so =
@@ -71,7 +71,7 @@ loop-at-preserved g c =
           let e = c.index-events-at.result in
           let taken : length (take c.loop-at.at events) ≡ c.loop-at.at = length-take-le c.loop-at.at events (omega (arith, c.loop-at-test.true)) in
           let all = (λ i. failed_until (take-push events c.loop-at.at e c.loop-at-test.true c.index-events-at.is i) (given i)) ∙ failed_on (take c.loop-at.at events) c.loop-at.answers.items e c.in-Ok.answer (c.loop-at.invariant.many ∙ sym taken) in
-          failed_as g.D.Disk.failures (disk_held c.in-Ok.next) ((n + before) + failed_at e c.in-Ok.answer) (n + failed_until (take (c.loop-at.at + 1) events) c.push_reserved.new.self.items) (omega (arith, all))
+          failed_as g.D.Disk.failures (disk_driven c.in-Ok.next.driver) ((n + before) + failed_at e c.in-Ok.answer) (n + failed_until (take (c.loop-at.at + 1) events) c.push_reserved.new.self.items) (omega (arith, all))
           (c.in-Ok.ensures.failures (n + before) (c.loop-at.invariant.failed n so));
     }
 
@@ -81,14 +81,14 @@ returns-in-Ok-end-clause-ran g c before after disk back =
     ran_all g.D.Disk.present g.D.Disk.clock g.D.Disk.left_since g.D.CrashDisk.crashes g.D.Disk.keeps_model c.args.ledger c.args.events.now c.loop-at.at c.loop-at.answers.items c.loop-at.held after
     (λ first. Ran {D = g.row.D.Denot} g.D.Disk.present g.D.Disk.clock g.D.Disk.left_since g.D.CrashDisk.crashes (started c.args.ledger) c.args.events.now c.loop-at.answers.items c.in-Ok-end.released.items c.in-Ok-end.ledger (g.D.Disk.keeps_model after) first after) c.loop-at.invariant.underway last
     (sym c.in-Ok-end.ensures.disk ∙ back)
-    (λ first drives. c.in-Ok-end.ensures.ran c.args.ledger first c.args.events.now c.loop-at.answers.items after drives back) before disk
+    (λ first drives follows. c.in-Ok-end.ensures.ran c.args.ledger first c.args.events.now c.loop-at.answers.items after drives follows back) before disk
 
 pub returns-in-Ok-end-clause-failures : goal.returns-in-Ok-end-clause-failures
 returns-in-Ok-end-clause-failures g c n so =
     let last : c.loop-at.at ≡ length c.args.events.now = omega arith in
     let all : take c.loop-at.at c.args.events.now ≡ c.args.events.now = ap (λ k. take k c.args.events.now) last ∙ take-length c.args.events.now in
     failed_as g.D.Disk.failures c.in-Ok-end.ledger.disk (n + failed_until (take c.loop-at.at c.args.events.now) c.loop-at.answers.items) (n + failed_until c.args.events.now c.loop-at.answers.items) (ap (λ l. n + failed_until l c.loop-at.answers.items) all)
-    (failed_same g.D.Disk.failures (disk_held c.loop-at.held) c.in-Ok-end.ledger.disk (n + failed_until (take c.loop-at.at c.args.events.now) c.loop-at.answers.items) c.in-Ok-end.ensures.disk (c.loop-at.invariant.failed n so))
+    (failed_same g.D.Disk.failures (disk_driven c.loop-at.held.driver) c.in-Ok-end.ledger.disk (n + failed_until (take c.loop-at.at c.args.events.now) c.loop-at.answers.items) c.in-Ok-end.ensures.disk (c.loop-at.invariant.failed n so))
 
 pub returns-in-Err-end-clause-broke : goal.returns-in-Err-end-clause-broke
 returns-in-Err-end-clause-broke g c =
@@ -101,6 +101,6 @@ pub returns-in-Err-end-clause-failures : goal.returns-in-Err-end-clause-failures
 returns-in-Err-end-clause-failures g c n so =
     let last : c.loop-at.at ≡ length c.args.events.now = omega arith in
     let at = c.at-in-Err-end.ensures.at ∙ sym last in
-    failed_giving_up g.D.Disk.failures (disk_held c.loop-at.held) c.at-in-Err-end.result.1 c.at-in-Err-end.result.0.kind (n + failed_until (take c.loop-at.at c.args.events.now) c.loop-at.answers.items) (c.in-Err-end.ensures.disk ∙ ap Some (sym c.at-in-Err-end.ensures.disk))
+    failed_giving_up g.D.Disk.failures (disk_driven c.loop-at.held.driver) c.at-in-Err-end.result.1 c.at-in-Err-end.result.0.kind (n + failed_until (take c.loop-at.at c.args.events.now) c.loop-at.answers.items) (c.in-Err-end.ensures.disk ∙ ap Some (sym c.at-in-Err-end.ensures.disk))
     (c.at-in-Err-end.ensures.kind ∙ c.in-Err-end.ensures.kind) (c.loop-at.invariant.failed n so)
     ∙ sym (λ i. (n + failed_until (take (at i) c.args.events.now) (c.at-in-Err-end.ensures.answers i)) + failed_in c.at-in-Err-end.result.0.kind)

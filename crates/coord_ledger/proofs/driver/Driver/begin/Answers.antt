@@ -1,7 +1,6 @@
 use Rattle.std.proofs.Common.{◌≡◌, length, Option, Some, None, Ok, sym, ap, ◌∙◌, subst, rules}
 use Rattle.coord_types.specs.declared.refusals.Refusal.TheVariants.{OutOfMemory}
 use Rattle.coord_ledger.specs.Facade.{Answer, Begin, Begun, Driven, FlightState, HoldsFlight, LedgerState, Meets, Nothing, Refused, at_home}
-use Rattle.coord_ledger.proofs.follows.FollowsMet.{follows_begun}
 use Rattle.coord_ledger.proofs.drives.Flights.{begun_err, begun_none, begun_some, departs_own}
 use Rattle.coord_ledger.proofs.meets.Begin.{meets_next, meets_not_begun, meets_nothing}
 use Rattle.coord_ledger.proofs.driver.Driver.begin.Goals as goal
@@ -49,7 +48,3 @@ returns-clause-meets g c =
           (subst (λ l. Meets c.args.self Begin (Refused OutOfMemory) (at_home l)) (sym w.in-Err.ensures.err)
           (subst (λ (d : Driven g.row.D.Denot). Meets d Begin (Refused OutOfMemory) (at_home c.self.inside.ledger)) same (meets_not_begun old home goes)))
     ]
-
-pub returns-clause-answered : goal.returns-clause-answered
-returns-clause-answered g c b s is follows =
-    follows_begun c.args.self b s is follows (record { ledger = c.begin_flush.new.self; flight = c.match-begin_flush.answer.1 }) c.match-begin_flush.answer.0 (invariant_of-result-2 g c) (returns-clause-meets g c)

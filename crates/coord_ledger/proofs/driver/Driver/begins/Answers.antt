@@ -1,5 +1,5 @@
 use Rattle.std.proofs.Common.{◌≡◌, ◌+◌, ◌≤◌, false, length, None, Option, Some, is_none, is_some, refl, sym, ap, ◌∙◌, subst, IfSome}
-use Rattle.coord_ledger.specs.Facade.{Driven, HoldsFlight, IsConsistentLog, LedgerState, nothing_beside}
+use Rattle.coord_ledger.specs.Facade.{Driven, HoldsFlight, IsConsistentLog, LedgerState}
 use Rattle.coord_ledger.proofs.drives.Drives.{drives_first}
 use Rattle.coord_ledger.proofs.driver.Driver.begins.Goals as goal
 
@@ -20,5 +20,5 @@ returns g c =
       drives = drives_first g.D.Disk.present g.D.Disk.clock g.D.Disk.left_since g.D.CrashDisk.crashes g.D.Disk.keeps_model first.0 d c.requires own
           (subst (λ (l : LedgerState g.row.D.Denot). IsConsistentLog l.log) same c.log_is_consistent.ensures.log)
           (subst (λ (l : LedgerState g.row.D.Denot). IfSome l.log.doubt (λ b. (1 ≤ b) × (l.log.settled + b ≤ length l.log.trail))) same c.log_is_consistent.ensures.doubted)
-          first.1 (c.survives.ensures nothing_beside);
+          first.1 c.survives.ensures;
     }

@@ -1,8 +1,7 @@
 use Rattle.std.proofs.Common.{◌≡◌, ◌+◌, true, sym, ap, ◌∙◌, subst}
 use Rattle.std.specs.Option.{option_map}
 use Rattle.coord_world.specs.protocol.NumberedWorld.{World}
-use Rattle.coord_ledger.specs.Facade.{Crash, Driven, HoldsFlight, ImagesGive, LedgerState, Meets, Opened, after_crash, at_home, disk_driven, failed_in, flight_out, held, kept_by, model_driven, settled_world}
-use Rattle.coord_ledger.proofs.follows.FollowsMet.{follows_opened}
+use Rattle.coord_ledger.specs.Facade.{Crash, Driven, ImagesGive, Meets, Opened, at_home, disk_driven, failed_in, flight_out, kept_by, model_driven, settled_world}
 use Rattle.coord_ledger.proofs.drives.FollowsTo.{crash_fault, some_is}
 use Rattle.coord_ledger.proofs.drives.EachMoment.{crash_lost, crash_touches}
 use Rattle.coord_ledger.proofs.drives.Failures.{failed_as, failed_same, failed_so}
@@ -19,13 +18,12 @@ returns-in-Err-clause-cause g c =
     crash_fault (model_driven g.D.Disk.keeps_model c.args.self) (g.D.Disk.keeps_model d) (g.D.Disk.present d) (g.D.Disk.present c.in-Err.refused.1) c.args.self.ledger.log (kept_by c.args.self.ledger.log.settled (option_map flight_out c.args.self.flight) c.args.self.ledger.log.doubt) c.in-Err.refused.0 (ap (option_map g.D.Disk.keeps_model) c.into_disk.ensures.disk) c.into_disk.ensures.images c.in-Err.ensures.cause
 
 pub returns-in-Ok-clause-disk : goal.returns-in-Ok-clause-disk
-returns-in-Ok-clause-disk g c b s is follows =
-    crash_touches g.D.Disk.present g.D.Disk.clock g.D.Disk.left_since g.D.CrashDisk.crashes g.D.Disk.keeps_model (held c.args.self b) s c.into_disk.result c.into_disk.ensures.disk (c.survives.ensures b s is follows) c.in-Ok.ledger
-    (held c.over.result (after_crash b)) c.in-Ok.ensures.opened (ap disk_driven c.over.ensures)
+returns-in-Ok-clause-disk g c s is shows =
+    crash_touches g.D.Disk.present g.D.Disk.clock g.D.Disk.left_since g.D.CrashDisk.crashes g.D.Disk.keeps_model (disk_driven c.args.self) s c.into_disk.result c.into_disk.ensures.disk (c.survives.ensures s is shows) c.in-Ok.ledger (disk_driven c.over.result) c.in-Ok.ensures.opened (ap disk_driven c.over.ensures)
 
 pub returns-in-Err-clause-disk : goal.returns-in-Err-clause-disk
-returns-in-Err-clause-disk g c b s is follows =
-    crash_lost g.D.Disk.present g.D.Disk.clock g.D.Disk.left_since g.D.CrashDisk.crashes g.D.Disk.keeps_model (held c.args.self b) s c.into_disk.result c.into_disk.ensures.disk (c.survives.ensures b s is follows) c.in-Err.refused.0 c.in-Err.refused.1 c.in-Err.ensures.lost c.in-Err.ensures.cause
+returns-in-Err-clause-disk g c s is shows =
+    crash_lost g.D.Disk.present g.D.Disk.clock g.D.Disk.left_since g.D.CrashDisk.crashes g.D.Disk.keeps_model (disk_driven c.args.self) s c.into_disk.result c.into_disk.ensures.disk (c.survives.ensures s is shows) c.in-Err.refused.0 c.in-Err.refused.1 c.in-Err.ensures.lost c.in-Err.ensures.cause
 
 -- how often the device has failed
 
@@ -52,9 +50,3 @@ returns-in-Ok-clause-meets g c on =
     let count = c.count-count.ensures ∙ ap (λ (w : World). w.count) c.settled.ensures in
     subst (λ (x : Driven g.row.D.Denot). Meets c.args.self Crash (Opened c.count-count.result) x) (sym c.over.ensures)
     (subst (λ n. Meets c.args.self Crash (Opened n) (at_home c.in-Ok.ledger)) (sym count) met)
-
-pub returns-in-Ok-clause-answered : goal.returns-in-Ok-clause-answered
-returns-in-Ok-clause-answered g c b s is follows on =
-    let home = ap (λ (l : LedgerState g.row.D.Denot). l.out) c.in-Ok.ensures.opened.is in
-    let own = subst (λ (d : Driven g.row.D.Denot). HoldsFlight d.ledger d.flight) (sym c.over.ensures) home in
-    follows_opened c.args.self b s is follows c.over.result c.count-count.result own (returns-in-Ok-clause-meets g c on)

@@ -1,16 +1,8 @@
-use Rattle.std.proofs.Common.{◌≡◌, ◌-◌, Some, Ok, sym, ap, ◌∙◌, subst}
-use Rattle.coord_ledger.specs.Facade.{Driven, Finish, Finished, FinishesTo, Follows, Meets, at_home, held, settled_count, settling_releases}
+use Rattle.std.proofs.Common.{◌≡◌, ◌-◌, sym, ap, ◌∙◌, subst}
+use Rattle.coord_ledger.specs.Facade.{Driven, Finish, Finished, Meets, at_home, settled_count, settling_releases}
 use Rattle.coord_ledger.proofs.meets.Finish.{meets_back}
 use Rattle.coord_ledger.proofs.drives.Flights.{gave, same_base}
-use Rattle.coord_ledger.proofs.follows.FollowsMet.{follows_back}
 use Rattle.coord_ledger.proofs.driver.Driver.finish.Goals as goal
-
-pub returns-in-Ok-clause-answered : goal.returns-in-Ok-clause-answered
-returns-in-Ok-clause-answered g c b s is follows =
-    let old : Driven g.row.D.Denot = record { ledger = c.self.inside.ledger; flight = c.self.inside.flight } in
-    let inside : Follows (held old b) s = subst (λ (d : Driven g.row.D.Denot). Follows (held d b) s) (sym c.self.view_is) follows in
-    subst (λ (d : Driven g.row.D.Denot). FinishesTo s b (Ok (Some c.in-Ok.releases)) d) (sym c.over-in-Ok.ensures)
-    (follows_back old b s is inside c.in-Some.flight c.in-Some.is c.end_flush.new.self c.in-Ok.releases c.in-Ok.ensures.taken c.in-Ok.ensures.released (meets_back old c.in-Some.flight c.in-Some.is c.end_flush.new.self c.in-Ok.ensures.taken))
 
 pub returns-in-Ok-clause-base : goal.returns-in-Ok-clause-base
 returns-in-Ok-clause-base g c =
@@ -23,3 +15,9 @@ returns-in-Ok-clause-released g c releases is =
     sym same ∙ gives ∙ (λ i. settling_releases (c.self.view_is i).ledger.log ((sym c.over-in-Ok.ensures i).ledger.log.settled - (c.self.view_is i).ledger.log.settled))
 
 -- it is an event of its machine
+
+pub returns-in-Ok-clause-meets : goal.returns-in-Ok-clause-meets
+returns-in-Ok-clause-meets g c =
+    let old : Driven g.row.D.Denot = record { ledger = c.self.inside.ledger; flight = c.self.inside.flight } in
+    subst (λ (d : Driven g.row.D.Denot). Meets c.args.self Finish (Finished (settled_count d.ledger.log)) d) (sym c.over-in-Ok.ensures)
+    (subst (λ (d : Driven g.row.D.Denot). Meets d Finish (Finished (settled_count c.end_flush.new.self.log)) (at_home c.end_flush.new.self)) c.self.view_is (meets_back old c.in-Some.flight c.in-Some.is c.end_flush.new.self c.in-Ok.ensures.taken))

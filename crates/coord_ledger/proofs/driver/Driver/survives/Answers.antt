@@ -1,13 +1,13 @@
 use Rattle.std.proofs.Common.{true, sym, ap, ◌∙◌, subst, ◌≡◌, IfSome}
-use Rattle.coord_ledger.specs.Facade.{Driven, LedgerGives, LedgerState, held}
+use Rattle.coord_ledger.specs.Facade.{Driven, LedgerGives, LedgerState}
 use Rattle.coord_ledger.proofs.drives.EachMoment.{flight_survives, home_survives}
 use Rattle.coord_ledger.proofs.driver.Driver.survives.Goals as goal
 
 pub returns-in-Some : goal.returns-in-Some
-returns-in-Some g c b s is follows =
-    flight_survives g.D.Disk.keeps_model g.D.Disk.present (held c.args.self.now b) s is follows c.in-Some.flight (sym (ap (λ (d : Driven g.row.D.Denot). d.flight) c.self.view_is) ∙ c.in-Some.is) c.images_give_world.ensures.images
+returns-in-Some g c s is shows =
+    flight_survives g.D.Disk.keeps_model g.D.Disk.present c.args.self.now s is shows c.in-Some.flight (sym (ap (λ (d : Driven g.row.D.Denot). d.flight) c.self.view_is) ∙ c.in-Some.is) c.images_give_world.ensures.images
 
 pub returns-in-None : goal.returns-in-None
-returns-in-None g c b s is follows =
-    home_survives g.D.Disk.keeps_model g.D.Disk.present (held c.args.self.now b) s is follows (sym (ap (λ (d : Driven g.row.D.Denot). d.flight) c.self.view_is) ∙ c.in-None.is)
+returns-in-None g c s is shows =
+    home_survives g.D.Disk.keeps_model g.D.Disk.present c.args.self.now s is shows (sym (ap (λ (d : Driven g.row.D.Denot). d.flight) c.self.view_is) ∙ c.in-None.is)
     (subst (λ (l : LedgerState g.row.D.Denot). IfSome l.disk (λ d. g.D.Disk.keeps_model d ≡ true → LedgerGives g.D.Disk.present l d)) (ap (λ (d : Driven g.row.D.Denot). d.ledger) c.self.view_is) c.images_give_settled.ensures)

@@ -16,7 +16,7 @@ returns-in_default-clause-answered g c s is follows =
     let below : c.args.index < length c.self.inside.tickets.items = search rules in
     let here : c.index_mut.result.now ≡ None = sym c.take.ensures.value ∙ c.in_default.is in
     let was : None ≡ slice_index_or c.self.inside.tickets.items c.args.index None = subst (λ (o : Option Claim). o ≡ slice_index_or c.self.inside.tickets.items c.args.index o) here c.index_mut.ensures.value in
-    subst (λ cs. FollowsTo s (Collect c.args.index) NoTicket (record { ledger = c.self.inside.driver.ledger; flight = c.self.inside.driver.flight; claims = cs; seen = c.self.inside.seen; released = c.self.inside.released.items }))
+    subst (λ cs. FollowsTo s (Collect c.args.index) NoTicket (record { driver = c.self.inside.driver; claims = cs; seen = c.self.inside.seen; released = c.self.inside.released.items }))
     (sym (ap (slice_set c.self.inside.tickets.items c.args.index) c.take.ensures.after ∙ set_same c.self.inside.tickets.items c.args.index None was))
     (follows_no_ticket _ s is inside c.args.index (ticket_within c.self.inside.tickets.items c.args.index None below was))
 
@@ -28,9 +28,9 @@ returns-in-Ok-clause-answered g c s is follows =
     let was : Some c.in-Some.ticket ≡ slice_index_or c.self.inside.tickets.items c.args.index (Some c.in-Some.ticket) = subst (λ (o : Option Claim). o ≡ slice_index_or c.self.inside.tickets.items c.args.index o) here c.index_mut.ensures.value in
     let there = ticket_within c.self.inside.tickets.items c.args.index (Some c.in-Some.ticket) below was in
     let given = subst (λ (l : LedgerState g.row.D.Denot). (c.in-Ok.reply ≡ reply_of c.in-Some.ticket) × IsCollectable l.log c.in-Some.ticket) c.ledger.ensures c.in-Ok.ensures.settled in
-    subst (λ cs. FollowsTo s (Collect c.args.index) (Collected c.in-Ok.reply) (record { ledger = c.self.inside.driver.ledger; flight = c.self.inside.driver.flight; claims = cs; seen = c.self.inside.seen; released = c.self.inside.released.items }))
+    subst (λ cs. FollowsTo s (Collect c.args.index) (Collected c.in-Ok.reply) (record { driver = c.self.inside.driver; claims = cs; seen = c.self.inside.seen; released = c.self.inside.released.items }))
     (sym (ap (slice_set c.self.inside.tickets.items c.args.index) c.take.ensures.after ∙ spent_is c.self.inside.tickets.items c.args.index))
-    (subst (λ r. FollowsTo {D = g.row.D.Denot} s (Collect c.args.index) (Collected r) (record { ledger = c.self.inside.driver.ledger; flight = c.self.inside.driver.flight; claims = spent c.self.inside.tickets.items c.args.index; seen = c.self.inside.seen; released = c.self.inside.released.items })) (sym given.0) (follows_collected _ s is inside c.args.index c.in-Some.ticket there given.1))
+    (subst (λ r. FollowsTo {D = g.row.D.Denot} s (Collect c.args.index) (Collected r) (record { driver = c.self.inside.driver; claims = spent c.self.inside.tickets.items c.args.index; seen = c.self.inside.seen; released = c.self.inside.released.items })) (sym given.0) (follows_collected _ s is inside c.args.index c.in-Some.ticket there given.1))
 
 pub returns-after-replace-clause-answered : goal.returns-after-replace-clause-answered
 returns-after-replace-clause-answered g c s is follows =
@@ -40,6 +40,6 @@ returns-after-replace-clause-answered g c s is follows =
     let was : Some c.in-Some.ticket ≡ slice_index_or c.self.inside.tickets.items c.args.index (Some c.in-Some.ticket) = subst (λ (o : Option Claim). o ≡ slice_index_or c.self.inside.tickets.items c.args.index o) here c.index_mut.ensures.value in
     let there = ticket_within c.self.inside.tickets.items c.args.index (Some c.in-Some.ticket) below was in
     let given = subst (λ (l : LedgerState g.row.D.Denot). (c.in-Err.ticket ≡ c.in-Some.ticket) × ¬ IsCollectable l.log c.in-Some.ticket) c.ledger.ensures c.in-Err.ensures.waiting in
-    subst (λ cs. FollowsTo s (Collect c.args.index) Waiting (record { ledger = c.self.inside.driver.ledger; flight = c.self.inside.driver.flight; claims = cs; seen = c.self.inside.seen; released = c.self.inside.released.items }))
+    subst (λ cs. FollowsTo s (Collect c.args.index) Waiting (record { driver = c.self.inside.driver; claims = cs; seen = c.self.inside.seen; released = c.self.inside.released.items }))
     (sym (put_back c.self.inside.tickets.items c.args.index (Some c.in-Some.ticket) c.take.new.self c.replace.new.self was (c.replace.ensures.after ∙ ap Some given.0)))
     (follows_waiting _ s is inside c.args.index c.in-Some.ticket there given.1)

@@ -12,7 +12,7 @@ returns-in_ok-count-in-Ok-clause-answered g c s is follows =
     let inside : Follows _ s = subst (λ (h : Held g.row.D.Denot). Follows h s) (sym c.self.view_is) follows in
     let all = c.in_ok-count-in-Ok.ensures.all ∙ ap (λ l. c.self.inside.released.items ++ l) given in
     let count = c.in_ok-count-in-Ok.ensures.count ∙ ap length given ∙ resent_count (settled_world c.self.inside.driver.ledger.log) in
-    subst (λ n. FollowsTo s Resend (Resent n) (record { ledger = c.self.inside.driver.ledger; flight = c.self.inside.driver.flight; claims = c.self.inside.tickets.items; seen = c.self.inside.seen; released = c.push_releases.new.released.items })) (sym count)
+    subst (λ n. FollowsTo s Resend (Resent n) (record { driver = c.self.inside.driver; claims = c.self.inside.tickets.items; seen = c.self.inside.seen; released = c.push_releases.new.released.items })) (sym count)
     (follows_resent _ s is inside c.push_releases.new.released.items all)
 
 pub returns-in_err-count-in-Ok-clause-cut : goal.returns-in_err-count-in-Ok-clause-cut
