@@ -1,7 +1,7 @@
 -- What a line does to the drill's disk, moment by moment, as the code's functions say it of each other.
 --
--- The events of a line lead from one driver to another, whatever machine the first one follows: with just the answers
--- that the line's text and the drill's new state go by. The answers are that machine's, what is then driven follows it,
+-- The events of a line lead from one driver to another, whatever machine the first one shows: with just the answers
+-- that the line's text and the drill's new state go by. The answers are that machine's, what is then driven shows it,
 -- and the headline's chain of moments (`EachMoment`) leads from the disk as it was before the line to the disk then.
 use Rattle.std.specs.Prelude.{◌≡◌, ◌≢◌, ◌⊎◌, ℕ, ◌+◌, ◌≤◌, List, [], ◌∷◌, length, take, false, true, Option, Some, None, Result}
 use Rattle.std.specs.List.{AllByRecursion}
@@ -20,7 +20,7 @@ use Rattle.coord_ledger.specs.declared.events.Answer.TheVariants.{Refused}
 use Rattle.coord_ledger.specs.declared.events.Event.{Event}
 use Rattle.coord_ledger.specs.declared.events.Event.TheVariants.{Submit}
 use Rattle.coord_ledger.specs.declared.handed.Handed.{Handed}
-use Rattle.coord_ledger.specs.Facade.{Answered, Beside, Driven, EachMoment, EventInRange, Follows, HandedTo, HasFailed, IsConsistent, LedgerState, Machine, MayBegin, Reopens, Survives, answer_to, disk_driven, failed_until, has_stopped, held, ledger_over, model_driven, nothing_beside, run, settled_count, settled_world, started}
+use Rattle.coord_ledger.specs.Facade.{Answered, Driven, EachMoment, EventInRange, HandedTo, HasFailed, IsConsistent, LedgerState, Machine, MayBegin, Reopens, Shows, Survives, answer_to, disk_driven, failed_until, has_stopped, ledger_over, model_driven, run, settled_count, settled_world, started}
 use Rattle.coord_drill.specs.Answered.{IsAnswered, flight_lines}
 use Rattle.coord_drill.specs.Course.{AllKept, Place, start}
 use Rattle.coord_drill.specs.Drill.{flight_events, line_events, machine_of, seen_as}
@@ -41,24 +41,23 @@ pub record LedDisk {D : Type 0} (disk : Ghosts D) (crashes : D → D → Type 0)
   pub keeps : disk.keeps_model new ≡ true
   pub moments : EachMoment disk.present disk.clock disk.left_since crashes true s events given old new
 
--- events have led from one driver to another, where the first follows this machine
+-- events have led from one driver to another, where the first shows this machine
 pub record Led {D : Type 0} (disk : Ghosts D) (crashes : D → D → Type 0) (s : Machine) (events : List Event) (given : List Answer) (d new : Driven D) : Type 0 where
-  pub beside : Beside
   pub in_range : AllByRecursion EventInRange events
   pub answered : Answered s events given
   pub consistent : IsConsistent (run s events given)
-  pub follows : Follows (held new beside) (run s events given)
+  pub shows : Shows new (run s events given)
   pub moments : (old : D) → disk_driven d ≡ Some old → disk.keeps_model old ≡ true → LedDisk disk crashes s events given old (disk_driven new)
   pub failed : (n : ℕ) → HasFailed disk.failures (disk_driven d) n → HasFailed disk.failures (disk_driven new) (n + failed_until events given)
 
--- so whatever machine it follows
+-- so whatever machine it shows
 abbrev pub Leads : {D : Type 0} → Ghosts D → (D → D → Type 0) → Driven D → List Event → List Answer → Driven D → Type 0
-Leads disk crashes d events given new = (b : Beside) (s : Machine) → IsConsistent s → Follows (held d b) s → Led disk crashes s events given d new
+Leads disk crashes d events given new = (s : Machine) → IsConsistent s → Shows d s → Led disk crashes s events given d new
 
--- a driver follows the machine over its own log
+-- a driver shows the machine over its own log
 pub record Begins {D : Type 0} (d : Driven D) : Type 0 where
   pub consistent : IsConsistent (started d.ledger)
-  pub follows : Follows (held d nothing_beside) (started d.ledger)
+  pub shows : Shows d (started d.ledger)
 
 -- from there the events have led to another driver
 abbrev pub IsRun : {D : Type 0} → Ghosts D → (D → D → Type 0) → Driven D → List Event → List Answer → Driven D → Type 0
@@ -130,7 +129,7 @@ CarriesIf disk crashes d a told new = IsPromised disk d a → Carries disk crash
 
 -- the disk was given up in a crash, behind the taking of an image
 pub record IsLostInCrash {D : Type 0} (disk : Ghosts D) (crashes : D → D → Type 0) (d : Driven D) (why : Fault) (lost : D) : Type 0 where
-  pub moments : (b : Beside) (s : Machine) → IsConsistent s → Follows (held d b) s → (old : D) → disk_driven d ≡ Some old → disk.keeps_model old ≡ true → Reopens disk.present disk.clock disk.left_since crashes (Survives s) old lost
+  pub moments : (s : Machine) → IsConsistent s → Shows d s → (old : D) → disk_driven d ≡ Some old → disk.keeps_model old ≡ true → Reopens disk.present disk.clock disk.left_since crashes (Survives s) old lost
   pub cause : model_driven disk.keeps_model d ≡ Some true → IsPassing why
   pub failed : (n : ℕ) → HasFailed disk.failures (disk_driven d) n → disk.failures lost ≡ n + failed_by why
 
@@ -164,8 +163,7 @@ pub record Stands {D : Type 0} (disk : Ghosts D) (d : Drill D) (p : Place D) : T
   pub holds : disk_driven d.driver ≡ Some p.disk
   pub keeps : disk.keeps_model p.disk ≡ true
   pub consistent : IsConsistent p.machine
-  pub beside : Beside
-  pub follows : Follows (held d.driver beside) p.machine
+  pub shows : Shows d.driver p.machine
   pub told : AllByRecursion (λ n. n ≤ settled_count p.machine.log) p.told
   pub empty : p.state.has_begun ≡ false → IsEmptyLog p.state.log
   pub kept : AllKept p.machine p.told (disk.present p.disk)

@@ -1,5 +1,5 @@
 -- A line that is cut short leaves the disk as the course says.
-use Rattle.std.proofs.Common.{◌≡◌, ◌+◌, Bool, true, false, List, [], ◌∷◌, length, take, Some, refl, sym, ap, ◌∙◌, arith, subst, inl, inr}
+use Rattle.std.proofs.Common.{◌≡◌, ◌+◌, true, false, List, [], length, take, Some, refl, sym, ap, ◌∙◌, arith, subst, inl, inr}
 use Rattle.std.specs.Option.{option_map}
 use Rattle.std.proofs.lemmas.Bool.{false≢true}
 use Rattle.coord_disk.specs.declared.disk.Disk.{Ghosts}
@@ -26,7 +26,7 @@ module _ {D : Type 0} (disk : Ghosts D) (crashes : D → D → Type 0) (d : Dril
   cut_part : (a : Asked) (why : Fault) (lost : D) → is_version a ≡ false → IsOfMemory why → LeadsPart disk crashes d.driver (line_events d.holds a) lost → CutShort disk crashes p a why lost
   cut_part a why lost other memory part =
       let given = part.given in
-      let led = part.moments at.beside p.machine at.consistent at.follows in
+      let led = part.moments p.machine at.consistent at.shows in
       let there = led.moments p.disk at.holds at.keeps in
       let same : lost ≡ there.new = cc (there.holds, part.left) in
       let es = take (length given) (line_events d.holds a given) in
@@ -50,7 +50,7 @@ module _ {D : Type 0} (disk : Ghosts D) (crashes : D → D → Type 0) (d : Dril
   -- in a crash
   cut_crash : (why : Fault) (lost : D) → model_driven disk.keeps_model d.driver ≡ Some true → IsLostInCrash disk crashes d.driver why lost → CutShort disk crashes p Crash why lost
   cut_crash why lost model part =
-      let reopens = part.moments at.beside p.machine at.consistent at.follows p.disk at.holds at.keeps in
+      let reopens = part.moments p.machine at.consistent at.shows p.disk at.holds at.keeps in
       let kept = reopens_more disk.present disk.clock disk.left_since crashes (Survives p.machine) (IsKept p.machine p.told) p.disk lost reopens (λ bytes survives. kept_of p.machine p.told bytes at.consistent at.told survives) in
       cut_before_events Crash why lost (part.cause model) (inr kept) (part.failed (disk.failures p.disk) (ap (option_map disk.failures) at.holds))
 

@@ -1,5 +1,5 @@
 -- A line that was carried out leads from where the drill stands to where it stands then.
-use Rattle.std.proofs.Common.{◌≡◌, ◌⊎◌, ℕ, ◌+◌, ◌≤◌, Bool, true, false, List, [], ◌∷◌, ◌++◌, length, Option, Some, None, refl, sym, ap, ◌∙◌, subst, arith, inl, inr, append-nil}
+use Rattle.std.proofs.Common.{◌≡◌, ◌⊎◌, ℕ, ◌+◌, ◌≤◌, true, false, List, [], ◌++◌, Option, Some, refl, sym, ap, ◌∙◌, subst, arith, inl, inr, append-nil}
 use Rattle.std.proofs.lemmas.Bool.{false≢true}
 use Rattle.std.specs.List.{AllByRecursion}
 use Rattle.std.specs.Option.{option_map}
@@ -10,9 +10,9 @@ use Rattle.coord_disk.specs.Model.Present.{IsImage}
 use Rattle.coord_store.specs.Facade.{Recovered}
 use Rattle.coord_store.specs.Migrating.{risen}
 use Rattle.coord_world.proofs.Facade.{trail_keeps_worlds}
-use Rattle.coord_world.specs.Facade.{World, no_world}
+use Rattle.coord_world.specs.Facade.{no_world}
 use Rattle.coord_ledger.specs.declared.events.Event.{Event}
-use Rattle.coord_ledger.specs.Facade.{CrashPrefix, Driven, Follows, HasFailed, IsConsistent, LedgerState, Log, Machine, MayBegin, adopted, disk_driven, failed_until, has_stopped, held, ledger_over, log_over, machine_over, nothing_beside, run, settled_count, settled_world, started, world_after}
+use Rattle.coord_ledger.specs.Facade.{CrashPrefix, Driven, HasFailed, IsConsistent, LedgerState, Log, Machine, MayBegin, Shows, adopted, disk_driven, failed_until, has_stopped, log_over, machine_over, run, settled_count, settled_world, started}
 use Rattle.coord_ledger.proofs.follows.Follows.{count_is, settled_is}
 use Rattle.coord_ledger.proofs.machine.Lists.{all_both, all_raised}
 use Rattle.coord_ledger.proofs.machine.Logs.{count_after}
@@ -20,7 +20,7 @@ use Rattle.coord_drill.specs.Answered.{IsAnswered, asked_lines}
 use Rattle.coord_drill.specs.Drill.{DrillState, after_asked, line_events}
 use Rattle.coord_drill.specs.Told.{told_by}
 use Rattle.coord_drill.specs.declared.asked.Asked.TheVariants.{Version2}
-use Rattle.coord_drill.specs.Facade.{AllKept, Answer, Asked, Begins, Carries, CarriesIf, Drill, GivesRaised, IsEmptyLog, IsKept, IsPromised, Leads, Moves, Passes, Place, Raises, RaisesTo, Stands, start, state_of}
+use Rattle.coord_drill.specs.Facade.{AllKept, Answer, Asked, Carries, Drill, GivesRaised, IsEmptyLog, IsKept, IsPromised, Leads, Moves, Passes, Place, Raises, RaisesTo, Stands, start, state_of}
 use Rattle.coord_drill.proofs.does.Moments.{is_version}
 use Rattle.coord_drill.proofs.course.Empty.{no_world_legal, risen_empty, stays_empty}
 use Rattle.coord_drill.proofs.course.Kept.{Settled, kept_behind, kept_of, passes, settled_grows}
@@ -49,8 +49,7 @@ module _ {D : Type 0} (disk : Ghosts D) (crashes : D → D → Type 0) where
         holds = there;
         keeps = on;
         consistent = subst IsConsistent same may.drives.consistent;
-        beside = nothing_beside;
-        follows = subst (Follows (held d.driver nothing_beside)) same may.drives.follows;
+        shows = subst (Shows d.driver) same may.drives.shows;
         told = tt;
         empty = λ _. inl refl;
         kept = subst (λ m. AllKept m [] (disk.present begun)) same (first_kept d.driver begun may there on);
@@ -115,10 +114,10 @@ module _ {D : Type 0} (disk : Ghosts D) (crashes : D → D → Type 0) where
     pub reached : (a : Asked) (given : List Answer) (told : List ℕ) → is_version a ≡ false → IsAnswered (state_of d) a given told (state_of new) → Leads disk crashes d.driver (line_events d.holds a given) given new.driver → Reached d new p a given
     reached a given told other answered leads =
         let es = line_events d.holds a given in
-        let led = leads at.beside p.machine at.consistent at.follows in
+        let led = leads p.machine at.consistent at.shows in
         let there = led.moments p.disk at.holds at.keeps in
         let m = run p.machine es given in
-        let count = count_is (held new.driver led.beside) m led.consistent led.follows in
+        let count = count_is new.driver m led.consistent led.shows in
         let grows = settled_grows p.machine es given led.in_range at.consistent led.answered in
         let before = all_raised (λ k. k) (settled_count p.machine.log) (settled_count m.log) p.told grows at.told in
         let later : Settled m (told_by p.state a given) = subst (λ (s : DrillState). Settled m (told_by s a given)) (sym at.state) (subst (λ n. AllByRecursion (λ k. k ≤ n) (told_by (state_of d) a given)) count (told_settled (state_of d) (state_of new) a given told answered)) in
@@ -138,8 +137,7 @@ module _ {D : Type 0} (disk : Ghosts D) (crashes : D → D → Type 0) where
             holds = there.holds;
             keeps = there.keeps;
             consistent = led.consistent;
-            beside = led.beside;
-            follows = led.follows;
+            shows = led.shows;
             told = all;
             empty = λ none. stays_empty (state_of d) (state_of new) given told (subst (λ (s : DrillState). s.has_begun ≡ false → IsEmptyLog s.log) at.state at.empty) none a answered;
             kept = kept_behind disk crashes p.machine (p.told ++ told_by p.state a given) es given p.disk there.new there.moments led.consistent all;
@@ -148,7 +146,7 @@ module _ {D : Type 0} (disk : Ghosts D) (crashes : D → D → Type 0) where
 
     kept_two : IsEmptyLog d.driver.ledger.log → (bytes : List ℕ) → Recovered bytes (no_world 2) → IsKept (adopted (no_world 2)) p.told bytes
     kept_two empty bytes recovered =
-        let count : settled_count p.machine.log ≡ 0 = sym (count_is (held d.driver at.beside) p.machine at.consistent at.follows) ∙ none_settled d.driver.ledger.log empty in
+        let count : settled_count p.machine.log ≡ 0 = sym (count_is d.driver p.machine at.consistent at.shows) ∙ none_settled d.driver.ledger.log empty in
         record {
           steps = 0;
           within = omega arith;
@@ -165,7 +163,7 @@ module _ {D : Type 0} (disk : Ghosts D) (crashes : D → D → Type 0) where
         inl (record {
           steps = log.settled;
           within = le;
-          recovered = subst (Recovered bytes) (settled_is (held d.driver at.beside) p.machine at.consistent at.follows) own;
+          recovered = subst (Recovered bytes) (settled_is d.driver p.machine at.consistent at.shows) own;
           legal = (trail_keeps_worlds log.base log.trail log.settled at.consistent.log.trail).legal;
           has_told = all_raised (λ k. k) (settled_count log) (settled_world log).count p.told (omega (arith, count)) at.told;
         })
@@ -187,11 +185,11 @@ module _ {D : Type 0} (disk : Ghosts D) (crashes : D → D → Type 0) where
         let same : started new.driver.ledger ≡ adopted (no_world 2) = ap machine_over log_is in
         let old : to.old ≡ p.disk = cc (to.there, at.holds) in
         let on = to.keeps (ap disk.keeps_model old ∙ at.keeps) in
-        let count : settled_count p.machine.log ≡ 0 = sym (count_is (held d.driver at.beside) p.machine at.consistent at.follows) ∙ none_settled d.driver.ledger.log empty in
+        let count : settled_count p.machine.log ≡ 0 = sym (count_is d.driver p.machine at.consistent at.shows) ∙ none_settled d.driver.ledger.log empty in
         let told_nothing : p.told ≡ p.told ++ [] = sym (append-nil p.told) in
         let all : Settled (adopted (no_world 2)) (p.told ++ []) = subst (Settled (adopted (no_world 2))) told_nothing (all_raised (λ k. k) (settled_count p.machine.log) (settled_count (adopted (no_world 2)).log) p.told (omega (arith, count)) at.told) in
         let consistent = subst IsConsistent same to.begins.drives.consistent in
-        let follows = subst (Follows (held new.driver nothing_beside)) same to.begins.drives.follows in
+        let shows = subst (Shows new.driver) same to.begins.drives.shows in
         let first : CrashPrefix (adopted (no_world 2)) true (disk.present to.raised) = prefix_of new.driver to.raised to.begins to.now on (adopted (no_world 2)) same in
         record {
           place = record { state = state_of new; machine = adopted (no_world 2); told = p.told ++ []; disk = to.raised };
@@ -203,8 +201,7 @@ module _ {D : Type 0} (disk : Ghosts D) (crashes : D → D → Type 0) where
             holds = to.now;
             keeps = on;
             consistent = consistent;
-            beside = nothing_beside;
-            follows = follows;
+            shows = shows;
             told = all;
             empty = λ _. inr log_is;
             kept = λ image is. kept_of (adopted (no_world 2)) (p.told ++ []) image consistent all (first refl image is);

@@ -1,10 +1,10 @@
 -- What flights, steps and crashes print, and what becomes of the drill, by the answers to their events.
-use Rattle.std.proofs.Common.{Bool, ◌≡◌, ℕ, true, false, cond, List, [], ◌∷◌, Ok, Err, Some, None, refl, sym, ap, ◌∙◌}
+use Rattle.std.proofs.Common.{Bool, ◌≡◌, ℕ, true, false, cond, List, [], ◌∷◌, Ok, Err, Some, refl, sym, ap, ◌∙◌}
 use Rattle.coord_types.specs.declared.steps.Kind.{Kind}
 use Rattle.coord_disk.specs.declared.disk.Disk.{Ghosts}
 use Rattle.coord_world.specs.protocol.NumberedWorld.{World}
 use Rattle.coord_ledger.specs.declared.events.Event.TheVariants as event
-use Rattle.coord_ledger.specs.Facade.{Claim, Driven, IsAnew, LedgerState, after_submit, held, ledger_over, pending, run as after_run, settled_count, settled_world, started, verdict, with_step}
+use Rattle.coord_ledger.specs.Facade.{Claim, Driven, IsAnew, LedgerState, after_submit, ledger_over, pending, run as after_run, settled_count, settled_world, started, verdict, with_step}
 use Rattle.coord_ledger.proofs.follows.Follows.{log_behind}
 use Rattle.coord_drill.specs.Answered.{asked_lines, flight_lines, kept_line, repeat_line}
 use Rattle.coord_drill.specs.Drill.{DrillState, after_asked, flight_events, machine_of, seen_as}
@@ -72,4 +72,4 @@ unfolding after_asked
 crash_after {D} disk crashes v w holds begun count run anew =
     let m = after_run (started v.ledger) (event.Crash ∷ []) (Opened count ∷ []) in
     let none = ap (λ (d : Driven D). d.ledger.log.settled) anew.is in
-    ap (λ g. record { log = g; holds = false; has_begun = begun }) (log_behind (held w run.beside) m run.consistent run.follows none)
+    ap (λ g. record { log = g; holds = false; has_begun = begun }) (log_behind w m run.consistent run.shows none)

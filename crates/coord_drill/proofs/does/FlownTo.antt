@@ -7,10 +7,10 @@ use Rattle.coord_disk.specs.declared.disk.Disk.{Ghosts}
 use Rattle.coord_types.specs.declared.refusals.Refusal.TheVariants.{OutOfMemory}
 use Rattle.coord_store.specs.declared.faults.CommitFault.TheVariants as commit
 use Rattle.coord_world.specs.Facade.{World, fold, outs}
-use Rattle.coord_ledger.proofs.follows.Follows.{log_is}
+use Rattle.coord_ledger.proofs.follows.Follows.{flight_is, log_is}
 use Rattle.coord_ledger.proofs.machine.Logs.{world-add}
 use Rattle.coord_ledger.specs.declared.events.Event.TheVariants.{Begin}
-use Rattle.coord_ledger.specs.Facade.{Claim, Driven, IsGranted, IsOneOf, Log, Machine, flight_out, held, next_size, nothing_beside, pending, run as after_run, settled_count, settled_world, settling_releases, started, stays_home, to_begin, with_doubt, with_settled}
+use Rattle.coord_ledger.specs.Facade.{Claim, Driven, IsGranted, IsOneOf, Log, Machine, flight_out, next_size, pending, run as after_run, settled_count, settled_world, settling_releases, started, stays_home, to_begin, with_doubt, with_settled}
 use Rattle.coord_drill.specs.Facade.{AreGranted, Begins, Begun, Drill, Flies, Flown, FlownTo, GoesBy, Lands, IsHeld, IsReadyWith, IsRun, Leads, LeadsPart, Nothing, Refused, Release, Reply, claims_of, collected_lines, drill_of, flight_events, flight_lines, flown_answers, flown_lines, landed_answers, landing_events, left_by, machine_of, seen_as, settled_lines, waiting}
 use Rattle.coord_drill.specs.declared.drill.flying.Flown.TheVariants as flown
 use Rattle.coord_drill.proofs.does.Moments.{leads_then}
@@ -87,7 +87,7 @@ module _ {D : Type 0} (disk : Ghosts D) (crashes : D → D → Type 0) (v w : Dr
   After r = after_run (started v.ledger) (flight_events (flown_answers r b count)) (flown_answers r b count)
 
   by_base : (r : Flown) → Runs r → w.ledger.log.base ≡ (After r).log.base → w.ledger.log ≡ (After r).log
-  by_base r run same = log_is (held w run.beside) (After r) run.consistent run.follows same
+  by_base r run same = log_is w (After r) run.consistent run.shows same
 
   is : (r : Flown) → Runs r → FlownTo log r w.ledger.log → w.ledger.log ≡ flew_log log r b
   is flown.Nothing run to = to
@@ -101,10 +101,10 @@ module _ {D : Type 0} (disk : Ghosts D) (crashes : D → D → Type 0) (v w : Dr
 
   -- no flight is out
   home : (r : Flown) → Runs r → w.flight ≡ None
-  home flown.Nothing run = none_out flight_out w.flight run.follows.flight
-  home (flown.Settled rs) run = none_out flight_out w.flight run.follows.flight
-  home (flown.Failed commit.Device) run = none_out flight_out w.flight run.follows.flight
-  home (flown.Failed fault) run = none_out flight_out w.flight run.follows.flight
+  home flown.Nothing run = none_out flight_out w.flight (flight_is w (After flown.Nothing) run.shows)
+  home (flown.Settled rs) run = none_out flight_out w.flight (flight_is w (After (flown.Settled rs)) run.shows)
+  home (flown.Failed commit.Device) run = none_out flight_out w.flight (flight_is w (After (flown.Failed commit.Device)) run.shows)
+  home (flown.Failed fault) run = none_out flight_out w.flight (flight_is w (After (flown.Failed fault)) run.shows)
 
   -- ---- of a flight that is settled
 
@@ -178,7 +178,7 @@ flies disk crashes d new r holds begun all begins to by =
     let w = new.driver in
     let count = settled_count w.ledger.log in
     let given = flown_answers r (next_size v.ledger.log) count in
-    let run = by nothing_beside (started v.ledger) begins.consistent begins.follows in
+    let run = by (started v.ledger) begins.consistent begins.shows in
     record {
       given = given;
       with_memory = flown_memory r (next_size v.ledger.log) count;

@@ -1,20 +1,20 @@
 -- Events lead from one driver to another, and a line is some of them.
-use Rattle.std.proofs.Common.{◌≡◌, ◌≢◌, ℕ, ◌+◌, arith, Bool, true, false, List, [], ◌∷◌, ◌++◌, length, take, Option, None, Some, Result, Ok, Err, IfOk, IfErr, IsErrAnd, refl, sym, ap, ◌∙◌, subst}
-use Rattle.std.proofs.Math.Seq.{take-length}
+use Rattle.std.proofs.Common.{◌≡◌, ◌≢◌, ℕ, ◌+◌, arith, Bool, true, false, List, [], ◌∷◌, ◌++◌, length, take, Some, Result, Ok, Err, IfOk, IfErr, IsErrAnd, refl, sym, ap, ◌∙◌, subst}
 use Rattle.std.proofs.lemmas.Bool.{false≢true}
 use Rattle.std.specs.List.{AllByRecursion}
 use Rattle.std.specs.Option.{option_map}
 use Rattle.coord_disk.specs.Model.Present.{IsImage}
 use Rattle.coord_disk.specs.declared.disk.Disk.{Ghosts}
 use Rattle.coord_types.specs.declared.refusals.Refusal.TheVariants.{OutOfMemory}
-use Rattle.coord_ledger.specs.Facade.{Answered, Beside, CrashPrefix, Driven, EachMoment, EventInRange, Follows, FollowsTo, HeldSurvives, HasFailed, HeldTouches, IsConsistent, Machine, MayBegin, Touches, after, disk_driven, failed_at, failed_until, found_by_crash, held, is_crash, model_driven, nothing_beside, run, started, touches_disk}
+use Rattle.coord_ledger.specs.Facade.{Answered, Driven, EachMoment, EventInRange, HasFailed, HeldSurvives, HeldTouches, IsConsistent, Machine, MayBegin, Meets, Shows, Touches, after, disk_driven, failed_at, failed_until, found_by_crash, is_crash, model_driven, run, started, touches_disk}
 use Rattle.coord_ledger.proofs.drives.EachMoment.{met_aside}
 use Rattle.coord_ledger.proofs.machine.Consistent.{stays_consistent}
+use Rattle.coord_ledger.proofs.meets.Shows.{shows_allowed, shows_to}
 use Rattle.coord_ledger.proofs.machine.Lists.{all_both}
 use Rattle.coord_drill.specs.Answered.{asked_lines}
-use Rattle.coord_drill.specs.Drill.{after_asked, line_events, machine_of}
+use Rattle.coord_drill.specs.Drill.{after_asked, line_events}
 use Rattle.coord_drill.specs.declared.asked.Asked.TheVariants.{Version2}
-use Rattle.coord_drill.specs.Facade.{Answer, Asked, Begins, Carries, Drill, Event, IsRun, Leads, LeadsBy, LeadsPart, Led, Refused, state_of}
+use Rattle.coord_drill.specs.Facade.{Answer, Asked, Begins, Carries, Drill, Event, IsRun, Leads, LeadsBy, LeadsPart, Refused, state_of}
 
 pub if_ok_both : {A E : Type 0} (P Q : A → Type 0) (r : Result A E) → IfOk r P → IfOk r Q → IfOk r (λ a. P a × Q a)
 if_ok_both P Q (Ok a) p q = (p, q)
@@ -61,9 +61,9 @@ failed_both s [] fs (g ∷ gs) hs answered = absurd answered
 failed_both s (e ∷ es) fs [] hs answered = absurd answered
 failed_both s (e ∷ es) fs (g ∷ gs) hs answered = omega (arith, failed_both (after s e g) es fs gs hs answered.1)
 
--- a driver follows the machine over its own log
+-- a driver shows the machine over its own log
 pub begins_by : {D : Type 0} (disk : Ghosts D) (crashes : D → D → Type 0) (d : Driven D) → MayBegin disk.keeps_model disk.present disk.clock disk.left_since crashes d → Begins d
-begins_by disk crashes d may = record { consistent = may.drives.consistent; follows = may.drives.follows }
+begins_by disk crashes d may = record { consistent = may.drives.consistent; shows = may.drives.shows }
 
 module _ {D : Type 0} (disk : Ghosts D) (crashes : D → D → Type 0) where
   moments_both : (s : Machine) (es fs : List Event) (gs hs : List Answer) (old mid new : D) → EachMoment disk.present disk.clock disk.left_since crashes true s es gs old mid → EachMoment disk.present disk.clock disk.left_since crashes true (run s es gs) fs hs mid new →
@@ -75,35 +75,34 @@ module _ {D : Type 0} (disk : Ghosts D) (crashes : D → D → Type 0) where
 
   -- whatever is driven survives
   abbrev pub Survive : Driven D → Type 0
-  Survive d = (b : Beside) (s : Machine) → IsConsistent s → Follows (held d b) s → HeldSurvives disk.keeps_model disk.present (held d b) s
+  Survive d = (s : Machine) → IsConsistent s → Shows d s → HeldSurvives disk.keeps_model disk.present (disk_driven d) s
 
   -- no event
   pub leads_none : (d : Driven D) → Survive d → Leads disk crashes d [] [] d
-  leads_none d survives b s is follows = record {
-    beside = b;
+  leads_none d survives s is shows = record {
     in_range = tt;
     answered = tt;
     consistent = is;
-    follows = follows;
-    moments = λ old there keeps. record { new = old; holds = there; keeps = keeps; moments = (refl, λ _. survives b s is follows old there keeps) };
+    shows = shows;
+    moments = λ old there keeps. record { new = old; holds = there; keeps = keeps; moments = (refl, λ _. survives s is shows old there keeps) };
     failed = λ n has. let same : n ≡ n + 0 = omega arith in subst (HasFailed disk.failures (disk_driven d)) same has;
   }
 
-  module _ (d new : Driven D) (e : Event) (a : Answer) (next : Beside → Beside) (named : EventInRange e) (before : Survive d) (later : Survive new) where
+  module _ (d new : Driven D) (e : Event) (a : Answer) (named : EventInRange e) (before : Survive d) (later : Survive new) where
     -- one event
-    pub leads_one : model_driven disk.keeps_model new ≡ model_driven disk.keeps_model d → ((n : ℕ) → HasFailed disk.failures (disk_driven d) n → HasFailed disk.failures (disk_driven new) (n + failed_at e a)) → ((b : Beside) (s : Machine) → IsConsistent s → Follows (held d b) s → FollowsTo s e a (held new (next b))) →
-        ((b : Beside) (s : Machine) → IsConsistent s → Follows (held d b) s → HeldTouches disk.keeps_model disk.present disk.clock disk.left_since crashes (found_by_crash s e a) (touches_disk e a) e (held d b) (held new (next b))) → Leads disk crashes d (e ∷ []) (a ∷ []) new
-    leads_one model failed answered touches b s is follows =
-        let to = answered b s is follows in
-        let then = stays_consistent s e a named is to.allowed in
+    pub leads_one : model_driven disk.keeps_model new ≡ model_driven disk.keeps_model d → ((n : ℕ) → HasFailed disk.failures (disk_driven d) n → HasFailed disk.failures (disk_driven new) (n + failed_at e a)) → Meets d e a new →
+        ((s : Machine) → IsConsistent s → Shows d s → HeldTouches disk.keeps_model disk.present disk.clock disk.left_since crashes (found_by_crash s e a) (touches_disk e a) e (disk_driven d) (disk_driven new)) → Leads disk crashes d (e ∷ []) (a ∷ []) new
+    leads_one model failed meets touches s is shows =
+        let allowed = shows_allowed d new s is shows e a meets in
+        let later_shown = shows_to d new s is shows e a meets in
+        let then = stays_consistent s e a named is allowed in
         record {
-          beside = next b;
           in_range = (named, tt);
-          answered = (to.allowed, tt);
+          answered = (allowed, tt);
           consistent = then;
-          follows = to.follows;
+          shows = later_shown;
           moments = λ old there keeps.
-              let moved = touches b s is follows old there in
+              let moved = touches s is shows old there in
               let same : Some (disk.keeps_model moved.new) ≡ Some (disk.keeps_model old) = sym (ap (option_map disk.keeps_model) moved.holds) ∙ model ∙ ap (option_map disk.keeps_model) there in
               let on : disk.keeps_model moved.new ≡ true = cc (same, keeps) in
               record {
@@ -111,12 +110,12 @@ module _ {D : Type 0} (disk : Ghosts D) (crashes : D → D → Type 0) where
                 holds = moved.holds;
                 keeps = on;
                 moments = (
-                  λ _. before b s is follows old there keeps,
+                  λ _. before s is shows old there keeps,
                   (
                     moved.new,
                     (
                       subst (λ k. Touches disk.present disk.clock disk.left_since crashes k (found_by_crash s e a) (touches_disk e a) e old moved.new) keeps moved.touched,
-                      (refl, λ _. later (next b) (after s e a) then to.follows moved.new moved.holds on),
+                      (refl, λ _. later (after s e a) then later_shown moved.new moved.holds on),
                     ),
                   ),
                 );
@@ -126,24 +125,23 @@ module _ {D : Type 0} (disk : Ghosts D) (crashes : D → D → Type 0) where
 
     -- one that leaves the disk as it is
     pub leads_aside : ((x : D) (image : List ℕ) → disk.keeps_model x ≡ true → disk.left_since x (disk.clock x) image → IsImage (disk.present x) image) → is_crash e ≡ false → ((s : Machine) → found_by_crash s e a ≡ s) → failed_at e a ≡ 0 → disk_driven new ≡ disk_driven d →
-        ((b : Beside) (s : Machine) → IsConsistent s → Follows (held d b) s → FollowsTo s e a (held new (next b))) → Leads disk crashes d (e ∷ []) (a ∷ []) new
-    leads_aside only_now other found none same answered =
+        Meets d e a new → Leads disk crashes d (e ∷ []) (a ∷ []) new
+    leads_aside only_now other found none same meets =
         leads_one (ap (option_map disk.keeps_model) same)
-        (λ n has. let more : n ≡ n + failed_at e a = omega (arith, none) in subst (HasFailed disk.failures (disk_driven new)) more (ap (option_map disk.failures) same ∙ has)) answered
-        (λ b s is follows. met_aside disk.present disk.clock disk.left_since crashes disk.keeps_model only_now s e e a (held d b) (held new (next b)) refl other (found s) same (before b s is follows))
+        (λ n has. let more : n ≡ n + failed_at e a = omega (arith, none) in subst (HasFailed disk.failures (disk_driven new)) more (ap (option_map disk.failures) same ∙ has)) meets
+        (λ s is shows. met_aside disk.present disk.clock disk.left_since crashes disk.keeps_model only_now s e e a (disk_driven d) (disk_driven new) refl other (found s) same (before s is shows))
 
   -- the events of the one and then of the other
   pub leads_then : (d m new : Driven D) (es fs : List Event) (gs hs : List Answer) → Leads disk crashes d es gs m → Leads disk crashes m fs hs new → Leads disk crashes d (es ++ fs) (gs ++ hs) new
-  leads_then d m new es fs gs hs first more b s is follows =
-      let one = first b s is follows in
-      let two = more one.beside (run s es gs) one.consistent one.follows in
+  leads_then d m new es fs gs hs first more s is shows =
+      let one = first s is shows in
+      let two = more (run s es gs) one.consistent one.shows in
       let all = run_both s es fs gs hs one.answered in
       record {
-        beside = two.beside;
         in_range = all_both EventInRange es fs one.in_range two.in_range;
         answered = answered_both s es fs gs hs one.answered two.answered;
         consistent = subst IsConsistent (sym all) two.consistent;
-        follows = subst (Follows (held new two.beside)) (sym all) two.follows;
+        shows = subst (Shows new) (sym all) two.shows;
         moments = λ old there keeps.
             let x = one.moments old there keeps in
             let y = two.moments x.new x.holds x.keeps in
@@ -156,7 +154,7 @@ module _ {D : Type 0} (disk : Ghosts D) (crashes : D → D → Type 0) where
 
   -- from the machine over the driver's own log
   pub run_of : (d new : Driven D) (es : List Event) (gs : List Answer) → Begins d → Leads disk crashes d es gs new → IsRun disk crashes d es gs new
-  run_of d new es gs begins leads = leads nothing_beside (started d.ledger) begins.consistent begins.follows
+  run_of d new es gs begins leads = leads (started d.ledger) begins.consistent begins.shows
 
   -- all of the events were answered, and the disk is given up behind them
   pub all_led : (d mid : Driven D) (es : List Answer → List Event) (gs : List Answer) (lost : D) → Begins d → Leads disk crashes d (es gs) gs mid → disk_driven mid ≡ Some lost → LeadsPart disk crashes d es lost

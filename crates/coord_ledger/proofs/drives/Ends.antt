@@ -8,7 +8,7 @@ use Rattle.coord_ledger.specs.Facade.{Answer, Driven, Drives, EachMoment, Event,
 use Rattle.coord_ledger.proofs.follows.FollowsCalls.{ledger_images}
 use Rattle.coord_ledger.proofs.follows.Follows.{flight_is, log_moved}
 use Rattle.coord_ledger.proofs.meets.Finish.{meets_back}
-use Rattle.coord_ledger.proofs.meets.Shows.{shows_on}
+use Rattle.coord_ledger.proofs.meets.Shows.{shows_to}
 use Rattle.coord_ledger.proofs.drives.Drives.{Holds, Underway, same_model}
 use Rattle.coord_ledger.proofs.follows.FollowsCrashes.{images_follow}
 use Rattle.coord_ledger.proofs.machine.Safe.{finish_keeps_kept, prefix_from_images}
@@ -26,7 +26,7 @@ is_back {D} d s is shows = by_flight d.flight refl
         subst (λ o. Shows (at_home d.ledger) (finished s o)) (sym (sym (flight_is d s shows) ∙ ap (option_map flight_out) none)) home
     by_flight (Some f) out =
         let back = taken_back d.ledger (length f.steps) f.mark f.disk in
-        shows_on d (at_home back) s is shows Finish (Finished (settled_count back.log)) refl (meets_back d f out back refl)
+        shows_to d (at_home back) s is shows Finish (Finished (settled_count back.log)) (meets_back d f out back refl)
 
 is_left : {D : Type 0} (l : LedgerState D) (t : Machine) → Shows (at_home l) t → IsLeft t l
 is_left l t back = record { by = back.by; within = back.within; log = log_moved (at_home l) t back; home = back.own }

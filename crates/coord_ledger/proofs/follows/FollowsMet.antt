@@ -1,15 +1,15 @@
 -- What a driver's calls say of its own log and flight, they say of those of the machine of a run: what is held goes on to follow it.
-use Rattle.std.proofs.Common.{◌≡◌, ℕ, ◌+◌, ◌-◌, arith, [], ◌∷◌, ◌++◌, take, List, Option, Some, Ok, Err, append-nil, false, refl, sym, ap, ◌∙◌, subst, Result}
+use Rattle.std.proofs.Common.{◌≡◌, ℕ, ◌+◌, ◌-◌, arith, [], ◌∷◌, ◌++◌, take, List, Option, Some, Ok, Err, append-nil, refl, sym, ap, ◌∙◌, subst, Result}
 use Rattle.std.specs.Option.{option_map}
 use Rattle.coord_world.specs.Facade.{outs}
-use Rattle.coord_ledger.specs.Facade.{Answer, Begin, Begun, Claim, Commit, Committed, Crash, Driven, Event, Failed, Finish, Finished, FlightOut, Follows, FollowsTo, Fresh, Good, HandedTo, Held, HoldsTickets, IsConsistent, LedgerState, Log, Machine, Mark, Meets, New, Opened, Refusal, Refused, Release, Repeat, Step, Submit, Torn, Verdict, accepted_count, after, after_finish, after_submit, claimed, finished, flight_out, is_crash, log_back, machine_of, releases_of, reply_of, settling_releases, verdict, with_accepted}
+use Rattle.coord_ledger.specs.Facade.{Answer, Begin, Begun, Claim, Commit, Committed, Crash, Driven, Event, Failed, Finish, Finished, FlightOut, Follows, FollowsTo, Fresh, Good, HandedTo, Held, HoldsTickets, IsConsistent, LedgerState, Log, Machine, Mark, Meets, New, Opened, Refusal, Refused, Release, Repeat, Step, Submit, Torn, Verdict, accepted_count, after, after_finish, after_submit, claimed, finished, flight_out, log_back, machine_of, releases_of, reply_of, settling_releases, verdict, with_accepted}
 use Rattle.coord_ledger.specs.declared.events.Answer.TheVariants as answer
 use Rattle.coord_ledger.specs.declared.handed.Handed.TheVariants.{Accepted, Repeated}
 use Rattle.coord_store.specs.declared.faults.CommitFault.TheVariants as fault
 use Rattle.coord_ledger.proofs.follows.Follows.{flight_is, pending_is, settled_is, verdict_is}
 use Rattle.coord_ledger.proofs.follows.Granted.{granted_back, granted_later, granted_new, granted_repeat, holds_later, holds_push}
 use Rattle.coord_ledger.proofs.machine.ConsistentSteps.{reply_is}
-use Rattle.coord_ledger.proofs.meets.Shows.{shows_allowed, shows_on, shows_opened}
+use Rattle.coord_ledger.proofs.meets.Shows.{shows_allowed, shows_to}
 
 -- what is held beside a driver with this log is the machine's
 pub record Keeps (log : Log) (claims : List (Option Claim)) (seen : ℕ) (released : List Release) (t : Machine) : Type 0 where
@@ -21,10 +21,10 @@ module _ {D : Type 0} (h : Held D) (s : Machine) (is : IsConsistent s) (follows 
   abbrev d : Driven D
   d = h.driver
 
-  met : (new : Held D) (e : Event) (a : Answer) → is_crash e ≡ false → Meets d e a new.driver → Keeps new.driver.ledger.log new.claims new.seen new.released (after s e a) → FollowsTo s e a new
-  met new e a calm meets keeps = record {
+  met : (new : Held D) (e : Event) (a : Answer) → Meets d e a new.driver → Keeps new.driver.ledger.log new.claims new.seen new.released (after s e a) → FollowsTo s e a new
+  met new e a meets keeps = record {
     allowed = shows_allowed d new.driver s is follows.shows e a meets;
-    follows = record { shows = shows_on d new.driver s is follows.shows e a calm meets; tickets = keeps.tickets; seen = keeps.seen_is; released = keeps.released_is };
+    follows = record { shows = shows_to d new.driver s is follows.shows e a meets; tickets = keeps.tickets; seen = keeps.seen_is; released = keeps.released_is };
   }
 
   -- where the log stays
@@ -34,7 +34,7 @@ module _ {D : Type 0} (h : Held D) (s : Machine) (is : IsConsistent s) (follows 
   -- ---- a flight goes out, or none does
 
   pub follows_begun : (new : Driven D) (a : Answer) → Meets d Begin a new → FollowsTo s Begin a (record h { driver = new })
-  follows_begun new a meets = met (record h { driver = new }) Begin a refl meets (by_answer a meets)
+  follows_begun new a meets = met (record h { driver = new }) Begin a meets (by_answer a meets)
     where
       by_answer : (a : Answer) → Meets d Begin a new → Keeps new.ledger.log h.claims h.seen h.released (after s Begin a)
       by_answer (Begun n) meets = let kept = same new.ledger.log (ap (λ (m : Machine). m.log) (meets.leaves s)) in record { tickets = kept.tickets; seen_is = kept.seen_is; released_is = kept.released_is }
@@ -43,7 +43,7 @@ module _ {D : Type 0} (h : Held D) (s : Machine) (is : IsConsistent s) (follows 
   -- ---- it is committed, or not
 
   pub follows_committed : (new : Driven D) (a : Answer) → new.ledger ≡ d.ledger → Meets d Commit a new → FollowsTo s Commit a (record h { driver = new })
-  follows_committed new a ledger meets = met (record h { driver = new }) Commit a refl meets (by_answer a)
+  follows_committed new a ledger meets = met (record h { driver = new }) Commit a meets (by_answer a)
     where
       kept : Keeps new.ledger.log h.claims h.seen h.released s
       kept = same new.ledger.log (ap (λ (l : LedgerState D). l.log) ledger)
@@ -63,7 +63,7 @@ module _ {D : Type 0} (h : Held D) (s : Machine) (is : IsConsistent s) (follows 
     -- where this is said to the step
     said : (v : Result Verdict Refusal) (a : Answer) (claims : List (Option Claim)) → verdict d.ledger.log x ≡ v → Meets d (Submit x) a new → Keeps new.ledger.log claims h.seen h.released (after_submit s x v a) → FollowsTo s (Submit x) a (record h { driver = new; claims = claims })
     said v a claims judged meets keeps =
-        met (record h { driver = new; claims = claims }) (Submit x) a refl meets (subst (λ u. Keeps new.ledger.log claims h.seen h.released (after_submit s x u a)) (sym (sym (verdict_is d s is follows.shows x) ∙ judged)) keeps)
+        met (record h { driver = new; claims = claims }) (Submit x) a meets (subst (λ u. Keeps new.ledger.log claims h.seen h.released (after_submit s x u a)) (sym (sym (verdict_is d s is follows.shows x) ∙ judged)) keeps)
 
     pub follows_accepted : (t : Claim) → HandedTo d.ledger x (Ok (Accepted t)) new.ledger → Meets d (Submit x) (answer.Accepted t.step) new → FollowsTo s (Submit x) (answer.Accepted t.step) (record h { driver = new; claims = h.claims ++ Some t ∷ [] })
     follows_accepted t to meets =
@@ -125,7 +125,7 @@ module _ {D : Type 0} (h : Held D) (s : Machine) (is : IsConsistent s) (follows 
 
     pub follows_landed : (count : ℕ) → Meets d Finish (Finished count) new → FollowsTo s Finish (Finished count) (record h { driver = new; released = h.released ++ releases })
     follows_landed count meets =
-        met (record h { driver = new; released = h.released ++ releases }) Finish (Finished count) refl meets
+        met (record h { driver = new; released = h.released ++ releases }) Finish (Finished count) meets
         (subst (λ o. Keeps new.ledger.log h.claims h.seen (h.released ++ releases) (finished s o)) (flight_is d s follows.shows) (by_flight (option_map flight_out d.flight) (ap (λ (m : Machine). m.log) (meets.leaves s))))
       where
         by_flight : (o : Option FlightOut) → new.ledger.log ≡ (finished (machine_of d s) o).log → Keeps new.ledger.log h.claims h.seen (h.released ++ releases) (finished s o)
@@ -135,12 +135,9 @@ module _ {D : Type 0} (h : Held D) (s : Machine) (is : IsConsistent s) (follows 
   -- it does not
   pub follows_not_landed : (new : Driven D) (a : Answer) → ((t : Machine) → after t Finish a ≡ t) → Meets d Finish a new → FollowsTo s Finish a (record h { driver = new })
   follows_not_landed new a stays meets =
-      met (record h { driver = new }) Finish a refl meets (subst (Keeps new.ledger.log h.claims h.seen h.released) (sym (stays s)) (same new.ledger.log (ap (λ (m : Machine). m.log) (meets.leaves s ∙ stays (machine_of d s)))))
+      met (record h { driver = new }) Finish a meets (subst (Keeps new.ledger.log h.claims h.seen h.released) (sym (stays s)) (same new.ledger.log (ap (λ (m : Machine). m.log) (meets.leaves s ∙ stays (machine_of d s)))))
 
   -- ---- the disk crashes
 
   pub follows_opened : (new : Driven D) (count : ℕ) → Meets d Crash (Opened count) new → FollowsTo s Crash (Opened count) (record { driver = new; claims = []; seen = 0; released = h.released })
-  follows_opened new count meets = record {
-    allowed = shows_allowed d new s is follows.shows Crash (Opened count) meets;
-    follows = record { shows = shows_opened d new s is follows.shows (Opened count) meets; tickets = tt; seen = refl; released = follows.released };
-  }
+  follows_opened new count meets = met (record { driver = new; claims = []; seen = 0; released = h.released }) Crash (Opened count) meets (record { tickets = tt; seen_is = refl; released_is = follows.released })

@@ -26,7 +26,7 @@ module _ {D : Type 0} (d new : Driven D) (s : Machine) (is : IsConsistent s) (sh
   goes : (e : Event) (a : Answer) (t : Machine) → Meets d e a new → goes_to (with_base_moved s shows.by) e a ≡ t → machine_of new t ≡ t
   goes e a t meets to = subst (λ m. machine_of new m ≡ m) (ap (λ m. goes_to m e a) shows.is ∙ to) (meets.leaves s)
 
-  pub shows_on : (e : Event) (a : Answer) → is_crash e ≡ false → Meets d e a new → Shows new (after s e a)
+  shows_on : (e : Event) (a : Answer) → is_crash e ≡ false → Meets d e a new → Shows new (after s e a)
   shows_on e a calm meets = record {
     by = shows.by;
     within = omega (arith, shows.within, (settled_stays s e a is (shows_allowed e a meets)).settled);
@@ -34,7 +34,7 @@ module _ {D : Type 0} (d new : Driven D) (s : Machine) (is : IsConsistent s) (sh
     own = meets.own;
   }
 
-  pub shows_opened : (a : Answer) → Meets d Crash a new → Shows new (after s Crash a)
+  shows_opened : (a : Answer) → Meets d Crash a new → Shows new (after s Crash a)
   shows_opened a meets =
       let one = one_of s.log.base.count a (kept s) (shows_allowed Crash a meets) in
       let n = one.0 in
@@ -47,3 +47,7 @@ module _ {D : Type 0} (d new : Driven D) (s : Machine) (is : IsConsistent s) (sh
       ap (goes_to (with_base_moved s shows.by) Crash) one.2 ∙ ap (λ w. record (adopted w) { released = s.released; replied = s.replied }) world ∙ sym (crash_reopens s n) in
       let reopened : Shows new (crashed s n) = record { by = n; within = omega arith; is = goes Crash a (with_base_moved (crashed s n) n) meets to; own = meets.own } in
       subst (λ b. Shows new (after s Crash b)) (sym one.2) (subst (λ k. Shows new (crashed s k)) (sym back) reopened)
+
+  pub shows_to : (e : Event) (a : Answer) → Meets d e a new → Shows new (after s e a)
+  shows_to Crash a meets = shows_opened a meets
+  shows_to e a meets = shows_on e a refl meets

@@ -1,5 +1,5 @@
-use Rattle.std.proofs.Common.{◌≡◌, ◌++◌, Some, ap, ◌∙◌, sym, subst, refl, string_bytes}
-use Rattle.coord_ledger.specs.Facade.{LedgerState, next_size, nothing_beside, settled_count, settled_world, started}
+use Rattle.std.proofs.Common.{◌++◌, ap, ◌∙◌, sym, subst, refl, string_bytes}
+use Rattle.coord_ledger.specs.Facade.{LedgerState, next_size, settled_count, settled_world, started}
 use Rattle.coord_drill.specs.Facade.{AreGranted, flight_events, flown_answers, flown_lines, left_by}
 use Rattle.coord_drill.proofs.does.Moments.{all_led, begins_by}
 use Rattle.coord_drill.proofs.does.FlownTo.{flies, flown_granted, flown_ready}
@@ -10,7 +10,7 @@ print_flown-printed-requires g c =
     let d = c.args.self in
     let r = c.in-Ok.landing in
     let drives = c.begins.ensures.drives in
-    let run = c.in-Ok.ensures.moments nothing_beside (started d.driver.ledger) drives.consistent drives.follows in
+    let run = c.in-Ok.ensures.moments (started d.driver.ledger) drives.consistent drives.shows in
     record { granted = subst (λ (l : LedgerState g.row.D.Denot). AreGranted l.log r.flown d.tickets.items) (sym c.ledger.ensures) (flown_granted g.D.Disk g.D.CrashDisk.crashes d.driver r.driver d.tickets.items c.requires.ready.1 (settled_count r.driver.ledger.log) r.flown run c.in-Ok.ensures.flown) }
 
 pub returns-in-Ok-printed-clause-ready : goal.returns-in-Ok-printed-clause-ready
@@ -18,7 +18,7 @@ returns-in-Ok-printed-clause-ready g c =
     let d = c.args.self in
     let r = c.in-Ok.landing in
     let drives = c.begins.ensures.drives in
-    let run = c.in-Ok.ensures.moments nothing_beside (started d.driver.ledger) drives.consistent drives.follows in
+    let run = c.in-Ok.ensures.moments (started d.driver.ledger) drives.consistent drives.shows in
     let rest = c.in-Ok-printed.ensures.left ∙ ap (λ (l : LedgerState g.row.D.Denot). left_by (settled_world l.log) r.flown d.tickets.items) c.ledger.ensures in
     flown_ready g.D.Disk g.D.CrashDisk.crashes d.driver r.driver d.tickets.items c.requires.ready.1 (settled_count r.driver.ledger.log) r.flown c.print_flown-printed.new.tickets.items run c.in-Ok.ensures.flown rest
 
