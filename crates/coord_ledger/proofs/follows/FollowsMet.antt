@@ -12,10 +12,8 @@ use Rattle.coord_ledger.proofs.machine.ConsistentSteps.{reply_is}
 use Rattle.coord_ledger.proofs.meets.Shows.{shows_allowed, shows_to}
 
 -- what is held beside a driver with this log is the machine's
-pub record Keeps (log : Log) (claims : List (Option Claim)) (seen : ℕ) (released : List Release) (t : Machine) : Type 0 where
-  pub tickets : HoldsTickets log claims t.tickets
-  pub seen_is : seen ≡ t.seen
-  pub released_is : released ≡ t.released
+abbrev Keeps : Log → List (Option Claim) → ℕ → List Release → Machine → Type 0
+Keeps log claims seen released t = HoldsTickets log claims t.tickets × ((seen ≡ t.seen) × (released ≡ t.released))
 
 module _ {D : Type 0} (h : Held D) (s : Machine) (is : IsConsistent s) (follows : Follows h s) where
   abbrev d : Driven D
@@ -24,12 +22,12 @@ module _ {D : Type 0} (h : Held D) (s : Machine) (is : IsConsistent s) (follows 
   met : (new : Held D) (e : Event) (a : Answer) → Meets d e a new.driver → Keeps new.driver.ledger.log new.claims new.seen new.released (after s e a) → FollowsTo s e a new
   met new e a meets keeps = record {
     allowed = shows_allowed d new.driver s is follows.shows e a meets;
-    follows = record { shows = shows_to d new.driver s is follows.shows e a meets; tickets = keeps.tickets; seen = keeps.seen_is; released = keeps.released_is };
+    follows = record { shows = shows_to d new.driver s is follows.shows e a meets; tickets = keeps.0; seen = keeps.1.0; released = keeps.1.1 };
   }
 
   -- where the log stays
   same : (log : Log) → log ≡ d.ledger.log → Keeps log h.claims h.seen h.released s
-  same log now = record { tickets = subst (λ g. HoldsTickets g h.claims s.tickets) (sym now) follows.tickets; seen_is = follows.seen; released_is = follows.released }
+  same log now = (subst (λ g. HoldsTickets g h.claims s.tickets) (sym now) follows.tickets, (follows.seen, follows.released))
 
   -- ---- a flight goes out, or none does
 
@@ -37,7 +35,7 @@ module _ {D : Type 0} (h : Held D) (s : Machine) (is : IsConsistent s) (follows 
   follows_begun new a meets = met (record h { driver = new }) Begin a meets (by_answer a meets)
     where
       by_answer : (a : Answer) → Meets d Begin a new → Keeps new.ledger.log h.claims h.seen h.released (after s Begin a)
-      by_answer (Begun n) meets = let kept = same new.ledger.log (ap (λ (m : Machine). m.log) (meets.leaves s)) in record { tickets = kept.tickets; seen_is = kept.seen_is; released_is = kept.released_is }
+      by_answer (Begun n) meets = same new.ledger.log (ap (λ (m : Machine). m.log) (meets.leaves s))
       by_answer a meets = same new.ledger.log (ap (λ (m : Machine). m.log) (meets.leaves s))
 
   -- ---- it is committed, or not
@@ -49,8 +47,8 @@ module _ {D : Type 0} (h : Held D) (s : Machine) (is : IsConsistent s) (follows 
       kept = same new.ledger.log (ap (λ (l : LedgerState D). l.log) ledger)
 
       by_answer : (a : Answer) → Keeps new.ledger.log h.claims h.seen h.released (after s Commit a)
-      by_answer Committed = record { tickets = kept.tickets; seen_is = kept.seen_is; released_is = kept.released_is }
-      by_answer (Failed fault.Device) = record { tickets = kept.tickets; seen_is = kept.seen_is; released_is = kept.released_is }
+      by_answer Committed = kept
+      by_answer (Failed fault.Device) = kept
       by_answer (Failed fault.OutOfMemory) = kept
       by_answer (Failed fault.Full) = kept
       by_answer (Failed fault.Stopped) = kept
@@ -72,25 +70,21 @@ module _ {D : Type 0} (h : Held D) (s : Machine) (is : IsConsistent s) (follows 
         let claim : Claim = record { step = accepted_count log + 1; what = x; kind = to.kind } in
         let one : t ≡ claim = to.claims ∙ ap (claimed x) (reply_is log x to.kind to.judged) in
         let tickets = holds_push more h.claims s.tickets claim (reply_of claim) refl (granted_new log x to.kind to.judged) (holds_later log more h.claims s.tickets (granted_later log x) follows.tickets) in
-        said (Ok (Fresh to.kind)) (answer.Accepted t.step) (h.claims ++ Some t ∷ []) to.judged meets
-        (record {
-          tickets = subst (λ (l : LedgerState D). HoldsTickets l.log (h.claims ++ Some t ∷ []) (s.tickets ++ Some (record { step = t.step; kind = to.kind }) ∷ [])) (sym to.now)
-              (subst (λ (c : Claim). HoldsTickets more (h.claims ++ Some c ∷ []) (s.tickets ++ Some (record { step = c.step; kind = to.kind }) ∷ [])) (sym one) tickets);
-          seen_is = follows.seen;
-          released_is = follows.released;
-        })
+        said (Ok (Fresh to.kind)) (answer.Accepted t.step) (h.claims ++ Some t ∷ []) to.judged meets (
+          subst (λ (l : LedgerState D). HoldsTickets l.log (h.claims ++ Some t ∷ []) (s.tickets ++ Some (record { step = t.step; kind = to.kind }) ∷ [])) (sym to.now)
+              (subst (λ (c : Claim). HoldsTickets more (h.claims ++ Some c ∷ []) (s.tickets ++ Some (record { step = c.step; kind = to.kind }) ∷ [])) (sym one) tickets),
+          (follows.seen, follows.released),
+        )
 
     pub follows_repeated : (t : Claim) → HandedTo d.ledger x (Ok (Repeated t)) new.ledger → Meets d (Submit x) (answer.Repeated t.step) new → FollowsTo s (Submit x) (answer.Repeated t.step) (record h { driver = new; claims = h.claims ++ Some t ∷ [] })
     follows_repeated t to meets =
         let log = d.ledger.log in
         let tickets = holds_push log h.claims s.tickets (claimed x to.kept) to.kept refl (granted_repeat log x to.kept to.judged) follows.tickets in
-        said (Ok (Repeat to.kept)) (answer.Repeated t.step) (h.claims ++ Some t ∷ []) to.judged meets
-        (record {
-          tickets = subst (λ (l : LedgerState D). HoldsTickets l.log (h.claims ++ Some t ∷ []) (s.tickets ++ Some to.kept ∷ [])) (sym to.now)
-              (subst (λ (c : Claim). HoldsTickets log (h.claims ++ Some c ∷ []) (s.tickets ++ Some to.kept ∷ [])) (sym to.claims) tickets);
-          seen_is = follows.seen;
-          released_is = follows.released;
-        })
+        said (Ok (Repeat to.kept)) (answer.Repeated t.step) (h.claims ++ Some t ∷ []) to.judged meets (
+          subst (λ (l : LedgerState D). HoldsTickets l.log (h.claims ++ Some t ∷ []) (s.tickets ++ Some to.kept ∷ [])) (sym to.now)
+              (subst (λ (c : Claim). HoldsTickets log (h.claims ++ Some c ∷ []) (s.tickets ++ Some to.kept ∷ [])) (sym to.claims) tickets),
+          (follows.seen, follows.released),
+        )
 
     pub follows_refused : (e : Refusal) → HandedTo d.ledger x (Err e) new.ledger → Meets d (Submit x) (answer.Refused e) new → FollowsTo s (Submit x) (answer.Refused e) (record h { driver = new })
     follows_refused e to meets = said (verdict d.ledger.log x) (answer.Refused e) h.claims refl meets (by_verdict (verdict d.ledger.log x))
@@ -107,21 +101,22 @@ module _ {D : Type 0} (h : Held D) (s : Machine) (is : IsConsistent s) (follows 
     unsettled : HoldsTickets new.ledger.log h.claims s.tickets → new.ledger.log.settled ≡ d.ledger.log.settled → Keeps new.ledger.log h.claims h.seen (h.released ++ releases) s
     unsettled tickets now =
         let none : new.ledger.log.settled - d.ledger.log.settled ≡ 0 = omega (arith, now) in
-        record { tickets = tickets; seen_is = follows.seen; released_is = ap (λ rs. h.released ++ rs) (given ∙ ap (settling_releases d.ledger.log) none) ∙ append-nil h.released ∙ follows.released }
+        (tickets, (follows.seen, ap (λ rs. h.released ++ rs) (given ∙ ap (settling_releases d.ledger.log) none) ∙ append-nil h.released ∙ follows.released))
 
     by_mark : (size : ℕ) (k : Mark) → new.ledger.log ≡ log_back d.ledger.log size k → Keeps new.ledger.log h.claims h.seen (h.released ++ releases) (after_finish s size k)
     by_mark size k now = of_mark k now (subst (λ g. HoldsTickets g h.claims s.tickets) (sym now) (holds_later d.ledger.log (log_back d.ledger.log size k) h.claims s.tickets (granted_back d.ledger.log size k) follows.tickets))
       where
         of_mark : (k : Mark) → new.ledger.log ≡ log_back d.ledger.log size k → HoldsTickets new.ledger.log h.claims s.tickets → Keeps new.ledger.log h.claims h.seen (h.released ++ releases) (after_finish s size k)
-        of_mark New now tickets = let kept = unsettled tickets (ap (λ (g : Log). g.settled) now) in record { tickets = kept.tickets; seen_is = kept.seen_is; released_is = kept.released_is }
+        of_mark New now tickets = unsettled tickets (ap (λ (g : Log). g.settled) now)
         of_mark Good now tickets =
-            let all : new.ledger.log.settled - d.ledger.log.settled ≡ size = omega (arith, ap (λ (g : Log). g.settled) now) in
-            record {
-              tickets = tickets;
-              seen_is = follows.seen;
-              released_is = (λ i. follows.released i ++ (given ∙ ap (settling_releases d.ledger.log) all) i) ∙ (λ i. s.released ++ releases_of (outs (settled_is d s is follows.shows i) (take size (pending_is d s is follows.shows i))));
-            }
-        of_mark Torn now tickets = let kept = unsettled tickets (ap (λ (g : Log). g.settled) now) in record { tickets = kept.tickets; seen_is = kept.seen_is; released_is = kept.released_is }
+            let all : new.ledger.log.settled - d.ledger.log.settled ≡ size = omega (arith, ap (λ (g : Log). g.settled) now) in (
+              tickets,
+              (
+                follows.seen,
+                (λ i. follows.released i ++ (given ∙ ap (settling_releases d.ledger.log) all) i) ∙ (λ i. s.released ++ releases_of (outs (settled_is d s is follows.shows i) (take size (pending_is d s is follows.shows i)))),
+              ),
+            )
+        of_mark Torn now tickets = unsettled tickets (ap (λ (g : Log). g.settled) now)
 
     pub follows_landed : (count : ℕ) → Meets d Finish (Finished count) new → FollowsTo s Finish (Finished count) (record h { driver = new; released = h.released ++ releases })
     follows_landed count meets =
@@ -129,7 +124,7 @@ module _ {D : Type 0} (h : Held D) (s : Machine) (is : IsConsistent s) (follows 
         (subst (λ o. Keeps new.ledger.log h.claims h.seen (h.released ++ releases) (finished s o)) (flight_is d s follows.shows) (by_flight (option_map flight_out d.flight) (ap (λ (m : Machine). m.log) (meets.leaves s))))
       where
         by_flight : (o : Option FlightOut) → new.ledger.log ≡ (finished (machine_of d s) o).log → Keeps new.ledger.log h.claims h.seen (h.released ++ releases) (finished s o)
-        by_flight None now = unsettled (same new.ledger.log now).tickets (ap (λ (g : Log). g.settled) now)
+        by_flight None now = unsettled (same new.ledger.log now).0 (ap (λ (g : Log). g.settled) now)
         by_flight (Some f) now = by_mark f.size f.mark now
 
   -- it does not
@@ -140,4 +135,4 @@ module _ {D : Type 0} (h : Held D) (s : Machine) (is : IsConsistent s) (follows 
   -- ---- the disk crashes
 
   pub follows_opened : (new : Driven D) (count : ℕ) → Meets d Crash (Opened count) new → FollowsTo s Crash (Opened count) (record { driver = new; claims = []; seen = 0; released = h.released })
-  follows_opened new count meets = met (record { driver = new; claims = []; seen = 0; released = h.released }) Crash (Opened count) meets (record { tickets = tt; seen_is = refl; released_is = follows.released })
+  follows_opened new count meets = met (record { driver = new; claims = []; seen = 0; released = h.released }) Crash (Opened count) meets (tt, (refl, follows.released))
