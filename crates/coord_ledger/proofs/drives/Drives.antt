@@ -1,11 +1,11 @@
 -- A run of events, from its first to its last: what a driver keeps before each event.
-use Rattle.std.proofs.Common.{◌≡◌, ◌⊎◌, ℕ, ◌+◌, ◌-◌, ◌<◌, Bool, true, false, List, [], ◌∷◌, ◌++◌, ◌≤◌, length, take, get_or, zero, suc, None, Some, refl, sym, ap, ◌∙◌, subst, arith, inl, inr, IfSome, Option, slice_get}
+use Rattle.std.proofs.Common.{◌≡◌, ◌⊎◌, ℕ, ◌+◌, ◌-◌, ◌<◌, Bool, true, false, List, [], ◌∷◌, ◌++◌, length, take, get_or, zero, suc, None, Some, refl, sym, ap, ◌∙◌, subst, arith, inl, inr, Option, slice_get}
 use Rattle.std.specs.List.{AllByRecursion}
 use Rattle.std.specs.Option.{option_map}
 use Rattle.std.proofs.lemmas.Option.{slice_get_read}
 use Rattle.coord_disk.specs.Model.Present.{Present}
 use Rattle.coord_store.proofs.Freshness.{take-push}
-use Rattle.coord_ledger.specs.Facade.{Answer, Claim, CrashPrefix, DoubtFits, Driven, Drives, Event, EventInRange, Follows, FollowsTo, Held, HeldSurvives, HeldTouches, HoldsFlight, HoldsTickets, IsConsistent, IsConsistentLog, IsOneOf, IsPromised, LedgerState, Log, Machine, MayBegin, Promised, Release, Shows, Touches, after, answers, at_home, disk_driven, disk_with, flight_out, found_by_crash, is_crash, model_driven, run, started, touches_disk}
+use Rattle.coord_ledger.specs.Facade.{Answer, Claim, CrashPrefix, Driven, Drives, Event, EventInRange, Follows, FollowsTo, Held, HeldSurvives, HeldTouches, HoldsFlight, HoldsTickets, IsConsistent, IsOneOf, IsPromised, LedgerState, Machine, MayBegin, Promised, Release, Shows, Touches, after, answers, at_home, disk_driven, disk_with, flight_out, found_by_crash, is_crash, machine_of, model_driven, run, started, touches_disk}
 use Rattle.coord_ledger.proofs.machine.Consistent.{run_goes_on, stays_consistent}
 use Rattle.coord_ledger.proofs.drives.EachMoment.{moments_on}
 
@@ -15,25 +15,13 @@ all_at P [] i x there all = let no : ⊥ = cc in absurd no
 all_at P (y ∷ ys) zero x there all = let same : y ≡ x = cc in subst P same all.0
 all_at P (y ∷ ys) (suc i) x there all = all_at P ys i x there all.1
 
-doubt_fits : (log : Log) (o : Option ℕ) → IfSome o (λ b. (1 ≤ b) × (log.settled + b ≤ length log.trail)) → DoubtFits log None o
-doubt_fits log None doubted = tt
-doubt_fits log (Some b) doubted = doubted.1
-
 module _ {D : Type 0} (present : D → Present) (clock : D → ℕ) (left_since : D → ℕ → List ℕ → Type 0) (crashes : D → D → Type 0) where
   -- a run begins where no flight is out
-  pub drives_first : (keeps_model : D → Bool) (first : D) (d : Driven D) → d.flight ≡ None → HoldsFlight d.ledger d.flight → IsConsistentLog d.ledger.log → IfSome d.ledger.log.doubt (λ b. (1 ≤ b) × (d.ledger.log.settled + b ≤ length d.ledger.log.trail)) → d.ledger.disk ≡ Some first →
+  pub drives_first : (keeps_model : D → Bool) (first : D) (d : Driven D) → d.flight ≡ None → HoldsFlight d.ledger d.flight → IsConsistent (machine_of d (started d.ledger)) → d.ledger.disk ≡ Some first →
       ((s : Machine) → IsConsistent s → Shows d s → HeldSurvives keeps_model present (disk_driven d) s) → Drives present clock left_since crashes (keeps_model first) first d.ledger [] [] d
-  drives_first keeps_model first d none own log_is doubted home survives =
+  drives_first keeps_model first d none own own_is home survives =
       let log = d.ledger.log in
-      let is : IsConsistent (started d.ledger) =
-      record {
-        log = log_is;
-        flight = tt;
-        doubt = doubt_fits log d.ledger.log.doubt doubted;
-        seen = omega arith;
-        tickets = tt;
-        told = record { released_settled = tt; once = tt; again = tt; replied_settled = tt; truly = tt };
-      } in
+      let is : IsConsistent (started d.ledger) = subst IsConsistent (λ i. record (started d.ledger) { flight = ap (option_map flight_out) none i }) own_is in
       let all : log.settled - 0 ≡ log.settled = omega arith in
       let shows : Shows d (started d.ledger) =
       record { by = 0; within = omega arith; is = λ i. record (started d.ledger) { log = record log { settled = sym all i }; flight = ap (option_map flight_out) none i }; own = own } in
