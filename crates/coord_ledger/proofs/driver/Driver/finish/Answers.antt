@@ -1,5 +1,5 @@
 use Rattle.std.proofs.Common.{◌≡◌, ◌-◌, Some, Ok, sym, ap, ◌∙◌, subst}
-use Rattle.coord_ledger.specs.Facade.{Driven, Finish, Finished, FinishesTo, Follows, Meets, at_home, held, settled_count, settling_releases}
+use Rattle.coord_ledger.specs.Facade.{Driven, FinishesTo, Follows, held, settling_releases}
 use Rattle.coord_ledger.proofs.meets.Finish.{meets_back}
 use Rattle.coord_ledger.proofs.drives.Flights.{gave, same_base}
 use Rattle.coord_ledger.proofs.follows.FollowsMet.{follows_back}
@@ -21,5 +21,3 @@ returns-in-Ok-clause-released g c releases is =
     let same : c.in-Ok.releases ≡ releases = cc in
     let gives = c.in-Ok.ensures.released ∙ gave c.self.inside.ledger c.end_flush.new.self c.in-Some.flight c.in-Ok.ensures.taken c.in-Ok.ensures.own in
     sym same ∙ gives ∙ (λ i. settling_releases (c.self.view_is i).ledger.log ((sym c.over-in-Ok.ensures i).ledger.log.settled - (c.self.view_is i).ledger.log.settled))
-
--- it is an event of its machine

@@ -6,6 +6,12 @@ use Rattle.coord_ledger.proofs.meets.Submit.{meets_handed}
 use Rattle.coord_ledger.proofs.driver.Driver.submit.Goals as goal
 
 -- it is an event of its machine
+pub returns-clause-meets : goal.returns-clause-meets
+returns-clause-meets g c =
+    let new : Driven g.row.D.Denot = record { ledger = c.hand_in.new.self; flight = c.self.inside.flight } in
+    subst (λ (d : Driven g.row.D.Denot). Meets d (Submit c.args.step) (answer_to c.hand_in.result) new) c.self.view_is
+    (meets_handed (record { ledger = c.self.inside.ledger; flight = c.self.inside.flight }) c.hand_in.new.self c.args.step c.hand_in.result c.hand_in.ensures)
+
 pub returns-clause-answered : goal.returns-clause-answered
 returns-clause-answered g c b s is follows =
     let old : Driven g.row.D.Denot = record { ledger = c.self.inside.ledger; flight = c.self.inside.flight } in
