@@ -15,7 +15,7 @@
 -- a drill ends, its course has all the lines of its input, and the disk that is given back is where that has led
 -- (`Ended`). Where it fails, the course has the lines that were carried out: what was written is a first part of what
 -- these have printed, and the disk is given back as they left it, or as the line that was cut short did (`BrokeOff`).
-use Rattle.std.specs.Prelude.{◌≡◌, ◌⊎◌, ℕ, ◌+◌, ◌≤◌, Bool, true, List, [], ◌∷◌, ◌++◌, length, take, option_map, Option, Some, None, if◌then◌else◌}
+use Rattle.std.specs.Prelude.{◌≡◌, ◌⊎◌, ℕ, ◌+◌, ◌≤◌, List, [], ◌∷◌, ◌++◌, length, take, option_map, Option, Some, None, if◌then◌else◌}
 use Rattle.std.specs.List.{AllByRecursion}
 use Rattle.coord_disk.specs.Model.Moments.{LeavesOnly}
 use Rattle.coord_disk.specs.Model.Present.{Present, IsImage}

@@ -3,7 +3,7 @@
 -- The events of a line lead from one driver to another, whatever machine the first one follows: with just the answers
 -- that the line's text and the drill's new state go by. The answers are that machine's, what is then driven follows it,
 -- and the headline's chain of moments (`EachMoment`) leads from the disk as it was before the line to the disk then.
-use Rattle.std.specs.Prelude.{◌≡◌, ◌≢◌, ◌⊎◌, ℕ, ◌+◌, ◌≤◌, List, [], ◌∷◌, length, take, false, true, Option, Some, None, Result}
+use Rattle.std.specs.Prelude.{◌≡◌, ◌≢◌, ◌⊎◌, ℕ, ◌+◌, ◌≤◌, List, [], ◌∷◌, length, take, false, true, Option, Some, Result}
 use Rattle.std.specs.List.{AllByRecursion}
 use Rattle.coord_disk.specs.Model.Moments.{LeavesOnly}
 use Rattle.coord_disk.specs.declared.disk.Disk.{Ghosts}

@@ -1,6 +1,6 @@
 -- What is printed of a whole input, and which faults come of what.
-use Rattle.std.proofs.Common.{refl, ◌≡◌, ◌⊎◌, ℕ, ◌+◌, List, [], ◌++◌, length, Option, Some, sym, ap, ◌∙◌, subst, arith, append-nil, take, Result, Ok, Err, OnErr, IfErr, IfOk, inl, inr, Bool, true, false}
-use Rattle.std.specs.Io.KnownBytes.{Appends, Consumes, IsAtEnd}
+use Rattle.std.proofs.Common.{refl, ◌≡◌, ℕ, ◌+◌, List, [], ◌++◌, length, Option, Some, sym, ap, ◌∙◌, subst, append-nil, take, inl, inr, Bool, true, false}
+use Rattle.std.specs.Io.KnownBytes.{Appends, Consumes}
 use Rattle.std.proofs.KnownBytes.{Consumes-nil, Consumes-trans}
 use Rattle.coord_disk.specs.declared.disk.Disk.{Ghosts}
 use Rattle.coord_lines.specs.Lines.{Line, lines_of, lines_on}

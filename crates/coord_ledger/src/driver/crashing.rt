@@ -1,12 +1,15 @@
 //! The disk crashes, and is opened again.
 
-ghost use Rattle.std.specs.Prelude.{◌≡◌, ◌+◌, true, ℕ, IfErr, IfOk, MatchResult, Some};
+ghost use Rattle.std.specs.Prelude.{◌≡◌, ◌+◌, false, true, ℕ, IfErr, IfOk, MatchResult, Some};
 ghost use Rattle.coord_disk.specs.Model.Present.{IsImage};
+ghost use Rattle.coord_store.specs.Kept.{has_stopped};
 ghost use Rattle.coord_ledger.specs.declared.events.Answer.TheVariants.{Opened};
 ghost use Rattle.coord_ledger.specs.declared.events.Event.TheVariants.{Crash};
+ghost use Rattle.coord_ledger.specs.declared.trace.RunFaultKind.TheVariants.{OutOfMemory};
 ghost use Rattle.coord_ledger.specs.ledger.Driven.{Beside, IsAnew, after_crash, disk_driven, held, model_driven};
 ghost use Rattle.coord_ledger.specs.ledger.Driver.{HasFailed, HeldTouches, IsEventFault, IsLost, IsReopenFault, IsReopened};
 ghost use Rattle.coord_ledger.specs.ledger.Follows.{Follows, FollowsTo};
+ghost use Rattle.coord_ledger.specs.ledger.State.{ledger_over};
 ghost use Rattle.coord_ledger.specs.machine.Consistent.{IsConsistent};
 ghost use Rattle.coord_ledger.specs.machine.Log.{settled_count};
 ghost use Rattle.coord_ledger.specs.machine.Machine.{Machine};
@@ -36,7 +39,17 @@ fn reopen<D: CrashDisk>(alloc: Global, disk: D) -> Result<Ledger<D>, (RunFaultKi
         Ok(store) => store,
         Err((fault, disk)) => return Err((RunFaultKind::Store(fault), disk)),
     };
-    match Ledger::adopt(alloc, opened) {
+    adopt(alloc, opened)
+}
+
+/// Makes a ledger of a store that was just opened. A refusal is for want of memory, and gives the
+/// disk back.
+fn adopt<D: CrashDisk>(alloc: Global, store: Store<D>) -> Result<Ledger<D>, (RunFaultKind, D)>
+    requires { has_stopped store ≡ false }
+    ensures adopted { IfOk result (λ ledger. ledger ≡ ledger_over store.world store.disk) }
+    ensures memory { IfErr result (λ refused. refused ≡ (OutOfMemory, store.disk)) }
+{
+    match Ledger::adopt(alloc, store) {
         Ok(ledger) => Ok(ledger),
         Err((_, store)) => Err((RunFaultKind::OutOfMemory, store.into_disk())),
     }

@@ -1,4 +1,4 @@
-use Rattle.std.proofs.Common.{◌≡◌, inl}
+use Rattle.std.proofs.Common.{inl}
 use Rattle.std.proofs.lemmas.Result.{IfErr-weaker, IfOk-weaker}
 use Rattle.coord_drill.proofs.prints.Prints.{broke_of, ended_of}
 use Rattle.coord_drill.proofs.console.coord_drill_on.Goals as goal

@@ -1,4 +1,4 @@
-use Rattle.std.proofs.Common.{◌≡◌, ◌+◌, refl, ap, ◌∙◌, sym, arith, inl}
+use Rattle.std.proofs.Common.{◌+◌, refl, ap, ◌∙◌, sym, arith, inl}
 use Rattle.coord_store.specs.Kept.{Kept}
 use Rattle.coord_store.specs.declared.faults.StoreFault.TheVariants.{OutOfMemory}
 use Rattle.coord_drill.specs.Facade.{failed_by}
