@@ -47,7 +47,8 @@ fn reopen<D: CrashDisk>(alloc: Global, disk: D) -> Result<Ledger<D>, (RunFaultKi
 fn adopt<D: CrashDisk>(alloc: Global, store: Store<D>) -> Result<Ledger<D>, (RunFaultKind, D)>
     requires { has_stopped store ≡ false }
     ensures adopted { IfOk result (λ ledger. ledger ≡ ledger_over store.world store.disk) }
-    ensures memory { IfErr result (λ refused. refused ≡ (OutOfMemory, store.disk)) }
+    ensures memory { IfErr result (λ refused. refused.0 ≡ OutOfMemory) }
+    ensures back { IfErr result (λ refused. refused.1 ≡ store.disk) }
 {
     match Ledger::adopt(alloc, store) {
         Ok(ledger) => Ok(ledger),

@@ -1,4 +1,4 @@
-use Rattle.std.proofs.Common.{◌≡◌, ◌+◌, ◌∙◌, true, Some, sym, ap, subst, arith}
+use Rattle.std.proofs.Common.{◌≡◌, ◌+◌, ◌∙◌, true, Some, Result, Ok, Err, IfErr, sym, ap, subst, arith}
 use Rattle.std.proofs.lemmas.Result.{IfErr-weaker, IfOk-weaker, MatchResult-from_both}
 use Rattle.std.specs.Option.{option_map}
 use Rattle.coord_disk.proofs.TornWrites.{whole_image}
@@ -8,6 +8,10 @@ use Rattle.coord_store.specs.Refused.{failed_in as failed_in_opening}
 use Rattle.coord_ledger.specs.Facade.{IsReopenFault, LedgerState, Reopens, failed_in}
 use Rattle.coord_ledger.specs.ledger.Driver.{IsOpenedOnce}
 use Rattle.coord_ledger.proofs.driver.crashing.reopen.Goals as goal
+
+both : {T E : Type 0} (r : Result T E) (P Q : E → Type 0) → IfErr r P → IfErr r Q → IfErr r (λ e. P e × Q e)
+both (Ok x) P Q p q = tt
+both (Err e) P Q p q = (p, q)
 
 pub returns-in-Err-clause-cause : goal.returns-in-Err-clause-cause
 returns-in-Err-clause-cause g c = (
@@ -28,25 +32,32 @@ returns-clause-cause g c =
       world = c.in-Ok.store.world;
       recovered = subst (λ bytes. Recovered bytes c.in-Ok.store.world) (sym same) (c.in-Ok.ensures.world (c.crash.ensures.model ∙ on));
     } in
-    IfErr-weaker c.adopt.result _ _ (λ refused is. subst (λ r. IsReopenFault (g.D.Disk.keeps_model c.args.disk) (g.D.Disk.present c.args.disk) (g.D.Disk.present r.1) r.0) (sym is) opened) c.adopt.ensures.memory
+    IfErr-weaker c.adopt.result _ _ (λ refused is.
+    subst (IsReopenFault (g.D.Disk.keeps_model c.args.disk) (g.D.Disk.present c.args.disk) (g.D.Disk.present refused.1)) (sym is.0)
+    (subst (λ lost. g.D.Disk.keeps_model c.args.disk ≡ true → IsOpenedOnce (g.D.Disk.present c.args.disk) (g.D.Disk.present lost)) (sym is.1) opened))
+    (both c.adopt.result _ _ c.adopt.ensures.memory c.adopt.ensures.back)
 
 pub returns-clause-failures : goal.returns-clause-failures
 returns-clause-failures g c =
     let same : g.D.Disk.failures c.in-Ok.store.disk ≡ g.D.Disk.failures c.args.disk = c.in-Ok.ensures.failures ∙ c.crash.ensures.failures in
     MatchResult-from_both c.adopt.result _ _
     (IfOk-weaker c.adopt.result _ _ (λ ledger is. ap (λ (l : LedgerState g.row.D.Denot). option_map g.D.Disk.failures l.disk) is ∙ ap Some same) c.adopt.ensures.adopted)
-    (IfErr-weaker c.adopt.result _ _ (λ refused is. subst (λ r. g.D.Disk.failures r.1 ≡ g.D.Disk.failures c.args.disk + failed_in r.0) (sym is) (omega (arith, same))) c.adopt.ensures.memory)
+    (IfErr-weaker c.adopt.result _ _ (λ refused is.
+    let lost : g.D.Disk.failures refused.1 ≡ g.D.Disk.failures c.args.disk = ap g.D.Disk.failures is.1 ∙ same in
+    let none : failed_in refused.0 ≡ 0 = ap failed_in is.0 in
+    omega (arith, lost, none))
+    (both c.adopt.result _ _ c.adopt.ensures.memory c.adopt.ensures.back))
 
 pub returns-clause-lost : goal.returns-clause-lost
 returns-clause-lost g c =
-    IfErr-weaker c.adopt.result _ _ (λ refused is on. subst (λ r. Reopens g.D.Disk.present g.D.Disk.clock g.D.Disk.left_since g.D.CrashDisk.crashes (IsImage (g.D.Disk.present c.args.disk)) c.args.disk r.1) (sym is) (record {
+    IfErr-weaker c.adopt.result _ _ (λ refused is on. subst (λ lost. Reopens g.D.Disk.present g.D.Disk.clock g.D.Disk.left_since g.D.CrashDisk.crashes (IsImage (g.D.Disk.present c.args.disk)) c.args.disk lost) (sym is) (record {
       taken = c.crash.result;
       crash = c.crash.ensures.crashes;
       image = c.crash.ensures.image on;
       synced = c.crash.ensures.synced on;
       opening = c.in-Ok.ensures.any_moment (c.crash.ensures.model ∙ on);
       each = λ bytes here. subst (IsImage (g.D.Disk.present c.args.disk)) (sym (whole_image (g.D.Disk.present c.crash.result).read (g.D.Disk.present c.crash.result) (c.crash.ensures.synced on) bytes here)) (c.crash.ensures.image on);
-    })) c.adopt.ensures.memory
+    })) c.adopt.ensures.back
 
 pub returns-clause-opened : goal.returns-clause-opened
 returns-clause-opened g c =
