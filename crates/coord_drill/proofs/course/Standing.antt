@@ -1,5 +1,5 @@
 -- A line that was carried out leads from where the drill stands to where it stands then.
-use Rattle.std.proofs.Common.{◌≡◌, ◌⊎◌, ℕ, ◌+◌, ◌≤◌, Bool, true, false, List, [], ◌∷◌, ◌++◌, length, Option, Some, None, refl, sym, ap, ◌∙◌, subst, arith, inl, inr, append-nil}
+use Rattle.std.proofs.Common.{◌≡◌, ◌⊎◌, ℕ, ◌+◌, ◌≤◌, true, false, List, [], ◌++◌, Option, Some, refl, sym, ap, ◌∙◌, subst, arith, inl, inr, append-nil}
 use Rattle.std.proofs.lemmas.Bool.{false≢true}
 use Rattle.std.specs.List.{AllByRecursion}
 use Rattle.std.specs.Option.{option_map}
@@ -10,9 +10,9 @@ use Rattle.coord_disk.specs.Model.Present.{IsImage}
 use Rattle.coord_store.specs.Facade.{Recovered}
 use Rattle.coord_store.specs.Migrating.{risen}
 use Rattle.coord_world.proofs.Facade.{trail_keeps_worlds}
-use Rattle.coord_world.specs.Facade.{World, no_world}
+use Rattle.coord_world.specs.Facade.{no_world}
 use Rattle.coord_ledger.specs.declared.events.Event.{Event}
-use Rattle.coord_ledger.specs.Facade.{CrashPrefix, Driven, Follows, HasFailed, IsConsistent, LedgerState, Log, Machine, MayBegin, adopted, disk_driven, failed_until, has_stopped, held, ledger_over, log_over, machine_over, nothing_beside, run, settled_count, settled_world, started, world_after}
+use Rattle.coord_ledger.specs.Facade.{CrashPrefix, Driven, Follows, HasFailed, IsConsistent, LedgerState, Log, Machine, MayBegin, adopted, disk_driven, failed_until, has_stopped, held, log_over, machine_over, nothing_beside, run, settled_count, settled_world, started}
 use Rattle.coord_ledger.proofs.follows.Follows.{count_is, settled_is}
 use Rattle.coord_ledger.proofs.machine.Lists.{all_both, all_raised}
 use Rattle.coord_ledger.proofs.machine.Logs.{count_after}
@@ -20,7 +20,7 @@ use Rattle.coord_drill.specs.Answered.{IsAnswered, asked_lines}
 use Rattle.coord_drill.specs.Drill.{DrillState, after_asked, line_events}
 use Rattle.coord_drill.specs.Told.{told_by}
 use Rattle.coord_drill.specs.declared.asked.Asked.TheVariants.{Version2}
-use Rattle.coord_drill.specs.Facade.{AllKept, Answer, Asked, Begins, Carries, CarriesIf, Drill, GivesRaised, IsEmptyLog, IsKept, IsPromised, Leads, Moves, Passes, Place, Raises, RaisesTo, Stands, start, state_of}
+use Rattle.coord_drill.specs.Facade.{AllKept, Answer, Asked, Carries, Drill, GivesRaised, IsEmptyLog, IsKept, IsPromised, Leads, Moves, Passes, Place, Raises, RaisesTo, Stands, start, state_of}
 use Rattle.coord_drill.proofs.does.Moments.{is_version}
 use Rattle.coord_drill.proofs.course.Empty.{no_world_legal, risen_empty, stays_empty}
 use Rattle.coord_drill.proofs.course.Kept.{Settled, kept_behind, kept_of, passes, settled_grows}

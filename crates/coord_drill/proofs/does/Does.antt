@@ -1,5 +1,5 @@
 -- What flights, steps and crashes print, and what becomes of the drill, by the answers to their events.
-use Rattle.std.proofs.Common.{Bool, ◌≡◌, ℕ, true, false, cond, List, [], ◌∷◌, Ok, Err, Some, None, refl, sym, ap, ◌∙◌}
+use Rattle.std.proofs.Common.{Bool, ◌≡◌, ℕ, true, false, cond, List, [], ◌∷◌, Ok, Err, Some, refl, sym, ap, ◌∙◌}
 use Rattle.coord_types.specs.declared.steps.Kind.{Kind}
 use Rattle.coord_disk.specs.declared.disk.Disk.{Ghosts}
 use Rattle.coord_world.specs.protocol.NumberedWorld.{World}

@@ -1,20 +1,19 @@
 -- Events lead from one driver to another, and a line is some of them.
-use Rattle.std.proofs.Common.{◌≡◌, ◌≢◌, ℕ, ◌+◌, arith, Bool, true, false, List, [], ◌∷◌, ◌++◌, length, take, Option, None, Some, Result, Ok, Err, IfOk, IfErr, IsErrAnd, refl, sym, ap, ◌∙◌, subst}
-use Rattle.std.proofs.Math.Seq.{take-length}
+use Rattle.std.proofs.Common.{◌≡◌, ◌≢◌, ℕ, ◌+◌, arith, Bool, true, false, List, [], ◌∷◌, ◌++◌, length, take, Some, Result, Ok, Err, IfOk, IfErr, IsErrAnd, refl, sym, ap, ◌∙◌, subst}
 use Rattle.std.proofs.lemmas.Bool.{false≢true}
 use Rattle.std.specs.List.{AllByRecursion}
 use Rattle.std.specs.Option.{option_map}
 use Rattle.coord_disk.specs.Model.Present.{IsImage}
 use Rattle.coord_disk.specs.declared.disk.Disk.{Ghosts}
 use Rattle.coord_types.specs.declared.refusals.Refusal.TheVariants.{OutOfMemory}
-use Rattle.coord_ledger.specs.Facade.{Answered, Beside, CrashPrefix, Driven, EachMoment, EventInRange, Follows, FollowsTo, HeldSurvives, HasFailed, HeldTouches, IsConsistent, Machine, MayBegin, Touches, after, disk_driven, failed_at, failed_until, found_by_crash, held, is_crash, model_driven, nothing_beside, run, started, touches_disk}
+use Rattle.coord_ledger.specs.Facade.{Answered, Beside, Driven, EachMoment, EventInRange, Follows, FollowsTo, HeldSurvives, HasFailed, HeldTouches, IsConsistent, Machine, MayBegin, Touches, after, disk_driven, failed_at, failed_until, found_by_crash, held, is_crash, model_driven, nothing_beside, run, started, touches_disk}
 use Rattle.coord_ledger.proofs.drives.EachMoment.{met_aside}
 use Rattle.coord_ledger.proofs.machine.Consistent.{stays_consistent}
 use Rattle.coord_ledger.proofs.machine.Lists.{all_both}
 use Rattle.coord_drill.specs.Answered.{asked_lines}
-use Rattle.coord_drill.specs.Drill.{after_asked, line_events, machine_of}
+use Rattle.coord_drill.specs.Drill.{after_asked, line_events}
 use Rattle.coord_drill.specs.declared.asked.Asked.TheVariants.{Version2}
-use Rattle.coord_drill.specs.Facade.{Answer, Asked, Begins, Carries, Drill, Event, IsRun, Leads, LeadsBy, LeadsPart, Led, Refused, state_of}
+use Rattle.coord_drill.specs.Facade.{Answer, Asked, Begins, Carries, Drill, Event, IsRun, Leads, LeadsBy, LeadsPart, Refused, state_of}
 
 pub if_ok_both : {A E : Type 0} (P Q : A → Type 0) (r : Result A E) → IfOk r P → IfOk r Q → IfOk r (λ a. P a × Q a)
 if_ok_both P Q (Ok a) p q = (p, q)

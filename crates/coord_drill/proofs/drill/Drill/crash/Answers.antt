@@ -1,8 +1,8 @@
-use Rattle.std.proofs.Common.{◌≡◌, ◌+◌, ◌++◌, [], ◌∷◌, Some, refl, sym, ap, ◌∙◌, subst, arith, rules, string_bytes, inr}
+use Rattle.std.proofs.Common.{◌≡◌, ◌+◌, ◌++◌, [], ◌∷◌, refl, sym, ap, ◌∙◌, subst, arith, rules, string_bytes, inr}
 use Rattle.coord_ledger.specs.declared.events.Event.TheVariants as event
-use Rattle.coord_ledger.specs.Facade.{HasFailed, after_crash, disk_driven, failed_in}
+use Rattle.coord_ledger.specs.Facade.{HasFailed, after_crash, disk_driven}
 use Rattle.coord_drill.specs.Drill.{line_events}
-use Rattle.coord_drill.specs.Facade.{IsPassing, IsPromised, Leads, Opened, drill_of, failed_by, opened_line, reopen_fault}
+use Rattle.coord_drill.specs.Facade.{IsPassing, IsPromised, Leads, Opened, drill_of, failed_by, opened_line}
 use Rattle.coord_drill.specs.declared.asked.Asked.TheVariants.{Crash}
 use Rattle.coord_drill.proofs.does.Crashes.{crash_cause, crash_failed}
 use Rattle.coord_drill.proofs.does.Cuts.{cuts_part}

@@ -1,4 +1,4 @@
-use Rattle.std.proofs.Common.{◌≡◌, ◌++◌, Some, ap, ◌∙◌, sym, subst, refl, string_bytes}
+use Rattle.std.proofs.Common.{◌++◌, ap, ◌∙◌, sym, subst, refl, string_bytes}
 use Rattle.coord_ledger.specs.Facade.{LedgerState, next_size, nothing_beside, settled_count, settled_world, started}
 use Rattle.coord_drill.specs.Facade.{AreGranted, flight_events, flown_answers, flown_lines, left_by}
 use Rattle.coord_drill.proofs.does.Moments.{all_led, begins_by}

@@ -1,4 +1,4 @@
-use Rattle.std.proofs.Common.{◌≡◌, ◌-◌, [], ◌∷◌, Some, refl, ap, ◌∙◌, subst, rules}
+use Rattle.std.proofs.Common.{◌≡◌, ◌-◌, [], ◌∷◌, Some, ap, ◌∙◌, subst, rules}
 use Rattle.std.proofs.lemmas.Result.{IfErr-weaker}
 use Rattle.coord_ledger.specs.declared.events.Event.TheVariants.{Commit, Finish}
 use Rattle.coord_ledger.specs.Facade.{LedgerState, disk_driven, settled_count, settling_releases}
