@@ -42,7 +42,8 @@ impl RawDisk<SystemFile<File>> {
     /// its owner may read and write. Its entry in its folder is synced.
     ///
     /// The file is locked until the disk is dropped, and nothing is read of it before that. It is a
-    /// fault where another process holds that lock.
+    /// fault where another process holds that lock, and where something other than a regular file
+    /// stands at the path.
     pub fn open<R: Files<File = File>>(rt: &R, path: &str) -> Result<FileDisk, DiskFault>
         ensures failures { IfOk result (λ disk. failures_of disk ≡ 0) }
         ensures whole { IfOk result (λ disk. has_lost disk ≡ false) }

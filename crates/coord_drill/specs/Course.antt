@@ -15,7 +15,7 @@
 -- a drill ends, its course has all the lines of its input, and the disk that is given back is where that has led
 -- (`Ended`). Where it fails, the course has the lines that were carried out: what was written is a first part of what
 -- these have printed, and the disk is given back as they left it, or as the line that was cut short did (`BrokeOff`).
-use Rattle.std.specs.Prelude.{◌≡◌, ◌⊎◌, ℕ, ◌+◌, ◌≤◌, Bool, true, List, [], ◌∷◌, ◌++◌, length, take, option_map, Option, Some, None, if◌then◌else◌}
+use Rattle.std.specs.Prelude.{◌≡◌, ◌⊎◌, ℕ, ◌+◌, ◌≤◌, List, [], ◌∷◌, ◌++◌, length, take, option_map, Option, Some, None, if◌then◌else◌}
 use Rattle.std.specs.List.{AllByRecursion}
 use Rattle.coord_disk.specs.Model.Moments.{LeavesOnly}
 use Rattle.coord_disk.specs.Model.Present.{Present, IsImage}
@@ -23,9 +23,10 @@ use Rattle.coord_disk.specs.declared.disk.Disk.{Ghosts}
 use Rattle.coord_lines.specs.Lines.{Line, lines_of}
 use Rattle.coord_lines.specs.Written.{WritesFirstPart}
 use Rattle.coord_store.specs.Facade.{Recovered}
-use Rattle.coord_store.specs.Kept.{made}
+use Rattle.coord_store.specs.Kept.{IsUntouched, made}
 use Rattle.coord_store.specs.Refused.{RefusesCreate}
 use Rattle.coord_store.specs.declared.faults.StoreFault.{StoreFault}
+use Rattle.coord_store.specs.declared.faults.StoreFault.TheVariants.{NotEmpty}
 use Rattle.coord_world.specs.Facade.{Legal, no_world}
 use Rattle.coord_ledger.specs.declared.events.Answer.{Answer}
 use Rattle.coord_ledger.specs.declared.events.Event.{Event}
@@ -122,18 +123,19 @@ abbrev pub Goes : {D : Type 0} → Ghosts D → (D → D → Type 0) → Place D
 Goes disk crashes p n [] text q = (text ≡ []) × (q ≡ p) × AllKept p.machine p.told (disk.present p.disk)
 Goes disk crashes p n (l ∷ ls) text q = GoesOn (LineGoes disk crashes p n l) (λ next rest. Goes disk crashes next (n + 1) ls rest q) text
 
--- so from a store that was just made
-pub record Course {D : Type 0} (disk : Ghosts D) (crashes : D → D → Type 0) (lines : List Line) (text : List ℕ) (place : Place D) : Type 0 where
+-- so from a store that was just made on the disk that was given
+pub record Course {D : Type 0} (disk : Ghosts D) (crashes : D → D → Type 0) (given : D) (lines : List Line) (text : List ℕ) (place : Place D) : Type 0 where
   pub begun : D
   pub made : disk.present begun ≡ made HALF_SIZE 1
+  pub unfailed : disk.failures begun ≡ disk.failures given
   pub goes : Goes disk crashes (start begun) 1 lines text place
 
 -- ---- the end
 
 -- all lines of the input were carried out, with this text, and this disk is given back
-pub record Ended {D : Type 0} (disk : Ghosts D) (crashes : D → D → Type 0) (input text : List ℕ) (last : D) : Type 0 where
+pub record Ended {D : Type 0} (disk : Ghosts D) (crashes : D → D → Type 0) (given : D) (input text : List ℕ) (last : D) : Type 0 where
   pub place : Place D
-  pub course : Course disk crashes (lines_of input) text place
+  pub course : Course disk crashes given (lines_of input) text place
   pub given_back : last ≡ place.disk
 
 -- The line is cut short, and this disk given up: behind some of its events, as they have left it; in a crash perhaps
@@ -164,19 +166,20 @@ IsGivenBack disk crashes p ls fault lost =
     ((lost ≡ p.disk) × IsOfNoStore fault) ⊎ ((why : Fault) × (FirstCutShort disk crashes p ls why lost × ((fault ≡ why) ⊎ IsOfWriting fault)))
 
 -- some first lines of the input were carried out, of whose text a first part was written; this disk is given back
-pub record BrokeOff {D : Type 0} (disk : Ghosts D) (crashes : D → D → Type 0) (input : List ℕ) (written now : Option (List ℕ)) (fault : Fault) (lost : D) : Type 0 where
+pub record BrokeOff {D : Type 0} (disk : Ghosts D) (crashes : D → D → Type 0) (given : D) (input : List ℕ) (written now : Option (List ℕ)) (fault : Fault) (lost : D) : Type 0 where
   pub lines : List Line
   pub others : List Line
   pub split : lines_of input ≡ lines ++ others
   pub text : List ℕ
   pub place : Place D
-  pub course : Course disk crashes lines text place
+  pub course : Course disk crashes given lines text place
   pub wrote : WritesFirstPart written now text
   pub given_back : IsGivenBack disk crashes place others fault lost
 
--- no store was made on the disk that was given
+-- no store was made on the disk that was given; one that was not empty stays as it was
 pub record NotMade {D : Type 0} (disk : Ghosts D) (given : D) (fault : Fault) (lost : D) : Type 0 where
   pub why : StoreFault
   pub fault_is : fault ≡ store_fault why
   pub refused : RefusesCreate (disk.present given).read HALF_SIZE why
+  pub untouched : why ≡ NotEmpty → IsUntouched disk.present disk.clock disk.left_since given lost
   pub failed : disk.failures lost ≡ disk.failures given + failed_by fault

@@ -3,7 +3,7 @@
 -- The events of a line lead from one driver to another, whatever machine the first one shows: with just the answers
 -- that the line's text and the drill's new state go by. The answers are that machine's, what is then driven shows it,
 -- and the headline's chain of moments (`EachMoment`) leads from the disk as it was before the line to the disk then.
-use Rattle.std.specs.Prelude.{◌≡◌, ◌≢◌, ◌⊎◌, ℕ, ◌+◌, ◌≤◌, List, [], ◌∷◌, length, take, false, true, Option, Some, None, Result}
+use Rattle.std.specs.Prelude.{◌≡◌, ◌≢◌, ◌⊎◌, ℕ, ◌+◌, ◌≤◌, List, [], ◌∷◌, length, take, false, true, Option, Some, Result}
 use Rattle.std.specs.List.{AllByRecursion}
 use Rattle.coord_disk.specs.Model.Moments.{LeavesOnly}
 use Rattle.coord_disk.specs.declared.disk.Disk.{Ghosts}
@@ -173,10 +173,12 @@ pub record IsMade {D : Type 0} (disk : Ghosts D) (given : D) (l : LedgerState D)
   pub begun : D
   pub is : l ≡ ledger_over (no_world 1) begun
   pub keeps : disk.keeps_model begun ≡ disk.keeps_model given
+  pub unfailed : disk.failures begun ≡ disk.failures given
   pub made : disk.keeps_model given ≡ true → disk.present begun ≡ made HALF_SIZE 1
 
--- a store was just made on its disk
-pub record IsBegun {D : Type 0} (disk : Ghosts D) (d : Drill D) : Type 0 where
+-- a store was just made on the disk that was given
+pub record IsBegun {D : Type 0} (disk : Ghosts D) (given : D) (d : Drill D) : Type 0 where
   pub begun : D
   pub made : disk.present begun ≡ made HALF_SIZE 1
+  pub unfailed : disk.failures begun ≡ disk.failures given
   pub stands : Stands disk d (start begun)

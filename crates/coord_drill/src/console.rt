@@ -71,13 +71,13 @@ pub fn coord_drill_on<R: Read, W: Write, D: CrashDisk>(
 ) -> Result<D, (Fault, D)>
     ensures ended { D.keeps_model disk ≡ true → IfOk result (λ last. (seen text : List ℕ)
         × Consumes (R.remaining reader.old) (R.remaining reader.new) seen
-        × Ended ⟦<D as Disk>⟧ D.crashes seen text last
+        × Ended ⟦<D as Disk>⟧ D.crashes disk seen text last
         × Appends (W.contents writer.old) (W.contents writer.new) text) }
     ensures end { OnOk result (IsAtEnd (R.remaining reader.new)) }
     ensures failed { D.keeps_model disk ≡ true → IfErr result (λ refused. ((seen : List ℕ)
         × Consumes (R.remaining reader.old) (R.remaining reader.new) seen
-        × BrokeOff ⟦<D as Disk>⟧ D.crashes seen (W.contents writer.old) (W.contents writer.new)
-        refused.0 refused.1
+        × BrokeOff ⟦<D as Disk>⟧ D.crashes disk seen
+        (W.contents writer.old) (W.contents writer.new) refused.0 refused.1
         × (refused.0 ≡ TooManyReads → MOST_READS ≤ length seen))
         ⊎ (NotMade ⟦<D as Disk>⟧ disk refused.0 refused.1
         × (R.remaining reader.new ≡ R.remaining reader.old)
@@ -111,7 +111,7 @@ impl<D: CrashDisk> Console<D> {
     fn new(alloc: Global, disk: D) -> Result<Self, (Fault, D)>
         ensures ready { IfOk result (λ console. IsReady console.drill) }
         ensures begun { D.keeps_model disk ≡ true →
-            IfOk result (λ console. IsBegun ⟦<D as Disk>⟧ console.drill) }
+            IfOk result (λ console. IsBegun ⟦<D as Disk>⟧ disk console.drill) }
         ensures line { IfOk result (λ console. console.line ≡ Some []) }
         ensures number { IfOk result (λ console. console.number ≡ 0) }
         ensures not_made { D.keeps_model disk ≡ true →

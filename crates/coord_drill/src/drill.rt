@@ -48,7 +48,7 @@ impl<D: CrashDisk> Drill<D> {
     /// disk. A refusal gives the disk back.
     pub fn new(alloc: Global, disk: D) -> Result<Self, (Fault, D)>
         ensures ready { IfOk result IsReady }
-        ensures begun { D.keeps_model disk ≡ true → IfOk result (IsBegun ⟦<D as Disk>⟧) }
+        ensures begun { D.keeps_model disk ≡ true → IfOk result (IsBegun ⟦<D as Disk>⟧ disk) }
         ensures state { IfOk result (λ drill. state_of drill ≡ drill_over (no_world 1)) }
         ensures fault { IfErr result (λ refused. IsOfDisk refused.0) }
         ensures not_made { D.keeps_model disk ≡ true →

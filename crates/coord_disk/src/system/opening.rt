@@ -2,14 +2,15 @@
 
 use super::SystemFile;
 use std::fs::{File, OpenOptions};
-use std::io;
 use std::io::ErrorKind;
 use std::os::unix::fs::OpenOptionsExt;
 use std::path::Path;
 use std::rt::Files;
+use std::{fs, io};
 
 /// The file and its folder, under a lock that no other process has.
 pub fn open_locked<R: Files<File = File>>(rt: &R, path: &str) -> io::Result<SystemFile<File>> {
+    refuse_other_kinds(rt, path)?;
     let file = match OpenOptions::new().read(true).write(true).open(rt, path) {
         Err(error) if error.kind() == ErrorKind::NotFound => make(rt, path)?,
         opened => opened?,
@@ -21,6 +22,7 @@ pub fn open_locked<R: Files<File = File>>(rt: &R, path: &str) -> io::Result<Syst
 
 /// The file, to be read alone, and its folder where the file is made here.
 pub fn open_unlocked<R: Files<File = File>>(rt: &R, path: &str) -> io::Result<SystemFile<File>> {
+    refuse_other_kinds(rt, path)?;
     match File::open(rt, path) {
         Err(error) if error.kind() == ErrorKind::NotFound => {
             let file = make(rt, path)?;
@@ -28,6 +30,15 @@ pub fn open_unlocked<R: Files<File = File>>(rt: &R, path: &str) -> io::Result<Sy
             Ok(SystemFile::over(file, Some(folder)))
         }
         opened => Ok(SystemFile::over(opened?, None)),
+    }
+}
+
+/// Refuses what stands there and is no regular file, before it is opened: opening a pipe would wait
+/// for its other end.
+fn refuse_other_kinds<R: Files<File = File>>(rt: &R, path: &str) -> io::Result<()> {
+    match fs::metadata(rt, path) {
+        Ok(metadata) if !metadata.is_file() => Err(ErrorKind::InvalidInput.into()),
+        _ => Ok(()),
     }
 }
 

@@ -1,6 +1,5 @@
 -- As long as no step was accepted the world of a drill is empty.
-use Rattle.std.proofs.Common.{◌≡◌, ◌≢◌, ℕ, ◌+◌, ◌-◌, Bool, true, false, cond, List, [], ◌∷◌, Option, Some, None, Result, Ok, Err, refl, sym, ap, ◌∙◌, subst, arith, inl, inr, is_some}
-use Rattle.std.proofs.lemmas.Bool.{false≢true}
+use Rattle.std.proofs.Common.{◌≡◌, ◌≢◌, ℕ, ◌+◌, ◌-◌, Bool, false, List, [], ◌∷◌, None, Result, Ok, Err, refl, sym, ap, ◌∙◌, subst, arith, inl, inr, is_some}
 use Rattle.std.specs.Cmp.{nat_cmp_total}
 use Rattle.coord_types.specs.Facade.{get}
 use Rattle.coord_types.specs.Table as table
@@ -8,11 +7,11 @@ use Rattle.coord_types.proofs.Tables.{get-empty}
 use Rattle.coord_store.specs.Migrating.{risen}
 use Rattle.coord_world.specs.Facade.{Legal, World, is_linked, no_world, pair_cmp_total}
 use Rattle.coord_ledger.specs.declared.events.Event.TheVariants as event
-use Rattle.coord_ledger.specs.Facade.{Answered, IsOneOf, Log, Machine, accepted_count, after_submit, cut_to, log_over, machine_over, moved, run, to_submit, verdict}
+use Rattle.coord_ledger.specs.Facade.{Answered, Log, after_submit, cut_to, log_over, machine_over, moved, run, verdict}
 use Rattle.coord_drill.specs.Answered.{IsAnswered}
 use Rattle.coord_drill.specs.Drill.{DrillState, after_asked, begun_after, flight_events, machine_of, step_events}
 use Rattle.coord_drill.specs.declared.asked.Asked.TheVariants as ask
-use Rattle.coord_drill.specs.Facade.{Accepted, Answer, Asked, Begun, Fresh, IsEmptyLog, Nothing, Opened, Refusal, Repeat, Repeated, Step, Verdict}
+use Rattle.coord_drill.specs.Facade.{Accepted, Answer, Asked, Begun, Fresh, IsEmptyLog, Refusal, Repeat, Repeated, Step, Verdict}
 
 -- nothing is illegal in the empty world
 pub no_world_legal : (version : ℕ) → Legal (no_world version)

@@ -1,5 +1,5 @@
 -- Where the headline holds, whatever a disk may hold is kept, with each step that was told of.
-use Rattle.std.proofs.Common.{◌≡◌, ℕ, ◌≤◌, true, List, [], ◌∷◌, length, Option, Some, None, refl, ap, arith, inl, inr}
+use Rattle.std.proofs.Common.{ℕ, ◌≤◌, true, List, [], ◌∷◌, length, Option, Some, None, refl, ap, arith, inl, inr}
 use Rattle.std.specs.List.{AllByRecursion}
 use Rattle.coord_disk.proofs.MomentLemmas.{weaker}
 use Rattle.coord_disk.specs.declared.disk.Disk.{Ghosts}

@@ -1,5 +1,5 @@
 -- Lines, one after the other.
-use Rattle.std.proofs.Common.{◌≡◌, ◌⊎◌, ℕ, ◌+◌, Bool, true, false, cond, List, [], ◌∷◌, ◌++◌, length, option_map, Option, Some, None, Result, Ok, Err, IfOk, OnOk, refl, sym, ap, ◌∙◌, subst, arith, inl, inr, append-nil, append_assoc}
+use Rattle.std.proofs.Common.{◌≡◌, ℕ, ◌+◌, Bool, true, false, cond, List, [], ◌∷◌, ◌++◌, length, option_map, Option, Some, None, Result, Ok, Err, IfOk, OnOk, refl, sym, ap, ◌∙◌, subst, arith, inl, inr, append-nil, append_assoc}
 use Rattle.std.specs.Option.{option_map as map_option}
 use Rattle.coord_disk.specs.declared.disk.Disk.{Ghosts}
 use Rattle.coord_lines.specs.Lines.{Line}
@@ -13,9 +13,9 @@ use Rattle.coord_drill.specs.Drilled.{asked_by, is_skipped, parsed, unless_late}
 use Rattle.coord_drill.specs.Format.{◌>>=◌}
 use Rattle.coord_drill.specs.declared.asked.Asked.TheVariants.{Version2}
 use Rattle.coord_drill.specs.declared.request.Request.TheVariants as request
-use Rattle.coord_drill.specs.Facade.{AllKept, Answer, Asked, Carries, CarriesIf, CarriesLine, CutsIf, Drill, Fault, Goes, IsEmptyLog, IsGivenBack, IsOfMemory, IsPromised, LineGoes, LineResponds, Moves, Place, Prints, Refusal, Request, Responds, Stands, Step, Tells, UnlessSkipped, asked_in, bad_line, front_of, state_of, told_in}
+use Rattle.coord_drill.specs.Facade.{AllKept, Answer, Carries, CarriesIf, CarriesLine, CutsIf, Drill, Fault, Goes, IsEmptyLog, IsGivenBack, IsOfMemory, IsPromised, LineGoes, Moves, Place, Prints, Refusal, Request, Responds, Stands, Step, Tells, UnlessSkipped, asked_in, bad_line, front_of, state_of, told_in}
 use Rattle.coord_drill.proofs.course.Cutting.{cut_by}
-use Rattle.coord_drill.proofs.course.Standing.{Reached, reached_by}
+use Rattle.coord_drill.proofs.course.Standing.{reached_by}
 
 -- ---- what a line asks for
 

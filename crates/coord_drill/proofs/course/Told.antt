@@ -1,5 +1,5 @@
 -- What a line tells of is settled behind it.
-use Rattle.std.proofs.Common.{◌≡◌, ◌≢◌, ℕ, ◌+◌, ◌≤◌, Bool, true, false, cond, nat_le, List, [], ◌∷◌, length, map, take, Option, Some, Result, Ok, Err, refl, sym, ap, ◌∙◌, subst, arith, inl, inr}
+use Rattle.std.proofs.Common.{◌≡◌, ◌≢◌, ℕ, ◌+◌, ◌≤◌, Bool, true, false, cond, nat_le, List, [], ◌∷◌, length, map, take, Result, Ok, Err, refl, sym, ap, subst, arith, inl, inr}
 use Rattle.std.proofs.lemmas.Bool.Decides.{nat_tests}
 use Rattle.std.proofs.lemmas.List.{length-take}
 use Rattle.std.specs.List.{AllByRecursion}
@@ -7,12 +7,12 @@ use Rattle.coord_types.specs.declared.refusals.Refusal.TheVariants.{OutOfMemory}
 use Rattle.coord_world.proofs.Facade.{by_test, fold_counts}
 use Rattle.coord_world.specs.Facade.{World, next, outs}
 use Rattle.coord_ledger.specs.declared.events.Event.TheVariants as event
-use Rattle.coord_ledger.specs.Facade.{Answered, IsOneOf, Log, Machine, accepted_count, after_submit, next_size, pending, run, settled_count, settled_world, to_begin, to_submit, verdict, with_settled, with_step}
+use Rattle.coord_ledger.specs.Facade.{Answered, IsOneOf, Log, Machine, accepted_count, after_submit, next_size, pending, run, settled_count, settled_world, to_submit, verdict, with_settled, with_step}
 use Rattle.coord_drill.specs.Answered.{IsAnswered}
-use Rattle.coord_drill.specs.Drill.{DrillState, after_asked, flight_events, line_events, machine_of, step_events}
+use Rattle.coord_drill.specs.Drill.{DrillState, after_asked, flight_events, machine_of, step_events}
 use Rattle.coord_drill.specs.Told.{flight_told, repeat_told, step_told, told_by}
 use Rattle.coord_drill.specs.declared.asked.Asked.TheVariants as ask
-use Rattle.coord_drill.specs.Facade.{Accepted, Answer, Asked, Begun, Committed, Event, Finished, Fresh, Refusal, Refused, Repeat, Repeated, Reply, Step, Verdict}
+use Rattle.coord_drill.specs.Facade.{Accepted, Answer, Asked, Begun, Committed, Fresh, Refusal, Refused, Repeat, Repeated, Step, Verdict}
 use Rattle.coord_drill.proofs.does.FlownTo.{begun_size}
 
 abbrev HaveMemory : List Answer → Type 0

@@ -1,5 +1,5 @@
 -- How a store that is refused is told.
-use Rattle.std.proofs.Common.{◌≡◌, Bool, true, Option, Some, refl, sym, ap, subst, inl, inr}
+use Rattle.std.proofs.Common.{◌≡◌, Bool, true, Option, Some, refl, ap, inl, inr}
 use Rattle.coord_store.specs.Refused.{IsPassing as IsStorePassing, failed_in as failed_in_store}
 use Rattle.coord_store.specs.declared.faults.StoreFault.{StoreFault}
 use Rattle.coord_store.specs.declared.faults.StoreFault.TheVariants as store

@@ -1,5 +1,5 @@
 -- The store of a ledger at home is raised.
-use Rattle.std.proofs.Common.{◌≡◌, ◌⊎◌, ℕ, Bool, true, false, Option, Some, None, refl, sym, ap, ◌∙◌, subst, inl, inr, is_some, Err, IsErrOf}
+use Rattle.std.proofs.Common.{◌≡◌, ℕ, true, false, Option, Some, None, refl, sym, ap, ◌∙◌, inl, inr, is_some, Err, IsErrOf}
 use Rattle.std.proofs.lemmas.Bool.{false≢true}
 use Rattle.std.specs.Cmp.{nat_cmp_total}
 use Rattle.coord_types.specs.Facade.{get}
@@ -8,7 +8,7 @@ use Rattle.coord_store.specs.Migrating.{RefusesMigration}
 use Rattle.coord_store.specs.declared.faults.StoreFault.{StoreFault}
 use Rattle.coord_store.specs.declared.faults.StoreFault.TheVariants.{OutOfMemory, Device, NotQuiet, Stopped}
 use Rattle.coord_world.specs.Facade.{World, is_ready, no_world, state, state_or_none}
-use Rattle.coord_ledger.specs.Facade.{Driven, LedgerState, Log, disk_driven, disk_with, has_stopped, settled_world}
+use Rattle.coord_ledger.specs.Facade.{Driven, LedgerState, Log, disk_driven, disk_with, settled_world}
 use Rattle.coord_drill.specs.Facade.{IsEmptyLog, IsPassing, store_fault}
 
 pub none_torn : {A : Type 0} (o : Option A) → is_some o ≡ false → o ≡ None

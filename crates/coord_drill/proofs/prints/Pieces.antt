@@ -1,12 +1,12 @@
 -- Pieces of the input, one after the other.
-use Rattle.std.proofs.Common.{◌≡◌, ◌⊎◌, ℕ, ◌+◌, List, [], ◌∷◌, ◌++◌, length, length-append, Option, Some, None, refl, sym, ap, ◌∙◌, subst, arith, inl, inr, append-nil, append_assoc}
+use Rattle.std.proofs.Common.{◌≡◌, ℕ, ◌+◌, List, [], ◌∷◌, ◌++◌, length, length-append, Option, Some, None, refl, sym, ap, ◌∙◌, subst, arith, inl, inr, append-nil, append_assoc}
 use Rattle.std.specs.Io.KnownBytes.{Appends}
 use Rattle.std.proofs.KnownBytes.{Appends-nil, Appends-trans}
 use Rattle.coord_disk.specs.declared.disk.Disk.{Ghosts}
 use Rattle.coord_ledger.specs.Facade.{disk_driven}
 use Rattle.coord_lines.specs.Lines.{IsWithin, Line, before_line_feed, behind_line_feed, extended, lines_on}
 use Rattle.coord_lines.proofs.LinesOn.{extended-nothing, lines_on-ended, lines_on-unended}
-use Rattle.coord_drill.specs.Facade.{BreaksOff, CarriesLine, CarriesOut, CutsLine, Drill, EndsWith, Fault, Goes, IsGivenBack, IsOfNoStore, IsOfWriting, Place, Stands, Takes, WritesFirstPart}
+use Rattle.coord_drill.specs.Facade.{BreaksOff, CarriesLine, CarriesOut, CutsLine, Drill, EndsWith, Fault, IsGivenBack, IsOfNoStore, IsOfWriting, Place, Takes, WritesFirstPart}
 use Rattle.coord_drill.proofs.course.Lines.{goes_both, goes_one}
 use Rattle.coord_drill.proofs.prints.FirstParts.{first_part-after, first_part-all, first_part-longer, first_part-none}
 

@@ -1,6 +1,6 @@
 -- What is printed of a whole input, and which faults come of what.
-use Rattle.std.proofs.Common.{refl, ◌≡◌, ◌⊎◌, ℕ, ◌+◌, List, [], ◌++◌, length, Option, Some, sym, ap, ◌∙◌, subst, arith, append-nil, take, Result, Ok, Err, OnErr, IfErr, IfOk, inl, inr, Bool, true, false}
-use Rattle.std.specs.Io.KnownBytes.{Appends, Consumes, IsAtEnd}
+use Rattle.std.proofs.Common.{refl, ◌≡◌, ℕ, ◌+◌, List, [], ◌++◌, length, Option, Some, sym, ap, ◌∙◌, subst, append-nil, take, inl, inr, Bool, true, false}
+use Rattle.std.specs.Io.KnownBytes.{Appends, Consumes}
 use Rattle.std.proofs.KnownBytes.{Consumes-nil, Consumes-trans}
 use Rattle.coord_disk.specs.declared.disk.Disk.{Ghosts}
 use Rattle.coord_lines.specs.Lines.{Line, lines_of, lines_on}
@@ -36,39 +36,39 @@ ends_as_disk false fault memory = inl memory
 
 -- ---- a whole input
 
-module _ {D : Type 0} (disk : Ghosts D) (crashes : D → D → Type 0) (input : List ℕ) where
+module _ {D : Type 0} (disk : Ghosts D) (crashes : D → D → Type 0) (given : D) (input : List ℕ) where
   -- what was printed of all of it may be
-  pub ended_prints : (text : List ℕ) (last : D) → Ended disk crashes input text last → IsDrilled input text
+  pub ended_prints : (text : List ℕ) (last : D) → Ended disk crashes given input text last → IsDrilled input text
   ended_prints text last ended =
       let lines = lines_of input in
       let prints = goes_prints disk crashes _ ended.place 1 (1 + length lines) lines [] text [] refl ended.course.goes refl in
       subst (λ t. Prints (drill_over (no_world 1)) 1 lines t) (append-nil text) (subst (λ ls. Prints (drill_over (no_world 1)) 1 ls (text ++ [])) (append-nil lines) prints)
 
   -- and a first part of what may be printed, where it broke off
-  pub broke_prints : (a b : Option (List ℕ)) (fault : Fault) (lost : D) → BrokeOff disk crashes input a b fault lost → (text : List ℕ) × IsDrilled input text × WritesFirstPart a b text
+  pub broke_prints : (a b : Option (List ℕ)) (fault : Fault) (lost : D) → BrokeOff disk crashes given input a b fault lost → (text : List ℕ) × IsDrilled input text × WritesFirstPart a b text
   broke_prints a b fault lost broke =
       let more = prints_somehow broke.place.state (1 + length broke.lines) broke.others in
       let prints = goes_prints disk crashes _ broke.place 1 (1 + length broke.lines) broke.lines broke.others broke.text more.0 refl broke.course.goes more.1 in
       (broke.text ++ more.0, subst (λ ls. Prints (drill_over (no_world 1)) 1 ls (broke.text ++ more.0)) (sym broke.split) prints, first_part-longer a b broke.text more.0 broke.wrote)
 
   -- from what the code's functions say of it
-  module _ (d : Drill D) (begun : IsBegun disk d) (line : Line) (empty : line ≡ Some []) (a b : Option (List ℕ)) where
+  module _ (d : Drill D) (begun : IsBegun disk given d) (line : Line) (empty : line ≡ Some []) (a b : Option (List ℕ)) where
     lines_are : lines_on line input ≡ lines_of input
     lines_are = ap (λ l. lines_on l input) empty ∙ lines_on-empty input
 
-    pub ended_of : (last : D) → EndsWith disk crashes d 1 (lines_on line input) a b last → (text : List ℕ) × Ended disk crashes input text last × Appends a b text
+    pub ended_of : (last : D) → EndsWith disk crashes d 1 (lines_on line input) a b last → (text : List ℕ) × Ended disk crashes given input text last × Appends a b text
     ended_of last ends =
         let one = ends.goes (start begun.begun) begun.stands in (
           ends.text,
           record {
             place = one.0;
-            course = record { begun = begun.begun; made = begun.made; goes = subst (λ ls. Goes disk crashes (start begun.begun) 1 ls ends.text one.0) lines_are one.1.1 };
+            course = record { begun = begun.begun; made = begun.made; unfailed = begun.unfailed; goes = subst (λ ls. Goes disk crashes (start begun.begun) 1 ls ends.text one.0) lines_are one.1.1 };
             given_back = one.1.0;
           },
           ends.wrote,
         )
 
-    pub broke_of : (fault : Fault) (lost : D) → BreaksOff disk crashes d 1 (lines_on line input) a b fault lost → BrokeOff disk crashes input a b fault lost
+    pub broke_of : (fault : Fault) (lost : D) → BreaksOff disk crashes d 1 (lines_on line input) a b fault lost → BrokeOff disk crashes given input a b fault lost
     broke_of fault lost breaks =
         let one = breaks.goes (start begun.begun) begun.stands in
         record {
@@ -77,7 +77,7 @@ module _ {D : Type 0} (disk : Ghosts D) (crashes : D → D → Type 0) (input : 
           split = sym lines_are ∙ breaks.split;
           text = breaks.text;
           place = one.0;
-          course = record { begun = begun.begun; made = begun.made; goes = one.1.0 };
+          course = record { begun = begun.begun; made = begun.made; unfailed = begun.unfailed; goes = one.1.0 };
           wrote = breaks.wrote;
           given_back = one.1.1;
         }

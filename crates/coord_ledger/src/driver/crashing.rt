@@ -29,15 +29,12 @@ fn reopen<D: CrashDisk>(alloc: Global, disk: D) -> Result<Ledger<D>, (RunFaultKi
         Ok(store) => store,
         Err((fault, disk)) => return Err((RunFaultKind::Store(fault), disk)),
     };
-    match adopted(alloc, opened) {
-        Ok(ledger) => Ok(ledger),
-        Err(refused) => Err(refused),
-    }
+    adopt(alloc, opened)
 }
 
-/// Makes a ledger of a store that was just opened. It is refused for want of memory alone, and gives
-/// the disk back.
-fn adopted<D: CrashDisk>(alloc: Global, store: Store<D>) -> Result<Ledger<D>, (RunFaultKind, D)>
+/// Makes a ledger of a store that was just opened. A refusal is for want of memory, and gives the
+/// disk back.
+fn adopt<D: CrashDisk>(alloc: Global, store: Store<D>) -> Result<Ledger<D>, (RunFaultKind, D)>
     requires { has_stopped store ≡ false }
     ensures adopted { IfOk result (λ ledger. ledger ≡ ledger_over store.world store.disk) }
     ensures memory { IfErr result (λ refused. refused.0 ≡ OutOfMemory) }

@@ -1,4 +1,3 @@
-use Rattle.std.proofs.Common.{◌≡◌, ◌+◌, rules}
 use Rattle.std.proofs.lemmas.Result.{IfErr-weaker, IfOk-weaker}
 use Rattle.coord_drill.proofs.prints.FirstParts.{first_part-all}
 use Rattle.coord_drill.proofs.prints.Pieces.{breaks_unwritten, breaks_written, of_writing, takes_unwritten, takes_written}

@@ -1,4 +1,4 @@
-use Rattle.std.proofs.Common.{◌≡◌, ◌+◌, ◌++◌, [], sym, ap, ◌∙◌, subst, rules, string_bytes}
+use Rattle.std.proofs.Common.{◌≡◌, ◌+◌, ◌++◌, sym, ap, ◌∙◌, subst, rules, string_bytes}
 use Rattle.std.specs.Option.{option_copied}
 use Rattle.coord_lines.specs.Lines.{Line}
 use Rattle.coord_drill.specs.Facade.{CarriesLine, CutsLine}

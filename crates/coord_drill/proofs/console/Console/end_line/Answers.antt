@@ -1,4 +1,4 @@
-use Rattle.std.proofs.Common.{◌≡◌, ◌+◌, rules, string_bytes}
+use Rattle.std.proofs.Common.{◌+◌, rules, string_bytes}
 use Rattle.coord_drill.proofs.does.Moments.{passed_on}
 use Rattle.coord_drill.proofs.prints.Pieces.{carries_line, line_cut, line_unwritten, of_writing}
 use Rattle.coord_drill.proofs.console.Console.end_line.Goals as goal

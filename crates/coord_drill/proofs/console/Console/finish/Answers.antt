@@ -1,4 +1,4 @@
-use Rattle.std.proofs.Common.{◌≡◌, ◌+◌, [], ◌∷◌, rules}
+use Rattle.std.proofs.Common.{◌+◌, [], ◌∷◌, rules}
 use Rattle.std.proofs.KnownBytes.{Appends-kept}
 use Rattle.coord_drill.specs.Facade.{CarriesOut}
 use Rattle.coord_drill.proofs.does.Moments.{passed_on}

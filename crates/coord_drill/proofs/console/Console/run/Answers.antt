@@ -1,4 +1,4 @@
-use Rattle.std.proofs.Common.{◌≡◌, ℕ, List, ◌++◌, ◌+◌, [], take, arith, rules, subst, append-nil, length-append, length-take-le}
+use Rattle.std.proofs.Common.{◌++◌, ◌+◌, [], take, arith, rules, subst, append-nil, length-append, length-take-le}
 use Rattle.std.proofs.KnownBytes.{Consumes-nil, Consumes-trans, Consumes-kept}
 use Rattle.std.proofs.lemmas.Result.{IfErr-weaker, IfOk-weaker}
 use Rattle.coord_lines.specs.Lines.{lines_on}

@@ -1,4 +1,4 @@
-use Rattle.std.proofs.Common.{◌≡◌, ◌+◌, ◌<◌, ◌≤◌, length, arith, rules, sym}
+use Rattle.std.proofs.Common.{◌<◌, length, arith, sym}
 use Rattle.coord_lines.proofs.LinesOn.{behind-shorter}
 use Rattle.coord_drill.proofs.does.Moments.{passed_on}
 use Rattle.coord_drill.proofs.prints.Pieces.{takes_cut, takes_line, takes_none, takes_rest}

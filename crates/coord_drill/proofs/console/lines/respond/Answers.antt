@@ -1,4 +1,4 @@
-use Rattle.std.proofs.Common.{◌≡◌, [], None, Some, true, false, refl, sym, ap, ◌∙◌, subst, IfErr, IfOk, rules, string_bytes}
+use Rattle.std.proofs.Common.{◌≡◌, [], None, Some, true, false, sym, ◌∙◌, subst, IfErr, IfOk, rules, string_bytes}
 use Rattle.std.proofs.lemmas.Result.{IfErr-weaker, IfOk-weaker}
 use Rattle.std.specs.Option.{option_copied}
 use Rattle.coord_lines.specs.Lines.{Line}

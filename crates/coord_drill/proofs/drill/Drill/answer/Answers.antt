@@ -1,8 +1,8 @@
-use Rattle.std.proofs.Common.{◌≡◌, [], sym, ap, ◌∙◌, subst, IfErr, IfOk, string_bytes}
+use Rattle.std.proofs.Common.{sym, ap, ◌∙◌, subst, IfErr, IfOk, string_bytes}
 use Rattle.std.proofs.lemmas.Result.{IfOk-weaker}
 use Rattle.coord_ledger.specs.Facade.{LedgerState, front_world}
 use Rattle.coord_drill.specs.declared.asked.Asked.TheVariants as ask
-use Rattle.coord_drill.specs.Facade.{CarriesIf, CutsIf, Tells, asked, front_of}
+use Rattle.coord_drill.specs.Facade.{CarriesIf, CutsIf, Tells, asked}
 use Rattle.coord_drill.proofs.does.Tells.{tells_nothing}
 use Rattle.coord_drill.proofs.drill.Drill.answer.Goals as goal
 

@@ -1,4 +1,4 @@
-use Rattle.std.proofs.Common.{refl, ap, ◌∙◌}
+use Rattle.std.proofs.Common.{refl}
 use Rattle.coord_drill.proofs.course.Standing.{carries_raised}
 use Rattle.coord_drill.proofs.drill.Drill.begin_version_2.Goals as goal
 

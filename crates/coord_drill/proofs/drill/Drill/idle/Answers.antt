@@ -1,4 +1,4 @@
-use Rattle.std.proofs.Common.{refl, ap, ◌∙◌, string_bytes}
+use Rattle.std.proofs.Common.{refl, string_bytes}
 use Rattle.coord_drill.specs.declared.asked.Asked.TheVariants as ask
 use Rattle.coord_drill.proofs.does.Cuts.{cut_before}
 use Rattle.coord_drill.proofs.does.Tells.{tells_idle}

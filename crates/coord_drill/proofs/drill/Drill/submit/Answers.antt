@@ -1,13 +1,12 @@
-use Rattle.std.proofs.Common.{Ok, ◌≡◌, ◌≢◌, ◌++◌, Some, refl, ap, ◌∙◌, rules, false, true, sym, subst, string_bytes}
+use Rattle.std.proofs.Common.{Ok, ◌≡◌, ◌≢◌, ◌++◌, refl, ap, ◌∙◌, rules, false, true, sym, subst, string_bytes}
 use Rattle.std.proofs.lemmas.Result.{IfErr-weaker, IfOk-weaker}
 use Rattle.coord_types.specs.declared.refusals.Refusal.TheVariants.{OutOfMemory}
 use Rattle.coord_ledger.specs.Facade.{IsGranted, LedgerState, reply_of, settled_count}
-use Rattle.coord_drill.specs.Drill.{line_events}
 use Rattle.coord_drill.specs.declared.asked.Asked.TheVariants.{Submit}
 use Rattle.coord_drill.specs.Facade.{Hands, kept_line, pending_line, refusal_line}
 use Rattle.coord_drill.proofs.does.Cuts.{cut_before}
 use Rattle.coord_drill.proofs.does.HandedTo.{accepted_ready, carries_flight, carries_pending, carries_refusal, carries_repeat, cut_flight, cut_handed, kept_ready, repeated_granted}
-use Rattle.coord_drill.proofs.does.Moments.{begins_by, if_err_both, none_led}
+use Rattle.coord_drill.proofs.does.Moments.{begins_by, if_err_both}
 use Rattle.coord_drill.proofs.drill.Drill.submit.Goals as goal
 
 pub returns-then-is_err-clause-cut : goal.returns-then-is_err-clause-cut

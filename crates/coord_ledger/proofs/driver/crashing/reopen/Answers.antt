@@ -1,13 +1,17 @@
-use Rattle.std.proofs.Common.{◌≡◌, ◌+◌, ◌∙◌, true, Some, sym, ap, subst, arith}
+use Rattle.std.proofs.Common.{◌≡◌, ◌+◌, ◌∙◌, true, Some, Result, Ok, Err, IfErr, sym, ap, subst, arith}
+use Rattle.std.proofs.lemmas.Result.{IfErr-weaker, IfOk-weaker, MatchResult-from_both}
 use Rattle.std.specs.Option.{option_map}
 use Rattle.coord_disk.proofs.TornWrites.{whole_image}
-use Rattle.coord_disk.specs.Model.Moments.{LeavesOnly}
 use Rattle.coord_disk.specs.Model.Present.{IsImage, Present}
 use Rattle.coord_store.specs.Recovered.{Recovered}
 use Rattle.coord_store.specs.Refused.{failed_in as failed_in_opening}
-use Rattle.coord_ledger.specs.Facade.{LedgerState, failed_in}
-use Rattle.coord_ledger.specs.ledger.Driver.{IsOpenedOnce, IsReopenFault}
+use Rattle.coord_ledger.specs.Facade.{IsReopenFault, LedgerState, Reopens, failed_in}
+use Rattle.coord_ledger.specs.ledger.Driver.{IsOpenedOnce}
 use Rattle.coord_ledger.proofs.driver.crashing.reopen.Goals as goal
+
+both : {T E : Type 0} (r : Result T E) (P Q : E → Type 0) → IfErr r P → IfErr r Q → IfErr r (λ e. P e × Q e)
+both (Ok x) P Q p q = tt
+both (Err e) P Q p q = (p, q)
 
 pub returns-in-Err-clause-cause : goal.returns-in-Err-clause-cause
 returns-in-Err-clause-cause g c = (
@@ -18,53 +22,57 @@ returns-in-Err-clause-cause g c = (
 pub returns-in-Err-clause-failures : goal.returns-in-Err-clause-failures
 returns-in-Err-clause-failures g c = c.in-Err.ensures.failures ∙ ap (λ n. n + failed_in_opening c.in-Err.fault) c.crash.ensures.failures
 
-pub returns-in-Err-adopted-clause-cause : goal.returns-in-Err-adopted-clause-cause
-returns-in-Err-adopted-clause-cause g c =
+pub returns-clause-cause : goal.returns-clause-cause
+returns-clause-cause g c =
     let read = (g.D.Disk.present c.crash.result).read in
-    let lost = c.in-Err-adopted.refused.1 in
-    let opened : g.D.Disk.keeps_model c.args.disk ≡ true → IsOpenedOnce (g.D.Disk.present c.args.disk) (g.D.Disk.present lost) = λ on.
-    let same : (g.D.Disk.present lost).read ≡ read = ap (λ d. (g.D.Disk.present d).read) c.in-Err-adopted.ensures.back ∙ ap (λ (p : Present). p.read) (c.in-Ok.ensures.bytes (c.crash.ensures.model ∙ on)) in
+    let opened : g.D.Disk.keeps_model c.args.disk ≡ true → IsOpenedOnce (g.D.Disk.present c.args.disk) (g.D.Disk.present c.in-Ok.store.disk) = λ on.
+    let same : (g.D.Disk.present c.in-Ok.store.disk).read ≡ read = ap (λ (p : Present). p.read) (c.in-Ok.ensures.bytes (c.crash.ensures.model ∙ on)) in
     record {
       allowed = subst (IsImage (g.D.Disk.present c.args.disk)) (sym same) (c.crash.ensures.image on);
       world = c.in-Ok.store.world;
       recovered = subst (λ bytes. Recovered bytes c.in-Ok.store.world) (sym same) (c.in-Ok.ensures.world (c.crash.ensures.model ∙ on));
     } in
-    subst (IsReopenFault (g.D.Disk.keeps_model c.args.disk) (g.D.Disk.present c.args.disk) (g.D.Disk.present lost)) (sym c.in-Err-adopted.ensures.memory) opened
+    IfErr-weaker c.adopt.result _ _ (λ refused is.
+    subst (IsReopenFault (g.D.Disk.keeps_model c.args.disk) (g.D.Disk.present c.args.disk) (g.D.Disk.present refused.1)) (sym is.0)
+    (subst (λ lost. g.D.Disk.keeps_model c.args.disk ≡ true → IsOpenedOnce (g.D.Disk.present c.args.disk) (g.D.Disk.present lost)) (sym is.1) opened))
+    (both c.adopt.result _ _ c.adopt.ensures.memory c.adopt.ensures.back)
 
-pub returns-in-Err-adopted-clause-failures : goal.returns-in-Err-adopted-clause-failures
-returns-in-Err-adopted-clause-failures g c =
-    let same : g.D.Disk.failures c.in-Err-adopted.refused.1 ≡ g.D.Disk.failures c.args.disk = ap g.D.Disk.failures c.in-Err-adopted.ensures.back ∙ c.in-Ok.ensures.failures ∙ c.crash.ensures.failures in
-    let none : failed_in c.in-Err-adopted.refused.0 ≡ 0 = ap failed_in c.in-Err-adopted.ensures.memory in
-    omega (arith, same, none)
+pub returns-clause-failures : goal.returns-clause-failures
+returns-clause-failures g c =
+    let same : g.D.Disk.failures c.in-Ok.store.disk ≡ g.D.Disk.failures c.args.disk = c.in-Ok.ensures.failures ∙ c.crash.ensures.failures in
+    MatchResult-from_both c.adopt.result _ _
+    (IfOk-weaker c.adopt.result _ _ (λ ledger is. ap (λ (l : LedgerState g.row.D.Denot). option_map g.D.Disk.failures l.disk) is ∙ ap Some same) c.adopt.ensures.adopted)
+    (IfErr-weaker c.adopt.result _ _ (λ refused is.
+    let lost : g.D.Disk.failures refused.1 ≡ g.D.Disk.failures c.args.disk = ap g.D.Disk.failures is.1 ∙ same in
+    let none : failed_in refused.0 ≡ 0 = ap failed_in is.0 in
+    omega (arith, lost, none))
+    (both c.adopt.result _ _ c.adopt.ensures.memory c.adopt.ensures.back))
 
-pub returns-in-Ok-adopted-clause-failures : goal.returns-in-Ok-adopted-clause-failures
-returns-in-Ok-adopted-clause-failures g c =
-    ap (λ (l : LedgerState g.row.D.Denot). option_map g.D.Disk.failures l.disk) c.in-Ok-adopted.ensures.adopted ∙ ap Some (c.in-Ok.ensures.failures ∙ c.crash.ensures.failures)
+pub returns-clause-lost : goal.returns-clause-lost
+returns-clause-lost g c =
+    IfErr-weaker c.adopt.result _ _ (λ refused is on. subst (λ lost. Reopens g.D.Disk.present g.D.Disk.clock g.D.Disk.left_since g.D.CrashDisk.crashes (IsImage (g.D.Disk.present c.args.disk)) c.args.disk lost) (sym is) (record {
+      taken = c.crash.result;
+      crash = c.crash.ensures.crashes;
+      image = c.crash.ensures.image on;
+      synced = c.crash.ensures.synced on;
+      opening = c.in-Ok.ensures.any_moment (c.crash.ensures.model ∙ on);
+      each = λ bytes here. subst (IsImage (g.D.Disk.present c.args.disk)) (sym (whole_image (g.D.Disk.present c.crash.result).read (g.D.Disk.present c.crash.result) (c.crash.ensures.synced on) bytes here)) (c.crash.ensures.image on);
+    })) c.adopt.ensures.back
 
-pub returns-in-Err-adopted-clause-lost : goal.returns-in-Err-adopted-clause-lost
-returns-in-Err-adopted-clause-lost g c on = record {
-  taken = c.crash.result;
-  crash = c.crash.ensures.crashes;
-  image = c.crash.ensures.image on;
-  synced = c.crash.ensures.synced on;
-  opening = subst (λ d. LeavesOnly {D = g.row.D.Denot} g.D.Disk.clock g.D.Disk.left_since c.crash.result d (IsImage (g.D.Disk.present c.crash.result))) (sym c.in-Err-adopted.ensures.back)
-      (c.in-Ok.ensures.any_moment (c.crash.ensures.model ∙ on));
-  each = λ bytes here. subst (IsImage (g.D.Disk.present c.args.disk)) (sym (whole_image (g.D.Disk.present c.crash.result).read (g.D.Disk.present c.crash.result) (c.crash.ensures.synced on) bytes here)) (c.crash.ensures.image on);
-}
-
-pub returns-in-Ok-adopted-clause-opened : goal.returns-in-Ok-adopted-clause-opened
-returns-in-Ok-adopted-clause-opened g c = record {
-  world = c.in-Ok.store.world;
-  disk = c.in-Ok.store.disk;
-  is = c.in-Ok-adopted.ensures.adopted;
-  same_model = c.in-Ok.ensures.model ∙ c.crash.ensures.model;
-  from = λ on. record { image = (g.D.Disk.present c.crash.result).read; allowed = c.crash.ensures.image on; recovered = c.in-Ok.ensures.world (c.crash.ensures.model ∙ on) };
-  moments = λ on. record {
-    taken = c.crash.result;
-    crash = c.crash.ensures.crashes;
-    image = c.crash.ensures.image on;
-    synced = c.crash.ensures.synced on;
-    opening = c.in-Ok.ensures.any_moment (c.crash.ensures.model ∙ on);
-    each = λ bytes here. subst (IsImage (g.D.Disk.present c.args.disk)) (sym (whole_image (g.D.Disk.present c.crash.result).read (g.D.Disk.present c.crash.result) (c.crash.ensures.synced on) bytes here)) (c.crash.ensures.image on);
-  };
-}
+pub returns-clause-opened : goal.returns-clause-opened
+returns-clause-opened g c =
+    IfOk-weaker c.adopt.result _ _ (λ ledger is. record {
+      world = c.in-Ok.store.world;
+      disk = c.in-Ok.store.disk;
+      is = is;
+      same_model = c.in-Ok.ensures.model ∙ c.crash.ensures.model;
+      from = λ on. record { image = (g.D.Disk.present c.crash.result).read; allowed = c.crash.ensures.image on; recovered = c.in-Ok.ensures.world (c.crash.ensures.model ∙ on) };
+      moments = λ on. record {
+        taken = c.crash.result;
+        crash = c.crash.ensures.crashes;
+        image = c.crash.ensures.image on;
+        synced = c.crash.ensures.synced on;
+        opening = c.in-Ok.ensures.any_moment (c.crash.ensures.model ∙ on);
+        each = λ bytes here. subst (IsImage (g.D.Disk.present c.args.disk)) (sym (whole_image (g.D.Disk.present c.crash.result).read (g.D.Disk.present c.crash.result) (c.crash.ensures.synced on) bytes here)) (c.crash.ensures.image on);
+      };
+    }) c.adopt.ensures.adopted
