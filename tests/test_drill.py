@@ -8,6 +8,16 @@ from support.case import Case
 from support.program import PATIENCE, PROGRAM, Ended, ran
 
 RUNS = os.path.join(os.path.dirname(os.path.abspath(__file__)), "drill")
+# Lines that ask for nothing: an unknown word, too few or too many words, other spaces, what is no number or one out of range.
+BAD_LINES = (
+    "fly 1", "Add 1 1", "add", "add 1", "add 1 1 1", "add 1 1 ", " add 1 1", "add  1 1", "add 1 1\r", "add\t1 1",
+    "add 0 1", "add 65 1", "add 1 0", "add 1 17", "add +1 1", "add -1 1", "add 1x 1", "add 1 \u00e9", "add 257 1",
+    "add 18446744073709551617 1", "remove", "remove 1 1", "join 1", "drop 1 65", "reset 0", "confirm 1",
+    "confirm 1 18446744073709551616", "order 1 1", "order 0 1 add 1 1", "order 17 1 add 1 1", "order 1 1 order 1 1 add 1 1",
+    "order 1 1 take 1 2", "take 1", "take 1 2 3", "clear 65 1", "data 1 2 3 1", "data 1 2 3 1 Abort",
+    "data 1 2 3 1 abort 0", "receipt 1 2 3", "receipt 1 2 3 1 1", "resend ", "resend 1", "hold 1", "flush 1", "crash 1",
+    "show 1", "check 1", "version", "version 1", "version 02", "version 2 2",
+)
 
 
 def drilled(text):
@@ -28,7 +38,7 @@ class WorkedRuns(Case):
             with self.subTest(run=name):
                 self.assertEqual(ran("drill", given=given), Ended(0, wanted.decode(), ""))
                 count += 1
-        self.assertGreater(count, 20)
+        self.assertGreater(count, 30)
 
     def test_input_in_pieces(self):
         """An answer comes before the end of the input: each line is answered as it is read."""
@@ -91,6 +101,35 @@ class LongRuns(Case):
         text = "".join(f"{line}\n" for line in ["# a comment", "", *bad]) + "#" * 512
         self.assertEqual(drilled(text), Ended(0, "".join(f"bad line {line}\n" for line in range(3, 11)), ""))
         self.assertEqual(ran("drill", given=b"\xff\nadd 1 1\n"), Ended(0, "bad line 1\ndone 1\n", ""))
+        self.assertEqual(ran("drill", given=b"\xff\n#\xff\n\n\xff"), Ended(0, "bad line 1\nbad line 4\n", ""))
+
+    def test_the_limit_of_a_line(self):
+        """A line of at most 512 bytes is read, and a longer one is bad, be it a comment or not."""
+        lines = ["#".ljust(length, "a") for length in (512, 513, 1_500)]
+        lines += ["add " + "0" * (length - 7) + "1 1" for length in (512, 513)]
+        self.assertEqual([len(line) for line in lines], [512, 513, 1_500, 512, 513])
+        text = "".join(f"{line}\n" for line in lines)
+        self.assertEqual(drilled(text), Ended(0, "bad line 2\nbad line 3\ndone 1\nbad line 5\n", ""))
+
+    def test_more_bytes_than_reads(self):
+        """The bound of 1,048,576 is one of reads, and a read asks for 512 bytes."""
+        self.assertEqual(drilled(("#".ljust(511, "a") + "\n") * 2_400 + "add 1 1\n"), Ended(0, "done 1\n", ""))
+
+    def test_as_many_are_held_again(self):
+        """No more than 1,024 steps are held, and as many again once these are settled."""
+        text = "add 1 1\nhold\n" + "reset 1\n" * 1_025 + "flush\n" * 4 + "reset 1\n" * 1_024
+        wanted = "done 1\n" + "".join(f"pending {step}\n" for step in range(2, 1_026)) + "no 20 PendingFull\n"
+        for last in (257, 513, 769, 1_025):
+            wanted += "".join(f"finished {step}\nsignal 1 {step - 1}\n" for step in range(last - 255, last + 1))
+            wanted += f"settled {last}\n"
+        wanted += "".join(f"pending {step}\n" for step in range(1_026, 2_050))
+        self.assertEqual(drilled(text), Ended(0, wanted, ""))
+
+    def test_each_line_that_is_bad(self):
+        """Alone, and with no line feed behind it."""
+        for line in BAD_LINES:
+            with self.subTest(line=line):
+                self.assertEqual(drilled(line), Ended(0, "bad line 1\n", ""))
 
     def test_no_input(self):
         """Standard input that is closed can't be read."""

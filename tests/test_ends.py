@@ -1,5 +1,7 @@
 """How a server ends by what others do: signals, a second server on its file or at its address."""
 
+import contextlib
+import json
 import os
 import signal
 
@@ -75,6 +77,25 @@ class Ends(Case):
                 self.assertEqual(server.address, address)
                 self.assertEqual(server.order(number, "reset", node=1), {"kind": "finished", "step": 1 + number})
                 self.assertEqual(server.close().status, 0)
+
+    def test_a_limit_on_the_size_of_files(self):
+        """The signal of the system ends it without a line, and nothing that was answered is lost."""
+        store = self.made(topology([(1, 1)], half=stores.HALF))
+        limit = ["prlimit", "--core=0", f"--fsize={os.path.getsize(store) + 300}"]
+        with Serving(store, before=limit) as server, server.connect() as connection:
+            answers = []
+            with contextlib.suppress(ConnectionError):
+                for number in range(1, 200):
+                    connection.send({"op": "reset", "client": 1, "number": number, "node": 1})
+                    if not (line := connection.line()):
+                        break
+                    answers.append(json.loads(line))
+            self.assertEqual((server.ended().status, server.ended().told), (-signal.SIGXFSZ, ""))
+        self.assertEqual(answers, [{"kind": "finished", "step": number} for number in range(2, len(answers) + 2)])
+        self.assertGreater(len(answers), 3)
+        with Serving(store) as server:
+            self.assertEqual(server.order(len(answers), "reset", node=1), answers[-1])
+            self.assertEqual(server.close().status, 0)
 
     def test_a_device_that_fails(self):
         """A limit on the size of the file: each later order and `show` is Stopped, and the close ends with Device."""

@@ -104,3 +104,5 @@ class Init(Case):
         self.assertEqual(self.init("halves = 1"), faulted(1, "BadKey"))
         self.assertEqual(self.init(REFUSED[0][1]), faulted(1, "NotEmpty"))
         self.assertEqual(ran("init", self.folder, self.path("none")), faulted(3, "Read"))
+        for name, text in UNREAD[:6]:
+            self.assertEqual(self.init(text, "none/store"), faulted(1, name))

@@ -86,9 +86,9 @@ class Memory(Case):
             if os.path.exists(store):
                 self.assertIn(ran("check", store), CHECKED[2 * (ended == ample):], where)
 
-    def test_a_drill(self):
-        """It prints a first part of what it prints with ample memory, in whole answers; or an answer tells what it lacks."""
-        with open(os.path.join(os.path.dirname(os.path.abspath(__file__)), "drill", "stored-run.in"), "rb") as file:
+    def expect_first_part(self, run):
+        """A drill prints a first part of what it prints with ample memory, in whole answers; or an answer tells what it lacks."""
+        with open(os.path.join(os.path.dirname(os.path.abspath(__file__)), "drill", f"{run}.in"), "rb") as file:
             given = file.read()
         for where, ample, ended in self.each_refusal(["drill"], lambda: None, given):
             self.assertEqual(ample.status, 0)
@@ -96,3 +96,12 @@ class Memory(Case):
             if not LACKS.search(ended.printed):
                 self.assertTrue(ample.printed.startswith(ended.printed), where)
                 self.assertEqual(ended.status == 0, ended.printed == ample.printed, where)
+
+    def test_a_drill(self):
+        self.expect_first_part("stored-run")
+
+    def test_a_drill_that_sends_again(self):
+        self.expect_first_part("resend-and-check")
+
+    def test_a_drill_that_is_shown(self):
+        self.expect_first_part("crash-loses-pending")

@@ -1,11 +1,15 @@
 """`check`, `show`, `migrate` and `serve` over stores of all kinds: what each prints, and what it leaves."""
 
 import os
+import socket
+import stat
 
 from support import stores
 from support.case import Case
 from support.program import Ended, faulted, ran
-from support.stores import ACK, ABORT, CONVERGE, IS_READY, abort, add, batch, link, node, world
+from support.served import STARTED, answered
+from support.serving import Serving
+from support.stores import ACK, ABORT, CONVERGE, IS_READY, abort, add, batch, clear, link, node, order, take, world
 
 PAIR = [node(1), node(2)]
 COMMANDS = {"check": [], "show": [], "migrate": [], "serve": ["127.0.0.1:0"]}
@@ -84,6 +88,34 @@ class Refused(Case):
                     self.assertEqual(ran(command, path, *more), faulted(3, "Device"))
         self.assertEqual(os.listdir(self.folder), [])
 
+    def test_what_is_no_file(self):
+        """It is told before it is opened, which of a pipe would wait for somebody at its other end."""
+        pipe, ring = self.path("pipe"), self.write("ring.toml", stores.ring(3))
+        os.mkfifo(pipe)
+        os.symlink(pipe, self.path("name"))
+        with socket.socket(socket.AF_UNIX) as listener:
+            listener.bind(self.path("socket"))
+        for command, more in {**COMMANDS, "init": [ring]}.items():
+            for path in (pipe, self.path("name"), self.path("socket"), self.folder, "/dev/null", "/dev/zero"):
+                with self.subTest(command=command, path=path):
+                    self.assertEqual(ran(command, path, *more, seconds=10), faulted(3, "Device"))
+        self.assertTrue(stat.S_ISFIFO(os.stat(pipe).st_mode))
+
+    def test_a_link_to_a_store_is_that_store(self):
+        """One that leads nowhere is no file, and none is made."""
+        os.symlink("store", self.path("name"))
+        for command, more in {**COMMANDS, "init": [self.write("ring.toml", stores.ring(3))]}.items():
+            self.assertEqual(ran(command, self.path("name"), *more), faulted(3, "Device"))
+        self.made(stores.ring(3))
+        for command, said in (("check", "legal 6"), ("migrate", "migrated 6"), ("show", "view 6 6")):
+            with self.subTest(command=command):
+                ended = ran(command, self.path("name"))
+                self.assertEqual((ended.status, ended.printed.split("\n")[0], ended.told), (0, said, ""))
+        with Serving(self.path("name")) as server:
+            self.assertEqual(server.order(1, "reset", node=1), answered(STARTED, 7))
+            self.assertEqual(server.close().status, 0)
+        self.assertTrue(os.path.islink(self.path("name")))
+
     def test_a_world_that_is_not_legal(self):
         """`check` alone says where, and nothing is written."""
         path = self.write("store", stores.store(UNAWAITED))
@@ -152,6 +184,37 @@ class Migrated(Case):
                 self.assertEqual(ran("migrate", path), Ended(0, f"migrated {count}\n", ""))
                 self.assertEqual((stores.version_of(path), ran("show", path)), (2, shown))
                 self.assertEqual(ran("check", path), Ended(0, f"legal {count}\n", ""))
+
+    def test_one_in_which_a_reset_came_to_its_end(self):
+        """It has one batch a step: two nodes, their link, the reset, and the steps of its wave."""
+        started = [add(1), add(2, number=2), order(3, 2, 1, 2), order(4, 4, 1)]
+        ended = [take(1, 2, 3, 1, abort()), take(2, 1, 3, 1, ACK), clear(1, 2, 3, 1), take(1, 2, 3, 2, IS_READY)]
+        self.assertEqual(ran("migrate", self.stored(started)), faulted(1, "NotQuiet 1"))
+        path = self.stored(started + ended)
+        self.assertEqual(ran("migrate", path), Ended(0, "migrated 8\n", ""))
+        raised = self.read("store")
+        self.assertEqual((raised[0], stores.version_of(path)), (1, 2))
+        shown = "view 8 8\nnode 1 1 ready 0 1 0\nnode 2 1 ready 0 1 0\nlink 1 2 3\n"
+        self.assertEqual((ran("check", path), ran("show", path)), (Ended(0, "legal 8\n", ""), Ended(0, shown, "")))
+        self.assertEqual((ran("migrate", path), self.read("store")), (Ended(0, "migrated 8\n", ""), raised))
+
+    def stored(self, steps, snapshot=stores.EMPTY_WORLD, count=0):
+        """A store of version 1 whose snapshot, after so many steps, is followed by these."""
+        bodies = [batch(number, step) for number, step in enumerate(steps, count + 1)]
+        return self.write("store", stores.store(snapshot, bodies=bodies))
+
+    def test_a_circle_of_parents_is_opened_first(self):
+        """Three nodes are each the parent of the next, and each await the next one: no wave ends there but by a drop."""
+        rows = [node(1, ABORT, 3, awaits=[2]), node(2, ABORT, 1, awaits=[3]), node(3, ABORT, 2, awaits=[1])]
+        circle = world(6, rows, [link(1, 2, 4), link(1, 3, 5), link(2, 3, 6)])
+        path = self.stored([], circle, 6)
+        self.assertEqual(ran("check", path), Ended(0, "legal 6\n", ""))
+        self.assertEqual(ran("migrate", path), faulted(1, "NotQuiet 1"))
+        opened = [order(1, 3, 1, 2), take(1, 3, 5, 1, ACK), take(3, 2, 6, 1, ACK), take(2, 3, 6, 1, IS_READY),
+                  take(3, 1, 5, 1, IS_READY)]
+        path = self.stored(opened, circle, 6)
+        self.assertEqual(ran("migrate", path), Ended(0, "migrated 11\n", ""))
+        self.assertEqual(ran("check", path), Ended(0, "legal 11\n", ""))
 
     def test_one_of_version_2_is_not_written_to(self):
         content = stores.store(version=2, bodies=[batch(1, add(1))])

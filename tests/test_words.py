@@ -6,9 +6,11 @@ from support.case import Case
 from support.program import faulted, ran
 
 WORD_LISTS = [
-    [], ["help"], ["--help"], ["-h"], ["--version"], ["-V"], ["version"], [""], ["Drill"], ["drill", "store"],
+    [], ["help"], ["--help"], ["-h"], ["--version"], ["-V"], ["version"], [""], ["fly"], ["Drill"], ["drill", "store"],
+    ["drill", "drill"], ["drill", "--"], ["drill", "--help"],
     ["init"], ["init", "store"], ["init", "store", "topology", "more"], ["init", "--", "store", "topology"],
-    ["check"], ["check", "store", "more"], ["check", "--help"], ["show"], ["show", "store", "more"],
+    ["check"], ["check", "store", "more"], ["check", "--help"], ["check", "-f"],
+    ["show"], ["show", "store", "more"], ["show", "--version"],
     ["migrate"], ["migrate", "store", "2"], ["serve"], ["serve", "store"], ["serve", "store", "127.0.0.1:0", "more"],
     ["serve", "--store", "store", "127.0.0.1:0"], ["check", "store", "check", "store"],
 ]

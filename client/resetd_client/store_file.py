@@ -2,7 +2,9 @@
 
 from __future__ import annotations
 
+import errno
 import os
+import stat
 from collections.abc import Callable
 from dataclasses import dataclass
 
@@ -186,8 +188,12 @@ def reader_of(descriptor: int) -> Read:
 
 
 def open_store(path: str) -> int:
-    """A descriptor of a regular file; what is none is not waited for."""
-    return os.open(path, os.O_RDONLY | os.O_NONBLOCK | os.O_CLOEXEC)
+    """A descriptor of a store's file. What is no file is refused, and is not waited for. Raises OSError."""
+    descriptor = os.open(path, os.O_RDONLY | os.O_NONBLOCK | os.O_CLOEXEC)
+    if not stat.S_ISREG(os.fstat(descriptor).st_mode):
+        os.close(descriptor)
+        raise OSError(errno.EINVAL, "it is no file, as a store is", path)
+    return descriptor
 
 
 def read_store(path: str, is_other: bool = False) -> Store:

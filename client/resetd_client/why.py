@@ -15,11 +15,11 @@ from dataclasses import dataclass
 
 from .answers import Away, NotNow, NotTaken
 from .port import Port, address_of
+from .processes import commanded, file_limit, listening, lock_holders, output_pipe
 from .store_file import HALVES, HEADER, NoStore, Restless, Store, read_store
 
 KINDS = {stat.S_IFREG: "file", stat.S_IFDIR: "folder", stat.S_IFIFO: "FIFO", stat.S_IFSOCK: "socket",
          stat.S_IFBLK: "block device", stat.S_IFCHR: "character device"}
-LISTENS = "0A"  # the state in /proc/net/tcp
 
 
 @dataclass(frozen=True)
@@ -39,16 +39,13 @@ def of_file(path: str) -> Iterator[Finding]:
     try:
         found = os.stat(path)
     except OSError as fault:
-        is_absent = fault.errno == errno.ENOENT
-        yield Finding("file", f"{fault.strerror}" + ("; a start would make an empty one" if is_absent else ""),
-                      "NoMagic" if is_absent else "Device")
+        yield of_absence(path, fault)
         return
     kind = KINDS.get(stat.S_IFMT(found.st_mode), "thing of another kind")
-    yield Finding("file", f"a {kind} of {found.st_size:,} bytes, {owned(found)}",
-                  {"file": "", "block device": ""}.get(kind, "Device"))
-    if kind == "FIFO":
-        yield Finding("file", "resetd check and show wait for ever for somebody who writes into it: remove it")
-    if kind != "file":
+    is_file = kind == "file"
+    yield Finding("file", f"a {kind} of {found.st_size:,} bytes, {owned(found)}" + ("" if is_file else "; a store is a regular file"),
+                  "" if is_file else "Device")
+    if not is_file:
         return
     yield of_access(path)
     yield from of_lock(found)
@@ -61,6 +58,15 @@ def of_file(path: str) -> Iterator[Finding]:
     else:
         yield from of_store(store)
     yield from of_space(path, found)
+
+
+def of_absence(path: str, fault: OSError) -> Finding:
+    """Nothing stands there, or what stands there can't be seen."""
+    if fault.errno != errno.ENOENT:
+        return Finding("file", f"{fault.strerror}", "Device")
+    if os.path.islink(path):
+        return Finding("file", f"a link that leads nowhere: {os.path.realpath(path)}", "Device")
+    return Finding("file", f"{fault.strerror}; a start would make an empty one", "NoMagic")
 
 
 def of_folder(folder: str) -> Iterator[Finding]:
@@ -99,56 +105,18 @@ def of_lock(found: os.stat_result) -> Iterator[Finding]:
     holders = lock_holders(found)
     for process in holders:
         yield Finding("lock", f"held by process {process}{commanded(process)}: a second start is refused", "Device")
+        yield from of_output(process)
     if not holders:
         yield Finding("lock", "nobody on this machine holds it")
 
 
-def lock_holders(found: os.stat_result) -> list[int]:
-    """The processes of this machine that have a lock on a file. Some file systems give a lock another device's number
-    than the file has: there the process is asked what it has open."""
-    device = f"{os.major(found.st_dev):02x}:{os.minor(found.st_dev):02x}"
-    try:
-        with open("/proc/locks", encoding="utf-8") as lines:
-            rows = [line.split() for line in lines]
-    except OSError:
-        return []
-    holders = set()
-    for row in rows:
-        if len(row) > 5 and row[1] != "->" and row[5].endswith(f":{found.st_ino}"):
-            process = int(row[4])
-            if row[5] == f"{device}:{found.st_ino}" or has_open(process, found):
-                holders.add(process)
-    return sorted(holders)
-
-
-def has_open(process: int, found: os.stat_result) -> bool:
-    for name in opened(process):
-        try:
-            if os.path.samestat(os.stat(f"/proc/{process}/fd/{name}"), found):
-                return True
-        except OSError:
-            pass
-    return False
-
-
-def commanded(process: int) -> str:
-    """The words with which a process was started, where they can be known."""
-    try:
-        with open(f"/proc/{process}/cmdline", "rb") as file:
-            words = file.read().replace(b"\0", b" ").decode("utf-8", "replace").strip()
-    except OSError:
-        return ""
-    return f" ({words})" if words else ""
-
-
-def file_limit(process: int) -> int | None:
-    """The size to which a process may let a file grow, None for any."""
-    try:
-        with open(f"/proc/{process}/limits", encoding="utf-8") as lines:
-            row = next(line for line in lines if line.startswith("Max file size")).split()
-    except (OSError, StopIteration):
-        return None
-    return int(row[3]) if row[3].isdigit() else None
+def of_output(process: int) -> Iterator[Finding]:
+    """A server whose output is a pipe ends only once all its lines were taken."""
+    pipe = output_pipe(process)
+    if pipe is not None:
+        read = ", ".join(f"process {each}{commanded(each)}" for each in pipe.readers) or "no process"
+        yield Finding("output", f"process {process} writes into a pipe, which {read} reads" +
+                      ("; it is full: end its reader" if pipe.is_full else ""), later="an output that nobody reads" if pipe.is_full else "")
 
 
 def of_limit(who: str, limit: int | None, needed: int) -> Iterator[Finding]:
@@ -247,36 +215,3 @@ def lowest_port() -> int:
             return int(file.read())
     except OSError:
         return 1024
-
-
-def listening(host: str, port: int) -> set[int]:
-    """The processes that listen at an address, as far as this user may see them."""
-    wanted = {f"{int.from_bytes(socket.inet_aton(each), 'little'):08X}:{port:04X}" for each in (host, "0.0.0.0")}
-    try:
-        with open("/proc/net/tcp", encoding="utf-8") as lines:
-            rows = [line.split() for line in lines][1:]
-    except OSError:
-        return set()
-    sockets = {f"socket:[{row[9]}]" for row in rows if row[1] in wanted and row[3] == LISTENS}
-    return {process for process in processes() if sockets & set(links_of(process))} if sockets else set()
-
-
-def processes() -> list[int]:
-    return [int(name) for name in os.listdir("/proc") if name.isdigit()]
-
-
-def opened(process: int) -> list[str]:
-    """The numbers of what a process has open, as far as this user may see them."""
-    try:
-        return os.listdir(f"/proc/{process}/fd")
-    except OSError:
-        return []
-
-
-def links_of(process: int) -> Iterator[str]:
-    """The names of what it has open."""
-    for name in opened(process):
-        try:
-            yield os.readlink(f"/proc/{process}/fd/{name}")
-        except OSError:
-            pass

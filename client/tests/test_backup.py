@@ -60,9 +60,28 @@ class Words(Case):
                                   (self.store, f"{self.folder}/text", "it holds something else than a store")):
             self.assertEqual(self.run_words("backup", source, out), (2, "", f"resetctl: {out}: {said}\n"))
 
+    def test_what_is_no_file_is_not_replaced(self) -> None:
+        os.mkfifo(f"{self.folder}/fifo")
+        os.symlink("fifo", f"{self.folder}/link")
+        os.mkdir(f"{self.folder}/below")
+        for name in ("fifo", "link", "below"):
+            kind = os.lstat(f"{self.folder}/{name}").st_mode
+            self.assertEqual(self.run_words("backup", self.store, f"{self.folder}/{name}"),
+                             (2, "", f"resetctl: {self.folder}/{name}: it is no file, as a store is\n"))
+            self.assertEqual(os.lstat(f"{self.folder}/{name}").st_mode, kind)
+
+    def test_a_link_to_a_copy_stays(self) -> None:
+        os.symlink("copy", f"{self.folder}/link")
+        for _ in range(2):
+            self.assertEqual(self.run_words("backup", self.store, f"{self.folder}/link")[0], 0)
+            self.assertEqual((os.readlink(f"{self.folder}/link"), os.path.isfile(self.out)), ("copy", True))
+
     def test_what_is_no_store(self) -> None:
         self.assertEqual(self.run_words("backup", f"{self.store}.toml", self.out)[0], 1)
         self.assertEqual(self.run_words("backup", f"{self.folder}/none", self.out)[0], 1)
+        os.mkfifo(f"{self.folder}/fifo")
+        for command in (("backup", f"{self.folder}/fifo", self.out), ("steps", f"{self.folder}/fifo")):
+            self.assertEqual(self.run_words(*command), (1, "", f"resetctl: {self.folder}/fifo: it is no file, as a store is\n"))
         self.assertFalse(os.path.exists(self.out))
 
     def test_steps_say_who_asked_for_a_reset_and_when_it_settled(self) -> None:

@@ -141,6 +141,7 @@ class Numbers(Case):
 
     def test_a_lost_folder_does_not_repeat_an_old_order(self) -> None:
         self.orders().order("reset", node=1)
+        self.server.settled()  # a reset that still runs would be joined
         self.orders(name="other").order("reset", node=1)
         self.assertEqual(self.server.row(1)[1], 2)
 

@@ -12,7 +12,7 @@ from unittest import mock
 
 from case import PROGRAM, Case
 from real import Real
-from resetd_client.why import lock_holders
+from resetd_client.processes import lock_holders
 from test_store_file import APPENDED, CHECKPOINTED, FRESH
 
 
@@ -51,10 +51,11 @@ class Files(Case):
         os.mkfifo(f"{self.folder}/fifo")
         os.symlink(f"{self.folder}/nowhere", f"{self.folder}/link")
         for path, told in (("none", "NoMagic: file: No such file or directory; a start would make an empty one"),
-                           ("link", "NoMagic: file: No such file or directory; a start would make an empty one"),
+                           ("link", f"Device: file: a link that leads nowhere: {self.folder}/nowhere"),
                            ("none/store", f"Device: folder: {self.folder}/none: No such file or directory"),
-                           (".", "Device: file: a folder of "), ("fifo", "Device: file: a FIFO of 0 bytes, p")):
-            status, lines = self.why(f"{self.folder}/{path}")
+                           (".", "Device: file: a folder of "), ("fifo", "Device: file: a FIFO of 0 bytes, p"),
+                           ("/dev/null", "Device: file: a character device of 0 bytes, c")):
+            status, lines = self.why(os.path.join(self.folder, path))
             self.assertEqual(status, 1)
             self.assertTrue(lines[-1].startswith(f"a start now would end with {told}"), lines)
 
@@ -123,12 +124,15 @@ class BesideTheProgram(Case):
         assert isinstance(self.server, Real)
         self.server.ring(2)
         os.mkfifo(f"{self.folder}/fifo")
+        for name, target in (("to-nothing", "nothing"), ("to-good", "good"), ("to-fifo", "fifo")):
+            os.symlink(target, f"{self.folder}/{name}")
         for name, data in (("good", FRESH), ("empty", b""), ("cut", APPENDED[:50]), ("text", b"something else than a store"),
                            ("later", FRESH[:17] + b"\3" + FRESH[18:]), ("batch", APPENDED[:48] + b"\7" + APPENDED[49:])):
             with open(f"{self.folder}/{name}", "wb") as file:
                 file.write(data)
         free = f"127.0.0.1:{free_port()}"
-        for path in ("good", "empty", "cut", "text", "later", "batch", "fifo", ".", "none", "none/store", self.server.store):
+        for path in ("good", "empty", "cut", "text", "later", "batch", "fifo", "to-fifo", "to-good", "to-nothing", "/dev/null", ".",
+                     "none", "none/store", self.server.store):
             place = os.path.join(self.folder, path)
             self.assertEqual(self.foretold(place, free), self.ended(place, free), path)
         for address in ("localhost:4170", "127.0.0.1", "192.0.2.7:4170", self.server.behind):
@@ -141,6 +145,30 @@ class BesideTheProgram(Case):
         self.assertIn(f"held by process {self.server.process.pid} ({PROGRAM} serve {self.server.store} 127.0.0.1:0)", out)
         self.assertIn("a coordinator with 2 nodes and 3 steps on the disk", out)
         self.assertNotIn("that is not the store on this file", out)
+
+    def test_an_output_that_nobody_reads(self) -> None:
+        """The one who has the pipe is named, and once it is full that is the word of a server that runs."""
+        reader, writer = os.pipe()
+        self.addCleanup(os.close, reader)
+        fcntl.fcntl(writer, fcntl.F_SETPIPE_SZ, 4_096)
+        assert isinstance(self.server, Real)
+        self.server.ring(1)
+        self.server.end()
+        process = subprocess.Popen([PROGRAM, "serve", self.server.store, "127.0.0.1:0"], stdout=writer)
+        self.addCleanup(process.wait)
+        self.addCleanup(process.kill)
+        os.close(writer)
+        self.server.behind = os.read(reader, 100).decode().split()[1]
+        output = f"output   process {process.pid} writes into a pipe, which process {os.getpid()} ("
+        told = self.run_words("why", self.server.store, self.server.behind)[1]
+        self.assertIn(output, told)
+        self.assertNotIn("a server that runs meets", told)
+        for number in range(1, 401):
+            self.server.ask(op="reset", client=9, number=number, node=1)
+        self.assertEqual(self.server.ask(op="close"), {"kind": "closed"})
+        told = self.run_words("why", self.server.store, self.server.behind)[1]
+        self.assertIn(output, told)
+        self.assertIn("a server that runs meets an output that nobody reads: output: process", told.splitlines()[-1])
 
     def test_a_file_that_was_cut_under_its_server(self) -> None:
         assert isinstance(self.server, Real)

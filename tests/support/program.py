@@ -14,9 +14,9 @@ PATIENCE = 600  # seconds within which a command has to end, on a busy machine t
 Ended = namedtuple("Ended", "status printed told")
 
 
-def ran(*words, given=b"", program=None, **how):
+def ran(*words, given=b"", program=None, seconds=PATIENCE, **how):
     """Runs the program to its end: its exit status, what it printed, and what it told as a fault."""
-    done = subprocess.run([program or PROGRAM, *words], input=given, capture_output=True, timeout=PATIENCE, **how)
+    done = subprocess.run([program or PROGRAM, *words], input=given, capture_output=True, timeout=seconds, **how)
     return Ended(done.returncode, done.stdout.decode(), done.stderr.decode())
 
 

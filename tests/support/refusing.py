@@ -90,14 +90,21 @@ class Refusing:
             file.write(SOURCE)
         subprocess.run(["cc", "-O1", "-shared", "-fPIC", "-o", f"{folder}/refusing.so", f"{folder}/refusing.c"], check=True)
 
-    def ran(self, *words, first=0, many=1, **how):
-        """Runs the program, so many of whose allocations are refused from this number on: how it ended, and how many
-        allocations it asked for."""
+    def environment(self, first=0, many=1):
+        """What a program's environment is to have, so that so many allocations are refused from this number on."""
         settings = {"REFUSE_FIRST": first, "REFUSE_MANY": many, "ALLOC_AT": self.alloc, "REALLOC_AT": self.realloc,
                     "ALLOCATIONS": f"{self.folder}/allocations", "LD_PRELOAD": f"{self.folder}/refusing.so"}
         with open(f"{self.folder}/allocations", "wb") as file:
             file.write(bytes(8))
-        environment = {**os.environ, **{name: str(value) for name, value in settings.items()}}
-        ended = ran(*words, program=self.program, env=environment, **how)
+        return {name: str(value) for name, value in settings.items()}
+
+    def count(self):
+        """How many allocations the program of that environment has asked for."""
         with open(f"{self.folder}/allocations", "rb") as file:
-            return ended, int.from_bytes(file.read(), sys.byteorder)
+            return int.from_bytes(file.read(), sys.byteorder)
+
+    def ran(self, *words, first=0, many=1, **how):
+        """Runs the program, so many of whose allocations are refused from this number on: how it ended, and how many
+        allocations it asked for."""
+        environment = {**os.environ, **self.environment(first, many)}
+        return ran(*words, program=self.program, env=environment, **how), self.count()

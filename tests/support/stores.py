@@ -53,9 +53,24 @@ def world(count, nodes, links=()):
 EMPTY_WORLD = world(0, [])
 
 
+def order(number, *command, client=1):
+    """An order of a client: the bytes of its command."""
+    return b"\0" + bytes([client]) + wide(number) + bytes(command)
+
+
 def add(node, client=1, number=1):
     """An order of a client that adds a node to group 1."""
-    return b"\0" + bytes([client]) + wide(number) + bytes([0, node, 1])
+    return order(number, 0, node, 1, client=client)
+
+
+def take(sender, taker, incarnation, number, message):
+    """A data packet is taken."""
+    return b"\1" + bytes([sender, taker]) + wide(incarnation) + wide(number) + message
+
+
+def clear(sender, taker, incarnation, number):
+    """A receipt clears a message."""
+    return b"\2" + bytes([sender, taker]) + wide(incarnation) + wide(number)
 
 
 def batch(first, *steps):

@@ -6,8 +6,9 @@ import argparse
 import os
 from collections.abc import Iterator
 
+from ..processes import lock_holders
 from ..store_file import HEADER, MAGIC, Store, open_store, read_half, read_store, reader_of, store_of
-from ..why import Finding, lock_holders, of_address, of_file
+from ..why import Finding, of_address, of_file
 from .base import DONE, REFUSED, WRONG_WORDS, Command, Control, complain
 
 
@@ -52,15 +53,16 @@ def store_rows(store: Store) -> Iterator[str]:
 
 
 def backup(control: Control) -> int:
-    """Copies a store that may be served meanwhile."""
+    """Copies a store that may be served meanwhile. A link that has the copy's name goes on leading to it."""
     words = control.words
+    out = os.path.realpath(words.out)
     descriptor = open_store(words.file)
     try:
-        if (refusal := why_not(words.out, os.fstat(descriptor))):
+        if (refusal := why_not(out, os.fstat(descriptor))):
             complain(f"{words.out}: {refusal}")
             return WRONG_WORDS
         store = store_of(read_half(reader_of(descriptor)))
-        put(words.out, store.half.file(), os.fstat(descriptor))
+        put(out, store.half.file(), os.fstat(descriptor))
     finally:
         os.close(descriptor)
     control.tell(f"copied {store.count} steps, version {store.half.version}")
@@ -73,6 +75,8 @@ def why_not(out: str, source: os.stat_result) -> str:
         descriptor = open_store(out)
     except FileNotFoundError:
         return ""
+    except OSError as fault:
+        return str(fault.strerror)
     try:
         found, head = os.fstat(descriptor), os.read(descriptor, HEADER)
     finally:

@@ -5,3 +5,4 @@ pub mod Stream
 pub mod Waiting
 pub mod Pieces
 pub mod Served
+pub mod SoFar

@@ -41,16 +41,15 @@ module _ {D P : Type 0} (answers : D → Request → Answer → D → Type 0) (p
   pub goes-told : (d f e : D) (lines : List Line) (line : Line) (told : List Answer) (a : Answer) (posted : List P) → AllGet answers d lines told f → Gets answers f line a e → is_closed a ≡ false → posted ≡ [] → GoesOn answers posts d (lines ++ line ∷ []) (told ++ a ∷ []) posted e
   goes-told d f e lines line told a posted h gets goes_on none = goes-answered d e (lines ++ line ∷ []) (told ++ a ∷ []) posted (all-one answers d f e lines told line a h gets goes_on) none
 
+  -- those that waited go on, with others
+  pub goes-on : (d e h : D) (lines next : List Line) (told more : List Answer) (posted later : List P) → (g : GoesOn answers posts d lines told posted e) → GoesOn answers posts g.2 next more later h → GoesOn answers posts d (g.0 ++ next) (told ++ more) later h
+  goes-on d e h lines next told more posted later g n =
+      (g.0 ++ n.0, n.1, n.2, ap (λ l. g.0 ++ l) n.3 ∙ sym (append_assoc g.0 n.0 n.1), all-append answers g.0 n.0 told more d g.2 n.2 g.4 n.4, n.5)
+
   -- one more line came
   pub goes-further : (d e h : D) (lines : List Line) (line : Line) (told more : List Answer) (posted later : List P) → (g : GoesOn answers posts d lines told posted e) → GoesOn answers posts g.2 (g.1 ++ line ∷ []) more later h → GoesOn answers posts d (lines ++ line ∷ []) (told ++ more) later h
-  goes-further d e h lines line told more posted later g n = (
-    g.0 ++ n.0,
-    n.1,
-    n.2,
-    ap (λ l. l ++ line ∷ []) g.3 ∙ append_assoc g.0 g.1 (line ∷ []) ∙ ap (λ l. g.0 ++ l) n.3 ∙ sym (append_assoc g.0 n.0 n.1),
-    all-append answers g.0 n.0 told more d g.2 n.2 g.4 n.4,
-    n.5,
-  )
+  goes-further d e h lines line told more posted later g n =
+      subst (λ l. GoesOn answers posts d l (told ++ more) later h) (sym (ap (λ l. l ++ line ∷ []) g.3 ∙ append_assoc g.0 g.1 (line ∷ []))) (goes-on d e h lines (g.1 ++ line ∷ []) told more posted later g n)
 
   -- those that waited have their replies
   pub goes-all : (d e h : D) (lines : List Line) (told more : List Answer) (posted : List P) → (g : GoesOn answers posts d lines told posted e) → AllGet answers g.2 g.1 more h → AllGet answers d lines (told ++ more) h

@@ -23,10 +23,11 @@ pub trait Callers {
     /// Nothing has come in or gone out over a connection yet.
     ghost begins: { Self.Line → Type 0 };
 
-    /// Waiting for the next one has failed.
+    /// It was asked for the next client, and no client will come any more.
     ghost failed: { Self → Self → Type 0 } = { λ _ _. ⊤ };
 
-    /// This connection was ended, with word whether it has closed the server.
+    /// It was told that this connection has ended, and whether that connection has closed the
+    /// server.
     ghost ended: { Self → Self.Line → Bool → Self → Type 0 } = { λ _ _ _ _. ⊤ };
 
     /// At which address they call.

@@ -12,7 +12,8 @@ ghost use Rattle.coord_admin.specs.Replies.{order_answer, show_answer, resend_an
 use coord_types::{Client, Command, Refusal, Reply};
 use coord_view::View;
 
-/// Whom `serve` asks. Its meaning is what it may answer to each request, and what it then is.
+/// What `serve` asks, as a trait. Its meaning is what it may answer to each request, and what it
+/// may be then.
 ///
 /// An order can be carried out in two halves: it is posted, and its reply is waited for. What is
 /// posted meanwhile changes no reply, so orders that are posted together and replied in turn are
@@ -24,7 +25,7 @@ pub trait Desk {
     /// What it may answer to a request, and what it may then be.
     ghost answers: { Self → Request → Answer → Self → Type 0 };
 
-    /// As what it may post an order, and what it may then be.
+    /// What a posted order may be kept as, and what the desk may be then.
     ghost posts: { Self → Request → Self.Posted → Self → Type 0 };
 
     /// What it may reply to a posted order, and what it may then be.
@@ -59,11 +60,12 @@ pub trait Desk {
     fn close(&mut self)
         ensures { answers self.old request.Close answer.Closed self.new };
 
-    /// An order that was posted and then replied was answered.
+    /// A law: an order that was posted and then replied to has been answered.
     ghost is_answered: { (a b c : Self) (r : Request) (p : Self.Posted) (x : Result Reply Refusal) →
         posts a r p b → replies b p x c → answers a r (order_answer x) c };
 
-    /// A reply is the same before an order is posted and behind that.
+    /// A law: what is replied to a posted order stays the same where another order is posted before
+    /// the reply.
     ghost stays_apart: { (a b c : Self) (r : Request) (p q : Self.Posted)
         (x : Result Reply Refusal) → posts a r q b → replies b p x c →
         (m : Self) × replies a p x m × posts m r q c };

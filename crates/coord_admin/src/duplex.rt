@@ -11,8 +11,8 @@ pub struct NotRead;
 #[derive(Clone, Copy, Debug, PartialEq, Eq)]
 pub struct NotWritten;
 
-/// A connection to one client: bytes come in, and replies go out. Whoever is generic over it has to
-/// read and to write by it, since any instance may keep what came and what went.
+/// A connection to one client: bytes come in, and replies go out. Code that is generic over it has
+/// to read and write through it, since no other call tells what came and what went.
 pub trait Duplex {
     /// Between two states of it these bytes came in, and these went out.
     ghost exchanged: { Self → List ℕ → List ℕ → Self → Type 0 };
@@ -23,9 +23,9 @@ pub trait Duplex {
     /// It was asked for what comes next, and told whether a line has begun.
     ghost asked: { Self → Bool → Self → Type 0 } = { λ _ _ _. ⊤ };
 
-    /// Takes what has come in next into the front of the buffer, and answers how many bytes that
-    /// are; none where nothing more comes. It is told whether a line has begun whose end has not
-    /// come, for how long it waits.
+    /// Reads what has come in next to the front of the buffer, and answers how many bytes that are;
+    /// 0 where nothing more comes. Whoever asks says whether a line has begun that has not ended,
+    /// since then the client has less time.
     fn receive(&mut self, buffer: &mut [u8], is_within_line: bool) -> Result<usize, NotRead>
         ensures fits { IfOk result (λ n. n ≤ length buffer.new) }
         ensures length { length buffer.new ≡ length buffer.old }
@@ -33,6 +33,11 @@ pub trait Duplex {
         ensures end { IfOk result (λ n. n ≡ 0 → 0 < length buffer.old → has_ended self.new) }
         ensures failed { OnErr result (exchanged self.old [] [] self.new) }
         ensures asked { asked self.old is_within_line self.new };
+
+    /// Whether more has come in already, so that to take it waits for nothing.
+    fn has_more(&self) -> bool {
+        false
+    }
 
     /// Writes replies whole.
     fn reply(&mut self, text: &[u8]) -> Result<(), NotWritten>

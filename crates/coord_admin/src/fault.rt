@@ -4,8 +4,9 @@ ghost use Rattle.std.specs.Prelude.{◌≡◌, Some};
 ghost use Rattle.coord_admin.specs.Faults.{fault_name, fault_number};
 ghost use Rattle.coord_admin.specs.Replies.{reply_line};
 ghost use Rattle.coord_admin.specs.declared.answer.Answer.TheVariants.{Faulted};
-ghost use Rattle.coord_admin.specs.declared.fault.ServeFault.TheVariants.{OutOfMemory};
+ghost use Rattle.coord_admin.specs.declared.fault.ServeFault.TheVariants.{OutOfMemory, Write};
 
+use crate::duplex::NotWritten;
 use std::alloc::AllocError;
 use std::error::Error;
 use std::fmt;
@@ -25,7 +26,8 @@ pub enum LineFault {
     BadRequest,
     /// Its `op` is none of those that there are.
     UnknownOp,
-    /// There was not enough memory. The request may have been carried out; a repeat tells.
+    /// There was not enough memory. Perhaps the request was carried out: the same order with the
+    /// same number tells.
     OutOfMemory,
 }
 
@@ -100,5 +102,13 @@ impl From<AllocError> for ServeFault {
 
     fn from(_: AllocError) -> Self {
         ServeFault::OutOfMemory
+    }
+}
+
+impl From<NotWritten> for ServeFault {
+    ghost from_gives = { λ _ fault. fault ≡ Write };
+
+    fn from(_: NotWritten) -> Self {
+        ServeFault::Write
     }
 }

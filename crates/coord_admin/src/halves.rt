@@ -9,9 +9,6 @@ use crate::duplex::{Duplex, NotRead, NotWritten};
 use coord_lines::write_whole;
 use std::io::{Read, Write};
 
-/// The most bytes that one read asks a reader for.
-const READ_LEN: usize = 512;
-
 /// Reads from the one and writes to the other. It waits as long as they do.
 #[derive(Drop)]
 pub struct Halves<R, W> {
@@ -27,8 +24,7 @@ impl<R: Read, W: Write> Duplex for Halves<R, W> {
     ghost has_ended = { λ a. IsAtEnd (R.remaining a.reader) };
 
     fn receive(&mut self, buffer: &mut [u8], _is_within_line: bool) -> Result<usize, NotRead> {
-        let most = READ_LEN.min(buffer.len());
-        match self.reader.read(&mut buffer[..most]) {
+        match self.reader.read(buffer) {
             Ok(count) => Ok(count),
             Err(_) => Err(NotRead),
         }

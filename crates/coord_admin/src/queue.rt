@@ -1,6 +1,6 @@
 //! Orders that were posted and wait for their replies.
 
-ghost use Rattle.std.specs.Prelude.{◌≡◌, ◌+◌, ◌<◌, ◌≤◌, ◌++◌, ◌∷◌, true, [], List, ℕ, map, IfOk, OnErr, OnOk, Result, vec_capacity, vec_len};
+ghost use Rattle.std.specs.Prelude.{◌≡◌, ◌+◌, ◌<◌, ◌≤◌, ◌++◌, ◌∷◌, true, [], List, ℕ, map, IfOk, OnErr, OnOk, Result, nat_lt, vec_capacity, vec_len};
 ghost use Rattle.std.specs.VecDeque.{deque_capacity, deque_len};
 ghost use Rattle.coord_lines.specs.Lines.{Line};
 ghost use Rattle.coord_types.specs.declared.limits.TheConstants.{MAX_BATCH_STEPS};
@@ -67,6 +67,37 @@ impl<D: Desk> Queue<D> {
         }
     }
 
+    /// Whether they are fewer than a flight takes.
+    fn has_room(&self) -> bool
+        ensures { result ≡ nat_lt (deque_len self.now.posted) MAX_BATCH_STEPS }
+    {
+        self.posted.len() < MAX_BATCH_STEPS
+    }
+
+    /// Answers all before what comes next is waited for: unless there is room for more orders, and
+    /// the connection has more already.
+    pub fn answer_before_wait<C: Duplex>(
+        &mut self,
+        alloc: Global,
+        connection: &mut C,
+        desk: &mut D,
+    ) -> Result<(), NotWritten>
+        ensures whole { OnOk result ((d : D) (lines : List Line) →
+            AwaitReplies D.posts d lines self.old.posted.items desk.old → (told : List Answer)
+            × GoesOn D.answers D.posts d lines told self.new.posted.items desk.new
+            × C.exchanged connection.old [] (reply_lines told) connection.new) }
+        ensures part { OnErr result ((d : D) (lines : List Line) →
+            AwaitReplies D.posts d lines self.old.posted.items desk.old → (part : List ℕ)
+            × C.exchanged connection.old [] part connection.new
+            × ((left : List Line) → BreaksOff D.answers d (lines ++ left) part desk.new)) }
+        ensures empty { OnErr result (self.new.posted.items ≡ []) }
+    {
+        if self.has_room() && connection.has_more() {
+            return Ok(());
+        }
+        self.answer_all(alloc, connection, desk)
+    }
+
     /// Answers all where they are as many as a flight takes.
     pub fn make_room<C: Duplex>(
         &mut self,
@@ -85,14 +116,14 @@ impl<D: Desk> Queue<D> {
             × ((left : List Line) → BreaksOff D.answers d (lines ++ left) part desk.new)) }
         ensures empty { OnErr result (self.new.posted.items ≡ []) }
     {
-        if self.posted.len() < MAX_BATCH_STEPS {
+        if self.has_room() {
             return Ok(());
         }
         self.answer_all(alloc, connection, desk)
     }
 
-    /// Waits for the replies to all orders, in turn, and writes them. Where they can't be written,
-    /// all were waited for.
+    /// Waits for the reply to each order, in turn, and writes the replies. Where they can't be
+    /// written, all of them were waited for all the same.
     pub fn answer_all<C: Duplex>(
         &mut self,
         alloc: Global,
@@ -108,6 +139,7 @@ impl<D: Desk> Queue<D> {
             × C.exchanged connection.old [] part connection.new
             × ((left : List Line) → BreaksOff D.answers d (lines ++ left) part desk.new)) }
         ensures empty { self.new.posted.items ≡ [] }
+        ensures end { C.has_ended connection.old → C.has_ended connection.new }
     {
         if self.posted.is_empty() {
             return Ok(());

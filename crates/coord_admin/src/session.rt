@@ -13,7 +13,7 @@ ghost use Rattle.coord_admin.specs.Together.{AwaitReplies, is_order};
 
 use crate::asking::answer_to;
 use crate::desk::Desk;
-use crate::duplex::{Duplex, NotWritten};
+use crate::duplex::{Duplex, NotRead, NotWritten};
 use crate::fault::{LineFault, ServeFault};
 use crate::queue::Queue;
 use crate::reading::read_line;
@@ -25,9 +25,8 @@ use std::alloc::{AllocError, Global};
 /// The most reads of one call of `serve`.
 pub const MOST_READS: u64 = 1_048_576;
 
-/// The most bytes that one read asks for: some forty orders. A connection may be cut between two reads,
-/// so what one read brings is no more than a part of what a client sends.
-const READ_LEN: usize = 2_048;
+/// The most bytes that one read asks for.
+const READ_LEN: usize = 512;
 
 /// How a call of `serve` ends well.
 #[derive(Clone, Copy, Debug, PartialEq, Eq)]
@@ -39,9 +38,9 @@ pub enum Ended {
 }
 
 /// Reads lines from a connection up to the end of its input or a line that closes the desk, and
-/// writes to each its reply, before anything more is read.
+/// writes to each its reply, before anything more is waited for.
 ///
-/// Orders that one read brings are posted one behind the other, no more than a flight takes, and
+/// Orders that have come in already are posted one behind the other, no more than a flight takes, and
 /// their replies are written together once all are there. Any other line is answered behind those
 /// before it.
 ///
@@ -94,21 +93,25 @@ fn serve_lines<C: Duplex, D: Desk>(
 {
     let mut line = LineBuffer::new();
     for _ in 0..MOST_READS {
-        let Ok(count) = connection.receive(buffer, has_begun(&line)) else {
-            return Err(ServeFault::Read);
-        };
-        if count == 0 {
-            return match finish(&line, connection) {
-                Ok(()) => Ok(Ended::Input),
-                Err(NotWritten) => Err(ServeFault::Write),
-            };
-        }
-        match take(alloc, queue, &mut line, &buffer[..count], connection, desk) {
-            Ok(false) => {}
-            Ok(true) => return Ok(Ended::Closed),
-            Err(NotWritten) => return Err(ServeFault::Write),
+        queue.answer_before_wait(alloc, connection, desk)?;
+        match connection.receive(buffer, has_begun(&line)) {
+            Ok(0) => {
+                queue.answer_all(alloc, connection, desk)?;
+                finish(&line, connection)?;
+                return Ok(Ended::Input);
+            }
+            Ok(count) => {
+                if take(alloc, queue, &mut line, &buffer[..count], connection, desk)? {
+                    return Ok(Ended::Closed);
+                }
+            }
+            Err(NotRead) => {
+                queue.answer_all(alloc, connection, desk)?;
+                return Err(ServeFault::Read);
+            }
         }
     }
+    queue.answer_all(alloc, connection, desk)?;
     Err(ServeFault::Turns)
 }
 
@@ -122,7 +125,8 @@ fn has_begun(line: &LineBuffer) -> bool
     }
 }
 
-/// Takes a piece of the input, and answers each line that it ends. Whether one closed the desk.
+/// Takes a piece of the input: each line that it ends is posted, or answered behind those that
+/// were. Whether one closed the desk.
 fn take<C: Duplex, D: Desk>(
     alloc: Global,
     queue: &mut Queue<D>,
@@ -131,19 +135,23 @@ fn take<C: Duplex, D: Desk>(
     connection: &mut C,
     desk: &mut D,
 ) -> Result<bool, NotWritten>
-    requires { queue.old.posted.items ≡ [] }
-    ensures open { result ≡ Ok false → (done : List Line) × (replies : List Answer)
-        × AllGet D.answers desk.old done replies desk.new
-        × C.exchanged connection.old [] (reply_lines replies) connection.new
-        × ((more : List ℕ) → lines_on line.old (piece.now ++ more) ≡
-        done ++ lines_on line.new more) }
-    ensures closed { result ≡ Ok true → (text : List ℕ)
+    ensures open { result ≡ Ok false → (d : D) (waiting : List Line) →
+        AwaitReplies D.posts d waiting queue.old.posted.items desk.old →
+        (lines : List Line) × (told : List Answer)
+        × GoesOn D.answers D.posts d lines told queue.new.posted.items desk.new
+        × C.exchanged connection.old [] (reply_lines told) connection.new
+        × ((more : List ℕ) → waiting ++ lines_on line.old (piece.now ++ more) ≡
+        lines ++ lines_on line.new more) }
+    ensures closed { result ≡ Ok true → (d : D) (waiting : List Line) →
+        AwaitReplies D.posts d waiting queue.old.posted.items desk.old → (text : List ℕ)
         × C.exchanged connection.old [] text connection.new
-        × Closes D.answers desk.old (lines_on line.old piece.now) text desk.new }
-    ensures failed { OnErr result ((text : List ℕ)
+        × Closes D.answers d (waiting ++ lines_on line.old piece.now) text desk.new }
+    ensures failed { OnErr result ((d : D) (waiting : List Line) →
+        AwaitReplies D.posts d waiting queue.old.posted.items desk.old → (text : List ℕ)
         × C.exchanged connection.old [] text connection.new
-        × BreaksOff D.answers desk.old (lines_on line.old piece.now) text desk.new) }
-    ensures queue { queue.new.posted.items ≡ [] }
+        × BreaksOff D.answers d (waiting ++ lines_on line.old piece.now) text desk.new) }
+    ensures over { result ≡ Ok true → queue.new.posted.items ≡ [] }
+    ensures empty { OnErr result (queue.new.posted.items ≡ []) }
 {
     let mut rest = piece;
     while let Some(behind) = line.take(rest) {
@@ -154,7 +162,6 @@ fn take<C: Duplex, D: Desk>(
         line.clear();
         rest = behind;
     }
-    queue.answer_all(alloc, connection, desk)?;
     Ok(false)
 }
 

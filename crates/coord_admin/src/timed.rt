@@ -12,8 +12,9 @@ use std::time::{Clock, Duration, Instant};
 /// The most calls of `write` for one reply.
 const MOST_WRITES: u64 = 1_048_576;
 
-/// A stream on which no read and no write waits for longer than its patience. No clause can say what
-/// bytes a socket gives and takes: whoever reads and writes by it is generic over [`Duplex`].
+/// A stream whose reads and writes wait no longer than its patience allows. No clause can say which
+/// bytes a socket gives and takes: so whoever reads and writes through it is generic over
+/// [`Duplex`].
 #[derive(Drop)]
 pub struct TimedStream<'a, S, T: Clock> {
     clock: &'a T,
@@ -50,6 +51,9 @@ impl<'a, S: Read + Write + OpenStream + Drop, T: Clock> TimedStream<'a, S, T> {
     /// How long the next bytes are waited for. The time of the whole connection is looked at only
     /// before a line, or where a line has just begun.
     fn waits(&mut self, is_within_line: bool) -> Option<Duration> {
+        if !is_within_line {
+            self.line_begun = None;
+        }
         if self.line_begun.is_none() {
             left(self.clock, self.opened, self.patience.connection)?;
         }
@@ -105,6 +109,15 @@ impl<'a, S: Read + Write + OpenStream + Drop, T: Clock> Duplex for TimedStream<'
             Ok(count) => Ok(count),
             Err(_) => Err(NotRead),
         }
+    }
+
+    /// Looks without waiting. A stream that can't be made to wait again fails at the next read.
+    fn has_more(&self) -> bool {
+        if self.stream.set_nonblocking(true).is_err() {
+            return false;
+        }
+        let looked = self.stream.peek(&mut [0]);
+        self.stream.set_nonblocking(false).is_ok() && matches!(looked, Ok(count) if count > 0)
     }
 
     fn reply(&mut self, text: &[u8]) -> Result<(), NotWritten> {

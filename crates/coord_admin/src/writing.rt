@@ -60,6 +60,7 @@ pub fn write_answers<C: Duplex>(
     ensures part { OnErr result ((told : List Answer) × (part : List ℕ)
         × AreWritten answers.now told × C.exchanged connection.old [] part connection.new
         × IsFirstPart part (reply_lines told)) }
+    ensures end { C.has_ended connection.old → C.has_ended connection.new }
 {
     let mut text = Vec::new(alloc);
     for answer in answers {
@@ -69,7 +70,8 @@ pub fn write_answers<C: Duplex>(
     connection.reply(&text)
 }
 
-/// Adds a line to a text that is to be written. Where there is no memory for it, both are written.
+/// Adds a line to a text that is to be written. Where there is no memory for that, it writes the
+/// text and then the line.
 fn add_line<C: Duplex>(
     connection: &mut C,
     text: &mut Vec<u8>,
@@ -81,6 +83,7 @@ fn add_line<C: Duplex>(
     ensures part { OnErr result ((part : List ℕ)
         × C.exchanged connection.old [] part connection.new
         × IsFirstPart part (text.old.items ++ line.now)) }
+    ensures end { C.has_ended connection.old → C.has_ended connection.new }
 {
     if text.extend_from_slice(line).is_ok() {
         return Ok(());

@@ -41,7 +41,8 @@ BringsRightly version (Order c n x) = Unit {0}
 BringsRightly version (Take p) = version ≡ 1 → brought p.msg ≡ 0
 BringsRightly version (Clear r) = Unit {0}
 
--- what is asked of a step beside what its types keep: an order's number is counted from 1, and in version 1 a packet brings no distance
+-- What is asked of a step beside the ranges of its types: an order's number is at least 1, and in
+-- version 1 no packet brings a distance.
 abbrev pub IsWritable : ℕ → Step → Type 0
 IsWritable version (Order c n x) = 1 ≤ n
 IsWritable version (Take p) = version ≡ 1 → brought p.msg ≡ 0

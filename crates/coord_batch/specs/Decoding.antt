@@ -42,7 +42,7 @@ abbrev pub Unless : FaultKind → Type 0 → Type 0
 Unless kind.OutOfMemory P = Unit {0}
 Unless k P = P
 
--- what is answered, seen by view, is this, unless memory ran out
+-- The answer, as `view` shows it, is this one; or there was no memory.
 abbrev pub Answers : {X Y : Type 0} → (X → Y) → Result X CodecFault → Result Y CodecFault → Type 0
 Answers view (Ok x) read = read ≡ Ok (view x)
 Answers view (Err e) read = Unless e.kind (read ≡ Err e)

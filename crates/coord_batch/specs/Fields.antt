@@ -34,7 +34,7 @@ from_one_to most = such_that (λ n. nat_le 1 n && nat_le n most) u64
 unfoldable pub how_many : ℕ → Format ℕ
 how_many most = such_that (λ n. nat_le n most) byte
 
--- a number up to another one, or nothing
+-- Where the test says no, a number up to this one; where it says yes, no bytes, for 0.
 unfoldable pub unless : Bool → ℕ → Format ℕ
 unless true most = nothing
 unless false most = at_most most

@@ -52,7 +52,7 @@ such_that test f = record {
   Fits = λ x. f.Fits x × (test x ≡ true);
 }
 
--- one after the other; what is right for the second may depend on the first
+-- One format and then another, whose rule may depend on the value of the first.
 abbrev pub followed : {A B : Type 0} → Format A → (A → Format B) → Format (A × B)
 followed f g = record {
   text = λ p. f.text p.0 ++ (g p.0).text p.1;
@@ -85,7 +85,8 @@ unfoldable pub FitBehind : {A : Type 0} → (List A → Format A) → List A →
 FitBehind item front [] = Unit {0}
 FitBehind item front (x ∷ xs) = (item front).Fits x × FitBehind item (front ++ x ∷ []) xs
 
--- the number of items, and then each; what is right for an item may depend on those before it, how it is spelled does not
+-- How many items there are, and then the items. Which items are right may depend on those before
+-- them; how one is spelled does not.
 abbrev pub counted : {A : Type 0} → Format ℕ → (List A → Format A) → Format (List A)
 counted count item = record {
   text = λ xs. count.text (length xs) ++ flat_map (item []).text xs;

@@ -10,7 +10,8 @@ abbrev pub Fails : {Y : Type 0} → ReadError → Result Y Flaw → Type 0
 Fails errors.Memory read = Unit {0}
 Fails (errors.Flaw f) read = read ≡ Err f
 
--- what a reader answers, seen by view, and the bytes that it leaves, are what reading gives, unless memory ran out
+-- A reader's answer, as `view` shows it, and the bytes that it leaves are what reading gives; or
+-- there was no memory.
 abbrev pub Reads : {X Y : Type 0} → (X → Y) → Result X ReadError → Read Y → List ℕ → Type 0
 Reads view (Ok x) read left = read ≡ Ok (view x, left)
 Reads view (Err e) read left = Fails e read

@@ -20,8 +20,7 @@ const HEAD_BYTES: usize = 10;
 /// The most bytes of one step.
 const MOST_STEP_BYTES: usize = 28;
 
-/// Steps that were committed together, 1 to 256 of them, of which the first has this number, from
-/// 1 to 2^40.
+/// 1 to 256 steps that were committed together, and the number of the first, from 1 to 2^40.
 #[derive(Drop, Debug)]
 pub struct Batch {
     pub first: u64,
@@ -74,8 +73,8 @@ pub fn read_batch(alloc: Global, version: u8, bytes: &[u8]) -> Result<Batch, Cod
     decode(alloc, version, bytes)
 }
 
-/// The one spelling, in a version, of a batch of 1 to 256 steps, of which the first has this number,
-/// from 1 to 2^40. In version 1 no packet brings a distance.
+/// Spells a batch of 1 to 256 steps in a version; the first step has this number, from 1 to 2^40.
+/// In version 1 no packet may bring a distance.
 #[tactic(auto, using(std::proofs::Common::append_assoc), unfolding(crate::specs::Steps::batch, crate::specs::Steps::steps, crate::specs::Fields::from_one_to, crate::specs::Steps::how_many_steps))]
 pub fn write_batch(
     alloc: Global,

@@ -50,7 +50,7 @@ pub fn put_command(out: &mut Vec<u8>, order: &Command) -> Result<(), AllocError>
     Ok(())
 }
 
-/// What packets of both forms begin with: the ends of the lane, its incarnation, and a number.
+/// What every packet begins with: the ends of its lane, the lane's incarnation, and a number.
 fn put_address(
     out: &mut Vec<u8>,
     from: NodeId,

@@ -9,7 +9,8 @@ use Rattle.coord_check.specs.declared.violation.Letter.{Letter}
 use Rattle.coord_check.specs.declared.violation.Letter.TheVariants as letter
 use Rattle.coord_check.specs.declared.violation.Violation.{Violation}
 
--- whether a letter holds of a link, as the end sees it from which the lane goes; N is a node's own
+-- Whether a letter holds of a link, seen from the end that the lane comes from. N is of nodes
+-- alone, and holds here.
 abbrev pub holds_of : Letter → Lane → Link → Bool
 holds_of letter.N lane l = true
 holds_of letter.A lane l = has_front_taken_at_most lane
@@ -45,7 +46,7 @@ nodes_from u = range_with_len u (MAX_NODES + 1 - u)
 abbrev pub fault_unless : Bool → Violation → List Violation
 fault_unless b v = if b then [] else v ∷ []
 
--- a node is named twice
+-- A node that fails N. A violation of a node names it twice.
 abbrev pub node_faults : World → ℕ → List Violation
 node_faults w u = if has w.nodes u then fault_unless (is_legal_node w.count (state w u)) (record { a = u; b = u; letter = letter.N }) else []
 

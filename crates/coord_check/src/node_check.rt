@@ -38,7 +38,7 @@ fn has_right_parent(mode: Mode, parent: Option<NodeId>) -> bool
     }
 }
 
-/// Whether a Ready node has no distance, and any other one a lesser one than steps were taken.
+/// Whether a Ready node has distance 0, and any other one a distance below the count of steps.
 fn is_distance_right(mode: Mode, distance: u64, count: u64) -> bool
     ensures { result ≡ is_distance_right mode distance count }
 {

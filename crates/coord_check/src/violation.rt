@@ -13,7 +13,9 @@ pub enum Letter {
     N,
     /// No more than the front of a lane was taken.
     A,
-    /// Each acknowledgement that is awaited stands in one place.
+    /// Where an end awaits the other, exactly one thing stands for the acknowledgement that will
+    /// come: an Abort on the way out, the other end in Abort as its child, or an Ack on the way
+    /// back. Where it awaits none, none of these is there.
     B,
     /// At most one Ready is on the way.
     C,
@@ -23,10 +25,11 @@ pub enum Letter {
     E,
     /// The two nodes are not each other's parent.
     F,
-    /// A node in a reset has no Ready on the way but to its parent, or beside an Abort.
+    /// A node in a reset has no Ready on the way, but to its parent, or where an Abort is on the
+    /// same way.
     G,
-    /// An Abort carries one more than its sender's distance, which is its receiver's, too, until its
-    /// Ready is on the way. In version 1 all distances are 0, and it always holds.
+    /// An Abort carries its sender's distance and one. A child has just that distance, until a
+    /// Ready from its parent is on the way. In version 1 all distances are 0, and H always holds.
     H,
 }
 

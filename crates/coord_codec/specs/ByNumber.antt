@@ -35,6 +35,7 @@ node_text version e = (node_row version 0 []).text (rows.node_row e)
 abbrev pub session_text : ℕ → ℕ × Session → List ℕ
 session_text version e = (client_row 0 []).text (rows.client_row e)
 
--- the row of the link of a lane, where the lane goes from the lesser end to the greater one
+-- The row of a link, made of its lane from the lesser end to the greater one; of the lane back no
+-- row is made.
 abbrev pub row_of_lane : World → (ℕ × ℕ) × Lane → List LinkRow
 row_of_lane w e = if rows.goes_up e.0 then rows.link_row w e ∷ [] else []

@@ -58,7 +58,7 @@ impl NodesRead {
         self.groups[place_of(id)]
     }
 
-    /// Puts a row behind the others. Of rows of one node the first counts.
+    /// Puts a row behind the others. Where a node comes twice, its first row counts.
     pub fn push(&mut self, row: NodeRow) -> Result<(), AllocError>
         ensures { OnOk result (self.new.rows.items ≡ self.old.rows.items ++ row ∷ []) }
     {
@@ -115,7 +115,8 @@ impl LinksRead {
         self.last.0 <= a.number()
     }
 
-    /// Whether a link's second end may follow its first one, and the link may follow these links.
+    /// Whether a link may follow these: its second end is above its first one, and both are above
+    /// the last link.
     pub fn second_rises(&self, a: NodeId, b: NodeId) -> bool
         ensures { result ≡ second_rises self.now.rows.items a b }
     {
@@ -155,7 +156,7 @@ fn raise_degree(degrees: &mut [u8; NODES], place: usize)
     degrees[place] += 1;
 }
 
-/// Whether two nodes are there, in one group, with room for a link behind these.
+/// Whether two nodes are there and of one group, and each has room for one more link.
 pub fn can_link(nodes: &NodesRead, front: &LinksRead, a: NodeId, b: NodeId) -> bool
     ensures { result ≡ can_link nodes.now.rows.items front.now.rows.items record { 0 = a; 1 = b } }
 {

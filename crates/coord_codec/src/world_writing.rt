@@ -23,7 +23,8 @@ use coord_types::{Identifier, Kind, Mode, Msg, NodeId, Session, Version};
 use coord_world::{LinkRow, World};
 use std::alloc::AllocError;
 
-/// What stands by a number in a table of a world, and is written as a row.
+/// What a table of a world keeps at a number, as a node or a client's last order: it is written as
+/// a row.
 trait Row: Copy {
     /// The bytes of its row in a version, with the number that it stands at.
     ghost text: { ℕ → ℕ × Self → List ℕ };
@@ -61,7 +62,7 @@ fn mode_byte(mode: Mode) -> u8
     }
 }
 
-/// The byte of a kind that answers an order; the others have none.
+/// The byte of a kind of reply. Only the kinds that answer an order have one.
 fn kind_byte(kind: Kind) -> u8
     ensures { result ≡ kind_number kind }
 {
@@ -233,7 +234,8 @@ fn put_rows<const MOST: u8, R: Row>(
     Ok(())
 }
 
-/// Puts the row of a link, where this is the lane from its lesser end.
+/// Puts the row of a link, given its lane from the lesser end to the greater one; for the lane back
+/// nothing is put.
 fn put_link(
     out: &mut Vec<u8>,
     world: &World,
@@ -251,7 +253,7 @@ fn put_link(
     put_link_row(out, world.version(), &LinkRow { a, b, forth, back })
 }
 
-/// Each lane of a world has its way back.
+/// A copy of the lane back. Each lane of a world has one; without one it would be a new lane.
 fn lane_or_new(lane: Option<&Lane>) -> Lane
     ensures { result ≡ lane_or_none (option_copied lane.entry) }
 {

@@ -40,7 +40,7 @@ pub enum Fault {
 }
 
 impl Fault {
-    /// The fault if the program's words could not be read: want of memory, or else `Usage`.
+    /// Why the program's words could not be read: want of memory, or else `Usage`.
     pub fn of_words(error: &Error) -> Fault
         ensures memory { error_kind error.now ≡ ErrorKind.OutOfMemory → result ≡ Fault.OutOfMemory }
         ensures other { error_kind error.now ≢ ErrorKind.OutOfMemory → result ≡ Fault.Usage }
@@ -48,7 +48,8 @@ impl Fault {
         Fault::or_memory(error, Fault::Usage)
     }
 
-    /// The fault of a failed call: want of memory, or else the one that is given.
+    /// The fault of a call that failed: want of memory if the error says so, else the fault that is
+    /// given here.
     pub(crate) fn or_memory(error: &Error, other: Fault) -> Fault
         ensures memory { error_kind error.now ≡ ErrorKind.OutOfMemory → result ≡ Fault.OutOfMemory }
         ensures other { error_kind error.now ≢ ErrorKind.OutOfMemory → result ≡ other }

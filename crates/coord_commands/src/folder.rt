@@ -10,10 +10,9 @@ use std::io;
 use std::io::Read;
 use std::rt::Files;
 
-/// Where the disks and texts of names are.
-///
-/// `holds` is what the disk of a name holds, and `says` are the bytes of the text of a name, where
-/// they are known: of real files nothing is, of disks in memory all.
+/// Where disks and texts are found by their names. `holds` is what the disk of a name holds, and
+/// `says` are the bytes of the text of a name, where they are known. Of real files nothing is
+/// known, of disks in memory all.
 pub trait Folder {
     /// A disk under a name.
     type Disk: Disk + Send;

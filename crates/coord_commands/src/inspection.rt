@@ -90,8 +90,8 @@ fn show_at<F: Folder, W: Write>(
     show_store(alloc, disk, output)
 }
 
-/// Opens the store on a disk, and prints that it is legal, and how many steps it has, or else the
-/// first predicate that its snapshot violates. Whether it is legal is the answer.
+/// Opens the store on a disk, and prints that it is legal with the number of its steps, or else the
+/// first predicate that its snapshot violates. Answers whether it is legal.
 pub fn check_store<D: Disk, W: Write>(alloc: Global, disk: D, output: &mut W) -> Result<bool, Fault>
     ensures legal { IfOk result (λ legal. legal ≡ true →
         PrintsOne (IsLegalLine (bytes_of D.keeps_model D.present disk)) (W.contents output.old)

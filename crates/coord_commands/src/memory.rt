@@ -18,8 +18,8 @@ pub struct Named {
     pub bytes: Vec<u8>,
 }
 
-/// One disk in memory, unless somebody has taken it, and texts. All is known of them. Disks of
-/// other names can't be opened.
+/// One disk in memory, with a name, and texts. All is known of them. While somebody has taken the
+/// disk it is not there; a disk of another name can't be opened.
 #[derive(Drop)]
 pub struct MemFolder {
     pub alloc: Global,
@@ -56,7 +56,7 @@ impl Folder for MemFolder {
 
     ghost says = { λ folder. text_under folder.texts.items };
 
-    /// A copy, that loses in a crash what is not synced.
+    /// A copy, of which a crash leaves only what is synced.
     fn open_to_read(&self, name: &str) -> Result<MemDisk, DiskFault> {
         if self.name.as_str() != name {
             return Err(DiskFault);

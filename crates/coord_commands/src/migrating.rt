@@ -110,9 +110,9 @@ fn migrate_disk<D: Disk>(alloc: Global, disk: D) -> (Result<String, Fault>, D)
     }
 }
 
-/// Raises an opened store to version 2, and answers the line that is to be printed: with the count
-/// of its steps, which stays. The line is made first, so that want of memory for it leaves the
-/// store as it was.
+/// Raises an opened store to version 2, and answers the line that is to be printed, with the count
+/// of its steps, which stays. The line is made before the store is raised: without memory for it
+/// the store stays as it was.
 pub fn migrate_store<D: Disk>(alloc: Global, store: &mut Store<D>) -> Result<String, Fault>
     ensures line { IfOk result (λ line. string_bytes line ≡ migrated_line store.old.world.count) }
     ensures world { OnOk result (store.new.world ≡ risen store.old.world) }

@@ -9,8 +9,8 @@ use crate::fault::Fault;
 use crate::lines::print_fault;
 use std::io::Write;
 
-/// Prints the line of a fault, if a command ended with one, and answers the exit status. Of a line
-/// that cannot be printed whole a first part is.
+/// Prints the line of a fault, if the command ended with one, and answers the exit status. Where
+/// the line can't be printed whole, a first part of it is.
 pub fn report<E: Write>(ended: Result<(), Fault>, errors: &mut E) -> u8
     ensures status { result ≡ status_of ended }
     ensures done { result ≡ 0 → IsOk ended }

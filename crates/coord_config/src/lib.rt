@@ -5,9 +5,10 @@
 //! The main theorem is its contract. It answers exactly this: the topology where the text says one;
 //! `BadKey` where some key is missing or has no meaning; `BadValue` where the keys are right and a
 //! value is of another type or out of its limits; `NotToml` where the text is over its limit or is
-//! no TOML as the crate `toml` reads it; or `OutOfMemory`. Repeated nodes and links, and too many of
-//! them, are no fault of the file. `laws` has that what is written of a topology is read back as it,
-//! and `runs` texts whose answers are computed through the definitions.
+//! no TOML as the crate `toml` reads it; or `OutOfMemory`. Repeated nodes and links, and too many
+//! of them, are no fault of the file: the orders that are made of them are refused. `laws` has that
+//! what is written of a topology is read back as that topology, and `runs` has texts whose answers
+//! are computed through the definitions.
 #![tactic(auto)]
 
 mod fault;

@@ -6,20 +6,21 @@ ghost use Rattle.coord_disk.specs.Model.Moments.{Elapses, HasCause};
 
 use crate::DiskFault;
 
-/// A list of bytes that a crash may meet between two calls, or inside one.
+/// A list of bytes on a device, which may crash between two calls or inside one.
 ///
-/// Everything but the count of failures is promised where the disk keeps the model.
+/// Everything but the count of failures is promised only where the disk keeps the model.
 pub trait Disk: Drop {
     /// What is synced, what a read gives, and where was written since.
     ghost present: { Self → Present };
 
-    /// Whether the disk keeps the model. A disk that claims nothing says no.
+    /// Whether the disk keeps the model, that is, what the clauses of its calls promise. A disk
+    /// that claims nothing says no.
     ghost keeps_model: { Self → Bool };
 
     /// The moment, as a number that does not fall.
     ghost clock: { Self → ℕ };
 
-    /// What a crash at some moment from that one on might have left, during a call or between two.
+    /// What a crash might have left at any moment from this one on, during a call or between two.
     ghost left_since: { Self → ℕ → List ℕ → Type 0 };
 
     /// How often the disk has failed.
@@ -76,11 +77,11 @@ pub trait Disk: Drop {
         ensures model { keeps_model self.new ≡ keeps_model self.old }
         ensures cause { HasCause (failures self.old) (failures self.new) result };
 
-    /// This moment is one of those since an earlier one.
+    /// What a crash may leave now counts among what it might have left since any earlier moment.
     ghost counts_now: { (disk : Self) (t : ℕ) (image : List ℕ) → keeps_model disk ≡ true →
         t ≤ clock disk → IsImage (present disk) image → left_since disk t image };
 
-    /// Since this moment there is no other.
+    /// Since the present moment nothing else can have been left than what may be left now.
     ghost only_now: { (disk : Self) (image : List ℕ) → keeps_model disk ≡ true →
         left_since disk (clock disk) image → IsImage (present disk) image };
 

@@ -5,7 +5,7 @@ ghost use Rattle.std.specs.Prelude.{Some, codes};
 use std::error::Error;
 use std::fmt;
 
-/// The device failed. What it holds now is said by its images alone.
+/// The device failed in this call. What it holds now, only its images say.
 #[derive(Clone, Copy, Debug, PartialEq, Eq, Hash)]
 pub struct DiskFault;
 

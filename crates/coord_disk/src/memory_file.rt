@@ -76,7 +76,8 @@ impl MemFile {
         self.disk.choose(choice);
     }
 
-    /// It leaves what was chosen. Where that is a byte or more, the folder has the file.
+    /// A crash leaves what was chosen. If that has a byte or more, the file's folder has the file
+    /// then.
     pub fn crash(self) -> Self
         ensures crashes { CrashesByChoice (disk_of self) (disk_of result) }
         ensures image { IsImage (present_of (disk_of self)) (present_of (disk_of result)).read }

@@ -8,11 +8,11 @@ ghost use Rattle.coord_disk.specs.Model.RawCalls.RawCall.{Len, Read, Write, Sync
 
 use std::io;
 
-/// A file and its entry in a folder. All is promised where the file keeps the model, but for which
-/// call was made.
+/// A file, and its entry in a folder. Where the file does not keep the model, only the clauses on
+/// which call was made hold.
 ///
-/// A sync counts from the time on at which the folder has the file: before that a crash may leave no
-/// file, which is read as an empty one.
+/// A sync counts only once the folder has the file: before that a crash may leave no file, which is
+/// read as an empty one.
 pub trait RawFile: Drop {
     /// What is synced, what a read gives, and where was written since.
     ghost present: { Self → Present };
@@ -124,7 +124,7 @@ pub trait RawFile: Drop {
     ghost reads_image: { (file : Self) → keeps_model file ≡ true →
         IsImage (present file) (present file).read };
 
-    /// Of a file that its folder may lack nothing is synced.
+    /// As long as its folder may lack the file, nothing of it is synced.
     ghost may_be_absent: { (file : Self) → keeps_model file ≡ true → is_entered file ≡ false →
         (present file).synced ≡ [] };
 }

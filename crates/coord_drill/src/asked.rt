@@ -33,7 +33,7 @@ pub enum Asked {
     Version2,
 }
 
-/// What a request asks for where this is the front world.
+/// What a request asks of a drill whose front world is this.
 pub fn wanted_by(front: &World, request: &Request) -> Asked
     ensures { result ≡ asked front.now request.now }
 {
@@ -103,7 +103,7 @@ fn front_packet(world: &World, from: NodeId, to: NodeId) -> Result<Option<DataPa
     }))
 }
 
-/// The client whose orders the short lines are.
+/// The client of orders that name none, as `reset 3`.
 fn operator() -> Client
     ensures { result ≡ operator }
 {

@@ -31,8 +31,8 @@ use std::collections::VecDeque;
 /// The bytes of a half of the drill's disk.
 const HALF_SIZE: u64 = 65_536;
 
-/// The driver of a ledger, with the tickets of its pending steps in order. It has to be spent, by
-/// `into_disk`. A call that fails gives the disk back.
+/// The driver of a ledger, and a ticket for each pending step, in order. `into_disk` ends it. A
+/// call that fails gives the disk back.
 pub struct Drill<D: CrashDisk> {
     alloc: Global,
     driver: Driver<D>,
@@ -119,7 +119,7 @@ impl<D: CrashDisk> Drill<D> {
         driver.into_disk()
     }
 
-    /// Gives a drill up that found no memory.
+    /// Drops a driver that ran out of memory, and gives its disk back.
     pub fn lost(self) -> (Fault, D)
         ensures fault { result.0 ≡ OutOfMemory }
         ensures disk { disk_driven self.driver ≡ Some result.1 }
@@ -128,7 +128,7 @@ impl<D: CrashDisk> Drill<D> {
     }
 }
 
-/// A ledger over an empty store of version 1 that is made on a disk.
+/// Makes a store of version 1 on a disk, and a ledger over it.
 fn new_ledger<D: CrashDisk>(alloc: Global, disk: D) -> Result<Ledger<D>, (Fault, D)>
     ensures made { IfOk result (IsMade ⟦<D as Disk>⟧ disk) }
     ensures fault { IfErr result (λ refused. IsOfDisk refused.0) }

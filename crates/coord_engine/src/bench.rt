@@ -9,7 +9,8 @@ use coord_types::{Packet, Refusal, Step};
 use std::alloc::Global;
 use std::sync::Wait;
 
-/// What a worker works at. Its meaning is what it may be after each call.
+/// What a worker works at, as a trait, so that contracts can say what it was asked. Its meaning is
+/// what it may be after each call.
 pub trait Bench {
     ghost use Rattle.coord_engine.specs.Benches.{BenchMoves};
 
@@ -28,7 +29,7 @@ pub trait Bench {
     fn lose(&mut self, packet: Packet)
         ensures { moves.loses self.old packet self.new };
 
-    /// A packet that came is not in hand any more.
+    /// Is told that a packet that came is dealt with: submitted, kept, dropped or lost.
     fn put_down(&mut self)
         ensures { moves.puts_down self.old self.new };
 }
@@ -40,7 +41,7 @@ fn has_to_wait(answer: &Result<(), Refusal>) -> bool
     matches!(answer, Err(Refusal::PendingFull | Refusal::OutOfMemory))
 }
 
-/// Submits those that wait, in order and up to one that still has to.
+/// Submits the packets that wait, in order, up to the first that still has to wait.
 fn try_waiting<B: Bench>(bench: &mut B, waiting: &mut Waiting)
     ensures { TriesAll B.moves bench.old waiting.old bench.new waiting.new }
 {

@@ -28,8 +28,8 @@ fn commit<D: Disk>(flight: &mut Flight<D>) -> Result<(), CommitFault>
     flight.commit()
 }
 
-/// What is told of a flight that was committed so and came back with these releases. Where it was not
-/// settled they are none.
+/// What is told of a flight that was committed with this answer, and then gave these releases as it
+/// came back: a flight that was not settled releases nothing.
 fn told(
     committed: Result<(), CommitFault>,
     releases: Releases,
@@ -57,9 +57,10 @@ pub struct Engine<D: Disk, L: Origin> {
 }
 
 impl<D: Disk, L: Origin> Engine<D, L> {
-    /// Over a ledger whose store is at home, and which `L` names: its base, and the steps that it has
-    /// accepted. The blank has 65,536 parts. No clause can say what lies behind a lock; that is
-    /// `Guarded::new`, and what `close` tells of `L`.
+    /// Makes an engine over a ledger whose store is at home. `L` names that ledger: its base, and
+    /// the steps that it has accepted. The blank has 65,536 parts. No clause can say what lies
+    /// behind a lock; so the contract is that of `Guarded::new`, and `close` says what it gives
+    /// back in terms of `L`.
     pub fn new(alloc: Global, blank: Blank, ledger: Ledger<D>) -> Self
         requires name { blank.name ≡ L.name }
         requires parts { (blank.parts ≡ L.parts) × (L.parts ≡ 65536) }
@@ -109,8 +110,8 @@ impl<D: Disk, L: Origin> Engine<D, L> {
         answer
     }
 
-    /// Accepts a step as `submit` does, and lets the flusher sleep: whoever posts steps that come
-    /// together wakes it behind the last, so that one flight takes them.
+    /// Accepts a step as `submit` does, but does not wake the flusher. Whoever posts several steps
+    /// wakes it behind the last one, so that one flight takes them all.
     pub fn post<R: Wait>(&self, rt: &R, step: Step, mine: &mut Share<L>) -> Result<Ticket, Refusal>
         ensures { AtSomeMoment (based_on D.keeps_model D.present L.base L.before)
             (Submits {D = D} step result mine.old mine.new) }
@@ -272,9 +273,9 @@ impl<D: Disk, L: Origin> Engine<D, L> {
         self.wake_all();
     }
 
-    /// Takes the engine apart, where no flight is out, all shares are there and what they noted is
-    /// what was accepted since the engine was made: then the base is that of the ledger that it was
-    /// made over, and the trail begins with that ledger's. It takes no memory.
+    /// Takes the engine apart, where no flight is out, all shares are there, and their notes are
+    /// what was accepted since the engine was made. What is left has the base of the ledger that
+    /// the engine was made over, and a trail that begins with that ledger's. It takes no memory.
     pub fn close(
         self,
         shares: Vec<Share<L>>,

@@ -174,8 +174,9 @@ impl<D: Disk, L: Origin> Engine<D, L> {
         }
     }
 
-    /// Waits until a flight can start, then so long for callers that may come again, and then a
-    /// little for packets that are in hand. False once none will start any more.
+    /// Waits until a flight can start. Then it waits for callers that may come again, as long as
+    /// the last flight's time allows, and a little for packets that are in hand. False once no
+    /// flight will start any more.
     fn waits_for_flight<R: Wait + Clock>(&self, rt: &R, for_callers: Duration) -> bool
         ensures { result ≡ false →
             AtSomeMoment (based_on D.keeps_model D.present L.base L.before) (λ g.
@@ -222,9 +223,9 @@ pub fn hand_over<D: Disk, L: Origin, P: Port, R: Wait>(
 }
 
 /// Flushes what is accepted, and hands what was released to the port (`flush_all`). Before a flight
-/// it lets the callers that the last one answered come again, where they are few, for a sixteenth of
-/// the time that that one took at most, and the packets that it released come back as steps, for
-/// some milliseconds at most.
+/// it waits for two things. Callers that the last flight answered may come again: where they are
+/// few, they have a sixteenth of that flight's time. Packets that it released may come back as
+/// steps: they have some milliseconds.
 ///
 /// It ends after a fault of the device, and after `Engine::finish` once nothing is pending. Where it
 /// finds no memory it tries again.

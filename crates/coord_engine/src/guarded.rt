@@ -123,7 +123,8 @@ impl<D: Disk, L: Origin> Guarded<D, L> {
         self.finishing = true;
     }
 
-    /// Does nothing: its contract is what the type keeps, so what any lock holds that is taken.
+    /// Does nothing. Its contract is what the type keeps, so it holds of whatever value the lock
+    /// has when it is taken.
     pub fn keeps(&self)
         ensures { CanHold (based_on D.keeps_model D.present L.base L.before) self.now }
     {

@@ -6,7 +6,7 @@ ghost use Rattle.coord_engine.specs.Handing.{TakesAll, deliveries_of};
 use crate::port::Delivery;
 use coord_ledger::Releases;
 
-/// Takes deliveries. Its meaning is what it may be after each.
+/// Whoever takes deliveries. Its meaning is what it may be after each.
 pub trait Taker {
     ghost use Rattle.coord_engine.specs.declared.port.Delivery.{Delivery as Asked};
 

@@ -8,9 +8,8 @@ use coord_types::{NodeId, Output, Packet, Step};
 /// What carries released packets to the workers of nodes, and signals to their services. No promise
 /// rests on it: what it takes may be lost, come twice or come late, and it answers false where it
 /// knows that something is lost.
-///
-/// `carried` and `signalled` say that it was asked so, and what it answered. A port has no need to
-/// say more of them than it does here; to code that works at any port they show what was asked.
+/// `carried` and `signalled` are true of a port that was asked so and answered so. No port has to
+/// say more of them. To code that works at any port they show what was asked of it.
 pub trait Port {
     ghost use Rattle.std.specs.Prelude.{ℕ, Bool, ⊤};
     ghost use Rattle.coord_types.specs.declared.packets.Packet.{Packet as Asked};

@@ -4,7 +4,7 @@ use Rattle.coord_journal.specs.Text.{Content, HasHeader, IsHalfSize, IsText}
 use Rattle.coord_journal.specs.declared.fault.JournalFault.{JournalFault}
 use Rattle.coord_journal.specs.declared.fault.JournalFault.TheVariants.{OutOfMemory, Device, NotEmpty, HalfSize, NoMagic, BadRecord, JournalFull, Stopped}
 
--- a device of these bytes is refused so, where it is to be formatted with halves of this size
+-- Formatting a device of these bytes, with halves of this size, is refused with this fault.
 abbrev pub RefusesFormat : List ℕ → ℕ → JournalFault → Type 0
 RefusesFormat bytes half_size OutOfMemory = (length bytes ≡ 0) × IsHalfSize half_size
 RefusesFormat bytes half_size Device = Unit {0}
@@ -18,7 +18,7 @@ RefusesFormat bytes half_size Stopped = ⊥
 abbrev pub BeginsWithHeader : List ℕ → Type 0
 BeginsWithHeader bytes = (selector half_size : ℕ) × (rest : List ℕ) × HasHeader bytes selector half_size rest
 
--- a device of these bytes is refused so, where it is to be opened
+-- Opening a device of these bytes is refused with this fault.
 abbrev pub RefusesOpen : List ℕ → JournalFault → Type 0
 RefusesOpen bytes OutOfMemory = Unit {0}
 RefusesOpen bytes Device = Unit {0}

@@ -48,7 +48,8 @@ pub record HasHeader (bytes : List ℕ) (selector half_size : ℕ) (rest : List 
 abbrev pub half_start : ℕ → ℕ → ℕ
 half_start half half_size = half * half_size
 
--- all in front of the first closed gate of the selected half; `skipped` is what stands before the half
+-- All bytes in front of the first closed gate of the selected half: the header, what stands before
+-- that half, and the half.
 abbrev pub lead : ℕ → ℕ → List ℕ → List ℕ → List ℕ
 lead selector half_size skipped front = (selector ∷ magic) ++ (to_be_bytes w64 half_size ++ (skipped ++ front))
 
@@ -97,11 +98,13 @@ IsEitherText one other bytes = IsText one bytes ⊎ IsText other bytes
 abbrev pub formatted : ℕ → ℕ → List ℕ → List ℕ
 formatted half_size version snapshot = lead 0 half_size [] (half_front version snapshot []) ++ 0 ∷ []
 
--- the bytes once a body and a closed gate were written behind the closed gate at this place, and that one was opened by a 1
+-- The bytes after an append at the closed gate at this place: a body and a closed gate were written
+-- behind it, and then it was opened by a 1.
 abbrev pub with_body_at : ℕ → List ℕ → List ℕ → List ℕ
 with_body_at gate body bytes = overwritten (overwritten bytes (gate + 1) (sized body ++ 0 ∷ [])) gate (1 ∷ [])
 
--- the bytes once a half with nothing behind its snapshot was written, and selected by its number, 0 or 1
+-- The bytes after a replace: the other half was written, with nothing behind its snapshot, and
+-- selected by its number.
 abbrev pub with_half : ℕ → ℕ → ℕ → List ℕ → List ℕ → List ℕ
 with_half half half_size version snapshot bytes = overwritten (overwritten bytes (17 + half_start half half_size) (half_front version snapshot [] ++ 0 ∷ [])) 0 (half ∷ [])
 

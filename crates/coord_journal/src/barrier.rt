@@ -10,7 +10,8 @@ use crate::JournalFault;
 use coord_disk::Disk;
 use std::alloc::Global;
 
-/// All the bytes, once they are on the disk. A crash meanwhile leaves nothing that it could not have left before.
+/// Syncs, and then reads all the bytes, which are on the disk then. A crash meanwhile leaves
+/// nothing that it could not have left before.
 pub fn read_durable<D: Disk>(alloc: Global, disk: &mut D) -> Result<Vec<u8>, JournalFault>
     ensures bytes { D.keeps_model disk.old ≡ true →
         IfOk result (λ bytes. bytes.items ≡ (D.present disk.old).read) }

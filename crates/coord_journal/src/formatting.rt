@@ -17,7 +17,8 @@ use std::alloc::Global;
 
 /// Makes a journal of this version and snapshot, with no batch, on an empty device.
 ///
-/// A half has `half_size` bytes, from 32,768 to 16,777,216. After `Device` the bytes of the device are open.
+/// A half has `half_size` bytes, from 32,768 to 16,777,216. After `Device` nothing is promised of
+/// the bytes of the device.
 pub fn format<D: Disk>(
     alloc: Global,
     disk: &mut D,

@@ -24,7 +24,7 @@ fn read_size(bytes: &[u8]) -> u64
     ])
 }
 
-// What a header spells, whatever its size is.
+// Splits bytes at the end of a header, whatever size of a half it names.
 fn split_header(bytes: &[u8]) -> Option<Header<'_>>
     ensures some { IfSome result (λ header. bytes.now ≡
         (header.selector ∷ magic) ++ (to_be_bytes w64 header.half_size ++ header.rest.now)) }

@@ -56,7 +56,8 @@ impl<D: Disk> Journal<D> {
         }
     }
 
-    /// The greatest body that still fits, in bytes. 0 is given also where not even an empty one does: ask `fits`.
+    /// How long a body may be that still fits, in bytes. It is 0 where an empty body fits, and also
+    /// where not even that does: `fits` tells the two apart.
     pub fn room(&self) -> u64
         ensures { result ≡ half_size_of self.now - used_of self.now - 5 }
     {

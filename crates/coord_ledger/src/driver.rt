@@ -12,15 +12,14 @@ use crate::{Flight, Ledger};
 use coord_disk::CrashDisk;
 use std::marker::Model;
 
-/// A ledger, and the flight that is out of it: all that a run of events moves. Tickets, what was
-/// shown and what was released are its holder's, so nothing in it grows but the ledger. It has to be
-/// spent, by `into_disk`.
+/// A ledger, and the flight that is out of it: all of a run that touches the store. Its holder
+/// keeps the tickets, what was shown and what was released, so nothing grows in here but the
+/// ledger. `into_disk` ends it.
 ///
-/// Each call is an event of the event machine, whatever the holder has beside it (`meets`): what it
-/// is answered is one of the machine's answers, and the driver is then where the machine goes with
-/// it. It says what it does to the disk at each of its moments (`disk`), for each machine that the
-/// driver shows. Replies, resends and views are the ledger's own calls, which change nothing:
-/// [`Driver::ledger`].
+/// Each call is an event of the event machine, whatever its holder has given out (`meets`): its
+/// answer is one that the machine may give in this state, and the driver is then where the machine
+/// goes with that answer. The clause `disk` says what the call does to the disk at each of its
+/// moments. Replies, resends and views change nothing: for these call [`Driver::ledger`].
 ///
 /// Contracts see `Driven` (`specs/ledger/Driven.antt`), and the machine of it
 /// (`specs/ledger/Meets.antt`); its type keeps that the flight is the ledger's own.
@@ -58,9 +57,9 @@ impl<D: CrashDisk> Driver<D> {
         &self.ledger
     }
 
-    /// Does nothing: its contract is what the types of its parts keep of the disk. Whatever a crash
-    /// may leave between two events is the world after a prefix of the accepted steps that holds all
-    /// that was released, and a legal one.
+    /// Does nothing. Its contract says what a crash may leave between two events: a legal world,
+    /// after a prefix of the accepted steps that holds all that was released. The types of its
+    /// parts keep that.
     pub fn survives(&self)
         ensures { (s : Machine) → IsConsistent s → Shows self.now s →
             HeldSurvives D.keeps_model D.present (disk_driven self.now) s }
@@ -71,8 +70,8 @@ impl<D: CrashDisk> Driver<D> {
         }
     }
 
-    /// Does nothing: its contract is that a run of events may begin here, where no flight is out: it is
-    /// what is kept of a run before its first event (`Drives`), from the ledger's disk on.
+    /// Does nothing. Its contract says that a run of events may begin here, where no flight is out:
+    /// what a run keeps (`Drives`) holds of the run of no event, from the ledger's disk on.
     pub fn begins(&self)
         requires { self.now.flight ≡ None }
         ensures { MayBegin D.keeps_model D.present D.clock D.left_since D.crashes self.now }
@@ -118,8 +117,8 @@ impl<D: CrashDisk> Driver<D> {
         }
     }
 
-    /// Takes back the flight that is out. What it releases is lost. Where it finds no memory, it
-    /// gives the disk.
+    /// Takes back the flight that is out, and drops what it releases. Where there is no memory for
+    /// that, the ledger is given up too, and the disk is left.
     pub(crate) fn bring_home(self) -> Result<Ledger<D>, D>
         ensures home { IfOk result (λ home. home ≡ brought_home self.ledger self.flight) }
         ensures disk { IfErr result (λ disk. disk_driven self ≡ Some disk) }

@@ -26,14 +26,14 @@ use std::alloc::Global;
 /// skipped and none in part. That prefix holds every step whose reply, packet or signal had been
 /// released, and every link predicate holds in that world.
 ///
-/// It says so of each moment of the run, between two events and inside each of them: what the run
-/// does to its disk is told event by event (`EachMoment`), each from the disk that the one before it
-/// left, down to the disk of the ledger that is given back.
+/// It says so of each moment of the run, between two events and inside each of them. `EachMoment`
+/// tells what the run does to its disk, event by event: each event begins with the disk that the
+/// one before it left, and the last one leaves the disk of the ledger that is given back.
 ///
-/// A fault gives the disk back. It names the event at which the run ended, and has the answers to
-/// the events before it and what was released until then; the ledger, its flight and its tickets
-/// are given up. The disk is as those events have left it, or after a crash as the opening behind
-/// it has left it (`Broke`).
+/// A fault names the event at which the run ended, and has the answers to the events before it and
+/// all that was released until then. The ledger, its flight and its tickets are given up. The disk
+/// is given back: as those events have left it, or, where the run ended in a crash, as the opening
+/// behind the crash has left it (`Broke`).
 pub fn run_events_keeping_disk<D: CrashDisk>(
     alloc: Global,
     ledger: Ledger<D>,
@@ -96,8 +96,8 @@ pub fn run_events_keeping_disk<D: CrashDisk>(
     }
 }
 
-/// Runs events as [`run_events_keeping_disk`] does. After a fault the disk is dropped: what is said
-/// of it is what that call says of the disk that it gives back.
+/// Runs events as [`run_events_keeping_disk`] does. After a fault it drops the disk: the contract
+/// says of some disk what that call says of the one that it gives back.
 pub fn run_events<D: CrashDisk>(
     alloc: Global,
     ledger: Ledger<D>,

@@ -19,18 +19,19 @@ use coord_types::Step;
 use coord_world::World;
 use std::marker::Model;
 
-/// The store of a ledger, with the next steps to be committed to it, from 1 to 256. It has to be
-/// spent, by the ledger's `end_flush`. Contracts see `FlightState` (`specs/ledger/State.antt`); its
-/// type keeps that the images of its disk give the world from before its steps while it is new, the
-/// world after them once it is good, and one of both where it is torn.
+/// The store of a ledger, with the next 1 to 256 steps that are to be committed to it. A ledger's
+/// `end_flush` takes it back; nothing else may drop it. Contracts see `FlightState`
+/// (`specs/ledger/State.antt`). Its type keeps what each image of its disk gives: while the flight
+/// is new, the world from before its steps; once it is good, the world after them; where it is
+/// torn, one of both.
 pub struct Flight<D: Disk> {
     pub(crate) first: u64,
     pub(crate) steps: Vec<Step>,
-    /// The settled world when it went out, once the store's own is the one after the steps.
+    /// Once the store has the world after the steps: the settled world of when the flight went out.
     pub(crate) before: Option<World>,
-    /// The world after the steps, until it is the store's: a copy of the front world where the flight
-    /// has all that is pending. After a commit that found no memory it may be gone, and the next try
-    /// makes it anew.
+    /// The world after the steps, until it is the store's. Where the flight has all that is
+    /// pending, it is a copy of the front world. A commit that found no memory may have used it up:
+    /// the next try makes it anew.
     pub(crate) next: Option<World>,
     pub(crate) mark: Mark,
     pub(crate) store: Store<D>,

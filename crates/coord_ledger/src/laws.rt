@@ -49,7 +49,8 @@ pub fn run_is_consistent()
     ensures { RunIsConsistent }
 {}
 
-/// Runs grow by one event at a time.
+/// A run with one more event is the run, and then that event with one of the answers that it may
+/// have.
 #[tactic(auto, using(crate::proofs::machine::Consistent::run_goes_on))]
 pub fn run_goes_on()
     ensures { RunGoesOn }
@@ -73,7 +74,7 @@ pub fn signals_once()
     ensures { SignalsOnce }
 {}
 
-/// A flight that comes back at the end of a run changes nothing of what a crash may keep.
+/// Taking a flight back at the end of a run changes nothing of what a crash may keep.
 pub fn finish_keeps_kept()
     ensures { FinishKeepsKept }
 {}
@@ -90,13 +91,14 @@ pub fn moved_is_consistent()
     ensures { MovedIsConsistent }
 {}
 
-/// A ledger answers as one whose base is moved along the settled steps, as it is after a crash.
+/// A ledger whose base is moved along the settled steps, as it is after a crash, gives the same
+/// answers.
 #[tactic(auto, using(crate::proofs::machine::Moved::moved_answers_alike))]
 pub fn moved_answers_alike()
     ensures { MovedAnswersAlike }
 {}
 
-/// It stays one whose base is moved, until a crash.
+/// After each of these answers too it is the same ledger with its base moved, until a crash.
 #[tactic(auto, using(crate::proofs::machine::Moved::moved_goes_on))]
 pub fn moved_goes_on()
     ensures { MovedGoesOn }

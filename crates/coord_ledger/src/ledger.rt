@@ -22,12 +22,13 @@ use std::alloc::{AllocError, Global};
 use std::collections::VecDeque;
 use std::marker::Model;
 
-/// What was accepted since a base world, and how much of it is settled on the disk. Contracts see
-/// `LedgerState` (`specs/ledger/State.antt`): its log, with the steps in doubt once it has stopped,
-/// how many steps are out, and the disk while the store is at home.
+/// What was accepted since a base world, and how much of that is settled on the disk. Contracts see
+/// `LedgerState` (`specs/ledger/State.antt`): the log, with the steps in doubt once the ledger has
+/// stopped; how many steps are out; and the disk, while the store is at home.
 ///
-/// It keeps all steps since it was adopted, at most 1,024 of them not settled, and beside them the
-/// front world, after all of them, the settled world, and what each step that is not settled gave out.
+/// It keeps every step since it was made of a store. At most 1,024 of them may be unsettled. Beside
+/// them it keeps the world after all steps (front), the world after the settled ones, and what each
+/// unsettled step gave out.
 #[derive(Drop)]
 pub struct Ledger<D: Disk> {
     alloc: Global,
@@ -36,8 +37,8 @@ pub struct Ledger<D: Disk> {
     /// The kinds of the replies to the steps of the trail, so that `collect` compares exactly and
     /// takes no memory.
     kinds: Vec<Kind>,
-    /// What the steps behind the settled ones gave out when they were carried out, at `hand_in`: it is
-    /// released once they are settled, and nothing of it grows with settled steps.
+    /// What each unsettled step gave out when it was accepted, at `hand_in`. It is released once
+    /// the step is settled, so this list does not grow with the settled steps.
     given: VecDeque<Vec<Output>>,
     /// How many steps of the trail are settled.
     done: usize,
@@ -101,8 +102,8 @@ fn copies(world: &World) -> Result<(World, World, World), AllocError>
 impl<D: Disk> Ledger<D> {
     ghost use Rattle.coord_ledger.specs.Facade.{LedgerGives, ledger_over};
 
-    /// A ledger over a store that has not stopped: its world is the base, and no step is accepted
-    /// since.
+    /// Makes a ledger over a store that has not stopped. The store's world is the base, and no step
+    /// has been accepted since.
     pub fn adopt(alloc: Global, store: Store<D>) -> Result<Self, (AllocError, Store<D>)>
         requires { has_stopped store ≡ false }
         ensures adopted { IfOk result (λ ledger. ledger ≡ ledger_over store.world store.disk) }
@@ -161,8 +162,8 @@ impl<D: Disk> Ledger<D> {
         self.front.count()
     }
 
-    /// Whether the device failed in a flight that has come back. Then nothing more is accepted or
-    /// flushed.
+    /// Whether the ledger has stopped: the device failed in a flight that has come back, so it
+    /// accepts and flushes nothing more.
     pub fn stopped(&self) -> bool
         ensures { result ≡ is_some self.now.log.doubt }
     {

@@ -17,9 +17,9 @@ pub struct Trace {
 /// Why a run ended early.
 #[derive(Clone, Copy, Debug, PartialEq, Eq)]
 pub enum RunFaultKind {
-    /// No memory was found for the list of answers as the run began, for the lists of tickets or of
-    /// releases in `Submit`, `Finish` or `Resend`, for the ledger after a crash, or for the last
-    /// flight's return.
+    /// There was no memory: for the list of answers as the run began; for the list of tickets or of
+    /// releases, in `Submit`, `Finish` or `Resend`; for the ledger after a crash; or as the last
+    /// flight came back.
     OutOfMemory,
     /// The store was not opened after a crash.
     Store(StoreFault),
@@ -37,9 +37,9 @@ impl RunFaultKind {
     }
 }
 
-/// A run that ended early: the index of the event at which it did, or the number of events if the
-/// last flight could not be taken back; and what was answered and released before. The ledger is
-/// gone.
+/// A run that ended early: at the event with this index, or, where the last flight could not be
+/// taken back, behind the last one, so that the index is the number of events. It has what was
+/// answered and released before. The ledger is gone.
 #[derive(Debug, Drop)]
 pub struct RunFault {
     pub at: usize,

@@ -14,8 +14,8 @@ last_of [] = Some []
 last_of (line ∷ []) = line
 last_of (line ∷ next ∷ lines) = last_of (next ∷ lines)
 
--- the lines of a text in pieces: each piece goes on the line that the pieces before it left, and
--- the line that the last one leaves is the last
+-- The lines of a text in pieces. Each piece goes on with the line that the pieces before it left;
+-- what the last piece leaves is the last line.
 abbrev pub lines_in_pieces : Line → List (List ℕ) → List Line
 lines_in_pieces line [] = lines_on line []
 lines_in_pieces line (piece ∷ pieces) = let lines = lines_on line piece in ended lines ++ lines_in_pieces (last_of lines) pieces

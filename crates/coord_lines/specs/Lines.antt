@@ -17,8 +17,8 @@ line_of bytes = if nat_le (length bytes) MAX_LINE_BYTES then Some bytes else Non
 abbrev pub IsWithin : Line → Type 0
 IsWithin line = IfSome line (λ bytes. length bytes ≤ MAX_LINE_BYTES)
 
--- what stands before, between and behind the line feeds of a text: one line more than it has line
--- feeds, of which the last, which may be empty, is the one that no line feed ends
+-- What stands before, between and behind the line feeds of a text. These are one line more than
+-- there are line feeds: no line feed ends the last one, which may be empty.
 abbrev pub lines_of : List ℕ → List Line
 lines_of text = map line_of (slice_split is_line_feed text)
 

@@ -41,8 +41,8 @@ impl LineBuffer {
         }
     }
 
-    /// Adds to the line what stands before the first line feed of a piece of the text, and answers
-    /// what stands behind it; None where the piece has none, so that the line goes on.
+    /// Adds the piece to the line, up to the first line feed, and answers what stands behind that.
+    /// None where the piece has no line feed, so that the line goes on.
     pub fn take<'a>(&mut self, piece: &'a [u8]) -> Option<&'a [u8]>
         ensures line { self.new ≡ extended self.old (before_line_feed piece.now) }
         ensures behind { option_copied result ≡ behind_line_feed piece.now }

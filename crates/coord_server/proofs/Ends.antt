@@ -1,5 +1,5 @@
 -- A server of which no fault is told was closed by a line.
-use Rattle.std.proofs.Common.{◌≡◌, ℕ, zero, suc, ◌+◌, List, [], ◌∷◌, ◌++◌, All, length, Bool, true, false, Option, Some, None, refl, sym, ap, ◌∙◌, subst, append_assoc, arith, drop, inl, inr, is_some, Result, Ok, Err, IfOk, IsOk, OnOk}
+use Rattle.std.proofs.Common.{◌≡◌, ℕ, zero, suc, ◌+◌, List, [], ◌∷◌, ◌++◌, All, length, Bool, true, false, Option, Some, None, refl, sym, ap, ◌∙◌, subst, append_assoc, arith, drop, inl, inr, is_some}
 use Rattle.std.proofs.lemmas.Bool.{false≢true}
 use Rattle.std.proofs.lemmas.List.Elements.{All-push}
 use Rattle.coord_engine.specs.Facade.{AtSomeMoment, Basis, Closes, IsNamed, IsOfPacket, IsSince, based_on}
@@ -12,7 +12,7 @@ use Rattle.coord_world.specs.protocol.NumberedWorld.{World}
 use Rattle.coord_admin.specs.Connections.{Talk}
 use Rattle.coord_server.specs.EngineDesk.{DeskState}
 use Rattle.coord_server.specs.Ending.{AddsWorkers, HasRun, IsLife, IsOneHistory, IsServedToClose, Serves, ServesLife, fault_at_end}
-use Rattle.coord_server.specs.Lives.{HasLived, HasLivedToClose, IsOver, Lives, Rests, met_any}
+use Rattle.coord_server.specs.Lives.{HasLived, HasLivedToClose, IsOver, Lives, Rests, life_steps, met_any}
 use Rattle.coord_server.specs.declared.fault.ServerFault.{ServerFault}
 use Rattle.coord_server.specs.declared.left.Left.{Left}
 use Rattle.coord_server.specs.declared.left.Left.TheVariants.{Resting, Ended}
@@ -41,59 +41,48 @@ module _ {D : Type 0} (b : Basis D) {V : Type 0} (met : V → List Talk → V �
   closed_if_none true served is_broken v w desk none s = absurd cc
 
   -- the desk's notes, in the share that it gave back
-  pub serves_with : (v w u : V) (desk : DeskState) (left : Left) (notes : List Note) → ServesLife b met v w desk left → notes ≡ desk.notes → u ≡ w → (seen : ℕ) × ServesLife b met v u (record { notes = notes; seen = seen }) left
-  serves_with v w u desk left notes s same same_w = (desk.seen, subst (λ x. ServesLife b met v x (record { notes = notes; seen = desk.seen }) left) (sym same_w) (subst (λ n. ServesLife b met v w (record { notes = n; seen = desk.seen }) left) (sym same) s))
+  pub serves_with : (most : ℕ) (v w u : V) (desk : DeskState) (left : Left) (notes : List Note) → ServesLife b met most v w desk left → notes ≡ desk.notes → u ≡ w → (seen : ℕ) × ServesLife b met most v u (record { notes = notes; seen = seen }) left
+  serves_with most v w u desk left notes s same same_w = (desk.seen, subst (λ x. ServesLife b met most v x (record { notes = notes; seen = desk.seen }) left) (sym same_w) (subst (λ n. ServesLife b met most v w (record { notes = n; seen = desk.seen }) left) (sym same) s))
 
   -- the shares of the desk and of the workers, once all are back
-  pub has_run : (v u w : V) (served left : Left) (own : List Note) (shares : List (List Note)) → (seen : ℕ) × ServesLife b met v u (record { notes = own; seen = seen }) served
-      → AddsWorkers (own ∷ []) shares → length shares ≡ 9 → w ≡ u → left ≡ served → HasRun b met v w left shares
-  has_run v u w served left own shares s added all same_w same = record {
-    desk = record { notes = own; seen = s.0 };
-    served = subst (λ (x : V). ServesLife b met v x (record { notes = own; seen = s.0 }) left) (sym same_w) (subst (λ (l : Left). ServesLife b met v u (record { notes = own; seen = s.0 }) l) (sym same) s.1);
-    added = added;
-    all = all;
-  }
-
-  -- the same of what was served, and of what the threads then left
-  pub all_ran : {A R E F : Type 0} (served : Result A E) (ran : Result R F) (callers : A → V) (left : A → Left) (own : A → List Note) (after : R → V) (end : R → Left) (shares : R → List (List Note)) (v : V)
-      → IfOk served (λ s. (seen : ℕ) × ServesLife b met v (callers s) (record { notes = own s; seen = seen }) (left s)) → OnOk ran (IsOk served)
-      → IfOk served (λ s. IfOk ran (λ r. AddsWorkers (own s ∷ []) (shares r) × (length (shares r) ≡ 9))) → IfOk served (λ s. IfOk ran (λ r. (after r ≡ callers s) × (end r ≡ left s)))
-      → IfOk ran (λ r. HasRun b met v (after r) (end r) (shares r))
-  all_ran (Ok s) (Ok r) callers left own after end shares v so ok added same = has_run v (callers s) (after r) (left s) (end r) (own s) (shares r) so added.0 added.1 same.0 same.1
-  all_ran (Ok s) (Err f) callers left own after end shares v so ok added same = tt
-  all_ran (Err e) (Ok r) callers left own after end shares v so ok added same = absurd (false≢true ok)
-  all_ran (Err e) (Err f) callers left own after end shares v so ok added same = tt
+  pub has_run : (most : ℕ) (v w : V) (left : Left) (own : List Note) (shares : List (List Note)) → (seen : ℕ) × ServesLife b met most v w (record { notes = own; seen = seen }) left
+      → AddsWorkers (own ∷ []) shares → length shares ≡ 9 → HasRun b met most v w left shares
+  has_run most v w left own shares s added all = record { desk = record { notes = own; seen = s.0 }; served = s.1; added = added; all = all }
 
   -- one life: how the desk went on, and what is left of the engine, which was taken apart with all shares
-  pub lived : (v u w : V) (ran left : Left) (shares : List (List Note)) (store : Kept D) (base : World) (trail : List Step) (settled : ℕ) → b.before ≡ []
-      → HasRun b met v u ran shares → IsSince b.base b.before shares base trail → AtSomeMoment b (Closes {D = D} store base trail settled shares)
-      → w ≡ u → left ≡ ran → IsLife b met v w left store base trail settled
-  lived v u w ran left shares store base trail settled none is since closed same_w same = record {
+  pub lived : (most : ℕ) (v u w : V) (ran left : Left) (shares : List (List Note)) (store : Kept D) (base : World) (trail : List Step) (settled : ℕ) → b.before ≡ []
+      → HasRun b met most v u ran shares → IsSince b.base b.before shares base trail → AtSomeMoment b (Closes {D = D} store base trail settled shares)
+      → w ≡ u → left ≡ ran → IsLife b met most v w left store base trail settled
+  lived most v u w ran left shares store base trail settled none is since closed same_w same = record {
     desk = is.desk;
-    served = subst (λ (x : V). ServesLife b met v x is.desk left) (sym same_w) (subst (λ (l : Left). ServesLife b met v u is.desk l) (sym same) is.served);
+    served = subst (λ (x : V). ServesLife b met most v x is.desk left) (sym same_w) (subst (λ (l : Left). ServesLife b met most v u is.desk l) (sym same) is.served);
     history = one_history b is.desk.notes shares store base trail settled none is.added since closed;
   }
 
 -- ---- lives
 
-module _ {D : Type 0} (keeps_model : D → Bool) (present : D → Present) {V : Type 0} (met : V → List Talk → V → Type 0) where
+module _ {D : Type 0} (keeps_model : D → Bool) (present : D → Present) {V : Type 0} (met : V → List Talk → V → Type 0) (most : ℕ) where
   abbrev b : World → Basis D
   b world = based_on keeps_model present world []
 
   -- a last life has this end
-  served_at_last : (world : World) (v w : V) (desk : DeskState) (left : Left) (served : Option ServerFault) → ServesLife (b world) met v w desk left → IsOver left served → Serves (b world) met v w desk served
-  served_at_last world v w desk Resting served s over = subst (Serves (b world) met v w desk) (sym over) s
+  served_at_last : (world : World) (v w : V) (desk : DeskState) (left : Left) (served : Option ServerFault) → ServesLife (b world) met most v w desk left → IsOver left served → Serves (b world) met v w desk served
+  served_at_last world v w desk Resting served s over = subst (Serves (b world) met v w desk) (sym over) s.0
   served_at_last world v w desk (Ended fault_at_end) served s over = subst (Serves (b world) met v w desk) (sym over) s
 
-  rests : (world : World) (v w : V) (left : Left) (store : Kept D) (base : World) (trail : List Step) (settled : ℕ) → left ≡ Resting → IsLife (b world) met v w left store base trail settled
-      → has_stopped store ≡ false → settled ≡ base.count + length trail → Rests keeps_model present met world v w store.world
+  rested : (world : World) (v w : V) (left : Left) (desk : DeskState) → left ≡ Resting → ServesLife (b world) met most v w desk left → ServesLife (b world) met most v w desk Resting
+  rested world v w left desk is = subst (ServesLife (b world) met most v w desk) is
+
+  rests : (world : World) (v w : V) (left : Left) (store : Kept D) (base : World) (trail : List Step) (settled : ℕ) → left ≡ Resting → IsLife (b world) met most v w left store base trail settled
+      → has_stopped store ≡ false → settled ≡ base.count + length trail → Rests keeps_model present met most world v w store.world
   rests world v w left store base trail settled is life going all = record {
     desk = life.desk;
     store = store;
     base = base;
     trail = trail;
     settled = settled;
-    served = subst (ServesLife (b world) met v w life.desk) is life.served;
+    served = (rested world v w left life.desk is life.served).0;
+    old = (rested world v w left life.desk is life.served).1;
     history = life.history;
     all_settled = all;
     going = going;
@@ -101,30 +90,30 @@ module _ {D : Type 0} (keeps_model : D → Bool) (present : D → Present) {V : 
   }
 
   -- one more life has rested
-  pub lives_on : (began world : World) (v u w : V) (left : Left) (store : Kept D) (base : World) (trail : List Step) (settled : ℕ) → (n : ℕ) × Lives keeps_model present met n began v world u → left ≡ Resting
-      → IsLife (b world) met u w left store base trail settled
-      → has_stopped store ≡ false → settled ≡ base.count + length trail → (n : ℕ) × Lives keeps_model present met n began v store.world w
+  pub lives_on : (began world : World) (v u w : V) (left : Left) (store : Kept D) (base : World) (trail : List Step) (settled : ℕ) → (n : ℕ) × Lives keeps_model present met most n began v world u → left ≡ Resting
+      → IsLife (b world) met most u w left store base trail settled
+      → has_stopped store ≡ false → settled ≡ base.count + length trail → (n : ℕ) × Lives keeps_model present met most n began v store.world w
   lives_on began world v u w left store base trail settled lives is life going all = (suc lives.0, (world, u, lives.1, rests world u w left store base trail settled is life going all))
 
   -- the same by other names: what the next life begins with
-  pub lives_next : (began world : World) (v u w others : V) (left : Left) (store next : Kept D) (base : World) (trail : List Step) (settled : ℕ) → (n : ℕ) × Lives keeps_model present met n began v world u
-      → IsLife (b world) met u w left store base trail settled
+  pub lives_next : (began world : World) (v u w others : V) (left : Left) (store next : Kept D) (base : World) (trail : List Step) (settled : ℕ) → (n : ℕ) × Lives keeps_model present met most n began v world u
+      → IsLife (b world) met most u w left store base trail settled
       → left ≡ Resting → next ≡ store → others ≡ w → has_stopped store ≡ false → settled ≡ base.count + length trail
-      → ((n : ℕ) × Lives keeps_model present met n began v next.world others) × (has_stopped next ≡ false)
+      → ((n : ℕ) × Lives keeps_model present met most n began v next.world others) × (has_stopped next ≡ false)
   lives_next began world v u w others left store next base trail settled lives life is same same_w going all =
       let on = lives_on began world v u w left store base trail settled lives is life going all in (
-        subst (λ x. (n : ℕ) × Lives keeps_model present met n began v next.world x) (sym same_w) (subst (λ (k : Kept D). (n : ℕ) × Lives keeps_model present met n began v k.world w) (sym same) on),
+        subst (λ x. (n : ℕ) × Lives keeps_model present met most n began v next.world x) (sym same_w) (subst (λ (k : Kept D). (n : ℕ) × Lives keeps_model present met most n began v k.world w) (sym same) on),
         subst (λ (k : Kept D). has_stopped k ≡ false) (sym same) going,
       )
 
   -- and the last one has ended
-  pub lives_end : (began world : World) (v u w : V) (left : Left) (served : Option ServerFault) (store : Kept D) (base : World) (trail : List Step) (settled : ℕ) → (n : ℕ) × Lives keeps_model present met n began v world u
-      → IsLife (b world) met u w left store base trail settled
-      → IsOver left served → HasLived keeps_model present met began v w served store base trail settled
+  pub lives_end : (began world : World) (v u w : V) (left : Left) (served : Option ServerFault) (store : Kept D) (base : World) (trail : List Step) (settled : ℕ) → (n : ℕ) × Lives keeps_model present met most n began v world u
+      → IsLife (b world) met most u w left store base trail settled
+      → IsOver left served → HasLived keeps_model present met most began v w served store base trail settled
   lives_end began world v u w left served store base trail settled lives life over = (lives.0, world, u, lives.1, (life.desk, served_at_last world u w life.desk left served life.served over, life.history))
 
   -- whoever called
-  rested_any : (world next : World) (v w : V) → Rests keeps_model present met world v w next → Rests keeps_model present met_any world tt tt next
+  rested_any : (world next : World) (v w : V) → Rests keeps_model present met most world v w next → Rests keeps_model present met_any most world tt tt next
   rested_any world next v w r = record {
     desk = r.desk;
     store = r.store;
@@ -132,19 +121,22 @@ module _ {D : Type 0} (keeps_model : D → Bool) (present : D → Present) {V : 
     trail = r.trail;
     settled = r.settled;
     served = (r.served.0, tt, r.served.2);
+    old = r.old;
     history = r.history;
     all_settled = r.all_settled;
     going = r.going;
     goes_on = r.goes_on;
   }
 
-  lives_any : (n : ℕ) (began next : World) (v w : V) → Lives keeps_model present met n began v next w → Lives keeps_model present met_any n began tt next tt
+  lives_any : (n : ℕ) (began next : World) (v w : V) → Lives keeps_model present met most n began v next w → Lives keeps_model present met_any most n began tt next tt
   lives_any zero began next v w is = (is.0, refl)
   lives_any (suc n) began next v w is = (is.0, tt, lives_any n began is.0 v is.1 is.2, rested_any is.0 next is.1 w is.3)
 
-  pub closed_lives : (stopped : Bool) (served : Option ServerFault) (is_broken : Bool) (began : World) (v w : V) (store : Kept D) (base : World) (trail : List Step) (settled : ℕ) → fault_at_end stopped served is_broken ≡ None → HasLived keeps_model present met began v w served store base trail settled → HasLivedToClose keeps_model present began store base trail settled
+-- of a server whose lives have the steps that its own have
+module _ {D : Type 0} (keeps_model : D → Bool) (present : D → Present) {V : Type 0} (met : V → List Talk → V → Type 0) where
+  pub closed_lives : (stopped : Bool) (served : Option ServerFault) (is_broken : Bool) (began : World) (v w : V) (store : Kept D) (base : World) (trail : List Step) (settled : ℕ) → fault_at_end stopped served is_broken ≡ None → HasLived keeps_model present met life_steps began v w served store base trail settled → HasLivedToClose keeps_model present began store base trail settled
   closed_lives stopped served is_broken began v w store base trail settled none is =
-      (is.0, is.1, lives_any is.0 began is.1 v is.2 is.3, (is.4.0, closed_if_none (b is.1) met stopped served is_broken is.2 w is.4.0 none is.4.1, is.4.2))
+      (is.0, is.1, lives_any keeps_model present met life_steps is.0 began is.1 v is.2 is.3, (is.4.0, closed_if_none (based_on keeps_model present is.1 []) met stopped served is_broken is.2 w is.4.0 none is.4.1, is.4.2))
 
 -- a store that has not stopped: each image of its disk gives its world
 pub only_world : {D : Type 0} (present : D → Present) (store : Kept D) → has_stopped store ≡ false → ImagesGive present store → (image : List ℕ) → IsImage (present store.disk) image → Recovered image store.world

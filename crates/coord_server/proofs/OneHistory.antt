@@ -13,7 +13,7 @@ use Rattle.coord_ledger.specs.declared.ticket.Note.{Note}
 use Rattle.coord_admin.specs.Connections.{Talk}
 use Rattle.coord_engine.specs.State.{Basis, based_on}
 use Rattle.coord_server.specs.Ending.{IsOneHistory}
-use Rattle.coord_server.specs.Lives.{AreOneHistory, ClosedLivesAreOne, EndsOneHistory, HasLived, LifeSteps, Lives, LivesAreOne, Rests, all_given, all_steps, met_any, steps_of}
+use Rattle.coord_server.specs.Lives.{AreOneHistory, ClosedLivesAreOne, EndsOneHistory, HasLived, LifeSteps, Lives, LivesAreOne, Rests, all_given, all_steps, life_steps, met_any, steps_of}
 use Rattle.coord_server.specs.declared.fault.ServerFault.{ServerFault}
 
 -- ---- one life
@@ -139,25 +139,25 @@ one_history {D} began world ls store base trail settled here t =
       world = t.kept ∙ whole ∙ ap (fold began) (sym first);
     }
 
-module _ {D : Type 0} (keeps_model : D → Bool) (present : D → Present) {V : Type 0} (met : V → List Talk → V → Type 0) where
+module _ {D : Type 0} (keeps_model : D → Bool) (present : D → Present) {V : Type 0} (met : V → List Talk → V → Type 0) (most : ℕ) where
   -- a life that rests goes on to the next one
-  rest_goes_on : (began world next : World) (ls : List LifeSteps) (v w : V) (r : Rests keeps_model present met world v w next) → GoOn began ls world → GoOn began (ls ++ record { base = r.base; trail = r.trail } ∷ []) next
+  rest_goes_on : (began world next : World) (ls : List LifeSteps) (v w : V) (r : Rests keeps_model present met most world v w next) → GoOn began ls world → GoOn began (ls ++ record { base = r.base; trail = r.trail } ∷ []) next
   rest_goes_on began world next ls v w r here =
       let t = tells (based_on keeps_model present world []) r.desk.notes r.store r.base r.trail r.settled r.history in
       goes_on ls began world next (record { base = r.base; trail = r.trail }) here t.from t.steps (r.goes_on ∙ leaves_all world r.store r.base r.trail r.settled t r.all_settled)
 
-  lives_go_on : (n : ℕ) (began next : World) (v w : V) (lives : Lives keeps_model present met n began v next w) → GoOn began (steps_of keeps_model present met n began v next w lives) next
+  lives_go_on : (n : ℕ) (began next : World) (v w : V) (lives : Lives keeps_model present met most n began v next w) → GoOn began (steps_of keeps_model present met most n began v next w lives) next
   lives_go_on zero began next v w lives = lives.0
-  lives_go_on (suc n) began next v w lives = rest_goes_on began lives.0 next (steps_of keeps_model present met n began v lives.0 lives.1 lives.2) lives.1 w lives.3 (lives_go_on n began lives.0 v lives.1 lives.2)
+  lives_go_on (suc n) began next v w lives = rest_goes_on began lives.0 next (steps_of keeps_model present met most n began v lives.0 lives.1 lives.2) lives.1 w lives.3 (lives_go_on n began lives.0 v lives.1 lives.2)
 
-  pub lives_are_one : LivesAreOne keeps_model present met
+  pub lives_are_one : LivesAreOne keeps_model present met most
   lives_are_one began v w served store base trail settled lived =
-      one_history began lived.1 (steps_of keeps_model present met lived.0 began v lived.1 lived.2 lived.3) store base trail settled (lives_go_on lived.0 began lived.1 v lived.2 lived.3) (tells (based_on keeps_model present lived.1 []) lived.4.0.notes store base trail settled lived.4.2)
+      one_history began lived.1 (steps_of keeps_model present met most lived.0 began v lived.1 lived.2 lived.3) store base trail settled (lives_go_on lived.0 began lived.1 v lived.2 lived.3) (tells (based_on keeps_model present lived.1 []) lived.4.0.notes store base trail settled lived.4.2)
 
   -- so is what they leave
-  pub ends : (began : World) (v w : V) (served : Option ServerFault) (store : Kept D) (base : World) (trail : List Step) (settled : ℕ) → HasLived keeps_model present met began v w served store base trail settled → EndsOneHistory began store base trail settled
-  ends began v w served store base trail settled lived = (steps_of keeps_model present met lived.0 began v lived.1 lived.2 lived.3, lives_are_one began v w served store base trail settled lived)
+  pub ends : (began : World) (v w : V) (served : Option ServerFault) (store : Kept D) (base : World) (trail : List Step) (settled : ℕ) → HasLived keeps_model present met most began v w served store base trail settled → EndsOneHistory began store base trail settled
+  ends began v w served store base trail settled lived = (steps_of keeps_model present met most lived.0 began v lived.1 lived.2 lived.3, lives_are_one began v w served store base trail settled lived)
 
 pub closed_lives_are_one : {D : Type 0} (keeps_model : D → Bool) (present : D → Present) → ClosedLivesAreOne keeps_model present
 closed_lives_are_one {D} keeps_model present began store base trail settled lived =
-    one_history began lived.1 (steps_of keeps_model present met_any lived.0 began tt lived.1 tt lived.2) store base trail settled (lives_go_on keeps_model present met_any lived.0 began lived.1 tt tt lived.2) (tells (based_on keeps_model present lived.1 []) lived.3.0.notes store base trail settled lived.3.2)
+    one_history began lived.1 (steps_of keeps_model present met_any life_steps lived.0 began tt lived.1 tt lived.2) store base trail settled (lives_go_on keeps_model present met_any life_steps lived.0 began lived.1 tt tt lived.2) (tells (based_on keeps_model present lived.1 []) lived.3.0.notes store base trail settled lived.3.2)

@@ -10,25 +10,36 @@ use Rattle.coord_world.specs.Facade.{World, fold}
 use Rattle.coord_world.specs.declared.verdicts.Verdict.{Verdict}
 use Rattle.coord_world.specs.declared.verdicts.Verdict.TheVariants.{Fresh, Repeat}
 use Rattle.coord_ledger.specs.declared.ticket.Note.{Note}
-use Rattle.coord_ledger.specs.Facade.{Claim, LedgerGives, LedgerState, Log, GivesSettled as LogGives, reply_of, settled_world}
-use Rattle.coord_engine.specs.Facade.{AnswersStep, Basis, GuardedState, LedgerAndNotes, engine_verdict, note_of}
+use Rattle.coord_ledger.specs.Facade.{Claim, IsCollectable, LedgerGives, LedgerState, Log, GivesSettled as LogGives, reply_of, settled_world}
+use Rattle.coord_engine.specs.Facade.{AnswersStep, AtSomeMoment, Basis, GuardedState, LedgerAndNotes, engine_verdict, note_of}
 use Rattle.coord_server.specs.EngineDesk.{Orders}
 use Rattle.coord_server.specs.Ending.{IsOneHistory}
 use Rattle.coord_server.specs.Told.{GivesSettled, LivesLeaveSteps, NamesItsStep, RepliesNameSteps}
 
 -- ---- replies
 
-named : {D : Type 0} (s : Step) (v : Result Verdict Refusal) (before after : LedgerAndNotes D) (claim : Claim) (reply : Reply) → reply ≡ reply_of claim → AnswersStep s v before (Ok claim) after → NamesItsStep s reply before.notes after.notes
-named s (Ok (Fresh kind)) before after claim reply is answer =
-    let what : claim.what ≡ s = ap (λ (c : Claim). c.what) answer.0 in
-    let note : note_of claim ≡ record { step = reply.step; what = s } = (λ i. record { step = (ap (λ (r : Reply). r.step) (sym is)) i; what = what i }) in
-    inl (ap (λ (x : LedgerAndNotes _). x.notes) answer.1 ∙ ap (λ n. before.notes ++ n ∷ []) note)
-named s (Ok (Repeat kept)) before after claim reply is answer = inr (ap (λ (x : LedgerAndNotes _). x.notes) answer.1)
-named s (Err why) before after claim reply is answer = absurd answer
+-- the claim's step was submitted, and its note
+noted : {D : Type 0} (s : Step) (v : Result Verdict Refusal) (before after : LedgerAndNotes D) (claim : Claim) → AnswersStep s v before (Ok claim) after
+    → (claim.what ≡ s) × ((after.notes ≡ before.notes ++ note_of claim ∷ []) ⊎ (after.notes ≡ before.notes))
+noted s (Ok (Fresh kind)) before after claim answer = (ap (λ (c : Claim). c.what) answer.0, inl (ap (λ (x : LedgerAndNotes _). x.notes) answer.1))
+noted s (Ok (Repeat kept)) before after claim answer = (ap (λ (c : Claim). c.what) answer.0, inr (ap (λ (x : LedgerAndNotes _). x.notes) answer.1))
+noted s (Err why) before after claim answer = absurd answer
+
+-- a claim of this step with this reply
+claim_of : (s : Step) (reply : Reply) (claim : Claim) → reply ≡ reply_of claim → claim.what ≡ s → claim ≡ record { step = reply.step; what = s; kind = reply.kind }
+claim_of s reply claim is what = λ i. record { step = (ap (λ (r : Reply). r.step) (sym is)) i; what = what i; kind = (ap (λ (r : Reply). r.kind) (sym is)) i }
+
+names : {D : Type 0} (b : Basis D) (s : Step) (reply : Reply) (before after : List Note) (claim : Claim) → claim ≡ record { step = reply.step; what = s; kind = reply.kind }
+    → (after ≡ before ++ note_of claim ∷ []) ⊎ (after ≡ before) → AtSomeMoment b (λ g. IsCollectable g.ledger.log claim) → NamesItsStep b s reply before after
+names b s reply before after claim is note settled = record {
+  noted = subst (λ (c : Claim). (after ≡ before ++ note_of c ∷ []) ⊎ (after ≡ before)) is note;
+  settled = subst (λ (c : Claim). AtSomeMoment b (λ g. IsCollectable g.ledger.log c)) is settled;
+}
 
 pub replies_name_steps : (D : Type 0) → RepliesNameSteps D
 replies_name_steps D b s reply before after (claim, accepted, collected) =
-    named s (engine_verdict accepted.state s) (record { ledger = accepted.state.ledger; notes = before }) (record { ledger = accepted.so.0; notes = after }) claim reply collected.so.0 accepted.so.1
+    let note = noted s (engine_verdict accepted.state s) (record { ledger = accepted.state.ledger; notes = before }) (record { ledger = accepted.so.0; notes = after }) claim accepted.so.1 in
+    names b s reply before after claim (claim_of s reply claim collected.so.0 note.0) note.1 (record { state = collected.state; held = collected.held; so = collected.so.1 })
 
 -- ---- disks
 

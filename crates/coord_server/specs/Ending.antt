@@ -1,5 +1,5 @@
 -- How a server ends, and what it leaves of its engine.
-use Rattle.std.specs.Prelude.{◌≡◌, ℕ, ◌≤◌, List, [], ◌∷◌, ◌++◌, All, Bool, true, false, Option, Some, None, length}
+use Rattle.std.specs.Prelude.{◌≡◌, ℕ, ◌≤◌, ◌<◌, List, [], ◌∷◌, ◌++◌, All, Bool, true, false, Option, Some, None, length}
 use Rattle.coord_types.specs.declared.steps.Step.{Step}
 use Rattle.coord_store.specs.Kept.{Kept}
 use Rattle.coord_world.specs.protocol.NumberedWorld.{World}
@@ -33,6 +33,10 @@ AddsWorkers first all = (workers : List (List Note)) × (all ≡ first ++ worker
 abbrev pub HasKept : {D : Type 0} → Basis D → ℕ → Type 0
 HasKept b most = AtSomeMoment b (λ g. most ≤ length g.ledger.log.trail)
 
+-- or fewer
+abbrev pub HasKeptFewer : {D : Type 0} → Basis D → ℕ → Type 0
+HasKeptFewer b most = AtSomeMoment b (λ g. length g.ledger.log.trail < most)
+
 -- `met v talks w`: those who call were v, had these talks, and then are w
 module _ {D : Type 0} (b : Basis D) {V : Type 0} (met : V → List Talk → V → Type 0) where
   -- those who called were served by a desk that began with nothing, until one of them closed it
@@ -52,22 +56,22 @@ module _ {D : Type 0} (b : Basis D) {V : Type 0} (met : V → List Talk → V �
   Serves v w desk (Some fault.Write) = met v [] w × (desk ≡ new_desk)
   Serves v w desk (Some other) = ⊥
 
-  -- how the desk went on in one life
-  abbrev pub ServesLife : V → V → DeskState → Left → Type 0
-  ServesLife v w desk left.Resting = IsLeft v w desk
-  ServesLife v w desk (left.Ended served) = Serves v w desk served
+  -- how the desk went on in a life of so many steps: it rests only once its engine has kept them
+  abbrev pub ServesLife : ℕ → V → V → DeskState → Left → Type 0
+  ServesLife most v w desk left.Resting = IsLeft v w desk × HasKept b most
+  ServesLife most v w desk (left.Ended served) = Serves v w desk served
 
   -- the threads of a life have run: the desk served until this end, and with its share all nine are back, the desk's and those of eight workers
-  pub record HasRun (v w : V) (left : Left) (shares : List (List Note)) : Type 0 where
+  pub record HasRun (most : ℕ) (v w : V) (left : Left) (shares : List (List Note)) : Type 0 where
     pub desk : DeskState
-    pub served : ServesLife v w desk left
+    pub served : ServesLife most v w desk left
     pub added : AddsWorkers (desk.notes ∷ []) shares
     pub all : length shares ≡ 9
 
   -- one life, which left this: the desk served until this end, and it is one history
-  pub record IsLife (v w : V) (left : Left) (store : Kept D) (base : World) (trail : List Step) (settled : ℕ) : Type 0 where
+  pub record IsLife (most : ℕ) (v w : V) (left : Left) (store : Kept D) (base : World) (trail : List Step) (settled : ℕ) : Type 0 where
     pub desk : DeskState
-    pub served : ServesLife v w desk left
+    pub served : ServesLife most v w desk left
     pub history : IsOneHistory b desk.notes store base trail settled
 
 -- a desk that began with nothing was served over some connections, the last of which closed it

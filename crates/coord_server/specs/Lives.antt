@@ -9,7 +9,7 @@ use Rattle.coord_world.specs.Facade.{StepOutcome, World, fold, outs}
 use Rattle.coord_admin.specs.Connections.{Talk}
 use Rattle.coord_engine.specs.State.{Basis, based_on}
 use Rattle.coord_server.specs.EngineDesk.{DeskState}
-use Rattle.coord_server.specs.Ending.{IsLeft, IsOneHistory, IsServedToClose, Serves}
+use Rattle.coord_server.specs.Ending.{HasKept, IsLeft, IsOneHistory, IsServedToClose, Serves}
 use Rattle.coord_server.specs.declared.fault.ServerFault.{ServerFault}
 use Rattle.coord_server.specs.declared.fault.ServerFault.TheVariants as fault
 use Rattle.coord_server.specs.declared.left.Left.{Left}
@@ -24,13 +24,17 @@ IsOver (left.Ended met) served = served ≡ met
 abbrev pub met_any : Unit {0} → List Talk → Unit {0} → Type 0
 met_any v talks w = Unit {0}
 
--- `met v talks w`: those who call were v, had these talks, and then are w
-module _ {D : Type 0} (keeps_model : D → Bool) (present : D → Present) {V : Type 0} (met : V → List Talk → V → Type 0) where
+-- after how many steps a life of a server ends (docs/OPERATING.md names it)
+abbrev pub life_steps : ℕ
+life_steps = 262144
+
+-- `met v talks w`: those who call were v, had these talks, and then are w. A life ends after `most` steps
+module _ {D : Type 0} (keeps_model : D → Bool) (present : D → Present) {V : Type 0} (met : V → List Talk → V → Type 0) (most : ℕ) where
   -- what a life is based on that began over a store with this world
   abbrev pub begun_over : World → Basis D
   begun_over world = based_on keeps_model present world []
 
-  -- A life that rests: no line has closed it, it is one history, all that was accepted is settled, and its store has not stopped. The next one begins over the world of that store.
+  -- A life that rests: no line has closed it, it has kept the steps of a life, it is one history, all that was accepted is settled, and its store has not stopped. The next one begins over the world of that store.
   pub record Rests (began : World) (v w : V) (next : World) : Type 0 where
     pub desk : DeskState
     pub store : Kept D
@@ -38,6 +42,7 @@ module _ {D : Type 0} (keeps_model : D → Bool) (present : D → Present) {V : 
     pub trail : List Step
     pub settled : ℕ
     pub served : IsLeft (begun_over began) met v w desk
+    pub old : HasKept (begun_over began) most
     pub history : IsOneHistory (begun_over began) desk.notes store base trail settled
     pub all_settled : settled ≡ base.count + length trail
     pub going : has_stopped store ≡ false
@@ -54,10 +59,10 @@ module _ {D : Type 0} (keeps_model : D → Bool) (present : D → Present) {V : 
       (n : ℕ) × (world : World) × (u : V) × Lives n began v world u
       × ((desk : DeskState) × Serves (begun_over world) met u w desk served × IsOneHistory (begun_over world) desk.notes store base trail settled)
 
--- the same where a line has closed the last one
+-- the same where a line has closed the last one, and each life has the steps of a server's
 abbrev pub HasLivedToClose : {D : Type 0} → (D → Bool) → (D → Present) → World → Kept D → World → List Step → ℕ → Type 0
 HasLivedToClose {D} keeps_model present began store base trail settled =
-    (n : ℕ) × (world : World) × Lives keeps_model present met_any n began tt world tt
+    (n : ℕ) × (world : World) × Lives keeps_model present met_any life_steps n began tt world tt
     × ((desk : DeskState) × IsServedToClose (based_on keeps_model present world []) desk × IsOneHistory (based_on keeps_model present world []) desk.notes store base trail settled)
 
 -- ---- all lives are one history
@@ -85,9 +90,9 @@ pub record AreOneHistory {D : Type 0} (began : World) (lives : List LifeSteps) (
   pub most : settled ≤ began.count + length (all_steps lives)
   pub world : store.world ≡ fold began (take (settled - began.count) (all_steps lives))
 
-module _ {D : Type 0} (keeps_model : D → Bool) (present : D → Present) {V : Type 0} (met : V → List Talk → V → Type 0) where
+module _ {D : Type 0} (keeps_model : D → Bool) (present : D → Present) {V : Type 0} (met : V → List Talk → V → Type 0) (most : ℕ) where
   -- what each of these lives did, the first one first
-  abbrev pub steps_of : (n : ℕ) (began : World) (v : V) (next : World) (w : V) → Lives keeps_model present met n began v next w → List LifeSteps
+  abbrev pub steps_of : (n : ℕ) (began : World) (v : V) (next : World) (w : V) → Lives keeps_model present met most n began v next w → List LifeSteps
   steps_of zero began v next w lives = []
   steps_of (suc n) began v next w lives = steps_of n began v lives.0 lives.1 lives.2 ++ record { base = lives.3.base; trail = lives.3.trail } ∷ []
 
@@ -95,7 +100,7 @@ module _ {D : Type 0} (keeps_model : D → Bool) (present : D → Present) {V : 
   abbrev pub LivesAreOne : Type 0
   LivesAreOne =
       (began : World) (v w : V) (served : Option ServerFault) (store : Kept D) (base : World) (trail : List Step) (settled : ℕ)
-      → (lived : HasLived keeps_model present met began v w served store base trail settled)
+      → (lived : HasLived keeps_model present met most began v w served store base trail settled)
       → AreOneHistory began (steps_of lived.0 began v lived.1 lived.2 lived.3 ++ record { base = base; trail = trail } ∷ []) store settled
 
 -- the same where a line has closed the last one
@@ -103,7 +108,7 @@ abbrev pub ClosedLivesAreOne : {D : Type 0} → (D → Bool) → (D → Present)
 ClosedLivesAreOne {D} keeps_model present =
     (began : World) (store : Kept D) (base : World) (trail : List Step) (settled : ℕ)
     → (lived : HasLivedToClose keeps_model present began store base trail settled)
-    → AreOneHistory began (steps_of keeps_model present met_any lived.0 began tt lived.1 tt lived.2 ++ record { base = base; trail = trail } ∷ []) store settled
+    → AreOneHistory began (steps_of keeps_model present met_any life_steps lived.0 began tt lived.1 tt lived.2 ++ record { base = base; trail = trail } ∷ []) store settled
 
 -- this is what lives, all of them one history, have left
 abbrev pub EndsOneHistory : {D : Type 0} → World → Kept D → World → List Step → ℕ → Type 0

@@ -7,17 +7,20 @@ use Rattle.coord_store.specs.Kept.{Kept, has_stopped}
 use Rattle.coord_store.specs.Recovered.{Recovered}
 use Rattle.coord_world.specs.Facade.{World, fold}
 use Rattle.coord_ledger.specs.declared.ticket.Note.{Note}
+use Rattle.coord_ledger.specs.Facade.{IsCollectable}
 use Rattle.coord_engine.specs.State.{Basis}
+use Rattle.coord_engine.specs.Threads.{AtSomeMoment}
 use Rattle.coord_server.specs.EngineDesk.{Orders}
 use Rattle.coord_server.specs.Ending.{IsOneHistory}
 
--- an order that is told a reply was noted just then, with the number that it is told; or nothing was, since it repeats one
-abbrev pub NamesItsStep : Step → Reply → List Note → List Note → Type 0
-NamesItsStep s reply before after = (after ≡ before ++ record { step = reply.step; what = s } ∷ []) ⊎ (after ≡ before)
+-- An order that is told a reply was noted just then, with the number that it is told; or nothing was, since it repeats one. At some moment of that life the step was settled: the log had it at that number and answered it with that kind, or the base kept that reply for that order.
+pub record NamesItsStep {D : Type 0} (b : Basis D) (s : Step) (reply : Reply) (before after : List Note) : Type 0 where
+  pub noted : (after ≡ before ++ record { step = reply.step; what = s } ∷ []) ⊎ (after ≡ before)
+  pub settled : AtSomeMoment b (λ g. IsCollectable g.ledger.log (record { step = reply.step; what = s; kind = reply.kind }))
 
 -- so is each reply of a desk
 abbrev pub RepliesNameSteps : Type 0 → Type 0
-RepliesNameSteps D = (b : Basis D) (s : Step) (reply : Reply) (before after : List Note) → Orders b s (Ok reply) before after → NamesItsStep s reply before after
+RepliesNameSteps D = (b : Basis D) (s : Step) (reply : Reply) (before after : List Note) → Orders b s (Ok reply) before after → NamesItsStep b s reply before after
 
 -- these bytes give the world after the settled steps of a life; or after a stop that of those and the next ones, which were in doubt
 abbrev pub GivesSettled : {D : Type 0} → Kept D → World → List Step → ℕ → List ℕ → Type 0

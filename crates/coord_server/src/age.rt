@@ -1,8 +1,8 @@
 //! How old a life of the server is.
 
-ghost use Rattle.std.specs.Prelude.{◌≡◌, ◌*◌, true};
+ghost use Rattle.std.specs.Prelude.{◌≡◌, ◌*◌, false, true};
 ghost use Rattle.coord_engine.specs.State.{based_on};
-ghost use Rattle.coord_server.specs.Ending.{HasKept};
+ghost use Rattle.coord_server.specs.Ending.{HasKept, HasKeptFewer};
 
 use coord_disk::Disk;
 use coord_engine::{Engine, Origin};
@@ -26,16 +26,20 @@ impl<'a, D: Disk, L: Origin, R: Wait> Age<'a, D, L, R> {
 
     /// Whether no connection is to begin in this life any more.
     pub fn is_old(&self) -> bool
-        ensures { result ≡ true →
+        ensures old { result ≡ true →
             HasKept (based_on D.keeps_model D.present L.base L.before) self.now.most }
+        ensures young { result ≡ false →
+            HasKeptFewer (based_on D.keeps_model D.present L.base L.before) self.now.most }
     {
         self.engine.kept(self.rt) >= self.most
     }
 
     /// Whether the connection that is open is to end.
     pub fn is_too_old(&self) -> bool
-        ensures { result ≡ true →
+        ensures old { result ≡ true →
             HasKept (based_on D.keeps_model D.present L.base L.before) (2 * self.now.most) }
+        ensures young { result ≡ false →
+            HasKeptFewer (based_on D.keeps_model D.present L.base L.before) (2 * self.now.most) }
     {
         self.engine.kept(self.rt) / 2 >= self.most
     }

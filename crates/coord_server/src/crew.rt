@@ -1,6 +1,6 @@
 //! The threads of one life of a server, while connections are served.
 
-ghost use Rattle.std.specs.Prelude.{◌≡◌, ◌+◌, ◌≤◌, [], ◌∷◌, ℕ, IfErr, IfOk, OnOk, IsOk, length, true, vec_capacity, vec_len};
+ghost use Rattle.std.specs.Prelude.{◌≡◌, ◌+◌, ◌≤◌, [], ◌∷◌, ℕ, IfErr, IfOk, IfSome, Some, length, vec_capacity, vec_len};
 ghost use Rattle.std.specs.Thread.{IsSend, IsSync};
 ghost use Rattle.coord_engine.specs.State.{based_on};
 ghost use Rattle.coord_server.specs.Ending.{AddsWorkers, HasRun, IsOfStart, ServesLife, new_desk};
@@ -10,12 +10,13 @@ use crate::left::Left;
 use crate::printing::Opening;
 use crate::resting::LifeCallers;
 use crate::setting::Setting;
-use crate::{EngineDesk, LocalPort, ServerFault, WORKERS};
+use crate::{EngineDesk, LocalPort, ServerFault};
 use coord_admin::{Callers, Desk, serve_connections};
 use coord_disk::Disk;
 use coord_engine::{Engine, Origin, PacketShare, Port, Share, flusher, packet_worker};
 use coord_types::Packet;
 use crossbeam_channel::Receiver;
+use std::alloc::Global;
 use std::io::Write;
 use std::sync::Wait;
 use std::sync::ledger::Ledger as Count;
@@ -30,10 +31,11 @@ pub struct Begun<L: Count> {
     pub own: Share<L>,
     /// Room for all shares: none of them may be lost for want of memory.
     pub room: Vec<Share<L>>,
-    /// Room for the workers' threads.
-    pub threads: Vec<JoinHandle<PacketShare<L>>>,
     /// What the workers receive.
     pub packets: Vec<Receiver<Packet>>,
+    pub ghost unused: { own ≡ [] },
+    pub ghost has_room: { (room.items ≡ []) × (9 ≤ vec_capacity room) },
+    pub ghost eight: { length packets.items ≡ 8 },
 }
 
 /// What they leave: all shares, the desk's first.
@@ -52,8 +54,15 @@ struct Served<L: Count, C> {
     left: Left,
 }
 
-/// Runs a flusher and a worker on each channel. Once all of them run the output is opened, what may
-/// have been lost is sent again, and those who call are served until the life is old. An error is
+/// The threads of a life: its flusher, and a worker for each channel.
+#[derive(Drop)]
+struct Crew<L: Count> {
+    flushing: JoinHandle<()>,
+    workers: Vec<JoinHandle<PacketShare<L>>>,
+}
+
+/// Starts a flusher, and a worker on each channel. Once all of them run, it opens the output, sends
+/// again what may have been lost, and serves those who call until the life is old. An error says
 /// that a thread could not be started: then nothing was printed, and nobody was served.
 pub fn run<
     D: Disk + Send,
@@ -69,27 +78,24 @@ pub fn run<
     callers: C,
     opening: Option<Opening<W>>,
 ) -> Result<Ran<L, C>, ServerFault>
-    requires own { begun.own ≡ [] }
-    requires room { (begun.room.items ≡ []) × (9 ≤ vec_capacity begun.room) }
     ensures { IfOk result (λ ran.
-        HasRun (based_on D.keeps_model D.present L.base L.before) C.met callers ran.callers
-        ran.left ran.shares.items) }
+        HasRun (based_on D.keeps_model D.present L.base L.before) C.met setting.now.life_steps
+        callers ran.callers ran.left ran.shares.items) }
 {
     thread::scope(
         thread::scope_env(),
         setting.rt,
         |scope| -> Result<Ran<L, C>, ServerFault>
-            requires { IsSend D.row × IsSend L.row × IsSync L.row × IsSync R.row ×
-                (begun.own ≡ []) × (begun.room.items ≡ []) × (9 ≤ vec_capacity begun.room) }
+            requires { IsSend D.row × IsSend L.row × IsSync L.row × IsSync R.row }
             ensures { IfOk result (λ ran.
-                HasRun (based_on D.keeps_model D.present L.base L.before) C.met callers
-                ran.callers ran.left ran.shares.items) }
+                HasRun (based_on D.keeps_model D.present L.base L.before) C.met
+                setting.entry.now.life_steps callers ran.callers ran.left ran.shares.items) }
         { run_in(scope, setting, engine, port, begun, callers, opening) },
     )
 }
 
-/// Serves while the threads of a scope run, and ends them in order: first the flusher, so that all
-/// that was accepted is settled and handed out, and then the workers.
+/// Serves while the threads of a scope run, and then ends them in order: the flusher first, so that
+/// all that was accepted is settled and handed out; then the workers.
 fn run_in<
     's,
     'r: 's,
@@ -110,29 +116,58 @@ fn run_in<
     callers: C,
     opening: Option<Opening<W>>,
 ) -> Result<Ran<L, C>, ServerFault>
-    requires own { begun.own ≡ [] }
-    requires room { (begun.room.items ≡ []) × (9 ≤ vec_capacity begun.room) }
     ensures { IfOk result (λ ran.
-        HasRun (based_on D.keeps_model D.present L.base L.before) C.met callers ran.callers
-        ran.left ran.shares.items) }
+        HasRun (based_on D.keeps_model D.present L.base L.before) C.met setting.now.life_steps
+        callers ran.callers ran.left ran.shares.items) }
 {
     let rt = setting.rt;
-    let Begun {
-        own,
-        room,
-        threads,
-        packets,
-    } = begun;
-    let flushing = start_flusher(scope, rt, engine, port);
-    let running = start_workers(scope, setting, engine, packets, threads);
-    let is_whole = flushing.is_some() && running.len() == usize::from(WORKERS);
-    let served = serve_if(is_whole, setting, &*engine, &*port, own, callers, opening);
+    let Begun { own, room, packets } = begun;
+    let Some(crew) = start(scope, setting, engine, port, packets) else {
+        engine.finish(rt);
+        port.hang_up();
+        drop(own);
+        drop(room);
+        drop(callers);
+        drop(opening);
+        return Err(ServerFault::OutOfMemory);
+    };
+    let Crew { flushing, workers } = crew;
+    let Served { own, callers, left } = serve_over(
+        setting, &*engine, &*port, own, callers, opening,
+    );
     engine.finish(rt);
-    if let Some(flushing) = flushing {
-        flushing.join(rt);
-    }
+    flushing.join(rt);
     port.hang_up();
-    ran_of(rt, room, running, served)
+    Ok(Ran {
+        shares: all_joined(rt, room, own, workers),
+        callers,
+        left,
+    })
+}
+
+/// Starts a flusher, and a worker on each channel. None where one of them can't be had.
+fn start<
+    's,
+    'r: 's,
+    'e: 's,
+    'p: 's,
+    E,
+    D: Disk + Send,
+    L: Origin + Send + Sync,
+    P: Port + Sync,
+    R: Wait + Clock + Sync,
+>(
+    scope: &Scope<'s, E>,
+    setting: &Setting<'r, R>,
+    engine: &'e Engine<D, L>,
+    port: &'p P,
+    packets: Vec<Receiver<Packet>>,
+) -> Option<Crew<L>>
+    ensures { IfSome result (λ crew. vec_len crew.workers ≡ vec_len packets) }
+{
+    let flushing = start_flusher(scope, setting.rt, engine, port)?;
+    let workers = start_workers(scope, setting, engine, packets)?;
+    Some(Crew { flushing, workers })
 }
 
 /// Starts a flusher, unless no thread can be had.
@@ -155,26 +190,27 @@ fn start_flusher<
     scope.spawn(move || flusher(rt, engine, port)).ok()
 }
 
-/// Starts a worker on each channel with a share of its own, as far as threads can be had.
+/// Starts a worker on each channel. None where one of them can't be had: the others then end with
+/// the scope.
 fn start_workers<'s, 'r: 's, 'e: 's, E, D: Disk + Send, L: Origin + Send + Sync, R: Wait + Sync>(
     scope: &Scope<'s, E>,
     setting: &Setting<'r, R>,
     engine: &'e Engine<D, L>,
     packets: Vec<Receiver<Packet>>,
-    room: Vec<JoinHandle<PacketShare<L>>>,
-) -> Vec<JoinHandle<PacketShare<L>>> {
-    let mut running = room;
+) -> Option<Vec<JoinHandle<PacketShare<L>>>>
+    ensures { IfSome result (λ running. vec_len running ≡ vec_len packets) }
+{
+    let mut running = Vec::new(setting.alloc);
     for inbox in packets {
-        if let Some(worker) = start_worker(scope, setting, engine, inbox) {
-            if running.push(worker).is_err() {
-                break;
-            }
+        let worker = start_worker(scope, setting, engine, inbox)?;
+        if running.push(worker).is_err() {
+            return None;
         }
     }
-    running
+    Some(running)
 }
 
-/// Starts a worker, unless no thread or no share can be had.
+/// Starts a worker with a share of its own, unless no thread or no share can be had.
 fn start_worker<'s, 'r: 's, 'e: 's, E, D: Disk + Send, L: Origin + Send + Sync, R: Wait + Sync>(
     scope: &Scope<'s, E>,
     setting: &Setting<'r, R>,
@@ -188,32 +224,7 @@ fn start_worker<'s, 'r: 's, 'e: 's, E, D: Disk + Send, L: Origin + Send + Sync, 
         .ok()
 }
 
-/// Serves those who call where all threads run.
-fn serve_if<'a, D: Disk, L: Origin, C: Callers + Drop, W: Write + Drop, R: Wait>(
-    is_whole: bool,
-    setting: &'a Setting<'_, R>,
-    engine: &'a Engine<D, L>,
-    port: &'a LocalPort<&R>,
-    own: Share<L>,
-    callers: C,
-    opening: Option<Opening<W>>,
-) -> Result<Served<L, C>, ServerFault>
-    requires { own ≡ [] }
-    ensures served { IfOk result (λ served. (seen : ℕ) × ServesLife
-        (based_on D.keeps_model D.present L.base L.before) C.met callers served.callers
-        (record { notes = served.own; seen = seen }) served.left) }
-    ensures whole { OnOk result (is_whole ≡ true) }
-{
-    if is_whole {
-        return Ok(serve_over(setting, engine, port, own, callers, opening));
-    }
-    drop(own);
-    drop(callers);
-    drop(opening);
-    Err(ServerFault::OutOfMemory)
-}
-
-/// Serves those who call by a desk with this share.
+/// Opens the output, and serves those who call by a desk with this share.
 fn serve_over<'a, D: Disk, L: Origin, C: Callers, W: Write + Drop, R: Wait>(
     setting: &'a Setting<'_, R>,
     engine: &'a Engine<D, L>,
@@ -224,13 +235,14 @@ fn serve_over<'a, D: Disk, L: Origin, C: Callers, W: Write + Drop, R: Wait>(
 ) -> Served<L, C>
     requires { own ≡ [] }
     ensures { (seen : ℕ) × ServesLife
-        (based_on D.keeps_model D.present L.base L.before) C.met callers result.callers
-        (record { notes = result.own; seen = seen }) result.left }
+        (based_on D.keeps_model D.present L.base L.before) C.met setting.now.life_steps callers
+        result.callers (record { notes = result.own; seen = seen }) result.left }
 {
+    let opened = open(setting.rt, &callers, opening);
     let age = Age::new(setting.rt, engine, setting.life_steps);
     let mut life = LifeCallers::new(callers, &age);
     let mut desk = EngineDesk::new(setting.rt, engine, port, own);
-    let left = serve_clients(setting, opening, &mut life, &mut desk);
+    let left = serve_clients(setting.alloc, opened, &age, &mut life, &mut desk);
     Served {
         own: desk.into_share(),
         callers: life.into_callers(),
@@ -238,7 +250,7 @@ fn serve_over<'a, D: Disk, L: Origin, C: Callers, W: Write + Drop, R: Wait>(
     }
 }
 
-/// Opens the output, where it was not before. Else why not.
+/// Opens the output, where that was not done before; or says why it can't be opened.
 fn open<C: Callers, W: Write + Drop, R: Wait>(
     rt: &R,
     callers: &C,
@@ -252,57 +264,31 @@ fn open<C: Callers, W: Write + Drop, R: Wait>(
     }
 }
 
-/// Opens the output, sends again what may have been lost, and serves those who call. What ended it.
-fn serve_clients<D: Disk, L: Origin, C: Callers, W: Write + Drop, P: Port, R: Wait>(
-    setting: &Setting<'_, R>,
-    opening: Option<Opening<W>>,
+/// Once the output is open, sends again what may have been lost, and serves those who call until
+/// the life is old. What ended it: where the output could not be opened, why.
+fn serve_clients<D: Disk, L: Origin, C: Callers, P: Port, R: Wait>(
+    alloc: Global,
+    opened: Result<(), ServerFault>,
+    age: &Age<'_, D, L, R>,
     life: &mut LifeCallers<'_, C, D, L, R>,
     desk: &mut EngineDesk<'_, D, L, P, R>,
 ) -> Left
-    requires { desk.old ≡ new_desk }
+    requires start { IfErr opened IsOfStart }
+    requires new { desk.old ≡ new_desk }
+    ensures told { IfErr opened (λ fault. result ≡ Left.Ended (Some fault)) }
     ensures served { ServesLife (based_on D.keeps_model D.present L.base L.before) C.met
-        life.old.callers life.new.callers desk.new result }
-    ensures rests { result ≡ Left.Resting → life.new.rests ≡ true }
+        age.now.most life.old.callers life.new.callers desk.new result }
 {
-    if let Err(fault) = open(setting.rt, life, opening) {
+    if let Err(fault) = opened {
         return Left::Ended(Some(fault));
     }
     if desk.resend().is_err() {
         return Left::Ended(Some(ServerFault::OutOfMemory));
     }
-    match serve_connections(setting.alloc, life, desk) {
+    match serve_connections(alloc, life, desk) {
         Ok(()) => Left::Ended(None),
-        Err(_) if life.rests() => Left::Resting,
+        Err(_) if age.is_old() => Left::Resting,
         Err(_) => Left::Ended(Some(ServerFault::Socket)),
-    }
-}
-
-/// What the threads leave, with the shares of all workers. Where nobody was served, why.
-fn ran_of<L: Count, C: Drop, R: Threads + Wait>(
-    rt: &R,
-    room: Vec<Share<L>>,
-    running: Vec<JoinHandle<PacketShare<L>>>,
-    served: Result<Served<L, C>, ServerFault>,
-) -> Result<Ran<L, C>, ServerFault>
-    requires room { (room.items ≡ []) × (9 ≤ vec_capacity room) }
-    requires eight { OnOk served (vec_len running ≡ 8) }
-    ensures ok { OnOk result (IsOk served) }
-    ensures added { IfOk served (λ served. IfOk result (λ ran.
-        AddsWorkers (served.own ∷ []) ran.shares.items × (length ran.shares.items ≡ 9))) }
-    ensures same { IfOk served (λ served. IfOk result (λ ran.
-        (ran.callers ≡ served.callers) × (ran.left ≡ served.left))) }
-{
-    match served {
-        Ok(Served { own, callers, left }) => Ok(Ran {
-            shares: all_joined(rt, room, own, running),
-            callers,
-            left,
-        }),
-        Err(fault) => {
-            drop(room);
-            drop(running);
-            Err(fault)
-        }
     }
 }
 

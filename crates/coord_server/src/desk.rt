@@ -62,7 +62,7 @@ impl<'a, D: Disk, L: Origin, P: Port, R: Wait> EngineDesk<'a, D, L, P, R> {
     }
 }
 
-/// Waits for the reply to a step, for which the flusher is woken first.
+/// Wakes the flusher, and waits for the reply to a step.
 fn collect<D: Disk, L: Origin, R: Wait>(
     rt: &R,
     engine: &Engine<D, L>,

@@ -16,7 +16,8 @@ pub enum ServerFault {
     Device,
     /// A line could not be printed.
     Write,
-    /// The engine was not taken apart. No call of the engine leads there.
+    /// The engine could not be taken apart. That would be a fault of this program: no call of the
+    /// engine leads there.
     NotClosed(CloseFault),
 }
 

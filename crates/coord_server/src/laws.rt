@@ -1,6 +1,7 @@
 //! Laws of the lives of a server, over the definitions alone: functions that do nothing, whose
 //! contracts are the laws.
 
+ghost use Rattle.std.specs.Prelude.{ℕ};
 ghost use Rattle.coord_server.specs.Lives.{ClosedLivesAreOne, LivesAreOne};
 ghost use Rattle.coord_server.specs.Told.{LivesLeaveSteps, RepliesNameSteps};
 
@@ -10,7 +11,7 @@ use coord_disk::Disk;
 /// All lives of a server are one history: one trail from the world of its first store, of which each
 /// step has a number of its own.
 pub fn lives_are_one<D: Disk, C: Callers>()
-    ensures { LivesAreOne D.keeps_model D.present C.met }
+    ensures { (most : ℕ) → LivesAreOne D.keeps_model D.present C.met most }
 {}
 
 /// The same, where a line has closed the last life.
@@ -19,13 +20,15 @@ pub fn closed_lives_are_one<D: Disk>()
 {}
 
 /// An order that is told a reply was noted just then, with the number that it is told, or it repeats
-/// one. What a desk has noted stands in the trail of its life, each note at its number.
+/// one. The log of that life had the step at that number, settled, and answered it with the kind that
+/// it is told, or the base kept that reply for it. What a desk has noted stands in the trail of its
+/// life, each note at its number.
 pub fn replies_name_steps<D: Disk>()
     ensures { RepliesNameSteps D }
 {}
 
-/// Whatever a crash may leave of the disk of a life gives the world after its settled steps, or after
-/// a stop that of those and the next ones, which were in doubt.
+/// Whatever a crash may leave of a life's disk gives the world after the settled steps; after a
+/// stop perhaps the world after the next ones too, which were in doubt.
 pub fn lives_leave_steps<D: Disk>()
     ensures { LivesLeaveSteps D }
 {}

@@ -5,7 +5,7 @@ use crate::ServerFault;
 /// What ended the serving in one life.
 #[derive(Clone, Copy, Debug, PartialEq, Eq, Drop)]
 pub enum Left {
-    /// The life is old, and the next one takes over.
+    /// The life is old; the server goes on with the next one.
     Resting,
     /// The server ends, by a close or by this fault.
     Ended(Option<ServerFault>),

@@ -1,6 +1,6 @@
 //! One life of a server: an engine with its threads, from a store to what is left of it.
 
-ghost use Rattle.std.specs.Prelude.{◌≡◌, ◌≤◌, [], false, length, IfErr, IfOk, None, vec_capacity};
+ghost use Rattle.std.specs.Prelude.{◌≡◌, [], false, length, IfErr, IfOk, None};
 ghost use Rattle.coord_engine.specs.State.{based_on};
 ghost use Rattle.coord_store.specs.Kept.{has_stopped};
 ghost use Rattle.coord_engine.specs.Closing.{IsSince};
@@ -53,8 +53,8 @@ pub fn serve_life<
 ) -> Result<Life<D, C>, ServerFault>
     requires { has_stopped store ≡ false }
     ensures { IfOk result (λ life.
-        IsLife (based_on D.keeps_model D.present store.world []) C.met callers life.callers
-        life.left life.closed.store life.closed.base life.closed.trail.items life.closed.settled) }
+        IsLife (based_on D.keeps_model D.present store.world []) C.met setting.now.life_steps callers
+        life.callers life.left life.closed.store life.closed.base life.closed.trail.items life.closed.settled) }
 {
     match Ledger::adopt(setting.alloc, store) {
         Ok(ledger) => {
@@ -85,8 +85,8 @@ fn serve_ledger<
     requires base { ledger.log.base ≡ L.base }
     requires before { (ledger.log.trail ≡ L.before) × (L.before ≡ []) }
     ensures { IfOk result (λ life.
-        IsLife (based_on D.keeps_model D.present L.base L.before) C.met callers life.callers
-        life.left life.closed.store life.closed.base life.closed.trail.items life.closed.settled) }
+        IsLife (based_on D.keeps_model D.present L.base L.before) C.met setting.now.life_steps callers
+        life.callers life.left life.closed.store life.closed.base life.closed.trail.items life.closed.settled) }
 {
     let engine: Engine<D, L> = Engine::new(setting.alloc, blank, ledger);
     match begin(setting, &engine, port) {
@@ -107,10 +107,7 @@ fn begin<D: Disk, L: Origin, R: Wait>(
     engine: &Engine<D, L>,
     port: &LocalPort<&R>,
 ) -> Result<Begun<L>, ServerFault>
-    ensures own { IfOk result (λ begun. begun.own ≡ []) }
-    ensures room { IfOk result (λ begun. (begun.room.items ≡ []) × (9 ≤ vec_capacity begun.room)) }
-    ensures packets { IfOk result (λ begun. length begun.packets.items ≡ 8) }
-    ensures fault { IfErr result (λ fault. fault ≡ ServerFault.OutOfMemory) }
+    ensures { IfErr result (λ fault. fault ≡ ServerFault.OutOfMemory) }
 {
     let Some(own) = engine.share(setting.rt) else {
         return Err(ServerFault::OutOfMemory);
@@ -118,28 +115,19 @@ fn begin<D: Disk, L: Origin, R: Wait>(
     Ok(begun_with(setting.alloc, port, own)?)
 }
 
-/// What a life begins with whose desk has this share. What the port carries from now on comes to
-/// its workers.
+/// What a life begins with, whose desk has this share. From now on the port carries packets to the
+/// workers of this life.
 fn begun_with<L: Origin, R: Wait>(
     alloc: Global,
     port: &LocalPort<&R>,
     own: Share<L>,
 ) -> Result<Begun<L>, AllocError>
-    ensures own { IfOk result (λ begun. begun.own ≡ own) }
-    ensures room { IfOk result (λ begun. (begun.room.items ≡ []) × (9 ≤ vec_capacity begun.room)) }
-    ensures packets { IfOk result (λ begun. length begun.packets.items ≡ 8) }
+    requires { own ≡ [] }
 {
-    let workers = usize::from(WORKERS);
-    let room = Vec::with_capacity(alloc, workers + 1)?;
-    let threads = Vec::with_capacity(alloc, workers)?;
+    let room = Vec::with_capacity(alloc, usize::from(WORKERS) + 1)?;
     let (to, packets) = channels(alloc)?;
     port.connect(to);
-    Ok(Begun {
-        own,
-        room,
-        threads,
-        packets,
-    })
+    Ok(Begun { own, room, packets })
 }
 
 /// Runs the threads of a life, and takes its engine apart.
@@ -159,11 +147,9 @@ fn live_and_close<
 ) -> Result<Life<D, C>, ServerFault>
     requires parts { L.parts ≡ 65536 }
     requires before { L.before ≡ [] }
-    requires own { begun.own ≡ [] }
-    requires room { (begun.room.items ≡ []) × (9 ≤ vec_capacity begun.room) }
     ensures { IfOk result (λ life.
-        IsLife (based_on D.keeps_model D.present L.base L.before) C.met callers life.callers
-        life.left life.closed.store life.closed.base life.closed.trail.items life.closed.settled) }
+        IsLife (based_on D.keeps_model D.present L.base L.before) C.met setting.now.life_steps callers
+        life.callers life.left life.closed.store life.closed.base life.closed.trail.items life.closed.settled) }
 {
     match run(setting, &engine, port, begun, callers, opening) {
         Ok(ran) => closed_life(engine, ran),

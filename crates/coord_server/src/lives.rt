@@ -1,6 +1,6 @@
 //! The lives of a server, one after the other.
 
-ghost use Rattle.std.specs.Prelude.{◌≡◌, ◌+◌, false, true, length, IfErr, IfOk};
+ghost use Rattle.std.specs.Prelude.{◌≡◌, ◌+◌, false, true, is_some, length, IfErr, IfOk, OnOk};
 ghost use Rattle.std.specs.Thread.{IsSend, IsSync};
 ghost use Rattle.coord_store.specs.Kept.{has_stopped};
 ghost use Rattle.coord_server.specs.declared.left.Left.TheVariants as LeftAs;
@@ -52,7 +52,7 @@ pub fn serve_lives<
 ) -> Result<Ended<D, C>, ServerFault>
     requires { has_stopped store ≡ false }
     ensures lives { IfOk result (λ ended.
-        HasLived D.keeps_model D.present C.met store.world callers ended.callers ended.served
+        HasLived D.keeps_model D.present C.met most store.world callers ended.callers ended.served
         ended.closed.store ended.closed.base ended.closed.trail.items ended.closed.settled) }
     ensures whole { IfOk result (λ ended.
         EndsOneHistory store.world ended.closed.store ended.closed.base ended.closed.trail.items
@@ -87,7 +87,7 @@ fn serve_and_print<
 ) -> Result<Ended<D, C>, ServerFault>
     requires { has_stopped store ≡ false }
     ensures { IfOk result (λ ended.
-        HasLived D.keeps_model D.present C.met store.world callers ended.callers ended.served
+        HasLived D.keeps_model D.present C.met setting.now.life_steps store.world callers ended.callers ended.served
         ended.closed.store ended.closed.base ended.closed.trail.items ended.closed.settled) }
 {
     let Outlet {
@@ -102,7 +102,7 @@ fn serve_and_print<
         |scope| -> Result<Ended<D, C>, ServerFault>
             requires { IsSend D.row × IsSend W.row × IsSync R.row × (has_stopped store ≡ false) }
             ensures { IfOk result (λ ended.
-                HasLived D.keeps_model D.present C.met store.world callers ended.callers
+                HasLived D.keeps_model D.present C.met setting.entry.now.life_steps store.world callers ended.callers
                 ended.served ended.closed.store ended.closed.base ended.closed.trail.items
                 ended.closed.settled) }
         {
@@ -138,8 +138,9 @@ fn print_and_live<
     printing: Option<JoinHandle<bool>>,
 ) -> Result<Ended<D, C>, ServerFault>
     requires { has_stopped store ≡ false }
-    ensures { IfOk result (λ ended.
-        HasLived D.keeps_model D.present C.met store.world callers ended.callers ended.served
+    ensures printed { OnOk result (is_some printing ≡ true) }
+    ensures lived { IfOk result (λ ended.
+        HasLived D.keeps_model D.present C.met setting.now.life_steps store.world callers ended.callers ended.served
         ended.closed.store ended.closed.base ended.closed.trail.items ended.closed.settled) }
 {
     let Some(printing) = printing else {
@@ -167,7 +168,7 @@ fn live<D: Disk + Send, C: Callers + Drop, W: Write + Drop, R: Threads + Wait + 
 ) -> Result<Ended<D, C>, ServerFault>
     requires { has_stopped store ≡ false }
     ensures { IfOk result (λ ended.
-        HasLived D.keeps_model D.present C.met store.world callers ended.callers ended.served
+        HasLived D.keeps_model D.present C.met setting.now.life_steps store.world callers ended.callers ended.served
         ended.closed.store ended.closed.base ended.closed.trail.items ended.closed.settled) }
 {
     let mut store = store;

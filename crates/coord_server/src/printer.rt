@@ -49,9 +49,9 @@ impl<W: Write> Printer<W> {
         self.is_broken
     }
 
-    /// Prints that a reset has ended at a node, with the epoch that began, and answers whether the
-    /// line was written. If it was not and later lines are, there was no memory for it, and no part
-    /// of it was written.
+    /// Prints `signal N EPOCH`: a reset has ended at node N. Answers whether the line was written.
+    /// If it was not and later lines are, there was no memory for it, and no part of it was
+    /// written.
     pub fn print_signal(&mut self, node: NodeId, epoch: u64) -> bool
         ensures written { result ≡ true →
             Appends (W.contents self.old.output) (W.contents self.new.output)

@@ -34,7 +34,7 @@ pub fn print_signals<W: Write, I: Iterator<Item = Signal>>(
     printer
 }
 
-/// What prints, until the first line is printed: then it is handed to the thread that prints signals.
+/// What prints, until the first line is printed; then the thread that prints signals gets it.
 #[derive(Drop)]
 pub struct Opening<W: Write + Drop> {
     printer: Printer<W>,
@@ -42,7 +42,8 @@ pub struct Opening<W: Write + Drop> {
 }
 
 impl<W: Write + Drop> Opening<W> {
-    /// Says where they call, and has the signals printed behind it. Else why not.
+    /// Prints the address at which the server listens, and has signals printed behind it; or says
+    /// why that line was not printed.
     pub fn open<C: Callers, R: Wait>(self, rt: &R, callers: &C) -> Result<(), ServerFault>
         ensures { IfErr result IsOfStart }
     {
@@ -56,7 +57,7 @@ impl<W: Write + Drop> Opening<W> {
     }
 }
 
-/// Says where they call. Else why not.
+/// Prints the address at which the server listens; or says why it was not printed.
 #[tactic(auto, using(crate::proofs::Starts::printing_is_of_start))]
 fn print_listening<C: Callers, W: Write>(
     callers: &C,

@@ -2,7 +2,7 @@
 
 ghost use Rattle.std.specs.Prelude.{◌≡◌, ◌*◌, ◌⊎◌, ◌||◌, false, true};
 ghost use Rattle.coord_engine.specs.State.{based_on};
-ghost use Rattle.coord_server.specs.Ending.{HasKept};
+ghost use Rattle.coord_server.specs.Ending.{HasKept, HasKeptFewer};
 
 use crate::age::Age;
 use coord_admin::{Callers, Duplex, NotRead, NotWritten};
@@ -18,39 +18,22 @@ use std::sync::Wait;
 pub struct LifeCallers<'a, C, D: Disk, L: Origin, R: Wait> {
     callers: C,
     age: &'a Age<'a, D, L, R>,
-    rests: bool,
 }
 
 impl<'a, C: Callers, D: Disk, L: Origin, R: Wait> LifeCallers<'a, C, D, L, R> {
     /// None has called in this life.
     pub fn new(callers: C, age: &'a Age<'a, D, L, R>) -> Self
         ensures callers { result.callers ≡ callers }
-        ensures begins { result.rests ≡ false }
         ensures age { result.age.now ≡ age.now }
     {
-        LifeCallers {
-            callers,
-            age,
-            rests: false,
-        }
-    }
-
-    /// Whether the life is old, so that no one is served any more.
-    pub fn rests(&self) -> bool
-        ensures { result ≡ self.now.rests }
-    {
-        self.rests
+        LifeCallers { callers, age }
     }
 
     /// Those who call.
     pub fn into_callers(self) -> C
         ensures { result ≡ self.entry.callers }
     {
-        let LifeCallers {
-            callers,
-            age: _,
-            rests: _,
-        } = self;
+        let LifeCallers { callers, age: _ } = self;
         callers
     }
 }
@@ -60,14 +43,17 @@ impl<'a, C: Callers, D: Disk, L: Origin, R: Wait> Callers for LifeCallers<'a, C,
 
     ghost met = { λ a talks b. C.met a.callers talks b.callers };
 
-    ghost begins = { λ line. C.begins line.line };
+    // One is served only while the life is young.
+    ghost begins = { λ line. C.begins line.line ×
+        HasKeptFewer (based_on D.keeps_model D.present L.base L.before) line.age.now.most };
 
-    // It rests, since the life is old, or the next one was waited for.
-    ghost failed = { λ a b. ((b.rests ≡ true) ×
-        HasKept (based_on D.keeps_model D.present L.base L.before) b.age.now.most)
+    // The life is old, or the next one was waited for.
+    ghost failed = { λ a b.
+        HasKept (based_on D.keeps_model D.present L.base L.before) b.age.now.most
         ⊎ C.failed a.callers b.callers };
 
-    // A client whose connection was cut is let read the last answer first, as one that has closed.
+    // The client of a connection that was cut is given time to read its last answer, as behind a
+    // close.
     ghost ended = { λ a line has_closed b.
         C.ended a.callers line.line (has_closed || line.is_cut) b.callers };
 
@@ -77,7 +63,6 @@ impl<'a, C: Callers, D: Disk, L: Origin, R: Wait> Callers for LifeCallers<'a, C,
 
     fn next(&mut self) -> io::Result<LifeLine<'a, C::Line, D, L, R>> {
         if self.age.is_old() {
-            self.rests = true;
             return Err(ErrorKind::TimedOut.into());
         }
         Ok(LifeLine {
@@ -116,10 +101,11 @@ impl<'a, N: Duplex, D: Disk, L: Origin, R: Wait> Duplex for LifeLine<'a, N, D, L
 
     ghost has_ended = { λ a. N.has_ended a.line };
 
-    // It is cut, since the life is too old, or the connection was asked.
+    // It is cut, since the life is too old, or the life is not and the connection was asked.
     ghost asked = { λ a is_within_line b. ((b.is_cut ≡ true) ×
         HasKept (based_on D.keeps_model D.present L.base L.before) (2 * b.age.now.most))
-        ⊎ N.asked a.line is_within_line b.line };
+        ⊎ (N.asked a.line is_within_line b.line ×
+        HasKeptFewer (based_on D.keeps_model D.present L.base L.before) (2 * b.age.now.most)) };
 
     fn receive(&mut self, buffer: &mut [u8], is_within_line: bool) -> Result<usize, NotRead> {
         if self.age.is_too_old() {
@@ -127,6 +113,10 @@ impl<'a, N: Duplex, D: Disk, L: Origin, R: Wait> Duplex for LifeLine<'a, N, D, L
             return Err(NotRead);
         }
         self.line.receive(buffer, is_within_line)
+    }
+
+    fn has_more(&self) -> bool {
+        self.line.has_more()
     }
 
     fn reply(&mut self, text: &[u8]) -> Result<(), NotWritten> {

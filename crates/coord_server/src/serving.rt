@@ -6,7 +6,7 @@ ghost use Rattle.coord_disk.specs.Model.Present.{IsImage};
 ghost use Rattle.coord_store.specs.Kept.{ImagesGive, has_stopped};
 ghost use Rattle.coord_store.specs.Recovered.{Recovered};
 ghost use Rattle.coord_server.specs.Ending.{fault_at_end};
-ghost use Rattle.coord_server.specs.Lives.{EndsOneHistory, HasLived, HasLivedToClose};
+ghost use Rattle.coord_server.specs.Lives.{EndsOneHistory, HasLived, HasLivedToClose, life_steps};
 
 use crate::lives::serve_lives;
 use crate::{Ended, ServerFault};
@@ -115,7 +115,7 @@ pub fn serve_callers<
 >(rt: &R, alloc: Global, store: Store<D>, callers: C, output: W) -> Result<Ended<D, C>, ServerFault>
     requires { has_stopped store ≡ false }
     ensures lives { IfOk result (λ ended.
-        HasLived D.keeps_model D.present C.met store.world callers ended.callers ended.served
+        HasLived D.keeps_model D.present C.met life_steps store.world callers ended.callers ended.served
         ended.closed.store ended.closed.base ended.closed.trail.items ended.closed.settled) }
     ensures whole { IfOk result (λ ended.
         EndsOneHistory store.world ended.closed.store ended.closed.base ended.closed.trail.items

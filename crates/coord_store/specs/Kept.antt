@@ -8,9 +8,8 @@ use Rattle.coord_journal.specs.declared.journal.Journal.{Journal}
 use Rattle.coord_world.specs.Facade.{Legal, World, no_world, rows_of}
 use Rattle.coord_store.specs.Recovered.{Gives, Recovered}
 
--- its disk, its world, and the world that a torn commit was to make. After a fault inside a checkpoint that is there too,
--- though then only the old world can be on the disk. After a fault inside a checkpoint that is there too,
--- though then only the old world can be on the disk
+-- Its disk, its world, and the world that a torn commit was to make. After a fault inside a
+-- checkpoint `torn` has that world too, though only the old world can be on the disk then.
 pub record Kept (D : Type 0) : Type 0 where
   pub disk : D
   pub world : World
@@ -24,7 +23,8 @@ has_stopped kept = is_some kept.torn
 abbrev pub GivesEither : World → World → List ℕ → Type 0
 GivesEither v w bytes = Recovered bytes v ⊎ Recovered bytes w
 
--- these bytes give the store's world, or after a torn commit perhaps the one that it was to make
+-- These bytes give the store's world; after a torn commit perhaps the one that the commit was to
+-- make.
 abbrev pub GivesKept : {D : Type 0} → Kept D → List ℕ → Type 0
 GivesKept kept bytes = Recovered bytes kept.world ⊎ ((w : World) × (kept.torn ≡ Some w) × Recovered bytes w)
 
@@ -53,7 +53,8 @@ IsOnlyWorld w bytes = Recovered bytes w
 abbrev pub made : ℕ → ℕ → Present
 made half_size version = whole (formatted half_size version ((world version).text (rows_of (no_world version))))
 
--- a call has left the disk as it was, and at each moment of it a crash left nothing that it could not have left before
+-- A call leaves the disk as it was, and a crash at any moment of it leaves nothing that it could
+-- not have left before.
 pub record IsUntouched {D : Type 0} (present : D → Present) (clock : D → ℕ) (left_since : D → ℕ → List ℕ → Type 0) (old new : D) : Type 0 where
   pub same : present new ≡ present old
   pub any_moment : LeavesOnly clock left_since old new (IsImage (present old))

@@ -22,7 +22,8 @@ pub record IsQuiet (w : World) : Type 0 where
   pub first : w.version ≡ 1
   pub ready : AllReady w
 
--- why the store of a world is not raised: only a quiet one asks for memory and for the device
+-- Why a store of this world is not raised to version 2. Only where the world is quiet can memory or
+-- the device fail it.
 abbrev pub RefusesMigration : World → StoreFault → Type 0
 RefusesMigration w OutOfMemory = IsQuiet w
 RefusesMigration w Device = IsQuiet w

@@ -9,7 +9,7 @@ use Rattle.coord_store.specs.Recovered.{AllFresh, HasSnapshot, IsBody, Replays}
 use Rattle.coord_store.specs.declared.faults.StoreFault.{StoreFault}
 use Rattle.coord_store.specs.declared.faults.StoreFault.TheVariants.{OutOfMemory, Device, NotEmpty, HalfSize, NoMagic, BadRecord, BadSnapshot, BadBatch, BadStep, Violated, NotQuiet, Stopped}
 
--- the world takes so many of the steps, and not the next one
+-- The world takes the first `index` of the steps, and not the one behind them.
 pub record StopsAt (w : World) (steps : List Step) (index : ℕ) : Type 0 where
   pub front : List Step
   pub refused : Step
@@ -25,7 +25,7 @@ RefusesBatch w n body BadBatch = (steps : List Step) → IsBody w body steps →
 RefusesBatch w n body (BadStep batch index) = (batch ≡ n) × ((steps : List Step) × IsBody w body steps × StopsAt w steps index)
 RefusesBatch w n body fault = ⊥
 
--- the batches in front of this one, so many, lead from one world to another
+-- The first n batches lead from one world to another, and this body is the batch behind them.
 pub record Reaches (start : World) (bodies : List (List ℕ)) (n : ℕ) (body : List ℕ) (w : World) : Type 0 where
   pub front : List (List ℕ)
   pub rest : List (List ℕ)
@@ -61,7 +61,8 @@ RefusesContent content fault = RefusesSnapshot content fault
 abbrev pub RefusesText : List ℕ → StoreFault → Type 0
 RefusesText bytes fault = (content : Content) × IsText content bytes × RefusesContent content fault
 
--- a device of these bytes is refused so, where it is to be opened: by its journal, or for what the journal holds; memory and the device may fail anywhere
+-- Opening a device of these bytes is refused with this fault: by its journal, or for what the
+-- journal holds. Memory and the device may fail at any time.
 abbrev pub RefusesOpen : List ℕ → StoreFault → Type 0
 RefusesOpen bytes OutOfMemory = Unit {0}
 RefusesOpen bytes Device = Unit {0}
@@ -69,7 +70,7 @@ RefusesOpen bytes NoMagic = JournalRefuses bytes journal.NoMagic
 RefusesOpen bytes BadRecord = JournalRefuses bytes journal.BadRecord
 RefusesOpen bytes fault = RefusesText bytes fault
 
--- a device of these bytes is refused so, where a store with halves of this size is to be made on it
+-- Making a store on a device of these bytes, with halves of this size, is refused with this fault.
 abbrev pub RefusesCreate : List ℕ → ℕ → StoreFault → Type 0
 RefusesCreate bytes half_size OutOfMemory = Unit {0}
 RefusesCreate bytes half_size Device = Unit {0}
@@ -89,7 +90,8 @@ IsOpenFault (NotQuiet node) = ⊥
 IsOpenFault Stopped = ⊥
 IsOpenFault fault = Unit {0}
 
--- and those of a creation; the last two come of a device that does not give back what was written
+-- The faults that a creation may answer. The last two come of a device that gives back other bytes
+-- than were written.
 abbrev pub IsCreateFault : StoreFault → Type 0
 IsCreateFault OutOfMemory = Unit {0}
 IsCreateFault Device = Unit {0}

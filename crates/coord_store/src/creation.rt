@@ -37,12 +37,13 @@ fn first_snapshot(alloc: Global, version: Version) -> Result<Vec<u8>, AllocError
 }
 
 impl<D: Disk> Store<D> {
-    /// Makes a store of the world before any step, on an empty device: it formats the device and then
-    /// opens it, by at most six calls.
+    /// Makes a store on an empty device, by at most six calls of it: formats the device and opens
+    /// it. The store's world is the one before any step.
     ///
-    /// A half has `half_size` bytes, from 32,768 to 16,777,216. The version of the world is 1 or 2. A
-    /// refusal hands the disk back: after `Device` its bytes are open, and `OutOfMemory` may leave the store
-    /// made. A device that does not give back what was written may be refused as `NoMagic` or `BadRecord`.
+    /// A half has `half_size` bytes, from 32,768 to 16,777,216. The version of the world is 1 or 2.
+    /// A refusal hands the disk back. After `Device` nothing is promised of its bytes;
+    /// `OutOfMemory` may leave the store made. A device that gives back other bytes than were
+    /// written may be refused as `NoMagic` or `BadRecord`.
     pub fn create(
         alloc: Global,
         mut disk: D,
@@ -61,7 +62,7 @@ impl<D: Disk> Store<D> {
             IfErr result (λ refused. RefusesCreate (D.present disk).read half_size refused.0) }
         ensures named { IfErr result (λ refused. IsCreateFault refused.0) }
 
-        // What a refusal leaves, the device's own faults aside.
+        // What a refusal leaves, where the device itself did not fail.
         ensures unchanged { D.keeps_model disk ≡ true →
             IfErr result (λ refused. (refused.0 ≡ NotEmpty) ⊎ (refused.0 ≡ HalfSize) →
             IsUntouched D.present D.clock D.left_since disk refused.1) }

@@ -30,12 +30,12 @@ pub enum StoreFault {
     BadSnapshot,
     /// A batch spells no steps, or its first number is not the next one.
     BadBatch,
-    /// A step is not fresh. Both are counted from 0.
+    /// The world does not take a step of this batch as a fresh one. Both are counted from 0.
     BadStep { batch: usize, index: usize },
     /// The world of the snapshot is not legal.
     Violated(Violation),
-    /// This node, and none with a lesser number, is in a reset, so the store is not raised to version 2.
-    /// `migrate` alone answers this, and `Stopped`.
+    /// This node is in a reset, and none with a lesser number is: so the store is not raised to
+    /// version 2. Only `migrate` answers this fault and `Stopped`.
     NotQuiet(NodeId),
     /// The device has failed before.
     Stopped,
@@ -105,8 +105,7 @@ pub enum CommitFault {
     Full,
     /// The device has failed before.
     Stopped,
-    /// The steps were committed before. A store does not answer this itself: whoever holds steps
-    /// for it does.
+    /// The steps were committed before. Only a flight of a ledger answers this, never a store.
     Again,
 }
 

@@ -10,7 +10,7 @@ pub fn recovered_is_one()
     ensures { RecoveredIsOne }
 {}
 
-/// Bytes that give a world are refused only for want of memory or a failure of the device.
+/// A device whose bytes give a world is refused only for want of memory, or where it fails.
 pub fn recovered_is_opened()
     ensures { RecoveredIsOpened }
 {}

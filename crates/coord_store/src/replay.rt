@@ -32,7 +32,8 @@ fn read_next(alloc: Global, world: &World, body: &[u8]) -> Result<Batch, StoreFa
     Ok(batch)
 }
 
-/// Takes a batch with this number. The settled world follows: what one batch takes is settled for the next one.
+/// Takes the steps of a batch, and then settles them: for the next batch the settled world is this
+/// one.
 fn replay_batch(
     alloc: Global,
     world: &mut World,
@@ -55,7 +56,7 @@ fn replay_batch(
     Ok(())
 }
 
-/// The world to which batches lead from a legal one.
+/// The world that batches lead to, one after the other, from a legal world.
 pub fn replay(alloc: Global, start: World, batches: &[Vec<u8>]) -> Result<World, StoreFault>
     requires { Legal start }
     ensures led { IfOk result (Replays start (bodies batches.now)) }

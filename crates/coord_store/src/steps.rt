@@ -16,9 +16,9 @@ use coord_types::Step;
 use coord_world::{Verdict, World};
 use std::alloc::AllocError;
 
-/// Takes steps, each of them fresh, with the world from before them all as the settled one. It is
-/// public, since a ledger makes the world after a flight so where it can't take its front world. It is
-/// public, since a ledger makes the world after a flight so where it can't take its front world.
+/// Takes steps, each of them fresh; the world from before them all is the settled one. It is
+/// public, since a ledger makes the world after a flight this way where it can't take its front
+/// world.
 pub fn take_all(world: &mut World, steps: &[Step]) -> Result<(), AllocError>
     requires legal { Legal world.old }
     requires fresh { AllFresh world.old world.old steps.now }

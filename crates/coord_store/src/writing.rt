@@ -1,5 +1,5 @@
-//! How a commit writes: the batch is appended, and where its body does not fit, the world from
-//! before it is put in place of all that the journal holds first.
+//! How a commit writes: it appends the batch. Where the body of the batch does not fit, it first
+//! puts the world from before it in place of all that the journal holds.
 
 ghost use Rattle.std.specs.Prelude.{◌≡◌, ◌≢◌, ◌⊎◌, ◌+◌, ◌≤◌, true, false, List, length, OnOk, IfErr, IsErrOf};
 ghost use Rattle.coord_disk.specs.Model.Moments.{LeavesOnly};

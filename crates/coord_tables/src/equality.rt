@@ -6,7 +6,7 @@ use coord_link::Lane;
 use coord_node::Node;
 use coord_types::{Client, Msg, NodeId, Session};
 
-/// Values whose comparison is exact: it holds where contracts see equal values.
+/// Values with an exact comparison: it says yes just where contracts see equal values.
 pub trait Same {
     fn is_same(&self, other: &Self) -> bool
         ensures { IsTrue result ↔ (self.now ≡ other.now) };
@@ -50,7 +50,7 @@ fn is_same_member(a: &Node, b: &Node) -> bool
     a.version() == b.version() && a.group() == b.group() && a.neighbours() == b.neighbours()
 }
 
-/// Whether two nodes stand at the same place of a reset.
+/// Whether two nodes are alike in a reset: mode, parent, awaited neighbours and distance.
 fn is_same_stand(a: &Node, b: &Node) -> bool
     ensures { IsTrue result ↔ ((a.now.mode ≡ b.now.mode) × (a.now.parent ≡ b.now.parent) ×
         (a.now.pend ≡ b.now.pend) × (a.now.distance ≡ b.now.distance)) }

@@ -14,8 +14,9 @@ use coord_types::NodeId;
 use std::alloc::{AllocError, Global};
 use std::marker::Model;
 
-/// The lanes by their ends: from, then to. A table of places says where each of them stands, so
-/// that none is searched for. Contracts see a table.
+/// The lanes of a world, ordered by the node that each comes from and then by the one that it goes
+/// to. A table of places says where each stands, so that none is searched for. Contracts see a
+/// table.
 #[derive(Drop, Debug)]
 pub struct LaneTable {
     lanes: Vec<((NodeId, NodeId), Lane)>,

@@ -276,6 +276,77 @@ fn replies_that_are_not_read(rt: HostRuntime) {
     assert!(rt; is_given_up(&rt, rt.alloc()));
 }
 
+/// Whether a line that begins behind another one has a time of its own, though nothing was replied.
+fn has_its_own_time<R: Net<Stream = TcpStream, Listener = TcpListener> + Clock + Abort>(
+    rt: &R,
+) -> bool {
+    let mut patience = Patience::usual();
+    patience.line = Duration::from_millis(100);
+    let (listener, address) = listens(rt);
+    let mut client = TcpStream::connect(rt, address).expect(rt, "no connection");
+    client.write_all(b"123").expect(rt, "not sent");
+    let (stream, _) = listener.accept().expect(rt, "nobody");
+    let mut line = TimedStream::new(rt, stream, patience).expect(rt, "no time");
+    let mut byte = [0];
+    let first = line.receive(&mut byte, true);
+    thread::sleep(rt, Duration::from_millis(150));
+    let between = line.receive(&mut byte, false);
+    let next = line.receive(&mut byte, true);
+    drop(client);
+    drop(line);
+    drop(listener);
+    first == Ok(1) && between == Ok(1) && next == Ok(1)
+}
+
+#[test]
+fn a_line_behind_another(rt: HostRuntime) {
+    assert!(rt; has_its_own_time(&rt));
+}
+
+/// Whether something comes in, within some seconds.
+fn comes<L: Duplex, R: Clock>(rt: &R, line: &L) -> bool {
+    for _ in 0..5_000 {
+        if line.has_more() {
+            return true;
+        }
+        thread::sleep(rt, Duration::from_millis(1));
+    }
+    false
+}
+
+/// Whether a stream says that more is there just where it is, and waits again behind that.
+fn says_what_is_there<R: Net<Stream = TcpStream, Listener = TcpListener> + Clock + Abort>(
+    rt: &R,
+) -> bool {
+    let mut patience = Patience::usual();
+    patience.silence = Duration::from_millis(50);
+    let (listener, address) = listens(rt);
+    let mut client = TcpStream::connect(rt, address).expect(rt, "no connection");
+    let (stream, _) = listener.accept().expect(rt, "nobody");
+    let mut line = TimedStream::new(rt, stream, patience).expect(rt, "no time");
+    let mut byte = [0];
+    let before = line.has_more();
+    client.write_all(b"1").expect(rt, "not sent");
+    let has_come = comes(rt, &line);
+    let taken = line.receive(&mut byte, false);
+    let behind = line.has_more();
+    let start = Instant::now(rt).expect(rt, "no time");
+    let none = line.receive(&mut byte, false);
+    let waited = start.elapsed(rt).expect(rt, "no time");
+    drop(client);
+    drop(line);
+    drop(listener);
+    (before, has_come, behind) == (false, true, false)
+        && taken == Ok(1)
+        && none.is_err()
+        && waited >= Duration::from_millis(40)
+}
+
+#[test]
+fn what_is_there_already(rt: HostRuntime) {
+    assert!(rt; says_what_is_there(&rt));
+}
+
 /// Sends a close and a thousand lines behind it, and reads only then. Whether it reads the answer
 /// alone.
 fn reads_its_answer<R: Net<Stream = TcpStream, Listener = TcpListener> + Abort>(

@@ -2,13 +2,18 @@
 
 ghost use Rattle.std.specs.Prelude.{⊤};
 
-use coord_admin::{CountDesk, Desk, Duplex, Ended, NotRead, NotWritten, ServeFault, serve};
+use coord_admin::{
+    CountDesk, Desk, Duplex, Ended, NotRead, NotWritten, Patience, ServeFault, TimedStream, serve,
+};
 use coord_types::{Client, Command, Kind, Refusal, Reply};
 use coord_view::View;
 use std::alloc::{AllocError, Global};
-use std::io::Read;
-use std::str;
+use std::io::{Read, Write};
+use std::net::{Net, Shutdown, TcpListener, TcpStream};
+use std::process::Abort;
 use std::test::Fail;
+use std::time::{Clock, Duration};
+use std::{str, thread};
 
 const ORDER: &str = "{\"op\":\"reset\",\"client\":1,\"number\":1,\"node\":1}\n";
 
@@ -93,11 +98,13 @@ impl Desk for Told {
     ghost stays_apart = { λ a _ _ _ _ _ _ _ _. (a, tt, tt) };
 }
 
-/// Gives so many bytes at a time, keeps what is written, and has room for so much.
+/// Gives so many bytes at a time, may say whether there are more, keeps what is written, and has room
+/// for so much.
 #[derive(Drop)]
 struct Pieces<'a> {
     left: &'a [u8],
     size: usize,
+    says_more: bool,
     written: Vec<u8>,
     room: usize,
     writes: u64,
@@ -108,6 +115,7 @@ impl<'a> Pieces<'a> {
         Pieces {
             left: lines.as_bytes(),
             size,
+            says_more: true,
             written: Vec::new(alloc),
             room: usize::MAX,
             writes: 0,
@@ -126,6 +134,10 @@ impl Duplex for Pieces<'_> {
             Ok(count) => Ok(count),
             Err(_) => Err(NotRead),
         }
+    }
+
+    fn has_more(&self) -> bool {
+        self.says_more && !self.left.is_empty()
     }
 
     fn reply(&mut self, text: &[u8]) -> Result<(), NotWritten> {
@@ -193,10 +205,15 @@ const MIXED_REPLIES: &str = "{\"kind\":\"done\",\"step\":1}
 ";
 
 /// What the desk is told of these lines, in pieces of this size, if they get their replies.
-fn told_of_mixed(alloc: Global, size: usize) -> Result<Option<String>, AllocError> {
+fn told_of_mixed(
+    alloc: Global,
+    size: usize,
+    says_more: bool,
+) -> Result<Option<String>, AllocError> {
     let mut lines = String::new(alloc);
     let pushed = push_mixed(&mut lines);
     let mut pieces = Pieces::new(alloc, &lines, size);
+    pieces.says_more = says_more;
     let mut desk = Told::new(alloc);
     let ended = serve_pieces(alloc, &mut pieces, &mut desk);
     let is_replied = pieces.written.as_slice() == MIXED_REPLIES.as_bytes();
@@ -218,9 +235,17 @@ fn told_of_mixed(alloc: Global, size: usize) -> Result<Option<String>, AllocErro
     Ok(None)
 }
 
+/// What the desk is told of them where the orders that come one behind the other are posted together.
+const POSTED_TOGETHER: &str = "ppprrrspprrprc";
+
 /// Whether the desk was told this of the lines, in pieces of this size.
-fn is_told_so(alloc: Global, size: usize, letters: &str) -> Result<bool, AllocError> {
-    match told_of_mixed(alloc, size)? {
+fn is_told_so(
+    alloc: Global,
+    size: usize,
+    says_more: bool,
+    letters: &str,
+) -> Result<bool, AllocError> {
+    match told_of_mixed(alloc, size, says_more)? {
         Some(told) => {
             let is_so = told.as_str() == letters;
             drop(told);
@@ -234,15 +259,33 @@ fn is_told_so(alloc: Global, size: usize, letters: &str) -> Result<bool, AllocEr
 /// answered before them; what comes alone is answered alone.
 #[test]
 fn what_comes_together_is_posted_together(rt: HostRuntime) -> Result<(), Fail> {
-    assert!(rt; is_told_so(rt.alloc(), 2_048, "ppprrrspprrprc")?);
-    assert!(rt; is_told_so(rt.alloc(), 1, "prprprsprprprc")?);
+    assert!(rt; is_told_so(rt.alloc(), 512, false, POSTED_TOGETHER)?);
+    assert!(rt; is_told_so(rt.alloc(), 1, false, "prprprsprprprc")?);
+    Ok(())
+}
+
+/// Whether the desk is told the same of the lines in pieces of each size, where it is said that more
+/// is there.
+fn are_posted_together(alloc: Global) -> Result<bool, AllocError> {
+    for size in 1..600 {
+        if !is_told_so(alloc, size, true, POSTED_TOGETHER)? {
+            return Ok(false);
+        }
+    }
+    Ok(true)
+}
+
+/// However the lines are cut, orders that are there already are posted together.
+#[test]
+fn what_is_there_is_posted_together(rt: HostRuntime) -> Result<(), Fail> {
+    assert!(rt; are_posted_together(rt.alloc())?);
     Ok(())
 }
 
 /// Whether the lines get the same replies in pieces of each size.
 fn are_same_in_pieces(alloc: Global) -> Result<bool, AllocError> {
     for size in 1..600 {
-        match told_of_mixed(alloc, size)? {
+        match told_of_mixed(alloc, size, false)? {
             Some(told) => drop(told),
             None => return Ok(false),
         }
@@ -281,7 +324,7 @@ fn counted(desk: &mut CountDesk) -> u64 {
 
 /// Serves lines that come at once, where there is room for so many bytes of replies.
 fn written(alloc: Global, lines: &str, room: usize, replies: &[u8]) -> Outcome {
-    let mut pieces = Pieces::new(alloc, lines, 2_048);
+    let mut pieces = Pieces::new(alloc, lines, 512);
     pieces.room = room;
     let mut desk = CountDesk::new(alloc, 0);
     let ended = serve_pieces(alloc, &mut pieces, &mut desk);
@@ -319,11 +362,11 @@ fn ten_replies_in_one_write(rt: HostRuntime) -> Result<(), Fail> {
     Ok(())
 }
 
-/// Orders of many reads, of which none is lost.
+/// Orders of many reads, of which none is lost, by three flights.
 #[test]
 fn orders_of_many_reads(rt: HostRuntime) -> Result<(), Fail> {
     let all = orders_written(rt.alloc(), 600, usize::MAX)?;
-    assert!(rt; all.is_so && all.ended == Ok(Ended::Input) && all.writes < 20 && all.count == 600);
+    assert!(rt; all.is_so && all.ended == Ok(Ended::Input) && all.writes == 3 && all.count == 600);
     Ok(())
 }
 
@@ -358,6 +401,63 @@ fn is_closed_behind_nine(alloc: Global) -> Result<bool, AllocError> {
 fn a_close_behind_nine_orders(rt: HostRuntime) -> Result<(), Fail> {
     assert!(rt; is_closed_behind_nine(rt.alloc())?);
     Ok(())
+}
+
+/// As many orders as a flight takes.
+const FLIGHT: usize = 256;
+
+/// Whether the letters are a flight's of the one, and then as many of the other.
+fn are_first_and_then(letters: &str, first: char, then: char) -> bool {
+    letters.len() == 2 * FLIGHT
+        && letters.chars().take(FLIGHT).all(|letter| letter == first)
+        && letters.chars().skip(FLIGHT).all(|letter| letter == then)
+}
+
+/// Waits until so many bytes have come in, but for no more than some seconds.
+fn await_bytes<R: Clock + Abort>(rt: &R, alloc: Global, stream: &TcpStream, count: usize) {
+    let mut room = vec![in alloc; 0; count].expect(rt, "no memory");
+    for _ in 0..5_000 {
+        if stream.peek(&mut room).expect(rt, "no look") == count {
+            break;
+        }
+        thread::sleep(rt, Duration::from_millis(1));
+    }
+    drop(room);
+}
+
+/// Sends a flight's orders over a socket, and serves them once all have come in. Whether all were
+/// posted before the first of them was replied.
+fn are_posted_over_a_socket<R: Net<Stream = TcpStream, Listener = TcpListener> + Clock + Abort>(
+    rt: &R,
+    alloc: Global,
+) -> bool {
+    let lines = ORDER
+        .as_bytes()
+        .repeat(alloc, FLIGHT)
+        .expect(rt, "no memory");
+    let listener = TcpListener::bind(rt, "127.0.0.1:0").expect(rt, "no listener");
+    let address = listener.local_addr().expect(rt, "no address");
+    let mut client = TcpStream::connect(rt, address).expect(rt, "no connection");
+    client.write_all(&lines).expect(rt, "not sent");
+    client.shutdown(Shutdown::Write).expect(rt, "no end");
+    let (stream, _) = listener.accept().expect(rt, "nobody");
+    await_bytes(rt, alloc, &stream, lines.len());
+    let mut line = TimedStream::new(rt, stream, Patience::usual()).expect(rt, "no time");
+    let mut desk = Told::new(alloc);
+    let ended = serve(alloc, &mut line, &mut desk);
+    let are_so = are_first_and_then(&desk.letters, 'p', 'r');
+    drop(desk);
+    drop(line);
+    drop(client);
+    drop(listener);
+    drop(lines);
+    are_so && ended == Ok(Ended::Input)
+}
+
+/// As many orders as a flight takes are posted together, where they are there.
+#[test]
+fn a_flight_over_a_socket(rt: HostRuntime) {
+    assert!(rt; are_posted_over_a_socket(&rt, rt.alloc()));
 }
 
 const NO_MEMORY: &str = "{\"fault\":\"OutOfMemory\"}";
@@ -395,7 +495,7 @@ fn are_told_in_order(written: &[u8]) -> bool {
 fn are_told(alloc: Global) -> Result<bool, AllocError> {
     let mut lines = String::with_capacity(alloc, 256)?;
     let pushed = push_lines(&mut lines, ORDER, 3);
-    let mut pieces = Pieces::new(alloc, &lines, 2_048);
+    let mut pieces = Pieces::new(alloc, &lines, 512);
     let room = pieces.written.reserve(512);
     let mut desk = CountDesk::new(alloc, 0);
     let ended = serve_pieces(alloc, &mut pieces, &mut desk);

@@ -1,10 +1,9 @@
 //! The commands as calls of a library, each on the file that it names.
 
-use crate::commands::{PAIR, SHOWN_PAIR, make_folder};
 use crate::program::{Ended, Ending, is_ending, streams};
 use coord_commands::{check, init, migrate, serve, show};
 use std::alloc::AllocError;
-use std::fs;
+use std::env::Env;
 use std::fs::File;
 use std::net::Net;
 use std::rt::Files;
@@ -12,6 +11,45 @@ use std::sync::Wait;
 use std::test::Fail;
 use std::thread::Threads;
 use std::time::Clock;
+use std::{env, fs, io};
+
+/// Two nodes of one group and their link.
+pub(crate) const PAIR: &[u8] = b"half = 32768\n\
+[[node]]\n\
+id = 1\n\
+group = 1\n\
+[[node]]\n\
+id = 2\n\
+group = 1\n\
+[[link]]\n\
+a = 1\n\
+b = 2\n";
+
+/// What is shown of its store.
+pub(crate) const SHOWN_PAIR: &str = "view 3 3\n\
+node 1 1 ready 0 0 0\n\
+node 2 1 ready 0 0 0\n\
+link 1 2 3\n";
+
+/// A folder of its own for the files of a test.
+fn make_folder<R: Files<File = File> + Env + AllocGlobal>(
+    rt: &R,
+    name: &str,
+) -> io::Result<String> {
+    let parent = env::temp_dir(rt)?;
+    let folder = format!(in rt.alloc(); "{}/resetd_{name}", parent.as_str());
+    drop(parent);
+    let folder = folder?;
+    let _ = fs::remove_dir_all(rt, &folder);
+    let made = fs::create_dir(rt, &folder);
+    match made {
+        Ok(()) => Ok(folder),
+        Err(fault) => {
+            drop(folder);
+            Err(fault)
+        }
+    }
+}
 
 /// A command on the store.
 #[derive(Clone, Copy)]

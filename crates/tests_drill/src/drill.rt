@@ -1,8 +1,6 @@
 //! Runs of the drill, through the program's words.
 
-use crate::folders::has_failed;
-use crate::program::{Ending, ended, is_ending};
-use crate::scripts::{all_bad_lines, runs, version_2};
+use crate::program::{Ending, ended, has_failed, is_ending};
 use std::alloc::{AllocError, Global};
 use std::fs::File;
 use std::io::{Read, Write};
@@ -38,76 +36,6 @@ fn tells_want(output: &[u8]) -> bool {
         }
         Err(_) => false,
     }
-}
-
-/// Whether a drill prints this to a script, and ends well.
-fn prints<S: Files<File = File> + Net + Threads + Wait + Clock + Sync + AllocGlobal>(
-    rt: &S,
-    script: &[u8],
-    expected: &str,
-) -> Result<bool, AllocError> {
-    let mut input = script;
-    ends(rt, &mut input, (0, expected, ""))
-}
-
-#[test]
-fn worked_runs(rt: HostRuntime) -> Result<(), Fail> {
-    for (name, script, expected) in runs() {
-        assert!(rt; prints(&rt, script.as_bytes(), expected)?, "{name}");
-    }
-    Ok(())
-}
-
-#[test]
-fn worked_runs_of_version_2(rt: HostRuntime) -> Result<(), Fail> {
-    for (name, script, expected) in version_2::runs() {
-        assert!(rt; prints(&rt, script.as_bytes(), expected)?, "{name}");
-    }
-    Ok(())
-}
-
-#[test]
-fn bad_lines(rt: HostRuntime) -> Result<(), Fail> {
-    for line in all_bad_lines() {
-        assert!(rt; prints(&rt, line.as_bytes(), "bad line 1\n")?, "{line}");
-    }
-    Ok(())
-}
-
-#[test]
-fn bytes_that_are_no_text(rt: HostRuntime) -> Result<(), Fail> {
-    let input = [0xff, b'\n', b'#', 0xff, b'\n', b'\n', 0xff];
-    assert!(rt; prints(&rt, &input, "bad line 1\nbad line 4\n")?);
-    Ok(())
-}
-
-/// Adds lines around the limit: comments, and orders whose number has zeros before it.
-fn push_long_lines(input: &mut Vec<u8>) -> Result<(), AllocError> {
-    for len in [512, 513, 1500] {
-        input.push(b'#')?;
-        input.resize(input.len() + len - 1, b'a')?;
-        input.push(b'\n')?;
-    }
-    for len in [512, 513] {
-        input.extend_from_slice(b"add ")?;
-        input.resize(input.len() + len - 7, b'0')?;
-        input.extend_from_slice(b"1 1\n")?;
-    }
-    Ok(())
-}
-
-/// A line of at most 512 bytes is read, and a longer one is bad, be it a comment or not.
-#[test]
-fn the_limit_of_a_line(rt: HostRuntime) -> Result<(), Fail> {
-    let mut input = Vec::new(rt.alloc());
-    let expected = "bad line 2\nbad line 3\ndone 1\nbad line 5\n";
-    let is_printed = match push_long_lines(&mut input) {
-        Ok(()) => prints(&rt, input.as_slice(), expected),
-        Err(error) => Err(error),
-    };
-    drop(input);
-    assert!(rt; is_printed?);
-    Ok(())
 }
 
 /// Gives its bytes one by one, and counts the reads.
@@ -238,25 +166,6 @@ fn failed_write(rt: HostRuntime) -> Result<(), Fail> {
     Ok(())
 }
 
-/// More than 1,048,576 bytes are read to their end: the bound is one of reads, and a read asks for 512.
-#[test]
-fn long_input(rt: HostRuntime) -> Result<(), Fail> {
-    let mut input = Vec::new(rt.alloc());
-    let is_printed = match push_long_input(&mut input) {
-        Ok(()) => prints(&rt, &input, "done 1\n"),
-        Err(error) => Err(error),
-    };
-    drop(input);
-    assert!(rt; is_printed?);
-    Ok(())
-}
-
-fn push_long_input(input: &mut Vec<u8>) -> Result<(), AllocError> {
-    input.resize(1_200_000, b'\n')?;
-    input.extend_from_slice(b"add 1 1\n")?;
-    Ok(())
-}
-
 /// Takes a byte in each call, none once it is full, and counts its flushes, which fail where it is
 /// broken.
 #[derive(Drop)]
@@ -341,84 +250,5 @@ fn slow_writers(rt: HostRuntime) -> Result<(), Fail> {
     assert!(rt; ends_slowly(alloc, 64, false, (0, printed, 1, ""))?);
     assert!(rt; ends_slowly(alloc, 28, false, (3, cut, 0, "resetd: Write\n"))?);
     assert!(rt; ends_slowly(alloc, 64, true, (3, printed, 1, "resetd: Write\n"))?);
-    Ok(())
-}
-
-/// Adds a node whose steps are held from then on, and what is printed to that.
-fn push_start(script: &mut String, printed: &mut String) -> Result<(), AllocError> {
-    script.push_str("add 1 1\nhold\n")?;
-    printed.push_str("done 1\n")
-}
-
-/// Adds that resets of the node are held behind step `pending` up to step `last`.
-fn push_held(
-    script: &mut String,
-    printed: &mut String,
-    pending: u16,
-    last: u16,
-) -> Result<(), AllocError> {
-    for before in pending..last {
-        let step = u32::from(before) + 1;
-        script.push_str("reset 1\n")?;
-        writeln!(printed, "pending {step}")?;
-    }
-    Ok(())
-}
-
-/// Adds what a flush prints of the resets behind step `settled` up to step `last`.
-fn push_settled(printed: &mut String, settled: u16, last: u16) -> Result<(), AllocError> {
-    for epoch in settled..last {
-        let step = u32::from(epoch) + 1;
-        writeln!(printed, "finished {step}\nsignal 1 {epoch}")?;
-    }
-    writeln!(printed, "settled {last}")
-}
-
-/// A flight takes 256 steps, and the next one the rest.
-fn push_flights(script: &mut String, printed: &mut String) -> Result<(), AllocError> {
-    push_start(script, printed)?;
-    push_held(script, printed, 1, 258)?;
-    script.push_str("flush\nflush\n")?;
-    push_settled(printed, 1, 257)?;
-    push_settled(printed, 257, 258)
-}
-
-#[test]
-fn full_batches(rt: HostRuntime) -> Result<(), Fail> {
-    let (mut script, mut printed) = (String::new(rt.alloc()), String::new(rt.alloc()));
-    let is_printed = match push_flights(&mut script, &mut printed) {
-        Ok(()) => prints(&rt, script.as_bytes(), &printed),
-        Err(error) => Err(error),
-    };
-    drop(script);
-    drop(printed);
-    assert!(rt; is_printed?);
-    Ok(())
-}
-
-/// No more than 1,024 steps are held, and as many again once these are settled.
-fn push_too_many(script: &mut String, printed: &mut String) -> Result<(), AllocError> {
-    push_start(script, printed)?;
-    push_held(script, printed, 1, 1_025)?;
-    script.push_str("reset 1\n")?;
-    printed.push_str("no 20 PendingFull\n")?;
-    for flight in 0..4 {
-        let settled = 256 * flight + 1;
-        script.push_str("flush\n")?;
-        push_settled(printed, settled, settled + 256)?;
-    }
-    push_held(script, printed, 1_025, 2_049)
-}
-
-#[test]
-fn pending_full(rt: HostRuntime) -> Result<(), Fail> {
-    let (mut script, mut printed) = (String::new(rt.alloc()), String::new(rt.alloc()));
-    let is_printed = match push_too_many(&mut script, &mut printed) {
-        Ok(()) => prints(&rt, script.as_bytes(), &printed),
-        Err(error) => Err(error),
-    };
-    drop(script);
-    drop(printed);
-    assert!(rt; is_printed?);
     Ok(())
 }

@@ -1,14 +1,17 @@
 //! Runs of the commands on disks in memory.
 
-use crate::commands::{PAIR, SHOWN_PAIR, assert_none};
-use crate::program::{Ended, Ending, is_ending, streams, words_of};
+use crate::calls::{PAIR, SHOWN_PAIR};
+use crate::program::{Ended, Ending, has_failed, is_ending, streams, words_of};
 use coord_commands::{MemFolder, Named, run_in};
 use coord_disk::MemDisk;
 use std::alloc::{AllocError, Global};
+use std::io;
+use std::io::{ErrorKind, Write};
+use std::process::Abort;
 use std::test::Fail;
 
 /// Words, and what a run with them ends with: its exit status, what it prints, and its fault line.
-pub(crate) type Run = (&'static str, u8, &'static str, &'static str);
+type Run = (&'static str, u8, &'static str, &'static str);
 
 /// A text, and its name.
 fn named(alloc: Global, name: &str, bytes: &[u8]) -> Result<Named, AllocError> {
@@ -19,7 +22,7 @@ fn named(alloc: Global, name: &str, bytes: &[u8]) -> Result<Named, AllocError> {
 }
 
 /// A folder with a disk that is named `store`, and the topologies `pair` and `nothing`.
-pub(crate) fn folder_of(alloc: Global, disk: MemDisk) -> Result<MemFolder, AllocError> {
+fn folder_of(alloc: Global, disk: MemDisk) -> Result<MemFolder, AllocError> {
     let mut folder = MemFolder {
         alloc,
         name: String::new(alloc),
@@ -42,12 +45,6 @@ fn fill(folder: &mut MemFolder) -> Result<(), AllocError> {
     folder.texts.push(named(alloc, "pair", PAIR)?)?;
     folder.texts.push(named(alloc, "nothing", b"")?)?;
     Ok(())
-}
-
-/// Whether this is told of a disk that failed. A disk in memory fails for want of memory alone, so
-/// where a run is not to end so there was none.
-pub(crate) fn has_failed(told: &[u8]) -> bool {
-    told == b"resetd: Device\n".as_slice()
 }
 
 /// Whether a run in a folder in memory ends so; a server that is to be served ends with 0. Where memory
@@ -106,7 +103,7 @@ fn is_left(words: &str, file: &str, address: &str) -> u8 {
 
 /// The first of runs in a folder in memory that ends otherwise than it is to. Where memory runs out
 /// there is no answer.
-pub(crate) fn first_wrong(
+fn first_wrong(
     alloc: Global,
     folder: &mut MemFolder,
     runs: &[Run],
@@ -138,6 +135,11 @@ fn runs() -> &'static [Run] {
     &RUNS
 }
 
+/// Nothing is wrong.
+fn assert_none<R: Abort>(rt: &R, wrong: Option<&str>) {
+    assert!(rt; wrong.is_none(), "{wrong:?}");
+}
+
 #[test]
 fn commands_on_disks_in_memory(rt: HostRuntime) -> Result<(), Fail> {
     let mut folder = folder_of(rt.alloc(), MemDisk::new(rt.alloc()))?;
@@ -163,7 +165,7 @@ fn pair_runs() -> &'static [Run] {
 }
 
 /// The bytes of the disk in a folder.
-pub(crate) fn bytes_in(folder: &MemFolder) -> &[u8] {
+fn bytes_in(folder: &MemFolder) -> &[u8] {
     match &folder.disk {
         Some(disk) => disk.bytes(),
         None => &[],
@@ -179,5 +181,94 @@ fn a_refused_store_stays(rt: HostRuntime) -> Result<(), Fail> {
     drop(folder);
     assert_none(&rt, wrong?);
     assert!(rt; version == Some(2));
+    Ok(())
+}
+
+/// A store of version 1, of an empty world.
+const EMPTY: &[u8] = b"\x00ACRRESET\0\0\0\0\0\0\x80\0\
+\x01\0\0\0\x0b\
+\0\0\0\0\0\0\0\0\0\0\0\
+\0";
+
+fn empty() -> &'static [u8] {
+    EMPTY
+}
+
+/// What is said of it once it was raised: the same again leaves what the first one wrote.
+const RAISED: [Run; 3] = [
+    ("resetd check store", 0, "legal 0\n", ""),
+    ("resetd migrate store", 0, "migrated 0\n", ""),
+    ("resetd migrate other", 3, "", "resetd: Device\n"),
+];
+
+/// The runs.
+fn raised() -> &'static [Run] {
+    &RAISED
+}
+
+/// An output that takes nothing.
+#[derive(Drop)]
+struct Closed;
+
+impl Write for Closed {
+    fn write(&mut self, _buf: &[u8]) -> io::Result<usize> {
+        Err(ErrorKind::BrokenPipe.into())
+    }
+
+    fn flush(&mut self) -> io::Result<()> {
+        Ok(())
+    }
+}
+
+/// Migrates the store in a folder with an output that takes nothing. Whether that is told. Where memory
+/// runs out there is no answer.
+fn is_told_unprinted(alloc: Global, folder: &mut MemFolder) -> Result<bool, AllocError> {
+    let words = words_of(alloc, "resetd migrate store")?;
+    let is_told = is_unprinted(alloc, folder, words.as_slice());
+    drop(words);
+    is_told
+}
+
+fn is_unprinted(
+    alloc: Global,
+    folder: &mut MemFolder,
+    words: &[String],
+) -> Result<bool, AllocError> {
+    let mut errors = Vec::with_capacity(alloc, 64)?;
+    let status = run_in(
+        alloc,
+        folder,
+        words,
+        &mut b"".as_slice(),
+        &mut Closed,
+        &mut errors,
+    );
+    let is_told = errors.as_slice() == b"resetd: Write\n".as_slice();
+    let is_failing = has_failed(errors.as_slice());
+    drop(errors);
+    if status == Ok(4) || is_failing {
+        Err(AllocError)
+    } else {
+        Ok(status == Ok(3) && is_told)
+    }
+}
+
+/// The selector of a disk, and the version of its second half.
+fn second_half(bytes: &[u8]) -> (Option<u8>, Option<u8>) {
+    (bytes.first().copied(), bytes.get(17 + 32_768).copied())
+}
+
+/// The store is raised though the line can't be printed.
+#[test]
+fn a_line_that_is_not_printed(rt: HostRuntime) -> Result<(), Fail> {
+    let alloc = rt.alloc();
+    let mut folder = folder_of(alloc, MemDisk::from_bytes(alloc, empty())?)?;
+    let is_told = is_told_unprinted(alloc, &mut folder);
+    let wrong = first_wrong(alloc, &mut folder, raised());
+    let second = second_half(bytes_in(&folder));
+    drop(folder);
+    assert!(rt; is_told?);
+    assert_none(&rt, wrong?);
+    assert!(rt; second == (Some(1), Some(2)));
     Ok(())
 }

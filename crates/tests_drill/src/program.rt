@@ -53,19 +53,7 @@ pub(crate) fn streams(alloc: Global) -> Result<(Vec<u8>, Vec<u8>), AllocError> {
     Ok((output, errors))
 }
 
-/// Whether a run of the program with these words, over a reader, ends so. Where memory runs out
-/// there is no answer.
-pub(crate) fn ends<
-    S: Files<File = File> + Net + Threads + Wait + Clock + Sync + AllocGlobal,
-    R: Read,
->(rt: &S, words: &str, input: &mut R, ending: Ending<'_>) -> Result<bool, AllocError> {
-    let run = ended(rt, words, input)?;
-    let is_so = is_ending(&run, ending);
-    drop(run);
-    is_so
-}
-
-/// Whether it ended so, unless it was for want of memory.
+/// Whether a run ended so, unless it was for want of memory.
 pub(crate) fn is_ending(run: &Ended, ending: Ending<'_>) -> Result<bool, AllocError> {
     if run.0 == 4 {
         return Err(AllocError);
@@ -76,4 +64,10 @@ pub(crate) fn is_ending(run: &Ended, ending: Ending<'_>) -> Result<bool, AllocEr
             && run.1.as_slice() == printed.as_bytes()
             && run.2.as_slice() == faults.as_bytes(),
     )
+}
+
+/// Whether this is told of a disk that failed. A disk in memory fails for want of memory alone, so
+/// where a run is not to end so there was none.
+pub(crate) fn has_failed(told: &[u8]) -> bool {
+    told == b"resetd: Device\n".as_slice()
 }

@@ -8,6 +8,8 @@ mod devices;
 #[cfg(test)]
 mod handed;
 #[cfg(test)]
+mod long_life;
+#[cfg(test)]
 mod retried;
 #[cfg(test)]
 mod scripts;

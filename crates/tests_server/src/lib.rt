@@ -4,6 +4,8 @@
 #[cfg(test)]
 mod asking;
 #[cfg(test)]
+mod epochs;
+#[cfg(test)]
 mod kill;
 #[cfg(test)]
 mod lives;
@@ -13,6 +15,8 @@ mod local;
 mod loopback;
 #[cfg(test)]
 mod memory;
+#[cfg(test)]
+mod pending;
 #[cfg(test)]
 mod printing;
 #[cfg(test)]

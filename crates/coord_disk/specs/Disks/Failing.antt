@@ -19,8 +19,9 @@ calls_of disk = disk.calls
 abbrev pub failed_of : {D R : Type 0} → FailingDisk D R → ℕ
 failed_of disk = length disk.failed.items
 
--- A call through such a disk is counted, and the rule says whether it fails. If so, the disk inside is untouched.
--- If not, it is passed on: it fails only where the disk inside does.
+-- A call through such a disk is counted, and the rule says whether it fails. If it is to fail, the
+-- disk inside stays untouched. Else the call is passed on, and fails only where the disk inside
+-- fails.
 pub record IsCounted {D R T : Type 0} (failures : D → ℕ) (says : R → Call → Bool → R → Type 0) (call : Call) (old new : FailingDisk D R) (result : Result T DiskFault) : Type 0 where
   pub counted : calls_of new ≡ min (calls_of old + 1) (2 ^ 64 - 1)
   pub fails : Bool

@@ -1,4 +1,4 @@
--- What a crash leaves that fills the places that are not synced with given bytes.
+-- What a crash leaves where a test gives bytes for the places that are not synced.
 use Rattle.std.specs.Prelude.{◌≡◌, ℕ, zero, suc, ◌+◌, ◌<◌, ◌%◌, Bool, ◌||◌, nat_le, if◌then◌else◌, List, [], ◌∷◌, length, Some, slice_get, slice_index}
 use Rattle.coord_disk.specs.Model.Present.{Present, is_within}
 

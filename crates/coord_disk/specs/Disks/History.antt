@@ -23,7 +23,8 @@ pub record Past : Type 0 where
 abbrev pub present_after : Past → Present
 present_after past = replayed (whole past.first) past.entries
 
--- a crash after so many of the writes and syncs, or after more of them, might have left these bytes
+-- A crash after the first n of the writes and syncs, or after more than n of them, might have left
+-- these bytes.
 abbrev pub LeftSince : Past → ℕ → List ℕ → Type 0
 LeftSince past t image = (k : ℕ) × (t ≤ k) × (k ≤ length past.entries) × IsImage (replayed (whole past.first) (take k past.entries)) image
 

@@ -2,7 +2,8 @@
 use Rattle.std.specs.Prelude.{◌≡◌, ◌⊎◌, ℕ, ◌+◌, ◌≤◌, List, Result, OnOk, OnErr}
 use Rattle.coord_disk.specs.declared.fault.DiskFault.{DiskFault}
 
--- Time goes on: a crash since t might have left what it might have left before, or what it may leave now.
+-- Time goes on. What a crash might have left since moment t is what it might have left before, or
+-- what it may leave now.
 pub record Elapses (before now : ℕ) (past since : ℕ → List ℕ → Type 0) (may_leave : List ℕ → Type 0) : Type 0 where
   pub later : before ≤ now
   -- a call is at most one moment
@@ -10,7 +11,7 @@ pub record Elapses (before now : ℕ) (past since : ℕ → List ℕ → Type 0)
   pub nothing_else : (t : ℕ) (image : List ℕ) → t ≤ before → since t image → past t image ⊎ may_leave image
   pub keeps : (t : ℕ) (image : List ℕ) → t ≤ before → past t image → since t image
 
--- A crash at any moment since old leaves bytes that have P.
+-- A crash at any moment from `old` on, up to now, leaves only bytes that have P.
 pub record LeavesOnly {D : Type 0} (clock : D → ℕ) (left_since : D → ℕ → List ℕ → Type 0) (old new : D) (P : List ℕ → Type 0) : Type 0 where
   pub later : clock old ≤ clock new
   pub each : (image : List ℕ) → left_since new (clock old) image → P image

@@ -39,7 +39,8 @@ range_of at bytes = record { start = at; stop = at + length bytes }
 abbrev pub written_at : ℕ → List ℕ → Present → Present
 written_at at bytes disk = record { synced = disk.synced; read = overwritten disk.read at bytes; written = range_of at bytes ∷ disk.written }
 
--- What a write leaves, whether it succeeds or fails: nothing changes outside its range, but that zeros may have come to stand in front of it.
+-- What a write may do, whether it succeeds or fails: no byte outside its range changes. Where it
+-- begins past the end, zeros come to stand in between.
 pub record Writes (at : ℕ) (bytes : List ℕ) (old new : Present) : Type 0 where
   pub synced : new.synced ≡ old.synced
   pub written : (i : ℕ) → is_within (range_of at bytes ∷ old.written) i ≡ false → is_within new.written i ≡ false
@@ -51,6 +52,7 @@ pub record Writes (at : ℕ) (bytes : List ℕ) (old new : Present) : Type 0 whe
 abbrev pub FitsNoMore : Present → Present → Type 0
 FitsNoMore old new = (image : List ℕ) → IsImage new image → IsImage old image
 
--- these bytes are synced, and others are being written at this place: what a crash then may leave
+-- What a crash may leave while these other bytes are written at this place over bytes that are
+-- synced.
 abbrev pub Torn : List ℕ → ℕ → List ℕ → List ℕ → Type 0
 Torn bytes at new = IsImage (written_at at new (whole bytes))

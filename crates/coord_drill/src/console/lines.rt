@@ -100,8 +100,8 @@ impl<D: CrashDisk> Console<D> {
     }
 }
 
-/// Carries out what the line of this number asks for, and adds its answer to a text. A line that is
-/// skipped asks for nothing, and so does a bad one. For a line over the limit None stands.
+/// Carries out what line `number` asks for, and adds its answer to a text. A line that is skipped
+/// asks for nothing, nor does a bad one. None stands for a line over the limit.
 fn respond<D: CrashDisk>(
     drill: Drill<D>,
     line: Option<&[u8]>,

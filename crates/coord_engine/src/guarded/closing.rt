@@ -13,8 +13,8 @@ use coord_disk::Disk;
 use coord_types::Step;
 use std::sync::ledger::{Book, Ledger as Count, Share as Part};
 
-/// Takes all parts of the count together: the shares' notes are then as many as the book has
-/// counted.
+/// Takes all parts of the count together. Once they are together, the shares have as many notes as
+/// steps were counted.
 fn gather<L: Count>(book: Book<L>, rest: Part<L>, shares: Vec<Share<L>>)
     requires parts { rest.parts + length shares.items ≡ L.parts }
     requires amount { rest.amount ≡ 0 }
@@ -39,8 +39,8 @@ pub fn steps_from(trail: &[Step], start: usize) -> &[Step]
 }
 
 impl<D: Disk, L: Origin> Guarded<D, L> {
-    /// Whether the shares noted, each in order, all that was accepted since the start. That they
-    /// noted no more shows in the count.
+    /// Whether the shares noted all that was accepted since the start, each share in order. That
+    /// they noted nothing else follows from the count.
     fn are_noted(&self, shares: &[Share<L>]) -> bool
         ensures { IsTrue result ↔ AreNoted shares.now
             (self.now.ledger.log.base.count + self.now.start)

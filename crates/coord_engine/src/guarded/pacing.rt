@@ -76,8 +76,8 @@ impl<D: Disk, L: Origin> Guarded<D, L> {
         self.awaited = count_orders(next_steps(self.pending_steps())) as u64;
     }
 
-    /// The flight is back: the callers whose orders left with it may come again, beside those whose
-    /// steps are pending. Where they are many they are not waited for.
+    /// A flight is back: its callers may order again, and so they are awaited beside those whose
+    /// steps are pending; where they are many, nobody is awaited.
     pub fn await_callers(&mut self)
         ensures { self.new ≡ with_callers_awaited self.old }
     {

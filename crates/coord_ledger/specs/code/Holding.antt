@@ -34,7 +34,7 @@ abbrev pub released_from : ℕ → List (List Output) → List Release
 released_from n [] = []
 released_from n (given ∷ others) = map (release_of n) given ++ released_from (n + 1) others
 
--- the first of these were added to a list, and the others, one at least, are lost
+-- A list got the first of these releases, and the others, at least one, are lost.
 pub record AddsSome (all old new : List Release) : Type 0 where
   pub added : List Release
   pub lost : List Release
@@ -63,7 +63,7 @@ pub record IsHome {D : Type 0} (log : Log) (kept : Kept D) : Type 0 where
   pub world_is : kept.world ≡ settled_world log
   pub torn_is : kept.torn ≡ doubted log log.doubt
 
--- while it is away, so many of the next steps are out, and the ledger goes on
+-- While the store is away, the next `out` steps are out with it, and the ledger has not stopped.
 pub record IsAway (log : Log) (out : ℕ) : Type 0 where
   pub fits : FitsOut log out
   pub going : log.doubt ≡ None
@@ -92,7 +92,8 @@ carried_torn New w steps = None
 carried_torn Good w steps = None
 carried_torn Torn w steps = Some (fold w steps)
 
--- the world that is to be after the steps is made already, or not
+-- What a flight keeps of its steps and its store; where the world after the steps is made already,
+-- it is the right one.
 pub record IsFlight {D : Type 0} (steps : List Step) (world : World) (next : Option World) (mark : Mark) (kept : Kept D) : Type 0 where
   pub some : 1 ≤ length steps
   pub most : length steps ≤ MAX_BATCH_STEPS

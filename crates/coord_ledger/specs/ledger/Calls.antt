@@ -36,7 +36,7 @@ abbrev pub claim_of : Handed → Claim
 claim_of (handed.Accepted claim) = claim
 claim_of (handed.Repeated claim) = claim
 
--- why no ticket was given: as it says to the step, or a fresh one finds no memory
+-- Why no ticket was given: the step is refused, or it is fresh and there is no memory.
 abbrev pub RefusesStep : Refusal → Result Verdict Refusal → Type 0
 RefusesStep refusal (Ok (Fresh kind)) = refusal ≡ OutOfMemory
 RefusesStep refusal (Ok (Repeat reply)) = ⊥
@@ -89,13 +89,15 @@ releases_in f New = []
 releases_in f Good = releases_of (outs f.world f.steps)
 releases_in f Torn = []
 
--- why a flight is not taken back: it isn't the one that is out, or the list of its releases finds no memory
+-- Why a flight is not taken back: it is not the one that is out, or there is no memory for the list
+-- of its releases.
 abbrev pub RefusesFlight : {D : Type 0} → LedgerState D → FlightState D → Refusal → Type 0
 RefusesFlight l f Stranger = ¬ IsOut l f
 RefusesFlight l f OutOfMemory = IsOut l f × (f.mark ≡ Good)
 RefusesFlight l f refusal = ⊥
 
--- these bytes give the world before the steps of a new flight, after those of a good one, and one of both for a torn one
+-- What bytes give of a flight with these steps: the world before them while it is new, the world
+-- after them once it is good, and one of both where it is torn.
 abbrev pub GivesFlown : Mark → World → List Step → List ℕ → Type 0
 GivesFlown New w steps bytes = Recovered bytes w
 GivesFlown Good w steps bytes = Recovered bytes (fold w steps)
@@ -105,7 +107,7 @@ GivesFlown Torn w steps bytes = GivesEither w (fold w steps) bytes
 abbrev pub FlightGives : {D : Type 0} → (D → Present) → FlightState D → Type 0
 FlightGives present f = (image : List ℕ) → IsImage (present f.disk) image → GivesFlown f.mark f.world f.steps image
 
--- these bytes give the settled world, or after a stop perhaps the one behind the steps in doubt
+-- These bytes give the settled world; after a stop perhaps the world behind the steps in doubt.
 abbrev pub GivesSettled : Log → Option ℕ → List ℕ → Type 0
 GivesSettled log None bytes = Recovered bytes (settled_world log)
 GivesSettled log (Some b) bytes = GivesEither (settled_world log) (world_after log (log.settled + b)) bytes

@@ -30,7 +30,8 @@ abbrev pub brought_home : {D : Type 0} → LedgerState D → Option (FlightState
 brought_home l None = l
 brought_home l (Some f) = taken_back l (length f.steps) f.mark f.disk
 
--- an event is followed on a disk that keeps the model; one that isn't a crash, on every disk
+-- Where the machine is followed: each event on a disk that keeps the model, and on every disk each
+-- event but a crash.
 abbrev pub IsPromised : Option Bool → Event → Type 0
 IsPromised model e = (model ≡ Some true) ⊎ (is_crash e ≡ false)
 
@@ -61,7 +62,8 @@ pub record IsOpenedOnce (present lost : Present) : Type 0 where
   pub world : World
   pub recovered : Recovered lost.read world
 
--- why none was made of a crashed disk: the store was opened and there is no memory for the ledger, or it was not opened
+-- Why no ledger was made after a crash of this disk: the store was opened and there is no memory
+-- for the ledger, or the store was not opened.
 abbrev pub IsReopenFault : Bool → Present → Present → RunFaultKind → Type 0
 IsReopenFault keeps_model present lost OutOfMemory = keeps_model ≡ true → IsOpenedOnce present lost
 IsReopenFault keeps_model present lost (Store fault) = IsOpenFault fault × (keeps_model ≡ true → AnImageIsRefused present fault)
@@ -82,7 +84,7 @@ abbrev pub HeldTouches : {D : Type 0} → (D → Bool) → (D → Present) → (
 HeldTouches {D} keeps_model present clock left_since crashes found touches e was now =
     (old : D) → was ≡ Some old → HoldsTouched keeps_model present clock left_since crashes found touches e old now
 
--- where the event was cut short this disk is given back, for the one that was held
+-- An event was cut short, and this disk is given back in place of the one that was held.
 abbrev pub IsLost : {D : Type 0} → (D → Bool) → (D → Present) → (D → ℕ) → (D → ℕ → List ℕ → Type 0) → (D → D → Type 0) → Machine → Event → RunFaultKind → Option D → D → Type 0
 IsLost {D} keeps_model present clock left_since crashes s e kind was lost =
     (old : D) → was ≡ Some old → IsGivenBack present clock left_since crashes (keeps_model old) s e kind old lost
@@ -91,7 +93,7 @@ IsLost {D} keeps_model present clock left_since crashes s e kind was lost =
 abbrev pub HeldSurvives : {D : Type 0} → (D → Bool) → (D → Present) → Option D → Machine → Type 0
 HeldSurvives {D} keeps_model present held s = (disk : D) → held ≡ Some disk → CrashPrefix s (keeps_model disk) (present disk)
 
--- what a driver keeps after some events with these answers, of which the first found this disk
+-- What a driver keeps after events with these answers, where the first event found this disk.
 pub record Drives {D : Type 0} (present : D → Present) (clock : D → ℕ) (left_since : D → ℕ → List ℕ → Type 0) (crashes : D → D → Type 0) (keeps_model : Bool) (first : D) (start : LedgerState D) (events : List Event) (given : List Answer) (d : Driven D) : Type 0 where
   pub answered : Answered (started start) events given
   pub consistent : IsConsistent (run (started start) events given)

@@ -78,7 +78,8 @@ spent (t ∷ ts) (suc i) = t ∷ spent ts i
 abbrev pub crashed : Machine → ℕ → Machine
 crashed s n = record s { log = cut_to s.log n; flight = None; tickets = []; seen = 0 }
 
--- an answer that isn't named here leaves all as it was
+-- The machine after an event with this answer. With an answer that has no line here it stays as it
+-- was.
 abbrev pub after : Machine → Event → Answer → Machine
 after s (Submit x) answer = after_submit s x (verdict s.log x) answer
 after s Begin (Begun b) = record s { flight = Some (record { size = b; mark = New }) }

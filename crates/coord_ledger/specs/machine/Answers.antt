@@ -45,7 +45,8 @@ to_commit New = Committed ∷ Failed fault.Device ∷ Failed fault.OutOfMemory �
 to_commit Good = Failed fault.Again ∷ []
 to_commit Torn = Failed fault.Stopped ∷ []
 
--- the settled count: a flight that was committed adds its steps, and only the release of their outputs takes memory
+-- The settled count. A flight that was committed adds its steps to it; memory can lack only there,
+-- for the release of what these gave out.
 abbrev pub to_finish : ℕ → ℕ → Mark → List Answer
 to_finish count size New = Finished count ∷ []
 to_finish count size Good = Finished (count + size) ∷ Refused OutOfMemory ∷ []
@@ -69,7 +70,8 @@ to_collect count (Some reply) = (if nat_le reply.step count then Collected reply
 abbrev pub to_show : Machine → List Answer
 to_show s = if has_stopped s.log then Refused Stopped ∷ [] else Shown (shown (accepted_count s.log) (settled_world s.log)) ∷ Refused OutOfMemory ∷ []
 
--- how many steps a crash may keep where d are settled and b more are out with this mark
+-- How many steps a crash may keep, where d are settled and a flight of b more is out, with this
+-- mark.
 abbrev pub kept_with : ℕ → ℕ → Mark → List ℕ
 kept_with d b New = d ∷ []
 kept_with d b Good = (d + b) ∷ []

@@ -16,7 +16,8 @@ use Rattle.coord_ledger.specs.machine.Machine.{FlightOut, Machine}
 use Rattle.coord_ledger.specs.promises.Headline.{IsReplyOf, IsTrulyAgain}
 use Rattle.coord_ledger.specs.promises.Parts.{IsPartOf, released_first}
 
--- the steps are a trail; those that are pending are not too many, and each of them is fresh with the settled world as settled
+-- The steps are a trail. Not too many of them are pending, and each pending one is fresh where the
+-- settled world counts as settled.
 pub record IsConsistentLog (log : Log) : Type 0 where
   pub trail : IsTrail log.base log.trail
   pub within : log.settled ≤ length log.trail

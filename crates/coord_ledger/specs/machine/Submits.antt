@@ -1,4 +1,5 @@
--- What a ledger says to a step: first whether it has stopped, then whether the step is a repeat, then whether too many steps are pending, and then as the front and the settled world accept it.
+-- What a ledger says to a step. It asks, in this order: has it stopped, is the step a repeat, are
+-- too many steps pending; then the front world and the settled world judge the step.
 use Rattle.std.specs.Prelude.{nat_le, Bool, length, Result, Ok, Err, if◌then◌else◌}
 use Rattle.coord_types.specs.declared.limits.TheConstants.{MAX_PENDING}
 use Rattle.coord_types.specs.declared.refusals.Refusal.{Refusal}

@@ -1,8 +1,9 @@
 -- A run that ends early: what was answered and released until then, which disk is given back, and why.
 --
--- It ends at an event that is cut short, or behind the last one where the flight that is out can't be taken back, or
--- before the first one. All but what was answered and released is given up, and the disk is given back: as the events
--- before have left it, or in a crash behind the taking of an image.
+-- It ends at an event that is cut short; or behind the last event, where the flight that is out
+-- can't be taken back; or before the first one. What was answered and released is kept, all else is
+-- given up. The disk is given back as the events before have left it; in a crash, as it is behind
+-- the taking of an image.
 use Rattle.std.specs.Prelude.{◌≡◌, ◌⊎◌, ℕ, ◌≤◌, Bool, true, false, List, [], ◌++◌, length, take, slice_get, Option, Some, None}
 use Rattle.coord_disk.specs.Model.Present.{Present}
 use Rattle.coord_store.specs.Facade.{IsOpenFault, IsPassing}
@@ -22,7 +23,8 @@ use Rattle.coord_ledger.specs.promises.Moments.{Reopens}
 
 -- ---- an event that is cut short
 
--- of what the event releases with one of its answers, the list of releases has some, and finds no memory for the next
+-- The list of releases got a first part of what the event releases with one of its answers, and
+-- there was no memory for the next item.
 pub record IsLeftOut (before : Machine) (e : Event) (released : List Release) : Type 0 where
   pub answer : Answer
   pub allowed : IsOneOf answer (answers before e)
@@ -88,8 +90,9 @@ wants_memory Resend = true
 wants_memory Crash = true
 wants_memory event = false
 
--- A run wants memory as it begins, for its list of answers, in such an event, or at its end, where the flight comes back.
--- A store's fault comes of a crash alone; on a disk that keeps the model it is want of memory or a failure of the device.
+-- Where a run may want memory: as it begins, for its list of answers; in an event of
+-- `wants_memory`; at its end, where the flight comes back. A store's fault comes of a crash alone;
+-- where the disk keeps the model it is want of memory or a failure of the device.
 abbrev pub HasCause : Bool → List Event → ℕ → List Release → RunFaultKind → Type 0
 HasCause keeps_model events at released OutOfMemory = ((at ≡ 0) × (released ≡ [])) ⊎ ((at ≡ length events) ⊎ ((e : Event) × ((slice_get events at ≡ Some e) × (wants_memory e ≡ true))))
 HasCause keeps_model events at released (Store fault) = (slice_get events at ≡ Some Crash) × IsOpenFault fault × (keeps_model ≡ true → IsPassing fault)

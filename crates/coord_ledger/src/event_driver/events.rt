@@ -32,8 +32,8 @@ impl<D: CrashDisk> Run<D> {
         }
     }
 
-    /// One event. Where the driver's own lists find no memory, or the disk isn't opened after a
-    /// crash, all but what was released is gone.
+    /// Answers one event. Where a list of the run finds no memory, or the disk is not opened after
+    /// a crash, the run ends, and only what was released and the disk are left.
     pub fn meet(self, alloc: Global, event: Event) -> Result<(Answer, Self), Broken<D>>
         ensures answered { (s : Machine) → IsConsistent s → Follows self s →
             IsPromised (model_driven D.keeps_model self.driver) event

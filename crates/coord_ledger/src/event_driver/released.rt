@@ -7,7 +7,7 @@ use crate::{Release, Releases, Ticket};
 use coord_types::Output;
 use std::alloc::AllocError;
 
-/// Adds releases to a list, and says how many they were. Where it finds no memory the others are
+/// Adds releases to a list, and says how many they were. Those for which it finds no memory are
 /// lost.
 pub fn push_releases(released: &mut Vec<Release>, mut releases: Releases) -> Result<u64, AllocError>
     ensures count { IfOk result (λ n. n ≡ length releases) }

@@ -68,8 +68,8 @@ fn replied(ticket: Ticket, settled: bool) -> Result<Reply, Ticket>
 }
 
 impl<D: Disk> Ledger<D> {
-    /// Whether the settled part of the trail has the ticket's step at its number, which is greater
-    /// than the base's count, and answers it with the ticket's kind.
+    /// Whether the ticket's step, whose number is above the base's count, stands in the settled
+    /// part of the trail with the kind of reply that the ticket has.
     fn is_settled(&self, ticket: &Ticket) -> bool
         requires { self.now.log.base.count < ticket.now.step }
         ensures { IsTrue result ↔ IsCollectable self.now.log ticket.now }

@@ -159,7 +159,8 @@ impl<D: Disk> Ledger<D> {
         }
     }
 
-    /// Takes back the ledger's own flight, whose committed steps lead to this world.
+    /// Takes back the ledger's own flight, which was committed: its steps are settled, and lead to
+    /// this world.
     fn take_settled(&mut self, flight: Flight<D>, settled: World)
         requires own { IsOut self.old flight }
         requires good { flight.mark ≡ Mark.Good }
@@ -197,12 +198,12 @@ impl<D: Disk> Ledger<D> {
         }
     }
 
-    /// Takes back the flight that is out, and its store with it. A good one settles its steps and
-    /// gives what they release; one that was not committed settles nothing; a torn one settles
-    /// nothing and stops the ledger.
+    /// Takes back the flight that is out, and its store with it. A good flight settles its steps,
+    /// and gives what they release. One that was not committed settles nothing. A torn one settles
+    /// nothing either, and the ledger stops.
     ///
-    /// A flight whose first number, steps or world are not those that went out is refused as
-    /// `Stranger`. A refusal gives the flight back.
+    /// A flight is refused as `Stranger` where it is not the one that went out: its first number,
+    /// its steps and the world before them are compared. A refusal gives the flight back.
     pub fn end_flush(&mut self, flight: Flight<D>) -> Result<Releases, (Refusal, Flight<D>)>
         ensures own { OnOk result (IsOut self.old flight) }
         ensures taken { OnOk result (self.new ≡

@@ -71,9 +71,9 @@ impl<D: Disk> Ledger<D> {
         self.store.is_none()
     }
 
-    /// Does nothing: its contract is what the type keeps of every ledger's log, of the steps that
-    /// are out and of those in doubt, that the store is out with them, and that a ledger that has
-    /// stopped has it back.
+    /// Does nothing. Its contract is what the type keeps of every ledger: the log is consistent,
+    /// with the steps that are out and those in doubt; while steps are out the store is out with
+    /// them; a ledger that has stopped has its store back.
     pub fn log_is_consistent(&self)
         ensures log { IsConsistentLog self.now.log }
         ensures out { IfSome self.now.out (FitsOut self.now.log) }

@@ -25,9 +25,9 @@ impl<D: Disk> Ledger<D> {
         Ok(Releases::of(rows))
     }
 
-    /// Shows the settled world, of which the caller must not have seen more: the first that applies
-    /// of `Stopped`, `Behind` (with the settled count) and `OutOfMemory` refuses. What the caller
-    /// has seen becomes the settled count.
+    /// Shows the settled world to a caller who has not seen a later one; what the caller has seen
+    /// becomes the settled count. The first of these that applies refuses it: `Stopped`, `Behind`
+    /// (with the settled count), `OutOfMemory`.
     pub fn show(&self, seen: &mut Seen) -> Result<View, Refusal>
         ensures stopped { is_some self.now.log.doubt ≡ true → result ≡ Err Refusal.Stopped }
         ensures behind { is_some self.now.log.doubt ≡ false → settled_count self.now.log < seen.old →

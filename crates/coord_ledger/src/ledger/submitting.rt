@@ -52,10 +52,8 @@ impl<D: Disk> Ledger<D> {
         Ok(reply)
     }
 
-    /// Hands a step in: [`Ledger::submit`], and says whether the step is new.
-    ///
-    /// A client's last order that comes again is no step, and is told apart here alone. It refuses
-    /// as `submit` does.
+    /// Hands a step in as [`Ledger::submit`] does, with the same refusals, and says beside the
+    /// ticket whether the step is new: a client's last order that comes again is no step.
     pub fn hand_in(&mut self, step: Step) -> Result<Handed, Refusal>
         ensures { HandedTo self.old step result self.new }
     {

@@ -54,8 +54,8 @@ fn next_batch(
 }
 
 impl<D: Disk> Store<D> {
-    /// Whether these steps are fresh, each after those before it, with the world from before them
-    /// all as the settled one. `commit` asks for this.
+    /// Whether a commit may have these steps: each is fresh after those before it, where the
+    /// settled world is the one from before them all.
     pub fn takes(&self, steps: &[Step]) -> Result<bool, AllocError>
         ensures { IfOk result (λ takes. IsTrue takes ↔
             AllFresh self.now.world self.now.world steps.now) }
@@ -129,8 +129,8 @@ impl<D: Disk> Store<D> {
         }
     }
 
-    /// Commits steps as `commit` does, with the world after them where it was made before, and gives
-    /// the world from before them: so nobody has to copy either of both. Where it was not made, it is
+    /// Commits steps as `commit` does, and gives the world from before them. Where the caller has
+    /// made the world after them before, it hands it in, and nobody has to copy a world; else it is
     /// made here.
     pub fn commit_to(&mut self, steps: &[Step], made: Option<World>) -> Result<World, CommitFault>
         requires some { (1 ≤ length steps.now) × (length steps.now ≤ MAX_BATCH_STEPS) }

@@ -1,118 +1,108 @@
-use Rattle.std.proofs.Common.{◌++◌, [], take, arith, rules, refl, sym, ap, ◌∙◌, append_assoc, length-append, length-take-le}
-use Rattle.coord_lines.specs.Lines.{lines_of, lines_on}
+use Rattle.std.proofs.Common.{◌≡◌, ◌≤◌, ◌++◌, [], take, arith, rules, sym, length-append, length-take-le}
 use Rattle.coord_lines.proofs.LinesOn.{lines_on-empty}
 use Rattle.coord_admin.specs.Replies.{reply_lines}
 use Rattle.coord_admin.specs.Stream.{last_answers}
-use Rattle.coord_admin.proofs.Stream.{all-append, breaks-behind, broken-end, closes-behind, finishes-at, heard-on, no-more, still, stops-at, told-all, told-on}
+use Rattle.coord_admin.proofs.Pieces.{goes-none}
+use Rattle.coord_admin.proofs.SoFar.{served-in-part, so-far-all, so-far-broken, so-far-closed, so-far-cut, so-far-more, so-far-no-more, so-far-some, so-far-still}
+use Rattle.coord_admin.proofs.Stream.{broken-end, finishes-at, stops-at, told-on}
 use Rattle.coord_admin.proofs.session.serve_lines.Goals as goal
 
+-- nothing was read yet
 pub loop-init : goal.loop-init
-loop-init g c = ((search rules, c.requires.queue), ([], search rules, ([], [], refl, g.met.C.Duplex.at_rest _, λ more. rw c.new-line.ensures (sym (lines_on-empty more)))))
+loop-init g c = (c.requires.buffer, ([], search rules, ([], [], goes-none g.D.Desk.answers g.D.Desk.posts _ _ c.requires.queue, g.met.C.Duplex.at_rest _, λ more. rw c.new-line.ensures (sym (lines_on-empty more)))))
 
-pub returns-in_default-clause-served : goal.returns-in_default-clause-served
-returns-in_default-clause-served g c =
+pub returns-in_err-answer_before_wait-clause-served : goal.returns-in_err-answer_before_wait-clause-served
+returns-in_err-answer_before_wait-clause-served g c =
     let inv = c.loop.invariant in
-    let so_far = inv.1.2 in (
+    let broken = so-far-broken g.D.Desk.answers g.D.Desk.posts g.C.Duplex.exchanged g.met.C.Duplex.in_turn c.args.desk.now _ _ c.args.connection.now _ _ inv.1.0 c.loop.line _ inv.1.2 c.in_err-answer_before_wait.ensures.part in
+    served-in-part g.D.Desk.answers g.D.Desk.posts g.C.Duplex.exchanged c.args.desk.now _ c.args.connection.now _ inv.1.0 _ c.from_residual.ensures.1 broken
+
+pub returns-in_err-answer_all-in-Ok-eq0-clause-served : goal.returns-in_err-answer_all-in-Ok-eq0-clause-served
+returns-in_err-answer_all-in-Ok-eq0-clause-served g c =
+    let inv = c.loop.invariant in
+    let ready = so-far-some g.D.Desk.answers g.D.Desk.posts g.C.Duplex.exchanged g.met.C.Duplex.in_turn c.args.desk.now _ _ c.args.connection.now _ _ inv.1.0 c.loop.line _ _ inv.1.2 c.in_ok-answer_before_wait.ensures.whole in
+    let none : c.in-Ok-eq0.field-0 ≡ 0 = search rules in
+    let read = so-far-no-more g.D.Desk.answers g.D.Desk.posts g.C.Duplex.exchanged g.met.C.Duplex.in_turn c.args.desk.now _ c.args.connection.now _ _ inv.1.0 _ _ c.loop.line _ ready c.in-Ok-eq0.ensures.bytes none in
+    let broken = so-far-broken g.D.Desk.answers g.D.Desk.posts g.C.Duplex.exchanged g.met.C.Duplex.in_turn c.args.desk.now _ _ c.args.connection.now _ _ inv.1.0 c.loop.line _ read c.in_err-answer_all-in-Ok-eq0.ensures.part in
+    served-in-part g.D.Desk.answers g.D.Desk.posts g.C.Duplex.exchanged c.args.desk.now _ c.args.connection.now _ inv.1.0 _ c.from_residual-in_err-answer_all-in-Ok-eq0.ensures.1 broken
+
+pub returns-in_err-finish-in-Ok-eq0-clause-served : goal.returns-in_err-finish-in-Ok-eq0-clause-served
+returns-in_err-finish-in-Ok-eq0-clause-served g c =
+    let inv = c.loop.invariant in
+    let ready = so-far-some g.D.Desk.answers g.D.Desk.posts g.C.Duplex.exchanged g.met.C.Duplex.in_turn c.args.desk.now _ _ c.args.connection.now _ _ inv.1.0 c.loop.line _ _ inv.1.2 c.in_ok-answer_before_wait.ensures.whole in
+    let none : c.in-Ok-eq0.field-0 ≡ 0 = search rules in
+    let read = so-far-no-more g.D.Desk.answers g.D.Desk.posts g.C.Duplex.exchanged g.met.C.Duplex.in_turn c.args.desk.now _ c.args.connection.now _ _ inv.1.0 _ _ c.loop.line _ ready c.in-Ok-eq0.ensures.bytes none in
+    let all = so-far-all g.D.Desk.answers g.D.Desk.posts g.C.Duplex.exchanged g.met.C.Duplex.in_turn c.args.desk.now _ _ c.args.connection.now _ _ inv.1.0 c.loop.line _ read c.in_ok-answer_all-in-Ok-eq0.ensures.whole in
+    let broken = broken-end g.D.Desk.answers g.C.Duplex.exchanged g.met.C.Duplex.in_turn c.args.desk.now _ c.args.connection.now _ _ inv.1.0 inv.1.0 c.loop.line all.0 all.1 c.finish.ensures.within all.2 all.3 all.4 c.in_err-finish-in-Ok-eq0.ensures.failed in
+    served-in-part g.D.Desk.answers g.D.Desk.posts g.C.Duplex.exchanged c.args.desk.now _ c.args.connection.now _ inv.1.0 _ c.from_residual-in_err-finish-in-Ok-eq0.ensures.1 broken
+
+pub returns-in-Ok-eq0-clause-served : goal.returns-in-Ok-eq0-clause-served
+returns-in-Ok-eq0-clause-served g c =
+    let inv = c.loop.invariant in
+    let ready = so-far-some g.D.Desk.answers g.D.Desk.posts g.C.Duplex.exchanged g.met.C.Duplex.in_turn c.args.desk.now _ _ c.args.connection.now _ _ inv.1.0 c.loop.line _ _ inv.1.2 c.in_ok-answer_before_wait.ensures.whole in
+    let none : c.in-Ok-eq0.field-0 ≡ 0 = search rules in
+    let read = so-far-no-more g.D.Desk.answers g.D.Desk.posts g.C.Duplex.exchanged g.met.C.Duplex.in_turn c.args.desk.now _ c.args.connection.now _ _ inv.1.0 _ _ c.loop.line _ ready c.in-Ok-eq0.ensures.bytes none in
+    let all = so-far-all g.D.Desk.answers g.D.Desk.posts g.C.Duplex.exchanged g.met.C.Duplex.in_turn c.args.desk.now _ _ c.args.connection.now _ _ inv.1.0 c.loop.line _ read c.in_ok-answer_all-in-Ok-eq0.ensures.whole in (
       inv.1.0,
-      reply_lines so_far.1,
-      still g.C.Duplex.exchanged g.met.C.Duplex.in_turn _ _ _ inv.1.0 (reply_lines so_far.1) so_far.3 c.in_default.ensures.failed,
-      stops-at g.D.Desk.answers c.args.desk.now c.loop.desk inv.1.0 c.loop.line so_far.0 so_far.1 so_far.2 so_far.4,
+      reply_lines all.1 ++ reply_lines (last_answers c.loop.line),
+      told-on g.C.Duplex.exchanged g.met.C.Duplex.in_turn c.args.connection.now _ _ inv.1.0 (reply_lines all.1) (reply_lines (last_answers c.loop.line)) all.3 c.in_ok-finish-in-Ok-eq0.ensures.printed,
+      finishes-at g.D.Desk.answers c.args.desk.now _ inv.1.0 c.loop.line all.0 all.1 c.finish.ensures.within all.2 all.4,
     )
 
-pub returns-clause-served : goal.returns-clause-served
-returns-clause-served g c =
+pub returns-in_err-take-in-Ok-clause-served : goal.returns-in_err-take-in-Ok-clause-served
+returns-in_err-take-in-Ok-clause-served g c =
     let inv = c.loop.invariant in
-    let so_far = inv.1.2 in (
-      inv.1.0,
-      reply_lines so_far.1,
-      so_far.3,
-      (stops-at g.D.Desk.answers c.args.desk.now c.loop.desk inv.1.0 c.loop.line so_far.0 so_far.1 so_far.2 so_far.4, omega (arith, inv.1.1, c.loop-test.false)),
-    )
+    let came = take c.in-Ok.count c.receive.new.buffer in
+    let ready = so-far-some g.D.Desk.answers g.D.Desk.posts g.C.Duplex.exchanged g.met.C.Duplex.in_turn c.args.desk.now _ _ c.args.connection.now _ _ inv.1.0 c.loop.line _ _ inv.1.2 c.in_ok-answer_before_wait.ensures.whole in
+    let cut = so-far-cut g.D.Desk.answers g.D.Desk.posts g.C.Duplex.exchanged g.met.C.Duplex.in_turn c.args.desk.now _ _ c.args.connection.now _ _ _ inv.1.0 came c.loop.line _ ready c.in-Ok.ensures.bytes c.in_err-take-in-Ok.ensures.failed in
+    served-in-part g.D.Desk.answers g.D.Desk.posts g.C.Duplex.exchanged c.args.desk.now _ c.args.connection.now _ (inv.1.0 ++ came) _ c.from_residual-in_err-take-in-Ok.ensures.1 cut
 
-pub returns-in-Ok-finish-clause-served : goal.returns-in-Ok-finish-clause-served
-returns-in-Ok-finish-clause-served g c =
+pub returns-then-branch-clause-served : goal.returns-then-branch-clause-served
+returns-then-branch-clause-served g c =
     let inv = c.loop.invariant in
-    let so_far = inv.1.2 in
-    let read = no-more g.C.Duplex.exchanged g.met.C.Duplex.in_turn _ _ _ inv.1.0 c.receive.new.buffer (reply_lines so_far.1) c.in-Ok.count so_far.3 c.in-Ok.ensures.bytes c.if-count-eq0.true in (
-      inv.1.0,
-      reply_lines so_far.1 ++ reply_lines (last_answers c.loop.line),
-      told-on g.C.Duplex.exchanged g.met.C.Duplex.in_turn _ _ _ inv.1.0 (reply_lines so_far.1) (reply_lines (last_answers c.loop.line)) read c.in-Ok-finish.ensures.printed,
-      finishes-at g.D.Desk.answers c.args.desk.now c.loop.desk inv.1.0 c.loop.line so_far.0 so_far.1 c.finish.ensures.within so_far.2 so_far.4,
-    )
+    let came = take c.in-Ok.count c.receive.new.buffer in
+    let ready = so-far-some g.D.Desk.answers g.D.Desk.posts g.C.Duplex.exchanged g.met.C.Duplex.in_turn c.args.desk.now _ _ c.args.connection.now _ _ inv.1.0 c.loop.line _ _ inv.1.2 c.in_ok-answer_before_wait.ensures.whole in
+    let closed = so-far-closed g.D.Desk.answers g.D.Desk.posts g.C.Duplex.exchanged g.met.C.Duplex.in_turn c.args.desk.now _ _ c.args.connection.now _ _ _ inv.1.0 came c.loop.line _ ready c.in-Ok.ensures.bytes (c.in_ok-take-in-Ok.ensures.closed (search rules)) in
+    (inv.1.0 ++ came, closed.0, closed.1, closed.2)
+
+pub returns-in_err-answer_all-in-Err-clause-served : goal.returns-in_err-answer_all-in-Err-clause-served
+returns-in_err-answer_all-in-Err-clause-served g c =
+    let inv = c.loop.invariant in
+    let ready = so-far-some g.D.Desk.answers g.D.Desk.posts g.C.Duplex.exchanged g.met.C.Duplex.in_turn c.args.desk.now _ _ c.args.connection.now _ _ inv.1.0 c.loop.line _ _ inv.1.2 c.in_ok-answer_before_wait.ensures.whole in
+    let read = so-far-still g.D.Desk.answers g.D.Desk.posts g.C.Duplex.exchanged g.met.C.Duplex.in_turn c.args.desk.now _ c.args.connection.now _ _ inv.1.0 c.loop.line _ ready c.in-Err.ensures.failed in
+    let broken = so-far-broken g.D.Desk.answers g.D.Desk.posts g.C.Duplex.exchanged g.met.C.Duplex.in_turn c.args.desk.now _ _ c.args.connection.now _ _ inv.1.0 c.loop.line _ read c.in_err-answer_all-in-Err.ensures.part in
+    served-in-part g.D.Desk.answers g.D.Desk.posts g.C.Duplex.exchanged c.args.desk.now _ c.args.connection.now _ inv.1.0 _ c.from_residual-in_err-answer_all-in-Err.ensures.1 broken
 
 pub returns-in-Err-clause-served : goal.returns-in-Err-clause-served
 returns-in-Err-clause-served g c =
     let inv = c.loop.invariant in
-    let so_far = inv.1.2 in
-    let read = no-more g.C.Duplex.exchanged g.met.C.Duplex.in_turn _ _ _ inv.1.0 c.receive.new.buffer (reply_lines so_far.1) c.in-Ok.count so_far.3 c.in-Ok.ensures.bytes c.if-count-eq0.true in
-    let broken = broken-end g.D.Desk.answers g.C.Duplex.exchanged g.met.C.Duplex.in_turn c.args.desk.now c.loop.desk _ _ _ inv.1.0 inv.1.0 c.loop.line so_far.0 so_far.1 c.finish.ensures.within so_far.2 read so_far.4 c.in-Err.ensures.failed in (
-      inv.1.0,
-      broken.0,
-      broken.1,
-      broken.2,
-    )
-
-pub returns-in-Ok-true-clause-served : goal.returns-in-Ok-true-clause-served
-returns-in-Ok-true-clause-served g c =
-    let inv = c.loop.invariant in
-    let seen = inv.1.0 in
-    let so_far = inv.1.2 in
-    let came = take c.in-Ok.count c.receive.new.buffer in
-    let closed = c.in-Ok-true.ensures.closed (search rules) in (
-      seen ++ came,
-      reply_lines so_far.1 ++ closed.0,
-      told-on g.C.Duplex.exchanged g.met.C.Duplex.in_turn _ _ _ (seen ++ came) (reply_lines so_far.1) closed.0 (heard-on g.C.Duplex.exchanged g.met.C.Duplex.in_turn _ _ _ seen came (reply_lines so_far.1) so_far.3 c.in-Ok.ensures.bytes) closed.1,
-      closes-behind g.D.Desk.answers c.args.desk.now c.loop.desk _ (lines_of (seen ++ came)) (lines_on c.loop.line came) so_far.0 so_far.1 closed.0 so_far.2 (so_far.4 came) closed.2,
-    )
-
-pub returns-in-Err-take-clause-served : goal.returns-in-Err-take-clause-served
-returns-in-Err-take-clause-served g c =
-    let inv = c.loop.invariant in
-    let seen = inv.1.0 in
-    let so_far = inv.1.2 in
-    let came = take c.in-Ok.count c.receive.new.buffer in
-    let broken = c.in-Err-take.ensures.failed in (
-      seen ++ came,
-      reply_lines so_far.1 ++ broken.0,
-      told-on g.C.Duplex.exchanged g.met.C.Duplex.in_turn _ _ _ (seen ++ came) (reply_lines so_far.1) broken.0 (heard-on g.C.Duplex.exchanged g.met.C.Duplex.in_turn _ _ _ seen came (reply_lines so_far.1) so_far.3 c.in-Ok.ensures.bytes) broken.1,
-      breaks-behind g.D.Desk.answers c.args.desk.now c.loop.desk _ (lines_of (seen ++ came)) (lines_on c.loop.line came) so_far.0 so_far.1 broken.0 so_far.2 (so_far.4 came) broken.2,
-    )
+    let ready = so-far-some g.D.Desk.answers g.D.Desk.posts g.C.Duplex.exchanged g.met.C.Duplex.in_turn c.args.desk.now _ _ c.args.connection.now _ _ inv.1.0 c.loop.line _ _ inv.1.2 c.in_ok-answer_before_wait.ensures.whole in
+    let read = so-far-still g.D.Desk.answers g.D.Desk.posts g.C.Duplex.exchanged g.met.C.Duplex.in_turn c.args.desk.now _ c.args.connection.now _ _ inv.1.0 c.loop.line _ ready c.in-Err.ensures.failed in
+    let all = so-far-all g.D.Desk.answers g.D.Desk.posts g.C.Duplex.exchanged g.met.C.Duplex.in_turn c.args.desk.now _ _ c.args.connection.now _ _ inv.1.0 c.loop.line _ read c.in_ok-answer_all-in-Err.ensures.whole in
+    (inv.1.0, reply_lines all.1, all.3, stops-at g.D.Desk.answers c.args.desk.now _ inv.1.0 c.loop.line all.0 all.1 all.2 all.4)
 
 pub loop-preserved : goal.loop-preserved
 loop-preserved g c =
     let inv = c.loop.invariant in
-    let seen = inv.1.0 in
-    let so_far = inv.1.2 in
     let came = take c.in-Ok.count c.receive.new.buffer in
-    let now = c.in-Ok-false.ensures.open (search rules) in (
-      (search rules, c.take.ensures.queue),
+    let some : 1 ≤ c.in-Ok.count = search rules in
+    let ready = so-far-some g.D.Desk.answers g.D.Desk.posts g.C.Duplex.exchanged g.met.C.Duplex.in_turn c.args.desk.now _ _ c.args.connection.now _ _ inv.1.0 c.loop.line _ _ inv.1.2 c.in_ok-answer_before_wait.ensures.whole in (
+      search rules,
       (
-        seen ++ came,
-        omega (arith, inv.1.1, length-append seen came, length-take-le c.in-Ok.count c.receive.new.buffer (search rules)),
-        (
-          so_far.0 ++ now.0,
-          so_far.1 ++ now.1,
-          all-append g.D.Desk.answers so_far.0 now.0 so_far.1 now.1 c.args.desk.now c.loop.desk _ so_far.2 now.2,
-          told-all g.C.Duplex.exchanged g.met.C.Duplex.in_turn _ _ _ (seen ++ came) so_far.1 now.1 (heard-on g.C.Duplex.exchanged g.met.C.Duplex.in_turn _ _ _ seen came (reply_lines so_far.1) so_far.3 c.in-Ok.ensures.bytes) now.3,
-          λ more. ap lines_of (append_assoc seen came more) ∙ so_far.4 (came ++ more) ∙ ap (λ l. so_far.0 ++ l) (now.4 more) ∙ sym (append_assoc so_far.0 now.0 _),
-        ),
+        inv.1.0 ++ came,
+        omega (arith, inv.1.1, some, length-append inv.1.0 came, length-take-le c.in-Ok.count c.receive.new.buffer (search rules)),
+        so-far-more g.D.Desk.answers g.D.Desk.posts g.C.Duplex.exchanged g.met.C.Duplex.in_turn c.args.desk.now _ _ c.args.connection.now _ _ _ inv.1.0 came c.loop.line _ _ _ ready c.in-Ok.ensures.bytes (c.in_ok-take-in-Ok.ensures.open (search rules)),
       ),
     )
 
-pub returns-in-Ok-finish-clause-end : goal.returns-in-Ok-finish-clause-end
-returns-in-Ok-finish-clause-end g c = λ _. c.finish.ensures.end (c.in-Ok.ensures.end c.if-count-eq0.true c.loop.invariant.0.0)
+pub returns-in_err-answer_all-clause-served : goal.returns-in_err-answer_all-clause-served
+returns-in_err-answer_all-clause-served g c =
+    let inv = c.loop.invariant in
+    let broken = so-far-broken g.D.Desk.answers g.D.Desk.posts g.C.Duplex.exchanged g.met.C.Duplex.in_turn c.args.desk.now _ _ c.args.connection.now _ _ inv.1.0 c.loop.line _ inv.1.2 c.in_err-answer_all.ensures.part in
+    served-in-part g.D.Desk.answers g.D.Desk.posts g.C.Duplex.exchanged c.args.desk.now _ c.args.connection.now _ inv.1.0 _ c.from_residual-in_err-answer_all.ensures.1 broken
 
-pub take-requires : goal.take-requires
-take-requires g c = c.loop.invariant.0.1
-
-pub returns-in_default-clause-queue : goal.returns-in_default-clause-queue
-returns-in_default-clause-queue g c = c.loop.invariant.0.1
-
-pub returns-in-Ok-finish-clause-queue : goal.returns-in-Ok-finish-clause-queue
-returns-in-Ok-finish-clause-queue g c = c.loop.invariant.0.1
-
-pub returns-in-Err-clause-queue : goal.returns-in-Err-clause-queue
-returns-in-Err-clause-queue g c = c.loop.invariant.0.1
-
-pub returns-clause-queue : goal.returns-clause-queue
-returns-clause-queue g c = c.loop.invariant.0.1
+pub returns-clause-served : goal.returns-clause-served
+returns-clause-served g c =
+    let inv = c.loop.invariant in
+    let all = so-far-all g.D.Desk.answers g.D.Desk.posts g.C.Duplex.exchanged g.met.C.Duplex.in_turn c.args.desk.now _ _ c.args.connection.now _ _ inv.1.0 c.loop.line _ inv.1.2 c.in_ok-answer_all.ensures.whole in
+    (inv.1.0, reply_lines all.1, all.3, (stops-at g.D.Desk.answers c.args.desk.now _ inv.1.0 c.loop.line all.0 all.1 all.2 all.4, omega (arith, inv.1.1, c.loop-test.false)))

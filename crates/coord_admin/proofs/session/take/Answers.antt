@@ -1,43 +1,48 @@
-use Rattle.std.proofs.Common.{◌++◌, [], ◌∷◌, Some, rules, refl, sym, ap, ◌∙◌, append_assoc, append-nil}
+use Rattle.std.proofs.Common.{◌++◌, [], ◌∷◌, Some, refl, sym, ap, ◌∙◌, append_assoc, append-nil}
+use Rattle.std.proofs.lemmas.Result.{err_from_is_err_and}
 use Rattle.std.specs.Option.{option_copied}
 use Rattle.coord_lines.specs.Lines.{lines_on}
 use Rattle.coord_lines.proofs.LinesOn.{lines_on-unended}
-use Rattle.coord_admin.proofs.Pieces.{goes-all, goes-further, goes-none, piece-broken, piece-closed}
+use Rattle.coord_admin.proofs.Pieces.{goes-further, goes-waiting, piece-broken, piece-closed}
 use Rattle.coord_admin.proofs.Stream.{line_ended, told-all}
 use Rattle.coord_admin.proofs.session.take.Goals as goal
 
 pub loop-behind-init : goal.loop-behind-init
-loop-behind-init g c = ([], [], goes-none g.D.Desk.answers g.D.Desk.posts _ _ c.requires, g.met.C.Duplex.at_rest _, λ more. refl)
+loop-behind-init g c = λ d waiting await. (waiting, [], goes-waiting g.D.Desk.answers g.D.Desk.posts d _ waiting _ await, g.met.C.Duplex.at_rest _, λ more. refl)
 
 pub returns-in_err-closed-clause-failed : goal.returns-in_err-closed-clause-failed
 returns-in_err-closed-clause-failed g c =
-    let inv = c.loop-behind.invariant in
-    let goes = inv.2 in
     let first = c.args.line.now in
     let line = option_copied c.get.result in
     let behind = c.in-Some.behind.now in
     let ended = line_ended g.D.Desk.answers c.loop-behind.line c.loop-behind.rest.now [] behind line c.in-Some.ensures.behind (c.get.ensures.line ∙ c.take.ensures.line) in
-    let same = ap (lines_on first) (sym (append-nil c.args.piece.now)) ∙ inv.4 [] ∙ ap (λ l. inv.0 ++ l) ended in
+    let failed = err_from_is_err_and c.from_residual.result c.from_residual.ensures.1 in
+    rw failed.1 (λ d waiting await.
+    let inv = c.loop-behind.invariant d waiting await in
+    let goes = inv.2 in
+    let all = waiting ++ lines_on first c.args.piece.now in
+    let same = ap (λ l. waiting ++ lines_on first l) (sym (append-nil c.args.piece.now)) ∙ inv.4 [] ∙ ap (λ l. inv.0 ++ l) ended in
     let rest = lines_on (Some []) (behind ++ []) in
     let broken = c.in_err-closed.ensures.failed goes.2 goes.1 goes.5 in
-    let part = piece-broken g.D.Desk.answers g.D.Desk.posts g.C.Duplex.exchanged g.met.C.Duplex.in_turn c.args.desk.now _ _ _ _ _ (lines_on first c.args.piece.now) inv.0 (line ∷ rest) inv.1 _ goes inv.3 same (broken.0, broken.1, broken.2 rest) in
-    search rules
+    piece-broken g.D.Desk.answers g.D.Desk.posts g.C.Duplex.exchanged g.met.C.Duplex.in_turn d _ _ _ _ _ all inv.0 (line ∷ rest) inv.1 _ goes inv.3 same (broken.0, broken.1, broken.2 rest))
 
 pub returns-then-closed-clause-closed : goal.returns-then-closed-clause-closed
 returns-then-closed-clause-closed g c =
-    let inv = c.loop-behind.invariant in
-    let goes = inv.2 in
     let first = c.args.line.now in
     let line = option_copied c.get.result in
     let behind = c.in-Some.behind.now in
     let ended = line_ended g.D.Desk.answers c.loop-behind.line c.loop-behind.rest.now [] behind line c.in-Some.ensures.behind (c.get.ensures.line ∙ c.take.ensures.line) in
-    let same = ap (lines_on first) (sym (append-nil c.args.piece.now)) ∙ inv.4 [] ∙ ap (λ l. inv.0 ++ l) ended in
+    λ _ d waiting await.
+    let inv = c.loop-behind.invariant d waiting await in
+    let goes = inv.2 in
+    let all = waiting ++ lines_on first c.args.piece.now in
+    let same = ap (λ l. waiting ++ lines_on first l) (sym (append-nil c.args.piece.now)) ∙ inv.4 [] ∙ ap (λ l. inv.0 ++ l) ended in
     let now = c.in_ok-closed.ensures.closed c.if-closed.true goes.2 goes.1 goes.5 in
-    λ _. piece-closed g.D.Desk.answers g.D.Desk.posts g.C.Duplex.exchanged g.met.C.Duplex.in_turn c.args.desk.now _ _ _ _ _ (lines_on first c.args.piece.now) inv.0 line (behind ++ []) inv.1 _ goes inv.3 same now
+    piece-closed g.D.Desk.answers g.D.Desk.posts g.C.Duplex.exchanged g.met.C.Duplex.in_turn d _ _ _ _ _ all inv.0 line (behind ++ []) inv.1 _ goes inv.3 same now
 
 pub loop-behind-preserved : goal.loop-behind-preserved
-loop-behind-preserved g c =
-    let inv = c.loop-behind.invariant in
+loop-behind-preserved g c = λ d waiting await.
+    let inv = c.loop-behind.invariant d waiting await in
     let goes = inv.2 in
     let line = option_copied c.get.result in
     let behind = c.in-Some.behind.now in
@@ -53,27 +58,12 @@ loop-behind-preserved g c =
           ),
     )
 
-pub returns-in_err-answer_all-clause-failed : goal.returns-in_err-answer_all-clause-failed
-returns-in_err-answer_all-clause-failed g c =
-    let inv = c.loop-behind.invariant in
-    let goes = inv.2 in
-    let first = c.args.line.now in
-    let rest = lines_on c.take.new.self [] in
-    let unended = lines_on-unended c.loop-behind.line c.loop-behind.rest.now [] (sym c.in_default.ensures.behind) ∙ ap (λ l. lines_on l []) (sym c.take.ensures.line) in
-    let same = ap (lines_on first) (sym (append-nil c.args.piece.now)) ∙ inv.4 [] ∙ ap (λ l. inv.0 ++ l) unended in
-    let broken = c.in_err-answer_all.ensures.part goes.2 goes.1 goes.5 in
-    let part = piece-broken g.D.Desk.answers g.D.Desk.posts g.C.Duplex.exchanged g.met.C.Duplex.in_turn c.args.desk.now _ _ _ _ _ (lines_on first c.args.piece.now) inv.0 rest inv.1 _ goes inv.3 same (broken.0, broken.1, broken.2 rest) in
-    search rules
-
 pub returns-clause-open : goal.returns-clause-open
-returns-clause-open g c =
-    let inv = c.loop-behind.invariant in
-    let goes = inv.2 in
-    let now = c.in_ok-answer_all.ensures.whole goes.2 goes.1 goes.5 in
-    λ _. (
+returns-clause-open g c = λ _ d waiting await.
+    let inv = c.loop-behind.invariant d waiting await in (
       inv.0,
-      inv.1 ++ now.0,
-      goes-all g.D.Desk.answers g.D.Desk.posts _ _ _ inv.0 inv.1 now.0 _ goes now.1,
-      told-all g.C.Duplex.exchanged g.met.C.Duplex.in_turn _ _ _ [] inv.1 now.0 inv.3 now.2,
+      inv.1,
+      inv.2,
+      inv.3,
       λ more. inv.4 more ∙ ap (λ l. inv.0 ++ l) (lines_on-unended c.loop-behind.line c.loop-behind.rest.now more (sym c.in_default.ensures.behind) ∙ ap (λ l. lines_on l more) (sym c.take.ensures.line)),
     )

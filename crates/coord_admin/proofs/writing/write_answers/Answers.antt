@@ -5,7 +5,7 @@ use Rattle.coord_admin.proofs.Stream.{all-taken, part-at_end, part-within, text-
 use Rattle.coord_admin.proofs.writing.write_answers.Goals as goal
 
 pub loop-answer-init : goal.loop-answer-init
-loop-answer-init g c = ([], [], tt, g.met.C.Duplex.at_rest _, sym c.new-text.ensures.items)
+loop-answer-init g c = ([], [], tt, g.met.C.Duplex.at_rest _, sym c.new-text.ensures.items, λ ended. ended)
 
 pub returns-in_err-add_line-clause-part : goal.returns-in_err-add_line-clause-part
 returns-in_err-add_line-clause-part g c =
@@ -29,6 +29,7 @@ loop-answer-preserved g c =
       written-next c.args.answers.now inv.1 c.answer-item.result line.0 c.loop-answer.answer-index c.loop-answer-test.true c.answer-item.is inv.2 line.1,
       told-on g.C.Duplex.exchanged g.met.C.Duplex.in_turn _ _ _ [] inv.0 added.0 inv.3 added.1,
       text-on inv.1 line.0 inv.0 added.0 c.loop-answer.text.items _ _ inv.4 (c.as_bytes.ensures ∙ line.2) added.2,
+      λ ended. c.add_line.ensures.end (inv.5 ended),
     )
 
 pub returns-clause-whole : goal.returns-clause-whole
@@ -52,3 +53,9 @@ returns-clause-part g c =
       told-on g.C.Duplex.exchanged g.met.C.Duplex.in_turn _ _ _ [] inv.0 part.0 inv.3 part.1,
       part-at_end inv.1 inv.0 part.0 c.deref.result.now (inv.4 ∙ ap (λ l. inv.0 ++ l) (sym c.deref.ensures.value)) part.2,
     )) c.reply.ensures.part
+
+pub returns-in_err-add_line-clause-end : goal.returns-in_err-add_line-clause-end
+returns-in_err-add_line-clause-end g c = λ ended. c.add_line.ensures.end (c.loop-answer.invariant.5 ended)
+
+pub returns-clause-end : goal.returns-clause-end
+returns-clause-end g c = λ ended. c.reply.ensures.end (c.loop-answer.invariant.5 ended)

@@ -11,3 +11,4 @@ invariant-loop-answer g l =
     × AreWritten (take l.answer-index l.answers) told
     × g.C.Duplex.exchanged l.fn.connection [] out l.connection
     × (reply_lines told ≡ out ++ l.text.items)
+    × (g.C.Duplex.has_ended l.fn.connection → g.C.Duplex.has_ended l.connection)

@@ -1,0 +1,136 @@
+"""The processes of this machine, as far as this user may see them: what they have open, locked, and listen at."""
+
+from __future__ import annotations
+
+import os
+import select
+import socket
+from collections.abc import Iterator
+from dataclasses import dataclass
+
+LISTENS = "0A"  # the state in /proc/net/tcp
+
+
+def lock_holders(found: os.stat_result) -> list[int]:
+    """The processes of this machine that have a lock on a file. Some file systems give a lock another device's number
+    than the file has: there the process is asked what it has open."""
+    device = f"{os.major(found.st_dev):02x}:{os.minor(found.st_dev):02x}"
+    try:
+        with open("/proc/locks", encoding="utf-8") as lines:
+            rows = [line.split() for line in lines]
+    except OSError:
+        return []
+    holders = set()
+    for row in rows:
+        if len(row) > 5 and row[1] != "->" and row[5].endswith(f":{found.st_ino}"):
+            process = int(row[4])
+            if row[5] == f"{device}:{found.st_ino}" or has_open(process, found):
+                holders.add(process)
+    return sorted(holders)
+
+
+def has_open(process: int, found: os.stat_result) -> bool:
+    for name in opened(process):
+        try:
+            if os.path.samestat(os.stat(f"/proc/{process}/fd/{name}"), found):
+                return True
+        except OSError:
+            pass
+    return False
+
+
+def commanded(process: int) -> str:
+    """The words with which a process was started, where they can be known."""
+    try:
+        with open(f"/proc/{process}/cmdline", "rb") as file:
+            words = file.read().replace(b"\0", b" ").decode("utf-8", "replace").strip()
+    except OSError:
+        return ""
+    return f" ({words})" if words else ""
+
+
+def file_limit(process: int) -> int | None:
+    """The size to which a process may let a file grow, None for any."""
+    try:
+        with open(f"/proc/{process}/limits", encoding="utf-8") as lines:
+            row = next(line for line in lines if line.startswith("Max file size")).split()
+    except (OSError, StopIteration):
+        return None
+    return int(row[3]) if row[3].isdigit() else None
+
+
+def listening(host: str, port: int) -> set[int]:
+    """The processes that listen at an address, as far as this user may see them."""
+    wanted = {f"{int.from_bytes(socket.inet_aton(each), 'little'):08X}:{port:04X}" for each in (host, "0.0.0.0")}
+    try:
+        with open("/proc/net/tcp", encoding="utf-8") as lines:
+            rows = [line.split() for line in lines][1:]
+    except OSError:
+        return set()
+    sockets = {f"socket:[{row[9]}]" for row in rows if row[1] in wanted and row[3] == LISTENS}
+    return {process for process in processes() if sockets & set(links_of(process))} if sockets else set()
+
+
+def processes() -> list[int]:
+    return [int(name) for name in os.listdir("/proc") if name.isdigit()]
+
+
+def opened(process: int) -> list[str]:
+    """The numbers of what a process has open, as far as this user may see them."""
+    try:
+        return os.listdir(f"/proc/{process}/fd")
+    except OSError:
+        return []
+
+
+def links_of(process: int) -> Iterator[str]:
+    """The names of what it has open."""
+    for name in opened(process):
+        try:
+            yield os.readlink(f"/proc/{process}/fd/{name}")
+        except OSError:
+            pass
+
+
+@dataclass(frozen=True)
+class Pipe:
+    """A pipe into which a process writes: who reads it, and whether it is full."""
+
+    readers: list[int]
+    is_full: bool
+
+
+def output_pipe(process: int) -> Pipe | None:
+    """The pipe that is a process's standard output; None where it is something else."""
+    path = f"/proc/{process}/fd/1"
+    try:
+        name = os.readlink(path)
+        if not name.startswith("pipe:"):
+            return None
+        writer = os.open(path, os.O_WRONLY | os.O_NONBLOCK)
+    except OSError:
+        return None
+    try:
+        poll = select.poll()
+        poll.register(writer, select.POLLOUT)
+        is_full = not poll.poll(0)
+    finally:
+        os.close(writer)
+    return Pipe([each for each in processes() if each != process and reads(each, name)], is_full)
+
+
+def reads(process: int, name: str) -> bool:
+    """Whether a process has what is called so open to read it."""
+    for number in opened(process):
+        try:
+            if os.readlink(f"/proc/{process}/fd/{number}") == name and not flags_of(process, number) & os.O_ACCMODE:
+                return True
+        except OSError:
+            pass
+    return False
+
+
+def flags_of(process: int, number: str) -> int:
+    """With which flags a process has opened a descriptor."""
+    with open(f"/proc/{process}/fdinfo/{number}", encoding="utf-8") as lines:
+        return next(int(line.split()[1], 8) for line in lines if line.startswith("flags:"))

@@ -1,0 +1,116 @@
+-- What was read so far: its lines have replies or await them; and what more makes of it.
+use Rattle.std.proofs.Common.{◌≡◌, ℕ, List, [], ◌++◌, Result, Err, IsErrAnd, sym, ap, ◌∙◌, subst, take, append_assoc, append-nil}
+use Rattle.std.proofs.lemmas.Result.{err_from_is_err_and}
+use Rattle.coord_lines.specs.Lines.{Line, lines_of, lines_on}
+use Rattle.coord_admin.specs.declared.request.Request.{Request}
+use Rattle.coord_admin.specs.declared.answer.Answer.{Answer}
+use Rattle.coord_admin.specs.Replies.{reply_lines}
+use Rattle.coord_admin.specs.declared.fault.ServeFault.{ServeFault}
+use Rattle.coord_admin.specs.declared.fault.ServeFault.TheVariants.{Write}
+use Rattle.coord_admin.specs.declared.session.Ended.{Ended}
+use Rattle.coord_admin.specs.Stream.{AllGet, BreaksOff, Closes, GoesOn, Served}
+use Rattle.coord_admin.specs.Together.{AwaitReplies}
+use Rattle.coord_admin.proofs.Pieces.{goes-all, goes-broken, goes-on}
+use Rattle.coord_admin.proofs.Stream.{InTurn, breaks-behind, closes-behind, heard-on, no-more, still, told-all, told-on}
+
+module _ {D P : Type 0} (answers : D → Request → Answer → D → Type 0) (posts : D → Request → P → D → Type 0) {C : Type 0} (exchanged : C → List ℕ → List ℕ → C → Type 0) where
+  -- the lines that have ended in what was seen have replies, or were posted and await them
+  abbrev pub SoFar : D → C → List ℕ → Line → List P → D → C → Type 0
+  SoFar d a seen line posted e b =
+      (lines : List Line) × (told : List Answer) × GoesOn answers posts d lines told posted e × exchanged a seen (reply_lines told) b × ((more : List ℕ) → lines_of (seen ++ more) ≡ lines ++ lines_on line more)
+
+  -- each of them has its reply
+  abbrev pub AllSoFar : D → C → List ℕ → Line → D → C → Type 0
+  AllSoFar d a seen line e b =
+      (lines : List Line) × (told : List Answer) × AllGet answers d lines told e × exchanged a seen (reply_lines told) b × ((more : List ℕ) → lines_of (seen ++ more) ≡ lines ++ lines_on line more)
+
+  -- a reply was not written whole
+  pub served-in-part : (d h : D) (a c : C) (seen : List ℕ) (r : Result Ended ServeFault) → IsErrAnd r (λ fault. fault ≡ Write) → (text : List ℕ) × exchanged a seen text c × BreaksOff answers d (lines_of seen) text h → (seen : List ℕ) × (text : List ℕ) × exchanged a seen text c × Served answers d seen text r h
+  served-in-part d h a c seen r failed w =
+      let fault = err_from_is_err_and r failed in
+      (seen, w.0, w.1, subst (λ x. Served answers d seen w.0 x h) (sym (fault.1 ∙ ap Err fault.2)) w.2)
+
+  module _ (turn : InTurn exchanged) where
+    -- a read brought nothing
+    pub so-far-no-more : (d e : D) (a b c : C) (seen bytes : List ℕ) (count : ℕ) (line : Line) (posted : List P) → SoFar d a seen line posted e b → exchanged b (take count bytes) [] c → count ≡ 0 → SoFar d a seen line posted e c
+    so-far-no-more d e a b c seen bytes count line posted s nothing none = (s.0, s.1, s.2, no-more exchanged turn a b c seen bytes (reply_lines s.1) count s.3 nothing none, s.4)
+
+    -- or failed
+    pub so-far-still : (d e : D) (a b c : C) (seen : List ℕ) (line : Line) (posted : List P) → SoFar d a seen line posted e b → exchanged b [] [] c → SoFar d a seen line posted e c
+    so-far-still d e a b c seen line posted s nothing = (s.0, s.1, s.2, still exchanged turn a b c seen (reply_lines s.1) s.3 nothing, s.4)
+
+    -- what waited has replies, or waits on
+    pub so-far-some : (d e h : D) (a b c : C) (seen : List ℕ) (line : Line) (posted later : List P) → SoFar d a seen line posted e b
+        → ((d : D) (lines : List Line) → AwaitReplies posts d lines posted e → (told : List Answer) × GoesOn answers posts d lines told later h × exchanged b [] (reply_lines told) c) → SoFar d a seen line later h c
+    so-far-some d e h a b c seen line posted later s now =
+        let g = s.2 in
+        let n = now g.2 g.1 g.5 in (
+          g.0 ++ g.1,
+          s.1 ++ n.0,
+          goes-on answers posts d e h s.0 g.1 s.1 n.0 posted later g n.1,
+          told-all exchanged turn a b c seen s.1 n.0 s.3 n.2,
+          λ more. s.4 more ∙ ap (λ l. l ++ lines_on line more) g.3,
+        )
+
+    -- what waited has replies
+    pub so-far-all : (d e h : D) (a b c : C) (seen : List ℕ) (line : Line) (posted : List P) → SoFar d a seen line posted e b
+        → ((d : D) (lines : List Line) → AwaitReplies posts d lines posted e → (told : List Answer) × AllGet answers d lines told h × exchanged b [] (reply_lines told) c) → AllSoFar d a seen line h c
+    so-far-all d e h a b c seen line posted s now =
+        let g = s.2 in
+        let n = now g.2 g.1 g.5 in
+        (s.0, s.1 ++ n.0, goes-all answers posts d e h s.0 s.1 n.0 posted g n.1, told-all exchanged turn a b c seen s.1 n.0 s.3 n.2, s.4)
+
+    -- its replies were not written whole
+    pub so-far-broken : (d e h : D) (a b c : C) (seen : List ℕ) (line : Line) (posted : List P) → SoFar d a seen line posted e b
+        → ((d : D) (lines : List Line) → AwaitReplies posts d lines posted e → (part : List ℕ) × exchanged b [] part c × ((left : List Line) → BreaksOff answers d (lines ++ left) part h)) → (text : List ℕ) × exchanged a seen text c × BreaksOff answers d (lines_of seen) text h
+    so-far-broken d e h a b c seen line posted s now =
+        let g = s.2 in
+        let n = now g.2 g.1 g.5 in
+        let rest = lines_on line [] in (
+          reply_lines s.1 ++ n.0,
+          told-on exchanged turn a b c seen (reply_lines s.1) n.0 s.3 n.1,
+          subst (λ l. BreaksOff answers d l (reply_lines s.1 ++ n.0) h) (sym (ap lines_of (sym (append-nil seen)) ∙ s.4 [])) (goes-broken answers posts d e h s.0 rest s.1 posted n.0 g (n.2 rest)),
+        )
+
+    -- the lines of what was seen, with a piece more
+    lines-with : (d e : D) (a b : C) (seen came more : List ℕ) (line : Line) (posted : List P) → (s : SoFar d a seen line posted e b) → lines_of (seen ++ (came ++ more)) ≡ s.2.0 ++ (s.2.1 ++ lines_on line (came ++ more))
+    lines-with d e a b seen came more line posted s = s.4 (came ++ more) ∙ ap (λ l. l ++ lines_on line (came ++ more)) s.2.3 ∙ append_assoc s.2.0 s.2.1 (lines_on line (came ++ more))
+
+    lines-with-all : (d e : D) (a b : C) (seen came : List ℕ) (line : Line) (posted : List P) → (s : SoFar d a seen line posted e b) → lines_of (seen ++ came) ≡ s.2.0 ++ (s.2.1 ++ lines_on line came)
+    lines-with-all d e a b seen came line posted s = s.4 came ∙ ap (λ l. l ++ lines_on line came) s.2.3 ∙ append_assoc s.2.0 s.2.1 (lines_on line came)
+
+    -- a piece came, and its lines have replies or await them too
+    pub so-far-more : (d e h : D) (a b c f : C) (seen came : List ℕ) (line next : Line) (posted later : List P) → SoFar d a seen line posted e b → exchanged b came [] c
+        → ((d : D) (waiting : List Line) → AwaitReplies posts d waiting posted e → (lines : List Line) × (told : List Answer) × GoesOn answers posts d lines told later h × exchanged c [] (reply_lines told) f × ((more : List ℕ) → waiting ++ lines_on line (came ++ more) ≡ lines ++ lines_on next more))
+        → SoFar d a (seen ++ came) next later h f
+    so-far-more d e h a b c f seen came line next posted later s heard now =
+        let g = s.2 in
+        let n = now g.2 g.1 g.5 in (
+          g.0 ++ n.0,
+          s.1 ++ n.1,
+          goes-on answers posts d e h s.0 n.0 s.1 n.1 posted later g n.2,
+          told-all exchanged turn a c f (seen ++ came) s.1 n.1 (heard-on exchanged turn a b c seen came (reply_lines s.1) s.3 heard) n.3,
+          λ more. ap lines_of (append_assoc seen came more) ∙ lines-with d e a b seen came more line posted s ∙ ap (λ l. g.0 ++ l) (n.4 more) ∙ sym (append_assoc g.0 n.0 (lines_on next more)),
+        )
+
+    -- one of its lines has closed the desk
+    pub so-far-closed : (d e h : D) (a b c f : C) (seen came : List ℕ) (line : Line) (posted : List P) → SoFar d a seen line posted e b → exchanged b came [] c
+        → ((d : D) (waiting : List Line) → AwaitReplies posts d waiting posted e → (text : List ℕ) × exchanged c [] text f × Closes answers d (waiting ++ lines_on line came) text h) → (text : List ℕ) × exchanged a (seen ++ came) text f × Closes answers d (lines_of (seen ++ came)) text h
+    so-far-closed d e h a b c f seen came line posted s heard now =
+        let g = s.2 in
+        let n = now g.2 g.1 g.5 in (
+          reply_lines s.1 ++ n.0,
+          told-on exchanged turn a c f (seen ++ came) (reply_lines s.1) n.0 (heard-on exchanged turn a b c seen came (reply_lines s.1) s.3 heard) n.1,
+          closes-behind answers d g.2 h (lines_of (seen ++ came)) (g.1 ++ lines_on line came) g.0 s.1 n.0 g.4 (lines-with-all d e a b seen came line posted s) n.2,
+        )
+
+    -- or the reply to one was not written whole
+    pub so-far-cut : (d e h : D) (a b c f : C) (seen came : List ℕ) (line : Line) (posted : List P) → SoFar d a seen line posted e b → exchanged b came [] c
+        → ((d : D) (waiting : List Line) → AwaitReplies posts d waiting posted e → (text : List ℕ) × exchanged c [] text f × BreaksOff answers d (waiting ++ lines_on line came) text h) → (text : List ℕ) × exchanged a (seen ++ came) text f × BreaksOff answers d (lines_of (seen ++ came)) text h
+    so-far-cut d e h a b c f seen came line posted s heard now =
+        let g = s.2 in
+        let n = now g.2 g.1 g.5 in (
+          reply_lines s.1 ++ n.0,
+          told-on exchanged turn a c f (seen ++ came) (reply_lines s.1) n.0 (heard-on exchanged turn a b c seen came (reply_lines s.1) s.3 heard) n.1,
+          breaks-behind answers d g.2 h (lines_of (seen ++ came)) (g.1 ++ lines_on line came) g.0 s.1 n.0 g.4 (lines-with-all d e a b seen came line posted s) n.2,
+        )

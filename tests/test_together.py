@@ -1,0 +1,143 @@
+"""Orders that are sent together share flights, counted by the syncs of the file, of which a flight has two."""
+
+import json
+import socket
+import subprocess
+import sys
+
+from support import preloaded
+from support.program import PROGRAM, ROOT, ran
+from support.refusing import Refusing
+from support.served import DONE, FINISHED, Served, answered, refused
+from support.serving import Serving
+from support.stores import ring, topology
+
+sys.path.insert(0, f"{ROOT}/client")
+from resetd_client import Gateway, Orders, Port  # noqa: E402
+from resetd_client import Served as Seat  # noqa: E402
+
+HALF = 1 << 20  # so large that nothing is moved to the other half meanwhile
+NODES = range(1, 65)
+NOT_CARRIED_OUT = [{"fault": "OutOfMemory"}, refused(4, "OutOfTurn"), refused(1, "Stopped")]
+ALONE = topology([(node, 1) for node in range(1, 17)], half=HALF)
+
+
+class Together(Served):
+    def setUp(self):
+        super().setUp()
+        self.needs("a C compiler", preloaded.has_compiler())
+        self.calls = self.path("calls")
+
+    def serving(self, topology):
+        return Serving(self.made(topology), env=preloaded.environment(self.folder, CALLS=self.calls))
+
+    def flights(self, server, work):
+        """Does something with a server that is quiet: how many flights that took."""
+        server.await_quiet()
+        before = self.syncs()
+        work()
+        server.await_quiet()
+        return (self.syncs() - before) / 2
+
+    def syncs(self):
+        return sum(line.startswith(b"sync ") for line in self.read("calls").splitlines())
+
+    def resets(self, server, numbers):
+        """Resets a node without links, so often, all in one packet."""
+        with server.connect() as connection:
+            connection.send(*({"op": "reset", "client": 1, "number": number, "node": 1} for number in numbers))
+            for number in numbers:
+                self.assertEqual(connection.reply(), answered(FINISHED, 16 + number))
+
+    def test_ten_orders_in_one_packet(self):
+        with self.serving(ALONE) as server:
+            self.resets(server, range(1, 2))
+            self.assertEqual(self.flights(server, lambda: self.resets(server, range(2, 12))), 1)
+            self.expect_closed(server, 11)
+
+    def test_as_many_as_a_flight_takes(self):
+        """They come in several reads. One packet may be taken up while it still comes in, so two more are let pass."""
+        with self.serving(ALONE) as server:
+            self.resets(server, range(1, 2))
+            self.assertLessEqual(self.flights(server, lambda: self.resets(server, range(2, 258))), 3)
+            self.expect_closed(server, 257)
+
+    def test_a_close_behind_nine_orders(self):
+        with self.serving(ALONE) as server, server.connect() as connection:
+            connection.send(*({"op": "reset", "client": 1, "number": number, "node": 1} for number in range(1, 10)),
+                            {"op": "close"})
+            self.assertEqual([connection.reply() for _ in range(10)],
+                             [*(answered(FINISHED, 16 + number) for number in range(1, 10)), {"kind": "closed"}])
+            self.assertEqual(server.ended().status, 0)
+
+    def test_a_gateway_that_confirms_64_members(self):
+        with self.serving(ring(64, HALF)) as server:
+            self.assertEqual(server.order(1, "reset", node=1)["kind"], "started")
+            server.await_quiet(1)
+            with Orders(Port(server.address), 2, self.path("book")) as orders:
+                gateway = Gateway(orders.port, orders, {node: [str(node)] for node in NODES}, self.path("members"))
+                gateway.look()
+                for node in NODES:
+                    seat = Seat(self.path(f"members/{node}"))
+                    self.assertEqual(seat.wanted(), 1)
+                    seat.has_begun()
+                self.assertLessEqual(self.flights(server, gateway.look), 10)
+            shown = server.show()
+            self.assertEqual([row[4:6] for row in shown["nodes"]], [[1, 1]] * 64)
+            self.assertEqual(server.order(64, "confirm", 2, node=64, epoch=1)["kind"], DONE)
+            self.assertEqual(server.show()["accepted"], shown["accepted"])
+            self.expect_closed(server, 64)
+
+    def test_a_topology_that_is_applied(self):
+        with self.serving("half = 1048576\n") as server:
+            wanted = self.write("wanted.toml", ring(64, HALF))
+
+            def apply():
+                done = subprocess.run([f"{ROOT}/client/resetctl", "--address", server.address, "--state", self.path("state"),
+                                       "apply", wanted], capture_output=True, text=True, timeout=120)
+                self.assertEqual(done.returncode, 0, done.stderr)
+            self.assertLessEqual(self.flights(server, apply), 10)
+            self.assertEqual(server.show()["accepted"], 128)
+            self.expect_closed(server, 0)
+        self.assertEqual(ran("check", self.path("store")).printed, "legal 128\n")
+
+
+class Refused(Served):
+    """Orders that come together, where the server is refused one allocation."""
+
+    takes = 30
+
+    def orders(self, store, refusing, first=0):
+        """Three orders in one packet, behind which nothing comes: their replies, and how many allocations were asked for
+        before them and with them."""
+        with Serving(store, env=refusing.environment(first)) as server, server.connect() as connection:
+            before = refusing.count()
+            connection.send(*({"op": "reset", "client": 1, "number": number, "node": 1} for number in range(1, 4)))
+            connection.socket.shutdown(socket.SHUT_WR)
+            return self.replies(connection), before, refusing.count()
+
+    def replies(self, connection):
+        """All that come. A connection that lacked memory to begin is reset, since it was not read."""
+        try:
+            return [json.loads(line) for line in connection.rest()]
+        except ConnectionResetError:
+            return []
+
+    def test_each_allocation_in_turn(self):
+        """Each order has a reply in its place, or tells that memory lacked; or nothing was begun."""
+        self.needs("a C compiler", preloaded.has_compiler())
+        refusing, store = Refusing(PROGRAM, self.folder), self.made(topology([(1, 1)]))
+        content, lacked = self.read("store"), 0
+        replies, before, behind = self.orders(store, refusing)
+        self.assertEqual(replies, [answered(FINISHED, 2), answered(FINISHED, 3), answered(FINISHED, 4)])
+        for first in range(before + 1, behind + 1):
+            self.write("store", content)
+            replies, _, _ = self.orders(store, refusing, first)
+            with self.subTest(first=first - before, of=behind - before):
+                self.assertIn(len(replies), (0, 3), replies)
+                steps = [reply["step"] for reply in replies if "step" in reply]
+                self.assertEqual(steps, sorted(steps), replies)
+                for reply in replies:
+                    self.assertTrue("step" in reply or reply in NOT_CARRIED_OUT, replies)
+            lacked += {"fault": "OutOfMemory"} in replies
+        self.assertGreater(lacked, 10)
