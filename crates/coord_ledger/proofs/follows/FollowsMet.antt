@@ -1,5 +1,5 @@
 -- What a driver's calls say of its own log and flight, they say of those of the machine of a run: what is held goes on to follow it.
-use Rattle.std.proofs.Common.{◌≡◌, ℕ, ◌+◌, ◌-◌, arith, [], ◌∷◌, ◌++◌, take, List, Option, Some, Ok, Err, append-nil, refl, sym, ap, ◌∙◌, subst, Result}
+use Rattle.std.proofs.Common.{◌≡◌, ℕ, ◌+◌, ◌-◌, arith, [], ◌∷◌, ◌++◌, take, List, Option, Some, None, Ok, Err, append-nil, refl, sym, ap, ◌∙◌, subst, Result}
 use Rattle.std.specs.Option.{option_map}
 use Rattle.coord_world.specs.Facade.{outs}
 use Rattle.coord_ledger.specs.Facade.{Answer, Begin, Begun, Claim, Commit, Committed, Crash, Driven, Event, Failed, Finish, Finished, FlightOut, Follows, FollowsTo, Fresh, Good, HandedTo, Held, HoldsTickets, IsConsistent, LedgerState, Log, Machine, Mark, Meets, New, Opened, Refusal, Refused, Release, Repeat, Step, Submit, Torn, Verdict, accepted_count, after, after_finish, after_submit, claimed, finished, flight_out, log_back, machine_of, releases_of, reply_of, settling_releases, verdict, with_accepted}
