@@ -30,7 +30,8 @@ pub use Rattle.coord_ledger.specs.ledger.Calls.{FlightGives, GivesFlown, GivesSe
 pub use Rattle.coord_ledger.specs.ledger.Driver.{Drives, HasFailed, HeldSurvives, HeldTouches, IsEventFault, IsLost, IsPromised, IsReopenFault, IsReopened, MayBegin, brought_home}
 pub use Rattle.coord_ledger.specs.ledger.Driven.{Driven, IsAnew, answer_to, at_home, disk_driven, disk_with, finish_answer, model_driven}
 pub use Rattle.coord_ledger.specs.ledger.Meets.{Meets, Shows, goes_to, machine_of}
-pub use Rattle.coord_ledger.specs.ledger.Held.{Follows, FollowsTo, Held, HoldsTicket, HoldsTickets}
+pub use Rattle.coord_ledger.specs.ledger.Held.{Follows, FollowsTo, HoldsTicket, HoldsTickets}
+pub use Rattle.coord_ledger.specs.declared.event_driver.run.Run.{Run}
 pub use Rattle.coord_ledger.specs.promises.Parts.{IsPartOf, released_first}
 pub use Rattle.coord_ledger.specs.promises.Moments.{LeavesWithin, Reopens, touches_disk}
 pub use Rattle.coord_ledger.specs.promises.Headline.{CrashPrefix, EachMoment, IsAgainOf, IsLeft, IsReplyOf, IsSafe, IsTrulyAgain, Promised, Ran, Survives, Touches, ended, found_by_crash, is_crash, is_signal}

@@ -29,7 +29,8 @@ pub struct Driver<D: CrashDisk> {
 }
 
 impl<D: CrashDisk> Model for Driver<D> {
-    ghost use Rattle.coord_ledger.specs.Facade.{Driven, HoldsFlight};
+    ghost use Rattle.coord_ledger.specs.ledger.Driven.{Driven};
+    ghost use Rattle.coord_ledger.specs.ledger.Follows.{HoldsFlight};
 
     ghost Value = { Driven D };
 

@@ -83,7 +83,7 @@ pub fn run_events_keeping_disk<D: CrashDisk>(
     for (at, event) in events.iter().enumerate() {
         match held.meet(alloc, *event) {
             Ok((answer, next)) => {
-                next.survives();
+                next.driver.survives();
                 answers.push_reserved(answer);
                 held = next;
             }

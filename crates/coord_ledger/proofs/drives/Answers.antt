@@ -1,7 +1,7 @@
 -- What a driver makes of each event follows the event machine.
 use Rattle.std.proofs.Common.{◌≡◌, ℕ, ◌≤◌, Bool, true, false, length, Ok, Err, refl, sym, ap, ◌∙◌, subst, Result, MatchResult, OnErr, IfOk, is_err, is_some}
 use Rattle.std.proofs.lemmas.List.{length-map}
-use Rattle.coord_ledger.specs.Facade.{Answer, Follows, FollowsTo, Held, IsConsistent, Machine, Refusal, Refused, Show, Shown, accepted_count, release_of, resent, settled_count, settled_world}
+use Rattle.coord_ledger.specs.Facade.{Answer, Follows, FollowsTo, IsConsistent, Machine, Refusal, Refused, Run, Show, Shown, accepted_count, release_of, resent, settled_count, settled_world}
 use Rattle.coord_types.specs.declared.refusals.Refusal.TheVariants.{OutOfMemory, Stopped}
 use Rattle.coord_world.specs.Facade.{World, again}
 use Rattle.coord_view.specs.Shown as view
@@ -12,7 +12,7 @@ abbrev pub shown_as : Result view.Shown Refusal → Answer
 shown_as (Ok v) = Shown v
 shown_as (Err e) = Refused e
 
-module _ {D : Type 0} (h : Held D) (s : Machine) (is : IsConsistent s) (follows : Follows h s) where
+module _ {D : Type 0} (h : Run D) (s : Machine) (is : IsConsistent s) (follows : Follows h s) where
   -- ---- show
 
   pub follows_show : (r : Result view.Shown Refusal) (seen : ℕ) (a : Answer) → (is_some h.driver.ledger.log.doubt ≡ true → r ≡ Err Stopped) →

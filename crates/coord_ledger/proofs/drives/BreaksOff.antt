@@ -3,7 +3,7 @@ use Rattle.std.proofs.Common.{◌≡◌, ℕ, ◌<◌, Bool, List, [], length, g
 use Rattle.std.specs.Option.{option_map}
 use Rattle.std.proofs.lemmas.Option.{slice_get_past}
 use Rattle.coord_disk.specs.Model.Present.{Present}
-use Rattle.coord_ledger.specs.Facade.{Answer, Broke, EndsAt, Event, FlightOut, FlightState, Follows, Good, HasCause, Held, IsCommitted, IsConsistent, IsCutShort, IsEventFault, IsGivenBack, IsGivenUp, IsLost, IsPromised, LedgerState, Machine, Promised, Release, RunFaultKind, disk_driven, flight_out, model_driven, run, started}
+use Rattle.coord_ledger.specs.Facade.{Answer, Broke, EndsAt, Event, FlightOut, FlightState, Follows, Good, HasCause, IsCommitted, IsConsistent, IsCutShort, IsEventFault, IsGivenBack, IsGivenUp, IsLost, IsPromised, LedgerState, Machine, Promised, Release, Run, RunFaultKind, disk_driven, flight_out, model_driven, run, started}
 use Rattle.coord_ledger.specs.declared.trace.RunFaultKind.TheVariants.{OutOfMemory, Store}
 use Rattle.coord_ledger.proofs.follows.Follows.{flight_is}
 use Rattle.coord_ledger.proofs.drives.Drives.{Holds, Underway, event_promised, event_there, model_there, same_model}
@@ -15,15 +15,15 @@ committed (Some f) o is good = (length f.steps, sym is ∙ ap (λ m. Some (recor
 
 module _ {D : Type 0} (present : D → Present) (clock : D → ℕ) (left_since : D → ℕ → List ℕ → Type 0) (crashes : D → D → Type 0) where
   -- for want of memory, with the disk as it is held
-  given_up : (on : Bool) (first lost : D) (start : LedgerState D) (events : List Event) (given : List Answer) (h : Held D) (kind : RunFaultKind) (released : List Release) → (all : Holds present clock left_since crashes on first start events given h) → kind ≡ OutOfMemory → released ≡ h.released → disk_driven h.driver ≡ Some lost →
+  given_up : (on : Bool) (first lost : D) (start : LedgerState D) (events : List Event) (given : List Answer) (h : Run D) (kind : RunFaultKind) (released : List Release) → (all : Holds present clock left_since crashes on first start events given h) → kind ≡ OutOfMemory → released ≡ h.released.items → disk_driven h.driver ≡ Some lost →
       IsGivenUp (run (started start) events given) kind released all.drives.disk lost
   given_up on first lost start events given h kind released all memory kept there = record { memory = memory; released_is = kept ∙ all.follows.released; same = let same : lost ≡ all.drives.disk = cc (there, all.drives.holds) in same }
 
   -- ---- in the loop
 
-  module _ (keeps_model : D → Bool) (start : LedgerState D) (events : List Event) (at : ℕ) (given : List Answer) (h : Held D) (way : Underway present clock left_since crashes keeps_model start events at given h) where
+  module _ (keeps_model : D → Bool) (start : LedgerState D) (events : List Event) (at : ℕ) (given : List Answer) (h : Run D) (way : Underway present clock left_since crashes keeps_model start events at given h) where
     -- behind the last event
-    pub broke_after : (at2 : ℕ) (given2 : List Answer) (kind : RunFaultKind) (released : List Release) (lost : D) → at ≡ length events → at2 ≡ at → given2 ≡ given → kind ≡ OutOfMemory → released ≡ h.released → disk_driven h.driver ≡ Some lost → IsSomeAnd h.driver.flight (λ f. f.mark ≡ Good) →
+    pub broke_after : (at2 : ℕ) (given2 : List Answer) (kind : RunFaultKind) (released : List Release) (lost : D) → at ≡ length events → at2 ≡ at → given2 ≡ given → kind ≡ OutOfMemory → released ≡ h.released.items → disk_driven h.driver ≡ Some lost → IsSomeAnd h.driver.flight (λ f. f.mark ≡ Good) →
         (before : D) → start.disk ≡ Some before → Promised (keeps_model before) events (Broke present clock left_since crashes (started start) events at2 given2 released kind (keeps_model before) before lost)
     broke_after at2 given2 kind released lost last here same memory kept there good before disk promised =
         let all = way.holds before disk promised in
@@ -80,7 +80,7 @@ module _ {D : Type 0} (present : D → Present) (clock : D → ℕ) (left_since 
               (there ∙ ap Some cause.0, cause.1, λ on. cause.2 (model_there present clock left_since crashes keeps_model start events at given h way e below is before disk ∙ ap Some on))
 
   -- before the first event
-  pub broke_first : (keeps_model : D → Bool) (start : LedgerState D) (events : List Event) (at2 : ℕ) (given2 : List Answer) (h : Held D) (kind : RunFaultKind) (released : List Release) (lost : D) → at2 ≡ 0 → given2 ≡ [] → kind ≡ OutOfMemory → released ≡ h.released → disk_driven h.driver ≡ Some lost → Underway present clock left_since crashes keeps_model start events 0 [] h →
+  pub broke_first : (keeps_model : D → Bool) (start : LedgerState D) (events : List Event) (at2 : ℕ) (given2 : List Answer) (h : Run D) (kind : RunFaultKind) (released : List Release) (lost : D) → at2 ≡ 0 → given2 ≡ [] → kind ≡ OutOfMemory → released ≡ h.released.items → disk_driven h.driver ≡ Some lost → Underway present clock left_since crashes keeps_model start events 0 [] h →
       (before : D) → start.disk ≡ Some before → Promised (keeps_model before) events (Broke present clock left_since crashes (started start) events at2 given2 released kind (keeps_model before) before lost)
   broke_first keeps_model start events at2 given2 h kind released lost here same memory kept there way before disk promised =
       let all = way.holds before disk promised in

@@ -1,11 +1,11 @@
 -- A run of events, from its first to its last: what a driver keeps before each event.
-use Rattle.std.proofs.Common.{◌≡◌, ◌⊎◌, ℕ, ◌+◌, ◌-◌, ◌<◌, Bool, true, false, List, [], ◌∷◌, ◌++◌, length, take, get_or, zero, suc, None, Some, refl, sym, ap, ◌∙◌, subst, arith, inl, inr, Option, slice_get}
+use Rattle.std.proofs.Common.{◌≡◌, ◌⊎◌, ℕ, ◌+◌, ◌-◌, ◌<◌, Bool, true, false, List, [], ◌∷◌, ◌++◌, length, take, get_or, zero, suc, None, Some, refl, sym, ap, ◌∙◌, subst, arith, inl, inr, slice_get}
 use Rattle.std.specs.List.{AllByRecursion}
 use Rattle.std.specs.Option.{option_map}
 use Rattle.std.proofs.lemmas.Option.{slice_get_read}
 use Rattle.coord_disk.specs.Model.Present.{Present}
 use Rattle.coord_store.proofs.Freshness.{take-push}
-use Rattle.coord_ledger.specs.Facade.{Answer, Claim, CrashPrefix, Driven, Drives, Event, EventInRange, Follows, FollowsTo, Held, HeldSurvives, HeldTouches, HoldsFlight, HoldsTickets, IsConsistent, IsOneOf, IsPromised, LedgerState, Machine, MayBegin, Promised, Release, Shows, Touches, after, answers, at_home, disk_driven, disk_with, flight_out, found_by_crash, is_crash, machine_of, model_driven, run, started, touches_disk}
+use Rattle.coord_ledger.specs.Facade.{Answer, CrashPrefix, Driven, Drives, Event, EventInRange, Follows, FollowsTo, HeldSurvives, HeldTouches, HoldsFlight, HoldsTickets, IsConsistent, IsOneOf, IsPromised, LedgerState, Machine, MayBegin, Promised, Run, Shows, Touches, after, answers, at_home, disk_driven, disk_with, flight_out, found_by_crash, is_crash, machine_of, model_driven, run, started, touches_disk}
 use Rattle.coord_ledger.proofs.machine.Consistent.{run_goes_on, stays_consistent}
 use Rattle.coord_ledger.proofs.drives.EachMoment.{moments_on}
 
@@ -50,39 +50,39 @@ module _ {D : Type 0} (present : D → Present) (clock : D → ℕ) (left_since 
       }
 
   -- what a run keeps after some events, with the lists that it holds beside the driver
-  pub record Holds (on : Bool) (first : D) (start : LedgerState D) (events : List Event) (given : List Answer) (h : Held D) : Type 0 where
+  pub record Holds (on : Bool) (first : D) (start : LedgerState D) (events : List Event) (given : List Answer) (h : Run D) : Type 0 where
     pub drives : Drives present clock left_since crashes on first start events given h.driver
     pub follows : Follows h (run (started start) events given)
 
   -- what the loop of a run keeps before the event at this index
-  pub record Underway (keeps_model : D → Bool) (start : LedgerState D) (events : List Event) (at : ℕ) (given : List Answer) (h : Held D) : Type 0 where
+  pub record Underway (keeps_model : D → Bool) (start : LedgerState D) (events : List Event) (at : ℕ) (given : List Answer) (h : Run D) : Type 0 where
     pub same_model : model_driven keeps_model h.driver ≡ option_map keeps_model start.disk
     pub holds : (before : D) → start.disk ≡ Some before → Promised (keeps_model before) events (Holds (keeps_model before) before start (take at events) given h)
 
   -- before the first event
-  pub underway_first : (keeps_model : D → Bool) (start : LedgerState D) (events : List Event) (given : List Answer) (d : Driven D) (claims : List (Option Claim)) (seen : ℕ) (released : List Release) → d ≡ at_home start →
-      MayBegin keeps_model present clock left_since crashes d → claims ≡ [] → seen ≡ 0 → released ≡ [] → given ≡ [] →
-      Underway keeps_model start events 0 given (record { driver = d; claims = claims; seen = seen; released = released })
-  underway_first keeps_model start events given d claims seen released over begins no_claims unseen unreleased unanswered =
+  pub underway_first : (keeps_model : D → Bool) (start : LedgerState D) (events : List Event) (given : List Answer) (h : Run D) → h.driver ≡ at_home start → MayBegin keeps_model present clock left_since crashes h.driver → h.tickets.items ≡ [] → h.seen ≡ 0 → h.released.items ≡ [] → given ≡ [] →
+      Underway keeps_model start events 0 given h
+  underway_first keeps_model start events given h over begins no_tickets unseen unreleased unanswered =
+      let d = h.driver in
       record {
         same_model = ap (model_driven keeps_model) over;
         holds = λ before disk promised.
             let there : begins.first ≡ before = let is = sym begins.home ∙ ap (λ (x : Driven D). x.ledger.disk) over ∙ disk in cc in
             let first = subst (λ x. Drives present clock left_since crashes (keeps_model x) x d.ledger [] [] d) there begins.drives in
             let drives = subst (λ (l : LedgerState D). Drives present clock left_since crashes (keeps_model before) before l [] [] d) (ap (λ (x : Driven D). x.ledger) over) first in
-            subst (λ l. Holds (keeps_model before) before start [] l (record { driver = d; claims = claims; seen = seen; released = released })) (sym unanswered)
+            subst (λ l. Holds (keeps_model before) before start [] l h) (sym unanswered)
             (record {
               drives = drives;
               follows = record {
                 shows = drives.shows;
-                tickets = subst (λ cs. HoldsTickets d.ledger.log cs []) (sym no_claims) tt;
+                tickets = subst (λ cs. HoldsTickets d.ledger.log cs []) (sym no_tickets) tt;
                 seen = unseen;
                 released = unreleased;
               };
             });
       }
 
-  module _ (keeps_model : D → Bool) (start : LedgerState D) (events : List Event) (at : ℕ) (given : List Answer) (h : Held D) (way : Underway keeps_model start events at given h) where
+  module _ (keeps_model : D → Bool) (start : LedgerState D) (events : List Event) (at : ℕ) (given : List Answer) (h : Run D) (way : Underway keeps_model start events at given h) where
     -- the disk that is held keeps the model as the first one does
     pub same_model : (before disk : D) → start.disk ≡ Some before → disk_driven h.driver ≡ Some disk → keeps_model disk ≡ keeps_model before
     same_model before disk first there =
@@ -102,7 +102,7 @@ module _ {D : Type 0} (present : D → Present) (clock : D → ℕ) (left_since 
       event_promised before disk (inr none) = inr (all_at (λ x. is_crash x ≡ false) events at e event_there none)
 
       -- the event was answered
-      pub underway_on : (new : Held D) (a : Answer) → EventInRange e → ((s : Machine) → IsConsistent s → Follows h s → IsPromised (model_driven keeps_model h.driver) e → FollowsTo s e a new) → model_driven keeps_model new.driver ≡ model_driven keeps_model h.driver →
+      pub underway_on : (new : Run D) (a : Answer) → EventInRange e → ((s : Machine) → IsConsistent s → Follows h s → IsPromised (model_driven keeps_model h.driver) e → FollowsTo s e a new) → model_driven keeps_model new.driver ≡ model_driven keeps_model h.driver →
           ((s : Machine) → IsConsistent s → Follows h s → HeldTouches keeps_model present clock left_since crashes (found_by_crash s e a) (touches_disk e a) e (disk_driven h.driver) (disk_driven new.driver)) → ((s : Machine) → IsConsistent s → Shows new.driver s → HeldSurvives keeps_model present (disk_driven new.driver) s) →
           Underway keeps_model start events (at + 1) (given ++ a ∷ []) new
       underway_on new a named answered same touches survives =
@@ -121,7 +121,7 @@ module _ {D : Type 0} (present : D → Present) (clock : D → ℕ) (left_since 
                 (record { drives = on; follows = subst (Follows new) (sym more.1) to.follows });
           }
         where
-          new_model : (new : Held D) → model_driven keeps_model new.driver ≡ model_driven keeps_model h.driver → (before now : D) → start.disk ≡ Some before → disk_driven new.driver ≡ Some now → keeps_model now ≡ keeps_model before
+          new_model : (new : Run D) → model_driven keeps_model new.driver ≡ model_driven keeps_model h.driver → (before now : D) → start.disk ≡ Some before → disk_driven new.driver ≡ Some now → keeps_model now ≡ keeps_model before
           new_model new same before now first there =
               let is : option_map keeps_model (Some now) ≡ option_map keeps_model (Some before) = sym (ap (option_map keeps_model) there) ∙ same ∙ way.same_model ∙ ap (option_map keeps_model) first in
               cc

@@ -4,7 +4,7 @@ use Rattle.std.specs.Option.{option_map}
 use Rattle.std.proofs.Math.Seq.{take-length}
 use Rattle.coord_disk.specs.Model.Present.{Present}
 use Rattle.coord_store.specs.Recovered.{Recovered}
-use Rattle.coord_ledger.specs.Facade.{Answer, Driven, Drives, EachMoment, Event, Finish, Finished, FlightOut, FlightState, Follows, Good, Held, ImagesGive, IsConsistent, IsLeft, IsOneOf, LedgerGives, LedgerState, Machine, Mark, New, Promised, Ran, Release, Shows, Torn, after_finish, at_home, brought_home, disk_driven, disk_with, ended, finished, flight_out, kept, kept_by, run, settled_count, started, taken_back, world_after}
+use Rattle.coord_ledger.specs.Facade.{Answer, Driven, Drives, EachMoment, Event, Finish, Finished, FlightOut, FlightState, Follows, Good, ImagesGive, IsConsistent, IsLeft, IsOneOf, LedgerGives, LedgerState, Machine, Mark, New, Promised, Ran, Release, Run, Shows, Torn, after_finish, at_home, brought_home, disk_driven, disk_with, ended, finished, flight_out, kept, kept_by, run, settled_count, started, taken_back, world_after}
 use Rattle.coord_ledger.proofs.follows.FollowsCalls.{ledger_images}
 use Rattle.coord_ledger.proofs.follows.Follows.{flight_is, log_moved}
 use Rattle.coord_ledger.proofs.meets.Finish.{meets_back}
@@ -65,8 +65,8 @@ home_disk {D} l (Some f) = by_mark f.mark
 
 module _ {D : Type 0} (present : D → Present) (clock : D → ℕ) (left_since : D → ℕ → List ℕ → Type 0) (crashes : D → D → Type 0) where
   -- a run whose ledger is left at home
-  pub ran_home : (start : LedgerState D) (first : D) (events : List Event) (given : List Answer) (h : Held D) (l : LedgerState D) (released : List Release) (keeps_model : D → Bool) (disk : D) → Drives present clock left_since crashes (keeps_model disk) first start events given h.driver → Follows h (run (started start) events given) →
-      l ≡ brought_home h.driver.ledger h.driver.flight → released ≡ h.released → IfSome l.disk (λ d. keeps_model d ≡ true → LedgerGives present l d) → l.disk ≡ Some disk →
+  pub ran_home : (start : LedgerState D) (first : D) (events : List Event) (given : List Answer) (h : Run D) (l : LedgerState D) (released : List Release) (keeps_model : D → Bool) (disk : D) → Drives present clock left_since crashes (keeps_model disk) first start events given h.driver → Follows h (run (started start) events given) →
+      l ≡ brought_home h.driver.ledger h.driver.flight → released ≡ h.released.items → IfSome l.disk (λ d. keeps_model d ≡ true → LedgerGives present l d) → l.disk ≡ Some disk →
       Ran present clock left_since crashes (started start) events given released l (keeps_model disk) first disk
   ran_home start first events given h l released keeps_model disk drives follows home given_out gives at_home =
       let s = run (started start) events given in
@@ -88,7 +88,7 @@ module _ {D : Type 0} (present : D → Present) (clock : D → ℕ) (left_since 
       }
 
   -- once all events were answered
-  pub ran_all : (keeps_model : D → Bool) (start : LedgerState D) (events : List Event) (at : ℕ) (given : List Answer) (h : Held D) (after : D) (Promise : D → Type 0) → Underway present clock left_since crashes keeps_model start events at given h → at ≡ length events → disk_driven h.driver ≡ Some after →
+  pub ran_all : (keeps_model : D → Bool) (start : LedgerState D) (events : List Event) (at : ℕ) (given : List Answer) (h : Run D) (after : D) (Promise : D → Type 0) → Underway present clock left_since crashes keeps_model start events at given h → at ≡ length events → disk_driven h.driver ≡ Some after →
       ((first : D) → Drives present clock left_since crashes (keeps_model after) first start events given h.driver → Follows h (run (started start) events given) → Promise first) → (before : D) → start.disk ≡ Some before → Promised (keeps_model before) events (Promise before)
   ran_all keeps_model start events at given h after Promise way last there gives before disk promised =
       let all : take at events ≡ events = ap (λ n. take n events) last ∙ take-length events in

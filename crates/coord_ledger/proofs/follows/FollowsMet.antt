@@ -1,8 +1,8 @@
 -- What a driver's calls say of its own log and flight, they say of those of the machine of a run: what is held goes on to follow it.
-use Rattle.std.proofs.Common.{◌≡◌, ℕ, ◌+◌, ◌-◌, arith, [], ◌∷◌, ◌++◌, take, List, Option, Some, None, Ok, Err, append-nil, refl, sym, ap, ◌∙◌, subst, Result}
+use Rattle.std.proofs.Common.{◌≡◌, ℕ, ◌+◌, ◌-◌, arith, [], ◌∷◌, ◌++◌, take, List, Vec, Global, Option, Some, None, Ok, Err, append-nil, refl, sym, ap, ◌∙◌, subst, Result}
 use Rattle.std.specs.Option.{option_map}
 use Rattle.coord_world.specs.Facade.{outs}
-use Rattle.coord_ledger.specs.Facade.{Answer, Begin, Begun, Claim, Commit, Committed, Crash, Driven, Event, Failed, Finish, Finished, FlightOut, Follows, FollowsTo, Fresh, Good, HandedTo, Held, HoldsTickets, IsConsistent, LedgerState, Log, Machine, Mark, Meets, New, Opened, Refusal, Refused, Release, Repeat, Step, Submit, Torn, Verdict, accepted_count, after, after_finish, after_submit, claimed, finished, flight_out, log_back, machine_of, releases_of, reply_of, settling_releases, verdict, with_accepted}
+use Rattle.coord_ledger.specs.Facade.{Answer, Begin, Begun, Claim, Commit, Committed, Crash, Driven, Event, Failed, Finish, Finished, FlightOut, Follows, FollowsTo, Fresh, Good, HandedTo, HoldsTickets, IsConsistent, LedgerState, Log, Machine, Mark, Meets, New, Opened, Refusal, Refused, Release, Repeat, Reply, Run, Step, Submit, Torn, Verdict, accepted_count, after, after_finish, after_submit, claimed, finished, flight_out, log_back, machine_of, releases_of, reply_of, settling_releases, verdict, with_accepted}
 use Rattle.coord_ledger.specs.declared.events.Answer.TheVariants as answer
 use Rattle.coord_ledger.specs.declared.handed.Handed.TheVariants.{Accepted, Repeated}
 use Rattle.coord_store.specs.declared.faults.CommitFault.TheVariants as fault
@@ -15,26 +15,26 @@ use Rattle.coord_ledger.proofs.meets.Shows.{shows_allowed, shows_to}
 abbrev Keeps : Log → List (Option Claim) → ℕ → List Release → Machine → Type 0
 Keeps log claims seen released t = HoldsTickets log claims t.tickets × ((seen ≡ t.seen) × (released ≡ t.released))
 
-module _ {D : Type 0} (h : Held D) (s : Machine) (is : IsConsistent s) (follows : Follows h s) where
+module _ {D : Type 0} (h : Run D) (s : Machine) (is : IsConsistent s) (follows : Follows h s) where
   abbrev d : Driven D
   d = h.driver
 
-  met : (new : Held D) (e : Event) (a : Answer) → Meets d e a new.driver → Keeps new.driver.ledger.log new.claims new.seen new.released (after s e a) → FollowsTo s e a new
+  met : (new : Run D) (e : Event) (a : Answer) → Meets d e a new.driver → Keeps new.driver.ledger.log new.tickets.items new.seen new.released.items (after s e a) → FollowsTo s e a new
   met new e a meets keeps = record {
     allowed = shows_allowed d new.driver s is follows.shows e a meets;
     follows = record { shows = shows_to d new.driver s is follows.shows e a meets; tickets = keeps.0; seen = keeps.1.0; released = keeps.1.1 };
   }
 
   -- where the log stays
-  same : (log : Log) → log ≡ d.ledger.log → Keeps log h.claims h.seen h.released s
-  same log now = (subst (λ g. HoldsTickets g h.claims s.tickets) (sym now) follows.tickets, (follows.seen, follows.released))
+  same : (log : Log) → log ≡ d.ledger.log → Keeps log h.tickets.items h.seen h.released.items s
+  same log now = (subst (λ g. HoldsTickets g h.tickets.items s.tickets) (sym now) follows.tickets, (follows.seen, follows.released))
 
   -- ---- a flight goes out, or none does
 
   pub follows_begun : (new : Driven D) (a : Answer) → Meets d Begin a new → FollowsTo s Begin a (record h { driver = new })
   follows_begun new a meets = met (record h { driver = new }) Begin a meets (by_answer a meets)
     where
-      by_answer : (a : Answer) → Meets d Begin a new → Keeps new.ledger.log h.claims h.seen h.released (after s Begin a)
+      by_answer : (a : Answer) → Meets d Begin a new → Keeps new.ledger.log h.tickets.items h.seen h.released.items (after s Begin a)
       by_answer (Begun n) meets = same new.ledger.log (ap (λ (m : Machine). m.log) (meets.leaves s))
       by_answer a meets = same new.ledger.log (ap (λ (m : Machine). m.log) (meets.leaves s))
 
@@ -43,10 +43,10 @@ module _ {D : Type 0} (h : Held D) (s : Machine) (is : IsConsistent s) (follows 
   pub follows_committed : (new : Driven D) (a : Answer) → new.ledger ≡ d.ledger → Meets d Commit a new → FollowsTo s Commit a (record h { driver = new })
   follows_committed new a ledger meets = met (record h { driver = new }) Commit a meets (by_answer a)
     where
-      kept : Keeps new.ledger.log h.claims h.seen h.released s
+      kept : Keeps new.ledger.log h.tickets.items h.seen h.released.items s
       kept = same new.ledger.log (ap (λ (l : LedgerState D). l.log) ledger)
 
-      by_answer : (a : Answer) → Keeps new.ledger.log h.claims h.seen h.released (after s Commit a)
+      by_answer : (a : Answer) → Keeps new.ledger.log h.tickets.items h.seen h.released.items (after s Commit a)
       by_answer Committed = kept
       by_answer (Failed fault.Device) = kept
       by_answer (Failed fault.OutOfMemory) = kept
@@ -59,37 +59,43 @@ module _ {D : Type 0} (h : Held D) (s : Machine) (is : IsConsistent s) (follows 
 
   module _ (new : Driven D) (x : Step) where
     -- where this is said to the step
-    said : (v : Result Verdict Refusal) (a : Answer) (claims : List (Option Claim)) → verdict d.ledger.log x ≡ v → Meets d (Submit x) a new → Keeps new.ledger.log claims h.seen h.released (after_submit s x v a) → FollowsTo s (Submit x) a (record h { driver = new; claims = claims })
-    said v a claims judged meets keeps =
-        met (record h { driver = new; claims = claims }) (Submit x) a meets (subst (λ u. Keeps new.ledger.log claims h.seen h.released (after_submit s x u a)) (sym (sym (verdict_is d s is follows.shows x) ∙ judged)) keeps)
+    said : (v : Result Verdict Refusal) (a : Answer) (tickets : Vec (Option Claim) Global) → verdict d.ledger.log x ≡ v → Meets d (Submit x) a new → Keeps new.ledger.log tickets.items h.seen h.released.items (after_submit s x v a) → FollowsTo s (Submit x) a (record h { driver = new; tickets = tickets })
+    said v a tickets judged meets keeps =
+        met (record h { driver = new; tickets = tickets }) (Submit x) a meets
+        (subst (λ u. Keeps new.ledger.log tickets.items h.seen h.released.items (after_submit s x u a)) (sym (sym (verdict_is d s is follows.shows x) ∙ judged)) keeps)
 
-    pub follows_accepted : (t : Claim) → HandedTo d.ledger x (Ok (Accepted t)) new.ledger → Meets d (Submit x) (answer.Accepted t.step) new → FollowsTo s (Submit x) (answer.Accepted t.step) (record h { driver = new; claims = h.claims ++ Some t ∷ [] })
-    follows_accepted t to meets =
-        let log = d.ledger.log in
-        let more = (with_accepted d.ledger x).log in
-        let claim : Claim = record { step = accepted_count log + 1; what = x; kind = to.kind } in
-        let one : t ≡ claim = to.claims ∙ ap (claimed x) (reply_is log x to.kind to.judged) in
-        let tickets = holds_push more h.claims s.tickets claim (reply_of claim) refl (granted_new log x to.kind to.judged) (holds_later log more h.claims s.tickets (granted_later log x) follows.tickets) in
-        said (Ok (Fresh to.kind)) (answer.Accepted t.step) (h.claims ++ Some t ∷ []) to.judged meets (
-          subst (λ (l : LedgerState D). HoldsTickets l.log (h.claims ++ Some t ∷ []) (s.tickets ++ Some (record { step = t.step; kind = to.kind }) ∷ [])) (sym to.now)
-              (subst (λ (c : Claim). HoldsTickets more (h.claims ++ Some c ∷ []) (s.tickets ++ Some (record { step = c.step; kind = to.kind }) ∷ [])) (sym one) tickets),
-          (follows.seen, follows.released),
-        )
+    -- a ticket was given
+    module _ (t : Claim) (tickets : Vec (Option Claim) Global) (pushed : tickets.items ≡ h.tickets.items ++ Some t ∷ []) where
+      given : (log : Log) (reply : Reply) → new.ledger.log ≡ log → HoldsTickets log (h.tickets.items ++ Some t ∷ []) (s.tickets ++ Some reply ∷ []) → HoldsTickets new.ledger.log tickets.items (s.tickets ++ Some reply ∷ [])
+      given log reply now holds = subst (λ cs. HoldsTickets new.ledger.log cs (s.tickets ++ Some reply ∷ [])) (sym pushed) (subst (λ g. HoldsTickets g (h.tickets.items ++ Some t ∷ []) (s.tickets ++ Some reply ∷ [])) (sym now) holds)
 
-    pub follows_repeated : (t : Claim) → HandedTo d.ledger x (Ok (Repeated t)) new.ledger → Meets d (Submit x) (answer.Repeated t.step) new → FollowsTo s (Submit x) (answer.Repeated t.step) (record h { driver = new; claims = h.claims ++ Some t ∷ [] })
-    follows_repeated t to meets =
-        let log = d.ledger.log in
-        let tickets = holds_push log h.claims s.tickets (claimed x to.kept) to.kept refl (granted_repeat log x to.kept to.judged) follows.tickets in
-        said (Ok (Repeat to.kept)) (answer.Repeated t.step) (h.claims ++ Some t ∷ []) to.judged meets (
-          subst (λ (l : LedgerState D). HoldsTickets l.log (h.claims ++ Some t ∷ []) (s.tickets ++ Some to.kept ∷ [])) (sym to.now)
-              (subst (λ (c : Claim). HoldsTickets log (h.claims ++ Some c ∷ []) (s.tickets ++ Some to.kept ∷ [])) (sym to.claims) tickets),
-          (follows.seen, follows.released),
-        )
+      pub follows_accepted : HandedTo d.ledger x (Ok (Accepted t)) new.ledger → Meets d (Submit x) (answer.Accepted t.step) new → FollowsTo s (Submit x) (answer.Accepted t.step) (record h { driver = new; tickets = tickets })
+      follows_accepted to meets =
+          let log = d.ledger.log in
+          let more = (with_accepted d.ledger x).log in
+          let claim : Claim = record { step = accepted_count log + 1; what = x; kind = to.kind } in
+          let one : t ≡ claim = to.claims ∙ ap (claimed x) (reply_is log x to.kind to.judged) in
+          let holds = holds_push more h.tickets.items s.tickets claim (reply_of claim) refl (granted_new log x to.kind to.judged) (holds_later log more h.tickets.items s.tickets (granted_later log x) follows.tickets) in
+          said (Ok (Fresh to.kind)) (answer.Accepted t.step) tickets to.judged meets (
+            given more (record { step = t.step; kind = to.kind }) (ap (λ (l : LedgerState D). l.log) to.now)
+                (subst (λ (c : Claim). HoldsTickets more (h.tickets.items ++ Some c ∷ []) (s.tickets ++ Some (record { step = c.step; kind = to.kind }) ∷ [])) (sym one) holds),
+            (follows.seen, follows.released),
+          )
 
-    pub follows_refused : (e : Refusal) → HandedTo d.ledger x (Err e) new.ledger → Meets d (Submit x) (answer.Refused e) new → FollowsTo s (Submit x) (answer.Refused e) (record h { driver = new })
-    follows_refused e to meets = said (verdict d.ledger.log x) (answer.Refused e) h.claims refl meets (by_verdict (verdict d.ledger.log x))
+      pub follows_repeated : HandedTo d.ledger x (Ok (Repeated t)) new.ledger → Meets d (Submit x) (answer.Repeated t.step) new → FollowsTo s (Submit x) (answer.Repeated t.step) (record h { driver = new; tickets = tickets })
+      follows_repeated to meets =
+          let log = d.ledger.log in
+          let holds = holds_push log h.tickets.items s.tickets (claimed x to.kept) to.kept refl (granted_repeat log x to.kept to.judged) follows.tickets in
+          said (Ok (Repeat to.kept)) (answer.Repeated t.step) tickets to.judged meets (
+            given log to.kept (ap (λ (l : LedgerState D). l.log) to.now) (subst (λ (c : Claim). HoldsTickets log (h.tickets.items ++ Some c ∷ []) (s.tickets ++ Some to.kept ∷ [])) (sym to.claims) holds),
+            (follows.seen, follows.released),
+          )
+
+    pub follows_refused : (e : Refusal) (tickets : Vec (Option Claim) Global) → tickets.items ≡ h.tickets.items → HandedTo d.ledger x (Err e) new.ledger → Meets d (Submit x) (answer.Refused e) new → FollowsTo s (Submit x) (answer.Refused e) (record h { driver = new; tickets = tickets })
+    follows_refused e tickets stays to meets =
+        said (verdict d.ledger.log x) (answer.Refused e) tickets refl meets (subst (λ cs. Keeps new.ledger.log cs h.seen h.released.items (after_submit s x (verdict d.ledger.log x) (answer.Refused e))) (sym stays) (by_verdict (verdict d.ledger.log x)))
       where
-        by_verdict : (v : Result Verdict Refusal) → Keeps new.ledger.log h.claims h.seen h.released (after_submit s x v (answer.Refused e))
+        by_verdict : (v : Result Verdict Refusal) → Keeps new.ledger.log h.tickets.items h.seen h.released.items (after_submit s x v (answer.Refused e))
         by_verdict (Ok (Fresh k)) = same new.ledger.log (ap (λ (l : LedgerState D). l.log) to.now)
         by_verdict (Ok (Repeat r)) = same new.ledger.log (ap (λ (l : LedgerState D). l.log) to.now)
         by_verdict (Err w) = same new.ledger.log (ap (λ (l : LedgerState D). l.log) to.now)
@@ -98,15 +104,15 @@ module _ {D : Type 0} (h : Held D) (s : Machine) (is : IsConsistent s) (follows 
 
   module _ (new : Driven D) (releases : List Release) (given : releases ≡ settling_releases d.ledger.log (new.ledger.log.settled - d.ledger.log.settled)) where
     -- where no step is settled, none is released
-    unsettled : HoldsTickets new.ledger.log h.claims s.tickets → new.ledger.log.settled ≡ d.ledger.log.settled → Keeps new.ledger.log h.claims h.seen (h.released ++ releases) s
+    unsettled : HoldsTickets new.ledger.log h.tickets.items s.tickets → new.ledger.log.settled ≡ d.ledger.log.settled → Keeps new.ledger.log h.tickets.items h.seen (h.released.items ++ releases) s
     unsettled tickets now =
         let none : new.ledger.log.settled - d.ledger.log.settled ≡ 0 = omega (arith, now) in
-        (tickets, (follows.seen, ap (λ rs. h.released ++ rs) (given ∙ ap (settling_releases d.ledger.log) none) ∙ append-nil h.released ∙ follows.released))
+        (tickets, (follows.seen, ap (λ rs. h.released.items ++ rs) (given ∙ ap (settling_releases d.ledger.log) none) ∙ append-nil h.released.items ∙ follows.released))
 
-    by_mark : (size : ℕ) (k : Mark) → new.ledger.log ≡ log_back d.ledger.log size k → Keeps new.ledger.log h.claims h.seen (h.released ++ releases) (after_finish s size k)
-    by_mark size k now = of_mark k now (subst (λ g. HoldsTickets g h.claims s.tickets) (sym now) (holds_later d.ledger.log (log_back d.ledger.log size k) h.claims s.tickets (granted_back d.ledger.log size k) follows.tickets))
+    by_mark : (size : ℕ) (k : Mark) → new.ledger.log ≡ log_back d.ledger.log size k → Keeps new.ledger.log h.tickets.items h.seen (h.released.items ++ releases) (after_finish s size k)
+    by_mark size k now = of_mark k now (subst (λ g. HoldsTickets g h.tickets.items s.tickets) (sym now) (holds_later d.ledger.log (log_back d.ledger.log size k) h.tickets.items s.tickets (granted_back d.ledger.log size k) follows.tickets))
       where
-        of_mark : (k : Mark) → new.ledger.log ≡ log_back d.ledger.log size k → HoldsTickets new.ledger.log h.claims s.tickets → Keeps new.ledger.log h.claims h.seen (h.released ++ releases) (after_finish s size k)
+        of_mark : (k : Mark) → new.ledger.log ≡ log_back d.ledger.log size k → HoldsTickets new.ledger.log h.tickets.items s.tickets → Keeps new.ledger.log h.tickets.items h.seen (h.released.items ++ releases) (after_finish s size k)
         of_mark New now tickets = unsettled tickets (ap (λ (g : Log). g.settled) now)
         of_mark Good now tickets =
             let all : new.ledger.log.settled - d.ledger.log.settled ≡ size = omega (arith, ap (λ (g : Log). g.settled) now) in (
@@ -118,21 +124,23 @@ module _ {D : Type 0} (h : Held D) (s : Machine) (is : IsConsistent s) (follows 
             )
         of_mark Torn now tickets = unsettled tickets (ap (λ (g : Log). g.settled) now)
 
-    pub follows_landed : (count : ℕ) → Meets d Finish (Finished count) new → FollowsTo s Finish (Finished count) (record h { driver = new; released = h.released ++ releases })
-    follows_landed count meets =
-        met (record h { driver = new; released = h.released ++ releases }) Finish (Finished count) meets
-        (subst (λ o. Keeps new.ledger.log h.claims h.seen (h.released ++ releases) (finished s o)) (flight_is d s follows.shows) (by_flight (option_map flight_out d.flight) (ap (λ (m : Machine). m.log) (meets.leaves s))))
+    pub follows_landed : (count : ℕ) (released : Vec Release Global) → released.items ≡ h.released.items ++ releases → Meets d Finish (Finished count) new → FollowsTo s Finish (Finished count) (record h { driver = new; released = released })
+    follows_landed count released pushed meets =
+        met (record h { driver = new; released = released }) Finish (Finished count) meets
+        (subst (λ rs. Keeps new.ledger.log h.tickets.items h.seen rs (finished s s.flight)) (sym pushed)
+        (subst (λ o. Keeps new.ledger.log h.tickets.items h.seen (h.released.items ++ releases) (finished s o)) (flight_is d s follows.shows) (by_flight (option_map flight_out d.flight) (ap (λ (m : Machine). m.log) (meets.leaves s)))))
       where
-        by_flight : (o : Option FlightOut) → new.ledger.log ≡ (finished (machine_of d s) o).log → Keeps new.ledger.log h.claims h.seen (h.released ++ releases) (finished s o)
+        by_flight : (o : Option FlightOut) → new.ledger.log ≡ (finished (machine_of d s) o).log → Keeps new.ledger.log h.tickets.items h.seen (h.released.items ++ releases) (finished s o)
         by_flight None now = unsettled (same new.ledger.log now).0 (ap (λ (g : Log). g.settled) now)
         by_flight (Some f) now = by_mark f.size f.mark now
 
   -- it does not
   pub follows_not_landed : (new : Driven D) (a : Answer) → ((t : Machine) → after t Finish a ≡ t) → Meets d Finish a new → FollowsTo s Finish a (record h { driver = new })
   follows_not_landed new a stays meets =
-      met (record h { driver = new }) Finish a meets (subst (Keeps new.ledger.log h.claims h.seen h.released) (sym (stays s)) (same new.ledger.log (ap (λ (m : Machine). m.log) (meets.leaves s ∙ stays (machine_of d s)))))
+      met (record h { driver = new }) Finish a meets (subst (Keeps new.ledger.log h.tickets.items h.seen h.released.items) (sym (stays s)) (same new.ledger.log (ap (λ (m : Machine). m.log) (meets.leaves s ∙ stays (machine_of d s)))))
 
   -- ---- the disk crashes
 
-  pub follows_opened : (new : Driven D) (count : ℕ) → Meets d Crash (Opened count) new → FollowsTo s Crash (Opened count) (record { driver = new; claims = []; seen = 0; released = h.released })
-  follows_opened new count meets = met (record { driver = new; claims = []; seen = 0; released = h.released }) Crash (Opened count) meets (tt, (refl, follows.released))
+  pub follows_opened : (new : Run D) (count : ℕ) → new.tickets.items ≡ [] → new.seen ≡ 0 → new.released ≡ h.released → Meets d Crash (Opened count) new.driver → FollowsTo s Crash (Opened count) new
+  follows_opened new count none unseen same meets =
+      met new Crash (Opened count) meets (subst (λ cs. HoldsTickets new.driver.ledger.log cs []) (sym none) tt, (unseen, ap (λ (v : Vec Release Global). v.items) same ∙ follows.released))

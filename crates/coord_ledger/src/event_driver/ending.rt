@@ -24,7 +24,7 @@ impl<D: CrashDisk> Run<D> {
         ensures home { IfOk result (λ r. r.1.out ≡ None) }
         ensures disk { MatchResult result (λ r. r.1.disk ≡ disk_driven self.driver) (λ broken.
             disk_driven self.driver ≡ Some broken.disk) }
-        ensures refused { IfErr result (λ broken. broken.released.items ≡ self.released) }
+        ensures refused { IfErr result (λ broken. broken.released.items ≡ self.released.items) }
         ensures out { IfErr result (λ _. IsSomeAnd self.driver.flight (λ flight. flight.mark ≡ Good)) }
         ensures kind { IfErr result (λ broken. broken.kind ≡ OutOfMemory) }
     {

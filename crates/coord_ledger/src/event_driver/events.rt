@@ -15,7 +15,7 @@ impl<D: CrashDisk> Run<D> {
     /// Ends the run for want of memory, and keeps only what was released.
     pub fn lose(self) -> Broken<D>
         ensures kind { result.kind ≡ OutOfMemory }
-        ensures released { result.released.items ≡ self.released }
+        ensures released { result.released.items ≡ self.released.items }
         ensures disk { disk_driven self.driver ≡ Some result.disk }
     {
         let Run {
@@ -56,7 +56,7 @@ impl<D: CrashDisk> Run<D> {
         ensures cause { IfErr result (λ broken.
             IsEventFault (model_driven D.keeps_model self.driver) event broken.kind) }
     {
-        self.survives();
+        self.driver.survives();
         let mut held = self;
         let answer = match event {
             Event::Submit(step) => {

@@ -1,17 +1,16 @@
 //! What a run of events holds between two events.
 
 ghost use Rattle.std.specs.Prelude.{◌≡◌, ◌+◌, ℕ, IfOk, OnErr, Some};
-ghost use Rattle.coord_ledger.specs.Facade.{Collect, Commit, Follows, FollowsTo, HasFailed, HeldSurvives, HeldTouches, IsConsistent, IsLeftOut, Machine, Resend, Show, Shows, Submit, disk_driven, failed_at, found_by_crash, model_driven, touches_disk};
+ghost use Rattle.coord_ledger.specs.Facade.{Collect, Commit, Follows, FollowsTo, HasFailed, HeldTouches, IsConsistent, IsLeftOut, Machine, Resend, Show, Submit, disk_driven, failed_at, found_by_crash, model_driven, touches_disk};
 
 use super::released::push_releases;
 use crate::{Answer, Driver, Handed, Release, Seen, Ticket};
 use coord_disk::CrashDisk;
 use coord_types::{Refusal, Step};
 use std::alloc::AllocError;
-use std::marker::Model;
 
 /// The driver of a ledger, the tickets as they were given, what was shown last, and what was
-/// released. Contracts see `Held` (`specs/ledger/Held.antt`).
+/// released: where the event machine is (`Follows`, specs/ledger/Held.antt).
 pub struct Run<D: CrashDisk> {
     pub driver: Driver<D>,
     pub tickets: Vec<Option<Ticket>>,
@@ -19,35 +18,12 @@ pub struct Run<D: CrashDisk> {
     pub released: Vec<Release>,
 }
 
-impl<D: CrashDisk> Model for Run<D> {
-    ghost use Rattle.coord_ledger.specs.ledger.Held.{Held};
-
-    ghost Value = { Held D };
-
-    ghost view = { λ r. record {
-      driver = r.driver;
-      claims = r.tickets.items;
-      seen = r.seen;
-      released = r.released.items;
-    } };
-}
-
 impl<D: CrashDisk> Run<D> {
-    /// Does nothing: its contract is what the types of its parts keep of the disk. Whatever a crash
-    /// may leave between two events is the world after a prefix of the accepted steps that holds all
-    /// that was released, and a legal one.
-    pub fn survives(&self)
-        ensures { (s : Machine) → IsConsistent s → Shows self.now.driver s →
-            HeldSurvives D.keeps_model D.present (disk_driven self.now.driver) s }
-    {
-        self.driver.survives();
-    }
-
     /// A step is handed in.
     pub fn submit(&mut self, step: Step) -> Result<Answer, AllocError>
         ensures answered { (s : Machine) → IsConsistent s → Follows self.old s →
             IfOk result (λ answer. FollowsTo s (Submit step) answer self.new) }
-        ensures err { OnErr result (self.new ≡ self.old) }
+        ensures err { OnErr result (self.new.released ≡ self.old.released) }
         ensures disk { disk_driven self.new.driver ≡ disk_driven self.old.driver }
     {
         self.tickets.reserve(1)?;
@@ -109,7 +85,7 @@ impl<D: CrashDisk> Run<D> {
         ensures answered { (s : Machine) → IsConsistent s → Follows self.old s →
             IfOk result (λ answer. FollowsTo s Resend answer self.new) }
         ensures cut { (s : Machine) → IsConsistent s → Follows self.old s →
-            OnErr result (IsLeftOut s Resend self.new.released) }
+            OnErr result (IsLeftOut s Resend self.new.released.items) }
         ensures disk { disk_driven self.new.driver ≡ disk_driven self.old.driver }
     {
         match self.driver.ledger().resend() {

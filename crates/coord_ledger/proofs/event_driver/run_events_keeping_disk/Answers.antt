@@ -16,7 +16,7 @@ on_ok_gives (Err e) fine x = let no : ⊥ = cc in absurd no
 
 pub loop-at-init : goal.loop-at-init
 loop-at-init g c = record {
-  underway = underway_first g.D.Disk.present g.D.Disk.clock g.D.Disk.left_since g.D.CrashDisk.crashes g.D.Disk.keeps_model c.args.ledger c.args.events.now _ c.over-driver.result _ _ _ c.over-driver.ensures c.begins.ensures (search rules) (search rules) (search rules) (cc);
+  underway = underway_first g.D.Disk.present g.D.Disk.clock g.D.Disk.left_since g.D.CrashDisk.crashes g.D.Disk.keeps_model c.args.ledger c.args.events.now _ (record { driver = c.over-driver.result; tickets = c.new.result; seen = c.new-2.result; released = c.new-3.result }) c.over-driver.ensures c.begins.ensures c.new.ensures.items c.new-2.ensures c.new-3.ensures.items (cc);
   room = let fine : is_err c.reserve.result ≡ false = search rules in let room = on_ok_gives c.reserve.result fine c.reserve.ensures.ok in omega (arith, room);
   many = cc;
   failed = λ n so. failed_as g.D.Disk.failures (disk_with c.over-driver.result.ledger.disk c.over-driver.result.flight) n (n + 0) (omega arith) (failed_same g.D.Disk.failures c.args.ledger.disk (disk_with c.over-driver.result.ledger.disk c.over-driver.result.flight) n (ap disk_driven c.over-driver.ensures) so);
@@ -26,7 +26,7 @@ pub returns-then-is_err-clause-broke : goal.returns-then-is_err-clause-broke
 returns-then-is_err-clause-broke g c =
     broke_first g.D.Disk.present g.D.Disk.clock g.D.Disk.left_since g.D.CrashDisk.crashes g.D.Disk.keeps_model c.args.ledger c.args.events.now c.at.result.0.at c.at.result.0.trace.answers.items _ c.at.result.0.kind c.at.result.0.trace.released.items c.at.result.1 c.at.ensures.at (cc) (c.at.ensures.kind ∙ c.lose.ensures.kind)
     (c.at.ensures.released ∙ c.lose.ensures.released) (c.lose.ensures.disk ∙ ap Some (sym c.at.ensures.disk))
-    (underway_first g.D.Disk.present g.D.Disk.clock g.D.Disk.left_since g.D.CrashDisk.crashes g.D.Disk.keeps_model c.args.ledger c.args.events.now [] c.over-driver.result c.new.result.items c.new-2.result c.new-3.result.items c.over-driver.ensures c.begins.ensures (search rules) (search rules) (search rules) refl)
+    (underway_first g.D.Disk.present g.D.Disk.clock g.D.Disk.left_since g.D.CrashDisk.crashes g.D.Disk.keeps_model c.args.ledger c.args.events.now [] (record { driver = c.over-driver.result; tickets = c.new.result; seen = c.new-2.result; released = c.new-3.result }) c.over-driver.ensures c.begins.ensures c.new.ensures.items c.new-2.ensures c.new-3.ensures.items refl)
 
 pub returns-then-is_err-clause-failures : goal.returns-then-is_err-clause-failures
 returns-then-is_err-clause-failures g c n so =

@@ -1,5 +1,5 @@
-use Rattle.std.proofs.Common.{◌≡◌, ◌+◌, Some, refl, sym, ap, ◌∙◌, subst, arith, MatchResult}
-use Rattle.coord_ledger.specs.Facade.{Begin, Collect, Commit, Finish, HasFailed, Held, HeldTouches, IsLost, Resend, Show, Submit, disk_driven, failed_at, found_by_crash, is_crash, touches_disk}
+use Rattle.std.proofs.Common.{◌≡◌, ◌+◌, Vec, Global, Some, refl, sym, ap, ◌∙◌, subst, arith, MatchResult}
+use Rattle.coord_ledger.specs.Facade.{Begin, Collect, Commit, Finish, HasFailed, HeldTouches, IsLost, Release, Resend, Run, Show, Submit, disk_driven, failed_at, found_by_crash, is_crash, touches_disk}
 use Rattle.coord_ledger.proofs.drives.FollowsTo.{met, met_cut, on_err_map}
 use Rattle.coord_ledger.proofs.drives.EachMoment.{lost_as_held, match_both, match_map, met_aside, met_commit}
 use Rattle.coord_ledger.proofs.drives.Failures.{failed_as, failed_aside, failed_giving_up}
@@ -19,7 +19,7 @@ pub returns-in-Err-clause-answered : goal.returns-in-Err-clause-answered
 returns-in-Err-clause-answered g c s is follows promised = elim c.match-event.branch [
   | in-Submit w ↦
       met_cut s c.args.event (Submit w.in-Submit.step) w.submit-answer.result c.match-event.answer c.match-event.held w.submit-answer.new.self c.in-Err.field-0 c.lose.result.kind c.lose.result.released.items
-      (on_err_map w.submit-answer.result (λ same. ap (λ (h : Held g.row.D.Denot). h.released) same ∙ follows.released) w.submit-answer.ensures.err)
+      (on_err_map w.submit-answer.result (λ same. ap (λ (v : Vec Release Global). v.items) same ∙ follows.released) w.submit-answer.ensures.err)
       w.answer-is c.in-Err.is w.in-Submit.is w.held-is c.lose.ensures.released c.lose.ensures.kind
   | in-Commit w ↦ met_cut s c.args.event Commit _ c.match-event.answer c.match-event.held w.commit.new.self c.in-Err.field-0 c.lose.result.kind c.lose.result.released.items tt w.answer-is c.in-Err.is w.in-Commit.is w.held-is c.lose.ensures.released c.lose.ensures.kind
   | in-Collect w ↦ met_cut s c.args.event _ _ c.match-event.answer c.match-event.held w.collect.new.self c.in-Err.field-0 c.lose.result.kind c.lose.result.released.items tt w.answer-is c.in-Err.is w.in-Collect.is w.held-is c.lose.ensures.released c.lose.ensures.kind
@@ -33,12 +33,12 @@ returns-in-Err-clause-answered g c s is follows promised = elim c.match-event.br
 
 pub returns-in-Ok-clause-disk : goal.returns-in-Ok-clause-disk
 returns-in-Ok-clause-disk g c s is follows = elim c.match-event.branch [
-  | in-Submit w ↦ met_aside g.D.Disk.present g.D.Disk.clock g.D.Disk.left_since g.D.CrashDisk.crashes g.D.Disk.keeps_model g.met.D.Disk.only_now s c.args.event (Submit w.in-Submit.step) c.in-Ok.answer (disk_driven c.args.self.driver) (disk_driven c.match-event.held.driver) w.in-Submit.is refl refl (ap (λ (h : Held g.row.D.Denot). disk_driven h.driver) w.held-is ∙ w.submit-answer.ensures.disk) (c.survives.ensures s is follows.shows)
+  | in-Submit w ↦ met_aside g.D.Disk.present g.D.Disk.clock g.D.Disk.left_since g.D.CrashDisk.crashes g.D.Disk.keeps_model g.met.D.Disk.only_now s c.args.event (Submit w.in-Submit.step) c.in-Ok.answer (disk_driven c.args.self.driver) (disk_driven c.match-event.held.driver) w.in-Submit.is refl refl (ap (λ (h : Run g.row.D.Denot). disk_driven h.driver) w.held-is ∙ w.submit-answer.ensures.disk) (c.survives.ensures s is follows.shows)
   | in-Commit w ↦
-      met_commit g.D.Disk.present g.D.Disk.clock g.D.Disk.left_since g.D.CrashDisk.crashes g.D.Disk.keeps_model s c.args.event w.commit.result c.match-event.answer c.in-Ok.answer (disk_driven c.args.self.driver) (disk_driven c.match-event.held.driver) (disk_driven w.commit.new.self.driver) w.in-Commit.is w.answer-is c.in-Ok.is (ap (λ (h : Held g.row.D.Denot). disk_driven h.driver) w.held-is) (w.commit.ensures.disk s is follows)
-  | in-Collect w ↦ met_aside g.D.Disk.present g.D.Disk.clock g.D.Disk.left_since g.D.CrashDisk.crashes g.D.Disk.keeps_model g.met.D.Disk.only_now s c.args.event (Collect w.in-Collect.index) c.in-Ok.answer (disk_driven c.args.self.driver) (disk_driven c.match-event.held.driver) w.in-Collect.is refl refl (ap (λ (h : Held g.row.D.Denot). disk_driven h.driver) w.held-is ∙ w.collect.ensures.disk) (c.survives.ensures s is follows.shows)
-  | in-Resend w ↦ met_aside g.D.Disk.present g.D.Disk.clock g.D.Disk.left_since g.D.CrashDisk.crashes g.D.Disk.keeps_model g.met.D.Disk.only_now s c.args.event Resend c.in-Ok.answer (disk_driven c.args.self.driver) (disk_driven c.match-event.held.driver) w.in-Resend.is refl refl (ap (λ (h : Held g.row.D.Denot). disk_driven h.driver) w.held-is ∙ w.resend-answer.ensures.disk) (c.survives.ensures s is follows.shows)
-  | in-Show w ↦ met_aside g.D.Disk.present g.D.Disk.clock g.D.Disk.left_since g.D.CrashDisk.crashes g.D.Disk.keeps_model g.met.D.Disk.only_now s c.args.event Show c.in-Ok.answer (disk_driven c.args.self.driver) (disk_driven c.match-event.held.driver) w.in-Show.is refl refl (ap (λ (h : Held g.row.D.Denot). disk_driven h.driver) w.held-is ∙ w.show.ensures.disk) (c.survives.ensures s is follows.shows)
+      met_commit g.D.Disk.present g.D.Disk.clock g.D.Disk.left_since g.D.CrashDisk.crashes g.D.Disk.keeps_model s c.args.event w.commit.result c.match-event.answer c.in-Ok.answer (disk_driven c.args.self.driver) (disk_driven c.match-event.held.driver) (disk_driven w.commit.new.self.driver) w.in-Commit.is w.answer-is c.in-Ok.is (ap (λ (h : Run g.row.D.Denot). disk_driven h.driver) w.held-is) (w.commit.ensures.disk s is follows)
+  | in-Collect w ↦ met_aside g.D.Disk.present g.D.Disk.clock g.D.Disk.left_since g.D.CrashDisk.crashes g.D.Disk.keeps_model g.met.D.Disk.only_now s c.args.event (Collect w.in-Collect.index) c.in-Ok.answer (disk_driven c.args.self.driver) (disk_driven c.match-event.held.driver) w.in-Collect.is refl refl (ap (λ (h : Run g.row.D.Denot). disk_driven h.driver) w.held-is ∙ w.collect.ensures.disk) (c.survives.ensures s is follows.shows)
+  | in-Resend w ↦ met_aside g.D.Disk.present g.D.Disk.clock g.D.Disk.left_since g.D.CrashDisk.crashes g.D.Disk.keeps_model g.met.D.Disk.only_now s c.args.event Resend c.in-Ok.answer (disk_driven c.args.self.driver) (disk_driven c.match-event.held.driver) w.in-Resend.is refl refl (ap (λ (h : Run g.row.D.Denot). disk_driven h.driver) w.held-is ∙ w.resend-answer.ensures.disk) (c.survives.ensures s is follows.shows)
+  | in-Show w ↦ met_aside g.D.Disk.present g.D.Disk.clock g.D.Disk.left_since g.D.CrashDisk.crashes g.D.Disk.keeps_model g.met.D.Disk.only_now s c.args.event Show c.in-Ok.answer (disk_driven c.args.self.driver) (disk_driven c.match-event.held.driver) w.in-Show.is refl refl (ap (λ (h : Run g.row.D.Denot). disk_driven h.driver) w.held-is ∙ w.show.ensures.disk) (c.survives.ensures s is follows.shows)
 ]
 
 pub returns-in-Begin-clause-disk : goal.returns-in-Begin-clause-disk
@@ -60,11 +60,11 @@ pub returns-in-Err-clause-disk : goal.returns-in-Err-clause-disk
 returns-in-Err-clause-disk g c s is follows =
     let lost = lost_as_held g.D.Disk.present g.D.Disk.clock g.D.Disk.left_since g.D.CrashDisk.crashes g.D.Disk.keeps_model s c.args.event c.lose.result.kind (disk_driven c.args.self.driver) c.lose.result.disk in
     elim c.match-event.branch [
-      | in-Submit w ↦ lost (ap is_crash w.in-Submit.is) (sym (ap (λ (h : Held g.row.D.Denot). disk_driven h.driver) w.held-is ∙ w.submit-answer.ensures.disk) ∙ c.lose.ensures.disk)
+      | in-Submit w ↦ lost (ap is_crash w.in-Submit.is) (sym (ap (λ (h : Run g.row.D.Denot). disk_driven h.driver) w.held-is ∙ w.submit-answer.ensures.disk) ∙ c.lose.ensures.disk)
       | in-Commit w ↦ let no : ⊥ = cc (w.answer-is, c.in-Err.is) in absurd no
-      | in-Collect w ↦ lost (ap is_crash w.in-Collect.is) (sym (ap (λ (h : Held g.row.D.Denot). disk_driven h.driver) w.held-is ∙ w.collect.ensures.disk) ∙ c.lose.ensures.disk)
-      | in-Resend w ↦ lost (ap is_crash w.in-Resend.is) (sym (ap (λ (h : Held g.row.D.Denot). disk_driven h.driver) w.held-is ∙ w.resend-answer.ensures.disk) ∙ c.lose.ensures.disk)
-      | in-Show w ↦ lost (ap is_crash w.in-Show.is) (sym (ap (λ (h : Held g.row.D.Denot). disk_driven h.driver) w.held-is ∙ w.show.ensures.disk) ∙ c.lose.ensures.disk)
+      | in-Collect w ↦ lost (ap is_crash w.in-Collect.is) (sym (ap (λ (h : Run g.row.D.Denot). disk_driven h.driver) w.held-is ∙ w.collect.ensures.disk) ∙ c.lose.ensures.disk)
+      | in-Resend w ↦ lost (ap is_crash w.in-Resend.is) (sym (ap (λ (h : Run g.row.D.Denot). disk_driven h.driver) w.held-is ∙ w.resend-answer.ensures.disk) ∙ c.lose.ensures.disk)
+      | in-Show w ↦ lost (ap is_crash w.in-Show.is) (sym (ap (λ (h : Run g.row.D.Denot). disk_driven h.driver) w.held-is ∙ w.show.ensures.disk) ∙ c.lose.ensures.disk)
     ]
 
 -- ---- how often the device has failed
@@ -73,26 +73,26 @@ pub returns-in-Ok-clause-failures : goal.returns-in-Ok-clause-failures
 returns-in-Ok-clause-failures g c n so =
     let aside = failed_aside g.D.Disk.failures (disk_driven c.args.self.driver) (disk_driven c.match-event.held.driver) c.args.event in
     elim c.match-event.branch [
-      | in-Submit w ↦ aside (Submit w.in-Submit.step) c.in-Ok.answer n w.in-Submit.is refl (ap (λ (h : Held g.row.D.Denot). disk_driven h.driver) w.held-is ∙ w.submit-answer.ensures.disk) so
+      | in-Submit w ↦ aside (Submit w.in-Submit.step) c.in-Ok.answer n w.in-Submit.is refl (ap (λ (h : Run g.row.D.Denot). disk_driven h.driver) w.held-is ∙ w.submit-answer.ensures.disk) so
       | in-Commit w ↦
           let same : w.commit.result ≡ c.in-Ok.answer = cc (w.answer-is, c.in-Ok.is) in
           subst (λ x. HasFailed g.D.Disk.failures (disk_driven c.match-event.held.driver) (n + failed_at x c.in-Ok.answer)) (sym w.in-Commit.is)
           (subst (λ a. HasFailed g.D.Disk.failures (disk_driven c.match-event.held.driver) (n + failed_at Commit a)) same
-          (subst (λ (h : Held g.row.D.Denot). HasFailed g.D.Disk.failures (disk_driven h.driver) (n + failed_at Commit w.commit.result)) (sym w.held-is) (w.commit.ensures.failures n so)))
-      | in-Collect w ↦ aside (Collect w.in-Collect.index) c.in-Ok.answer n w.in-Collect.is refl (ap (λ (h : Held g.row.D.Denot). disk_driven h.driver) w.held-is ∙ w.collect.ensures.disk) so
-      | in-Resend w ↦ aside Resend c.in-Ok.answer n w.in-Resend.is refl (ap (λ (h : Held g.row.D.Denot). disk_driven h.driver) w.held-is ∙ w.resend-answer.ensures.disk) so
-      | in-Show w ↦ aside Show c.in-Ok.answer n w.in-Show.is refl (ap (λ (h : Held g.row.D.Denot). disk_driven h.driver) w.held-is ∙ w.show.ensures.disk) so
+          (subst (λ (h : Run g.row.D.Denot). HasFailed g.D.Disk.failures (disk_driven h.driver) (n + failed_at Commit w.commit.result)) (sym w.held-is) (w.commit.ensures.failures n so)))
+      | in-Collect w ↦ aside (Collect w.in-Collect.index) c.in-Ok.answer n w.in-Collect.is refl (ap (λ (h : Run g.row.D.Denot). disk_driven h.driver) w.held-is ∙ w.collect.ensures.disk) so
+      | in-Resend w ↦ aside Resend c.in-Ok.answer n w.in-Resend.is refl (ap (λ (h : Run g.row.D.Denot). disk_driven h.driver) w.held-is ∙ w.resend-answer.ensures.disk) so
+      | in-Show w ↦ aside Show c.in-Ok.answer n w.in-Show.is refl (ap (λ (h : Run g.row.D.Denot). disk_driven h.driver) w.held-is ∙ w.show.ensures.disk) so
     ]
 
 pub returns-in-Err-clause-failures : goal.returns-in-Err-clause-failures
 returns-in-Err-clause-failures g c n so =
     let lost = λ (there : disk_driven c.args.self.driver ≡ Some c.lose.result.disk). failed_giving_up g.D.Disk.failures (disk_driven c.args.self.driver) c.lose.result.disk c.lose.result.kind n there c.lose.ensures.kind so in
     elim c.match-event.branch [
-      | in-Submit w ↦ lost (sym (ap (λ (h : Held g.row.D.Denot). disk_driven h.driver) w.held-is ∙ w.submit-answer.ensures.disk) ∙ c.lose.ensures.disk)
+      | in-Submit w ↦ lost (sym (ap (λ (h : Run g.row.D.Denot). disk_driven h.driver) w.held-is ∙ w.submit-answer.ensures.disk) ∙ c.lose.ensures.disk)
       | in-Commit w ↦ let no : ⊥ = cc (w.answer-is, c.in-Err.is) in absurd no
-      | in-Collect w ↦ lost (sym (ap (λ (h : Held g.row.D.Denot). disk_driven h.driver) w.held-is ∙ w.collect.ensures.disk) ∙ c.lose.ensures.disk)
-      | in-Resend w ↦ lost (sym (ap (λ (h : Held g.row.D.Denot). disk_driven h.driver) w.held-is ∙ w.resend-answer.ensures.disk) ∙ c.lose.ensures.disk)
-      | in-Show w ↦ lost (sym (ap (λ (h : Held g.row.D.Denot). disk_driven h.driver) w.held-is ∙ w.show.ensures.disk) ∙ c.lose.ensures.disk)
+      | in-Collect w ↦ lost (sym (ap (λ (h : Run g.row.D.Denot). disk_driven h.driver) w.held-is ∙ w.collect.ensures.disk) ∙ c.lose.ensures.disk)
+      | in-Resend w ↦ lost (sym (ap (λ (h : Run g.row.D.Denot). disk_driven h.driver) w.held-is ∙ w.resend-answer.ensures.disk) ∙ c.lose.ensures.disk)
+      | in-Show w ↦ lost (sym (ap (λ (h : Run g.row.D.Denot). disk_driven h.driver) w.held-is ∙ w.show.ensures.disk) ∙ c.lose.ensures.disk)
     ]
 
 pub returns-in-Begin-clause-failures : goal.returns-in-Begin-clause-failures
