@@ -68,12 +68,12 @@ module _ {D : Type 0} (present : D → Present) (clock : D → ℕ) (left_since 
   pub ran_home : (start : LedgerState D) (first : D) (events : List Event) (given : List Answer) (h : Run D) (l : LedgerState D) (released : List Release) (keeps_model : D → Bool) (disk : D) → Drives present clock left_since crashes (keeps_model disk) first start events given h.driver → Follows h (run (started start) events given) →
       l ≡ brought_home h.driver.ledger h.driver.flight → released ≡ h.released.items → IfSome l.disk (λ d. keeps_model d ≡ true → LedgerGives present l d) → l.disk ≡ Some disk →
       Ran present clock left_since crashes (started start) events given released l (keeps_model disk) first disk
-  ran_home start first events given h l released keeps_model disk drives follows home given_out gives at_home =
+  ran_home start first events given h l released keeps_model disk drives follows home given_out gives there =
       let s = run (started start) events given in
       let told = drives.consistent.told in
       let back : Shows (at_home l) (ended s) = subst (λ (m : LedgerState D). Shows (at_home m) (ended s)) (sym home) (is_back h.driver s drives.consistent drives.shows) in
-      let images = ledger_images l disk (keeps_model disk) present (subst (λ o. IfSome o (λ d. keeps_model d ≡ true → LedgerGives present l d)) at_home gives) in
-      let its : Some drives.disk ≡ Some disk = sym drives.holds ∙ sym (home_disk h.driver.ledger h.driver.flight) ∙ sym (ap (λ (m : LedgerState D). m.disk) home) ∙ at_home in
+      let images = ledger_images l disk (keeps_model disk) present (subst (λ o. IfSome o (λ d. keeps_model d ≡ true → LedgerGives present l d)) there gives) in
+      let its : Some drives.disk ≡ Some disk = sym drives.holds ∙ sym (home_disk h.driver.ledger h.driver.flight) ∙ sym (ap (λ (m : LedgerState D). m.disk) home) ∙ there in
       let same : drives.disk ≡ disk = cc in
       record {
         answered = drives.answered;

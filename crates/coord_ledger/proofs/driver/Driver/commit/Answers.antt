@@ -41,5 +41,3 @@ returns-clause-failures g c n so =
           failed_committing g.D.Disk.failures (disk_driven c.args.self.now) (disk_driven new) w.in-Some.flight.disk w.commit.new.self.disk w.commit.result c.match-self.result n (ap (disk_with c.args.self.now.ledger.disk) (sym (ap (λ (d : Driven g.row.D.Denot). d.flight) c.self.view_is) ∙ w.in-Some.is))
           (λ i. disk_with (w.self-inside-is i).ledger.disk (w.self-inside-is i).flight) w.commit.ensures.failures (w.result-is ∙ sym (ap told w.in-Err.is)) so
     ]
-
--- it is an event of its machine
