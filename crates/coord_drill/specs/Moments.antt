@@ -39,7 +39,7 @@ pub record LedDisk {D : Type 0} (disk : Ghosts D) (crashes : D → D → Type 0)
   pub new : D
   pub holds : now ≡ Some new
   pub keeps : disk.keeps_model new ≡ true
-  pub moments : EachMoment disk.present disk.clock disk.left_since crashes true s events given old new
+  pub moments : EachMoment disk crashes true s events given old new
 
 -- events have led from one driver to another, where the first shows this machine
 pub record Led {D : Type 0} (disk : Ghosts D) (crashes : D → D → Type 0) (s : Machine) (events : List Event) (given : List Answer) (d new : Driven D) : Type 0 where
@@ -89,7 +89,7 @@ GivesRaised d = GivesEither (settled_world d.ledger.log) (risen (settled_world d
 
 -- the store at home, which has not stopped, was raised, and is the new ledger's
 pub record RaisesTo {D : Type 0} (disk : Ghosts D) (crashes : D → D → Type 0) (d new : Driven D) : Type 0 where
-  pub begins : MayBegin disk.keeps_model disk.present disk.clock disk.left_since crashes new
+  pub begins : MayBegin disk crashes new
   pub old : D
   pub there : disk_driven d ≡ Some old
   pub raised : D
@@ -129,7 +129,7 @@ CarriesIf disk crashes d a told new = IsPromised disk d a → Carries disk crash
 
 -- the disk was given up in a crash, behind the taking of an image
 pub record IsLostInCrash {D : Type 0} (disk : Ghosts D) (crashes : D → D → Type 0) (d : Driven D) (why : Fault) (lost : D) : Type 0 where
-  pub moments : (s : Machine) → IsConsistent s → Shows d s → (old : D) → disk_driven d ≡ Some old → disk.keeps_model old ≡ true → Reopens disk.present disk.clock disk.left_since crashes (Survives s) old lost
+  pub moments : (s : Machine) → IsConsistent s → Shows d s → (old : D) → disk_driven d ≡ Some old → disk.keeps_model old ≡ true → Reopens disk crashes (Survives s) old lost
   pub cause : model_driven disk.keeps_model d ≡ Some true → IsPassing why
   pub failed : (n : ℕ) → HasFailed disk.failures (disk_driven d) n → disk.failures lost ≡ n + failed_by why
 

@@ -9,7 +9,7 @@ mod flying;
 mod submitting;
 
 use crate::{Flight, Ledger};
-use coord_disk::CrashDisk;
+use coord_disk::{CrashDisk, Disk};
 use std::marker::Model;
 
 /// A ledger, and the flight that is out of it: all of a run that touches the store. Its holder
@@ -75,7 +75,7 @@ impl<D: CrashDisk> Driver<D> {
     /// what a run keeps (`Drives`) holds of the run of no event, from the ledger's disk on.
     pub fn begins(&self)
         requires { self.now.flight ≡ None }
-        ensures { MayBegin D.keeps_model D.present D.clock D.left_since D.crashes self.now }
+        ensures { MayBegin ⟦<D as Disk>⟧ D.crashes self.now }
     {
         self.ledger.log_is_consistent();
         self.survives();

@@ -12,7 +12,7 @@ mod released;
 mod run;
 
 use crate::{Driver, Event, Ledger, RunFault, Seen, Trace};
-use coord_disk::CrashDisk;
+use coord_disk::{CrashDisk, Disk};
 use run::Run;
 use std::alloc::Global;
 
@@ -44,7 +44,7 @@ pub fn run_events_keeping_disk<D: CrashDisk>(
     // A run that is answered: the main theorem, and the ledger that is left.
     ensures ran { IfOk result (λ r. (before : D) → (after : D) → ledger.disk ≡ Some before →
         r.1.disk ≡ Some after
-        → Promised (D.keeps_model before) events.now (Ran D.present D.clock D.left_since D.crashes
+        → Promised (D.keeps_model before) events.now (Ran ⟦<D as Disk>⟧ D.crashes
         (started ledger) events.now r.0.answers.items r.0.released.items r.1
         (D.keeps_model after) before after)) }
     ensures at_home { IfOk result (λ r. r.1.out ≡ None) }
@@ -53,7 +53,7 @@ pub fn run_events_keeping_disk<D: CrashDisk>(
 
     // A run that ended early.
     ensures broke { IfErr result (λ r. (before : D) → ledger.disk ≡ Some before
-        → Promised (D.keeps_model before) events.now (Broke D.present D.clock D.left_since D.crashes
+        → Promised (D.keeps_model before) events.now (Broke ⟦<D as Disk>⟧ D.crashes
         (started ledger) events.now r.0.at r.0.trace.answers.items r.0.trace.released.items r.0.kind
         (D.keeps_model before) before r.1)) }
     ensures cause { IfErr result (λ r. (before : D) → ledger.disk ≡ Some before →
@@ -108,7 +108,7 @@ pub fn run_events<D: CrashDisk>(
     // A run that is answered: the main theorem, and the ledger that is left.
     ensures ran { IfOk result (λ r. (before : D) → (after : D) → ledger.disk ≡ Some before →
         r.1.disk ≡ Some after
-        → Promised (D.keeps_model before) events.now (Ran D.present D.clock D.left_since D.crashes
+        → Promised (D.keeps_model before) events.now (Ran ⟦<D as Disk>⟧ D.crashes
         (started ledger) events.now r.0.answers.items r.0.released.items r.1
         (D.keeps_model after) before after)) }
     ensures at_home { IfOk result (λ r. r.1.out ≡ None) }
@@ -120,7 +120,7 @@ pub fn run_events<D: CrashDisk>(
         → (lost : D) × ((D.failures lost ≡
         (D.failures before + failed_until (take fault.at events.now) fault.trace.answers.items) +
         failed_in fault.kind)
-        × Promised (D.keeps_model before) events.now (Broke D.present D.clock D.left_since D.crashes
+        × Promised (D.keeps_model before) events.now (Broke ⟦<D as Disk>⟧ D.crashes
         (started ledger) events.now fault.at fault.trace.answers.items fault.trace.released.items
         fault.kind (D.keeps_model before) before lost))) }
     ensures cause { IfErr result (λ fault. (before : D) → ledger.disk ≡ Some before →

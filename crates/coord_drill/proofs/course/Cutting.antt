@@ -51,7 +51,7 @@ module _ {D : Type 0} (disk : Ghosts D) (crashes : D → D → Type 0) (d : Dril
   cut_crash : (why : Fault) (lost : D) → model_driven disk.keeps_model d.driver ≡ Some true → IsLostInCrash disk crashes d.driver why lost → CutShort disk crashes p Crash why lost
   cut_crash why lost model part =
       let reopens = part.moments p.machine at.consistent at.shows p.disk at.holds at.keeps in
-      let kept = reopens_more disk.present disk.clock disk.left_since crashes (Survives p.machine) (IsKept p.machine p.told) p.disk lost reopens (λ bytes survives. kept_of p.machine p.told bytes at.consistent at.told survives) in
+      let kept = reopens_more disk crashes (Survives p.machine) (IsKept p.machine p.told) p.disk lost reopens (λ bytes survives. kept_of p.machine p.told bytes at.consistent at.told survives) in
       cut_before_events Crash why lost (part.cause model) (inr kept) (part.failed (disk.failures p.disk) (ap (option_map disk.failures) at.holds))
 
   -- in `version 2`

@@ -29,7 +29,7 @@ use Rattle.coord_drill.proofs.course.Told.{told_settled}
 -- ---- a store that was just made
 
 module _ {D : Type 0} (disk : Ghosts D) (crashes : D → D → Type 0) where
-  prefix_of : (d : Driven D) (here : D) (may : MayBegin disk.keeps_model disk.present disk.clock disk.left_since crashes d) → disk_driven d ≡ Some here → disk.keeps_model here ≡ true → (m : Machine) → started d.ledger ≡ m → CrashPrefix m true (disk.present here)
+  prefix_of : (d : Driven D) (here : D) (may : MayBegin disk crashes d) → disk_driven d ≡ Some here → disk.keeps_model here ≡ true → (m : Machine) → started d.ledger ≡ m → CrashPrefix m true (disk.present here)
   prefix_of d here may there on m same =
       let drives = may.drives in
       let last : drives.disk ≡ here = cc (drives.holds, there) in
@@ -38,10 +38,10 @@ module _ {D : Type 0} (disk : Ghosts D) (crashes : D → D → Type 0) where
       (λ _ image is. drives.moments.1 (ap disk.keeps_model first ∙ on) image (subst (λ x. IsImage (disk.present x) image) (sym last) is))
 
   -- whatever the disk of a driver may hold is kept, where nothing was told of yet
-  pub first_kept : (d : Driven D) (here : D) → MayBegin disk.keeps_model disk.present disk.clock disk.left_since crashes d → disk_driven d ≡ Some here → disk.keeps_model here ≡ true → AllKept (started d.ledger) [] (disk.present here)
+  pub first_kept : (d : Driven D) (here : D) → MayBegin disk crashes d → disk_driven d ≡ Some here → disk.keeps_model here ≡ true → AllKept (started d.ledger) [] (disk.present here)
   first_kept d here may there on image is = kept_of (started d.ledger) [] image may.drives.consistent tt (prefix_of d here may there on (started d.ledger) refl refl image is)
 
-  pub stands_first : (d : Drill D) (begun : D) → MayBegin disk.keeps_model disk.present disk.clock disk.left_since crashes d.driver → disk_driven d.driver ≡ Some begun → disk.keeps_model begun ≡ true → d.driver.ledger.log ≡ log_over (no_world 1) → d.holds ≡ false → d.has_begun ≡ false → Stands disk d (start begun)
+  pub stands_first : (d : Drill D) (begun : D) → MayBegin disk crashes d.driver → disk_driven d.driver ≡ Some begun → disk.keeps_model begun ≡ true → d.driver.ledger.log ≡ log_over (no_world 1) → d.holds ≡ false → d.has_begun ≡ false → Stands disk d (start begun)
   stands_first d begun may there on empty holds none =
       let same : started d.driver.ledger ≡ adopted (no_world 1) = ap (λ (log : Log). machine_over log) empty in
       record {

@@ -62,13 +62,13 @@ failed_both s (e ∷ es) fs [] hs answered = absurd answered
 failed_both s (e ∷ es) fs (g ∷ gs) hs answered = omega (arith, failed_both (after s e g) es fs gs hs answered.1)
 
 -- a driver shows the machine over its own log
-pub begins_by : {D : Type 0} (disk : Ghosts D) (crashes : D → D → Type 0) (d : Driven D) → MayBegin disk.keeps_model disk.present disk.clock disk.left_since crashes d → Begins d
+pub begins_by : {D : Type 0} (disk : Ghosts D) (crashes : D → D → Type 0) (d : Driven D) → MayBegin disk crashes d → Begins d
 begins_by disk crashes d may = record { consistent = may.drives.consistent; shows = may.drives.shows }
 
 module _ {D : Type 0} (disk : Ghosts D) (crashes : D → D → Type 0) where
-  moments_both : (s : Machine) (es fs : List Event) (gs hs : List Answer) (old mid new : D) → EachMoment disk.present disk.clock disk.left_since crashes true s es gs old mid → EachMoment disk.present disk.clock disk.left_since crashes true (run s es gs) fs hs mid new →
-      EachMoment disk.present disk.clock disk.left_since crashes true s (es ++ fs) (gs ++ hs) old new
-  moments_both s [] fs [] hs old mid new first more = subst (λ d. EachMoment disk.present disk.clock disk.left_since crashes true s fs hs d new) first.0 more
+  moments_both : (s : Machine) (es fs : List Event) (gs hs : List Answer) (old mid new : D) → EachMoment disk crashes true s es gs old mid → EachMoment disk crashes true (run s es gs) fs hs mid new →
+      EachMoment disk crashes true s (es ++ fs) (gs ++ hs) old new
+  moments_both s [] fs [] hs old mid new first more = subst (λ d. EachMoment disk crashes true s fs hs d new) first.0 more
   moments_both s [] fs (g ∷ gs) hs old mid new first more = absurd first
   moments_both s (e ∷ es) fs [] hs old mid new first more = absurd first
   moments_both s (e ∷ es) fs (g ∷ gs) hs old mid new first more = (first.0, (first.1.0, (first.1.1.0, moments_both (after s e g) es fs gs hs first.1.0 mid new first.1.1.1 more)))
@@ -91,7 +91,7 @@ module _ {D : Type 0} (disk : Ghosts D) (crashes : D → D → Type 0) where
   module _ (d new : Driven D) (e : Event) (a : Answer) (named : EventInRange e) (before : Survive d) (later : Survive new) where
     -- one event
     pub leads_one : model_driven disk.keeps_model new ≡ model_driven disk.keeps_model d → ((n : ℕ) → HasFailed disk.failures (disk_driven d) n → HasFailed disk.failures (disk_driven new) (n + failed_at e a)) → Meets d e a new →
-        ((s : Machine) → IsConsistent s → Shows d s → HeldTouches disk.keeps_model disk.present disk.clock disk.left_since crashes (found_by_crash s e a) (touches_disk e a) e (disk_driven d) (disk_driven new)) → Leads disk crashes d (e ∷ []) (a ∷ []) new
+        ((s : Machine) → IsConsistent s → Shows d s → HeldTouches disk crashes (found_by_crash s e a) (touches_disk e a) e (disk_driven d) (disk_driven new)) → Leads disk crashes d (e ∷ []) (a ∷ []) new
     leads_one model failed meets touches s is shows =
         let allowed = shows_allowed d new s is shows e a meets in
         let later_shown = shows_to d new s is shows e a meets in
@@ -114,7 +114,7 @@ module _ {D : Type 0} (disk : Ghosts D) (crashes : D → D → Type 0) where
                   (
                     moved.new,
                     (
-                      subst (λ k. Touches disk.present disk.clock disk.left_since crashes k (found_by_crash s e a) (touches_disk e a) e old moved.new) keeps moved.touched,
+                      subst (λ k. Touches disk crashes k (found_by_crash s e a) (touches_disk e a) e old moved.new) keeps moved.touched,
                       (refl, λ _. later (after s e a) then later_shown moved.new moved.holds on),
                     ),
                   ),
@@ -129,7 +129,7 @@ module _ {D : Type 0} (disk : Ghosts D) (crashes : D → D → Type 0) where
     leads_aside only_now other found none same meets =
         leads_one (ap (option_map disk.keeps_model) same)
         (λ n has. let more : n ≡ n + failed_at e a = omega (arith, none) in subst (HasFailed disk.failures (disk_driven new)) more (ap (option_map disk.failures) same ∙ has)) meets
-        (λ s is shows. met_aside disk.present disk.clock disk.left_since crashes disk.keeps_model only_now s e e a (disk_driven d) (disk_driven new) refl other (found s) same (before s is shows))
+        (λ s is shows. met_aside disk crashes only_now s e e a (disk_driven d) (disk_driven new) refl other (found s) same (before s is shows))
 
   -- the events of the one and then of the other
   pub leads_then : (d m new : Driven D) (es fs : List Event) (gs hs : List Answer) → Leads disk crashes d es gs m → Leads disk crashes m fs hs new → Leads disk crashes d (es ++ fs) (gs ++ hs) new

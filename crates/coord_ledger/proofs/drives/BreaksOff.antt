@@ -2,7 +2,7 @@
 use Rattle.std.proofs.Common.{◌≡◌, ℕ, ◌<◌, Bool, List, [], length, get_or, Option, Some, None, refl, sym, ap, ◌∙◌, subst, arith, inl, inr, slice_get, take, IsSomeAnd}
 use Rattle.std.specs.Option.{option_map}
 use Rattle.std.proofs.lemmas.Option.{slice_get_past}
-use Rattle.coord_disk.specs.Model.Present.{Present}
+use Rattle.coord_disk.specs.declared.disk.Disk.{Ghosts}
 use Rattle.coord_ledger.specs.Facade.{Answer, Broke, EndsAt, Event, FlightOut, FlightState, Follows, Good, HasCause, IsCommitted, IsConsistent, IsCutShort, IsEventFault, IsGivenBack, IsGivenUp, IsLost, IsPromised, LedgerState, Machine, Promised, Release, Run, RunFaultKind, disk_driven, flight_out, model_driven, run, started}
 use Rattle.coord_ledger.specs.declared.trace.RunFaultKind.TheVariants.{OutOfMemory, Store}
 use Rattle.coord_ledger.proofs.follows.Follows.{flight_is}
@@ -13,85 +13,85 @@ committed : {D : Type 0} (f : Option (FlightState D)) (o : Option FlightOut) →
 committed None o is none = absurd none
 committed (Some f) o is good = (length f.steps, sym is ∙ ap (λ m. Some (record { size = length f.steps; mark = m })) good)
 
-module _ {D : Type 0} (present : D → Present) (clock : D → ℕ) (left_since : D → ℕ → List ℕ → Type 0) (crashes : D → D → Type 0) where
+module _ {D : Type 0} (model : Ghosts D) (crashes : D → D → Type 0) where
   -- for want of memory, with the disk as it is held
-  given_up : (on : Bool) (first lost : D) (start : LedgerState D) (events : List Event) (given : List Answer) (h : Run D) (kind : RunFaultKind) (released : List Release) → (all : Holds present clock left_since crashes on first start events given h) → kind ≡ OutOfMemory → released ≡ h.released.items → disk_driven h.driver ≡ Some lost →
+  given_up : (on : Bool) (first lost : D) (start : LedgerState D) (events : List Event) (given : List Answer) (h : Run D) (kind : RunFaultKind) (released : List Release) → (all : Holds model crashes on first start events given h) → kind ≡ OutOfMemory → released ≡ h.released.items → disk_driven h.driver ≡ Some lost →
       IsGivenUp (run (started start) events given) kind released all.drives.disk lost
   given_up on first lost start events given h kind released all memory kept there = record { memory = memory; released_is = kept ∙ all.follows.released; same = let same : lost ≡ all.drives.disk = cc (there, all.drives.holds) in same }
 
   -- ---- in the loop
 
-  module _ (keeps_model : D → Bool) (start : LedgerState D) (events : List Event) (at : ℕ) (given : List Answer) (h : Run D) (way : Underway present clock left_since crashes keeps_model start events at given h) where
+  module _ (start : LedgerState D) (events : List Event) (at : ℕ) (given : List Answer) (h : Run D) (way : Underway model crashes start events at given h) where
     -- behind the last event
     pub broke_after : (at2 : ℕ) (given2 : List Answer) (kind : RunFaultKind) (released : List Release) (lost : D) → at ≡ length events → at2 ≡ at → given2 ≡ given → kind ≡ OutOfMemory → released ≡ h.released.items → disk_driven h.driver ≡ Some lost → IsSomeAnd h.driver.flight (λ f. f.mark ≡ Good) →
-        (before : D) → start.disk ≡ Some before → Promised (keeps_model before) events (Broke present clock left_since crashes (started start) events at2 given2 released kind (keeps_model before) before lost)
+        (before : D) → start.disk ≡ Some before → Promised (model.keeps_model before) events (Broke model crashes (started start) events at2 given2 released kind (model.keeps_model before) before lost)
     broke_after at2 given2 kind released lost last here same memory kept there good before disk promised =
         let all = way.holds before disk promised in
         let drives = all.drives in
         let s = run (started start) (take at events) given in
         let past : slice_get events at ≡ None = slice_get_past events at (omega (arith, last)) in
-        let ends : EndsAt present clock left_since crashes (keeps_model before) s None kind released drives.disk lost =
-        (given_up (keeps_model before) before lost start (take at events) given h kind released all memory kept there, committed h.driver.flight s.flight (flight_is h.driver s drives.shows) good) in
-        let one : Broke present clock left_since crashes (started start) events at given released kind (keeps_model before) before lost =
+        let ends : EndsAt model crashes (model.keeps_model before) s None kind released drives.disk lost =
+        (given_up (model.keeps_model before) before lost start (take at events) given h kind released all memory kept there, committed h.driver.flight s.flight (flight_is h.driver s drives.shows) good) in
+        let one : Broke model crashes (started start) events at given released kind (model.keeps_model before) before lost =
         record {
           within = omega (arith, last);
           answered = drives.answered;
           disk = drives.disk;
           moments = drives.moments;
-          why = inr (subst (λ o. EndsAt present clock left_since crashes (keeps_model before) s o kind released drives.disk lost) (sym past) ends);
+          why = inr (subst (λ o. EndsAt model crashes (model.keeps_model before) s o kind released drives.disk lost) (sym past) ends);
         } in
-        subst (λ n. Broke present clock left_since crashes (started start) events n given2 released kind (keeps_model before) before lost) (sym here)
-        (subst (λ l. Broke present clock left_since crashes (started start) events at l released kind (keeps_model before) before lost) (sym same) one)
+        subst (λ n. Broke model crashes (started start) events n given2 released kind (model.keeps_model before) before lost) (sym here)
+        (subst (λ l. Broke model crashes (started start) events at l released kind (model.keeps_model before) before lost) (sym same) one)
 
     module _ (e : Event) (below : at < length events) (is : e ≡ get_or events at e) where
       -- an event was cut short
-      pub broke_meeting : (at2 : ℕ) (given2 : List Answer) (kind : RunFaultKind) (released : List Release) (lost : D) → at2 ≡ at → given2 ≡ given → ((s : Machine) → IsConsistent s → Follows h s → IsPromised (model_driven keeps_model h.driver) e → IsCutShort s e kind released) →
-          ((s : Machine) → IsConsistent s → Follows h s → IsLost keeps_model present clock left_since crashes s e kind (disk_driven h.driver) lost) →
-          (before : D) → start.disk ≡ Some before → Promised (keeps_model before) events (Broke present clock left_since crashes (started start) events at2 given2 released kind (keeps_model before) before lost)
+      pub broke_meeting : (at2 : ℕ) (given2 : List Answer) (kind : RunFaultKind) (released : List Release) (lost : D) → at2 ≡ at → given2 ≡ given → ((s : Machine) → IsConsistent s → Follows h s → IsPromised (model_driven model.keeps_model h.driver) e → IsCutShort s e kind released) →
+          ((s : Machine) → IsConsistent s → Follows h s → IsLost model crashes s e kind (disk_driven h.driver) lost) →
+          (before : D) → start.disk ≡ Some before → Promised (model.keeps_model before) events (Broke model crashes (started start) events at2 given2 released kind (model.keeps_model before) before lost)
       broke_meeting at2 given2 kind released lost here same cut back before disk promised =
           let all = way.holds before disk promised in
           let drives = all.drives in
           let s = run (started start) (take at events) given in
-          let on = event_promised present clock left_since crashes keeps_model start events at given h way e below is before disk promised in
-          let there = event_there present clock left_since crashes keeps_model start events at given h way e below is in
-          let model = same_model present clock left_since crashes keeps_model start events at given h way before drives.disk disk drives.holds in
-          let its = subst (λ b. IsGivenBack present clock left_since crashes b s e kind drives.disk lost) model (back s drives.consistent all.follows drives.disk drives.holds) in
-          let ends : EndsAt present clock left_since crashes (keeps_model before) s (Some e) kind released drives.disk lost = (cut s drives.consistent all.follows on, its) in
-          let one : Broke present clock left_since crashes (started start) events at given released kind (keeps_model before) before lost =
+          let on = event_promised model crashes start events at given h way e below is before disk promised in
+          let there = event_there model crashes start events at given h way e below is in
+          let alike = same_model model crashes start events at given h way before drives.disk disk drives.holds in
+          let its = subst (λ b. IsGivenBack model crashes b s e kind drives.disk lost) alike (back s drives.consistent all.follows drives.disk drives.holds) in
+          let ends : EndsAt model crashes (model.keeps_model before) s (Some e) kind released drives.disk lost = (cut s drives.consistent all.follows on, its) in
+          let one : Broke model crashes (started start) events at given released kind (model.keeps_model before) before lost =
           record {
             within = omega (arith, below);
             answered = drives.answered;
             disk = drives.disk;
             moments = drives.moments;
-            why = inr (subst (λ o. EndsAt present clock left_since crashes (keeps_model before) s o kind released drives.disk lost) (sym there) ends);
+            why = inr (subst (λ o. EndsAt model crashes (model.keeps_model before) s o kind released drives.disk lost) (sym there) ends);
           } in
-          subst (λ n. Broke present clock left_since crashes (started start) events n given2 released kind (keeps_model before) before lost) (sym here)
-          (subst (λ l. Broke present clock left_since crashes (started start) events at l released kind (keeps_model before) before lost) (sym same) one)
+          subst (λ n. Broke model crashes (started start) events n given2 released kind (model.keeps_model before) before lost) (sym here)
+          (subst (λ l. Broke model crashes (started start) events at l released kind (model.keeps_model before) before lost) (sym same) one)
 
-      pub caused : (at2 : ℕ) (kind : RunFaultKind) (released : List Release) → at2 ≡ at → IsEventFault (model_driven keeps_model h.driver) e kind → (before : D) → start.disk ≡ Some before → HasCause (keeps_model before) events at2 released kind
-      caused at2 kind released here cause before disk = subst (λ n. HasCause (keeps_model before) events n released kind) (sym here) (by_kind kind cause)
+      pub caused : (at2 : ℕ) (kind : RunFaultKind) (released : List Release) → at2 ≡ at → IsEventFault (model_driven model.keeps_model h.driver) e kind → (before : D) → start.disk ≡ Some before → HasCause (model.keeps_model before) events at2 released kind
+      caused at2 kind released here cause before disk = subst (λ n. HasCause (model.keeps_model before) events n released kind) (sym here) (by_kind kind cause)
         where
           there : slice_get events at ≡ Some e
-          there = event_there present clock left_since crashes keeps_model start events at given h way e below is
+          there = event_there model crashes start events at given h way e below is
 
-          by_kind : (k : RunFaultKind) → IsEventFault (model_driven keeps_model h.driver) e k → HasCause (keeps_model before) events at released k
+          by_kind : (k : RunFaultKind) → IsEventFault (model_driven model.keeps_model h.driver) e k → HasCause (model.keeps_model before) events at released k
           by_kind OutOfMemory cause = inr (inr (e, (there, cause)))
           by_kind (Store fault) cause =
-              (there ∙ ap Some cause.0, cause.1, λ on. cause.2 (model_there present clock left_since crashes keeps_model start events at given h way e below is before disk ∙ ap Some on))
+              (there ∙ ap Some cause.0, cause.1, λ on. cause.2 (model_there model crashes start events at given h way e below is before disk ∙ ap Some on))
 
   -- before the first event
-  pub broke_first : (keeps_model : D → Bool) (start : LedgerState D) (events : List Event) (at2 : ℕ) (given2 : List Answer) (h : Run D) (kind : RunFaultKind) (released : List Release) (lost : D) → at2 ≡ 0 → given2 ≡ [] → kind ≡ OutOfMemory → released ≡ h.released.items → disk_driven h.driver ≡ Some lost → Underway present clock left_since crashes keeps_model start events 0 [] h →
-      (before : D) → start.disk ≡ Some before → Promised (keeps_model before) events (Broke present clock left_since crashes (started start) events at2 given2 released kind (keeps_model before) before lost)
-  broke_first keeps_model start events at2 given2 h kind released lost here same memory kept there way before disk promised =
+  pub broke_first : (start : LedgerState D) (events : List Event) (at2 : ℕ) (given2 : List Answer) (h : Run D) (kind : RunFaultKind) (released : List Release) (lost : D) → at2 ≡ 0 → given2 ≡ [] → kind ≡ OutOfMemory → released ≡ h.released.items → disk_driven h.driver ≡ Some lost → Underway model crashes start events 0 [] h →
+      (before : D) → start.disk ≡ Some before → Promised (model.keeps_model before) events (Broke model crashes (started start) events at2 given2 released kind (model.keeps_model before) before lost)
+  broke_first start events at2 given2 h kind released lost here same memory kept there way before disk promised =
       let all = way.holds before disk promised in
       let drives = all.drives in
-      let one : Broke present clock left_since crashes (started start) events 0 [] released kind (keeps_model before) before lost =
+      let one : Broke model crashes (started start) events 0 [] released kind (model.keeps_model before) before lost =
       record {
         within = omega arith;
         answered = drives.answered;
         disk = drives.disk;
         moments = drives.moments;
-        why = inl (refl, given_up (keeps_model before) before lost start [] [] h kind released all memory kept there);
+        why = inl (refl, given_up (model.keeps_model before) before lost start [] [] h kind released all memory kept there);
       } in
-      subst (λ n. Broke present clock left_since crashes (started start) events n given2 released kind (keeps_model before) before lost) (sym here)
-      (subst (λ l. Broke present clock left_since crashes (started start) events 0 l released kind (keeps_model before) before lost) (sym same) one)
+      subst (λ n. Broke model crashes (started start) events n given2 released kind (model.keeps_model before) before lost) (sym here)
+      (subst (λ l. Broke model crashes (started start) events 0 l released kind (model.keeps_model before) before lost) (sym same) one)

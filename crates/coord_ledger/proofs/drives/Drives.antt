@@ -3,7 +3,7 @@ use Rattle.std.proofs.Common.{◌≡◌, ◌⊎◌, ℕ, ◌+◌, ◌-◌, ◌<�
 use Rattle.std.specs.List.{AllByRecursion}
 use Rattle.std.specs.Option.{option_map}
 use Rattle.std.proofs.lemmas.Option.{slice_get_read}
-use Rattle.coord_disk.specs.Model.Present.{Present}
+use Rattle.coord_disk.specs.declared.disk.Disk.{Ghosts}
 use Rattle.coord_store.proofs.Freshness.{take-push}
 use Rattle.coord_ledger.specs.Facade.{Answer, CrashPrefix, Driven, Drives, Event, EventInRange, Follows, FollowsTo, HeldSurvives, HeldTouches, HoldsFlight, HoldsTickets, IsConsistent, IsOneOf, IsPromised, LedgerState, Machine, MayBegin, Promised, Run, Shows, Touches, after, answers, at_home, disk_driven, disk_with, flight_out, found_by_crash, is_crash, machine_of, model_driven, run, started, touches_disk}
 use Rattle.coord_ledger.proofs.machine.Consistent.{run_goes_on, stays_consistent}
@@ -15,11 +15,11 @@ all_at P [] i x there all = let no : ⊥ = cc in absurd no
 all_at P (y ∷ ys) zero x there all = let same : y ≡ x = cc in subst P same all.0
 all_at P (y ∷ ys) (suc i) x there all = all_at P ys i x there all.1
 
-module _ {D : Type 0} (present : D → Present) (clock : D → ℕ) (left_since : D → ℕ → List ℕ → Type 0) (crashes : D → D → Type 0) where
+module _ {D : Type 0} (model : Ghosts D) (crashes : D → D → Type 0) where
   -- a run begins where no flight is out
-  pub drives_first : (keeps_model : D → Bool) (first : D) (d : Driven D) → d.flight ≡ None → HoldsFlight d.ledger d.flight → IsConsistent (machine_of d (started d.ledger)) → d.ledger.disk ≡ Some first →
-      ((s : Machine) → IsConsistent s → Shows d s → HeldSurvives keeps_model present (disk_driven d) s) → Drives present clock left_since crashes (keeps_model first) first d.ledger [] [] d
-  drives_first keeps_model first d none own own_is home survives =
+  pub drives_first : (first : D) (d : Driven D) → d.flight ≡ None → HoldsFlight d.ledger d.flight → IsConsistent (machine_of d (started d.ledger)) → d.ledger.disk ≡ Some first →
+      ((s : Machine) → IsConsistent s → Shows d s → HeldSurvives model.keeps_model model.present (disk_driven d) s) → Drives model crashes (model.keeps_model first) first d.ledger [] [] d
+  drives_first first d none own own_is home survives =
       let log = d.ledger.log in
       let is : IsConsistent (started d.ledger) = subst IsConsistent (λ i. record (started d.ledger) { flight = ap (option_map flight_out) none i }) own_is in
       let all : log.settled - 0 ≡ log.settled = omega arith in
@@ -29,11 +29,11 @@ module _ {D : Type 0} (present : D → Present) (clock : D → ℕ) (left_since 
       record { answered = tt; consistent = is; shows = shows; disk = first; holds = there; moments = (refl, survives (started d.ledger) is shows first there) }
 
   -- one event more
-  pub drives_on : (keeps_model : D → Bool) (on : Bool) (first : D) (start : LedgerState D) (events : List Event) (given : List Answer) (d new : Driven D) (e : Event) (a : Answer) →
-      (drives : Drives present clock left_since crashes on first start events given d) → keeps_model drives.disk ≡ on → EventInRange e → IsOneOf a (answers (run (started start) events given) e) → Shows new (after (run (started start) events given) e a) →
-      HeldTouches keeps_model present clock left_since crashes (found_by_crash (run (started start) events given) e a) (touches_disk e a) e (disk_driven d) (disk_driven new) → ((s : Machine) → IsConsistent s → Shows new s → (disk : D) → disk_driven new ≡ Some disk → CrashPrefix s on (present disk)) →
-      Drives present clock left_since crashes on first start (events ++ e ∷ []) (given ++ a ∷ []) new
-  drives_on keeps_model on first start events given d new e a drives same named allowed shows touches survives =
+  pub drives_on : (on : Bool) (first : D) (start : LedgerState D) (events : List Event) (given : List Answer) (d new : Driven D) (e : Event) (a : Answer) →
+      (drives : Drives model crashes on first start events given d) → model.keeps_model drives.disk ≡ on → EventInRange e → IsOneOf a (answers (run (started start) events given) e) → Shows new (after (run (started start) events given) e a) →
+      HeldTouches model crashes (found_by_crash (run (started start) events given) e a) (touches_disk e a) e (disk_driven d) (disk_driven new) → ((s : Machine) → IsConsistent s → Shows new s → (disk : D) → disk_driven new ≡ Some disk → CrashPrefix s on (model.present disk)) →
+      Drives model crashes on first start (events ++ e ∷ []) (given ++ a ∷ []) new
+  drives_on on first start events given d new e a drives same named allowed shows touches survives =
       let s = run (started start) events given in
       let more = run_goes_on (started start) events given e a drives.answered allowed in
       let consistent = stays_consistent s e a named drives.consistent allowed in
@@ -44,33 +44,33 @@ module _ {D : Type 0} (present : D → Present) (clock : D → ℕ) (left_since 
         shows = subst (Shows new) (sym more.1) shows;
         disk = moved.new;
         holds = moved.holds;
-        moments = moments_on present clock left_since crashes on (started start) events given e a first drives.disk moved.new drives.moments
-            (subst (λ b. Touches present clock left_since crashes b (found_by_crash s e a) (touches_disk e a) e drives.disk moved.new) same moved.touched)
+        moments = moments_on model crashes on (started start) events given e a first drives.disk moved.new drives.moments
+            (subst (λ b. Touches model crashes b (found_by_crash s e a) (touches_disk e a) e drives.disk moved.new) same moved.touched)
             (survives (after s e a) consistent shows moved.new moved.holds);
       }
 
   -- what a run keeps after some events, with the lists that it holds beside the driver
   pub record Holds (on : Bool) (first : D) (start : LedgerState D) (events : List Event) (given : List Answer) (h : Run D) : Type 0 where
-    pub drives : Drives present clock left_since crashes on first start events given h.driver
+    pub drives : Drives model crashes on first start events given h.driver
     pub follows : Follows h (run (started start) events given)
 
   -- what the loop of a run keeps before the event at this index
-  pub record Underway (keeps_model : D → Bool) (start : LedgerState D) (events : List Event) (at : ℕ) (given : List Answer) (h : Run D) : Type 0 where
-    pub same_model : model_driven keeps_model h.driver ≡ option_map keeps_model start.disk
-    pub holds : (before : D) → start.disk ≡ Some before → Promised (keeps_model before) events (Holds (keeps_model before) before start (take at events) given h)
+  pub record Underway (start : LedgerState D) (events : List Event) (at : ℕ) (given : List Answer) (h : Run D) : Type 0 where
+    pub same_model : model_driven model.keeps_model h.driver ≡ option_map model.keeps_model start.disk
+    pub holds : (before : D) → start.disk ≡ Some before → Promised (model.keeps_model before) events (Holds (model.keeps_model before) before start (take at events) given h)
 
   -- before the first event
-  pub underway_first : (keeps_model : D → Bool) (start : LedgerState D) (events : List Event) (given : List Answer) (h : Run D) → h.driver ≡ at_home start → MayBegin keeps_model present clock left_since crashes h.driver → h.tickets.items ≡ [] → h.seen ≡ 0 → h.released.items ≡ [] → given ≡ [] →
-      Underway keeps_model start events 0 given h
-  underway_first keeps_model start events given h over begins no_tickets unseen unreleased unanswered =
+  pub underway_first : (start : LedgerState D) (events : List Event) (given : List Answer) (h : Run D) → h.driver ≡ at_home start → MayBegin model crashes h.driver → h.tickets.items ≡ [] → h.seen ≡ 0 → h.released.items ≡ [] → given ≡ [] →
+      Underway start events 0 given h
+  underway_first start events given h over begins no_tickets unseen unreleased unanswered =
       let d = h.driver in
       record {
-        same_model = ap (model_driven keeps_model) over;
+        same_model = ap (model_driven model.keeps_model) over;
         holds = λ before disk promised.
             let there : begins.first ≡ before = let is = sym begins.home ∙ ap (λ (x : Driven D). x.ledger.disk) over ∙ disk in cc in
-            let first = subst (λ x. Drives present clock left_since crashes (keeps_model x) x d.ledger [] [] d) there begins.drives in
-            let drives = subst (λ (l : LedgerState D). Drives present clock left_since crashes (keeps_model before) before l [] [] d) (ap (λ (x : Driven D). x.ledger) over) first in
-            subst (λ l. Holds (keeps_model before) before start [] l h) (sym unanswered)
+            let first = subst (λ x. Drives model crashes (model.keeps_model x) x d.ledger [] [] d) there begins.drives in
+            let drives = subst (λ (l : LedgerState D). Drives model crashes (model.keeps_model before) before l [] [] d) (ap (λ (x : Driven D). x.ledger) over) first in
+            subst (λ l. Holds (model.keeps_model before) before start [] l h) (sym unanswered)
             (record {
               drives = drives;
               follows = record {
@@ -82,29 +82,29 @@ module _ {D : Type 0} (present : D → Present) (clock : D → ℕ) (left_since 
             });
       }
 
-  module _ (keeps_model : D → Bool) (start : LedgerState D) (events : List Event) (at : ℕ) (given : List Answer) (h : Run D) (way : Underway keeps_model start events at given h) where
+  module _ (start : LedgerState D) (events : List Event) (at : ℕ) (given : List Answer) (h : Run D) (way : Underway start events at given h) where
     -- the disk that is held keeps the model as the first one does
-    pub same_model : (before disk : D) → start.disk ≡ Some before → disk_driven h.driver ≡ Some disk → keeps_model disk ≡ keeps_model before
+    pub same_model : (before disk : D) → start.disk ≡ Some before → disk_driven h.driver ≡ Some disk → model.keeps_model disk ≡ model.keeps_model before
     same_model before disk first there =
-        let is : option_map keeps_model (Some disk) ≡ option_map keeps_model (Some before) = sym (ap (option_map keeps_model) there) ∙ way.same_model ∙ ap (option_map keeps_model) first in
+        let is : option_map model.keeps_model (Some disk) ≡ option_map model.keeps_model (Some before) = sym (ap (option_map model.keeps_model) there) ∙ way.same_model ∙ ap (option_map model.keeps_model) first in
         cc
 
     module _ (e : Event) (below : at < length events) (is : e ≡ get_or events at e) where
       pub event_there : slice_get events at ≡ Some e
       event_there = slice_get_read events (length events) at e refl below is
 
-      pub model_there : (before : D) → start.disk ≡ Some before → model_driven keeps_model h.driver ≡ Some (keeps_model before)
-      model_there before disk = way.same_model ∙ ap (option_map keeps_model) disk
+      pub model_there : (before : D) → start.disk ≡ Some before → model_driven model.keeps_model h.driver ≡ Some (model.keeps_model before)
+      model_there before disk = way.same_model ∙ ap (option_map model.keeps_model) disk
 
       -- what is promised of a run is promised of each of its events
-      pub event_promised : (before : D) → start.disk ≡ Some before → (keeps_model before ≡ true) ⊎ AllByRecursion (λ x. is_crash x ≡ false) events → IsPromised (model_driven keeps_model h.driver) e
+      pub event_promised : (before : D) → start.disk ≡ Some before → (model.keeps_model before ≡ true) ⊎ AllByRecursion (λ x. is_crash x ≡ false) events → IsPromised (model_driven model.keeps_model h.driver) e
       event_promised before disk (inl on) = inl (model_there before disk ∙ ap Some on)
       event_promised before disk (inr none) = inr (all_at (λ x. is_crash x ≡ false) events at e event_there none)
 
       -- the event was answered
-      pub underway_on : (new : Run D) (a : Answer) → EventInRange e → ((s : Machine) → IsConsistent s → Follows h s → IsPromised (model_driven keeps_model h.driver) e → FollowsTo s e a new) → model_driven keeps_model new.driver ≡ model_driven keeps_model h.driver →
-          ((s : Machine) → IsConsistent s → Follows h s → HeldTouches keeps_model present clock left_since crashes (found_by_crash s e a) (touches_disk e a) e (disk_driven h.driver) (disk_driven new.driver)) → ((s : Machine) → IsConsistent s → Shows new.driver s → HeldSurvives keeps_model present (disk_driven new.driver) s) →
-          Underway keeps_model start events (at + 1) (given ++ a ∷ []) new
+      pub underway_on : (new : Run D) (a : Answer) → EventInRange e → ((s : Machine) → IsConsistent s → Follows h s → IsPromised (model_driven model.keeps_model h.driver) e → FollowsTo s e a new) → model_driven model.keeps_model new.driver ≡ model_driven model.keeps_model h.driver →
+          ((s : Machine) → IsConsistent s → Follows h s → HeldTouches model crashes (found_by_crash s e a) (touches_disk e a) e (disk_driven h.driver) (disk_driven new.driver)) → ((s : Machine) → IsConsistent s → Shows new.driver s → HeldSurvives model.keeps_model model.present (disk_driven new.driver) s) →
+          Underway start events (at + 1) (given ++ a ∷ []) new
       underway_on new a named answered same touches survives =
           record {
             same_model = same ∙ way.same_model;
@@ -114,14 +114,14 @@ module _ {D : Type 0} (present : D → Present) (clock : D → ℕ) (left_since 
                 let s = run (started start) (take at events) given in
                 let to = answered s drives.consistent all.follows (event_promised before disk promised) in
                 let later = λ (now : D) (there : disk_driven new.driver ≡ Some now). new_model new same before now disk there in
-                let on = drives_on keeps_model (keeps_model before) before start (take at events) given h.driver new.driver e a drives (same_model before drives.disk disk drives.holds) named to.allowed to.follows.shows (touches s drives.consistent all.follows)
-                (λ t consistent shows now there. subst (λ b. CrashPrefix t b (present now)) (later now there) (survives t consistent shows now there)) in
+                let on = drives_on (model.keeps_model before) before start (take at events) given h.driver new.driver e a drives (same_model before drives.disk disk drives.holds) named to.allowed to.follows.shows (touches s drives.consistent all.follows)
+                (λ t consistent shows now there. subst (λ b. CrashPrefix t b (model.present now)) (later now there) (survives t consistent shows now there)) in
                 let more = run_goes_on (started start) (take at events) given e a drives.answered to.allowed in
-                subst (λ l. Holds (keeps_model before) before start l (given ++ a ∷ []) new) (sym (take-push events at e below is))
+                subst (λ l. Holds (model.keeps_model before) before start l (given ++ a ∷ []) new) (sym (take-push events at e below is))
                 (record { drives = on; follows = subst (Follows new) (sym more.1) to.follows });
           }
         where
-          new_model : (new : Run D) → model_driven keeps_model new.driver ≡ model_driven keeps_model h.driver → (before now : D) → start.disk ≡ Some before → disk_driven new.driver ≡ Some now → keeps_model now ≡ keeps_model before
+          new_model : (new : Run D) → model_driven model.keeps_model new.driver ≡ model_driven model.keeps_model h.driver → (before now : D) → start.disk ≡ Some before → disk_driven new.driver ≡ Some now → model.keeps_model now ≡ model.keeps_model before
           new_model new same before now first there =
-              let is : option_map keeps_model (Some now) ≡ option_map keeps_model (Some before) = sym (ap (option_map keeps_model) there) ∙ same ∙ way.same_model ∙ ap (option_map keeps_model) first in
+              let is : option_map model.keeps_model (Some now) ≡ option_map model.keeps_model (Some before) = sym (ap (option_map model.keeps_model) there) ∙ same ∙ way.same_model ∙ ap (option_map model.keeps_model) first in
               cc

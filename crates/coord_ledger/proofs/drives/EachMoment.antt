@@ -3,6 +3,7 @@ use Rattle.std.proofs.Common.{◌≡◌, ◌⊎◌, ℕ, ◌+◌, Bool, true, fa
 use Rattle.std.specs.Option.{option_map}
 use Rattle.coord_disk.specs.Model.Moments.{LeavesOnly}
 use Rattle.coord_disk.specs.Model.Present.{Present, IsImage}
+use Rattle.coord_disk.specs.declared.disk.Disk.{Ghosts}
 use Rattle.coord_disk.proofs.MomentLemmas.{started, weaker}
 use Rattle.coord_store.specs.Kept.{GivesEither, IsOnlyWorld}
 use Rattle.coord_store.specs.declared.faults.CommitFault.{CommitFault}
@@ -98,38 +99,38 @@ abbrev pub told : {T : Type 0} → Result T CommitFault → Answer
 told (Ok done) = Committed
 told (Err why) = Failed why
 
-module _ {D : Type 0} (present : D → Present) (clock : D → ℕ) (left_since : D → ℕ → List ℕ → Type 0) (crashes : D → D → Type 0) where
-  within_event : (e : Event) (P : List ℕ → Type 0) (old new : D) → is_crash e ≡ false → LeavesOnly clock left_since old new P → LeavesWithin present clock left_since crashes e P old new
+module _ {D : Type 0} (model : Ghosts D) (crashes : D → D → Type 0) where
+  within_event : (e : Event) (P : List ℕ → Type 0) (old new : D) → is_crash e ≡ false → LeavesOnly model.clock model.left_since old new P → LeavesWithin model crashes e P old new
   within_event Crash P old new other leaves = let no : ⊥ = cc in absurd no
   within_event e P old new other leaves = leaves
 
-  module _ (keeps_model : D → Bool) (only_now : (disk : D) (image : List ℕ) → keeps_model disk ≡ true → left_since disk (clock disk) image → IsImage (present disk) image) where
+  module _ (only_now : (disk : D) (image : List ℕ) → model.keeps_model disk ≡ true → model.left_since disk (model.clock disk) image → IsImage (model.present disk) image) where
     -- nothing was done to the disk
-    pub untouched : (s : Machine) (touches : Bool) (e : Event) (old new : D) → is_crash e ≡ false → new ≡ old → CrashPrefix s (keeps_model old) (present old) → Touches present clock left_since crashes (keeps_model old) s touches e old new
+    pub untouched : (s : Machine) (touches : Bool) (e : Event) (old new : D) → is_crash e ≡ false → new ≡ old → CrashPrefix s (model.keeps_model old) (model.present old) → Touches model crashes (model.keeps_model old) s touches e old new
     untouched s touches e old new other same prefix =
         record {
           untouched = λ _. same;
-          inside = λ on. subst (LeavesWithin present clock left_since crashes e (Survives s) old) (sym same)
-              (within_event e (Survives s) old old other (started clock left_since old (Survives s) (λ image left. prefix on image (only_now old image on left))));
+          inside = λ on. subst (LeavesWithin model crashes e (Survives s) old) (sym same)
+              (within_event e (Survives s) old old other (started model.clock model.left_since old (Survives s) (λ image left. prefix on image (only_now old image on left))));
         }
 
-    pub held_untouched : (s : Machine) (touches : Bool) (e : Event) (was now : Option D) → is_crash e ≡ false → now ≡ was → HeldSurvives keeps_model present was s → HeldTouches keeps_model present clock left_since crashes s touches e was now
+    pub held_untouched : (s : Machine) (touches : Bool) (e : Event) (was now : Option D) → is_crash e ≡ false → now ≡ was → HeldSurvives model.keeps_model model.present was s → HeldTouches model crashes s touches e was now
     held_untouched s touches e was now other same survives old holds = record { new = old; holds = same ∙ holds; touched = untouched s touches e old old other refl (survives old holds) }
 
     -- so it is in each event but a commit and a crash
-    pub met_aside : (s : Machine) (e what : Event) (a : Answer) (was now : Option D) → e ≡ what → is_crash what ≡ false → found_by_crash s what a ≡ s → now ≡ was → HeldSurvives keeps_model present was s →
-        HeldTouches keeps_model present clock left_since crashes (found_by_crash s e a) (touches_disk e a) e was now
+    pub met_aside : (s : Machine) (e what : Event) (a : Answer) (was now : Option D) → e ≡ what → is_crash what ≡ false → found_by_crash s what a ≡ s → now ≡ was → HeldSurvives model.keeps_model model.present was s →
+        HeldTouches model crashes (found_by_crash s e a) (touches_disk e a) e was now
     met_aside s e what a was now event other found same survives =
-        subst (λ x. HeldTouches keeps_model present clock left_since crashes (found_by_crash s x a) (touches_disk x a) x was now) (sym event)
-        (subst (λ t. HeldTouches keeps_model present clock left_since crashes t (touches_disk what a) what was now) (sym found) (held_untouched s (touches_disk what a) what was now other same survives))
+        subst (λ x. HeldTouches model crashes (found_by_crash s x a) (touches_disk x a) x was now) (sym event)
+        (subst (λ t. HeldTouches model crashes t (touches_disk what a) what was now) (sym found) (held_untouched s (touches_disk what a) what was now other same survives))
 
     -- a flight was committed, or not
-    module _ (d : Driven D) (s : Machine) (f g : FlightState D) (is : IsConsistent s) (shows : Shows d s) (holds : d.flight ≡ Some f) (survives : HeldSurvives keeps_model present (disk_driven d) s) (new : Driven D) (now : disk_driven new ≡ Some g.disk) where
+    module _ (d : Driven D) (s : Machine) (f g : FlightState D) (is : IsConsistent s) (shows : Shows d s) (holds : d.flight ≡ Some f) (survives : HeldSurvives model.keeps_model model.present (disk_driven d) s) (new : Driven D) (now : disk_driven new ≡ Some g.disk) where
       its_disk : disk_driven d ≡ Some f.disk
       its_disk = ap (disk_with d.ledger.disk) holds
 
       -- at each moment of it a crash left only what has P
-      leaves : (found : Machine) (P : List ℕ → Type 0) → (keeps_model f.disk ≡ true → LeavesOnly clock left_since f.disk g.disk P) → ((bytes : List ℕ) → P bytes → Survives found bytes) → HeldTouches keeps_model present clock left_since crashes found true Commit (disk_driven d) (disk_driven new)
+      leaves : (found : Machine) (P : List ℕ → Type 0) → (model.keeps_model f.disk ≡ true → LeavesOnly model.clock model.left_since f.disk g.disk P) → ((bytes : List ℕ) → P bytes → Survives found bytes) → HeldTouches model crashes found true Commit (disk_driven d) (disk_driven new)
       leaves found P moments each old there =
           let same : f.disk ≡ old = cc (its_disk, there) in
           record {
@@ -137,25 +138,25 @@ module _ {D : Type 0} (present : D → Present) (clock : D → ℕ) (left_since 
             holds = now;
             touched = record {
               untouched = λ no. let never : ⊥ = cc in absurd never;
-              inside = λ on. subst (λ x. LeavesOnly clock left_since x g.disk (Survives found)) same (weaker clock left_since f.disk g.disk P (Survives found) (moments (ap keeps_model same ∙ on)) each);
+              inside = λ on. subst (λ x. LeavesOnly model.clock model.left_since x g.disk (Survives found)) same (weaker model.clock model.left_since f.disk g.disk P (Survives found) (moments (ap model.keeps_model same ∙ on)) each);
             };
           }
 
       -- the flight was left as it was
-      alone : g ≡ f → HeldTouches keeps_model present clock left_since crashes s false Commit (disk_driven d) (disk_driven new)
+      alone : g ≡ f → HeldTouches model crashes s false Commit (disk_driven d) (disk_driven new)
       alone same = held_untouched s false Commit (disk_driven d) (disk_driven new) refl (now ∙ ap (λ (x : FlightState D). Some x.disk) same ∙ sym its_disk) survives
 
       pub commit_touches : {T : Type 0} (r : Result T CommitFault) →
-          (keeps_model f.disk ≡ true → f.mark ≡ New → LeavesOnly clock left_since f.disk g.disk (GivesEither f.world (fold f.world f.steps))) →
-          (keeps_model f.disk ≡ true → f.mark ≡ New → IsErrOf r fault.OutOfMemory → LeavesOnly clock left_since f.disk g.disk (IsOnlyWorld f.world)) →
+          (model.keeps_model f.disk ≡ true → f.mark ≡ New → LeavesOnly model.clock model.left_since f.disk g.disk (GivesEither f.world (fold f.world f.steps))) →
+          (model.keeps_model f.disk ≡ true → f.mark ≡ New → IsErrOf r fault.OutOfMemory → LeavesOnly model.clock model.left_since f.disk g.disk (IsOnlyWorld f.world)) →
           (f.mark ≡ New → MatchResult r (λ _. g.mark ≡ Good) (λ why. ((why ≡ fault.Device) × (g.mark ≡ Torn)) ⊎ ((why ≡ fault.OutOfMemory) × (g.mark ≡ New)))) →
           (f.mark ≡ Good → (r ≡ Err fault.Again) × (g ≡ f)) →
           (f.mark ≡ Torn → (r ≡ Err fault.Stopped) × (g ≡ f)) →
-          HeldTouches keeps_model present clock left_since crashes (found_by_crash s Commit (told r)) (touches_disk Commit (told r)) Commit (disk_driven d) (disk_driven new)
+          HeldTouches model crashes (found_by_crash s Commit (told r)) (touches_disk Commit (told r)) Commit (disk_driven d) (disk_driven new)
       commit_touches {T} r either refused tried again stopped = by_mark f.mark refl
         where
           Goal : Result T CommitFault → Type 0
-          Goal r = HeldTouches keeps_model present clock left_since crashes (found_by_crash s Commit (told r)) (touches_disk Commit (told r)) Commit (disk_driven d) (disk_driven new)
+          Goal r = HeldTouches model crashes (found_by_crash s Commit (told r)) (touches_disk Commit (told r)) Commit (disk_driven d) (disk_driven new)
 
           by_result : f.mark ≡ New → (q : Result T CommitFault) → r ≡ q → Goal q
           by_result new (Ok done) same = leaves (after s Commit (Failed fault.Device)) (GivesEither f.world (fold f.world f.steps)) (λ on. either on new) (either_survives d s f is shows holds new)
@@ -174,23 +175,23 @@ module _ {D : Type 0} (present : D → Present) (clock : D → ℕ) (left_since 
           by_mark Good mark = subst Goal (sym (again mark).0) (alone (again mark).1)
           by_mark Torn mark = subst Goal (sym (stopped mark).0) (alone (stopped mark).1)
 
-  pub met_commit : {E : Type 0} (keeps_model : D → Bool) (s : Machine) (e : Event) (said : Answer) (answer : Result Answer E) (a : Answer) (was now new : Option D) → e ≡ Commit → answer ≡ Ok said → answer ≡ Ok a → now ≡ new →
-      HeldTouches keeps_model present clock left_since crashes (found_by_crash s Commit said) (touches_disk Commit said) Commit was new → HeldTouches keeps_model present clock left_since crashes (found_by_crash s e a) (touches_disk e a) e was now
-  met_commit keeps_model s e said answer a was now new event says ok is touches =
+  pub met_commit : {E : Type 0} (s : Machine) (e : Event) (said : Answer) (answer : Result Answer E) (a : Answer) (was now new : Option D) → e ≡ Commit → answer ≡ Ok said → answer ≡ Ok a → now ≡ new →
+      HeldTouches model crashes (found_by_crash s Commit said) (touches_disk Commit said) Commit was new → HeldTouches model crashes (found_by_crash s e a) (touches_disk e a) e was now
+  met_commit s e said answer a was now new event says ok is touches =
       let same : said ≡ a = cc (says, ok) in
-      subst (λ x. HeldTouches keeps_model present clock left_since crashes (found_by_crash s x a) (touches_disk x a) x was now) (sym event)
-      (subst (HeldTouches keeps_model present clock left_since crashes (found_by_crash s Commit a) (touches_disk Commit a) Commit was) (sym is)
-      (subst (λ b. HeldTouches keeps_model present clock left_since crashes (found_by_crash s Commit b) (touches_disk Commit b) Commit was new) same touches))
+      subst (λ x. HeldTouches model crashes (found_by_crash s x a) (touches_disk x a) x was now) (sym event)
+      (subst (HeldTouches model crashes (found_by_crash s Commit a) (touches_disk Commit a) Commit was) (sym is)
+      (subst (λ b. HeldTouches model crashes (found_by_crash s Commit b) (touches_disk Commit b) Commit was new) same touches))
 
   -- the disk is given back as it was held
-  pub lost_as_held : (keeps_model : D → Bool) (s : Machine) (e : Event) (kind : RunFaultKind) (was : Option D) (lost : D) → is_crash e ≡ false → was ≡ Some lost → IsLost keeps_model present clock left_since crashes s e kind was lost
-  lost_as_held keeps_model s Crash kind was lost other there old holds = let no : ⊥ = cc in absurd no
-  lost_as_held keeps_model s e kind was lost other there old holds = cc
+  pub lost_as_held : (s : Machine) (e : Event) (kind : RunFaultKind) (was : Option D) (lost : D) → is_crash e ≡ false → was ≡ Some lost → IsLost model crashes s e kind was lost
+  lost_as_held s Crash kind was lost other there old holds = let no : ⊥ = cc in absurd no
+  lost_as_held s e kind was lost other there old holds = cc
 
   -- ---- a crash
 
   -- what has P has Q
-  pub reopens_more : (P Q : List ℕ → Type 0) (old new : D) → Reopens present clock left_since crashes P old new → ((bytes : List ℕ) → P bytes → Q bytes) → Reopens present clock left_since crashes Q old new
+  pub reopens_more : (P Q : List ℕ → Type 0) (old new : D) → Reopens model crashes P old new → ((bytes : List ℕ) → P bytes → Q bytes) → Reopens model crashes Q old new
   reopens_more P Q old new reopens more =
       record {
         taken = reopens.taken;
@@ -202,38 +203,38 @@ module _ {D : Type 0} (present : D → Present) (clock : D → ℕ) (left_since 
       }
 
   -- the disk was crashed and opened again
-  module _ (keeps_model : D → Bool) (was : Option D) (s : Machine) (d : D) (held : was ≡ Some d) (survives : HeldSurvives keeps_model present was s) where
-    survives_each : (old new : D) → was ≡ Some old → (keeps_model d ≡ true → Reopens present clock left_since crashes (IsImage (present d)) d new) → keeps_model old ≡ true → Reopens present clock left_since crashes (Survives s) old new
+  module _ (was : Option D) (s : Machine) (d : D) (held : was ≡ Some d) (survives : HeldSurvives model.keeps_model model.present was s) where
+    survives_each : (old new : D) → was ≡ Some old → (model.keeps_model d ≡ true → Reopens model crashes (IsImage (model.present d)) d new) → model.keeps_model old ≡ true → Reopens model crashes (Survives s) old new
     survives_each old new there moments on =
         let same : d ≡ old = cc (held, there) in
-        subst (λ x. Reopens present clock left_since crashes (Survives s) x new) same
-        (reopens_more (IsImage (present d)) (Survives s) d new (moments (ap keeps_model same ∙ on)) (λ bytes here. survives d held (ap keeps_model same ∙ on) bytes here))
+        subst (λ x. Reopens model crashes (Survives s) x new) same
+        (reopens_more (IsImage (model.present d)) (Survives s) d new (moments (ap model.keeps_model same ∙ on)) (λ bytes here. survives d held (ap model.keeps_model same ∙ on) bytes here))
 
-    pub crash_touches : (l : LedgerState D) (now : Option D) → IsReopened keeps_model present clock left_since crashes d l → now ≡ l.disk → HeldTouches keeps_model present clock left_since crashes s true Crash was now
+    pub crash_touches : (l : LedgerState D) (now : Option D) → IsReopened model crashes d l → now ≡ l.disk → HeldTouches model crashes s true Crash was now
     crash_touches l now opened at_home old there = record {
       new = opened.disk;
       holds = at_home ∙ ap (λ (m : LedgerState D). m.disk) opened.is;
       touched = record { untouched = λ no. let never : ⊥ = cc in absurd never; inside = λ on. survives_each old opened.disk there opened.moments on };
     }
 
-    pub crash_lost : (kind : RunFaultKind) (lost : D) → (keeps_model d ≡ true → Reopens present clock left_since crashes (IsImage (present d)) d lost) → IsReopenFault (keeps_model d) (present d) (present lost) kind →
-        IsLost keeps_model present clock left_since crashes s Crash kind was lost
+    pub crash_lost : (kind : RunFaultKind) (lost : D) → (model.keeps_model d ≡ true → Reopens model crashes (IsImage (model.present d)) d lost) → IsReopenFault (model.keeps_model d) (model.present d) (model.present lost) kind →
+        IsLost model crashes s Crash kind was lost
     crash_lost kind lost moments cause old there on =
         let same : d ≡ old = cc (held, there) in
-        let keeps = ap keeps_model same ∙ on in
+        let keeps = ap model.keeps_model same ∙ on in
         record {
           reopens = survives_each old lost there moments on;
-          opened = λ memory. let one = subst (IsReopenFault (keeps_model d) (present d) (present lost)) memory cause keeps in survives d held keeps (present lost).read one.allowed;
+          opened = λ memory. let one = subst (IsReopenFault (model.keeps_model d) (model.present d) (model.present lost)) memory cause keeps in survives d held keeps (model.present lost).read one.allowed;
         }
 
   -- ---- a run
 
-  pub moments_on : (keeps_model : Bool) (s : Machine) (events : List Event) (given : List Answer) (e : Event) (a : Answer) (first mid last : D) → EachMoment present clock left_since crashes keeps_model s events given first mid →
-      Touches present clock left_since crashes keeps_model (found_by_crash (run s events given) e a) (touches_disk e a) e mid last → CrashPrefix (after (run s events given) e a) keeps_model (present last) →
-      EachMoment present clock left_since crashes keeps_model s (events ++ e ∷ []) (given ++ a ∷ []) first last
+  pub moments_on : (keeps_model : Bool) (s : Machine) (events : List Event) (given : List Answer) (e : Event) (a : Answer) (first mid last : D) → EachMoment model crashes keeps_model s events given first mid →
+      Touches model crashes keeps_model (found_by_crash (run s events given) e a) (touches_disk e a) e mid last → CrashPrefix (after (run s events given) e a) keeps_model (model.present last) →
+      EachMoment model crashes keeps_model s (events ++ e ∷ []) (given ++ a ∷ []) first last
   moments_on keeps_model s [] [] e a first mid last moments touches prefix = (
-    subst (λ d. CrashPrefix s keeps_model (present d)) moments.0 moments.1,
-    (last, (subst (λ d. Touches present clock left_since crashes keeps_model (found_by_crash s e a) (touches_disk e a) e d last) moments.0 touches, (refl, prefix))),
+    subst (λ d. CrashPrefix s keeps_model (model.present d)) moments.0 moments.1,
+    (last, (subst (λ d. Touches model crashes keeps_model (found_by_crash s e a) (touches_disk e a) e d last) moments.0 touches, (refl, prefix))),
   )
   moments_on keeps_model s [] (b ∷ given) e a first mid last moments touches prefix = absurd moments
   moments_on keeps_model s (x ∷ events) [] e a first mid last moments touches prefix = absurd moments

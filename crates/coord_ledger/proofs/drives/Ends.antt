@@ -3,6 +3,7 @@ use Rattle.std.proofs.Common.{◌≡◌, ℕ, Bool, true, List, Option, Some, No
 use Rattle.std.specs.Option.{option_map}
 use Rattle.std.proofs.Math.Seq.{take-length}
 use Rattle.coord_disk.specs.Model.Present.{Present}
+use Rattle.coord_disk.specs.declared.disk.Disk.{Ghosts}
 use Rattle.coord_store.specs.Recovered.{Recovered}
 use Rattle.coord_ledger.specs.Facade.{Answer, Driven, Drives, EachMoment, Event, Finish, Finished, FlightOut, FlightState, Follows, Good, ImagesGive, IsConsistent, IsLeft, IsOneOf, LedgerGives, LedgerState, Machine, Mark, New, Promised, Ran, Release, Run, Shows, Torn, after_finish, at_home, brought_home, disk_driven, disk_with, ended, finished, flight_out, kept, kept_by, run, settled_count, started, taken_back, world_after}
 use Rattle.coord_ledger.proofs.follows.FollowsCalls.{ledger_images}
@@ -63,23 +64,23 @@ home_disk {D} l (Some f) = by_mark f.mark
     by_mark Good = refl
     by_mark Torn = refl
 
-module _ {D : Type 0} (present : D → Present) (clock : D → ℕ) (left_since : D → ℕ → List ℕ → Type 0) (crashes : D → D → Type 0) where
+module _ {D : Type 0} (model : Ghosts D) (crashes : D → D → Type 0) where
   -- a run whose ledger is left at home
-  pub ran_home : (start : LedgerState D) (first : D) (events : List Event) (given : List Answer) (h : Run D) (l : LedgerState D) (released : List Release) (keeps_model : D → Bool) (disk : D) → Drives present clock left_since crashes (keeps_model disk) first start events given h.driver → Follows h (run (started start) events given) →
-      l ≡ brought_home h.driver.ledger h.driver.flight → released ≡ h.released.items → IfSome l.disk (λ d. keeps_model d ≡ true → LedgerGives present l d) → l.disk ≡ Some disk →
-      Ran present clock left_since crashes (started start) events given released l (keeps_model disk) first disk
-  ran_home start first events given h l released keeps_model disk drives follows home given_out gives there =
+  pub ran_home : (start : LedgerState D) (first : D) (events : List Event) (given : List Answer) (h : Run D) (l : LedgerState D) (released : List Release) (disk : D) → Drives model crashes (model.keeps_model disk) first start events given h.driver → Follows h (run (started start) events given) →
+      l ≡ brought_home h.driver.ledger h.driver.flight → released ≡ h.released.items → IfSome l.disk (λ d. model.keeps_model d ≡ true → LedgerGives model.present l d) → l.disk ≡ Some disk →
+      Ran model crashes (started start) events given released l (model.keeps_model disk) first disk
+  ran_home start first events given h l released disk drives follows home given_out gives there =
       let s = run (started start) events given in
       let told = drives.consistent.told in
       let back : Shows (at_home l) (ended s) = subst (λ (m : LedgerState D). Shows (at_home m) (ended s)) (sym home) (is_back h.driver s drives.consistent drives.shows) in
-      let images = ledger_images l disk (keeps_model disk) present (subst (λ o. IfSome o (λ d. keeps_model d ≡ true → LedgerGives present l d)) there gives) in
+      let images = ledger_images l disk (model.keeps_model disk) model.present (subst (λ o. IfSome o (λ d. model.keeps_model d ≡ true → LedgerGives model.present l d)) there gives) in
       let its : Some drives.disk ≡ Some disk = sym drives.holds ∙ sym (home_disk h.driver.ledger h.driver.flight) ∙ sym (ap (λ (m : LedgerState D). m.disk) home) ∙ there in
       let same : drives.disk ≡ disk = cc in
       record {
         answered = drives.answered;
         released_is = given_out ∙ follows.released;
-        prefix = prefix_from_images s (keeps_model disk) (present disk) drives.consistent (home_images l s (keeps_model disk) (present disk) drives.consistent back images);
-        moments = subst (EachMoment present clock left_since crashes (keeps_model disk) (started start) events given first) same drives.moments;
+        prefix = prefix_from_images s (model.keeps_model disk) (model.present disk) drives.consistent (home_images l s (model.keeps_model disk) (model.present disk) drives.consistent back images);
+        moments = subst (EachMoment model crashes (model.keeps_model disk) (started start) events given first) same drives.moments;
         once = told.once;
         again = told.again;
         signalled = signals_once s drives.consistent;
@@ -88,10 +89,10 @@ module _ {D : Type 0} (present : D → Present) (clock : D → ℕ) (left_since 
       }
 
   -- once all events were answered
-  pub ran_all : (keeps_model : D → Bool) (start : LedgerState D) (events : List Event) (at : ℕ) (given : List Answer) (h : Run D) (after : D) (Promise : D → Type 0) → Underway present clock left_since crashes keeps_model start events at given h → at ≡ length events → disk_driven h.driver ≡ Some after →
-      ((first : D) → Drives present clock left_since crashes (keeps_model after) first start events given h.driver → Follows h (run (started start) events given) → Promise first) → (before : D) → start.disk ≡ Some before → Promised (keeps_model before) events (Promise before)
-  ran_all keeps_model start events at given h after Promise way last there gives before disk promised =
+  pub ran_all : (start : LedgerState D) (events : List Event) (at : ℕ) (given : List Answer) (h : Run D) (after : D) (Promise : D → Type 0) → Underway model crashes start events at given h → at ≡ length events → disk_driven h.driver ≡ Some after →
+      ((first : D) → Drives model crashes (model.keeps_model after) first start events given h.driver → Follows h (run (started start) events given) → Promise first) → (before : D) → start.disk ≡ Some before → Promised (model.keeps_model before) events (Promise before)
+  ran_all start events at given h after Promise way last there gives before disk promised =
       let all : take at events ≡ events = ap (λ n. take n events) last ∙ take-length events in
-      let same = same_model present clock left_since crashes keeps_model start events at given h way before after disk there in
-      let all_held = subst (λ l. Holds present clock left_since crashes (keeps_model before) before start l given h) all (way.holds before disk promised) in
-      gives before (subst (λ b. Drives present clock left_since crashes b before start events given h.driver) (sym same) all_held.drives) all_held.follows
+      let same = same_model model crashes start events at given h way before after disk there in
+      let all_held = subst (λ l. Holds model crashes (model.keeps_model before) before start l given h) all (way.holds before disk promised) in
+      gives before (subst (λ b. Drives model crashes b before start events given h.driver) (sym same) all_held.drives) all_held.follows

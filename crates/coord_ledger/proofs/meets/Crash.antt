@@ -1,7 +1,7 @@
 -- The disk crashes, and a ledger is made anew: an event of the driver's machine.
-use Rattle.std.proofs.Common.{◌≡◌, ℕ, List, ◌+◌, ◌-◌, ◌≤◌, Bool, true, length, refl, sym, ap, ◌∙◌, subst, arith}
+use Rattle.std.proofs.Common.{◌≡◌, ◌+◌, ◌-◌, ◌≤◌, true, length, refl, sym, ap, ◌∙◌, subst, arith}
 use Rattle.std.specs.Option.{option_map}
-use Rattle.coord_disk.specs.Model.Present.{Present}
+use Rattle.coord_disk.specs.declared.disk.Disk.{Ghosts}
 use Rattle.coord_store.proofs.OneWorld.{recovered_is_one}
 use Rattle.coord_world.specs.Facade.{World}
 use Rattle.coord_ledger.specs.Facade.{Crash, Driven, ImagesGive, IsConsistent, IsOneOf, IsReopened, LedgerState, Meets, Opened, adopted, answers, at_home, flight_out, kept, kept_by, machine_of, settled_world, started, world_after}
@@ -9,9 +9,9 @@ use Rattle.coord_ledger.proofs.machine.ConsistentFlights.{kept_more}
 use Rattle.coord_ledger.proofs.machine.Lists.{one_mapped}
 use Rattle.coord_ledger.proofs.machine.Logs.{count_after}
 
-pub meets_opened : {D : Type 0} (d : Driven D) (l : LedgerState D) (keeps_model : D → Bool) (present : D → Present) (clock : D → ℕ) (left_since : D → ℕ → List ℕ → Type 0) (crashes : D → D → Type 0) (before : D) → IsConsistent (machine_of d (started d.ledger)) →
-    ImagesGive (keeps_model before) (present before) d.ledger.log (kept_by d.ledger.log.settled (option_map flight_out d.flight) d.ledger.log.doubt) → keeps_model before ≡ true → IsReopened keeps_model present clock left_since crashes before l → Meets d Crash (Opened (settled_world l.log).count) (at_home l)
-meets_opened {D} d l keeps_model present clock left_since crashes before is images keeps opened =
+pub meets_opened : {D : Type 0} (d : Driven D) (l : LedgerState D) (model : Ghosts D) (crashes : D → D → Type 0) (before : D) → IsConsistent (machine_of d (started d.ledger)) →
+    ImagesGive (model.keeps_model before) (model.present before) d.ledger.log (kept_by d.ledger.log.settled (option_map flight_out d.flight) d.ledger.log.doubt) → model.keeps_model before ≡ true → IsReopened model crashes before l → Meets d Crash (Opened (settled_world l.log).count) (at_home l)
+meets_opened {D} d l model crashes before is images keeps opened =
     let log = d.ledger.log in
     let from = opened.from keeps in
     let one = images keeps from.image from.allowed in

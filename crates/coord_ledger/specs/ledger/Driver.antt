@@ -2,6 +2,7 @@
 use Rattle.std.specs.Prelude.{◌≡◌, ◌⊎◌, ℕ, List, [], Bool, true, false, Option, Some, None, length}
 use Rattle.std.specs.Option.{option_map}
 use Rattle.coord_disk.specs.Model.Present.{Present, IsImage}
+use Rattle.coord_disk.specs.declared.disk.Disk.{Ghosts}
 use Rattle.coord_store.specs.Facade.{IsOpenFault, IsPassing, Recovered, RefusesOpen}
 use Rattle.coord_store.specs.declared.faults.StoreFault.{StoreFault}
 use Rattle.coord_world.specs.protocol.NumberedWorld.{World}
@@ -42,13 +43,13 @@ pub record AnImageGives (present : Present) (world : World) : Type 0 where
   pub recovered : Recovered image world
 
 -- a ledger that was made anew after a crash of this disk, of the world that one of its images gives
-pub record IsReopened {D : Type 0} (keeps_model : D → Bool) (present : D → Present) (clock : D → ℕ) (left_since : D → ℕ → List ℕ → Type 0) (crashes : D → D → Type 0) (before : D) (l : LedgerState D) : Type 0 where
+pub record IsReopened {D : Type 0} (model : Ghosts D) (crashes : D → D → Type 0) (before : D) (l : LedgerState D) : Type 0 where
   pub world : World
   pub disk : D
   pub is : l ≡ ledger_over world disk
-  pub same_model : keeps_model disk ≡ keeps_model before
-  pub from : keeps_model before ≡ true → AnImageGives (present before) world
-  pub moments : keeps_model before ≡ true → Reopens present clock left_since crashes (IsImage (present before)) before disk
+  pub same_model : model.keeps_model disk ≡ model.keeps_model before
+  pub from : model.keeps_model before ≡ true → AnImageGives (model.present before) world
+  pub moments : model.keeps_model before ≡ true → Reopens model crashes (IsImage (model.present before)) before disk
 
 -- one of a disk's images is refused so
 pub record AnImageIsRefused (present : Present) (fault : StoreFault) : Type 0 where
@@ -74,36 +75,36 @@ IsEventFault model e OutOfMemory = wants_memory e ≡ true
 IsEventFault model e (Store fault) = (e ≡ Crash) × IsOpenFault fault × (model ≡ Some true → IsPassing fault)
 
 -- what an event has made of this disk is held now
-pub record HoldsTouched {D : Type 0} (keeps_model : D → Bool) (present : D → Present) (clock : D → ℕ) (left_since : D → ℕ → List ℕ → Type 0) (crashes : D → D → Type 0) (found : Machine) (touches : Bool) (e : Event) (old : D) (now : Option D) : Type 0 where
+pub record HoldsTouched {D : Type 0} (model : Ghosts D) (crashes : D → D → Type 0) (found : Machine) (touches : Bool) (e : Event) (old : D) (now : Option D) : Type 0 where
   pub new : D
   pub holds : now ≡ Some new
-  pub touched : Touches present clock left_since crashes (keeps_model old) found touches e old new
+  pub touched : Touches model crashes (model.keeps_model old) found touches e old new
 
 -- so with the disk that was held, where a crash inside the event finds this machine
-abbrev pub HeldTouches : {D : Type 0} → (D → Bool) → (D → Present) → (D → ℕ) → (D → ℕ → List ℕ → Type 0) → (D → D → Type 0) → Machine → Bool → Event → Option D → Option D → Type 0
-HeldTouches {D} keeps_model present clock left_since crashes found touches e was now =
-    (old : D) → was ≡ Some old → HoldsTouched keeps_model present clock left_since crashes found touches e old now
+abbrev pub HeldTouches : {D : Type 0} → Ghosts D → (D → D → Type 0) → Machine → Bool → Event → Option D → Option D → Type 0
+HeldTouches {D} model crashes found touches e was now =
+    (old : D) → was ≡ Some old → HoldsTouched model crashes found touches e old now
 
 -- An event was cut short, and this disk is given back in place of the one that was held.
-abbrev pub IsLost : {D : Type 0} → (D → Bool) → (D → Present) → (D → ℕ) → (D → ℕ → List ℕ → Type 0) → (D → D → Type 0) → Machine → Event → RunFaultKind → Option D → D → Type 0
-IsLost {D} keeps_model present clock left_since crashes s e kind was lost =
-    (old : D) → was ≡ Some old → IsGivenBack present clock left_since crashes (keeps_model old) s e kind old lost
+abbrev pub IsLost : {D : Type 0} → Ghosts D → (D → D → Type 0) → Machine → Event → RunFaultKind → Option D → D → Type 0
+IsLost {D} model crashes s e kind was lost =
+    (old : D) → was ≡ Some old → IsGivenBack model crashes (model.keeps_model old) s e kind old lost
 
 -- whatever a crash between two events may leave of the disk that is held survives
 abbrev pub HeldSurvives : {D : Type 0} → (D → Bool) → (D → Present) → Option D → Machine → Type 0
 HeldSurvives {D} keeps_model present held s = (disk : D) → held ≡ Some disk → CrashPrefix s (keeps_model disk) (present disk)
 
 -- What a driver keeps after events with these answers, where the first event found this disk.
-pub record Drives {D : Type 0} (present : D → Present) (clock : D → ℕ) (left_since : D → ℕ → List ℕ → Type 0) (crashes : D → D → Type 0) (keeps_model : Bool) (first : D) (start : LedgerState D) (events : List Event) (given : List Answer) (d : Driven D) : Type 0 where
+pub record Drives {D : Type 0} (model : Ghosts D) (crashes : D → D → Type 0) (keeps_model : Bool) (first : D) (start : LedgerState D) (events : List Event) (given : List Answer) (d : Driven D) : Type 0 where
   pub answered : Answered (started start) events given
   pub consistent : IsConsistent (run (started start) events given)
   pub shows : Shows d (run (started start) events given)
   pub disk : D
   pub holds : disk_driven d ≡ Some disk
-  pub moments : EachMoment present clock left_since crashes keeps_model (started start) events given first disk
+  pub moments : EachMoment model crashes keeps_model (started start) events given first disk
 
 -- a run of events may begin at what is driven: from this disk it is a run of none
-pub record MayBegin {D : Type 0} (keeps_model : D → Bool) (present : D → Present) (clock : D → ℕ) (left_since : D → ℕ → List ℕ → Type 0) (crashes : D → D → Type 0) (d : Driven D) : Type 0 where
+pub record MayBegin {D : Type 0} (model : Ghosts D) (crashes : D → D → Type 0) (d : Driven D) : Type 0 where
   pub first : D
   pub home : d.ledger.disk ≡ Some first
-  pub drives : Drives present clock left_since crashes (keeps_model first) first d.ledger [] [] d
+  pub drives : Drives model crashes (model.keeps_model first) first d.ledger [] [] d

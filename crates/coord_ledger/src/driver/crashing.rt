@@ -8,13 +8,13 @@ ghost use Rattle.coord_ledger.specs.Facade.{Crash, HasFailed, HeldTouches, IsAne
 
 use super::Driver;
 use crate::{Ledger, RunFaultKind};
-use coord_disk::CrashDisk;
+use coord_disk::{CrashDisk, Disk};
 use coord_store::Store;
 use std::alloc::Global;
 
 /// Crashes a disk, and makes a ledger of what it then holds. A refusal gives the disk back.
 fn reopen<D: CrashDisk>(alloc: Global, disk: D) -> Result<Ledger<D>, (RunFaultKind, D)>
-    ensures opened { IfOk result (IsReopened D.keeps_model D.present D.clock D.left_since D.crashes
+    ensures opened { IfOk result (IsReopened ⟦<D as Disk>⟧ D.crashes
         disk) }
     ensures cause { IfErr result (λ refused.
         IsReopenFault (D.keeps_model disk) (D.present disk) (D.present refused.1) refused.0) }
@@ -22,7 +22,7 @@ fn reopen<D: CrashDisk>(alloc: Global, disk: D) -> Result<Ledger<D>, (RunFaultKi
         HasFailed D.failures ledger.disk (D.failures disk)) (λ refused. D.failures refused.1 ≡
         D.failures disk + failed_in refused.0) }
     ensures lost { IfErr result (λ refused. D.keeps_model disk ≡ true →
-        Reopens D.present D.clock D.left_since D.crashes
+        Reopens ⟦<D as Disk>⟧ D.crashes
         (IsImage (D.present disk)) disk refused.1) }
 {
     let opened = match Store::open(alloc, disk.crash()) {
@@ -56,9 +56,9 @@ impl<D: CrashDisk> Driver<D> {
         ensures count { IfOk result (λ opened. opened.0 ≡ settled_count opened.1.ledger.log) }
         ensures disk { (s : Machine) → IsConsistent s → Shows self s
             → MatchResult result (λ opened.
-            HeldTouches D.keeps_model D.present D.clock D.left_since D.crashes s true Crash
+            HeldTouches ⟦<D as Disk>⟧ D.crashes s true Crash
             (disk_driven self) (disk_driven opened.1)) (λ refused.
-            IsLost D.keeps_model D.present D.clock D.left_since D.crashes s Crash refused.0
+            IsLost ⟦<D as Disk>⟧ D.crashes s Crash refused.0
             (disk_driven self) refused.1) }
         ensures failures { (n : ℕ) → HasFailed D.failures (disk_driven self) n
             → MatchResult result (λ opened. HasFailed D.failures (disk_driven opened.1) n)

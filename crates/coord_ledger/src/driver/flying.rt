@@ -5,7 +5,7 @@ ghost use Rattle.coord_ledger.specs.Facade.{Begin, Commit, Finish, HasFailed, He
 
 use super::Driver;
 use crate::{Answer, Releases};
-use coord_disk::CrashDisk;
+use coord_disk::{CrashDisk, Disk};
 use coord_types::Refusal;
 
 impl<D: CrashDisk> Driver<D> {
@@ -34,7 +34,7 @@ impl<D: CrashDisk> Driver<D> {
         ensures meets { Meets self.old Commit result self.new }
         ensures ledger { self.new.ledger ≡ self.old.ledger }
         ensures disk { (s : Machine) → IsConsistent s → Shows self.old s
-            → HeldTouches D.keeps_model D.present D.clock D.left_since D.crashes
+            → HeldTouches ⟦<D as Disk>⟧ D.crashes
             (found_by_crash s Commit result) (touches_disk Commit result) Commit
             (disk_driven self.old) (disk_driven self.new) }
         ensures failures { (n : ℕ) → HasFailed D.failures (disk_driven self.old) n →

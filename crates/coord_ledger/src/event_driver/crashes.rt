@@ -7,7 +7,7 @@ use super::flights::Broken;
 use super::released::forget_all;
 use super::run::Run;
 use crate::{Answer, Seen};
-use coord_disk::CrashDisk;
+use coord_disk::{CrashDisk, Disk};
 use std::alloc::Global;
 
 impl<D: CrashDisk> Run<D> {
@@ -19,8 +19,8 @@ impl<D: CrashDisk> Run<D> {
             IsCutShort s Crash broken.kind broken.released.items) }
         ensures disk { (s : Machine) → IsConsistent s → Follows self s
             → MatchResult result (λ held.
-            HeldTouches D.keeps_model D.present D.clock D.left_since D.crashes s true Crash
-            (disk_driven self.driver) (disk_driven held.1.driver)) (λ broken. IsLost D.keeps_model D.present D.clock D.left_since D.crashes s Crash
+            HeldTouches ⟦<D as Disk>⟧ D.crashes s true Crash
+            (disk_driven self.driver) (disk_driven held.1.driver)) (λ broken. IsLost ⟦<D as Disk>⟧ D.crashes s Crash
             broken.kind (disk_driven self.driver) broken.disk) }
         ensures failures { (n : ℕ) → HasFailed D.failures (disk_driven self.driver) n
             → MatchResult result (λ held. HasFailed D.failures (disk_driven held.1.driver) n) (λ broken.

@@ -8,18 +8,18 @@ use super::flights::Broken;
 use super::released::forget_all;
 use super::run::Run;
 use crate::{Ledger, Release, RunFaultKind};
-use coord_disk::CrashDisk;
+use coord_disk::{CrashDisk, Disk};
 
 impl<D: CrashDisk> Run<D> {
     /// Takes back the flight that is out, and drops its releases and the tickets that are left.
     pub fn end(self) -> Result<(Vec<Release>, Ledger<D>), Broken<D>>
         ensures ran { (start : LedgerState D) → (first : D) → (events : List What) →
             (given : List Reaction) → (after : D)
-            → Drives D.present D.clock D.left_since D.crashes
+            → Drives ⟦<D as Disk>⟧ D.crashes
             (D.keeps_model after) first start events given self.driver
             → Follows self (run (started start) events given)
             → IfOk result (λ r. r.1.disk ≡ Some after →
-            Ran D.present D.clock D.left_since D.crashes (started start) events given r.0.items r.1
+            Ran ⟦<D as Disk>⟧ D.crashes (started start) events given r.0.items r.1
             (D.keeps_model after) first after) }
         ensures home { IfOk result (λ r. r.1.out ≡ None) }
         ensures disk { MatchResult result (λ r. r.1.disk ≡ disk_driven self.driver) (λ broken.

@@ -8,7 +8,7 @@ use super::flights::Broken;
 use super::released::forget_all;
 use super::run::Run;
 use crate::{Answer, Event, RunFaultKind};
-use coord_disk::CrashDisk;
+use coord_disk::{CrashDisk, Disk};
 use std::alloc::Global;
 
 impl<D: CrashDisk> Run<D> {
@@ -41,10 +41,10 @@ impl<D: CrashDisk> Run<D> {
             IsCutShort s event broken.kind broken.released.items) }
         ensures disk { (s : Machine) → IsConsistent s → Follows self s
             → MatchResult result (λ held.
-            HeldTouches D.keeps_model D.present D.clock D.left_since D.crashes
+            HeldTouches ⟦<D as Disk>⟧ D.crashes
             (found_by_crash s event held.0) (touches_disk event held.0) event
             (disk_driven self.driver) (disk_driven held.1.driver))
-            (λ broken. IsLost D.keeps_model D.present D.clock D.left_since D.crashes s event
+            (λ broken. IsLost ⟦<D as Disk>⟧ D.crashes s event
             broken.kind (disk_driven self.driver) broken.disk) }
         ensures failures { (n : ℕ) → HasFailed D.failures (disk_driven self.driver) n
             → MatchResult result (λ held.

@@ -5,7 +5,7 @@ ghost use Rattle.coord_ledger.specs.Facade.{Collect, Commit, Follows, FollowsTo,
 
 use super::released::push_releases;
 use crate::{Answer, Driver, Handed, Release, Seen, Ticket};
-use coord_disk::CrashDisk;
+use coord_disk::{CrashDisk, Disk};
 use coord_types::{Refusal, Step};
 use std::alloc::AllocError;
 
@@ -70,7 +70,7 @@ impl<D: CrashDisk> Run<D> {
         ensures answered { (s : Machine) → IsConsistent s → Follows self.old s →
             FollowsTo s Commit result self.new }
         ensures disk { (s : Machine) → IsConsistent s → Follows self.old s
-            → HeldTouches D.keeps_model D.present D.clock D.left_since D.crashes
+            → HeldTouches ⟦<D as Disk>⟧ D.crashes
             (found_by_crash s Commit result) (touches_disk Commit result) Commit
             (disk_driven self.old.driver) (disk_driven self.new.driver) }
         ensures failures { (n : ℕ) → HasFailed D.failures (disk_driven self.old.driver) n →

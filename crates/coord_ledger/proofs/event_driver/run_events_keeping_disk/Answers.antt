@@ -16,7 +16,7 @@ on_ok_gives (Err e) fine x = let no : ⊥ = cc in absurd no
 
 pub loop-at-init : goal.loop-at-init
 loop-at-init g c = record {
-  underway = underway_first g.D.Disk.present g.D.Disk.clock g.D.Disk.left_since g.D.CrashDisk.crashes g.D.Disk.keeps_model c.args.ledger c.args.events.now _ (record { driver = c.over-driver.result; tickets = c.new.result; seen = c.new-2.result; released = c.new-3.result }) c.over-driver.ensures c.begins.ensures c.new.ensures.items c.new-2.ensures c.new-3.ensures.items (cc);
+  underway = underway_first g.D.Disk g.D.CrashDisk.crashes c.args.ledger c.args.events.now _ (record { driver = c.over-driver.result; tickets = c.new.result; seen = c.new-2.result; released = c.new-3.result }) c.over-driver.ensures c.begins.ensures c.new.ensures.items c.new-2.ensures c.new-3.ensures.items (cc);
   room = let fine : is_err c.reserve.result ≡ false = search rules in let room = on_ok_gives c.reserve.result fine c.reserve.ensures.ok in omega (arith, room);
   many = cc;
   failed = λ n so. failed_as g.D.Disk.failures (disk_with c.over-driver.result.ledger.disk c.over-driver.result.flight) n (n + 0) (omega arith) (failed_same g.D.Disk.failures c.args.ledger.disk (disk_with c.over-driver.result.ledger.disk c.over-driver.result.flight) n (ap disk_driven c.over-driver.ensures) so);
@@ -24,9 +24,9 @@ loop-at-init g c = record {
 
 pub returns-then-is_err-clause-broke : goal.returns-then-is_err-clause-broke
 returns-then-is_err-clause-broke g c =
-    broke_first g.D.Disk.present g.D.Disk.clock g.D.Disk.left_since g.D.CrashDisk.crashes g.D.Disk.keeps_model c.args.ledger c.args.events.now c.at.result.0.at c.at.result.0.trace.answers.items _ c.at.result.0.kind c.at.result.0.trace.released.items c.at.result.1 c.at.ensures.at (cc) (c.at.ensures.kind ∙ c.lose.ensures.kind)
+    broke_first g.D.Disk g.D.CrashDisk.crashes c.args.ledger c.args.events.now c.at.result.0.at c.at.result.0.trace.answers.items _ c.at.result.0.kind c.at.result.0.trace.released.items c.at.result.1 c.at.ensures.at (cc) (c.at.ensures.kind ∙ c.lose.ensures.kind)
     (c.at.ensures.released ∙ c.lose.ensures.released) (c.lose.ensures.disk ∙ ap Some (sym c.at.ensures.disk))
-    (underway_first g.D.Disk.present g.D.Disk.clock g.D.Disk.left_since g.D.CrashDisk.crashes g.D.Disk.keeps_model c.args.ledger c.args.events.now [] (record { driver = c.over-driver.result; tickets = c.new.result; seen = c.new-2.result; released = c.new-3.result }) c.over-driver.ensures c.begins.ensures c.new.ensures.items c.new-2.ensures c.new-3.ensures.items refl)
+    (underway_first g.D.Disk g.D.CrashDisk.crashes c.args.ledger c.args.events.now [] (record { driver = c.over-driver.result; tickets = c.new.result; seen = c.new-2.result; released = c.new-3.result }) c.over-driver.ensures c.begins.ensures c.new.ensures.items c.new-2.ensures c.new-3.ensures.items refl)
 
 pub returns-then-is_err-clause-failures : goal.returns-then-is_err-clause-failures
 returns-then-is_err-clause-failures g c n so =
@@ -39,16 +39,16 @@ returns-then-is_err-clause-failures g c n so =
 
 pub returns-in-Err-clause-broke : goal.returns-in-Err-clause-broke
 returns-in-Err-clause-broke g c =
-    broke_meeting g.D.Disk.present g.D.Disk.clock g.D.Disk.left_since g.D.CrashDisk.crashes g.D.Disk.keeps_model c.args.ledger c.args.events.now c.loop-at.at c.loop-at.answers.items c.loop-at.held c.loop-at.invariant.underway c.index-events-at.result c.loop-at-test.true c.index-events-at.is
+    broke_meeting g.D.Disk g.D.CrashDisk.crashes c.args.ledger c.args.events.now c.loop-at.at c.loop-at.answers.items c.loop-at.held c.loop-at.invariant.underway c.index-events-at.result c.loop-at-test.true c.index-events-at.is
     c.at-in-Err.result.0.at c.at-in-Err.result.0.trace.answers.items c.at-in-Err.result.0.kind c.at-in-Err.result.0.trace.released.items c.at-in-Err.result.1 c.at-in-Err.ensures.at c.at-in-Err.ensures.answers
     (λ s is follows on. subst (λ k. IsCutShort s c.index-events-at.result k c.at-in-Err.result.0.trace.released.items) (sym c.at-in-Err.ensures.kind)
     (subst (IsCutShort s c.index-events-at.result c.in-Err.broken.kind) (sym c.at-in-Err.ensures.released) (c.in-Err.ensures.answered s is follows on)))
-    (λ s is follows. subst (λ (p : RunFaultKind × g.row.D.Denot). IsLost {D = g.row.D.Denot} g.D.Disk.keeps_model g.D.Disk.present g.D.Disk.clock g.D.Disk.left_since g.D.CrashDisk.crashes s c.index-events-at.result p.0 (disk_driven c.loop-at.held.driver) p.1) (sym (λ i. (c.at-in-Err.ensures.kind i, c.at-in-Err.ensures.disk i)))
+    (λ s is follows. subst (λ (p : RunFaultKind × g.row.D.Denot). IsLost {D = g.row.D.Denot} g.D.Disk g.D.CrashDisk.crashes s c.index-events-at.result p.0 (disk_driven c.loop-at.held.driver) p.1) (sym (λ i. (c.at-in-Err.ensures.kind i, c.at-in-Err.ensures.disk i)))
     (c.in-Err.ensures.disk s is follows))
 
 pub returns-in-Err-clause-cause : goal.returns-in-Err-clause-cause
 returns-in-Err-clause-cause g c =
-    caused g.D.Disk.present g.D.Disk.clock g.D.Disk.left_since g.D.CrashDisk.crashes g.D.Disk.keeps_model c.args.ledger c.args.events.now c.loop-at.at c.loop-at.answers.items c.loop-at.held c.loop-at.invariant.underway c.index-events-at.result c.loop-at-test.true c.index-events-at.is
+    caused g.D.Disk g.D.CrashDisk.crashes c.args.ledger c.args.events.now c.loop-at.at c.loop-at.answers.items c.loop-at.held c.loop-at.invariant.underway c.index-events-at.result c.loop-at-test.true c.index-events-at.is
     c.at-in-Err.result.0.at c.at-in-Err.result.0.kind c.at-in-Err.result.0.trace.released.items c.at-in-Err.ensures.at (subst (IsEventFault (model_driven g.D.Disk.keeps_model c.loop-at.held.driver) c.index-events-at.result) (sym c.at-in-Err.ensures.kind) c.in-Err.ensures.cause)
 
 pub returns-in-Err-clause-failures : goal.returns-in-Err-clause-failures
@@ -60,8 +60,8 @@ pub loop-at-preserved : goal.loop-at-preserved
 loop-at-preserved g c =
     let given = c.push_reserved.ensures.items in
     record {
-      underway = subst (λ l. Underway {D = g.row.D.Denot} g.D.Disk.present g.D.Disk.clock g.D.Disk.left_since g.D.CrashDisk.crashes g.D.Disk.keeps_model c.args.ledger c.args.events.now (c.loop-at.at + 1) l c.in-Ok.next) (sym given)
-          (underway_on g.D.Disk.present g.D.Disk.clock g.D.Disk.left_since g.D.CrashDisk.crashes g.D.Disk.keeps_model c.args.ledger c.args.events.now c.loop-at.at c.loop-at.answers.items c.loop-at.held c.loop-at.invariant.underway c.index-events-at.result c.loop-at-test.true c.index-events-at.is
+      underway = subst (λ l. Underway {D = g.row.D.Denot} g.D.Disk g.D.CrashDisk.crashes c.args.ledger c.args.events.now (c.loop-at.at + 1) l c.in-Ok.next) (sym given)
+          (underway_on g.D.Disk g.D.CrashDisk.crashes c.args.ledger c.args.events.now c.loop-at.at c.loop-at.answers.items c.loop-at.held c.loop-at.invariant.underway c.index-events-at.result c.loop-at-test.true c.index-events-at.is
           c.in-Ok.next c.in-Ok.answer c.in-Ok.ensures.named c.in-Ok.ensures.answered c.in-Ok.ensures.model c.in-Ok.ensures.disk c.survives.ensures);
       room = omega (arith, c.loop-at.invariant.room, c.push_reserved.ensures.len, c.push_reserved.ensures.capacity);
       many = ap length given ∙ length_push c.loop-at.answers.items c.in-Ok.answer ∙ ap (λ k. k + 1) c.loop-at.invariant.many;
@@ -78,8 +78,8 @@ loop-at-preserved g c =
 pub returns-in-Ok-end-clause-ran : goal.returns-in-Ok-end-clause-ran
 returns-in-Ok-end-clause-ran g c before after disk back =
     let last : c.loop-at.at ≡ length c.args.events.now = omega arith in
-    ran_all g.D.Disk.present g.D.Disk.clock g.D.Disk.left_since g.D.CrashDisk.crashes g.D.Disk.keeps_model c.args.ledger c.args.events.now c.loop-at.at c.loop-at.answers.items c.loop-at.held after
-    (λ first. Ran {D = g.row.D.Denot} g.D.Disk.present g.D.Disk.clock g.D.Disk.left_since g.D.CrashDisk.crashes (started c.args.ledger) c.args.events.now c.loop-at.answers.items c.in-Ok-end.released.items c.in-Ok-end.ledger (g.D.Disk.keeps_model after) first after) c.loop-at.invariant.underway last
+    ran_all g.D.Disk g.D.CrashDisk.crashes c.args.ledger c.args.events.now c.loop-at.at c.loop-at.answers.items c.loop-at.held after
+    (λ first. Ran {D = g.row.D.Denot} g.D.Disk g.D.CrashDisk.crashes (started c.args.ledger) c.args.events.now c.loop-at.answers.items c.in-Ok-end.released.items c.in-Ok-end.ledger (g.D.Disk.keeps_model after) first after) c.loop-at.invariant.underway last
     (sym c.in-Ok-end.ensures.disk ∙ back)
     (λ first drives follows. c.in-Ok-end.ensures.ran c.args.ledger first c.args.events.now c.loop-at.answers.items after drives follows back) before disk
 
@@ -93,7 +93,7 @@ returns-in-Ok-end-clause-failures g c n so =
 pub returns-in-Err-end-clause-broke : goal.returns-in-Err-end-clause-broke
 returns-in-Err-end-clause-broke g c =
     let last : c.loop-at.at ≡ length c.args.events.now = omega arith in
-    broke_after g.D.Disk.present g.D.Disk.clock g.D.Disk.left_since g.D.CrashDisk.crashes g.D.Disk.keeps_model c.args.ledger c.args.events.now c.loop-at.at c.loop-at.answers.items c.loop-at.held c.loop-at.invariant.underway
+    broke_after g.D.Disk g.D.CrashDisk.crashes c.args.ledger c.args.events.now c.loop-at.at c.loop-at.answers.items c.loop-at.held c.loop-at.invariant.underway
     c.at-in-Err-end.result.0.at c.at-in-Err-end.result.0.trace.answers.items c.at-in-Err-end.result.0.kind c.at-in-Err-end.result.0.trace.released.items c.at-in-Err-end.result.1 last (c.at-in-Err-end.ensures.at ∙ sym last) c.at-in-Err-end.ensures.answers
     (c.at-in-Err-end.ensures.kind ∙ c.in-Err-end.ensures.kind) (c.at-in-Err-end.ensures.released ∙ c.in-Err-end.ensures.refused) (c.in-Err-end.ensures.disk ∙ ap Some (sym c.at-in-Err-end.ensures.disk)) c.in-Err-end.ensures.out
 

@@ -21,5 +21,5 @@ returns g c =
     record {
       first = first.0;
       home = first.1;
-      drives = drives_first g.D.Disk.present g.D.Disk.clock g.D.Disk.left_since g.D.CrashDisk.crashes g.D.Disk.keeps_model first.0 d c.requires own is first.1 c.survives.ensures;
+      drives = drives_first g.D.Disk g.D.CrashDisk.crashes first.0 d c.requires own is first.1 c.survives.ensures;
     }

@@ -8,21 +8,21 @@ use Rattle.coord_ledger.proofs.driver.Driver.commit.Goals.{in-None, in-Some+in-O
 pub returns-clause-disk : goal.returns-clause-disk
 returns-clause-disk g c s is shows =
     let new : Driven g.row.D.Denot = record { ledger = c.match-self.self-inside.ledger; flight = c.match-self.self-inside.flight } in
-    let Touched : Answer → Type 0 = λ a. HeldTouches {D = g.row.D.Denot} g.D.Disk.keeps_model g.D.Disk.present g.D.Disk.clock g.D.Disk.left_since g.D.CrashDisk.crashes (found_by_crash s Commit a) (touches_disk Commit a) Commit (disk_driven c.args.self.now) (disk_driven new) in
+    let Touched : Answer → Type 0 = λ a. HeldTouches {D = g.row.D.Denot} g.D.Disk g.D.CrashDisk.crashes (found_by_crash s Commit a) (touches_disk Commit a) Commit (disk_driven c.args.self.now) (disk_driven new) in
     elim c.match-self.branch [
       | in-None w ↦
           subst Touched (sym w.result-is)
-          (held_untouched g.D.Disk.present g.D.Disk.clock g.D.Disk.left_since g.D.CrashDisk.crashes g.D.Disk.keeps_model g.met.D.Disk.only_now s false Commit (disk_driven c.args.self.now) (disk_driven new) refl
+          (held_untouched g.D.Disk g.D.CrashDisk.crashes g.met.D.Disk.only_now s false Commit (disk_driven c.args.self.now) (disk_driven new) refl
           ((λ i. disk_with (w.self-inside-is i).ledger.disk (w.self-inside-is i).flight) ∙ ap disk_driven c.self.view_is) (c.survives.ensures s is shows))
       | in-Some+in-Ok w ↦
           subst Touched (ap told w.in-Ok.is ∙ sym w.result-is)
-          (commit_touches g.D.Disk.present g.D.Disk.clock g.D.Disk.left_since g.D.CrashDisk.crashes g.D.Disk.keeps_model g.met.D.Disk.only_now c.args.self.now s w.in-Some.flight w.commit.new.self is shows
+          (commit_touches g.D.Disk g.D.CrashDisk.crashes g.met.D.Disk.only_now c.args.self.now s w.in-Some.flight w.commit.new.self is shows
           (sym (ap (λ (d : Driven g.row.D.Denot). d.flight) c.self.view_is) ∙ w.in-Some.is) (c.survives.ensures s is shows) new
           (λ i. disk_with (w.self-inside-is i).ledger.disk (w.self-inside-is i).flight) w.commit.result
           w.commit.ensures.any_moment w.commit.ensures.any_moment_refused w.commit.ensures.tried w.commit.ensures.again w.commit.ensures.stopped)
       | in-Some+in-Err w ↦
           subst Touched (ap told w.in-Err.is ∙ sym w.result-is)
-          (commit_touches g.D.Disk.present g.D.Disk.clock g.D.Disk.left_since g.D.CrashDisk.crashes g.D.Disk.keeps_model g.met.D.Disk.only_now c.args.self.now s w.in-Some.flight w.commit.new.self is shows
+          (commit_touches g.D.Disk g.D.CrashDisk.crashes g.met.D.Disk.only_now c.args.self.now s w.in-Some.flight w.commit.new.self is shows
           (sym (ap (λ (d : Driven g.row.D.Denot). d.flight) c.self.view_is) ∙ w.in-Some.is) (c.survives.ensures s is shows) new
           (λ i. disk_with (w.self-inside-is i).ledger.disk (w.self-inside-is i).flight) w.commit.result
           w.commit.ensures.any_moment w.commit.ensures.any_moment_refused w.commit.ensures.tried w.commit.ensures.again w.commit.ensures.stopped)

@@ -19,11 +19,11 @@ returns-in-Err-clause-cause g c =
 
 pub returns-in-Ok-clause-disk : goal.returns-in-Ok-clause-disk
 returns-in-Ok-clause-disk g c s is shows =
-    crash_touches g.D.Disk.present g.D.Disk.clock g.D.Disk.left_since g.D.CrashDisk.crashes g.D.Disk.keeps_model (disk_driven c.args.self) s c.into_disk.result c.into_disk.ensures.disk (c.survives.ensures s is shows) c.in-Ok.ledger (disk_driven c.over.result) c.in-Ok.ensures.opened (ap disk_driven c.over.ensures)
+    crash_touches g.D.Disk g.D.CrashDisk.crashes (disk_driven c.args.self) s c.into_disk.result c.into_disk.ensures.disk (c.survives.ensures s is shows) c.in-Ok.ledger (disk_driven c.over.result) c.in-Ok.ensures.opened (ap disk_driven c.over.ensures)
 
 pub returns-in-Err-clause-disk : goal.returns-in-Err-clause-disk
 returns-in-Err-clause-disk g c s is shows =
-    crash_lost g.D.Disk.present g.D.Disk.clock g.D.Disk.left_since g.D.CrashDisk.crashes g.D.Disk.keeps_model (disk_driven c.args.self) s c.into_disk.result c.into_disk.ensures.disk (c.survives.ensures s is shows) c.in-Err.refused.0 c.in-Err.refused.1 c.in-Err.ensures.lost c.in-Err.ensures.cause
+    crash_lost g.D.Disk g.D.CrashDisk.crashes (disk_driven c.args.self) s c.into_disk.result c.into_disk.ensures.disk (c.survives.ensures s is shows) c.in-Err.refused.0 c.in-Err.refused.1 c.in-Err.ensures.lost c.in-Err.ensures.cause
 
 -- how often the device has failed
 
@@ -46,7 +46,7 @@ returns-in-Ok-clause-meets g c on =
     let is = own_consistent inside c.self.invariant kept.log kept.out kept.doubted kept.stopped in
     let met : Meets c.args.self Crash (Opened (settled_world c.in-Ok.ledger.log).count) (at_home c.in-Ok.ledger) =
     subst (λ (x : Driven g.row.D.Denot). ImagesGive (g.D.Disk.keeps_model d) (g.D.Disk.present d) x.ledger.log (kept_by x.ledger.log.settled (option_map flight_out x.flight) x.ledger.log.doubt) → Meets x Crash (Opened (settled_world c.in-Ok.ledger.log).count) (at_home c.in-Ok.ledger)) c.self.view_is
-    (λ images. meets_opened inside c.in-Ok.ledger g.D.Disk.keeps_model g.D.Disk.present g.D.Disk.clock g.D.Disk.left_since g.D.CrashDisk.crashes d is images keeps c.in-Ok.ensures.opened) c.into_disk.ensures.images in
+    (λ images. meets_opened inside c.in-Ok.ledger g.D.Disk g.D.CrashDisk.crashes d is images keeps c.in-Ok.ensures.opened) c.into_disk.ensures.images in
     let count = c.count-count.ensures ∙ ap (λ (w : World). w.count) c.settled.ensures in
     subst (λ (x : Driven g.row.D.Denot). Meets c.args.self Crash (Opened c.count-count.result) x) (sym c.over.ensures)
     (subst (λ n. Meets c.args.self Crash (Opened n) (at_home c.in-Ok.ledger)) (sym count) met)

@@ -33,32 +33,32 @@ returns-in-Err-clause-answered g c s is follows promised = elim c.match-event.br
 
 pub returns-in-Ok-clause-disk : goal.returns-in-Ok-clause-disk
 returns-in-Ok-clause-disk g c s is follows = elim c.match-event.branch [
-  | in-Submit w ↦ met_aside g.D.Disk.present g.D.Disk.clock g.D.Disk.left_since g.D.CrashDisk.crashes g.D.Disk.keeps_model g.met.D.Disk.only_now s c.args.event (Submit w.in-Submit.step) c.in-Ok.answer (disk_driven c.args.self.driver) (disk_driven c.match-event.held.driver) w.in-Submit.is refl refl (ap (λ (h : Run g.row.D.Denot). disk_driven h.driver) w.held-is ∙ w.submit-answer.ensures.disk) (c.survives.ensures s is follows.shows)
+  | in-Submit w ↦ met_aside g.D.Disk g.D.CrashDisk.crashes g.met.D.Disk.only_now s c.args.event (Submit w.in-Submit.step) c.in-Ok.answer (disk_driven c.args.self.driver) (disk_driven c.match-event.held.driver) w.in-Submit.is refl refl (ap (λ (h : Run g.row.D.Denot). disk_driven h.driver) w.held-is ∙ w.submit-answer.ensures.disk) (c.survives.ensures s is follows.shows)
   | in-Commit w ↦
-      met_commit g.D.Disk.present g.D.Disk.clock g.D.Disk.left_since g.D.CrashDisk.crashes g.D.Disk.keeps_model s c.args.event w.commit.result c.match-event.answer c.in-Ok.answer (disk_driven c.args.self.driver) (disk_driven c.match-event.held.driver) (disk_driven w.commit.new.self.driver) w.in-Commit.is w.answer-is c.in-Ok.is (ap (λ (h : Run g.row.D.Denot). disk_driven h.driver) w.held-is) (w.commit.ensures.disk s is follows)
-  | in-Collect w ↦ met_aside g.D.Disk.present g.D.Disk.clock g.D.Disk.left_since g.D.CrashDisk.crashes g.D.Disk.keeps_model g.met.D.Disk.only_now s c.args.event (Collect w.in-Collect.index) c.in-Ok.answer (disk_driven c.args.self.driver) (disk_driven c.match-event.held.driver) w.in-Collect.is refl refl (ap (λ (h : Run g.row.D.Denot). disk_driven h.driver) w.held-is ∙ w.collect.ensures.disk) (c.survives.ensures s is follows.shows)
-  | in-Resend w ↦ met_aside g.D.Disk.present g.D.Disk.clock g.D.Disk.left_since g.D.CrashDisk.crashes g.D.Disk.keeps_model g.met.D.Disk.only_now s c.args.event Resend c.in-Ok.answer (disk_driven c.args.self.driver) (disk_driven c.match-event.held.driver) w.in-Resend.is refl refl (ap (λ (h : Run g.row.D.Denot). disk_driven h.driver) w.held-is ∙ w.resend-answer.ensures.disk) (c.survives.ensures s is follows.shows)
-  | in-Show w ↦ met_aside g.D.Disk.present g.D.Disk.clock g.D.Disk.left_since g.D.CrashDisk.crashes g.D.Disk.keeps_model g.met.D.Disk.only_now s c.args.event Show c.in-Ok.answer (disk_driven c.args.self.driver) (disk_driven c.match-event.held.driver) w.in-Show.is refl refl (ap (λ (h : Run g.row.D.Denot). disk_driven h.driver) w.held-is ∙ w.show.ensures.disk) (c.survives.ensures s is follows.shows)
+      met_commit g.D.Disk g.D.CrashDisk.crashes s c.args.event w.commit.result c.match-event.answer c.in-Ok.answer (disk_driven c.args.self.driver) (disk_driven c.match-event.held.driver) (disk_driven w.commit.new.self.driver) w.in-Commit.is w.answer-is c.in-Ok.is (ap (λ (h : Run g.row.D.Denot). disk_driven h.driver) w.held-is) (w.commit.ensures.disk s is follows)
+  | in-Collect w ↦ met_aside g.D.Disk g.D.CrashDisk.crashes g.met.D.Disk.only_now s c.args.event (Collect w.in-Collect.index) c.in-Ok.answer (disk_driven c.args.self.driver) (disk_driven c.match-event.held.driver) w.in-Collect.is refl refl (ap (λ (h : Run g.row.D.Denot). disk_driven h.driver) w.held-is ∙ w.collect.ensures.disk) (c.survives.ensures s is follows.shows)
+  | in-Resend w ↦ met_aside g.D.Disk g.D.CrashDisk.crashes g.met.D.Disk.only_now s c.args.event Resend c.in-Ok.answer (disk_driven c.args.self.driver) (disk_driven c.match-event.held.driver) w.in-Resend.is refl refl (ap (λ (h : Run g.row.D.Denot). disk_driven h.driver) w.held-is ∙ w.resend-answer.ensures.disk) (c.survives.ensures s is follows.shows)
+  | in-Show w ↦ met_aside g.D.Disk g.D.CrashDisk.crashes g.met.D.Disk.only_now s c.args.event Show c.in-Ok.answer (disk_driven c.args.self.driver) (disk_driven c.match-event.held.driver) w.in-Show.is refl refl (ap (λ (h : Run g.row.D.Denot). disk_driven h.driver) w.held-is ∙ w.show.ensures.disk) (c.survives.ensures s is follows.shows)
 ]
 
 pub returns-in-Begin-clause-disk : goal.returns-in-Begin-clause-disk
 returns-in-Begin-clause-disk g c s is follows =
-    met_aside g.D.Disk.present g.D.Disk.clock g.D.Disk.left_since g.D.CrashDisk.crashes g.D.Disk.keeps_model g.met.D.Disk.only_now s c.args.event Begin c.begin.result.0 (disk_driven c.args.self.driver) (disk_driven c.begin.result.1.driver) c.in-Begin.is refl refl c.begin.ensures.disk (c.survives.ensures s is follows.shows)
+    met_aside g.D.Disk g.D.CrashDisk.crashes g.met.D.Disk.only_now s c.args.event Begin c.begin.result.0 (disk_driven c.args.self.driver) (disk_driven c.begin.result.1.driver) c.in-Begin.is refl refl c.begin.ensures.disk (c.survives.ensures s is follows.shows)
 
 pub returns-in-Finish-clause-disk : goal.returns-in-Finish-clause-disk
 returns-in-Finish-clause-disk g c s is follows =
     match_map c.finish.result
-    (λ held same. met_aside g.D.Disk.present g.D.Disk.clock g.D.Disk.left_since g.D.CrashDisk.crashes g.D.Disk.keeps_model g.met.D.Disk.only_now s c.args.event Finish held.0 (disk_driven c.args.self.driver) (disk_driven held.1.driver) c.in-Finish.is refl refl same (c.survives.ensures s is follows.shows))
-    (λ broken there. lost_as_held g.D.Disk.present g.D.Disk.clock g.D.Disk.left_since g.D.CrashDisk.crashes g.D.Disk.keeps_model s c.args.event broken.kind (disk_driven c.args.self.driver) broken.disk (ap is_crash c.in-Finish.is) there) c.finish.ensures.disk
+    (λ held same. met_aside g.D.Disk g.D.CrashDisk.crashes g.met.D.Disk.only_now s c.args.event Finish held.0 (disk_driven c.args.self.driver) (disk_driven held.1.driver) c.in-Finish.is refl refl same (c.survives.ensures s is follows.shows))
+    (λ broken there. lost_as_held g.D.Disk g.D.CrashDisk.crashes s c.args.event broken.kind (disk_driven c.args.self.driver) broken.disk (ap is_crash c.in-Finish.is) there) c.finish.ensures.disk
 
 pub returns-in-Crash-clause-disk : goal.returns-in-Crash-clause-disk
 returns-in-Crash-clause-disk g c s is follows =
-    subst (λ x. MatchResult c.crash.result (λ held. HeldTouches {D = g.row.D.Denot} g.D.Disk.keeps_model g.D.Disk.present g.D.Disk.clock g.D.Disk.left_since g.D.CrashDisk.crashes (found_by_crash s x held.0) (touches_disk x held.0) x (disk_driven c.args.self.driver) (disk_driven held.1.driver)) (λ broken. IsLost {D = g.row.D.Denot} g.D.Disk.keeps_model g.D.Disk.present g.D.Disk.clock g.D.Disk.left_since g.D.CrashDisk.crashes s x broken.kind (disk_driven c.args.self.driver) broken.disk)) (sym c.in-Crash.is)
+    subst (λ x. MatchResult c.crash.result (λ held. HeldTouches {D = g.row.D.Denot} g.D.Disk g.D.CrashDisk.crashes (found_by_crash s x held.0) (touches_disk x held.0) x (disk_driven c.args.self.driver) (disk_driven held.1.driver)) (λ broken. IsLost {D = g.row.D.Denot} g.D.Disk g.D.CrashDisk.crashes s x broken.kind (disk_driven c.args.self.driver) broken.disk)) (sym c.in-Crash.is)
     (c.crash.ensures.disk s is follows)
 
 pub returns-in-Err-clause-disk : goal.returns-in-Err-clause-disk
 returns-in-Err-clause-disk g c s is follows =
-    let lost = lost_as_held g.D.Disk.present g.D.Disk.clock g.D.Disk.left_since g.D.CrashDisk.crashes g.D.Disk.keeps_model s c.args.event c.lose.result.kind (disk_driven c.args.self.driver) c.lose.result.disk in
+    let lost = lost_as_held g.D.Disk g.D.CrashDisk.crashes s c.args.event c.lose.result.kind (disk_driven c.args.self.driver) c.lose.result.disk in
     elim c.match-event.branch [
       | in-Submit w ↦ lost (ap is_crash w.in-Submit.is) (sym (ap (λ (h : Run g.row.D.Denot). disk_driven h.driver) w.held-is ∙ w.submit-answer.ensures.disk) ∙ c.lose.ensures.disk)
       | in-Commit w ↦ let no : ⊥ = cc (w.answer-is, c.in-Err.is) in absurd no
