@@ -1,4 +1,4 @@
 pub mod machine
 pub mod follows
-pub mod drives
-pub mod meets
+pub mod runs
+pub mod simulates

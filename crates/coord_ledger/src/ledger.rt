@@ -192,7 +192,7 @@ impl<D: Disk> Ledger<D> {
     }
 
     /// Does nothing: its contract is what the type keeps of every ledger.
-    pub fn images_give_settled(&self)
+    pub fn lemma_images_give_settled(&self)
         ensures { IfSome self.now.disk (λ disk. D.keeps_model disk ≡ true →
             LedgerGives D.present self.now disk) }
     {

@@ -18,7 +18,7 @@
 //!
 //! [`run_events_keeping_disk`] runs a list of events in one thread, with crashes in between: the main
 //! theorem is its contract, and `specs/promises/Broken.antt` has what it says of a run that ends
-//! early. [`run_events`] is the same without the disk. `specs/ledger/Held.antt` says where a run is
+//! early. [`run_events`] is the same without the disk. `specs/ledger/Follows.antt` says where a run is
 //! between two events.
 //!
 //! [`laws`] proves of the machine what the main theorem stands on.

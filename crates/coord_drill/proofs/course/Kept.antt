@@ -13,7 +13,7 @@ use Rattle.coord_ledger.specs.declared.events.Event.TheVariants.{Commit, Crash}
 use Rattle.coord_ledger.specs.declared.mark.Mark.{Mark}
 use Rattle.coord_ledger.specs.declared.mark.Mark.TheVariants.{New, Good, Torn}
 use Rattle.coord_ledger.specs.Facade.{Answered, EachMoment, EventInRange, FlightOut, IsConsistent, IsOneOf, LeavesWithin, Machine, Survives, after, answers, found_by_crash, run, settled_count, to_commit, with_flight, world_after}
-use Rattle.coord_ledger.proofs.drives.EachMoment.{reopens_more}
+use Rattle.coord_ledger.proofs.runs.EachMoment.{reopens_more}
 use Rattle.coord_ledger.proofs.machine.Consistent.{stays_consistent}
 use Rattle.coord_ledger.proofs.machine.ConsistentFlights.{kept_more}
 use Rattle.coord_ledger.proofs.machine.Lists.{all_raised}

@@ -2,7 +2,7 @@
 use Rattle.std.proofs.Common.{◌≡◌, ℕ, ◌≤◌, Bool, false, true, List, [], ◌∷◌, ◌++◌, length, Vec, Global, Option, Some, None, refl, sym, ap, ◌∙◌, subst, arith, inl, inr, cond, is_some, nat_le}
 use Rattle.std.proofs.lemmas.Bool.Decides.{nat_tests}
 use Rattle.coord_types.specs.declared.refusals.Refusal.TheVariants.{OutOfMemory, Stopped}
-use Rattle.coord_ledger.specs.Facade.{Answer, Claim, Event, Collect, Collected, Follows, FollowsTo, HoldsTicket, HoldsTickets, IsCollectable, IsConsistent, IsGranted, IsOneOf, Log, Machine, NoTicket, Refused, Release, Reply, Resend, Resent, Run, Show, Shown, Waiting, accepted_count, after, answers, reply_of, resent, settled_count, settled_world, spent, ticket, to_collect}
+use Rattle.coord_ledger.specs.Facade.{Answer, Claim, Collect, Collected, Event, Follows, FollowsTo, HoldsTicket, HoldsTickets, IsCollectable, IsConsistent, IsGranted, IsOneOf, Log, Machine, NoTicket, Refused, Release, Reply, Resend, Resent, Run, Show, Shown, Waiting, accepted_count, after, answers, reply_of, resent, settled_count, settled_world, spent, ticket, to_collect}
 use Rattle.coord_world.specs.protocol.Outputs.{again}
 use Rattle.coord_view.specs.Shown.{shown}
 use Rattle.coord_ledger.proofs.follows.Granted.{holds_at, holds_spent}
@@ -17,7 +17,7 @@ module _ {D : Type 0} (h : Run D) (s : Machine) (is : IsConsistent s) (follows :
       Follows (record h { tickets = claims; seen = seen; released = released }) (record s { tickets = tickets; seen = shown; released = given; replied = replied })
   aside claims seen released tickets shown given replied holds same all =
       record {
-        shows = record { by = follows.shows.by; within = follows.shows.within; is = λ i. record (follows.shows.is i) { tickets = tickets; seen = shown; released = given; replied = replied }; own = follows.shows.own };
+        represents = record { by = follows.represents.by; within = follows.represents.within; is = λ i. record (follows.represents.is i) { tickets = tickets; seen = shown; released = given; replied = replied }; own = follows.represents.own };
         tickets = holds;
         seen = same;
         released = all;
@@ -27,7 +27,7 @@ module _ {D : Type 0} (h : Run D) (s : Machine) (is : IsConsistent s) (follows :
   stays : (claims : Vec (Option Claim) Global) → claims.items ≡ h.tickets.items → (e : Event) (a : Answer) → IsOneOf a (answers s e) → after s e a ≡ s → FollowsTo s e a (record h { tickets = claims })
   stays claims same e a allowed left = record {
     allowed = allowed;
-    follows = subst (Follows (record h { tickets = claims })) (sym left) (record { shows = follows.shows; tickets = subst (λ cs. HoldsTickets log cs s.tickets) (sym same) follows.tickets; seen = follows.seen; released = follows.released });
+    follows = subst (Follows (record h { tickets = claims })) (sym left) (record { represents = follows.represents; tickets = subst (λ cs. HoldsTickets log cs s.tickets) (sym same) follows.tickets; seen = follows.seen; released = follows.released });
   }
 
   -- ---- collect
@@ -53,7 +53,7 @@ module _ {D : Type 0} (h : Run D) (s : Machine) (is : IsConsistent s) (follows :
 
     pub follows_collected : (claims : Vec (Option Claim) Global) → claims.items ≡ spent h.tickets.items i → IsCollectable log claim → FollowsTo s (Collect i) (Collected (reply_of claim)) (record h { tickets = claims })
     follows_collected claims is_spent settled =
-        let here : claim.step ≤ settled_count s.log = subst (λ n. claim.step ≤ n) (count_is h.driver s is follows.shows) settled.settled in
+        let here : claim.step ≤ settled_count s.log = subst (λ n. claim.step ≤ n) (count_is h.driver s is follows.represents) settled.settled in
         let low : nat_le claim.step (settled_count s.log) ≡ true = grind (arith, nat_tests, here) in
         record {
           allowed = may_collect (Collected (reply_of claim)) (subst (λ b. IsOneOf (Collected (reply_of claim)) (cond b (Collected (reply_of claim)) Waiting ∷ [])) (sym low) (inl refl));
@@ -66,7 +66,7 @@ module _ {D : Type 0} (h : Run D) (s : Machine) (is : IsConsistent s) (follows :
         by_count : (b : Bool) → nat_le claim.step (settled_count s.log) ≡ b → IsOneOf Waiting (cond b (Collected (reply_of claim)) Waiting ∷ [])
         by_count true low =
             let here : claim.step ≤ settled_count s.log = grind (arith, nat_tests, low) in
-            absurd (never (record { settled = subst (λ n. claim.step ≤ n) (sym (count_is h.driver s is follows.shows)) here; granted = ticket_is.1 }))
+            absurd (never (record { settled = subst (λ n. claim.step ≤ n) (sym (count_is h.driver s is follows.represents)) here; granted = ticket_is.1 }))
         by_count false high = inl refl
 
   -- ---- resend and show
@@ -74,22 +74,22 @@ module _ {D : Type 0} (h : Run D) (s : Machine) (is : IsConsistent s) (follows :
   pub follows_resent : (released : Vec Release Global) → released.items ≡ h.released.items ++ resent (settled_world log) → FollowsTo s Resend (Resent (length (again (settled_world log)))) (record h { released = released })
   follows_resent released given =
       record {
-        allowed = inl (ap (λ w. Resent (length (again w))) (settled_is h.driver s is follows.shows));
-        follows = aside h.tickets h.seen released s.tickets s.seen (s.released ++ resent (settled_world s.log)) s.replied follows.tickets follows.seen (given ∙ (λ i. follows.released i ++ resent (settled_is h.driver s is follows.shows i)));
+        allowed = inl (ap (λ w. Resent (length (again w))) (settled_is h.driver s is follows.represents));
+        follows = aside h.tickets h.seen released s.tickets s.seen (s.released ++ resent (settled_world s.log)) s.replied follows.tickets follows.seen (given ∙ (λ i. follows.released i ++ resent (settled_is h.driver s is follows.represents i)));
       }
 
   -- nothing greater was shown
   pub never_behind : h.seen ≤ settled_count h.driver.ledger.log
-  never_behind = omega (arith, follows.seen, is.seen, count_is h.driver s is follows.shows)
+  never_behind = omega (arith, follows.seen, is.seen, count_is h.driver s is follows.represents)
 
   may_show : (b : Bool) (a : Answer) → is_some h.driver.ledger.log.doubt ≡ b → IsOneOf a (cond b (Refused Stopped ∷ []) (Shown (shown (accepted_count s.log) (settled_world s.log)) ∷ Refused OutOfMemory ∷ [])) → IsOneOf a (answers s Show)
-  may_show b a stopped one = subst (λ x. IsOneOf a (cond x (Refused Stopped ∷ []) (Shown (shown (accepted_count s.log) (settled_world s.log)) ∷ Refused OutOfMemory ∷ []))) (sym stopped ∙ stopped_is h.driver s is follows.shows) one
+  may_show b a stopped one = subst (λ x. IsOneOf a (cond x (Refused Stopped ∷ []) (Shown (shown (accepted_count s.log) (settled_world s.log)) ∷ Refused OutOfMemory ∷ []))) (sym stopped ∙ stopped_is h.driver s is follows.represents) one
 
   pub follows_shown : is_some h.driver.ledger.log.doubt ≡ false → FollowsTo s Show (Shown (shown (accepted_count log) (settled_world log))) (record h { seen = settled_count log })
   follows_shown going =
       record {
-        allowed = may_show false (Shown (shown (accepted_count log) (settled_world log))) going (inl (λ i. Shown (shown (accepted_is h.driver s is follows.shows i) (settled_is h.driver s is follows.shows i))));
-        follows = aside h.tickets (settled_count log) h.released s.tickets (settled_count s.log) s.released s.replied follows.tickets (count_is h.driver s is follows.shows) follows.released;
+        allowed = may_show false (Shown (shown (accepted_count log) (settled_world log))) going (inl (λ i. Shown (shown (accepted_is h.driver s is follows.represents i) (settled_is h.driver s is follows.represents i))));
+        follows = aside h.tickets (settled_count log) h.released s.tickets (settled_count s.log) s.released s.replied follows.tickets (count_is h.driver s is follows.represents) follows.released;
       }
 
   pub follows_not_shown : is_some h.driver.ledger.log.doubt ≡ true → FollowsTo s Show (Refused Stopped) h

@@ -12,8 +12,8 @@ use Rattle.coord_ledger.specs.declared.events.Event.TheVariants.{Crash}
 use Rattle.coord_ledger.specs.declared.trace.RunFaultKind.{RunFaultKind}
 use Rattle.coord_ledger.specs.declared.trace.RunFaultKind.TheVariants.{OutOfMemory, Store}
 use Rattle.coord_ledger.specs.ledger.Calls.{taken_back}
-use Rattle.coord_ledger.specs.ledger.Driven.{Driven, disk_driven}
-use Rattle.coord_ledger.specs.ledger.Meets.{Shows}
+use Rattle.coord_ledger.specs.ledger.DriverState.{DriverState, disk_held}
+use Rattle.coord_ledger.specs.ledger.Simulates.{Represents}
 use Rattle.coord_ledger.specs.ledger.State.{FlightState, LedgerState, ledger_over, started}
 use Rattle.coord_ledger.specs.machine.Consistent.{IsConsistent}
 use Rattle.coord_ledger.specs.machine.Machine.{Machine}
@@ -74,16 +74,17 @@ abbrev pub IsEventFault : Option Bool → Event → RunFaultKind → Type 0
 IsEventFault model e OutOfMemory = wants_memory e ≡ true
 IsEventFault model e (Store fault) = (e ≡ Crash) × IsOpenFault fault × (model ≡ Some true → IsPassing fault)
 
--- what an event has made of this disk is held now
-pub record HoldsTouched {D : Type 0} (model : Ghosts D) (crashes : D → D → Type 0) (found : Machine) (touches : Bool) (e : Event) (old : D) (now : Option D) : Type 0 where
+-- the driver now holds what an event has made of this disk
+pub record DiskAfter {D : Type 0} (model : Ghosts D) (crashes : D → D → Type 0) (found : Machine) (touches : Bool) (e : Event) (old : D) (now : Option D) : Type 0 where
   pub new : D
   pub holds : now ≡ Some new
   pub touched : Touches model crashes (model.keeps_model old) found touches e old new
 
--- so with the disk that was held, where a crash inside the event finds this machine
-abbrev pub HeldTouches : {D : Type 0} → Ghosts D → (D → D → Type 0) → Machine → Bool → Event → Option D → Option D → Type 0
-HeldTouches {D} model crashes found touches e was now =
-    (old : D) → was ≡ Some old → HoldsTouched model crashes found touches e old now
+-- What an event does to the disk that the driver held, where a crash inside the event finds this machine. `model` has the
+-- ghost members of the disk's type, which say what its disks may hold, and `crashes` says which disks a crash may leave.
+abbrev pub DiskEffect : {D : Type 0} → Ghosts D → (D → D → Type 0) → Machine → Bool → Event → Option D → Option D → Type 0
+DiskEffect {D} model crashes found touches e was now =
+    (old : D) → was ≡ Some old → DiskAfter model crashes found touches e old now
 
 -- An event was cut short, and this disk is given back in place of the one that was held.
 abbrev pub IsLost : {D : Type 0} → Ghosts D → (D → D → Type 0) → Machine → Event → RunFaultKind → Option D → D → Type 0
@@ -91,20 +92,20 @@ IsLost {D} model crashes s e kind was lost =
     (old : D) → was ≡ Some old → IsGivenBack model crashes (model.keeps_model old) s e kind old lost
 
 -- whatever a crash between two events may leave of the disk that is held survives
-abbrev pub HeldSurvives : {D : Type 0} → (D → Bool) → (D → Present) → Option D → Machine → Type 0
-HeldSurvives {D} keeps_model present held s = (disk : D) → held ≡ Some disk → CrashPrefix s (keeps_model disk) (present disk)
+abbrev pub DiskSurvives : {D : Type 0} → (D → Bool) → (D → Present) → Option D → Machine → Type 0
+DiskSurvives {D} keeps_model present held s = (disk : D) → held ≡ Some disk → CrashPrefix s (keeps_model disk) (present disk)
 
 -- What a driver keeps after events with these answers, where the first event found this disk.
-pub record Drives {D : Type 0} (model : Ghosts D) (crashes : D → D → Type 0) (keeps_model : Bool) (first : D) (start : LedgerState D) (events : List Event) (given : List Answer) (d : Driven D) : Type 0 where
+pub record RunSoFar {D : Type 0} (model : Ghosts D) (crashes : D → D → Type 0) (keeps_model : Bool) (first : D) (start : LedgerState D) (events : List Event) (given : List Answer) (d : DriverState D) : Type 0 where
   pub answered : Answered (started start) events given
   pub consistent : IsConsistent (run (started start) events given)
-  pub shows : Shows d (run (started start) events given)
+  pub represents : Represents d (run (started start) events given)
   pub disk : D
-  pub holds : disk_driven d ≡ Some disk
+  pub holds : disk_held d ≡ Some disk
   pub moments : EachMoment model crashes keeps_model (started start) events given first disk
 
--- a run of events may begin at what is driven: from this disk it is a run of none
-pub record MayBegin {D : Type 0} (model : Ghosts D) (crashes : D → D → Type 0) (d : Driven D) : Type 0 where
+-- A run of events may begin at this driver: from its ledger's disk on, it is a run of no event.
+pub record MayBegin {D : Type 0} (model : Ghosts D) (crashes : D → D → Type 0) (d : DriverState D) : Type 0 where
   pub first : D
   pub home : d.ledger.disk ≡ Some first
-  pub drives : Drives model crashes (model.keeps_model first) first d.ledger [] [] d
+  pub so_far : RunSoFar model crashes (model.keeps_model first) first d.ledger [] [] d

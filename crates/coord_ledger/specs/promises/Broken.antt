@@ -72,7 +72,7 @@ EndsAt model crashes keeps_model before (Some event) kind released disk lost = I
 
 -- A run that ended early, with the answers to the events before. At each moment of it, also inside the event that was
 -- cut short, the headline holds. It is what `run_events_keeping_disk` ensures where it answers a fault.
-pub record Broke {D : Type 0} (model : Ghosts D) (crashes : D → D → Type 0) (start : Machine) (events : List Event) (at : ℕ) (given : List Answer) (released : List Release) (kind : RunFaultKind) (keeps_model : Bool) (first lost : D) : Type 0 where
+pub record EndedEarly {D : Type 0} (model : Ghosts D) (crashes : D → D → Type 0) (start : Machine) (events : List Event) (at : ℕ) (given : List Answer) (released : List Release) (kind : RunFaultKind) (keeps_model : Bool) (first lost : D) : Type 0 where
   pub within : at ≤ length events
   pub answered : Answered start (take at events) given
   pub disk : D  -- as the events before have left it

@@ -11,9 +11,13 @@
 -- opening behind it leaves only images of that. No other event touches the disk. So at every moment inside every event
 -- of every run, whatever the disk may hold survives.
 --
--- `Ran` has these beside what else a run promises: that the answers are the event machine's, that what was released and
--- collected is true of the steps that are kept, and which ledger is left. `Broken.antt` has what is promised of a run
--- that ends early: its moments, what was answered and released until then, which disk is given back, and why.
+-- `Completed` has these beside what else a run promises: that the answers are the event machine's, that what was
+-- released and collected is true of the steps that are kept, and which ledger is left. `Broken.antt` has what is
+-- promised of a run that ends early: its moments, what was answered and released until then, which disk is given back,
+-- and why.
+--
+-- `model` has the ghost members of the disk's type, which say what its disks may hold, and `crashes` says which disks a
+-- crash may leave.
 use Rattle.std.specs.Prelude.{◌≡◌, ◌⊎◌, ℕ, ◌≤◌, ◌==◌, ◌&&◌, Bool, true, false, List, [], ◌∷◌, map, take, count_by, Some, None}
 use Rattle.std.specs.List.{AllByRecursion}
 use Rattle.coord_disk.specs.Model.Present.{Present, IsImage}
@@ -35,7 +39,7 @@ use Rattle.coord_ledger.specs.declared.release.Release.{Release}
 use Rattle.coord_ledger.specs.ledger.State.{LedgerState}
 use Rattle.coord_ledger.specs.machine.After.{after, finished, releases_of}
 use Rattle.coord_ledger.specs.machine.Answers.{IsOneOf, kept}
-use Rattle.coord_ledger.specs.machine.Log.{Log, accepted_count, moved, settled_steps, world_after}
+use Rattle.coord_ledger.specs.machine.Log.{Log, accepted_count, rebased, settled_steps, world_after}
 use Rattle.coord_ledger.specs.machine.Machine.{Machine}
 use Rattle.coord_ledger.specs.machine.Runs.{Answered, run}
 use Rattle.coord_ledger.specs.promises.Moments.{LeavesWithin, touches_disk}
@@ -139,13 +143,13 @@ ended s = finished s s.flight
 pub record IsLeft {D : Type 0} (s : Machine) (l : LedgerState D) : Type 0 where
   pub by : ℕ
   pub within : by ≤ s.log.settled
-  pub log : l.log ≡ moved s.log by
+  pub log : l.log ≡ rebased s.log by
   pub home : l.out ≡ None
 
 -- A run from a ledger at home, on a disk that it has led from one state to another: the answers are
 -- the machine's, these were released, wherever it is stopped, after an event or at any moment inside one, the headline
 -- holds, and this ledger is left. It is what `run_events` ensures where it answers a trace and a ledger.
-pub record Ran {D : Type 0} (model : Ghosts D) (crashes : D → D → Type 0) (start : Machine) (events : List Event) (given : List Answer) (released : List Release) (left : LedgerState D) (keeps_model : Bool) (first last : D) : Type 0 where
+pub record Completed {D : Type 0} (model : Ghosts D) (crashes : D → D → Type 0) (start : Machine) (events : List Event) (given : List Answer) (released : List Release) (left : LedgerState D) (keeps_model : Bool) (first last : D) : Type 0 where
   pub answered : Answered start events given
   pub released_is : released ≡ (run start events given).released
   pub prefix : CrashPrefix (run start events given) keeps_model (model.present last)

@@ -4,7 +4,7 @@ ghost use Rattle.std.specs.Prelude.{◌≡◌, ◌+◌, false, true, ℕ, IfErr,
 ghost use Rattle.coord_disk.specs.Model.Present.{IsImage};
 ghost use Rattle.coord_store.specs.Kept.{has_stopped};
 ghost use Rattle.coord_ledger.specs.declared.trace.RunFaultKind.TheVariants.{OutOfMemory};
-ghost use Rattle.coord_ledger.specs.Facade.{Crash, HasFailed, HeldTouches, IsAnew, IsConsistent, IsEventFault, IsLost, IsReopenFault, IsReopened, Machine, Meets, Opened, Reopens, Shows, disk_driven, failed_in, ledger_over, model_driven, settled_count};
+ghost use Rattle.coord_ledger.specs.Facade.{Crash, DiskEffect, HasFailed, IsAnew, IsConsistent, IsEventFault, IsLost, IsReopenFault, IsReopened, Machine, Opened, Reopens, Represents, Simulates, disk_held, failed_in, ledger_over, model_held, settled_count};
 
 use super::Driver;
 use crate::{Ledger, RunFaultKind};
@@ -50,26 +50,26 @@ impl<D: CrashDisk> Driver<D> {
     /// The disk crashes and is opened again, and the flight is gone. The count of the world that was
     /// opened, and its driver; or why none was, and the disk.
     pub fn crash(self, alloc: Global) -> Result<(u64, Self), (RunFaultKind, D)>
-        ensures meets { model_driven D.keeps_model self ≡ Some true →
-            IfOk result (λ opened. Meets self Crash (Opened opened.0) opened.1) }
+        ensures simulates { model_held D.keeps_model self ≡ Some true →
+            IfOk result (λ opened. Simulates self Crash (Opened opened.0) opened.1) }
         ensures anew { IfOk result (λ opened. IsAnew opened.1) }
         ensures count { IfOk result (λ opened. opened.0 ≡ settled_count opened.1.ledger.log) }
-        ensures disk { (s : Machine) → IsConsistent s → Shows self s
+        ensures disk { (s : Machine) → IsConsistent s → Represents self s
             → MatchResult result (λ opened.
-            HeldTouches ⟦<D as Disk>⟧ D.crashes s true Crash
-            (disk_driven self) (disk_driven opened.1)) (λ refused.
+            DiskEffect ⟦<D as Disk>⟧ D.crashes s true Crash
+            (disk_held self) (disk_held opened.1)) (λ refused.
             IsLost ⟦<D as Disk>⟧ D.crashes s Crash refused.0
-            (disk_driven self) refused.1) }
-        ensures failures { (n : ℕ) → HasFailed D.failures (disk_driven self) n
-            → MatchResult result (λ opened. HasFailed D.failures (disk_driven opened.1) n)
+            (disk_held self) refused.1) }
+        ensures failures { (n : ℕ) → HasFailed D.failures (disk_held self) n
+            → MatchResult result (λ opened. HasFailed D.failures (disk_held opened.1) n)
             (λ refused. D.failures refused.1 ≡ n + failed_in refused.0) }
-        ensures model { IfOk result (λ opened. model_driven D.keeps_model opened.1 ≡
-            model_driven D.keeps_model self) }
+        ensures model { IfOk result (λ opened. model_held D.keeps_model opened.1 ≡
+            model_held D.keeps_model self) }
         ensures cause { IfErr result (λ refused.
-            IsEventFault (model_driven D.keeps_model self) Crash refused.0) }
+            IsEventFault (model_held D.keeps_model self) Crash refused.0) }
     {
-        self.survives();
-        self.ledger.log_is_consistent();
+        self.lemma_survives();
+        self.ledger.lemma_log_is_consistent();
         match reopen(alloc, self.into_disk()) {
             Ok(ledger) => {
                 let count = ledger.settled().count();

@@ -1,7 +1,7 @@
 //! Flights go out, are committed, and come back.
 
 ghost use Rattle.std.specs.Prelude.{◌≡◌, ◌+◌, ◌-◌, List, ℕ, Ok, Some};
-ghost use Rattle.coord_ledger.specs.Facade.{Begin, Commit, Finish, HasFailed, HeldTouches, IsConsistent, Machine, Meets, Release as Row, Shows, disk_driven, failed_at, finish_answer, found_by_crash, model_driven, settling_releases, touches_disk};
+ghost use Rattle.coord_ledger.specs.Facade.{Begin, Commit, DiskEffect, Finish, HasFailed, IsConsistent, Machine, Release as Row, Represents, Simulates, disk_held, failed_at, finish_answer, found_by_crash, model_held, settling_releases, touches_disk};
 
 use super::Driver;
 use crate::{Answer, Releases};
@@ -12,9 +12,9 @@ impl<D: CrashDisk> Driver<D> {
     /// A flight goes out. While one is out, none does. Answers `Begun`, `Nothing`, or `Refused` for
     /// want of memory.
     pub fn begin(self) -> (Answer, Self)
-        ensures meets { Meets self Begin result.0 result.1 }
+        ensures simulates { Simulates self Begin result.0 result.1 }
         ensures log { result.1.ledger.log ≡ self.ledger.log }
-        ensures disk { disk_driven result.1 ≡ disk_driven self }
+        ensures disk { disk_held result.1 ≡ disk_held self }
     {
         let Driver { mut ledger, flight } = self;
         if let Some(flight) = flight {
@@ -31,17 +31,17 @@ impl<D: CrashDisk> Driver<D> {
 
     /// The flight that is out is committed. Answers `Committed`, `Failed`, or `NoFlight`.
     pub fn commit(&mut self) -> Answer
-        ensures meets { Meets self.old Commit result self.new }
+        ensures simulates { Simulates self.old Commit result self.new }
         ensures ledger { self.new.ledger ≡ self.old.ledger }
-        ensures disk { (s : Machine) → IsConsistent s → Shows self.old s
-            → HeldTouches ⟦<D as Disk>⟧ D.crashes
+        ensures disk { (s : Machine) → IsConsistent s → Represents self.old s
+            → DiskEffect ⟦<D as Disk>⟧ D.crashes
             (found_by_crash s Commit result) (touches_disk Commit result) Commit
-            (disk_driven self.old) (disk_driven self.new) }
-        ensures failures { (n : ℕ) → HasFailed D.failures (disk_driven self.old) n →
-            HasFailed D.failures (disk_driven self.new) (n + failed_at Commit result) }
-        ensures model { model_driven D.keeps_model self.new ≡ model_driven D.keeps_model self.old }
+            (disk_held self.old) (disk_held self.new) }
+        ensures failures { (n : ℕ) → HasFailed D.failures (disk_held self.old) n →
+            HasFailed D.failures (disk_held self.new) (n + failed_at Commit result) }
+        ensures model { model_held D.keeps_model self.new ≡ model_held D.keeps_model self.old }
     {
-        self.survives();
+        self.lemma_survives();
         match &mut self.flight {
             None => Answer::NoFlight,
             Some(flight) => match flight.commit() {
@@ -54,12 +54,12 @@ impl<D: CrashDisk> Driver<D> {
     /// The flight that is out comes back: what it releases, or None where no flight is out. For want
     /// of memory it stays out.
     pub fn finish(self) -> (Result<Option<Releases>, Refusal>, Self)
-        ensures meets { Meets self Finish (finish_answer result.0 result.1) result.1 }
+        ensures simulates { Simulates self Finish (finish_answer result.0 result.1) result.1 }
         ensures base { result.1.ledger.log.base ≡ self.ledger.log.base }
         ensures released { (releases : List Row) → result.0 ≡ Ok (Some releases) →
             releases ≡ settling_releases self.ledger.log
             (result.1.ledger.log.settled - self.ledger.log.settled) }
-        ensures disk { disk_driven result.1 ≡ disk_driven self }
+        ensures disk { disk_held result.1 ≡ disk_held self }
     {
         let Driver { mut ledger, flight } = self;
         let Some(flight) = flight else {

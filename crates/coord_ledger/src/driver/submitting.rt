@@ -1,7 +1,7 @@
 //! A step is handed in.
 
 ghost use Rattle.std.specs.Prelude.{◌≡◌};
-ghost use Rattle.coord_ledger.specs.Facade.{HandedTo, Meets, Submit, answer_to, disk_driven};
+ghost use Rattle.coord_ledger.specs.Facade.{HandedTo, Simulates, Submit, answer_to, disk_held};
 
 use super::Driver;
 use crate::Handed;
@@ -11,12 +11,12 @@ use coord_types::{Refusal, Step};
 impl<D: CrashDisk> Driver<D> {
     /// Hands a step in: `Ledger::hand_in`.
     pub fn submit(&mut self, step: Step) -> Result<Handed, Refusal>
-        ensures meets { Meets self.old (Submit step) (answer_to result) self.new }
+        ensures simulates { Simulates self.old (Submit step) (answer_to result) self.new }
         ensures handed { HandedTo self.old.ledger step result self.new.ledger }
         ensures flight { self.new.flight ≡ self.old.flight }
-        ensures disk { disk_driven self.new ≡ disk_driven self.old }
+        ensures disk { disk_held self.new ≡ disk_held self.old }
     {
-        self.ledger.log_is_consistent();
+        self.ledger.lemma_log_is_consistent();
         self.ledger.hand_in(step)
     }
 }

@@ -1,7 +1,7 @@
 //! Crashes of the disk in a run.
 
 ghost use Rattle.std.specs.Prelude.{◌≡◌, ◌+◌, true, ℕ, IfErr, IfOk, MatchResult};
-ghost use Rattle.coord_ledger.specs.Facade.{Crash, Follows, FollowsTo, HasFailed, HeldTouches, IsConsistent, IsCutShort, IsEventFault, IsLost, IsPromised, Machine, disk_driven, failed_in, model_driven};
+ghost use Rattle.coord_ledger.specs.Facade.{Crash, DiskEffect, Follows, FollowsTo, HasFailed, IsConsistent, IsCutShort, IsEventFault, IsLost, IsPromised, Machine, disk_held, failed_in, model_held};
 
 use super::flights::Broken;
 use super::released::forget_all;
@@ -14,21 +14,21 @@ impl<D: CrashDisk> Run<D> {
     /// The disk crashes and is opened again. Tickets and the flight are gone.
     pub fn crash(self, alloc: Global) -> Result<(Answer, Self), Broken<D>>
         ensures answered { (s : Machine) → IsConsistent s → Follows self s →
-            IsPromised (model_driven D.keeps_model self.driver) Crash
+            IsPromised (model_held D.keeps_model self.driver) Crash
             → MatchResult result (λ held. FollowsTo s Crash held.0 held.1) (λ broken.
             IsCutShort s Crash broken.kind broken.released.items) }
         ensures disk { (s : Machine) → IsConsistent s → Follows self s
             → MatchResult result (λ held.
-            HeldTouches ⟦<D as Disk>⟧ D.crashes s true Crash
-            (disk_driven self.driver) (disk_driven held.1.driver)) (λ broken. IsLost ⟦<D as Disk>⟧ D.crashes s Crash
-            broken.kind (disk_driven self.driver) broken.disk) }
-        ensures failures { (n : ℕ) → HasFailed D.failures (disk_driven self.driver) n
-            → MatchResult result (λ held. HasFailed D.failures (disk_driven held.1.driver) n) (λ broken.
+            DiskEffect ⟦<D as Disk>⟧ D.crashes s true Crash
+            (disk_held self.driver) (disk_held held.1.driver)) (λ broken. IsLost ⟦<D as Disk>⟧ D.crashes s Crash
+            broken.kind (disk_held self.driver) broken.disk) }
+        ensures failures { (n : ℕ) → HasFailed D.failures (disk_held self.driver) n
+            → MatchResult result (λ held. HasFailed D.failures (disk_held held.1.driver) n) (λ broken.
             D.failures broken.disk ≡ n + failed_in broken.kind) }
-        ensures model { IfOk result (λ held. model_driven D.keeps_model held.1.driver ≡
-            model_driven D.keeps_model self.driver) }
+        ensures model { IfOk result (λ held. model_held D.keeps_model held.1.driver ≡
+            model_held D.keeps_model self.driver) }
         ensures cause { IfErr result (λ broken.
-            IsEventFault (model_driven D.keeps_model self.driver) Crash broken.kind) }
+            IsEventFault (model_held D.keeps_model self.driver) Crash broken.kind) }
     {
         let Run {
             driver,

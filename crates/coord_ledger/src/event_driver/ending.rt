@@ -2,7 +2,7 @@
 
 ghost use Rattle.std.specs.Prelude.{◌≡◌, List, None, IfErr, IfOk, IsSomeAnd, MatchResult, Some};
 ghost use Rattle.coord_ledger.specs.declared.trace.RunFaultKind.TheVariants.{OutOfMemory};
-ghost use Rattle.coord_ledger.specs.Facade.{Answer as Reaction, Drives, Event as What, Follows, Good, LedgerState, Ran, disk_driven, run, started};
+ghost use Rattle.coord_ledger.specs.Facade.{Answer as Reaction, Completed, Event as What, Follows, Good, LedgerState, RunSoFar, disk_held, run, started};
 
 use super::flights::Broken;
 use super::released::forget_all;
@@ -15,15 +15,15 @@ impl<D: CrashDisk> Run<D> {
     pub fn end(self) -> Result<(Vec<Release>, Ledger<D>), Broken<D>>
         ensures ran { (start : LedgerState D) → (first : D) → (events : List What) →
             (given : List Reaction) → (after : D)
-            → Drives ⟦<D as Disk>⟧ D.crashes
+            → RunSoFar ⟦<D as Disk>⟧ D.crashes
             (D.keeps_model after) first start events given self.driver
             → Follows self (run (started start) events given)
             → IfOk result (λ r. r.1.disk ≡ Some after →
-            Ran ⟦<D as Disk>⟧ D.crashes (started start) events given r.0.items r.1
+            Completed ⟦<D as Disk>⟧ D.crashes (started start) events given r.0.items r.1
             (D.keeps_model after) first after) }
         ensures home { IfOk result (λ r. r.1.out ≡ None) }
-        ensures disk { MatchResult result (λ r. r.1.disk ≡ disk_driven self.driver) (λ broken.
-            disk_driven self.driver ≡ Some broken.disk) }
+        ensures disk { MatchResult result (λ r. r.1.disk ≡ disk_held self.driver) (λ broken.
+            disk_held self.driver ≡ Some broken.disk) }
         ensures refused { IfErr result (λ broken. broken.released.items ≡ self.released.items) }
         ensures out { IfErr result (λ _. IsSomeAnd self.driver.flight (λ flight. flight.mark ≡ Good)) }
         ensures kind { IfErr result (λ broken. broken.kind ≡ OutOfMemory) }
@@ -37,7 +37,7 @@ impl<D: CrashDisk> Run<D> {
         forget_all(tickets);
         match driver.bring_home() {
             Ok(ledger) => {
-                ledger.images_give_settled();
+                ledger.lemma_images_give_settled();
                 Ok((released, ledger))
             }
             Err(disk) => Err(Broken {

@@ -2,7 +2,7 @@
 
 ghost use Rattle.std.specs.Prelude.{◌≡◌, IfErr, MatchResult, Some};
 ghost use Rattle.coord_ledger.specs.declared.trace.RunFaultKind.TheVariants.{OutOfMemory};
-ghost use Rattle.coord_ledger.specs.Facade.{Begin, Finish, Follows, FollowsTo, IsConsistent, IsLeftOut, Machine, disk_driven};
+ghost use Rattle.coord_ledger.specs.Facade.{Begin, Finish, Follows, FollowsTo, IsConsistent, IsLeftOut, Machine, disk_held};
 
 use super::released::{forget_all, push_releases};
 use super::run::Run;
@@ -40,7 +40,7 @@ impl<D: CrashDisk> Run<D> {
     pub fn begin(self) -> (Answer, Self)
         ensures answered { (s : Machine) → IsConsistent s → Follows self s →
             FollowsTo s Begin result.0 result.1 }
-        ensures disk { disk_driven result.1.driver ≡ disk_driven self.driver }
+        ensures disk { disk_held result.1.driver ≡ disk_held self.driver }
     {
         let Run {
             driver,
@@ -63,8 +63,8 @@ impl<D: CrashDisk> Run<D> {
         ensures answered { (s : Machine) → IsConsistent s → Follows self s →
             MatchResult result (λ held. FollowsTo s Finish held.0 held.1) (λ broken.
             IsLeftOut s Finish broken.released.items) }
-        ensures disk { MatchResult result (λ held. disk_driven held.1.driver ≡ disk_driven self.driver) (λ broken.
-            disk_driven self.driver ≡ Some broken.disk) }
+        ensures disk { MatchResult result (λ held. disk_held held.1.driver ≡ disk_held self.driver) (λ broken.
+            disk_held self.driver ≡ Some broken.disk) }
         ensures kind { IfErr result (λ broken. broken.kind ≡ OutOfMemory) }
     {
         let Run {

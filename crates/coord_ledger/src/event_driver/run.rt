@@ -1,7 +1,7 @@
 //! What a run of events holds between two events.
 
 ghost use Rattle.std.specs.Prelude.{◌≡◌, ◌+◌, ℕ, IfOk, OnErr, Some};
-ghost use Rattle.coord_ledger.specs.Facade.{Collect, Commit, Follows, FollowsTo, HasFailed, HeldTouches, IsConsistent, IsLeftOut, Machine, Resend, Show, Submit, disk_driven, failed_at, found_by_crash, model_driven, touches_disk};
+ghost use Rattle.coord_ledger.specs.Facade.{Collect, Commit, DiskEffect, Follows, FollowsTo, HasFailed, IsConsistent, IsLeftOut, Machine, Resend, Show, Submit, disk_held, failed_at, found_by_crash, model_held, touches_disk};
 
 use super::released::push_releases;
 use crate::{Answer, Driver, Handed, Release, Seen, Ticket};
@@ -10,7 +10,7 @@ use coord_types::{Refusal, Step};
 use std::alloc::AllocError;
 
 /// The driver of a ledger, the tickets as they were given, what was shown last, and what was
-/// released: where the event machine is (`Follows`, specs/ledger/Held.antt).
+/// released: where the event machine is (`Follows`, specs/ledger/Follows.antt).
 pub struct Run<D: CrashDisk> {
     pub driver: Driver<D>,
     pub tickets: Vec<Option<Ticket>>,
@@ -24,7 +24,7 @@ impl<D: CrashDisk> Run<D> {
         ensures answered { (s : Machine) → IsConsistent s → Follows self.old s →
             IfOk result (λ answer. FollowsTo s (Submit step) answer self.new) }
         ensures err { OnErr result (self.new.released ≡ self.old.released) }
-        ensures disk { disk_driven self.new.driver ≡ disk_driven self.old.driver }
+        ensures disk { disk_held self.new.driver ≡ disk_held self.old.driver }
     {
         self.tickets.reserve(1)?;
         match self.driver.submit(step) {
@@ -46,7 +46,7 @@ impl<D: CrashDisk> Run<D> {
     pub fn collect(&mut self, index: usize) -> Answer
         ensures answered { (s : Machine) → IsConsistent s → Follows self.old s →
             FollowsTo s (Collect index) result self.new }
-        ensures disk { disk_driven self.new.driver ≡ disk_driven self.old.driver }
+        ensures disk { disk_held self.new.driver ≡ disk_held self.old.driver }
     {
         if index >= self.tickets.len() {
             return Answer::NoTicket;
@@ -70,12 +70,12 @@ impl<D: CrashDisk> Run<D> {
         ensures answered { (s : Machine) → IsConsistent s → Follows self.old s →
             FollowsTo s Commit result self.new }
         ensures disk { (s : Machine) → IsConsistent s → Follows self.old s
-            → HeldTouches ⟦<D as Disk>⟧ D.crashes
+            → DiskEffect ⟦<D as Disk>⟧ D.crashes
             (found_by_crash s Commit result) (touches_disk Commit result) Commit
-            (disk_driven self.old.driver) (disk_driven self.new.driver) }
-        ensures failures { (n : ℕ) → HasFailed D.failures (disk_driven self.old.driver) n →
-            HasFailed D.failures (disk_driven self.new.driver) (n + failed_at Commit result) }
-        ensures model { model_driven D.keeps_model self.new.driver ≡ model_driven D.keeps_model self.old.driver }
+            (disk_held self.old.driver) (disk_held self.new.driver) }
+        ensures failures { (n : ℕ) → HasFailed D.failures (disk_held self.old.driver) n →
+            HasFailed D.failures (disk_held self.new.driver) (n + failed_at Commit result) }
+        ensures model { model_held D.keeps_model self.new.driver ≡ model_held D.keeps_model self.old.driver }
     {
         self.driver.commit()
     }
@@ -86,7 +86,7 @@ impl<D: CrashDisk> Run<D> {
             IfOk result (λ answer. FollowsTo s Resend answer self.new) }
         ensures cut { (s : Machine) → IsConsistent s → Follows self.old s →
             OnErr result (IsLeftOut s Resend self.new.released.items) }
-        ensures disk { disk_driven self.new.driver ≡ disk_driven self.old.driver }
+        ensures disk { disk_held self.new.driver ≡ disk_held self.old.driver }
     {
         match self.driver.ledger().resend() {
             Ok(releases) => {
@@ -101,7 +101,7 @@ impl<D: CrashDisk> Run<D> {
     pub fn show(&mut self) -> Answer
         ensures answered { (s : Machine) → IsConsistent s → Follows self.old s →
             FollowsTo s Show result self.new }
-        ensures disk { disk_driven self.new.driver ≡ disk_driven self.old.driver }
+        ensures disk { disk_held self.new.driver ≡ disk_held self.old.driver }
     {
         match self.driver.ledger().show(&mut self.seen) {
             Ok(view) => Answer::Shown(view),

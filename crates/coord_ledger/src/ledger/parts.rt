@@ -74,7 +74,7 @@ impl<D: Disk> Ledger<D> {
     /// Does nothing. Its contract is what the type keeps of every ledger: the log is consistent,
     /// with the steps that are out and those in doubt; while steps are out the store is out with
     /// them; a ledger that has stopped has its store back.
-    pub fn log_is_consistent(&self)
+    pub fn lemma_log_is_consistent(&self)
         ensures log { IsConsistentLog self.now.log }
         ensures out { IfSome self.now.out (FitsOut self.now.log) }
         ensures doubted { IfSome self.now.log.doubt (λ size. (1 ≤ size) ×

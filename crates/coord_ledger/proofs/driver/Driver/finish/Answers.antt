@@ -1,12 +1,12 @@
 use Rattle.std.proofs.Common.{◌≡◌, ◌-◌, sym, ap, ◌∙◌, subst}
-use Rattle.coord_ledger.specs.Facade.{Driven, Finish, Finished, Meets, at_home, settled_count, settling_releases}
-use Rattle.coord_ledger.proofs.meets.Finish.{meets_back}
-use Rattle.coord_ledger.proofs.drives.Flights.{gave, same_base}
+use Rattle.coord_ledger.specs.Facade.{DriverState, Finish, Finished, Simulates, at_home, settled_count, settling_releases}
+use Rattle.coord_ledger.proofs.simulates.Finish.{simulates_back}
+use Rattle.coord_ledger.proofs.runs.Flights.{gave, same_base}
 use Rattle.coord_ledger.proofs.driver.Driver.finish.Goals as goal
 
 pub returns-in-Ok-clause-base : goal.returns-in-Ok-clause-base
 returns-in-Ok-clause-base g c =
-    ap (λ (d : Driven g.row.D.Denot). d.ledger.log.base) c.over-in-Ok.ensures ∙ same_base c.self.inside.ledger c.end_flush.new.self c.in-Some.flight c.in-Ok.ensures.taken ∙ ap (λ (d : Driven g.row.D.Denot). d.ledger.log.base) c.self.view_is
+    ap (λ (d : DriverState g.row.D.Denot). d.ledger.log.base) c.over-in-Ok.ensures ∙ same_base c.self.inside.ledger c.end_flush.new.self c.in-Some.flight c.in-Ok.ensures.taken ∙ ap (λ (d : DriverState g.row.D.Denot). d.ledger.log.base) c.self.view_is
 
 pub returns-in-Ok-clause-released : goal.returns-in-Ok-clause-released
 returns-in-Ok-clause-released g c releases is =
@@ -18,6 +18,6 @@ returns-in-Ok-clause-released g c releases is =
 
 pub returns-in-Ok-clause-meets : goal.returns-in-Ok-clause-meets
 returns-in-Ok-clause-meets g c =
-    let old : Driven g.row.D.Denot = record { ledger = c.self.inside.ledger; flight = c.self.inside.flight } in
-    subst (λ (d : Driven g.row.D.Denot). Meets c.args.self Finish (Finished (settled_count d.ledger.log)) d) (sym c.over-in-Ok.ensures)
-    (subst (λ (d : Driven g.row.D.Denot). Meets d Finish (Finished (settled_count c.end_flush.new.self.log)) (at_home c.end_flush.new.self)) c.self.view_is (meets_back old c.in-Some.flight c.in-Some.is c.end_flush.new.self c.in-Ok.ensures.taken))
+    let old : DriverState g.row.D.Denot = record { ledger = c.self.inside.ledger; flight = c.self.inside.flight } in
+    subst (λ (d : DriverState g.row.D.Denot). Simulates c.args.self Finish (Finished (settled_count d.ledger.log)) d) (sym c.over-in-Ok.ensures)
+    (subst (λ (d : DriverState g.row.D.Denot). Simulates d Finish (Finished (settled_count c.end_flush.new.self.log)) (at_home c.end_flush.new.self)) c.self.view_is (simulates_back old c.in-Some.flight c.in-Some.is c.end_flush.new.self c.in-Ok.ensures.taken))

@@ -1,9 +1,9 @@
 use Rattle.std.proofs.Common.{◌≡◌, List, Vec, Global, ◌++◌, Some, None, Ok, Err, Result, Option, true, false, refl, sym, ap, ◌∙◌, subst, rules, is_err}
 use Rattle.std.proofs.lemmas.List.{append_assoc}
-use Rattle.coord_ledger.specs.Facade.{Answer, Finish, Finished, FollowsTo, LedgerState, Meets, NoFlight, Refusal, Refused, Release, finish_answer, settled_count}
-use Rattle.coord_ledger.proofs.drives.CutShort.{cut_within}
-use Rattle.coord_ledger.proofs.drives.Answers.{err_gives, ok_gives}
-use Rattle.coord_ledger.proofs.follows.FollowsMet.{follows_landed, follows_not_landed}
+use Rattle.coord_ledger.specs.Facade.{Answer, Finish, Finished, FollowsTo, LedgerState, NoFlight, Refusal, Refused, Release, Simulates, finish_answer, settled_count}
+use Rattle.coord_ledger.proofs.runs.CutShort.{cut_within}
+use Rattle.coord_ledger.proofs.runs.Answers.{err_gives, ok_gives}
+use Rattle.coord_ledger.proofs.follows.FollowsAnswers.{follows_landed, follows_not_landed}
 use Rattle.coord_ledger.proofs.event_driver.run.Run.finish.Goals as goal
 use Rattle.coord_ledger.proofs.event_driver.run.Run.finish.Goals.{in-Ok-None, in-Ok-Some+else-is_err, in-Err}
 
@@ -14,9 +14,9 @@ returns-then-is_err-clause-answered g c s is follows =
     let some = err_gives c.push_releases.result failed c.push_releases.ensures.some in
     let new = c.finish-landed.result.1 in
     let back = c.in-Ok-Some.is ∙ ap Ok c.in-Ok-Some.field-0-is in
-    let meets = subst (λ (r : Result (Option (List Release)) Refusal). Meets run.driver Finish (finish_answer r new) new) back c.finish-landed.ensures.meets in
+    let simulates = subst (λ (r : Result (Option (List Release)) Refusal). Simulates run.driver Finish (finish_answer r new) new) back c.finish-landed.ensures.simulates in
     let all : Vec Release Global = record run.released { items = run.released.items ++ c.in-Ok-Some.releases } in
-    let to = follows_landed run s is follows new c.in-Ok-Some.releases (c.finish-landed.ensures.released c.in-Ok-Some.releases back) (settled_count new.ledger.log) all refl meets in
+    let to = follows_landed run s is follows new c.in-Ok-Some.releases (c.finish-landed.ensures.released c.in-Ok-Some.releases back) (settled_count new.ledger.log) all refl simulates in
     let ends = ap (λ l. run.released.items ++ l) some.all_are ∙ sym (append_assoc run.released.items some.added some.lost) ∙ ap (λ l. l ++ some.lost) (sym some.now) in
     cut_within _ _ s Finish _ c.push_releases.new.released.items some.added some.lost follows to some.now ends some.some
 
@@ -25,11 +25,11 @@ returns-clause-answered g c s is follows =
     let run = c.args.self in
     let new = c.finish-landed.result.1 in
     let To : Answer → Vec Release Global → Type 0 = λ a rs. FollowsTo {D = g.row.D.Denot} s Finish a (record run { driver = new; released = rs }) in
-    let meets = λ (r : Result (Option (List Release)) Refusal) (is : c.finish-landed.result.0 ≡ r). subst (λ (q : Result (Option (List Release)) Refusal). Meets run.driver Finish (finish_answer q new) new) is c.finish-landed.ensures.meets in
+    let simulates = λ (r : Result (Option (List Release)) Refusal) (is : c.finish-landed.result.0 ≡ r). subst (λ (q : Result (Option (List Release)) Refusal). Simulates run.driver Finish (finish_answer q new) new) is c.finish-landed.ensures.simulates in
     elim c.match-landed.branch [
       | in-Ok-None w ↦
           subst (λ a. To a c.match-landed.released) (sym w.answer-is)
-          (subst (λ rs. To NoFlight rs) (sym w.released-is) (follows_not_landed run s is follows new NoFlight (λ t. refl) (meets (Ok None) (w.in-Ok-None.is ∙ ap Ok w.in-Ok-None.field-0-is))))
+          (subst (λ rs. To NoFlight rs) (sym w.released-is) (follows_not_landed run s is follows new NoFlight (λ t. refl) (simulates (Ok None) (w.in-Ok-None.is ∙ ap Ok w.in-Ok-None.field-0-is))))
       | in-Ok-Some+else-is_err w ↦
           let fine : is_err w.push_releases.result ≡ false = search rules in
           let pushed = ok_gives w.push_releases.result fine w.push_releases.ensures.all in
@@ -37,8 +37,8 @@ returns-clause-answered g c s is follows =
           let back = w.in-Ok-Some.is ∙ ap Ok w.in-Ok-Some.field-0-is in
           subst (λ a. To a c.match-landed.released) (sym w.answer-is)
           (subst (λ n. To (Finished n) c.match-landed.released) (sym count)
-          (follows_landed run s is follows new w.in-Ok-Some.releases (c.finish-landed.ensures.released w.in-Ok-Some.releases back) (settled_count new.ledger.log) c.match-landed.released (ap (λ (v : Vec Release Global). v.items) w.released-is ∙ pushed) (meets (Ok (Some w.in-Ok-Some.releases)) back)))
+          (follows_landed run s is follows new w.in-Ok-Some.releases (c.finish-landed.ensures.released w.in-Ok-Some.releases back) (settled_count new.ledger.log) c.match-landed.released (ap (λ (v : Vec Release Global). v.items) w.released-is ∙ pushed) (simulates (Ok (Some w.in-Ok-Some.releases)) back)))
       | in-Err w ↦
           subst (λ a. To a c.match-landed.released) (sym w.answer-is)
-          (subst (λ rs. To (Refused w.in-Err.refusal) rs) (sym w.released-is) (follows_not_landed run s is follows new (Refused w.in-Err.refusal) (λ t. refl) (meets (Err w.in-Err.refusal) w.in-Err.is)))
+          (subst (λ rs. To (Refused w.in-Err.refusal) rs) (sym w.released-is) (follows_not_landed run s is follows new (Refused w.in-Err.refusal) (λ t. refl) (simulates (Err w.in-Err.refusal) w.in-Err.is)))
     ]

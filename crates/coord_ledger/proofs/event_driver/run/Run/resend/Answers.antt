@@ -1,9 +1,9 @@
 use Rattle.std.proofs.Common.{◌++◌, Vec, Global, length, sym, ap, ◌∙◌, subst}
 use Rattle.std.proofs.lemmas.List.{append_assoc}
 use Rattle.coord_ledger.specs.Facade.{FollowsTo, LedgerState, Release, Resend, Resent, resent, settled_world}
-use Rattle.coord_ledger.proofs.drives.CutShort.{cut_within}
+use Rattle.coord_ledger.proofs.runs.CutShort.{cut_within}
 use Rattle.coord_ledger.proofs.follows.FollowsTickets.{follows_resent}
-use Rattle.coord_ledger.proofs.drives.Answers.{on_err, resent_count}
+use Rattle.coord_ledger.proofs.runs.Answers.{on_err, resent_count}
 use Rattle.coord_ledger.proofs.event_driver.run.Run.resend.Goals as goal
 
 pub returns-in_ok-count-in-Ok-clause-answered : goal.returns-in_ok-count-in-Ok-clause-answered

@@ -1,5 +1,5 @@
 use Rattle.std.proofs.Common.{sym, ap, ◌∙◌}
-use Rattle.coord_ledger.proofs.drives.Answers.{follows_show, shown_as}
+use Rattle.coord_ledger.proofs.runs.Answers.{follows_show, shown_as}
 use Rattle.coord_ledger.proofs.event_driver.run.Run.show.Goals as goal
 use Rattle.coord_ledger.proofs.event_driver.run.Run.show.Goals.{in-Ok, in-Err}
 

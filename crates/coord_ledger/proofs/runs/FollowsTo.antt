@@ -7,14 +7,14 @@ use Rattle.coord_ledger.specs.declared.trace.RunFaultKind.TheVariants.{OutOfMemo
 
 -- ---- the event that it was
 
-pub met : {D E : Type 0} (s : Machine) (e what : Event) (r answer : Result Answer E) (h new : Run D) (a : Answer) → IfOk r (λ x. FollowsTo s what x new) → answer ≡ r → answer ≡ Ok a → e ≡ what → h ≡ new → FollowsTo s e a h
-met s e what r answer h new a to says ok event held =
+pub answered : {D E : Type 0} (s : Machine) (e what : Event) (r answer : Result Answer E) (h new : Run D) (a : Answer) → IfOk r (λ x. FollowsTo s what x new) → answer ≡ r → answer ≡ Ok a → e ≡ what → h ≡ new → FollowsTo s e a h
+answered s e what r answer h new a to says ok event held =
     let one : FollowsTo s what a new = subst (λ q. IfOk q (λ x. FollowsTo s what x new)) (sym says ∙ ok) to in
     subst (λ x. FollowsTo s x a h) (sym event) (subst (FollowsTo s what a) (sym held) one)
 
-pub met_cut : {D E : Type 0} (s : Machine) (e what : Event) (r answer : Result Answer E) (h new : Run D) (x : E) (kind : RunFaultKind) (released : List Release) → OnErr r (IsCutShort s what OutOfMemory new.released.items) → answer ≡ r → answer ≡ Err x → e ≡ what → h ≡ new → released ≡ h.released.items → kind ≡ OutOfMemory →
+pub cut_short : {D E : Type 0} (s : Machine) (e what : Event) (r answer : Result Answer E) (h new : Run D) (x : E) (kind : RunFaultKind) (released : List Release) → OnErr r (IsCutShort s what OutOfMemory new.released.items) → answer ≡ r → answer ≡ Err x → e ≡ what → h ≡ new → released ≡ h.released.items → kind ≡ OutOfMemory →
     IsCutShort s e kind released
-met_cut {D} s e what r answer h new x kind released cut says err event held given memory =
+cut_short {D} s e what r answer h new x kind released cut says err event held given memory =
     let one : IsCutShort s what OutOfMemory new.released.items = subst (λ q. OnErr q (IsCutShort s what OutOfMemory new.released.items)) (sym says ∙ err) cut in
     subst (λ y. IsCutShort s y kind released) (sym event) (subst (λ k. IsCutShort s what k released) (sym memory) (subst (IsCutShort s what OutOfMemory) (sym (given ∙ ap (λ (k : Run D). k.released.items) held)) one))
 

@@ -9,11 +9,11 @@ use Rattle.coord_store.specs.Kept.{GivesEither, IsOnlyWorld}
 use Rattle.coord_store.specs.declared.faults.CommitFault.{CommitFault}
 use Rattle.coord_store.specs.declared.faults.CommitFault.TheVariants as fault
 use Rattle.coord_world.specs.protocol.Next.{fold}
-use Rattle.coord_ledger.specs.Facade.{Answer, Commit, Committed, Crash, CrashPrefix, Driven, EachMoment, Event, Failed, FlightGives, FlightOut, FlightState, GivesFlown, GivesOneOf, Good, HeldSurvives, HeldTouches, HoldsFlight, IsConsistent, IsLost, IsOneOf, IsOut, IsReopenFault, IsReopened, IsSafe, LeavesWithin, LedgerGives, LedgerState, Machine, Mark, New, Reopens, RunFaultKind, Shows, Survives, Torn, Touches, after, answers, disk_driven, disk_with, flight_out, found_by_crash, is_crash, kept, kept_by, marked, run, to_commit, touches_disk, with_flight}
+use Rattle.coord_ledger.specs.Facade.{Answer, Commit, Committed, Crash, CrashPrefix, DiskEffect, DiskSurvives, DriverState, EachMoment, Event, Failed, FlightGives, FlightOut, FlightState, GivesFlown, GivesOneOf, Good, HoldsFlight, IsConsistent, IsLost, IsOneOf, IsOut, IsReopenFault, IsReopened, IsSafe, LeavesWithin, LedgerGives, LedgerState, Machine, Mark, New, Reopens, Represents, RunFaultKind, Survives, Torn, Touches, after, answers, disk_held, disk_with, flight_out, found_by_crash, is_crash, kept, kept_by, marked, run, to_commit, touches_disk, with_flight}
 use Rattle.coord_ledger.specs.laws.Commits.{CommitIsSafe}
 use Rattle.coord_ledger.proofs.follows.FollowsCalls.{flight_gives, ledger_images}
 use Rattle.coord_ledger.proofs.machine.Consistent.{stays_consistent}
-use Rattle.coord_ledger.proofs.follows.Follows.{flight_is, log_moved}
+use Rattle.coord_ledger.proofs.follows.Follows.{flight_is, log_rebased}
 use Rattle.coord_ledger.proofs.follows.FollowsCrashes.{given_follows}
 use Rattle.coord_ledger.proofs.machine.Safe.{given_survives, kept_is_safe}
 
@@ -34,21 +34,21 @@ commit_is_safe s b is out = (safe s.log.settled (inl refl), safe (s.log.settled 
         let of_torn = kept_is_safe (after s Commit (Failed fault.Device)) n (torn_is_consistent s b is out) may in
         record { legal = of_torn.legal; released = of_torn.released; again = of_torn.again; replied = of_torn.replied; accepted = of_torn.accepted }
 
-module _ {D : Type 0} (d : Driven D) (s : Machine) (f : FlightState D) (is : IsConsistent s) (shows : Shows d s) (holds : d.flight ≡ Some f) where
+module _ {D : Type 0} (d : DriverState D) (s : Machine) (f : FlightState D) (is : IsConsistent s) (represents : Represents d s) (holds : d.flight ≡ Some f) where
   out : (m : Mark) → f.mark ≡ m → s.flight ≡ Some (record { size = length f.steps; mark = m })
-  out m mark = sym (flight_is d s shows) ∙ ap (option_map flight_out) holds ∙ ap (λ x. Some (record { size = length f.steps; mark = x })) mark
+  out m mark = sym (flight_is d s represents) ∙ ap (option_map flight_out) holds ∙ ap (λ x. Some (record { size = length f.steps; mark = x })) mark
 
   own : IsOut d.ledger f
-  own = subst (HoldsFlight d.ledger) holds shows.own
+  own = subst (HoldsFlight d.ledger) holds represents.own
 
   -- what bytes give while it is torn
   pub either_survives : f.mark ≡ New → (bytes : List ℕ) → GivesEither f.world (fold f.world f.steps) bytes → Survives (after s Commit (Failed fault.Device)) bytes
   either_survives new bytes gives =
       let g : FlightState D = record f { mark = Torn } in
-      let torn : Driven D = record { ledger = d.ledger; flight = Some (record f { mark = Torn }) } in
+      let torn : DriverState D = record { ledger = d.ledger; flight = Some (record f { mark = Torn }) } in
       let its : IsOut d.ledger (record f { mark = Torn }) = record { size = own.size; first = own.first; steps = own.steps; world = own.world } in
-      let there : Shows torn (after s Commit (Failed fault.Device)) =
-      record { by = shows.by; within = shows.within; is = λ i. record s { log = log_moved d s shows i; flight = ap (marked Torn) (sym (out New new)) i }; own = its } in
+      let there : Represents torn (after s Commit (Failed fault.Device)) =
+      record { by = represents.by; within = represents.within; is = λ i. record s { log = log_rebased d s represents i; flight = ap (marked Torn) (sym (out New new)) i }; own = its } in
       given_survives (after s Commit (Failed fault.Device)) bytes (torn_is_consistent s (length f.steps) is (out New new))
       (given_follows torn (after s Commit (Failed fault.Device)) bytes there (flight_gives d.ledger g bytes its gives))
 
@@ -56,30 +56,30 @@ module _ {D : Type 0} (d : Driven D) (s : Machine) (f : FlightState D) (is : IsC
   pub only_survives : f.mark ≡ New → (bytes : List ℕ) → IsOnlyWorld f.world bytes → Survives s bytes
   only_survives new bytes gives =
       given_survives s bytes is
-      (given_follows d s bytes shows
+      (given_follows d s bytes represents
       (subst (λ o. GivesOneOf d.ledger.log (kept_by d.ledger.log.settled (option_map flight_out o) d.ledger.log.doubt) bytes) (sym holds)
       (flight_gives d.ledger f bytes own (subst (λ m. GivesFlown m f.world f.steps bytes) (sym new) gives))))
 
 -- ---- between two events
 
-module _ {D : Type 0} (keeps_model : D → Bool) (present : D → Present) (d : Driven D) (s : Machine) (is : IsConsistent s) (shows : Shows d s) where
+module _ {D : Type 0} (keeps_model : D → Bool) (present : D → Present) (d : DriverState D) (s : Machine) (is : IsConsistent s) (represents : Represents d s) where
   -- with a flight out
-  pub flight_survives : (f : FlightState D) → d.flight ≡ Some f → (keeps_model f.disk ≡ true → FlightGives present f) → HeldSurvives keeps_model present (disk_driven d) s
+  pub flight_survives : (f : FlightState D) → d.flight ≡ Some f → (keeps_model f.disk ≡ true → FlightGives present f) → DiskSurvives keeps_model present (disk_held d) s
   flight_survives f holds gives disk there on image here =
       let same : f.disk ≡ disk = cc (ap (disk_with d.ledger.disk) holds, there) in
       let given = gives (ap keeps_model same ∙ on) image (subst (λ x. IsImage (present x) image) (sym same) here) in
       given_survives s image is
-      (given_follows d s image shows
+      (given_follows d s image represents
       (subst (λ o. GivesOneOf d.ledger.log (kept_by d.ledger.log.settled (option_map flight_out o) d.ledger.log.doubt) image) (sym holds)
-      (flight_gives d.ledger f image (subst (HoldsFlight d.ledger) holds shows.own) given)))
+      (flight_gives d.ledger f image (subst (HoldsFlight d.ledger) holds represents.own) given)))
 
   -- with the store at home
-  pub home_survives : d.flight ≡ None → IfSome d.ledger.disk (λ x. keeps_model x ≡ true → LedgerGives present d.ledger x) → HeldSurvives keeps_model present (disk_driven d) s
+  pub home_survives : d.flight ≡ None → IfSome d.ledger.disk (λ x. keeps_model x ≡ true → LedgerGives present d.ledger x) → DiskSurvives keeps_model present (disk_held d) s
   home_survives none gives disk there on image here =
       let at_home : d.ledger.disk ≡ Some disk = sym (ap (disk_with d.ledger.disk) none) ∙ there in
       let each = subst (λ o. IfSome o (λ x. keeps_model x ≡ true → LedgerGives present d.ledger x)) at_home gives in
       given_survives s image is
-      (given_follows d s image shows
+      (given_follows d s image represents
       (subst (λ o. GivesOneOf d.ledger.log (kept_by d.ledger.log.settled (option_map flight_out o) d.ledger.log.doubt) image) (sym none)
       (ledger_images d.ledger disk (keeps_model disk) present each on image here)))
 
@@ -95,9 +95,9 @@ match_both (Ok a) f g p more = f a p
 match_both (Err e) f g q more = g e q more
 
 -- a commit's answer
-abbrev pub told : {T : Type 0} → Result T CommitFault → Answer
-told (Ok done) = Committed
-told (Err why) = Failed why
+abbrev pub commit_answer : {T : Type 0} → Result T CommitFault → Answer
+commit_answer (Ok done) = Committed
+commit_answer (Err why) = Failed why
 
 module _ {D : Type 0} (model : Ghosts D) (crashes : D → D → Type 0) where
   within_event : (e : Event) (P : List ℕ → Type 0) (old new : D) → is_crash e ≡ false → LeavesOnly model.clock model.left_since old new P → LeavesWithin model crashes e P old new
@@ -114,23 +114,23 @@ module _ {D : Type 0} (model : Ghosts D) (crashes : D → D → Type 0) where
               (within_event e (Survives s) old old other (started model.clock model.left_since old (Survives s) (λ image left. prefix on image (only_now old image on left))));
         }
 
-    pub held_untouched : (s : Machine) (touches : Bool) (e : Event) (was now : Option D) → is_crash e ≡ false → now ≡ was → HeldSurvives model.keeps_model model.present was s → HeldTouches model crashes s touches e was now
-    held_untouched s touches e was now other same survives old holds = record { new = old; holds = same ∙ holds; touched = untouched s touches e old old other refl (survives old holds) }
+    pub kept_untouched : (s : Machine) (touches : Bool) (e : Event) (was now : Option D) → is_crash e ≡ false → now ≡ was → DiskSurvives model.keeps_model model.present was s → DiskEffect model crashes s touches e was now
+    kept_untouched s touches e was now other same survives old holds = record { new = old; holds = same ∙ holds; touched = untouched s touches e old old other refl (survives old holds) }
 
     -- so it is in each event but a commit and a crash
-    pub met_aside : (s : Machine) (e what : Event) (a : Answer) (was now : Option D) → e ≡ what → is_crash what ≡ false → found_by_crash s what a ≡ s → now ≡ was → HeldSurvives model.keeps_model model.present was s →
-        HeldTouches model crashes (found_by_crash s e a) (touches_disk e a) e was now
-    met_aside s e what a was now event other found same survives =
-        subst (λ x. HeldTouches model crashes (found_by_crash s x a) (touches_disk x a) x was now) (sym event)
-        (subst (λ t. HeldTouches model crashes t (touches_disk what a) what was now) (sym found) (held_untouched s (touches_disk what a) what was now other same survives))
+    pub answered_without_disk : (s : Machine) (e what : Event) (a : Answer) (was now : Option D) → e ≡ what → is_crash what ≡ false → found_by_crash s what a ≡ s → now ≡ was → DiskSurvives model.keeps_model model.present was s →
+        DiskEffect model crashes (found_by_crash s e a) (touches_disk e a) e was now
+    answered_without_disk s e what a was now event other found same survives =
+        subst (λ x. DiskEffect model crashes (found_by_crash s x a) (touches_disk x a) x was now) (sym event)
+        (subst (λ t. DiskEffect model crashes t (touches_disk what a) what was now) (sym found) (kept_untouched s (touches_disk what a) what was now other same survives))
 
     -- a flight was committed, or not
-    module _ (d : Driven D) (s : Machine) (f g : FlightState D) (is : IsConsistent s) (shows : Shows d s) (holds : d.flight ≡ Some f) (survives : HeldSurvives model.keeps_model model.present (disk_driven d) s) (new : Driven D) (now : disk_driven new ≡ Some g.disk) where
-      its_disk : disk_driven d ≡ Some f.disk
+    module _ (d : DriverState D) (s : Machine) (f g : FlightState D) (is : IsConsistent s) (represents : Represents d s) (holds : d.flight ≡ Some f) (survives : DiskSurvives model.keeps_model model.present (disk_held d) s) (new : DriverState D) (now : disk_held new ≡ Some g.disk) where
+      its_disk : disk_held d ≡ Some f.disk
       its_disk = ap (disk_with d.ledger.disk) holds
 
       -- at each moment of it a crash left only what has P
-      leaves : (found : Machine) (P : List ℕ → Type 0) → (model.keeps_model f.disk ≡ true → LeavesOnly model.clock model.left_since f.disk g.disk P) → ((bytes : List ℕ) → P bytes → Survives found bytes) → HeldTouches model crashes found true Commit (disk_driven d) (disk_driven new)
+      leaves : (found : Machine) (P : List ℕ → Type 0) → (model.keeps_model f.disk ≡ true → LeavesOnly model.clock model.left_since f.disk g.disk P) → ((bytes : List ℕ) → P bytes → Survives found bytes) → DiskEffect model crashes found true Commit (disk_held d) (disk_held new)
       leaves found P moments each old there =
           let same : f.disk ≡ old = cc (its_disk, there) in
           record {
@@ -143,8 +143,8 @@ module _ {D : Type 0} (model : Ghosts D) (crashes : D → D → Type 0) where
           }
 
       -- the flight was left as it was
-      alone : g ≡ f → HeldTouches model crashes s false Commit (disk_driven d) (disk_driven new)
-      alone same = held_untouched s false Commit (disk_driven d) (disk_driven new) refl (now ∙ ap (λ (x : FlightState D). Some x.disk) same ∙ sym its_disk) survives
+      alone : g ≡ f → DiskEffect model crashes s false Commit (disk_held d) (disk_held new)
+      alone same = kept_untouched s false Commit (disk_held d) (disk_held new) refl (now ∙ ap (λ (x : FlightState D). Some x.disk) same ∙ sym its_disk) survives
 
       pub commit_touches : {T : Type 0} (r : Result T CommitFault) →
           (model.keeps_model f.disk ≡ true → f.mark ≡ New → LeavesOnly model.clock model.left_since f.disk g.disk (GivesEither f.world (fold f.world f.steps))) →
@@ -152,22 +152,22 @@ module _ {D : Type 0} (model : Ghosts D) (crashes : D → D → Type 0) where
           (f.mark ≡ New → MatchResult r (λ _. g.mark ≡ Good) (λ why. ((why ≡ fault.Device) × (g.mark ≡ Torn)) ⊎ ((why ≡ fault.OutOfMemory) × (g.mark ≡ New)))) →
           (f.mark ≡ Good → (r ≡ Err fault.Again) × (g ≡ f)) →
           (f.mark ≡ Torn → (r ≡ Err fault.Stopped) × (g ≡ f)) →
-          HeldTouches model crashes (found_by_crash s Commit (told r)) (touches_disk Commit (told r)) Commit (disk_driven d) (disk_driven new)
+          DiskEffect model crashes (found_by_crash s Commit (commit_answer r)) (touches_disk Commit (commit_answer r)) Commit (disk_held d) (disk_held new)
       commit_touches {T} r either refused tried again stopped = by_mark f.mark refl
         where
           Goal : Result T CommitFault → Type 0
-          Goal r = HeldTouches model crashes (found_by_crash s Commit (told r)) (touches_disk Commit (told r)) Commit (disk_driven d) (disk_driven new)
+          Goal r = DiskEffect model crashes (found_by_crash s Commit (commit_answer r)) (touches_disk Commit (commit_answer r)) Commit (disk_held d) (disk_held new)
 
           by_result : f.mark ≡ New → (q : Result T CommitFault) → r ≡ q → Goal q
-          by_result new (Ok done) same = leaves (after s Commit (Failed fault.Device)) (GivesEither f.world (fold f.world f.steps)) (λ on. either on new) (either_survives d s f is shows holds new)
+          by_result new (Ok done) same = leaves (after s Commit (Failed fault.Device)) (GivesEither f.world (fold f.world f.steps)) (λ on. either on new) (either_survives d s f is represents holds new)
           by_result new (Err why) same =
               elim (subst (λ q. MatchResult q (λ _. g.mark ≡ Good) (λ why. ((why ≡ fault.Device) × (g.mark ≡ Torn)) ⊎ ((why ≡ fault.OutOfMemory) × (g.mark ≡ New)))) same (tried new)) [
                 | inl device ↦
                     subst (λ x. Goal (Err x)) (sym device.0)
-                    (leaves (after s Commit (Failed fault.Device)) (GivesEither f.world (fold f.world f.steps)) (λ on. either on new) (either_survives d s f is shows holds new))
+                    (leaves (after s Commit (Failed fault.Device)) (GivesEither f.world (fold f.world f.steps)) (λ on. either on new) (either_survives d s f is represents holds new))
                 | inr memory ↦
                     subst (λ x. Goal (Err x)) (sym memory.0)
-                    (leaves s (IsOnlyWorld f.world) (λ on. refused on new (same ∙ ap Err memory.0)) (only_survives d s f is shows holds new))
+                    (leaves s (IsOnlyWorld f.world) (λ on. refused on new (same ∙ ap Err memory.0)) (only_survives d s f is represents holds new))
               ]
 
           by_mark : (m : Mark) → f.mark ≡ m → Goal r
@@ -175,18 +175,18 @@ module _ {D : Type 0} (model : Ghosts D) (crashes : D → D → Type 0) where
           by_mark Good mark = subst Goal (sym (again mark).0) (alone (again mark).1)
           by_mark Torn mark = subst Goal (sym (stopped mark).0) (alone (stopped mark).1)
 
-  pub met_commit : {E : Type 0} (s : Machine) (e : Event) (said : Answer) (answer : Result Answer E) (a : Answer) (was now new : Option D) → e ≡ Commit → answer ≡ Ok said → answer ≡ Ok a → now ≡ new →
-      HeldTouches model crashes (found_by_crash s Commit said) (touches_disk Commit said) Commit was new → HeldTouches model crashes (found_by_crash s e a) (touches_disk e a) e was now
-  met_commit s e said answer a was now new event says ok is touches =
+  pub answered_commit : {E : Type 0} (s : Machine) (e : Event) (said : Answer) (answer : Result Answer E) (a : Answer) (was now new : Option D) → e ≡ Commit → answer ≡ Ok said → answer ≡ Ok a → now ≡ new →
+      DiskEffect model crashes (found_by_crash s Commit said) (touches_disk Commit said) Commit was new → DiskEffect model crashes (found_by_crash s e a) (touches_disk e a) e was now
+  answered_commit s e said answer a was now new event says ok is touches =
       let same : said ≡ a = cc (says, ok) in
-      subst (λ x. HeldTouches model crashes (found_by_crash s x a) (touches_disk x a) x was now) (sym event)
-      (subst (HeldTouches model crashes (found_by_crash s Commit a) (touches_disk Commit a) Commit was) (sym is)
-      (subst (λ b. HeldTouches model crashes (found_by_crash s Commit b) (touches_disk Commit b) Commit was new) same touches))
+      subst (λ x. DiskEffect model crashes (found_by_crash s x a) (touches_disk x a) x was now) (sym event)
+      (subst (DiskEffect model crashes (found_by_crash s Commit a) (touches_disk Commit a) Commit was) (sym is)
+      (subst (λ b. DiskEffect model crashes (found_by_crash s Commit b) (touches_disk Commit b) Commit was new) same touches))
 
   -- the disk is given back as it was held
-  pub lost_as_held : (s : Machine) (e : Event) (kind : RunFaultKind) (was : Option D) (lost : D) → is_crash e ≡ false → was ≡ Some lost → IsLost model crashes s e kind was lost
-  lost_as_held s Crash kind was lost other there old holds = let no : ⊥ = cc in absurd no
-  lost_as_held s e kind was lost other there old holds = cc
+  pub lost_as_it_was : (s : Machine) (e : Event) (kind : RunFaultKind) (was : Option D) (lost : D) → is_crash e ≡ false → was ≡ Some lost → IsLost model crashes s e kind was lost
+  lost_as_it_was s Crash kind was lost other there old holds = let no : ⊥ = cc in absurd no
+  lost_as_it_was s e kind was lost other there old holds = cc
 
   -- ---- a crash
 
@@ -203,14 +203,14 @@ module _ {D : Type 0} (model : Ghosts D) (crashes : D → D → Type 0) where
       }
 
   -- the disk was crashed and opened again
-  module _ (was : Option D) (s : Machine) (d : D) (held : was ≡ Some d) (survives : HeldSurvives model.keeps_model model.present was s) where
+  module _ (was : Option D) (s : Machine) (d : D) (held : was ≡ Some d) (survives : DiskSurvives model.keeps_model model.present was s) where
     survives_each : (old new : D) → was ≡ Some old → (model.keeps_model d ≡ true → Reopens model crashes (IsImage (model.present d)) d new) → model.keeps_model old ≡ true → Reopens model crashes (Survives s) old new
     survives_each old new there moments on =
         let same : d ≡ old = cc (held, there) in
         subst (λ x. Reopens model crashes (Survives s) x new) same
         (reopens_more (IsImage (model.present d)) (Survives s) d new (moments (ap model.keeps_model same ∙ on)) (λ bytes here. survives d held (ap model.keeps_model same ∙ on) bytes here))
 
-    pub crash_touches : (l : LedgerState D) (now : Option D) → IsReopened model crashes d l → now ≡ l.disk → HeldTouches model crashes s true Crash was now
+    pub crash_touches : (l : LedgerState D) (now : Option D) → IsReopened model crashes d l → now ≡ l.disk → DiskEffect model crashes s true Crash was now
     crash_touches l now opened at_home old there = record {
       new = opened.disk;
       holds = at_home ∙ ap (λ (m : LedgerState D). m.disk) opened.is;
