@@ -25,7 +25,8 @@ impl<D: CrashDisk> Run<D> {
         ensures disk { MatchResult result (λ r. r.1.disk ≡ disk_held self.driver) (λ broken.
             disk_held self.driver ≡ Some broken.disk) }
         ensures refused { IfErr result (λ broken. broken.released.items ≡ self.released.items) }
-        ensures out { IfErr result (λ _. IsSomeAnd self.driver.flight (λ flight. flight.mark ≡ Good)) }
+        ensures out { IfErr result (λ _.
+            IsSomeAnd self.driver.flight (λ flight. flight.mark ≡ Good)) }
         ensures kind { IfErr result (λ broken. broken.kind ≡ OutOfMemory) }
     {
         let Run {

@@ -63,8 +63,8 @@ impl<D: CrashDisk> Run<D> {
         ensures answered { (s : Machine) → IsConsistent s → Follows self s →
             MatchResult result (λ held. FollowsTo s Finish held.0 held.1) (λ broken.
             IsLeftOut s Finish broken.released.items) }
-        ensures disk { MatchResult result (λ held. disk_held held.1.driver ≡ disk_held self.driver) (λ broken.
-            disk_held self.driver ≡ Some broken.disk) }
+        ensures disk { MatchResult result (λ held. disk_held held.1.driver ≡ disk_held self.driver)
+            (λ broken. disk_held self.driver ≡ Some broken.disk) }
         ensures kind { IfErr result (λ broken. broken.kind ≡ OutOfMemory) }
     {
         let Run {
