@@ -2,7 +2,7 @@
 use Rattle.std.proofs.Common.{◌≡◌, ℕ, ◌+◌, ◌-◌, arith, [], ◌∷◌, ◌++◌, take, List, Vec, Global, Option, Some, None, Ok, Err, append-nil, refl, sym, ap, ◌∙◌, subst, Result}
 use Rattle.std.specs.Option.{option_map}
 use Rattle.coord_world.specs.Facade.{outs}
-use Rattle.coord_ledger.specs.Facade.{Answer, Begin, Begun, Claim, Commit, Committed, Crash, DriverState, Event, Failed, Finish, Finished, FlightOut, Follows, FollowsTo, Fresh, Good, HandedTo, HoldsTickets, IsConsistent, LedgerState, Log, Machine, Mark, New, Opened, Refusal, Refused, Release, Repeat, Reply, Run, Simulates, Step, Submit, Torn, Verdict, accepted_count, after, after_finish, after_submit, claimed, finished, flight_out, log_back, machine_of, releases_of, reply_of, settling_releases, verdict, with_accepted}
+use Rattle.coord_ledger.specs.Facade.{Answer, Begin, Begun, Claim, Commit, Committed, Crash, DriverState, Event, Failed, Finish, Finished, FlightOut, Follows, FollowsTo, Fresh, Good, HandedTo, HoldsTickets, IsConsistent, IsOneOf, LedgerState, Log, Machine, Mark, New, Opened, Refusal, Refused, Release, Repeat, Reply, Run, Simulates, Step, Submit, Torn, Verdict, accepted_count, after, after_finish, after_submit, answers, claimed, finished, flight_out, log_back, machine_of, releases_of, reply_of, settling_releases, verdict, with_accepted}
 use Rattle.coord_ledger.specs.declared.events.Answer.TheVariants as answer
 use Rattle.coord_ledger.specs.declared.handed.Handed.TheVariants.{Accepted, Repeated}
 use Rattle.coord_store.specs.declared.faults.CommitFault.TheVariants as fault
@@ -124,15 +124,21 @@ module _ {D : Type 0} (h : Run D) (s : Machine) (is : IsConsistent s) (follows :
             )
         of_mark Torn now tickets = unsettled tickets (ap (λ (g : Log). g.settled) now)
 
-    pub follows_landed : (count : ℕ) (released : Vec Release Global) → released.items ≡ h.released.items ++ releases → Simulates d Finish (Finished count) new → FollowsTo s Finish (Finished count) (record h { driver = new; released = released })
-    follows_landed count released pushed simulates =
-        follows_by (record h { driver = new; released = released }) Finish (Finished count) simulates
-        (subst (λ rs. Keeps new.ledger.log h.tickets.items h.seen rs (finished s s.flight)) (sym pushed)
-        (subst (λ o. Keeps new.ledger.log h.tickets.items h.seen (h.released.items ++ releases) (finished s o)) (flight_is d s follows.represents) (by_flight (option_map flight_out d.flight) (ap (λ (m : Machine). m.log) (simulates.leaves s)))))
-      where
-        by_flight : (o : Option FlightOut) → new.ledger.log ≡ (finished (machine_of d s) o).log → Keeps new.ledger.log h.tickets.items h.seen (h.released.items ++ releases) (finished s o)
-        by_flight None now = unsettled (same new.ledger.log now).0 (ap (λ (g : Log). g.settled) now)
-        by_flight (Some f) now = by_mark f.size f.mark now
+    module _ (count : ℕ) (simulates : Simulates d Finish (Finished count) new) where
+      landed : Keeps new.ledger.log h.tickets.items h.seen (h.released.items ++ releases) (after s Finish (Finished count))
+      landed = subst (λ o. Keeps new.ledger.log h.tickets.items h.seen (h.released.items ++ releases) (finished s o)) (flight_is d s follows.represents) (by_flight (option_map flight_out d.flight) (ap (λ (m : Machine). m.log) (simulates.leaves s)))
+        where
+          by_flight : (o : Option FlightOut) → new.ledger.log ≡ (finished (machine_of d s) o).log → Keeps new.ledger.log h.tickets.items h.seen (h.released.items ++ releases) (finished s o)
+          by_flight None now = unsettled (same new.ledger.log now).0 (ap (λ (g : Log). g.settled) now)
+          by_flight (Some f) now = by_mark f.size f.mark now
+
+      -- the machine has released as much
+      pub landed_releases : IsOneOf (Finished count) (answers s Finish) × ((after s Finish (Finished count)).released ≡ h.released.items ++ releases)
+      landed_releases = (represents_allowed d new s is follows.represents Finish (Finished count) simulates, sym landed.1.1)
+
+      pub follows_landed : (released : Vec Release Global) → released.items ≡ h.released.items ++ releases → FollowsTo s Finish (Finished count) (record h { driver = new; released = released })
+      follows_landed released pushed =
+          follows_by (record h { driver = new; released = released }) Finish (Finished count) simulates (landed.0, (landed.1.0, pushed ∙ landed.1.1))
 
   -- it does not
   pub follows_not_landed : (new : DriverState D) (a : Answer) → ((t : Machine) → after t Finish a ≡ t) → Simulates d Finish a new → FollowsTo s Finish a (record h { driver = new })

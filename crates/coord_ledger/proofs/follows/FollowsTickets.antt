@@ -51,14 +51,15 @@ module _ {D : Type 0} (h : Run D) (s : Machine) (is : IsConsistent s) (follows :
     may_collect : (a : Answer) → IsOneOf a (cond (nat_le claim.step (settled_count s.log)) (Collected (reply_of claim)) Waiting ∷ []) → IsOneOf a (answers s (Collect i))
     may_collect a one = subst (λ t. IsOneOf a (to_collect (settled_count s.log) t)) (sym ticket_is.0) one
 
-    pub follows_collected : (claims : Vec (Option Claim) Global) → claims.items ≡ spent h.tickets.items i → IsCollectable log claim → FollowsTo s (Collect i) (Collected (reply_of claim)) (record h { tickets = claims })
-    follows_collected claims is_spent settled =
+    pub follows_collected : (claims : Vec (Option Claim) Global) → claims.items ≡ spent h.tickets.items i → (reply : Reply) → reply ≡ reply_of claim → IsCollectable log claim → FollowsTo s (Collect i) (Collected reply) (record h { tickets = claims })
+    follows_collected claims is_spent reply its settled =
         let here : claim.step ≤ settled_count s.log = subst (λ n. claim.step ≤ n) (count_is h.driver s is follows.represents) settled.settled in
         let low : nat_le claim.step (settled_count s.log) ≡ true = grind (arith, nat_tests, here) in
-        record {
+        subst (λ r. FollowsTo s (Collect i) (Collected r) (record h { tickets = claims })) (sym its)
+        (record {
           allowed = may_collect (Collected (reply_of claim)) (subst (λ b. IsOneOf (Collected (reply_of claim)) (cond b (Collected (reply_of claim)) Waiting ∷ [])) (sym low) (inl refl));
           follows = aside claims h.seen h.released (spent s.tickets i) s.seen s.released (s.replied ++ reply_of claim ∷ []) (subst (λ cs. HoldsTickets log cs (spent s.tickets i)) (sym is_spent) (holds_spent log h.tickets.items s.tickets i follows.tickets)) follows.seen follows.released;
-        }
+        })
 
     pub follows_waiting : (claims : Vec (Option Claim) Global) → claims.items ≡ h.tickets.items → (IsCollectable log claim → ⊥) → FollowsTo s (Collect i) Waiting (record h { tickets = claims })
     follows_waiting claims same never = stays claims same (Collect i) Waiting (may_collect Waiting (by_count (nat_le claim.step (settled_count s.log)) refl)) refl
@@ -71,11 +72,18 @@ module _ {D : Type 0} (h : Run D) (s : Machine) (is : IsConsistent s) (follows :
 
   -- ---- resend and show
 
+  -- the machine has released as much
+  pub resent_releases : IsOneOf (Resent (length (again (settled_world log)))) (answers s Resend) × (s.released ++ resent (settled_world s.log) ≡ h.released.items ++ resent (settled_world log))
+  resent_releases = (
+    inl (ap (λ w. Resent (length (again w))) (settled_is h.driver s is follows.represents)),
+    λ i. sym follows.released i ++ resent (sym (settled_is h.driver s is follows.represents) i),
+  )
+
   pub follows_resent : (released : Vec Release Global) → released.items ≡ h.released.items ++ resent (settled_world log) → FollowsTo s Resend (Resent (length (again (settled_world log)))) (record h { released = released })
   follows_resent released given =
       record {
-        allowed = inl (ap (λ w. Resent (length (again w))) (settled_is h.driver s is follows.represents));
-        follows = aside h.tickets h.seen released s.tickets s.seen (s.released ++ resent (settled_world s.log)) s.replied follows.tickets follows.seen (given ∙ (λ i. follows.released i ++ resent (settled_is h.driver s is follows.represents i)));
+        allowed = resent_releases.0;
+        follows = aside h.tickets h.seen released s.tickets s.seen (s.released ++ resent (settled_world s.log)) s.replied follows.tickets follows.seen (given ∙ sym resent_releases.1);
       }
 
   -- nothing greater was shown

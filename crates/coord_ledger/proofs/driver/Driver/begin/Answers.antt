@@ -22,8 +22,8 @@ invariant_of-result-2 g c =
 
 -- it is an event of its machine
 
-pub returns-clause-meets : goal.returns-clause-meets
-returns-clause-meets g c =
+pub returns-clause-simulates : goal.returns-clause-simulates
+returns-clause-simulates g c =
     let home : c.self.inside.ledger.out ≡ None = subst (HoldsFlight c.self.inside.ledger) c.in_default.is c.self.invariant in
     let old = at_home c.self.inside.ledger in
     let same : at_home c.self.inside.ledger ≡ c.args.self = (λ i. record { ledger = c.self.inside.ledger; flight = sym c.in_default.is i }) ∙ c.self.view_is in

@@ -37,8 +37,8 @@ pub returns-in-Err-clause-failures : goal.returns-in-Err-clause-failures
 returns-in-Err-clause-failures g c n so = c.in-Err.ensures.failures ∙ ap (λ k. k + failed_in c.in-Err.refused.0) (failed_so g.D.Disk.failures (disk_held c.args.self) c.into_disk.result n so c.into_disk.ensures.disk)
 
 -- it is an event of its machine
-pub returns-in-Ok-clause-meets : goal.returns-in-Ok-clause-meets
-returns-in-Ok-clause-meets g c on =
+pub returns-in-Ok-clause-simulates : goal.returns-in-Ok-clause-simulates
+returns-in-Ok-clause-simulates g c on =
     let d = c.into_disk.result in
     let inside : DriverState g.row.D.Denot = record { ledger = c.self.inside.ledger; flight = c.self.inside.flight } in
     let keeps : g.D.Disk.keeps_model d ≡ true = some_is (g.D.Disk.keeps_model d) (sym (ap (option_map g.D.Disk.keeps_model) c.into_disk.ensures.disk) ∙ on) in

@@ -4,8 +4,8 @@ use Rattle.coord_ledger.proofs.runs.HandedTo.{submitted}
 use Rattle.coord_ledger.proofs.simulates.Submit.{simulates_handed}
 use Rattle.coord_ledger.proofs.driver.Driver.submit.Goals as goal
 
-pub returns-clause-meets : goal.returns-clause-meets
-returns-clause-meets g c =
+pub returns-clause-simulates : goal.returns-clause-simulates
+returns-clause-simulates g c =
     let l = c.self.inside.ledger in
     let new : DriverState g.row.D.Denot = record { ledger = c.hand_in.new.self; flight = c.self.inside.flight } in
     let own = (submitted l c.hand_in.new.self c.self.inside.flight c.args.step c.hand_in.result c.lemma_log_is_consistent.ensures.log c.self.invariant c.hand_in.ensures).own in

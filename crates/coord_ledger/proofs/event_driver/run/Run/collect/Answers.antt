@@ -1,5 +1,5 @@
 use Rattle.std.proofs.Common.{◌≡◌, ◌<◌, ◌≤◌, length, Option, Some, None, refl, sym, ap, ◌∙◌, subst, rules, slice_index_or, slice_set}
-use Rattle.coord_ledger.specs.Facade.{Claim, Collect, Collected, FollowsTo, IsCollectable, LedgerState, reply_of}
+use Rattle.coord_ledger.specs.Facade.{Claim, IsCollectable, LedgerState, reply_of}
 use Rattle.coord_ledger.proofs.follows.FollowsTickets.{follows_collected, follows_no_ticket, follows_waiting}
 use Rattle.coord_ledger.proofs.runs.Tickets.{put_back, set_same, spent_is, ticket_past, ticket_within}
 use Rattle.coord_ledger.proofs.event_driver.run.Run.collect.Goals as goal
@@ -26,8 +26,7 @@ returns-in-Ok-clause-answered g c s is follows =
     let here : c.index_mut.result.now ≡ Some ticket = sym c.take.ensures.value ∙ c.in-Some.is in
     let was : Some ticket ≡ slice_index_or items c.args.index (Some ticket) = subst (λ (o : Option Claim). o ≡ slice_index_or items c.args.index o) here c.index_mut.ensures.value in
     let given = subst (λ (l : LedgerState g.row.D.Denot). (c.in-Ok.reply ≡ reply_of ticket) × IsCollectable l.log ticket) c.ledger.ensures c.in-Ok.ensures.settled in
-    subst (λ r. FollowsTo {D = g.row.D.Denot} s (Collect c.args.index) (Collected r) _) (sym given.0)
-    (follows_collected c.args.self.now s is follows c.args.index ticket (ticket_within items c.args.index (Some ticket) below was) _ (ap (slice_set items c.args.index) c.take.ensures.after ∙ spent_is items c.args.index) given.1)
+    follows_collected c.args.self.now s is follows c.args.index ticket (ticket_within items c.args.index (Some ticket) below was) _ (ap (slice_set items c.args.index) c.take.ensures.after ∙ spent_is items c.args.index) c.in-Ok.reply given.0 given.1
 
 pub returns-after-replace-clause-answered : goal.returns-after-replace-clause-answered
 returns-after-replace-clause-answered g c s is follows =

@@ -3,7 +3,7 @@ use Rattle.std.proofs.lemmas.List.{append_assoc}
 use Rattle.coord_ledger.specs.Facade.{Answer, Finish, Finished, FollowsTo, LedgerState, NoFlight, Refusal, Refused, Release, Simulates, finish_answer, settled_count}
 use Rattle.coord_ledger.proofs.runs.CutShort.{cut_within}
 use Rattle.coord_ledger.proofs.runs.Answers.{err_gives, ok_gives}
-use Rattle.coord_ledger.proofs.follows.FollowsAnswers.{follows_landed, follows_not_landed}
+use Rattle.coord_ledger.proofs.follows.FollowsAnswers.{follows_landed, follows_not_landed, landed_releases}
 use Rattle.coord_ledger.proofs.event_driver.run.Run.finish.Goals as goal
 use Rattle.coord_ledger.proofs.event_driver.run.Run.finish.Goals.{in-Ok-None, in-Ok-Some+else-is_err, in-Err}
 
@@ -15,10 +15,10 @@ returns-then-is_err-clause-answered g c s is follows =
     let new = c.finish-landed.result.1 in
     let back = c.in-Ok-Some.is ∙ ap Ok c.in-Ok-Some.field-0-is in
     let simulates = subst (λ (r : Result (Option (List Release)) Refusal). Simulates run.driver Finish (finish_answer r new) new) back c.finish-landed.ensures.simulates in
-    let all : Vec Release Global = record run.released { items = run.released.items ++ c.in-Ok-Some.releases } in
-    let to = follows_landed run s is follows new c.in-Ok-Some.releases (c.finish-landed.ensures.released c.in-Ok-Some.releases back) (settled_count new.ledger.log) all refl simulates in
-    let ends = ap (λ l. run.released.items ++ l) some.all_are ∙ sym (append_assoc run.released.items some.added some.lost) ∙ ap (λ l. l ++ some.lost) (sym some.now) in
-    cut_within _ _ s Finish _ c.push_releases.new.released.items some.added some.lost follows to some.now ends some.some
+    let count = settled_count new.ledger.log in
+    let may = landed_releases run s is follows new c.in-Ok-Some.releases (c.finish-landed.ensures.released c.in-Ok-Some.releases back) count simulates in
+    let ends = may.1 ∙ ap (λ l. run.released.items ++ l) some.all_are ∙ sym (append_assoc run.released.items some.added some.lost) ∙ ap (λ l. l ++ some.lost) (sym some.now) in
+    cut_within run s Finish (Finished count) c.push_releases.new.released.items some.added some.lost follows may.0 some.now ends some.some
 
 pub returns-clause-answered : goal.returns-clause-answered
 returns-clause-answered g c s is follows =
@@ -37,7 +37,7 @@ returns-clause-answered g c s is follows =
           let back = w.in-Ok-Some.is ∙ ap Ok w.in-Ok-Some.field-0-is in
           subst (λ a. To a c.match-landed.released) (sym w.answer-is)
           (subst (λ n. To (Finished n) c.match-landed.released) (sym count)
-          (follows_landed run s is follows new w.in-Ok-Some.releases (c.finish-landed.ensures.released w.in-Ok-Some.releases back) (settled_count new.ledger.log) c.match-landed.released (ap (λ (v : Vec Release Global). v.items) w.released-is ∙ pushed) (simulates (Ok (Some w.in-Ok-Some.releases)) back)))
+          (follows_landed run s is follows new w.in-Ok-Some.releases (c.finish-landed.ensures.released w.in-Ok-Some.releases back) (settled_count new.ledger.log) (simulates (Ok (Some w.in-Ok-Some.releases)) back) c.match-landed.released (ap (λ (v : Vec Release Global). v.items) w.released-is ∙ pushed)))
       | in-Err w ↦
           subst (λ a. To a c.match-landed.released) (sym w.answer-is)
           (subst (λ rs. To (Refused w.in-Err.refusal) rs) (sym w.released-is) (follows_not_landed run s is follows new (Refused w.in-Err.refusal) (λ t. refl) (simulates (Err w.in-Err.refusal) w.in-Err.is)))

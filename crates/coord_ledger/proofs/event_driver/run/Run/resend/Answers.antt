@@ -1,8 +1,8 @@
-use Rattle.std.proofs.Common.{◌++◌, Vec, Global, length, sym, ap, ◌∙◌, subst}
+use Rattle.std.proofs.Common.{◌++◌, length, sym, ap, ◌∙◌, subst}
 use Rattle.std.proofs.lemmas.List.{append_assoc}
-use Rattle.coord_ledger.specs.Facade.{FollowsTo, LedgerState, Release, Resend, Resent, resent, settled_world}
+use Rattle.coord_ledger.specs.Facade.{FollowsTo, LedgerState, Resend, Resent, resent, settled_world}
 use Rattle.coord_ledger.proofs.runs.CutShort.{cut_within}
-use Rattle.coord_ledger.proofs.follows.FollowsTickets.{follows_resent}
+use Rattle.coord_ledger.proofs.follows.FollowsTickets.{follows_resent, resent_releases}
 use Rattle.coord_ledger.proofs.runs.Answers.{on_err, resent_count}
 use Rattle.coord_ledger.proofs.event_driver.run.Run.resend.Goals as goal
 
@@ -19,7 +19,6 @@ returns-in_err-count-in-Ok-clause-cut g c s is follows =
     let run = c.args.self.now in
     let given = c.in-Ok.ensures ∙ ap (λ (l : LedgerState g.row.D.Denot). resent (settled_world l.log)) c.ledger.ensures in
     let some = c.in_err-count-in-Ok.ensures.some in
-    let all : Vec Release Global = record run.released { items = run.released.items ++ c.in-Ok.releases } in
-    let to = follows_resent run s is follows all (ap (λ l. run.released.items ++ l) given) in
-    let ends = ap (λ l. run.released.items ++ l) some.all_are ∙ sym (append_assoc run.released.items some.added some.lost) ∙ ap (λ l. l ++ some.lost) (sym some.now) in
-    on_err c.from_residual.result (cut_within _ _ s Resend _ c.push_releases.new.released.items some.added some.lost follows to some.now ends some.some)
+    let may = resent_releases run s is follows in
+    let ends = may.1 ∙ ap (λ l. run.released.items ++ l) (sym given ∙ some.all_are) ∙ sym (append_assoc run.released.items some.added some.lost) ∙ ap (λ l. l ++ some.lost) (sym some.now) in
+    on_err c.from_residual.result (cut_within run s Resend _ c.push_releases.new.released.items some.added some.lost follows may.0 some.now ends some.some)
