@@ -5,7 +5,7 @@ use Rattle.coord_store.specs.Faults.{failures_in}
 use Rattle.coord_store.specs.declared.faults.CommitFault.{CommitFault}
 use Rattle.coord_ledger.specs.Facade.{Answer, Commit, Event, HasFailed, RunFaultKind, failed_at, failed_in, failed_until}
 use Rattle.coord_ledger.specs.declared.trace.RunFaultKind.TheVariants.{OutOfMemory}
-use Rattle.coord_ledger.proofs.drives.EachMoment.{told}
+use Rattle.coord_ledger.proofs.runs.EachMoment.{commit_answer}
 
 -- of the disk that is held
 pub failed_so : {D : Type 0} (failures : D → ℕ) (o : Option D) (disk : D) (n : ℕ) → HasFailed failures o n → o ≡ Some disk → failures disk ≡ n
@@ -28,14 +28,14 @@ failed_on (x ∷ es) [] e a many = absurd (omega (arith, many))
 failed_on (x ∷ es) (b ∷ given) e a many = let later = failed_on es given e a (omega (arith, many)) in omega (arith, later)
 
 -- a commit tells it
-told_failed : {T : Type 0} (r : Result T CommitFault) → failures_in r ≡ failed_at Commit (told r)
-told_failed (Ok done) = refl
-told_failed (Err why) = refl
+commit_answer_failed : {T : Type 0} (r : Result T CommitFault) → failures_in r ≡ failed_at Commit (commit_answer r)
+commit_answer_failed (Ok done) = refl
+commit_answer_failed (Err why) = refl
 
-pub failed_committing : {D T : Type 0} (failures : D → ℕ) (o p : Option D) (d e : D) (r : Result T CommitFault) (a : Answer) (n : ℕ) → o ≡ Some d → p ≡ Some e → failures e ≡ failures d + failures_in r → a ≡ told r → HasFailed failures o n → HasFailed failures p (n + failed_at Commit a)
+pub failed_committing : {D T : Type 0} (failures : D → ℕ) (o p : Option D) (d e : D) (r : Result T CommitFault) (a : Answer) (n : ℕ) → o ≡ Some d → p ≡ Some e → failures e ≡ failures d + failures_in r → a ≡ commit_answer r → HasFailed failures o n → HasFailed failures p (n + failed_at Commit a)
 failed_committing failures o p d e r a n there now is says so =
     let old = failed_so failures o d n so there in
-    so_failed failures p e (n + failed_at Commit a) now (is ∙ (λ i. old i + told_failed r i) ∙ ap (λ b. n + failed_at Commit b) (sym says))
+    so_failed failures p e (n + failed_at Commit a) now (is ∙ (λ i. old i + commit_answer_failed r i) ∙ ap (λ b. n + failed_at Commit b) (sym says))
 
 -- another event does not
 pub failed_aside : {D : Type 0} (failures : D → ℕ) (o p : Option D) (e what : Event) (a : Answer) (n : ℕ) → e ≡ what → failed_at what a ≡ 0 → p ≡ o → HasFailed failures o n → HasFailed failures p (n + failed_at e a)

@@ -1,8 +1,8 @@
--- What a driver keeps from event to event, to the end of its run.
+-- What a run keeps from event to event, to its end.
 pub mod EachMoment
 pub mod Failures
 pub mod CutShort
-pub mod Drives
+pub mod SoFar
 pub mod Ends
 pub mod BreaksOff
 pub mod Tickets
