@@ -1,4 +1,4 @@
-"""For how long a client is waited for: each time of docs/OPERATING.md, against a client that provokes it."""
+"""For how long the server waits for a client: each time of docs/OPERATING.md, against a client that provokes it."""
 
 import contextlib
 import os

@@ -5,8 +5,8 @@
     orders.order("reset", node=3)                       # Reply(kind='started', step=17)
     port.show().node(3)                                 # Node(node=3, group=1, mode='ready', parent=0, ..)
 
-A service is a `Member`, or sits behind a `Gateway`; docs/SERVICES.md says what a signal tells it. `Away` says that
-the same call is to be made again (`patiently` does), every other exception that a person is needed.
+A service is a `Member`, or sits behind a `Gateway`; docs/SERVICES.md says what a signal tells it. After
+`Away` make the same call again (`patiently` does); every other exception needs a person.
 """
 
 from .answers import (Away, Fault, Faulted, Garbled, NotNow, NotTaken, Refusal, Refused, Reply)
