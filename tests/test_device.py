@@ -16,6 +16,10 @@ from support.stores import topology
 
 STEP = re.compile(rb'"step":(\d+)\}\n')
 SIGNAL = re.compile(rb"^signal 1 (\d+)\n")
+RESET = {"op": "reset", "node": 1}
+# The second step is the one that signals.
+EACH_KIND = [RESET, {"op": "add", "node": 2, "group": 1}, {"op": "join", "a": 1, "b": 2}, {"op": "drop", "a": 1, "b": 2},
+             {"op": "confirm", "node": 1, "epoch": 1}, {"op": "remove", "node": 2}]
 
 
 class Device:
@@ -89,25 +93,25 @@ class Moments(Case):
         self.assertEqual((ended.status, ended.told), (0, ""), ended.printed)
         self.assertGreaterEqual(int(ended.printed.split()[1]), answered)
 
-    def served(self, first, last):
-        """Serves resets of one node, from one number to another: the store before, and the calls."""
+    def served(self, first, orders):
+        """Serves orders, from one number to another: the store before, and the calls."""
         store, calls = self.made(topology([(1, 1)], half=stores.HALF)), self.path("calls")
-        self.reset(store, range(1, first))
+        self.order(store, orders[:first - 1])
         before = self.read("store")
-        self.reset(store, range(first, last + 1), env=preloaded.environment(self.folder, CALLS=calls))
+        self.order(store, orders[first - 1:], first, env=preloaded.environment(self.folder, CALLS=calls))
         return before, list(calls_of(calls))
 
-    def reset(self, store, numbers, **how):
+    def order(self, store, orders, first=1, **how):
         """One order at a time, so that each takes a flight of its own and as much of the journal."""
         with Serving(store, **how) as server:
             with server.connect() as connection:
-                for number in numbers:
-                    connection.send({"op": "reset", "client": 1, "number": number, "node": 1})
+                for number, order in enumerate(orders, first):
+                    connection.send({"client": 1, "number": number, **order})
                     self.assertEqual(connection.reply()["step"], 1 + number)
             self.assertEqual(server.close().status, 0)
 
     def test_each_moment_of_a_few_orders(self):
-        before, calls = self.served(1, 6)
+        before, calls = self.served(1, EACH_KIND)
         seen = set()
         for name, _, device, answered in self.moments(before, calls):
             for image in device.images():
@@ -119,7 +123,7 @@ class Moments(Case):
     def test_moments_of_many_orders_and_checkpoints(self):
         """All moments of two checkpoints, which move the journal to the other half and back, and some of the others."""
         choice, selectors, near = random.Random(1), [], 0
-        before, calls = self.served(1_150, 2_450)
+        before, calls = self.served(1_150, [RESET] * 2_450)
         for name, place, device, answered in self.moments(before, calls):
             if name == "write" and place == 0:
                 selectors.append(device.since[-1][1])

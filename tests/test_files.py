@@ -118,7 +118,7 @@ class Called(Case):
             self.assertEqual(ran("serve", store, "127.0.0.1:0", env=self.environment(SYNC_FAILS=number)), FAILED)
 
     def test_read_and_written_in_pieces(self):
-        """The system may do a part of what it is asked for."""
+        """The system may do a part of what it is asked for, of a file, of the output and of a connection."""
         pieces = self.environment(PIECE=5)
         topology_path = self.write("topology", stores.ring(8, stores.HALF))
         whole, parts = self.path("whole"), self.path("parts")
@@ -130,6 +130,7 @@ class Called(Case):
                 self.assertEqual(server.order(epoch, "reset", node=epoch)["kind"], "started")
                 server.await_quiet(epoch)
             count = server.show()["accepted"]
+            self.assertEqual(sorted(server.await_signals(16)), [(node, epoch) for node in range(1, 9) for epoch in (1, 2)])
             self.assertEqual(server.close().status, 0)
         self.assertEqual(ran("check", parts, env=pieces), Ended(0, f"legal {count}\n", ""))
         self.assertEqual(ran("migrate", parts, env=pieces), Ended(0, f"migrated {count}\n", ""))

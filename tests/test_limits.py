@@ -73,6 +73,6 @@ class Reads(Case):
     def test_an_end_that_does_not_come(self):
         """A drill reads 1,048,576 times, and no more."""
         self.needs("a C compiler", preloaded.has_compiler())
-        environment = {**os.environ, **preloaded.environment(self.folder, READ_MOST=1)}
+        environment = {**os.environ, **preloaded.environment(self.folder, PIECE=1)}
         ended = ran("drill", given=b"\n" * 1_048_577, env=environment)
         self.assertEqual(ended, faulted(3, "Turns"))

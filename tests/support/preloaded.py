@@ -62,7 +62,7 @@ static void note(const char *call, int file, long place, const void *bytes, size
     syscall(SYS_write, calls, line, length);
     free(line);
 }
-// At a place of a file at most PIECE bytes are written or read at once.
+// At most PIECE bytes are written, sent or read at once.
 static size_t piece(size_t count) {
     size_t most = setting("PIECE");
     return most && most < count ? most : count;
@@ -94,12 +94,12 @@ static int synced(int number, int file) {
 int fsync(int file) { return synced(SYS_fsync, file); }
 int fdatasync(int file) { return synced(SYS_fdatasync, file); }
 ssize_t send(int socket, const void *bytes, size_t count, int flags) {
-    note("out", socket, 0, bytes, count);
-    return syscall(SYS_sendto, socket, bytes, count, flags, 0, 0);
+    note("out", socket, 0, bytes, piece(count));
+    return syscall(SYS_sendto, socket, bytes, piece(count), flags, 0, 0);
 }
 ssize_t write(int file, const void *bytes, size_t count) {
-    note("out", file, 0, bytes, count);
-    return syscall(SYS_write, file, bytes, count);
+    note("out", file, 0, bytes, piece(count));
+    return syscall(SYS_write, file, bytes, piece(count));
 }
 // With WAITS it is written down too for how many milliseconds a client is waited for.
 int setsockopt(int socket, int level, int option, const void *value, socklen_t length) {
@@ -118,10 +118,9 @@ int open(const char *path, int flags, ...) {
     if (flags & O_CREAT && getenv("MEANWHILE")) syscall(SYS_link, getenv("MEANWHILE"), path);
     return syscall(SYS_openat, AT_FDCWD, path, flags, mode);
 }
-// A read gives at most READ_MOST bytes.
-ssize_t read(int file, void *buffer, size_t count) {
-    size_t most = setting("READ_MOST");
-    return syscall(SYS_read, file, buffer, most && most < count ? most : count);
+ssize_t read(int file, void *buffer, size_t count) { return syscall(SYS_read, file, buffer, piece(count)); }
+ssize_t recv(int socket, void *buffer, size_t count, int flags) {
+    return syscall(SYS_recvfrom, socket, buffer, piece(count), flags, 0, 0);
 }
 """
 
