@@ -8,8 +8,8 @@ use Rattle.coord_batch.specs.Fields.{how_many}
 use Rattle.coord_codec.specs.Worlds.{link_row, links}
 use Rattle.coord_codec.proofs.world_writing.put_links.Goals as goal
 
-pub overflow_cast-push : goal.overflow_cast-push
-overflow_cast-push c =
+pub overflow_cast-rows : goal.overflow_cast-rows
+overflow_cast-rows c =
     let fit = rows_of_world_fit c.args.world.now c.requires in
     omega (arith, fit.most_links, ap length c.links-rows.ensures)
 
@@ -26,6 +26,7 @@ loop-row-preserved c =
     let within : n < length rows = c.loop-row-test.true in
     let rest : drop n rows ≡ r ∷ drop (n + 1) rows = drop_more rows n r within ∙ ap (λ x. x ∷ drop (n + 1) rows) (sym c.row-item.is) in
     ap (λ o. o ++ flat_map text (drop (n + 1) rows)) c.in_ok-put_link_row.ensures
+    ∙ ap (λ v. (out ++ (link_row v 0 [] []).text r) ++ flat_map text (drop (n + 1) rows)) c.version.ensures
     ∙ append_assoc out (text r) (flat_map text (drop (n + 1) rows))
     ∙ ap (λ l. out ++ flat_map text l) (sym rest)
     ∙ c.loop-row.invariant
