@@ -28,6 +28,17 @@ UNREAD = [
     ("BadValue", topology([(0, 1)])), ("BadValue", topology([(65, 1)])), ("BadValue", topology([(1, 17)])),
     ("BadValue", topology([(1, 0)])), ("BadValue", topology([], [(1, 65)])), ("BadValue", topology([], [(0, 1)])),
     ("BadValue", "[[node]]\nid = 1.0\ngroup = 1\n"),
+    ("BadKey", "Half = 32768"), ("BadKey", "[[node]]\nid = 1\ngroup = 1\n[node.x]"), ("BadKey", "half = 1\nkey = 1"),
+    ("BadValue", "half = 1"), ("BadValue", "half = 65536.0"), ("BadValue", "half = {x = 1}"),
+    ("BadValue", "half = 2026-11-22"), ("BadValue", "node.id = 1"), ("BadValue", "[link]"), ("BadValue", "node = [[]]"),
+    ("NotToml", "[[node]]\nid = 1\nid = 2"), ("NotToml", "node = []\n[[node]]"), ("NotToml", "half = 99999999999999999999"),
+    ("NotToml", "half = 032768"), ("NotToml", "half 32768"), ("NotToml", " " * 65_537),
+]
+
+# Topologies in other spellings, and how many steps each is.
+READ = [
+    ("half = 65536 # the usual size\r\nnode = []\r\n", 0), ('"half" = 0x8000', 0), ("half = 32_768", 0),
+    ("node = [{id = 1, group = 1}, {id = 2, group = 1}]\nlink = [{a = 2, b = 1}]", 3), (" " * 65_536, 0),
 ]
 
 
@@ -59,6 +70,13 @@ class Init(Case):
     def test_an_empty_topology(self):
         self.assertEqual(self.init(""), Ended(0, "created 0\n", ""))
         self.assertEqual(ran("show", self.path("store")), Ended(0, "view 0 0\n", ""))
+
+    def test_other_spellings(self):
+        for number, (text, count) in enumerate(READ):
+            with self.subTest(text=text[:60]):
+                self.assertEqual(self.init(text, f"store{number}"), Ended(0, f"created {count}\n", ""))
+        # it is read, and its order is refused
+        self.assertEqual(self.init("link = [{a = 1, b = 1}]", "linked"), faulted(1, "6 UnknownNode"))
 
     def test_the_largest_network(self):
         links = [(node, (node + far - 1) % 64 + 1) for far in (1, 2) for node in range(1, 65)]

@@ -81,6 +81,15 @@ class Orders(Served):
             b'{"op":"reset","client":1,"number":-1,"node":1}\n': "BadRequest",
             b'{"op":"reset","client":1,"number":1.0,"node":1}\n': "BadRequest",
             b'{"op":"reset","client":1,"number":1}\n': "BadRequest",
+            b'{"op":"show"} {}\n': "BadJson", b'{op:"show"}\n': "BadJson", b'{"op":"show",}\n': "BadJson",
+            b'{"op":"reset","client":1,"number":1e999,"node":1}\n': "BadJson",
+            b'{"op":"reset","client":1,"number":01,"node":1}\n': "BadJson", b"null\n": "BadRequest",
+            b'{"op":"reset","client":1,"number":"1","node":1}\n': "BadRequest",
+            b'{"op":"reset","client":1,"number":1e0,"node":1}\n': "BadRequest",
+            b'{"op":"reset","client":1,"number":-0,"node":1}\n': "BadRequest",
+            b'{"op":"reset","client":1,"number":18446744073709551616,"node":1}\n': "BadRequest",
+            b'{"op":"reset","client":1,"number":1,"node":1,"node":65}\n': "BadRequest",
+            b'{"op":"drop","client":1,"number":1,"a":1,"b":0}\n': "BadRequest",
         }
         with Serving(self.made("")) as server, server.connect() as connection:
             for line, name in lines.items():
@@ -90,6 +99,19 @@ class Orders(Served):
             self.assertEqual([connection.reply()["fault"] for _ in lines], list(lines.values()))
             connection.send({"op": "resend"})
             self.assertEqual(connection.line(), b'{"count":0,"kind":"resent"}\n')
+
+    def test_other_spellings_of_a_line(self):
+        """A carriage return is a space, an escape is its letter, and of two members with one name the last one counts."""
+        shown = '{"accepted":0,"links":[],"nodes":[],"settled":0}'
+        unknown, late = '{"name":"UnknownNode","refused":6}', '{"name":"OutOfTurn","refused":4}'
+        lines = {b'{"op":"show"}\r\n': shown, b'{"op":"fly","op":"\\u0073how"}\n': shown,
+                 b'{"op":"reset","client":1,"number":1,"node":65,"node":1}\n': unknown,
+                 b'{"op":"reset","client":1,"number":18446744073709551615,"node":1}\n': late,
+                 b'{"op":"confirm","client":16,"number":1,"node":64,"epoch":0}\n': unknown}
+        with Serving(self.made("")) as server, server.connect() as connection:
+            for line, answer in lines.items():
+                connection.send(line)
+                self.assertEqual((line, connection.line().decode()), (line, answer + "\n"))
 
     def test_the_text_of_every_answer(self):
         """Compact, its members in the order of their names."""

@@ -54,6 +54,53 @@ VIOLATED = [
     ("2 64 F", linked(node(2, CONVERGE, 64), node(64, CONVERGE, 2))),
     ("2 64 G", linked(WAITS_2, QUIET_64, (0, 0, [IS_READY]), (0, 0, [ACK]))),
 ]
+# The same of worlds of version 1, beside each the legal one that is nearest to it.
+TOLD = [
+    # node 2 is Abort and awaits nobody; of two such nodes the one with the lesser number
+    ("violated 2 2 N", world(3, [node(1), node(2, ABORT)], [link(1, 2, 3)])),
+    ("violated 1 1 N", world(3, [node(1, ABORT), node(2, ABORT)], [link(1, 2, 3)])),
+    # a message was taken on an empty lane
+    ("violated 2 1 A", world(3, PAIR, [link(1, 2, 3, back=(0, 1, []))])),
+    # an Ack that nobody awaits: it is a fault as the node sees it to which it goes
+    ("violated 1 2 B", world(3, PAIR, [link(1, 2, 3, back=(0, 0, [ACK]))])),
+    # two Readies; of two such links the one with the lesser ends
+    ("violated 1 2 C", world(3, PAIR, [link(1, 2, 3, (0, 0, [IS_READY, IS_READY]))])),
+    ("violated 1 2 C", world(5, [node(1), node(2), node(3)],
+                             [link(1, 2, 4, (0, 0, [IS_READY, IS_READY])), link(2, 3, 5, (0, 0, [IS_READY, IS_READY]))])),
+    # a Ready behind the Abort that node 1 sent; before it, it is right
+    ("violated 1 2 D", world(3, [node(1, ABORT, awaits=[2]), node(2)], [link(1, 2, 3, (0, 0, [abort(), IS_READY]))])),
+    ("legal 3", world(3, [node(1, ABORT, awaits=[2]), node(2, CONVERGE, 1)], [link(1, 2, 3, (0, 0, [IS_READY, abort()]))])),
+    # node 2 is Converge with parent 1, which is Ready and has no Ready on the way
+    ("violated 1 2 E", world(3, [node(1), node(2, CONVERGE, 1)], [link(1, 2, 3)])),
+    # mutual parents
+    ("violated 1 2 F", world(3, [node(1, CONVERGE, 2), node(2, CONVERGE, 1)], [link(1, 2, 3)])),
+    # node 1 is in a reset, with parent 3, and has a Ready on the way to node 2
+    ("violated 1 2 G", world(5, [node(1, CONVERGE, 3), node(2), node(3, ABORT, awaits=[1])],
+                             [link(1, 2, 4, (0, 0, [IS_READY])), link(1, 3, 5, (0, 0, [ACK]))])),
+    # three nodes, each the parent of the next, round in a circle: each awaits the next one for ever
+    ("legal 6", world(6, [node(1, ABORT, 3, awaits=[2]), node(2, ABORT, 1, awaits=[3]), node(3, ABORT, 2, awaits=[1])],
+                      [link(1, 2, 4), link(1, 3, 5), link(2, 3, 6)])),
+]
+ASKED = [node(1, ABORT, awaits=[2], version=2), node(2, version=2)]
+# And of worlds of version 2.
+TOLD_OF_DISTANCES = [
+    # a miscount comes before an Abort that carries 2 from distance 0, though it is of the other lane
+    ("violated 2 1 A", world(4, ASKED, [link(1, 2, 3, (0, 0, [abort(2, 2)]), (0, 1, []))])),
+    # without it that Abort is told; 1 is right
+    ("violated 1 2 H", world(4, ASKED, [link(1, 2, 3, (0, 0, [abort(2, 2)]))])),
+    ("legal 4", world(4, ASKED, [link(1, 2, 3, (0, 0, [abort(1, 2)]))])),
+    # a child of node 1 at distance 2, which has acknowledged
+    ("violated 1 2 H", world(4, [ASKED[0], node(2, CONVERGE, 1, distance=2, version=2)], [link(1, 2, 3, back=(0, 0, [ACK]))])),
+    # a Ready to it is on the way, and it may be anywhere
+    ("legal 4", world(4, [node(1, epoch=1, version=2), node(2, CONVERGE, 1, distance=2, version=2)],
+                      [link(1, 2, 3, (0, 0, [IS_READY]))])),
+    # a node in a reset at the distance of the count
+    ("violated 2 2 N", world(4, [ASKED[0], node(2, CONVERGE, 1, distance=4, version=2)], [link(1, 2, 3, back=(0, 0, [ACK]))])),
+    # the circle of three nodes: the distance rises from 1 to 2 and from 2 to 3, and not from 3 to 1
+    ("violated 3 1 H", world(6, [node(1, ABORT, 3, awaits=[2], version=2), node(2, ABORT, 1, awaits=[3], distance=1, version=2),
+                                 node(3, ABORT, 2, awaits=[1], distance=2, version=2)],
+                             [link(1, 2, 4), link(1, 3, 5), link(2, 3, 6)])),
+]
 
 
 def in_reset(at, other, version=1):
@@ -134,6 +181,12 @@ class Checked(Case):
         for fault, snapshot in VIOLATED:
             with self.subTest(fault=fault):
                 self.assertEqual(self.check(snapshot), Ended(1, f"violated {fault}\n", ""))
+
+    def test_each_letter(self):
+        for version, told in ((1, TOLD), (2, TOLD_OF_DISTANCES)):
+            for line, snapshot in told:
+                with self.subTest(version=version, line=line):
+                    self.assertEqual(self.check(snapshot, version), Ended(int(line[0] == "v"), f"{line}\n", ""))
 
     def test_a_distance_that_differs(self):
         """It is told behind a fault of an earlier letter, though that is of the other end."""
@@ -238,3 +291,47 @@ class Migrated(Case):
     def test_one_of_version_2_in_a_reset_is_migrated(self):
         path = self.write("store", stores.store(in_reset(64, 63, 2), version=2))
         self.assertEqual(ran("migrate", path), Ended(0, "migrated 4\n", ""))
+
+
+def at_the_limits(version, nodes, queue):
+    """A world of as many steps, nodes, links and clients as there can be: a ring of which each node is linked to the next and
+    the next but one. What was taken of each lane is one more than its base."""
+    links = []
+    for a in range(1, 65):
+        for b in range(a, 65):
+            if b - a in (1, 2, 62, 63):
+                number = 64 * a + b
+                lanes = [(number, number + 1, queue(number, sender)) for sender in (a, b)]
+                links.append(link(a, b, number, *lanes))
+    clients = [stores.client(c, 1_024 + c, b"\5" + bytes([c]) + stores.wide(256), 2_048 + c) for c in range(1, 17)]
+    return world(MOST_STEPS, nodes, links, clients)
+
+
+MOST_STEPS = 1 << 40
+
+
+class Limits(Case):
+    def test_the_longest_legal_world(self):
+        """All nodes are in a reset, and on each lane are an Abort that was taken, a Ready and an Abort."""
+        rows = []
+        for number in range(1, 65):
+            awaited = [(number - 1 + way) % 64 + 1 for way in (1, 2, 62, 63)]
+            rows.append(node(number, ABORT, 0, awaited, 512 + number, 256 + number, number, 2))
+        longest = at_the_limits(2, rows, lambda number, sender: [abort(number, 2), IS_READY, abort(sender + 1, 2)])
+        self.assertEqual((len(rows), len(longest)), (64, 13_259))
+        content = stores.store(longest, version=2)
+        path = self.write("store", content)
+        self.assertEqual(ran("check", path), Ended(0, f"legal {MOST_STEPS}\n", ""))
+        self.assertEqual((ran("migrate", path).status, self.read("store")), (0, content))
+
+    def test_a_world_at_the_limits_is_raised(self):
+        """All nodes are Ready, and on each lane are a message that was taken and a Ready."""
+        def ready(version):
+            rows = [node(number, epoch=512 + number, confirmed=256 + number, version=version) for number in range(1, 65)]
+            return at_the_limits(version, rows, lambda _, sender: [(abort(0, version), ACK, IS_READY)[sender % 3], IS_READY])
+        path = self.write("store", stores.store(ready(1)))
+        self.assertEqual(ran("migrate", path), Ended(0, f"migrated {MOST_STEPS}\n", ""))
+        raised = self.read("store")
+        second = raised[stores.HEADER + stores.HALF:]
+        wanted = stores.store(ready(2), version=2)[stores.HEADER:]
+        self.assertEqual((raised[0], second[:len(wanted)]), (1, wanted))

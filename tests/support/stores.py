@@ -45,9 +45,14 @@ def link(a, b, incarnation, there=NO_LANE, back=NO_LANE):
     return bytes([a, b]) + wide(incarnation) + lane(*there) + lane(*back)
 
 
-def world(count, nodes, links=()):
-    """A world of so many steps and no client."""
-    return wide(count) + bytes([len(nodes)]) + b"".join(nodes) + bytes([len(links)]) + b"".join(links) + b"\0"
+def client(number, last, command, step, kind=0):
+    """The row of a client: the number of its last order, the bytes of its command, and its reply's step and kind."""
+    return bytes([number]) + wide(last) + command + wide(step) + bytes([kind])
+
+
+def world(count, nodes, links=(), clients=()):
+    """A world of so many steps."""
+    return wide(count) + b"".join(bytes([len(rows)]) + b"".join(rows) for rows in (nodes, links, clients))
 
 
 EMPTY_WORLD = world(0, [])

@@ -1,48 +1,252 @@
 //! Tests of coord_journal.
 
-mod crashes;
-mod faults;
-mod texts;
-mod turns;
+use crate::disk::{CHOICES, Host, choosing};
+use coord_disk::{BlipDisk, CrashDisk, Disk, FuseDisk, MemDisk, TornDisk};
+use coord_journal::{Contents, Journal, JournalFault, format, laws, open};
 
-use coord_disk::Disk;
-use coord_journal::{Contents, Journal, JournalFault, open};
-use std::alloc::Global;
+/// How many calls of the device an opening takes, and an act.
+const OPENING: u64 = 3;
 
-// A half of the least size, version 1, a snapshot of eleven zeros and no batch.
-const CREATED: [u8; 34] = [
-    0, 0x41, 0x43, 0x52, 0x52, 0x45, 0x53, 0x45, 0x54, 0, 0, 0, 0, 0, 0, 0x80, 0, 1, 0, 0, 0, 0x0b,
-    0, 0, 0, 0, 0, 0, 0, 0, 0, 0, 0, 0,
-];
+const CALLS: u64 = 4;
 
 const BODY: [u8; 23] = [
     0, 0, 0, 0, 0, 0, 0, 1, 0, 1, 0, 1, 0, 0, 0, 0, 0, 0, 0, 1, 0, 1, 1,
 ];
 
-// The same with that body appended.
+// A half of the least size, version 1, a snapshot of eleven zeros, and that body.
 const COMMITTED: [u8; 62] = [
     0, 0x41, 0x43, 0x52, 0x52, 0x45, 0x53, 0x45, 0x54, 0, 0, 0, 0, 0, 0, 0x80, 0, 1, 0, 0, 0, 0x0b,
     0, 0, 0, 0, 0, 0, 0, 0, 0, 0, 0, 1, 0, 0, 0, 0x17, 0, 0, 0, 0, 0, 0, 0, 1, 0, 1, 0, 1, 0, 0, 0,
     0, 0, 0, 0, 1, 0, 1, 1, 0,
 ];
 
-/// They stand behind calls, so that a proof that hands them on does not carry them.
-fn created() -> [u8; 34] {
-    CREATED
+// How long the same is without the body, whose place has a closed gate then.
+const MADE: usize = 33;
+
+// They stand behind calls, so that a proof that hands them on does not carry them.
+fn body() -> [u8; 23] {
+    BODY
 }
 
 fn committed() -> [u8; 62] {
     COMMITTED
 }
 
-fn body() -> [u8; 23] {
-    BODY
+fn created() -> [u8; 34] {
+    let mut bytes = [0; 34];
+    bytes[..MADE].copy_from_slice(&COMMITTED[..MADE]);
+    bytes
 }
 
-// Opens it, and lets a refused disk go.
-fn opened<D: Disk>(alloc: Global, disk: D) -> Result<(Journal<D>, Contents), JournalFault> {
-    match open(alloc, disk) {
-        Ok(found) => Ok(found),
-        Err((fault, _disk)) => Err(fault),
+fn opened<D: Disk>(rt: &impl Host, disk: D) -> (Journal<D>, Contents) {
+    match open(rt.alloc(), disk) {
+        Ok(found) => found,
+        Err((fault, _disk)) => panic!(rt; "not opened: {fault:?}"),
+    }
+}
+
+fn opened_on(rt: &impl Host, bytes: &[u8]) -> (Journal<MemDisk>, Contents) {
+    opened(
+        rt,
+        MemDisk::from_bytes(rt.alloc(), bytes).expect(rt, "no disk"),
+    )
+}
+
+fn append<D: Disk>(rt: &impl Host, journal: &mut Journal<D>) -> Result<(), JournalFault> {
+    let body = body();
+    assert!(rt; journal.fits(body.len()));
+    journal.append(&body)
+}
+
+#[test]
+fn a_journal_is_made_and_added_to(rt: HostRuntime) {
+    laws::one_content();
+    let mut disk = MemDisk::new(rt.alloc());
+    format(rt.alloc(), &mut disk, 32_768, 1, &[0; 11]).expect(&rt, "not made");
+    assert_eq!(rt; disk.bytes(), created().as_slice());
+    let (mut journal, contents) = opened(&rt, disk);
+    assert_eq!(rt;
+        (contents.version, contents.snapshot.as_slice()),
+        (1, [0; 11].as_slice())
+    );
+    assert_eq!(rt; (contents.batches.len(), journal.room()), (0, 32_746));
+    append(&rt, &mut journal).expect(&rt, "not added");
+    assert_eq!(rt; journal.room(), 32_718);
+    let disk = journal.into_disk();
+    assert_eq!(rt; disk.bytes(), committed().as_slice());
+    let (_journal, contents) = opened(&rt, disk);
+    assert_eq!(rt; contents.batches.len(), 1);
+    let first = contents.batches.first().expect(&rt, "no batch");
+    assert_eq!(rt; first.as_slice(), body().as_slice());
+}
+
+#[test]
+fn a_device_that_cannot_be_formatted_is_left(rt: HostRuntime) {
+    let full = created();
+    let refused: [(&[u8], u64, JournalFault); 3] = [
+        (&full, 32_768, JournalFault::NotEmpty),
+        (&[], 32_767, JournalFault::HalfSize),
+        (&[], 16_777_217, JournalFault::HalfSize),
+    ];
+    for (bytes, half_size, why) in refused {
+        let mut disk = MemDisk::from_bytes(rt.alloc(), bytes).expect(&rt, "no disk");
+        assert_eq!(rt; format(rt.alloc(), &mut disk, half_size, 1, &[]), Err(why));
+        assert_eq!(rt; disk.bytes(), bytes);
+    }
+    let mut disk = MemDisk::new(rt.alloc());
+    assert_eq!(rt; format(rt.alloc(), &mut disk, 16_777_216, 1, &[]), Ok(()));
+}
+
+// A replace leaves all that was written but the selector, and writes the second half behind zeros.
+#[test]
+fn a_journal_moves_into_its_other_half(rt: HostRuntime) {
+    let (mut journal, _contents) = opened_on(&rt, &committed());
+    journal.replace(1, &[0; 11]).expect(&rt, "not moved");
+    let disk = journal.into_disk();
+    let bytes = disk.bytes();
+    assert_eq!(rt; (bytes.len(), bytes.first().copied()), (32_802, Some(1)));
+    assert!(rt; bytes[1..62] == committed()[1..] && bytes[62..32_785].iter().all(|it| *it == 0));
+    assert!(rt; bytes[32_785..] == created()[17..]);
+    // back and forth, with a body at once and one behind an opening
+    let mut disk = disk;
+    for (version, batches) in [(2, 0), (3, 2), (4, 2)] {
+        let (mut journal, contents) = opened(&rt, disk);
+        assert_eq!(rt;
+            (contents.version, contents.batches.len()),
+            (version - 1, batches)
+        );
+        journal
+            .replace(version, &[version; 3])
+            .expect(&rt, "not moved");
+        assert_eq!(rt; journal.room(), 32_754);
+        append(&rt, &mut journal).expect(&rt, "not added");
+        let (mut journal, contents) = opened(&rt, journal.into_disk());
+        assert_eq!(rt; contents.snapshot.as_slice(), [version; 3].as_slice());
+        append(&rt, &mut journal).expect(&rt, "not added");
+        assert_eq!(rt; journal.room(), 32_698);
+        disk = journal.into_disk();
+    }
+}
+
+/// What is done to a journal.
+#[derive(Clone, Copy, Debug)]
+enum Act {
+    Append,
+    /// Into the second half.
+    Replace,
+    /// Into the first half, after a replace.
+    ReplaceAgain,
+}
+
+const ACTS: [Act; 3] = [Act::Append, Act::Replace, Act::ReplaceAgain];
+
+// The device before the act: version 1 in the first half, or version 2 in the second.
+fn before(rt: &impl Host, act: Act, which: usize) -> MemDisk {
+    let (mut journal, _contents) = opened(rt, choosing(rt, &created(), which));
+    if let Act::ReplaceAgain = act {
+        journal.replace(2, &[]).expect(rt, "not replaced");
+    }
+    journal.into_disk()
+}
+
+// What an act over this device answers, and the device. Nothing is written behind a fault.
+fn done<D: Disk>(rt: &impl Host, disk: D, act: Act) -> (Result<(), JournalFault>, D) {
+    let (mut journal, _contents) = opened(rt, disk);
+    let answer = match act {
+        Act::Append => append(rt, &mut journal),
+        Act::Replace | Act::ReplaceAgain => journal.replace(3, &[]),
+    };
+    if answer.is_err() {
+        assert_eq!(rt; append(rt, &mut journal), Err(JournalFault::Stopped));
+        assert_eq!(rt; journal.replace(3, &[]), Err(JournalFault::Stopped));
+    }
+    (answer, journal.into_disk())
+}
+
+// What the act answers and how many calls were made, where so many of its own are passed.
+fn wanted(passed: u64) -> (Result<(), JournalFault>, u64) {
+    if passed < CALLS {
+        (Err(JournalFault::Device), OPENING + passed + 1)
+    } else {
+        (Ok(()), OPENING + CALLS)
+    }
+}
+
+// The version and the number of batches that a crash leaves, where so many calls were passed. A gate
+// that is not 0 is open, and a selector names a half by its parity: the first two acts make a 1 of a
+// 0, the last a 0 of a 1.
+fn left(act: Act, passed: u64, which: usize) -> (u8, usize) {
+    let is_written = match act {
+        Act::ReplaceAgain => which == 1 || which == 3,
+        _ => which == 1 || which == 2 || which == 4,
+    };
+    match (act, CALLS <= passed || passed == 3 && is_written) {
+        (Act::ReplaceAgain, false) => (2, 0),
+        (_, false) => (1, 0),
+        (Act::Append, true) => (1, 1),
+        (_, true) => (3, 0),
+    }
+}
+
+// Whether a crash of this disk leaves it.
+fn leaves(rt: &impl Host, disk: MemDisk, act: Act, passed: u64, which: usize) {
+    let (_journal, contents) = opened(rt, disk.crash());
+    let found = (contents.version, contents.batches.len());
+    assert_eq!(rt;
+        found,
+        left(act, passed, which),
+        "{act:?}, {passed} passed, choice {which}"
+    );
+}
+
+#[test]
+fn a_crash_leaves_it_done_or_not(rt: HostRuntime) {
+    for act in ACTS {
+        for passed in 0..=CALLS {
+            for which in 0..CHOICES {
+                let disk = before(&rt, act, which);
+                let (answer, disk) = done(&rt, FuseDisk::new(disk, OPENING + passed), act);
+                assert_eq!(rt; (answer, disk.calls()), wanted(passed), "{act:?}");
+                leaves(&rt, disk.into_inner(), act, passed, which);
+                let disk = before(&rt, act, which);
+                let (answer, disk) = done(&rt, BlipDisk::new(disk, OPENING + passed), act);
+                assert_eq!(rt; (answer, disk.calls()), wanted(passed), "{act:?}");
+                leaves(&rt, disk.into_inner(), act, passed, which);
+            }
+        }
+    }
+}
+
+// Of a body or a half the first bytes are not read; of a gate or a selector the first byte is the whole
+// of it, which a crash then may leave.
+#[test]
+fn a_torn_write_leaves_it_done_or_not(rt: HostRuntime) {
+    for act in ACTS {
+        for (passed, kept, reached) in [(0, 1, 0), (0, 6, 0), (2, 0, 2), (2, 1, 3)] {
+            for which in 0..CHOICES {
+                let disk = before(&rt, act, which);
+                let (answer, disk) = done(&rt, TornDisk::new(disk, OPENING + passed, kept), act);
+                assert_eq!(rt; (answer, disk.calls()), wanted(passed), "{act:?}");
+                leaves(&rt, disk.into_inner(), act, reached, which);
+            }
+        }
+    }
+}
+
+#[test]
+fn a_fault_has_its_number_and_name(rt: HostRuntime) {
+    let faults = [
+        (JournalFault::OutOfMemory, "1 OutOfMemory"),
+        (JournalFault::Device, "2 Device"),
+        (JournalFault::NotEmpty, "3 NotEmpty"),
+        (JournalFault::HalfSize, "4 HalfSize"),
+        (JournalFault::NoMagic, "5 NoMagic"),
+        (JournalFault::BadRecord, "6 BadRecord"),
+        (JournalFault::JournalFull, "7 JournalFull"),
+        (JournalFault::Stopped, "8 Stopped"),
+    ];
+    for (fault, wanted) in faults {
+        let text = format!(in rt.alloc(); "{} {fault}", fault.number());
+        assert_eq!(rt; text.expect(&rt, "not printed").as_str(), wanted);
     }
 }

@@ -1,9 +1,7 @@
-//! Tests of the lowest layer: types, lanes, nodes, disks, journals and the topology file. Each is of
-//! something that no contract says.
+//! Tests of the lowest layer: types, lanes, nodes, disks and journals. Each is of something that no
+//! contract says. What fails here fails its test.
 #![tactic(auto)]
 
-#[cfg(test)]
-mod config;
 #[cfg(test)]
 mod disk;
 #[cfg(test)]
