@@ -1,5 +1,5 @@
 -- What is known of an order that a world takes.
-use Rattle.std.proofs.Common.{◌≡◌, ◌≢◌, ℕ, ◌+◌, ◌≤◌, Bool, true, false, ◌||◌, not, Option, Some, None, refl, arith, is_some}
+use Rattle.std.proofs.Common.{◌≡◌, ◌≢◌, ℕ, ◌+◌, ◌≤◌, Bool, true, false, ◌||◌, not, Option, None, arith, is_some}
 use Rattle.std.proofs.lemmas.Bool.Decides.{nat_tests}
 use Rattle.coord_types.specs.NodeSet as set
 use Rattle.coord_types.specs.NodeState.{NodeState}
@@ -50,18 +50,15 @@ Passes w (Confirm u e) = Confirmable w u e
 
 -- who is not there is nobody
 absent : (o : Option NodeState) → is_some o ≡ false → o ≡ None
-absent None e = refl
-absent (Some r) e = cc
+absent o h1 = grind (arith, nat_tests, h1)
 
 -- what is not false is true
 positive : (b : Bool) → not b ≡ false → b ≡ true
-positive true e = refl
-positive false e = cc
+positive b h1 = grind (arith, nat_tests, h1)
 
 -- two tests that fail
 neither : (a b : Bool) → (a || b) ≡ false → (a ≡ false) × (b ≡ false)
-neither true b e = cc
-neither false b e = (refl, e)
+neither a b h1 = grind (arith, nat_tests, h1)
 
 -- a command that no test refuses
 passes : (w : World) (x : Command) → NoneHolds (against_command w x) → Passes w x

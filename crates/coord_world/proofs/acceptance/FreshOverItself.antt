@@ -1,5 +1,5 @@
 -- A step that a world takes over some settled world, it takes over itself.
-use Rattle.std.proofs.Common.{◌≡◌, Bool, true, false, Option, Some, None, Ok, Err, Result, cond, arith}
+use Rattle.std.proofs.Common.{◌≡◌, Bool, Option, Ok, Err, Result, cond, arith}
 use Rattle.coord_types.specs.declared.refusals.Refusal.{Refusal}
 use Rattle.std.proofs.lemmas.Bool.Decides.{nat_tests}
 use Rattle.coord_types.specs.declared.packets.DataPacket.{DataPacket}
@@ -15,18 +15,15 @@ use Rattle.coord_world.specs.laws.Laws.{FreshOverItself}
 
 -- a lane that passes the tests against what is settled has the packet itself
 data_itself : (o settled : Option Lane) (p : DataPacket) (v r : Verdict) → refused_or v (against_data o settled p) ≡ Ok r → refused_or v (against_data o o p) ≡ Ok r
-data_itself None settled p v r h = cc
-data_itself (Some l) settled p v r h = grind (arith, nat_tests)
+data_itself o settled p v r h1 = grind (arith, nat_tests, h1)
 
 -- and one that passes those of a receipt has taken its message itself
 receipt_itself : (o settled : Option Lane) (p : ReceiptPacket) (v r : Verdict) → refused_or v (against_receipt o settled p) ≡ Ok r → refused_or v (against_receipt o o p) ≡ Ok r
-receipt_itself None settled p v r h = cc
-receipt_itself (Some l) settled p v r h = grind (arith, nat_tests)
+receipt_itself o settled p v r h1 = grind (arith, nat_tests, h1)
 
 -- under a test that comes first
 guarded : (b : Bool) (e : Refusal) (x y : Result Verdict Refusal) (v : Verdict) → cond b (Err e) x ≡ Ok v → (x ≡ Ok v → y ≡ Ok v) → cond b (Err e) y ≡ Ok v
-guarded true e x y v h rest = cc
-guarded false e x y v h rest = rest h
+guarded b e x y v h1 h2 = grind (arith, nat_tests, h1, h2)
 
 -- packets are judged by what is settled, and orders are not
 pub itself : FreshOverItself

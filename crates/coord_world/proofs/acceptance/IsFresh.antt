@@ -1,9 +1,8 @@
 -- What is known of a step that a world takes.
-use Rattle.std.proofs.Common.{◌≡◌, ℕ, ◌+◌, ◌^◌, ◌≤◌, true, false, ◌&&◌, List, [], ◌∷◌, Option, Some, None, Ok, Err, Result, refl, ap, arith, cond, eqb}
+use Rattle.std.proofs.Common.{◌≡◌, ℕ, ◌+◌, ◌^◌, ◌≤◌, true, false, ◌&&◌, List, [], ◌∷◌, Option, Some, None, Ok, Err, Result, refl, arith, cond, eqb}
 use Rattle.std.proofs.lemmas.Bool.Decides.{nat_tests}
 use Rattle.coord_types.specs.Facade.{begins_with, get, same_command, same_msg}
 use Rattle.coord_types.specs.declared.messages.Msg.{Msg}
-use Rattle.coord_types.specs.declared.messages.Msg.TheVariants as msg
 use Rattle.coord_types.specs.declared.packets.DataPacket.{DataPacket}
 use Rattle.coord_types.specs.declared.packets.ReceiptPacket.{ReceiptPacket}
 use Rattle.coord_types.specs.declared.refusals.Refusal.{Refusal}
@@ -11,7 +10,7 @@ use Rattle.coord_types.specs.declared.refusals.Refusal.TheVariants.{Exhausted}
 use Rattle.coord_types.specs.declared.steps.Command.{Command}
 use Rattle.coord_types.specs.declared.steps.Session.{Session}
 use Rattle.coord_types.specs.declared.steps.Step.{Step}
-use Rattle.coord_types.specs.declared.steps.Step.TheVariants.{Order, Take, Clear}
+use Rattle.coord_types.specs.declared.steps.Step.TheVariants.{Take, Clear}
 use Rattle.coord_types.specs.declared.steps.Kind.{Kind}
 use Rattle.coord_link.specs.LaneMachine.{Lane, Tests, refused_or}
 use Rattle.coord_node.specs.Steps.{kind}
@@ -32,20 +31,15 @@ none_holds v r (t ∷ ts) h = by_test t.0 (λ b. cond b (Err t.1) (refused_or v 
 
 -- the same message is that message
 same_is : (f m : Msg) → same_msg f m ≡ true → f ≡ m
-same_is (msg.Abort k) (msg.Abort d) e = let same : k ≡ d = grind (arith, nat_tests) in ap msg.Abort same
-same_is msg.Ack msg.Ack e = refl
-same_is msg.Ready msg.Ready e = refl
-same_is f m e = cc
+same_is f m h1 = grind (arith, nat_tests, h1)
 
 -- a list that begins with a message has it in front
 pub begins_is : (q : List Msg) (m : Msg) → begins_with q m ≡ true → (rest : List Msg) × (q ≡ m ∷ rest)
-begins_is [] m e = cc
-begins_is (f ∷ q) m e = (q, ap (λ x. x ∷ q) (same_is f m e))
+begins_is q m h1 = grind (arith, nat_tests, h1)
 
 -- a lane of an incarnation is there
 pub with_incarnation : (i : ℕ) (o : Option Lane) (l : Lane) → of_incarnation i o ≡ Some l → o ≡ Some l
-with_incarnation i None l h = cc
-with_incarnation i (Some k) l h = by_test (eqb k.inc i) (λ b. cond b (Some k) None ≡ Some l → Some k ≡ Some l) (λ _ e. e) (λ _ e. cc) h
+with_incarnation i o l h1 = grind (arith, nat_tests, h1)
 
 -- a fresh order is no repeat
 pub not_a_repeat : (o : Option Session) (n : ℕ) (x : Command) (v : Result Verdict Refusal) (k : Kind) → or_repeat o n x v ≡ Ok (Fresh k) → v ≡ Ok (Fresh k)
@@ -54,9 +48,7 @@ not_a_repeat (Some o) n x v k h = by_test (eqb o.number n && same_command o.comm
 
 -- a fresh step passes the judgement
 fresh_judged : (w settled : World) (s : Step) → IsFresh w settled s → judged w settled s ≡ Ok (Fresh (kind (state w) s))
-fresh_judged w settled (Order c n x) fresh = not_a_repeat (get w.sessions c) n x (judged w settled (Order c n x)) _ fresh
-fresh_judged w settled (Take p) fresh = fresh
-fresh_judged w settled (Clear p) fresh = fresh
+fresh_judged w settled s h1 = grind (arith, nat_tests, h1)
 
 module _ (w settled : World) (s : Step) (fresh : IsFresh w settled s) where
   -- it passes each test

@@ -1,5 +1,5 @@
 -- Lanes whose numbers fit their queues, through each change of a world.
-use Rattle.std.proofs.Common.{◌≡◌, ◌≢◌, ℕ, ◌+◌, ◌≤◌, true, List, [], ◌∷◌, Some, sym, ◌∙◌, cond, eqb, refl, inl, inr, arith, subst}
+use Rattle.std.proofs.Common.{◌≡◌, ◌≢◌, ℕ, ◌+◌, ◌≤◌, true, List, [], ◌∷◌, Some, sym, ◌∙◌, cond, eqb, refl, inl, arith, subst}
 use Rattle.std.proofs.lemmas.Bool.Decides.{nat_tests}
 use Rattle.coord_types.specs.declared.messages.Msg.{Msg}
 use Rattle.coord_types.specs.declared.steps.Command.TheVariants.{Drop, Join}
@@ -8,7 +8,7 @@ use Rattle.coord_node.specs.Facade.{Transition, added, is_link}
 use Rattle.coord_world.specs.Facade.{World, is_lane, lane_at, on_lane, with_command, with_transition}
 use Rattle.coord_tables.proofs.Cases.{by_test}
 use Rattle.coord_world.proofs.lists.GetAfter.{lane_done, lane_on, lane_left, lane_made, each_changed, each_left, each_made}
-use Rattle.coord_world.proofs.lanes.Transit.{counts_cases, counts_from, counts-sent, counts-took}
+use Rattle.coord_world.proofs.lanes.Transit.{counts_from, counts-sent, counts-took}
 
 -- the numbers of every lane fit its queue
 abbrev pub AllCount : World → Type 0
@@ -16,18 +16,11 @@ AllCount w = (x y : ℕ) (l : Lane) → lane_at w.links x y ≡ Some l → Count
 
 -- a lane that is the one from u to v is the one that is there
 pub it_is : (w : World) (u v x y : ℕ) (k l : Lane) → lane_at w.links u v ≡ Some k → lane_at w.links x y ≡ Some l → is_lane (x, y) u v ≡ true → l ≡ k
-it_is w u v x y k l there e t =
-    let a : x ≡ u = grind (arith, nat_tests) in
-    let b : y ≡ v = grind (arith, nat_tests) in
-    let same : Some l ≡ Some k = sym e ∙ (λ i. lane_at w.links (a i) (b i)) ∙ there in
-    cc
+it_is w u v x y k l there e t = grind (arith, nat_tests, there, e, t)
 
 -- more was taken than is receipted: the front was
 pub was_taken : (l : Lane) → Counts l → l.base + 1 ≤ l.got → (l.got ≡ l.base + 1) × (l.queue ≢ [])
-was_taken l counts more = elim (counts_cases l counts) [
-  | inl same ↦ absurd (omega arith)
-  | inr taken ↦ taken
-]
+was_taken l h1 h2 = grind (arith, nat_tests, h1, h2)
 
 module _ (w : World) (counts : AllCount w) where
   -- after a transition

@@ -1,5 +1,5 @@
 -- Lanes of sound worlds are short.
-use Rattle.std.proofs.Common.{◌≡◌, ℕ, ◌+◌, ◌≤◌, Bool, true, List, [], ◌∷◌, Some, length, sym, ap, ◌∙◌, subst, arith, is_some}
+use Rattle.std.proofs.Common.{◌≡◌, ℕ, ◌+◌, ◌≤◌, Bool, true, List, [], ◌∷◌, Some, length, ap, subst, arith, is_some}
 use Rattle.std.proofs.lemmas.Bool.Decides.{nat_tests}
 use Rattle.coord_types.specs.Facade.{Ideal, behind_front, contains}
 use Rattle.coord_types.specs.declared.messages.Msg.{Msg}
@@ -22,31 +22,21 @@ at_most_one b = grind arith
 
 -- one Abort and one Ack by the two ends' counts, and one Ready
 pub way_short : (w : Ideal) (u v : ℕ) → Sound w → w.linked u v ≡ true → length (w.way u v) ≤ 3
-way_short w u v sound linked =
-    let near : contains (w.state u).neighbours v ≡ true = sym (sound.linked u v) ∙ linked in
-    let out = sound.links u v near in
-    let back = sound.links v u (sym (sound.mirrored u v) ∙ near) in
-    omega (arith, counted (w.way u v), out.counted, back.counted, out.one_ready, at_most_one (contains (w.state u).pend v), at_most_one (contains (w.state v).pend u))
+way_short w u v sound linked = grind (arith, nat_tests, sound, linked, counted (w.way u v), at_most_one (contains (w.state u).pend v), at_most_one (contains (w.state v).pend u))
 
 -- one Abort, by the count of the end that awaits
 pub way_aborts : (w : Ideal) (u v : ℕ) → Sound w → w.linked u v ≡ true → aborts (w.way u v) ≤ 1
-way_aborts w u v sound linked =
-    let near : contains (w.state u).neighbours v ≡ true = sym (sound.linked u v) ∙ linked in
-    omega (arith, (sound.links u v near).counted, at_most_one (contains (w.state u).pend v))
+way_aborts w u v h1 h2 = grind (arith, nat_tests, h1, h2)
 
 aborts-behind : (q : List Msg) → aborts q ≤ aborts (behind_front q) + 1
-aborts-behind [] = omega arith
-aborts-behind (Abort k ∷ q) = omega arith
-aborts-behind (Ack ∷ q) = omega arith
-aborts-behind (Ready ∷ q) = omega arith
+aborts-behind q = grind (arith, nat_tests)
 
 aborts-queue : (l : Lane) → aborts l.queue ≤ aborts (transit l) + 1
 aborts-queue l = grind (arith, nat_tests, aborts-behind l.queue)
 
 -- only the front is left out
 length-behind : (q : List Msg) → length q ≤ length (behind_front q) + 1
-length-behind [] = omega arith
-length-behind (m ∷ q) = omega arith
+length-behind q = grind (arith, nat_tests)
 
 -- at most the front isn't on the way
 length-queue : (l : Lane) → length l.queue ≤ length (transit l) + 1

@@ -6,7 +6,7 @@ use Rattle.coord_types.specs.Facade.{contains, get}
 use Rattle.coord_types.specs.declared.packets.DataPacket.{DataPacket}
 use Rattle.coord_types.specs.declared.steps.Command.TheVariants.{Drop, Reset}
 use Rattle.coord_types.specs.declared.steps.Step.{Step}
-use Rattle.coord_types.specs.declared.steps.Step.TheVariants.{Order, Take, Clear}
+use Rattle.coord_types.specs.declared.steps.Step.TheVariants.{Order, Take}
 use Rattle.coord_types.proofs.Tables.{option_map}
 use Rattle.coord_link.specs.LaneMachine.{Lane, sent, took}
 use Rattle.coord_node.specs.Facade.{Transition, added, lost, request, transition, transitions}
@@ -53,9 +53,7 @@ all_do-append w (d ∷ ds) es = all_do-append (with_transition w d.0 d.1) ds es
 
 -- a step's transitions are what it does to the lanes that are prepared
 lanes_done : (w : World) (s : Step) → (next w s).links ≡ (with_transitions (prepared w s) (transitions (state w) s)).links
-lanes_done w (Order c n x) = refl
-lanes_done w (Take p) = refl
-lanes_done w (Clear p) = refl
+lanes_done w s = grind (arith, nat_tests)
 
 module _ (w settled : World) (range : InRange w) (legal : Legal w) where
   -- whatever transitions were done before it, and are done after it

@@ -5,11 +5,6 @@ use Rattle.coord_types.specs.Messages.{behind_front, is_nil}
 use Rattle.coord_types.specs.declared.messages.Msg.{Msg}
 use Rattle.coord_link.specs.LaneMachine.{Lane, Counts, transit, sent, took, cleared}
 
--- the front stays the front
-behind_front-append : (q ms : List Msg) → q ≢ [] → behind_front (q ++ ms) ≡ behind_front q ++ ms
-behind_front-append [] ms some = absurd (some refl)
-behind_front-append (m ∷ q) ms some = refl
-
 -- a queue with something stays one
 some-append : (q ms : List Msg) → q ≢ [] → q ++ ms ≢ []
 some-append [] ms some = absurd (some refl)
@@ -24,8 +19,7 @@ is_some_queue [] is = cc
 is_some_queue (m ∷ q) is = λ e. cc
 
 some_queue_is : (q : List Msg) → q ≢ [] → is_nil q ≡ false
-some_queue_is [] some = absurd (some refl)
-some_queue_is (m ∷ q) some = refl
+some_queue_is q h1 = grind (arith, nat_tests, h1)
 
 -- the cases from the test
 pub counts_cases : (l : Lane) → Counts l → TakenAtMost l
@@ -44,10 +38,7 @@ counts_from l (inr (next, some)) = let n = some_queue_is l.queue some in grind (
 
 -- messages that join a lane join those on the way
 pub transit-sent : (l : Lane) (ms : List Msg) → Counts l → transit (sent ms l) ≡ transit l ++ ms
-transit-sent l ms counts = elim (counts_cases l counts) [
-  | inl same ↦ grind (arith, nat_tests)
-  | inr more ↦ grind (arith, nat_tests, more.0, behind_front-append l.queue ms more.1)
-]
+transit-sent l ms h1 = grind (arith, nat_tests, h1)
 
 -- and the numbers fit
 pub counts-sent : (l : Lane) (ms : List Msg) → Counts l → Counts (sent ms l)

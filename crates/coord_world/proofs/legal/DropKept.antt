@@ -1,5 +1,5 @@
 -- A link that is dropped keeps a world sound.
-use Rattle.std.proofs.Common.{◌≡◌, ◌≢◌, ℕ, true, false, ◌&&◌, Option, Some, None, refl, sym, ap, ◌∙◌, subst, arith}
+use Rattle.std.proofs.Common.{◌≡◌, ◌≢◌, ℕ, true, false, ◌&&◌, Option, None, refl, sym, ap, ◌∙◌, subst, arith}
 use Rattle.std.proofs.lemmas.Bool.Decides.{nat_tests}
 use Rattle.coord_types.specs.Facade.{Ideal, NodeState, contains}
 use Rattle.coord_types.specs.NodeSet as set
@@ -23,13 +23,11 @@ dropped w a b = ideal_applied (ideal_applied (without_link w a b) a (lost (w.sta
 
 -- a node whose parent is lost has none
 no_parent_left : (p : Option ℕ) (b : ℕ) → is_parent p b ≡ true → without p b ≡ None
-no_parent_left None b e = refl
-no_parent_left (Some p) b e = grind (arith, nat_tests)
+no_parent_left p b h1 = grind (arith, nat_tests, h1)
 
 -- any other parent stays
 parent_stays : (p : Option ℕ) (b : ℕ) → is_parent p b ≡ false → without p b ≡ p
-parent_stays None b e = refl
-parent_stays (Some p) b e = grind (arith, nat_tests)
+parent_stays p b h1 = grind (arith, nat_tests, h1)
 
 module _ (r : NodeState) (b : ℕ) (node : SoundNode r) where
   -- the state without the link, and what it keeps

@@ -1,5 +1,5 @@
 -- A link that is made keeps a world sound.
-use Rattle.std.proofs.Common.{◌≡◌, ◌≢◌, ℕ, Bool, true, false, [], refl, sym, ap, ◌∙◌, subst, arith, cond, eqb}
+use Rattle.std.proofs.Common.{◌≡◌, ◌≢◌, ℕ, Bool, true, false, [], refl, sym, ◌∙◌, subst, arith, cond, eqb}
 use Rattle.std.proofs.lemmas.Bool.Decides.{nat_tests}
 use Rattle.coord_types.specs.Facade.{Ideal, NodeState, contains}
 use Rattle.coord_types.proofs.Sets.{contains-insert}
@@ -30,16 +30,11 @@ module _ (w : Ideal) (a b : ℕ) (apart : a ≢ b) (free : w.linked a b ≡ fals
 
   -- the ends of the links do not change
   same_end : (x y : ℕ) → end_of ((linked_up w a b).state x) y ≡ end_of (w.state x) y
-  same_end x y = by_test (eqb x b) (λ t. end_of (cond t (with_neighbour (w.state b) a) (cond (eqb x a) (with_neighbour (w.state a) b) (w.state x))) y ≡ end_of (w.state x) y)
-      (λ e. let same : x ≡ b = grind (arith, nat_tests) in ap (λ z. end_of (w.state z) y) (sym same))
-      (λ _. by_test (eqb x a) (λ t. end_of (cond t (with_neighbour (w.state a) b) (w.state x)) y ≡ end_of (w.state x) y)
-      (λ e. let same : x ≡ a = grind (arith, nat_tests) in ap (λ z. end_of (w.state z) y) (sym same)) (λ _. refl))
+  same_end x y = grind (arith, nat_tests)
 
   -- a node neither awaits one that it is not linked to, nor has it as its parent
   strangers : (x y : ℕ) → w.linked x y ≡ false → (contains (w.state x).pend y ≡ false) × (is_parent (w.state x).parent y ≡ false)
-  strangers x y none =
-      let apart_near : contains (w.state x).neighbours y ≡ false = sym (sound.linked x y) ∙ none in
-      (grind (arith, (sound.nodes x).within y, apart_near), grind (arith, (sound.nodes x).parent_near y, apart_near))
+  strangers x y h1 = grind (arith, nat_tests, h1)
 
   -- so a new link is legal
   new_link : (x y : ℕ) → w.linked x y ≡ false → w.linked y x ≡ false → LegalBoth (record { here = end_of (w.state x) y; there = end_of (w.state y) x; out = []; back = [] })
@@ -76,10 +71,7 @@ module _ (w : Ideal) (a b : ℕ) (apart : a ≢ b) (free : w.linked a b ≡ fals
 
   -- each node names its links
   up_near : (x y : ℕ) → (linked_up w a b).linked x y ≡ contains ((linked_up w a b).state x).neighbours y
-  up_near x y = by_test (eqb x b) (λ t. (linked_up w a b).linked x y ≡ contains (cond t (with_neighbour (w.state b) a) (cond (eqb x a) (with_neighbour (w.state a) b) (w.state x))).neighbours y)
-      (λ e. grind (arith, nat_tests, contains-insert (w.state b).neighbours a y, sound.linked b y))
-      (λ f. by_test (eqb x a) (λ t. (linked_up w a b).linked x y ≡ contains (cond t (with_neighbour (w.state a) b) (w.state x)).neighbours y)
-      (λ e. grind (arith, nat_tests, contains-insert (w.state a).neighbours b y, sound.linked a y)) (λ g. grind (arith, nat_tests, sound.linked x y)))
+  up_near x y = grind (arith, nat_tests, contains-insert (w.state b).neighbours a y, sound.linked b y, contains-insert (w.state a).neighbours b y, sound.linked a y, sound.linked x y)
 
   -- a link that is made
   pub join_kept : Sound (linked_up w a b)

@@ -1,9 +1,9 @@
 -- Along parents distances rise by one, so no chain of them comes back.
-use Rattle.std.proofs.Common.{◌≡◌, ℕ, ◌+◌, true, false, List, [], ◌∷◌, Option, Some, None, length, cond, eqb, refl, sym, ap, ◌∙◌, arith}
+use Rattle.std.proofs.Common.{◌≡◌, ℕ, ◌+◌, true, false, List, [], ◌∷◌, Some, length, cond, eqb, refl, sym, ap, ◌∙◌, arith}
 use Rattle.std.proofs.lemmas.Bool.Decides.{nat_tests}
-use Rattle.coord_types.specs.Facade.{NodeState, contains, get}
+use Rattle.coord_types.specs.Facade.{contains}
 use Rattle.coord_node.specs.Rules.{is_parent}
-use Rattle.coord_world.specs.Facade.{InRange, Legal, World, is_ready, state, state_or_none, view}
+use Rattle.coord_world.specs.Facade.{InRange, Legal, World, is_ready, state, view}
 use Rattle.coord_world.specs.laws.Cycles.{IsAbove, IsChain, NoParentCycle}
 use Rattle.coord_world.proofs.legal.Sound.{Sound}
 use Rattle.coord_world.proofs.legal.SoundView.{sound_view}
@@ -14,11 +14,7 @@ module _ (w : World) (range : InRange w) (legal : Legal w) (second : w.version �
 
   -- a node in a reset is there, and has the world's version
   version_of : (u : ℕ) → is_ready (state w u).mode ≡ false → (state w u).version ≡ 2
-  version_of u busy = of_option (get w.nodes u) refl busy
-    where
-      of_option : (o : Option NodeState) → get w.nodes u ≡ o → is_ready (state_or_none o).mode ≡ false → (state_or_none o).version ≡ 2
-      of_option None is e = cc
-      of_option (Some r) is e = (range.distances u r is).version ∙ second
+  version_of u h1 = grind (arith, nat_tests, h1)
 
   -- one link of a chain
   one_further : (u v : ℕ) → IsAbove w u v → (state w v).distance ≡ (state w u).distance + 1

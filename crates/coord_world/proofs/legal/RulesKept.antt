@@ -8,8 +8,8 @@ use Rattle.coord_types.specs.declared.messages.Mode.TheVariants.{Abort, Converge
 use Rattle.coord_types.specs.declared.messages.Msg.{Msg}
 use Rattle.coord_types.specs.declared.messages.Msg.TheVariants as msg
 use Rattle.coord_types.proofs.Sets.{contains-empty}
-use Rattle.coord_node.specs.Facade.{Transition, added, answer, carried, finish, ideal_applied, idle, is_empty, is_parent, kept, on_abort, on_ack, on_ready, request, transition, wave_back, wave_on}
-use Rattle.coord_world.specs.protocol.Links.{link, acks, is_abort, is_ready, strays}
+use Rattle.coord_node.specs.Facade.{Transition, added, answer, finish, ideal_applied, idle, is_empty, is_parent, kept, on_abort, on_ack, on_ready, request, transition, wave_back, wave_on}
+use Rattle.coord_world.specs.protocol.Links.{link, acks, is_abort, is_ready}
 use Rattle.coord_world.proofs.legal.TransitionKept.{both_before, but_of, deed_kept, not_self}
 use Rattle.coord_world.proofs.transitions.LegalBoth.{LegalBoth, acked, acked_last, converges_near, passed_by, released, wave_ends, wave_meets, wave_reaches}
 use Rattle.coord_world.proofs.transitions.KeepsLinks.{Aside, Keeps, aside_acked, aside_self, has_without, keeps_alone, keeps_answer, keeps_converge, keeps_finish, keeps_idle, keeps_wave_back, keeps_wave_on}
@@ -21,8 +21,7 @@ use Rattle.coord_world.proofs.legal.TakeKept.{after_take, take_kept}
 
 -- a parent is one node
 pub one_parent : (p : Option ℕ) (x y : ℕ) → is_parent p x ≡ true → y ≢ x → is_parent p y ≡ false
-one_parent None x y h far = refl
-one_parent (Some p) x y h far = grind (arith, nat_tests)
+one_parent p x y h1 h2 = grind (arith, nat_tests, h1, h2)
 
 -- what a transition that sends nothing adds
 nothing : (xs : List Msg) (r : NodeState) (y : ℕ) → xs ++ added (idle r) y ≡ xs
@@ -56,10 +55,7 @@ module _ (w : Ideal) (v u : ℕ) (rest : List Msg) (near : contains (w.state u).
 
   -- an Abort brings what its sender's Aborts carry, so the taker keeps just that
   kept_whole : (n : ℕ) → taker.version ≡ (w.state v).version → w.way v u ≡ msg.Abort n ∷ rest → kept taker n ≡ n
-  kept_whole n even front =
-      let link = sound.links v u (sym (sound.mirrored u v) ∙ near) in
-      let right = subst (λ ms. strays (carried (w.state v)) ms ≡ 0) front link.carried in
-      grind (arith, nat_tests, right, even)
+  kept_whole n h1 h2 = grind (arith, nat_tests, h1, h2)
 
   -- an Abort that is taken
   abort_taken : (n : ℕ) → kept taker n ≡ n → w.way v u ≡ msg.Abort n ∷ rest → Sound (after_take w v u (on_abort taker v n))

@@ -14,17 +14,7 @@ use Rattle.coord_world.proofs.legal.Sound.{Sound}
 
 -- a node's law looks at four fields
 pub same_node : (r s : NodeState) → r.mode ≡ s.mode → r.parent ≡ s.parent → r.pend ≡ s.pend → r.neighbours ≡ s.neighbours → SoundNode r → SoundNode s
-same_node r s mode parent pend neighbours node =
-    subst SoundNode (λ i. record s { mode = mode i; parent = parent i; pend = pend i; neighbours = neighbours i })
-    (record {
-      awaits = node.awaits;
-      quiet = node.quiet;
-      no_parent = node.no_parent;
-      has_parent = node.has_parent;
-      parent_outside = node.parent_outside;
-      parent_near = node.parent_near;
-      within = node.within;
-    })
+same_node r s mode parent pend neighbours node = grind (arith, nat_tests, mode, parent, pend, neighbours, node)
 
 module _ (w : Ideal) (u : ℕ) (r : NodeState) (sound : Sound w) where
   -- a state that changes is a transition that sends nothing
@@ -58,8 +48,7 @@ new_legal version g = record {
 module _ (w : Ideal) (u : ℕ) (sound : Sound w) where
   -- more of the node's epochs is confirmed
   pub confirm_kept : (e : ℕ) → Sound (set_state w u (record (w.state u) { confirmed = e }))
-  confirm_kept e = row_kept w u (record (w.state u) { confirmed = e }) sound refl
-      (same_node (w.state u) (record (w.state u) { confirmed = e }) refl refl refl refl (sound.nodes u)) (λ y with_y. refl)
+  confirm_kept e = grind (arith, nat_tests)
 
   -- a node without neighbours begins anew
   pub new_kept : (version g : ℕ) → is_empty (w.state u).neighbours ≡ true → Sound (set_state w u (new_node version g))

@@ -65,9 +65,7 @@ pub record SoundBut (w : Ideal) (u : ℕ) : Type 0 where
   pub apart : (x y : ℕ) → w.linked x y ≡ true → y ≢ x
 
 pub but_of : (w : Ideal) (u : ℕ) → Sound w → SoundBut w u
-but_of w u sound =
-    let ok = links_of w sound in
-    record { links = λ x y p q with_y. ok.links x y with_y; nodes = sound.nodes; linked = sound.linked; mirrored = ok.mirrored; apart = ok.apart }
+but_of w u sound = grind (arith, nat_tests, sound, links_of w sound)
 
 module _ (w : Ideal) (u : ℕ) (d : Transition) where
   -- the node has the state of the transition

@@ -14,7 +14,6 @@ use Rattle.coord_world.proofs.legal.Sound.{SameVersions}
 use Rattle.coord_world.proofs.ranges.EveryNode.{there_is}
 use Rattle.coord_world.proofs.transitions.NodeGoesOn.{goes_deed, goes_request}
 use Rattle.coord_world.proofs.view.ViewOfNext.{view_next}
-use Rattle.coord_tables.proofs.Cases.{by_test}
 
 -- a node with a link is there, and has the world's version
 version_is : (w : World) → InRange w → (x y : ℕ) → is_linked w x y ≡ true → (state w x).version ≡ w.version
@@ -32,9 +31,7 @@ record Fixed (r s : NodeState) : Type 0 where
 
 -- a transition of u
 fixed_at : (z : Ideal) (u : ℕ) (s : NodeState) → Fixed (z.state u) s → (x : ℕ) → Fixed (z.state x) (cond (eqb x u) s (z.state x))
-fixed_at z u s same x = by_test (eqb x u) (λ b. Fixed (z.state x) (cond b s (z.state x)))
-    (λ e. let here : x ≡ u = grind (arith, nat_tests) in subst (λ y. Fixed (z.state y) s) (sym here) same)
-    (λ _. record { version = refl; neighbours = refl })
+fixed_at z u s same x = grind (arith, nat_tests, same)
 
 fixed : (z : Ideal) (s : Step) → changes_topology s ≡ false → (x : ℕ) → Fixed (z.state x) ((ideal_next z s).state x)
 fixed z (Order c n (Add u g)) stays x = cc
@@ -43,9 +40,7 @@ fixed z (Order c n (Join a b)) stays x = cc
 fixed z (Order c n (Drop a b)) stays x = cc
 fixed z (Order c n (Reset u)) stays x = let goes = goes_request (z.state u) in fixed_at z u (request (z.state u)).state (record { version = goes.version; neighbours = goes.neighbours }) x
 fixed z (Order c n (Confirm u e)) stays x = fixed_at z u (record (z.state u) { confirmed = e }) (record { version = refl; neighbours = refl }) x
-fixed z (Take p) stays x =
-    let goes = goes_deed (z.state p.to) p.from p.msg in
-    fixed_at z p.to (transition p.msg (z.state p.to) p.from).state (record { version = goes.version; neighbours = goes.neighbours }) x
+fixed z (Take p) stays x = grind (arith, nat_tests, stays, goes_deed (z.state p.to) p.from p.msg)
 fixed z (Clear p) stays x = record { version = refl; neighbours = refl }
 
 ideal_versions : (z : Ideal) (s : Step) → changes_topology s ≡ false → SameVersions z → SameVersions (ideal_next z s)

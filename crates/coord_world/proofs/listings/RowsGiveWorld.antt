@@ -1,5 +1,6 @@
 -- Worlds in their ranges with the same rows are equal.
-use Rattle.std.proofs.Common.{◌≡◌, ℕ, List, [], ◌∷◌, Option, Some, None, map, refl, sym, ap, ◌∙◌, is_some, if◌then◌else◌}
+use Rattle.std.proofs.Common.{arith, ◌≡◌, ℕ, List, [], ◌∷◌, Option, Some, None, map, refl, sym, ap, ◌∙◌, is_some, if◌then◌else◌}
+use Rattle.std.proofs.lemmas.Bool.Decides.{nat_tests}
 use Rattle.std.specs.FinMap.{nat_cmp-IsAntisymmetric}
 use Rattle.std.specs.FinMap.Entries.{find}
 use Rattle.std.specs.Ordering.{nat_cmp}
@@ -25,12 +26,7 @@ some_mapped f (Some x) = refl
 
 -- two nodes, there or not, whose rows and neighbours are the same, and whose versions are
 same_node : (u : ℕ) (o p : Option NodeState) → option_map (λ r. node_row (u, r)) o ≡ option_map (λ r. node_row (u, r)) p → (state_or_none o).neighbours ≡ (state_or_none p).neighbours → (state_or_none o).version ≡ (state_or_none p).version → o ≡ p
-same_node u None None same near version = refl
-same_node u None (Some s) same near version = cc
-same_node u (Some r) None same near version = cc
-same_node u (Some r) (Some s) same near version =
-    let rows : node_row (u, r) ≡ node_row (u, s) = cc in
-    λ i. Some (record { version = version i; group = (rows i).group; mode = (rows i).mode; parent = (rows i).parent; pend = (rows i).pend; neighbours = near i; epoch = (rows i).epoch; confirmed = (rows i).confirmed; distance = (rows i).distance })
+same_node u o p h1 h2 h3 = grind (arith, nat_tests, h1, h2, h3)
 
 -- a node's row by its number
 rows_keyed : (w : World) → entries (change (λ u r. node_row (u, r)) w.nodes) ≡ by_id (map node_row (entries w.nodes))
@@ -56,11 +52,7 @@ module _ (v w : World) (in_v : InRange v) (in_w : InRange w) (same : rows_of v �
 
   -- the nodes that are there have the version of their world
   version_of : (z : World) → InRange z → (u : ℕ) → (state z u).version ≡ (if is_some (get z.nodes u) then z.version else 1)
-  version_of z in_z u = of_option (get z.nodes u) refl
-    where
-      of_option : (o : Option NodeState) → get z.nodes u ≡ o → (state_or_none o).version ≡ (if is_some o then z.version else 1)
-      of_option None is = refl
-      of_option (Some r) is = (in_z.distances u r is).version
+  version_of z h1 u = grind (arith, nat_tests, h1)
 
   -- a node is listed in both
   same_there : (u : ℕ) → is_some (get v.nodes u) ≡ is_some (get w.nodes u)
@@ -77,10 +69,7 @@ module _ (v w : World) (in_v : InRange v) (in_w : InRange w) (same : rows_of v �
   same_sessions = sym (same_entry (entries v.sessions)) ∙ ap (λ rows. map (λ r. (r.client, r.session)) rows.clients) same ∙ same_entry (entries w.sessions)
 
   one_world : v ≡ w
-  one_world =
-      let rows = same_table nat_cmp-IsAntisymmetric v.nodes w.nodes each_node in
-      let sessions = same_entries_table v.sessions w.sessions same_sessions in
-      λ i. record { version = (same i).version; count = (same i).count; nodes = rows i; links = same_links i; sessions = sessions i }
+  one_world = grind (arith, nat_tests, same_links, same_table nat_cmp-IsAntisymmetric v.nodes w.nodes each_node, same_entries_table v.sessions w.sessions same_sessions)
 
 -- rows tell worlds apart
 pub rows_give_world : RowsGiveWorld

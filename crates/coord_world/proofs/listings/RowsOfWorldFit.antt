@@ -1,5 +1,5 @@
 -- The rows of a world in its ranges fit together.
-use Rattle.std.proofs.Common.{◌≡◌, ℕ, ◌≤◌, Bool, true, false, List, [], ◌∷◌, Option, Some, None, map, cond, eqb, length, refl, sym, ap, ◌∙◌, subst, arith, Ordering, is_some, nat_cmp}
+use Rattle.std.proofs.Common.{◌≡◌, ℕ, ◌≤◌, Bool, true, List, [], ◌∷◌, Option, Some, None, map, cond, eqb, length, refl, sym, ap, ◌∙◌, subst, arith, Ordering, is_some, nat_cmp}
 use Rattle.std.specs.Cmp.{nat_cmp_total}
 use Rattle.std.specs.List.{AllByRecursion}
 use Rattle.std.specs.FinMap.Entries.{find, is_sorted}

@@ -1,5 +1,6 @@
 -- What is found in a world's tables after each change of the world.
-use Rattle.std.proofs.Common.{◌≡◌, ℕ, ◌+◌, Bool, true, false, Option, Some, None, refl, subst, cond, eqb}
+use Rattle.std.proofs.Common.{arith, ◌≡◌, ℕ, ◌+◌, Bool, true, false, Option, Some, None, refl, subst, cond, eqb}
+use Rattle.std.proofs.lemmas.Bool.Decides.{nat_tests}
 use Rattle.coord_types.proofs.Tables.{option_map}
 use Rattle.coord_link.specs.LaneMachine.{Lane, sent, new_lane}
 use Rattle.coord_node.specs.Facade.{Transition, added, is_link}
@@ -35,8 +36,7 @@ module _ {X : Type 0} (o : Option X) where
 
   -- what is found where one is gone was there
   pub each_left : (b : Bool) (y : X) → cond b None o ≡ Some y → o ≡ Some y
-  each_left true y e = cc
-  each_left false y e = e
+  each_left b y h1 = grind (arith, nat_tests, h1)
 
   -- what is found where one was put is that one, or was there
   pub each_made : (b : Bool) (new : X) (P : X → Type 0) → (b ≡ true → P new) → (b ≡ false → (x : X) → o ≡ Some x → P x) → (y : X) → cond b (Some new) o ≡ Some y → P y

@@ -1,5 +1,5 @@
 -- What every node keeps through a step, it keeps through each change of a node.
-use Rattle.std.proofs.Common.{◌≡◌, ℕ, ◌≤◌, true, Option, Some, None, refl, sym, ◌∙◌, ap, eqb, arith, subst, is_some}
+use Rattle.std.proofs.Common.{◌≡◌, ℕ, ◌≤◌, true, Some, sym, ◌∙◌, ap, eqb, arith, subst, is_some}
 use Rattle.std.specs.Cmp.{nat_cmp_total}
 use Rattle.std.proofs.lemmas.Bool.Decides.{nat_tests}
 use Rattle.coord_types.specs.NodeSet as set
@@ -52,11 +52,7 @@ all_unset Q rows u all x r e = all x r (each_left (get rows x) (eqb x u) r (sym 
 
 -- a node that is there has its state
 pub there_is : (w : World) (u : ℕ) → has w.nodes u ≡ true → get w.nodes u ≡ Some (state w u)
-there_is w u known = of_option (get w.nodes u) known
-  where
-    of_option : (o : Option NodeState) → is_some o ≡ true → o ≡ Some (state_or_none o)
-    of_option None e = cc
-    of_option (Some r) e = refl
+there_is w u h1 = grind (arith, nat_tests, h1)
 
 module _ (P Q : ℕ → NodeState → Type 0) (w : World) (n : ℕ) (carries : Carries n P Q) (before : AllRows P w.nodes) where
   -- nodes stay

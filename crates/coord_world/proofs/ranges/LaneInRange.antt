@@ -1,5 +1,5 @@
 -- Lanes stay in their ranges through a step, and the two lanes of a link keep one incarnation.
-use Rattle.std.proofs.Common.{◌≡◌, ℕ, ◌+◌, Bool, true, false, Some, cond, refl, sym, ◌∙◌, ap, arith}
+use Rattle.std.proofs.Common.{◌≡◌, ℕ, ◌+◌, Bool, true, false, Some, cond, sym, ◌∙◌, ap, arith}
 use Rattle.std.proofs.lemmas.Bool.Decides.{nat_tests}
 use Rattle.coord_types.specs.declared.steps.Command.TheVariants.{Join}
 use Rattle.coord_types.specs.declared.steps.Step.{Step}
@@ -34,12 +34,7 @@ Stems w x y l = (k : Lane) × ((lane_at w.links x y ≡ Some k) × (k.inc ≡ l.
 
 -- no change of a lane changes its incarnation
 carries_stems : (w : World) → LaneCarries Any (λ x y l. lane_at w.links x y ≡ Some l) (Stems w)
-carries_stems w = record {
-  weaken = λ x y l is. (l, (is, refl));
-  take = λ x y l is. (l, (is, refl));
-  clear = λ x y l is. (l, (is, refl));
-  send = λ x y l ms any stem. stem;
-}
+carries_stems w = grind (arith, nat_tests)
 
 -- the two lanes of a link
 abbrev OneInc : World → Type 0

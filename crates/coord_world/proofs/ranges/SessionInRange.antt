@@ -1,62 +1,30 @@
 -- Sessions stay in their ranges through a step.
-use Rattle.std.proofs.Common.{◌≡◌, ℕ, ◌+◌, ◌≤◌, true, Option, Some, None, cond, eqb, refl, sym, ◌∙◌, ap, subst, arith}
+use Rattle.std.proofs.Common.{◌≡◌, ℕ, ◌+◌, ◌≤◌, true, Option, Some, None, eqb, refl, sym, ◌∙◌, ap, subst, arith}
 use Rattle.std.proofs.lemmas.Bool.Decides.{nat_tests}
 use Rattle.coord_types.specs.NodeState.{NodeState}
 use Rattle.coord_types.specs.Table.{get, insert}
-use Rattle.coord_types.specs.declared.messages.Mode.{Mode}
-use Rattle.coord_types.specs.declared.messages.Mode.TheVariants.{Ready, Abort, Converge}
 use Rattle.coord_types.specs.declared.steps.Command.{Command}
-use Rattle.coord_types.specs.declared.steps.Command.TheVariants.{Add, Remove, Join, Drop, Reset, Confirm}
-use Rattle.coord_types.specs.declared.steps.Kind.TheVariants.{Started, Finished}
 use Rattle.coord_types.specs.declared.steps.Session.{Session}
 use Rattle.coord_types.specs.declared.steps.Step.{Step}
 use Rattle.coord_types.specs.declared.steps.Step.TheVariants.{Order, Take, Clear}
-use Rattle.coord_node.specs.Facade.{is_empty, kind_of_request, kind_ordered}
+use Rattle.coord_node.specs.Facade.{kind_ordered}
 use Rattle.coord_world.specs.Facade.{InRange, IsFresh, SessionInRange, StepInRange, World, answers, last_number, next, reply, state}
-use Rattle.coord_tables.proofs.Cases.{by_test}
 use Rattle.coord_tables.proofs.Found.{get-set}
 use Rattle.coord_world.proofs.lists.GetAfter.{each_made}
 use Rattle.coord_world.proofs.acceptance.FreshOrder.{fresh_number}
 
--- a request is answered with one of its three kinds
-request_answered : (u : ℕ) (m : Mode) (r : NodeState) → answers (Reset u) (kind_of_request m r) ≡ true
-request_answered u Ready r = by_test (is_empty r.neighbours) (λ b. answers (Reset u) (cond b Finished Started) ≡ true) (λ _. refl) (λ _. refl)
-request_answered u Abort r = refl
-request_answered u Converge r = refl
-
 -- a command is answered with one of its kinds
 pub kind_answers : (rows : ℕ → NodeState) (x : Command) → answers x (kind_ordered rows x) ≡ true
-kind_answers rows (Add u g) = refl
-kind_answers rows (Remove u) = refl
-kind_answers rows (Join a b) = refl
-kind_answers rows (Drop a b) = refl
-kind_answers rows (Reset u) = request_answered u (rows u).mode (rows u)
-kind_answers rows (Confirm u e) = refl
+kind_answers rows x = grind (arith, nat_tests)
 
 -- an order alone becomes its client's last one
 pub sessions_noted : (w : World) (c n : ℕ) (x : Command) → (next w (Order c n x)).sessions ≡ insert w.sessions c (record { number = n; command = x; reply = reply w (Order c n x) })
-sessions_noted w c n (Add u g) = refl
-sessions_noted w c n (Remove u) = refl
-sessions_noted w c n (Join a b) = refl
-sessions_noted w c n (Drop a b) = refl
-sessions_noted w c n (Reset u) = refl
-sessions_noted w c n (Confirm u e) = refl
+sessions_noted w c n x = grind (arith, nat_tests)
 
 module _ (w : World) (range : InRange w) where
   -- sessions stay
   later : (c : ℕ) (o : Session) → get w.sessions c ≡ Some o → SessionInRange (w.count + 1) c o
-  later c o is =
-      let within = range.sessions c o is in
-      record {
-        least = within.least;
-        greatest = within.greatest;
-        ordered = within.ordered;
-        first = within.first;
-        last = omega (arith, within.last);
-        replied = within.replied;
-        replied_by = omega (arith, within.replied_by);
-        answered = within.answered;
-      }
+  later c o is = grind (arith, nat_tests, is, range.sessions c o is)
 
   -- the last number of a client is within the count
   last_within : (c : ℕ) → last_number (get w.sessions c) ≤ w.count

@@ -1,5 +1,5 @@
 -- A release stays, and which steps the settled world lets through.
-use Rattle.std.proofs.Common.{◌≡◌, ◌≢◌, ◌↔◌, ℕ, zero, suc, ◌≤◌, Bool, true, false, not, List, [], ◌∷◌, ◌++◌, Option, Some, None, Ok, Err, take, drop, cond, refl, sym, ap, subst, inl, inr, arith}
+use Rattle.std.proofs.Common.{◌≡◌, ◌≢◌, ◌↔◌, ℕ, zero, suc, ◌≤◌, true, not, List, [], ◌∷◌, ◌++◌, Option, Some, None, Ok, Err, take, drop, refl, sym, ap, subst, inl, inr, arith}
 use Rattle.std.proofs.lemmas.Bool.Decides.{nat_tests}
 use Rattle.coord_types.specs.declared.outputs.Output.{Output}
 use Rattle.coord_types.specs.declared.packets.DataPacket.{DataPacket}
@@ -9,13 +9,10 @@ use Rattle.coord_types.specs.declared.steps.Kind.TheVariants.{Cleared, Taken}
 use Rattle.coord_types.specs.declared.steps.Step.{Step}
 use Rattle.coord_types.specs.declared.steps.Step.TheVariants.{Clear, Order, Take}
 use Rattle.coord_link.specs.LaneMachine.{Lane, Tests, against_clear, against_take, refused_or}
-use Rattle.coord_world.specs.declared.verdicts.Verdict.{Verdict}
 use Rattle.coord_world.specs.declared.verdicts.Verdict.TheVariants.{Fresh}
 use Rattle.coord_world.specs.Facade.{IsFresh, World, accepts, against_data, against_receipt, fold, has_receipted, has_sent, is_exhausted, lane}
 use Rattle.coord_world.specs.laws.Release.{FreshWhereReleased, IsReleased, IsClearable, NamesReleased, IsTakeable, ReleaseStays, TellsReleased}
 use Rattle.coord_world.specs.laws.Trails.{IsSound}
-use Rattle.coord_tables.proofs.Cases.{by_test}
-use Rattle.coord_world.proofs.acceptance.IsFresh.{NoneHolds}
 use Rattle.coord_world.proofs.release.ReleaseLaw.{front_has_sent, has_receipted_receipt, receipt_has_receipted, release_law, has_sent_front}
 use Rattle.coord_world.proofs.release.TakeablePackets.{clearable_is_due, refused_or_none_holds, none_holds_passes, takeable_is_next}
 use Rattle.coord_world.proofs.release.LaneFronts.{front_fold, front_not_past, past_fold, receipt_fold}
@@ -61,16 +58,6 @@ take-take (suc d) zero ss le = absurd (omega (arith, le))
 take-take (suc d) (suc e) [] le = refl
 take-take (suc d) (suc e) (s ∷ ss) le = ap (λ l. s ∷ l) (take-take d e ss (omega (arith, le)))
 
--- where all tests but the last agree, a last one that keeps passing keeps the answer
-last_test_decides : (v : Verdict) (ts : Tests) (b c : Bool) → (NoneHolds ts → b ≡ true → c ≡ true) → refused_or v (ts ++ (not b, NotReleased) ∷ []) ≢ Err NotReleased →
-    refused_or v (ts ++ (not c, NotReleased) ∷ []) ≡ refused_or v (ts ++ (not b, NotReleased) ∷ [])
-last_test_decides v [] true c stays h = ap (λ b. refused_or v ((not b, NotReleased) ∷ [])) (stays tt refl)
-last_test_decides v [] false c stays h = absurd (h refl)
-last_test_decides v (t ∷ ts) b c stays h =
-    by_test t.0 (λ z. t.0 ≡ z → cond z (Err t.1) (refused_or v (ts ++ (not b, NotReleased) ∷ [])) ≢ Err NotReleased →
-    cond z (Err t.1) (refused_or v (ts ++ (not c, NotReleased) ∷ [])) ≡ cond z (Err t.1) (refused_or v (ts ++ (not b, NotReleased) ∷ [])))
-    (λ _ e more. refl) (λ _ e more. last_test_decides v ts b c (λ none. stays (e, none)) more) refl h
-
 -- the verdict stays where the release does
 verdict_stays : (front earlier later : World) (s : Step) → KeepsReleases front earlier later → accepts front earlier s ≢ Err NotReleased → accepts front later s ≡ accepts front earlier s
 verdict_stays front earlier later (Order c n x) stays h = refl
@@ -81,9 +68,7 @@ verdict_stays front earlier later (Take p) stays h = of_lane (lane front p.from 
 
     of_lane : (o : Option Lane) → lane front p.from p.to p.inc ≡ o → refused_or (Fresh Taken) (tests o earlier) ≢ Err NotReleased → refused_or (Fresh Taken) (tests o later) ≡ refused_or (Fresh Taken) (tests o earlier)
     of_lane None is more = refl
-    of_lane (Some l) is more =
-        last_test_decides (Fresh Taken) ((is_exhausted front, Exhausted) ∷ against_take l p.number p.msg) (has_sent (lane earlier p.from p.to p.inc) p.number) (has_sent (lane later p.from p.to p.inc) p.number)
-        (λ none. stays.packets p (l, (is, none_holds_passes tt (against_take l p.number p.msg) none.1))) more
+    of_lane (Some l) is more = grind (arith, nat_tests, is, more)
 verdict_stays front earlier later (Clear p) stays h = of_lane (lane front p.from p.to p.inc) refl h
   where
     tests : Option Lane → World → Tests
@@ -91,9 +76,7 @@ verdict_stays front earlier later (Clear p) stays h = of_lane (lane front p.from
 
     of_lane : (o : Option Lane) → lane front p.from p.to p.inc ≡ o → refused_or (Fresh Cleared) (tests o earlier) ≢ Err NotReleased → refused_or (Fresh Cleared) (tests o later) ≡ refused_or (Fresh Cleared) (tests o earlier)
     of_lane None is more = refl
-    of_lane (Some l) is more =
-        last_test_decides (Fresh Cleared) ((is_exhausted front, Exhausted) ∷ against_clear l p.number) (has_receipted (lane earlier p.from p.to p.inc) p.number) (has_receipted (lane later p.from p.to p.inc) p.number)
-        (λ none. stays.receipts p (l, (is, none_holds_passes tt (against_clear l p.number) none.1))) more
+    of_lane (Some l) is more = grind (arith, nat_tests, is, more)
 
 -- a release stays
 pub release_stays : ReleaseStays

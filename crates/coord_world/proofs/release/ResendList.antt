@@ -40,20 +40,10 @@ receipted k l m b = if b then Receipted (receipt (front_packet k l m)) ∷ [] el
 -- what one lane sends again
 module _ (k : ℕ × ℕ) (l : Lane) where
   again_by_sent : (q : List Msg) (p : DataPacket) → Contains (again_by k l q) (Sent p) → (m : Msg) × ((ms : List Msg) × ((q ≡ m ∷ ms) × (front_packet k l m ≡ p)))
-  again_by_sent [] p h = not_in_nil (Sent p) h
-  again_by_sent (m ∷ ms) p h = elim (Contains-cons_cases (Sent (front_packet k l m)) (receipted k l m (is_front_taken l)) (Sent p) h) [
-    | inl here ↦ (m, (ms, (refl, cc here)))
-    | inr later ↦ by_test (is_front_taken l) (λ b. Contains (receipted k l m b) (Sent p) → (n : Msg) × ((ns : List Msg) × ((m ∷ ms ≡ n ∷ ns) × (front_packet k l n ≡ p))))
-        (λ _ x. absurd (let e = Contains-one (Receipted (receipt (front_packet k l m))) (Sent p) x in cc e)) (λ _ x. not_in_nil (Sent p) x) later
-  ]
+  again_by_sent q p h1 = grind (arith, nat_tests, h1)
 
   again_by_receipted : (q : List Msg) (p : ReceiptPacket) → Contains (again_by k l q) (Receipted p) → (is_front_taken l ≡ true) × ((m : Msg) × (receipt (front_packet k l m) ≡ p))
-  again_by_receipted [] p h = not_in_nil (Receipted p) h
-  again_by_receipted (m ∷ ms) p h = elim (Contains-cons_cases (Sent (front_packet k l m)) (receipted k l m (is_front_taken l)) (Receipted p) h) [
-    | inl here ↦ absurd (cc here)
-    | inr later ↦ by_test (is_front_taken l) (λ b. Contains (receipted k l m b) (Receipted p) → (b ≡ true) × ((n : Msg) × (receipt (front_packet k l n) ≡ p)))
-        (λ _ x. (refl, (m, let e = Contains-one (Receipted (receipt (front_packet k l m))) (Receipted p) x in cc e))) (λ _ x. not_in_nil (Receipted p) x) later
-  ]
+  again_by_receipted q p h1 = grind (arith, nat_tests, h1)
 
 -- what is in the list comes from a lane
 again_lane : (w : World) → Turned w.links → (o : Output) → Contains (again w) o → (e : (ℕ × ℕ) × Lane) × ((lane_at w.links e.0.0 e.0.1 ≡ Some e.1) × Contains (again_by e.0 e.1 e.1.queue) o)

@@ -28,9 +28,7 @@ use Rattle.coord_world.proofs.lanes.Transit.{counts_cases}
 
 -- the receipts of a step are of the packet that it takes
 receipts_taken : (s : Step) (p : ReceiptPacket) → Contains (receipts s) (Receipted p) → (q : DataPacket) × ((s ≡ Take q) × (receipt q ≡ p))
-receipts_taken (Order c n x) p h = not_in_nil (Receipted p) h
-receipts_taken (Take q) p h = (q, (refl, let e = Contains-one (Receipted (receipt q)) (Receipted p) h in cc e))
-receipts_taken (Clear q) p h = not_in_nil (Receipted p) h
+receipts_taken s p h1 = grind (arith, nat_tests, h1)
 
 receipts_no_data : {A : Type 0} (s : Step) (p : DataPacket) → Contains (receipts s) (Sent p) → A
 receipts_no_data (Order c n x) p h = not_in_nil (Sent p) h
@@ -51,9 +49,7 @@ signals_no_packet {A} (d ∷ ds) o is h = by_test d.1.finished (λ b. Contains (
 
 -- what a lane sends is its front
 sent_by_front : (before : Option Lane) (k : ℕ × ℕ) (l : Lane) (q : List Msg) (o : Output) → Contains (sent_by before k l q) o → (m : Msg) × ((ms : List Msg) × ((q ≡ m ∷ ms) × (Sent (front_packet k l m) ≡ o)))
-sent_by_front before k l [] o h = not_in_nil o h
-sent_by_front before k l (m ∷ ms) o h = by_test (had_front before l) (λ b. Contains (cond b [] (Sent (front_packet k l m) ∷ [])) o → (n : Msg) × ((ns : List Msg) × ((m ∷ ms ≡ n ∷ ns) × (Sent (front_packet k l n) ≡ o))))
-    (λ _ x. not_in_nil o x) (λ _ x. (m, (ms, (refl, Contains-one (Sent (front_packet k l m)) o x)))) h
+sent_by_front before k l q o h1 = grind (arith, nat_tests, h1)
 
 module _ (w : World) (s : Step) (turned : Turned (next w s).links) where
   -- what is sent comes from a lane of the next world
@@ -128,8 +124,7 @@ had_front_lane (Some o) l h = record { lane = o; there = refl; more = grind (ari
 
 -- a list that isn't empty keeps its front
 same_front : (q ms : List Msg) (m : Msg) (rest : List Msg) → is_nil q ≡ false → q ++ ms ≡ m ∷ rest → (old : List Msg) × (q ≡ m ∷ old)
-same_front [] ms m rest more is = cc
-same_front (x ∷ q) ms m rest more is = let same : x ≡ m = cc is in (q, ap (λ z. z ∷ q) same)
+same_front q ms m rest h1 h2 = grind (arith, nat_tests, h1, h2)
 
 -- a front was given out by the step, or was one before
 pub front_from_step : (w : World) (s : Step) → Turned (next w s).links → (p : DataPacket) → IsFront (next w s) p → Contains (outputs w s) (Sent p) ⊎ IsFront w p
@@ -151,11 +146,7 @@ front_from_step w s turned p front = by_test (had_front (lane_at w.links p.from 
     by_step had (LaneStep.is_made e) = absurd (let same = one_lane _ (new_lane (w.count + 1)) at.lane e at.there in let none = ap (λ z. z.queue) same ∙ front.queue in cc none)
     by_step had (LaneStep.is_kept k ms was e) = kept had k ms was (ap (λ z. z.queue) (one_lane _ (sent ms k) at.lane e at.there))
     by_step had (LaneStep.is_taken k ms q t ends was e) = kept had k ms was (ap (λ z. z.queue) (one_lane _ (sent ms (took k)) at.lane e at.there))
-    by_step had (LaneStep.is_cleared k q t ends was e) =
-        absurd (let same = one_lane _ had.lane k had.there was in
-        let base = ap (λ z. z.base) (one_lane _ (cleared k) at.lane e at.there) in
-        let old = ap (λ z. z.base) same in
-        omega (arith, base, old, had.base))
+    by_step had (LaneStep.is_cleared k q t ends was e) = grind (arith, nat_tests, had, had.base, one_lane _ had.lane k had.there was, ap (λ z. z.base) (one_lane _ (cleared k) at.lane e at.there))
 
 -- a front that was taken was taken by the step, or before it
 pub receipt_from_step : (w : World) (s : Step) (p : ReceiptPacket) → IsSound w → IsFresh w w s → IsFrontReceipt (next w s) p → Contains (outputs w s) (Receipted p) ⊎ IsFrontReceipt w p

@@ -25,8 +25,7 @@ none_holds_passes {V} v (t ∷ ts) h = let rest = none_holds_passes v ts h.1 in 
 
 -- a lane that was looked up by its incarnation has it
 of_incarnation_inc : (i : ℕ) (o : Option Lane) (l : Lane) → of_incarnation i o ≡ Some l → l.inc ≡ i
-of_incarnation_inc i None l h = cc
-of_incarnation_inc i (Some k) l h = grind (arith, nat_tests, h)
+of_incarnation_inc i o l h1 = grind (arith, nat_tests, h1)
 
 -- such a lane is there
 pub lane_found : (w : World) (u v i : ℕ) (l : Lane) → lane w u v i ≡ Some l → (lane_at w.links u v ≡ Some l) × (l.inc ≡ i)
@@ -34,8 +33,7 @@ lane_found w u v i l is = (with_incarnation i (lane_at w.links u v) l is, of_inc
 
 -- and one that is there is found by its incarnation
 of_incarnation_found : (i : ℕ) (o : Option Lane) (l : Lane) → o ≡ Some l → l.inc ≡ i → of_incarnation i o ≡ Some l
-of_incarnation_found i None l is inc = cc
-of_incarnation_found i (Some k) l is inc = let same : k ≡ l = cc in grind (arith, nat_tests, inc, same)
+of_incarnation_found i o l h1 h2 = grind (arith, nat_tests, h1, h2)
 
 pub lane_numbered : (w : World) (u v i n : ℕ) (at : IsNumbered w u v i n) → lane w u v i ≡ Some at.lane
 lane_numbered w u v i n at = of_incarnation_found i (lane_at w.links u v) at.lane at.there at.inc

@@ -27,9 +27,7 @@ same_number : (m n : ℕ) → is_eq (nat_cmp m n) ≡ eqb m n
 same_number m n = grind (arith, nat_tests)
 
 then_equal : (r s : Ordering) → is_eq (ordering_then r s) ≡ (is_eq r && is_eq s)
-then_equal Less s = refl
-then_equal Equal s = refl
-then_equal Greater s = refl
+then_equal r s = grind (arith, nat_tests)
 
 same_key : (p q : ℕ × ℕ) → eq_by_cmp pair_cmp p q ≡ (eqb p.0 q.0 && eqb p.1 q.1)
 same_key p q = then_equal (nat_cmp p.0 q.0) (nat_cmp p.1 q.1) ∙ (λ i. same_number p.0 q.0 i && same_number p.1 q.1 i)
@@ -80,9 +78,7 @@ module _ (before : Links) where
   -- keys above an entry are found behind it
   skip : (e : (ℕ × ℕ) × Lane) (es : List ((ℕ × ℕ) × Lane)) (ks : List (ℕ × ℕ)) → AllByRecursion (λ q. pair_cmp e.0 q ≡ Less) ks → fronts_at (e ∷ es) ks ≡ fronts_at es ks
   skip e es [] above = refl
-  skip e es (q ∷ ks) above =
-      let behind : find pair_cmp q (e ∷ es) ≡ find pair_cmp q es = ap (λ r. cond (is_eq r) (Some e.1) (find pair_cmp q es)) (turned e.0 q above.0) in
-      λ i. front_now q (behind i) ++ skip e es ks above.1 i
+  skip e es (q ∷ ks) above = grind (arith, nat_tests, above, ap (λ r. cond (is_eq r) (Some e.1) (find pair_cmp q es)) (turned e.0 q above.0), skip e es ks above.1)
 
   -- a key below all entries may be left out
   quieter : (k : ℕ × ℕ) (ks : List (ℕ × ℕ)) (es : List ((ℕ × ℕ) × Lane)) → below_all pair_cmp k es ≡ true → Quiet (k ∷ ks) es → Quiet ks es

@@ -22,9 +22,7 @@ lanes_to u xs = map (λ x. (u, x)) xs
 
 above_each : (u x : ℕ) (xs : List ℕ) → AllByRecursion (λ y. nat_cmp x y ≡ Less) xs → AllByRecursion (λ q. pair_cmp (u, x) q ≡ Less) (lanes_to u xs)
 above_each u x [] above = tt
-above_each u x (y ∷ ys) above =
-    let less : nat_cmp x y ≡ Less = above.0 in
-    (grind (arith, nat_tests, less), above_each u x ys above.1)
+above_each u x (y ∷ ys) above = grind (arith, nat_tests, above, above.0, above_each u x ys above.1)
 
 pub rising_to : (u : ℕ) (xs : List ℕ) → IsStrictlySortedBy nat_cmp xs → Rising (lanes_to u xs)
 unfolding IsStrictlySortedBy
@@ -37,10 +35,7 @@ among_to u (z ∷ zs) x y = grind (arith, nat_tests, among_to u zs x y)
 
 -- a lane has no new front where its front stays
 front_stays : (i b g h : ℕ) (q : List Msg) (k : ℕ × ℕ) → sent_by (Some (record { inc = i; base = b; got = g; queue = q })) k (record { inc = i; base = b; got = h; queue = q }) q ≡ []
-front_stays i b g h [] k = refl
-front_stays i b g h (m ∷ ms) k =
-    let same : had_front (Some (record { inc = i; base = b; got = g; queue = m ∷ ms })) (record { inc = i; base = b; got = h; queue = m ∷ ms }) ≡ true = grind (arith, nat_tests) in
-    grind (arith, nat_tests, same)
+front_stays i b g h q k = grind (arith, nat_tests)
 
 abbrev pub Still : ℕ × ℕ → Option Lane → Option Lane → Type 0
 Still k before after = (l : Lane) → after ≡ Some l → sent_by before k l l.queue ≡ []
@@ -60,19 +55,9 @@ nothing_sent b ms None none = refl
 nothing_sent true ms (Some l) none = ap (λ ns. Some (sent ns l)) none ∙ ap Some (sym (sent_none l))
 nothing_sent false ms (Some l) none = refl
 
--- a message becomes a front where the queue is empty
-one_front : (i b g : ℕ) (q : List Msg) (k : ℕ × ℕ) (m : Msg) →
-    sent_by (Some (record { inc = i; base = b; got = g; queue = q })) k (record { inc = i; base = b; got = g; queue = q ++ m ∷ [] }) (q ++ m ∷ []) ≡ front_sent (Some (record { inc = i; base = b; got = g; queue = q })) k m
-one_front i b g [] k m = refl
-one_front i b g (n ∷ ns) k m =
-    let same : had_front (Some (record { inc = i; base = b; got = g; queue = n ∷ ns })) (record { inc = i; base = b; got = g; queue = n ∷ ns ++ m ∷ [] }) ≡ true = grind (arith, nat_tests) in
-    grind (arith, nat_tests, same)
-
 module _ (before after : Links) (u : ℕ) (d : Transition) (sends : (v : ℕ) → set.contains d.to v ≡ true → lane_at after u v ≡ option_map (sent (d.message ∷ [])) (lane_at before u v)) where
   front_of : (k : ℕ × ℕ) (o p : Option Lane) → lane_at before k.0 k.1 ≡ o → p ≡ option_map (sent (d.message ∷ [])) o → front_now before k p ≡ front_sent o k d.message
-  front_of k None p was is = ap (front_now before k) is
-  front_of k (Some l) p was is =
-      ap (front_now before k) is ∙ ap (λ o. sent_by o k (sent (d.message ∷ []) l) (l.queue ++ d.message ∷ [])) was ∙ one_front l.inc l.base l.got l.queue k d.message
+  front_of k o p was is = grind (arith, nat_tests, was, is)
 
   fronts_each : (xs : List ℕ) → ((v : ℕ) → list_any (λ z. nat_eq z v) xs ≡ true → set.contains d.to v ≡ true) → fronts_in before after (lanes_to u xs) ≡ fronts_sent before u (map (λ x. (x, d.message)) xs)
   fronts_each [] within = refl
@@ -87,9 +72,7 @@ module _ (before after : Links) (u : ℕ) (d : Transition) (sends : (v : ℕ) �
 
 -- what one transition sends
 pub sends_here : (u : ℕ) (d : Transition) (y : ℕ) (o : Option Lane) → set.contains d.to y ≡ true → option_map (λ l. cond (eqb u u) (sent (added d y) l) l) o ≡ option_map (sent (d.message ∷ [])) o
-sends_here u d y o to =
-    let mine : eqb u u ≡ true = grind (arith, nat_tests) in
-    (λ i. option_map (λ l. cond (mine i) (sent (cond (to i) (d.message ∷ []) []) l) l) o)
+sends_here u d y o h1 = grind (arith, nat_tests, h1)
 
 pub nothing_here : (u : ℕ) (d : Transition) (x y : ℕ) (o : Option Lane) → among (x, y) (lanes_to u (set.items d.to)) ≡ false → option_map (λ l. cond (eqb x u) (sent (added d y) l) l) o ≡ o
 nothing_here u d x y o away = nothing_sent (eqb x u) (added d y) o (none (eqb x u) (set.contains d.to y) (ap (λ b. eqb x u && b) (contains-items d.to y) ∙ sym (among_to u (set.items d.to) x y) ∙ away))

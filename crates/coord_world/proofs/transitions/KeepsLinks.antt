@@ -21,8 +21,7 @@ has_without s (Some p) y = grind (arith, nat_tests, has_remove s p y)
 
 -- what is still a parent
 child_left : (p : Option ℕ) (b y : ℕ) → is_parent (without p b) y ≡ (not (eqb y b) && is_parent p y)
-child_left None b y = grind (arith, nat_tests)
-child_left (Some p) b y = grind (arith, nat_tests)
+child_left p b y = grind (arith, nat_tests)
 
 -- a state s that is r but for what it says of v, and whose sets fit each other
 pub record Aside (r s : NodeState) (v : ℕ) : Type 0 where

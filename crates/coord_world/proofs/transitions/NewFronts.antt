@@ -1,5 +1,5 @@
 -- The new fronts of a step stand on the lanes that it touches: those that it sends on, and the one that it clears.
-use Rattle.std.proofs.Common.{◌≡◌, ◌≢◌, ℕ, ◌+◌, Bool, true, false, List, [], ◌∷◌, ◌++◌, Option, Some, None, cond, eqb, refl, sym, ap, ◌∙◌, subst, arith, append-nil, ◌==◌, nat_lt, is_some}
+use Rattle.std.proofs.Common.{◌≡◌, ◌≢◌, ℕ, ◌+◌, Bool, true, false, List, [], ◌∷◌, ◌++◌, Option, Some, None, cond, eqb, refl, sym, ap, ◌∙◌, subst, arith, append-nil, nat_lt, is_some}
 use Rattle.std.proofs.lemmas.Bool.Decides.{nat_tests}
 use Rattle.coord_types.specs.NodeSet as set
 use Rattle.coord_types.specs.Facade.{NodeState, behind_front}
@@ -69,16 +69,11 @@ clear_fronts w a b turned =
 
     next_front : (i n g h : ℕ) (q rest : List Msg) → sent_by (Some (record { inc = i; base = n; got = g; queue = q })) (a, b) (record { inc = i; base = n + 1; got = h; queue = rest }) rest ≡ packets_of (a, b) (record { inc = i; base = n + 1; got = h; queue = rest }) rest
     next_front i n g h q [] = refl
-    next_front i n g h q (m ∷ ms) =
-        let other : (n == n + 1) ≡ false = grind (arith, nat_tests) in
-        let new : had_front (Some (record { inc = i; base = n; got = g; queue = q })) (record { inc = i; base = n + 1; got = h; queue = m ∷ ms }) ≡ false = grind (arith, nat_tests, other) in
-        grind (arith, nat_tests, new)
+    next_front i n g h q (m ∷ ms) = grind (arith, nat_tests)
 
     behind : (o : Option Lane) → lane_at w.links a b ≡ o → front_now w.links (a, b) (option_map (λ l. cond (is_lane (a, b) a b) (cleared l) l) o) ≡ front_behind o (a, b)
     behind None was = refl
-    behind (Some l) was =
-        ap (λ t. front_now w.links (a, b) (Some (cond t (cleared l) l))) here ∙ ap (λ o. sent_by o (a, b) (cleared l) (behind_front l.queue)) was
-        ∙ next_front l.inc l.base l.got l.got l.queue (behind_front l.queue)
+    behind (Some l) was = grind (arith, nat_tests, was)
 
 -- a node sends nothing to the one that it lost
 not_back : (r : NodeState) (v : ℕ) → set.contains (lost r v).to v ≡ false
@@ -95,8 +90,7 @@ not_back r v =
     other (Some q) p e = by_test (eqb q v) (λ t. cond t None (Some q) ≡ Some p → eqb v p ≡ false) (λ _ none. cc) (λ away some. let same : q ≡ p = cc in grind (arith, nat_tests, away, same)) e
 
 not_mine : (t : Bool) (ms : List Msg) (o : Option Lane) → t ≡ false → option_map (λ l. cond t (sent ms l) l) o ≡ o
-not_mine t ms None isnt = refl
-not_mine t ms (Some l) isnt = ap (λ f. Some (cond f (sent ms l) l)) isnt
+not_mine t ms o h1 = grind (arith, nat_tests, h1)
 
 left : (t : Bool) (o : Option Lane) → t ≡ false → cond t None o ≡ o
 left t o isnt = ap (λ f. cond f None o) isnt

@@ -1,15 +1,15 @@
 -- What no transition changes of a node, and how far it raises the node's epoch.
-use Rattle.std.proofs.Common.{◌≡◌, ℕ, ◌+◌, ◌≤◌, Option, Some, None, refl, arith}
+use Rattle.std.proofs.Common.{◌≡◌, ℕ, ◌+◌, ◌≤◌, Option, None, refl, arith}
 use Rattle.std.proofs.lemmas.Bool.Decides.{nat_tests}
-use Rattle.coord_types.specs.NodeSet.{NodeSet, empty, remove}
+use Rattle.coord_types.specs.NodeSet.{NodeSet, remove}
 use Rattle.coord_types.specs.NodeState.{NodeState}
 use Rattle.coord_types.specs.declared.messages.Mode.{Mode}
-use Rattle.coord_types.specs.declared.messages.Mode.TheVariants.{Ready, Abort, Converge}
+use Rattle.coord_types.specs.declared.messages.Mode.TheVariants.{Ready, Abort}
 use Rattle.coord_types.specs.declared.messages.Msg.{Msg}
 use Rattle.coord_types.specs.declared.messages.Msg.TheVariants as msg
-use Rattle.coord_node.specs.Rules.{Transition, transition, kept, lost, request, without}
+use Rattle.coord_node.specs.Rules.{Transition, transition, lost, request, without}
 use Rattle.coord_world.specs.protocol.Ranges.{brought}
-use Rattle.coord_world.proofs.transitions.RuleCases.{abort_cases, ack_cases, lost_cases, ready_cases, request_cases}
+use Rattle.coord_world.proofs.transitions.RuleCases.{ready_cases, request_cases}
 
 -- a node with the state r goes on to the state s, to which a distance may have been brought, and has the neighbours near then
 pub record Goes (r : NodeState) (near : NodeSet) (n : ℕ) (s : NodeState) : Type 0 where
@@ -35,10 +35,6 @@ module _ (r : NodeState) (near : NodeSet) (n : ℕ) where
   enters : (pend : NodeSet) → Goes r near n (record r { mode = Ready; parent = None; pend = pend; neighbours = near; epoch = r.epoch + 1; distance = 0 })
   enters pend = record { version = refl; distance = λ most _ _. omega arith; ready = λ none is. refl; group = refl; neighbours = refl; confirmed = refl; least = omega arith; most = omega arith }
 
--- no more is kept than what was brought
-pub kept_le : (r : NodeState) (k : ℕ) → kept r k ≤ k
-kept_le r k = grind (arith, nat_tests)
-
 module _ (r : NodeState) where
   -- the transition leaves the neighbours so
   abbrev To : NodeSet → ℕ → Transition → Type 0
@@ -51,15 +47,10 @@ module _ (r : NodeState) where
   module _ (v : ℕ) where
     -- a message that comes
     pub goes_deed : (m : Msg) → To r.neighbours (brought m) (transition m r v)
-    goes_deed (msg.Abort n) = abort_cases r v (To r.neighbours n) n (λ _ _. takes r r.neighbours n Converge (Some v) empty (kept r n) (kept_le r n) (λ e. cc))
-        (λ _ _. takes r r.neighbours n Abort (Some v) (remove r.neighbours v) (kept r n) (kept_le r n) (λ e. cc)) (λ _. stays r r.neighbours n r.mode r.parent r.pend (λ e. e))
-    goes_deed msg.Ack = ack_cases r v (To r.neighbours 0) (λ _. stays r r.neighbours 0 r.mode r.parent r.pend (λ e. e)) (λ _. stays r r.neighbours 0 r.mode r.parent (remove r.pend v) (λ e. e))
-        (λ _ _. enters r r.neighbours 0 (remove r.pend v)) (λ _ p up. stays r r.neighbours 0 Converge r.parent (remove r.pend v) (λ e. cc))
+    goes_deed (msg.Abort n) = grind (arith, nat_tests)
+    goes_deed msg.Ack = grind (arith, nat_tests)
     goes_deed msg.Ready = ready_cases r v (To r.neighbours 0) (λ _. stays r r.neighbours 0 r.mode r.parent r.pend (λ e. e)) (λ _ _. enters r r.neighbours 0 r.pend)
 
     -- a link that vanishes
     pub goes_lost : To (remove r.neighbours v) 0 (lost r v)
-    goes_lost =
-        let same = stays r (remove r.neighbours v) 0 r.mode (without r.parent v) (remove r.pend v) (λ e. e) in
-        let ends = enters r (remove r.neighbours v) 0 (remove r.pend v) in
-        lost_cases r v (To (remove r.neighbours v) 0) (λ _. same) (λ _ _. same) (λ _ _. same) (λ _ _. ends) (λ _ _ _. ends) (λ _ _ p up. stays r (remove r.neighbours v) 0 Converge (without r.parent v) (remove r.pend v) (λ e. cc))
+    goes_lost = grind (arith, nat_tests, stays r (remove r.neighbours v) 0 r.mode (without r.parent v) (remove r.pend v) (λ e. e), enters r (remove r.neighbours v) 0 (remove r.pend v))

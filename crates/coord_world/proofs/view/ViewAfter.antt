@@ -16,8 +16,7 @@ use Rattle.coord_world.proofs.lanes.Transit.{transit-sent, transit-took, transit
 
 -- a change of a lane leaves it there
 some_mapped : (f : Lane → Lane) (o : Option Lane) → is_some (option_map f o) ≡ is_some o
-some_mapped f None = refl
-some_mapped f (Some l) = refl
+some_mapped f o = grind (arith, nat_tests)
 
 module _ (w : World) where
   -- a state is put

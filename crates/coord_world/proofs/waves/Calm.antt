@@ -1,9 +1,8 @@
 -- Transitions that send no Abort, and what they leave on the way.
-use Rattle.std.proofs.Common.{◌≡◌, ℕ, ◌≤◌, true, List, [], ◌∷◌, arith}
+use Rattle.std.proofs.Common.{◌≡◌, ℕ, ◌≤◌, true, List, arith}
 use Rattle.std.proofs.lemmas.Bool.Decides.{nat_tests}
 use Rattle.coord_types.specs.Facade.{Ideal, behind_front}
 use Rattle.coord_types.specs.declared.messages.Msg.{Msg}
-use Rattle.coord_types.specs.declared.messages.Msg.TheVariants as msg
 use Rattle.coord_node.specs.Facade.{Transition, added, headed, ideal_applied}
 use Rattle.coord_world.specs.protocol.Links.{aborts, is_ready}
 use Rattle.coord_world.proofs.legal.TakeKept.{after_take}
@@ -13,10 +12,7 @@ use Rattle.coord_world.proofs.lanes.MessageCounts.{aborts-append}
 
 -- to take a message leaves no more
 fewer_behind : (xs : List Msg) → aborts (behind_front xs) ≤ aborts xs
-fewer_behind [] = omega arith
-fewer_behind (msg.Abort k ∷ xs) = omega arith
-fewer_behind (msg.Ack ∷ xs) = omega arith
-fewer_behind (msg.Ready ∷ xs) = omega arith
+fewer_behind xs = grind (arith, nat_tests)
 
 -- a transition sends no Abort
 abbrev pub IsQuiet : Transition → Type 0
@@ -29,10 +25,7 @@ module _ (z : Ideal) (v t : ℕ) where
 
   -- it was no Abort, or its receiver wasn't Ready
   headed_kept : (is_ready (z.state t).mode ≡ true → aborts (z.way v t) ≤ aborts (behind_front (z.way v t))) → (a b : ℕ) → is_ready (z.state b).mode ≡ true → aborts (z.way a b) ≤ aborts ((headed z v t).way a b)
-  headed_kept same a b = everywhere (λ q. is_ready (z.state q).mode ≡ true → aborts (z.way a q) ≤ aborts ((headed z v t).way a q)) t
-      (everywhere (λ p. is_ready (z.state t).mode ≡ true → aborts (z.way p t) ≤ aborts ((headed z v t).way p t)) v
-      (λ ready. let more = same ready in grind (arith, nat_tests, more)) (λ p far ready. grind (arith, nat_tests)) a)
-      (λ q apart ready. grind (arith, nat_tests)) b
+  headed_kept h1 a b h2 = grind (arith, nat_tests, h1, h2)
 
 module _ (z : Ideal) (t : ℕ) (d : Transition) (quiet : IsQuiet d) where
   -- a quiet transition leaves all Aborts on the way

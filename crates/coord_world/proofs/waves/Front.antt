@@ -36,9 +36,7 @@ pub record Front (z : Ideal) (u : ℕ) (xs : List ℕ) : Type 0 where
 
 -- what is_ready says
 pub mode_is_ready : (m : Mode) → is_ready m ≡ true → m ≡ Ready
-mode_is_ready Ready e = refl
-mode_is_ready Abort e = cc
-mode_is_ready Converge e = cc
+mode_is_ready m h1 = grind (arith, nat_tests, h1)
 
 -- each node of the list is u or has its parent in it
 pub under : (z : Ideal) (u : ℕ) (xs : List ℕ) → Reached z u xs → (x : ℕ) → among xs x ≡ true → IsUnder z u xs x
@@ -78,9 +76,3 @@ module _ (z : Ideal) (u : ℕ) (xs : List ℕ) (sound : Sound z) (front : Front 
   pub busy_reached : (x : ℕ) → is_ready (z.state x).mode ≡ false → among xs x ≡ true
   busy_reached x h = by_test (among xs x) (λ b. b ≡ true) (λ _. refl) (λ none. absurd (let ready = front.others x none in cc))
 
-  -- so is its parent
-  pub parent_busy : (x p : ℕ) → (z.state x).parent ≡ Some p → is_ready (z.state p).mode ≡ false
-  parent_busy x p up = elim (under z u xs front.reached x (busy_reached x (child_busy x p up))) [
-    | inl is_u ↦ absurd (let none = subst (λ q. (z.state q).parent ≡ None) (sym is_u) front.no_parent in cc)
-    | inr from ↦ reached_busy p (let same : from.0 ≡ p = cc (from.1, up) in subst (λ q. among xs q ≡ true) same from.2)
-  ]

@@ -3,13 +3,13 @@ use Rattle.std.proofs.Common.{◌≡◌, ◌≢◌, ℕ, ◌+◌, true, false, L
 use Rattle.std.proofs.lemmas.Bool.Decides.{nat_tests, eqb_tells}
 use Rattle.coord_types.specs.Facade.{Ideal, NodeState, contains}
 use Rattle.coord_types.specs.declared.messages.Mode.{Mode}
-use Rattle.coord_types.specs.declared.messages.Mode.TheVariants.{Ready, Abort, Converge}
-use Rattle.coord_node.specs.Rules.{is_empty, is_parent}
+use Rattle.coord_types.specs.declared.messages.Mode.TheVariants.{Ready}
+use Rattle.coord_node.specs.Rules.{is_empty}
 use Rattle.coord_world.specs.Facade.{World, is_abort, is_linked, is_ready}
 use Rattle.coord_world.specs.laws.Waves.{Connected}
 use Rattle.coord_tables.proofs.Cases.{by_test, everywhere, same_or_apart}
 use Rattle.coord_world.proofs.waves.Effect.{Finishes, Hears, Signals}
-use Rattle.coord_world.proofs.waves.Front.{Front, Reached, among, under, reached_same, busy_reached, parent_busy}
+use Rattle.coord_world.proofs.waves.Front.{Front, Reached, among, under, reached_same, busy_reached}
 use Rattle.coord_world.proofs.waves.FrontGoesOn.{SameNear}
 use Rattle.coord_world.proofs.waves.Connected.{along}
 use Rattle.coord_world.proofs.lists.NodeSets.{empty_has}
@@ -20,13 +20,7 @@ use Rattle.coord_world.proofs.legal.Sound.{Sound}
 module _ (y : Ideal) (u : ℕ) (sound : Sound y) (top : is_empty (y.state u).pend ≡ true) where
   -- a node whose parent awaits nobody awaits nobody
   below : (x p : ℕ) → (y.state x).parent ≡ Some p → is_empty (y.state p).pend ≡ true → is_empty (y.state x).pend ≡ true
-  below x p up none =
-      let child : is_parent (y.state x).parent p ≡ true = grind (arith, nat_tests, up) in
-      let near = (sound.nodes x).parent_near p child in
-      let count = (sound.links p x (sym (sound.mirrored x p) ∙ near)).counted in
-      let gone = empty_has (y.state p).pend x none in
-      let calm : is_abort (y.state x).mode ≡ false = grind (arith, count, gone, child) in
-      (sound.nodes x).quiet calm
+  below x p up none = grind (arith, nat_tests, up, none, empty_has (y.state p).pend x none)
 
   -- down the list
   quiet : (xs : List ℕ) → Reached y u xs → (x : ℕ) → among xs x ≡ true → is_empty (y.state x).pend ≡ true
@@ -41,19 +35,12 @@ module _ (y : Ideal) (u : ℕ) (sound : Sound y) (top : is_empty (y.state u).pen
 
 -- a Ready node isn't Abort
 ready_calm : (m : Mode) → is_ready m ≡ true → is_abort m ≡ false
-ready_calm Ready e = refl
-ready_calm Abort e = cc
-ready_calm Converge e = cc
+ready_calm m h1 = grind (arith, nat_tests, h1)
 
 module _ (z y : Ideal) (u t : ℕ) (xs : List ℕ) (before : Sound z) (after : Sound y) (near : SameNear z y) (front : Front z u xs) (finishes : Finishes z y t) where
   -- nobody hears a Ready from its parent
   not_heard : (v : ℕ) → Hears z t v → ⊥
-  not_heard v hears =
-      let with_t = sym (before.mirrored t v) ∙ hears.near in
-      let child : is_parent (z.state t).parent v ≡ true = grind (arith, nat_tests, hears.parent) in
-      let not_mutual = (before.links t v hears.near).one_parent child in
-      let none = (before.links v t with_t).no_ready (parent_busy z u xs before front t v hears.parent) not_mutual (front.held t v hears.was hears.parent) in
-      omega (arith, hears.came, none)
+  not_heard v h1 = grind (arith, nat_tests, h1)
 
   -- so it is the initiator that finishes
   initiator : t ≡ u

@@ -1,22 +1,20 @@
 -- The first phase of a wave goes on where a node is reached.
-use Rattle.std.proofs.Common.{◌≡◌, ◌≢◌, ℕ, ◌≤◌, true, false, List, ◌∷◌, Some, refl, sym, ap, ◌∙◌, subst, inl, inr, arith}
+use Rattle.std.proofs.Common.{◌≡◌, ◌≢◌, ℕ, ◌≤◌, true, false, List, ◌∷◌, Some, sym, ap, ◌∙◌, subst, inl, inr, arith}
 use Rattle.std.proofs.lemmas.Bool.Decides.{nat_tests}
 use Rattle.coord_types.specs.Facade.{Ideal, NodeState, contains}
 use Rattle.coord_types.specs.declared.messages.Mode.{Mode}
-use Rattle.coord_types.specs.declared.messages.Mode.TheVariants.{Ready, Abort, Converge}
+use Rattle.coord_types.specs.declared.messages.Mode.TheVariants.{Converge}
 use Rattle.coord_world.specs.protocol.Links.{aborts, is_abort, is_ready}
 use Rattle.coord_tables.proofs.Cases.{same_or_apart}
 use Rattle.coord_world.proofs.waves.Effect.{Reaches}
-use Rattle.coord_world.proofs.waves.Front.{Front, reached_same, reached_busy, busy_reached, parent_busy}
+use Rattle.coord_world.proofs.waves.Front.{Front, reached_same, reached_busy, busy_reached}
 use Rattle.coord_world.proofs.waves.FrontGoesOn.{SameNear}
 use Rattle.coord_world.proofs.waves.LastPhase.{sender_aborts}
 use Rattle.coord_world.proofs.legal.Sound.{Sound}
 
 -- an Abort node isn't Ready
 pub abort_busy : (m : Mode) → is_abort m ≡ true → is_ready m ≡ false
-abort_busy Ready e = cc
-abort_busy Abort e = refl
-abort_busy Converge e = cc
+abort_busy m h1 = grind (arith, nat_tests, h1)
 
 module _ (z y : Ideal) (u t v : ℕ) (xs : List ℕ) (sound : Sound z) (near : SameNear z y) (front : Front z u xs) (reaches : Reaches z y t v) where
   -- the sender is in the wave
@@ -33,9 +31,7 @@ module _ (z y : Ideal) (u t v : ℕ) (xs : List ℕ) (sound : Sound z) (near : S
 
   -- a node that is Ready after it is another one, and was Ready
   ready_before : (x : ℕ) → is_ready (y.state x).mode ≡ true → (x ≢ t) × (is_ready (z.state x).mode ≡ true)
-  ready_before x ready =
-      let far : x ≢ t = λ same. (let busy = subst (λ q. is_ready (y.state q).mode ≡ false) (sym same) reaches.busy in cc) in
-      (far, sym (ready_far x far) ∙ ready)
+  ready_before x h1 = grind (arith, nat_tests, h1)
 
   -- the initiator is another one
   top_far : u ≢ t
@@ -43,14 +39,7 @@ module _ (z y : Ideal) (u t v : ℕ) (xs : List ℕ) (sound : Sound z) (near : S
 
   -- who has acknowledged
   held : (x p : ℕ) → (y.state x).mode ≡ Converge → (y.state x).parent ≡ Some p → aborts (y.way p x) ≡ 0
-  held x p mode up = elim (same_or_apart x t) [
-    | inl here ↦ subst (λ q. aborts (y.way p q) ≡ 0) (sym here)
-        (let up_t = subst (λ q. (y.state q).parent ≡ Some p) here up in let same : v ≡ p = cc (up_t, reaches.parent) in subst (λ q. aborts (y.way q t) ≡ 0) same reaches.left)
-    | inr far ↦
-        let up_z : (z.state x).parent ≡ Some p = ap (λ (r : NodeState). r.parent) (sym (reaches.elsewhere x far)) ∙ up in
-        let mode_z : (z.state x).mode ≡ Converge = ap (λ (r : NodeState). r.mode) (sym (reaches.elsewhere x far)) ∙ mode in
-        ap aborts (reaches.apart p x (apart p (parent_busy z u xs sound front x p up_z)) far) ∙ front.held x p mode_z up_z
-  ]
+  held x p h1 h2 = grind (arith, nat_tests, h1, h2)
 
   -- who has sent an Abort
   sent : (a b : ℕ) → contains (y.state a).neighbours b ≡ true → is_ready (y.state a).mode ≡ false → is_ready (y.state b).mode ≡ true → 1 ≤ aborts (y.way a b)

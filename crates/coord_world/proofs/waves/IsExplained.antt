@@ -2,14 +2,14 @@
 use Rattle.std.proofs.Common.{◌≡◌, ◌≢◌, ◌⊎◌, ℕ, ◌≤◌, true, false, List, [], ◌∷◌, ◌++◌, sym, ap, ◌∙◌, subst, inl, inr, arith, All}
 use Rattle.std.proofs.lemmas.Bool.Decides.{nat_tests}
 use Rattle.std.proofs.lemmas.List.Elements.{All-cons, All-nil}
-use Rattle.coord_types.specs.Facade.{Ideal, NodeState, contains}
+use Rattle.coord_types.specs.Facade.{Ideal, contains}
 use Rattle.coord_types.specs.declared.steps.Kind.{Kind}
 use Rattle.coord_types.specs.declared.steps.Kind.TheVariants.{Finished}
 use Rattle.coord_types.specs.declared.steps.Step.{Step}
 use Rattle.coord_node.specs.Steps.{kind}
 use Rattle.coord_world.specs.Facade.{StepOutcome, World, is_linked, is_ready, next, outputs, outs, reply, state, view}
 use Rattle.coord_world.specs.laws.Waves.{Connected, IsExplained, started, started_by}
-use Rattle.coord_tables.proofs.Cases.{everywhere, same_or_apart}
+use Rattle.coord_tables.proofs.Cases.{same_or_apart}
 use Rattle.coord_world.proofs.waves.Effect.{Effect, SamePlace}
 use Rattle.coord_world.proofs.waves.Front.{among}
 use Rattle.coord_world.proofs.waves.FrontGrows.{abort_busy}
@@ -32,8 +32,7 @@ record Explains (base : World) (u : ℕ) (y : Ideal) (signals : ℕ → ℕ) (k 
 module _ (base : World) (u : ℕ) (z y : Ideal) (signals : ℕ → ℕ) (k : Kind) (inside : Inside base u z) where
   -- where one node alone changes, and is connected
   one_changes : (t : ℕ) → ((x : ℕ) → x ≢ t → y.state x ≡ z.state x) → Connected base u t → Inside base u y
-  one_changes t elsewhere known = everywhere (λ x. is_ready (y.state x).mode ≡ false → Connected base u x) t (λ busy. known)
-      (λ x far busy. inside x (ap (λ (r : NodeState). is_ready r.mode) (sym (elsewhere x far)) ∙ busy))
+  one_changes t elsewhere known = grind (arith, nat_tests, elsewhere, known)
 
   -- where each stays in its place
   same_inside : ((x : ℕ) → SamePlace (z.state x) (y.state x)) → Inside base u y

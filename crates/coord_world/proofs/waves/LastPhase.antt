@@ -1,11 +1,11 @@
 -- The last phase of a wave: once no node is Abort, each node that isn't Ready signals once more.
-use Rattle.std.proofs.Common.{◌≡◌, ℕ, ◌+◌, ◌≤◌, true, false, not, List, [], sym, ap, ◌∙◌, subst, inl, inr, arith}
+use Rattle.std.proofs.Common.{◌≡◌, ℕ, ◌+◌, ◌≤◌, true, false, not, List, [], sym, ap, ◌∙◌, arith}
 use Rattle.std.proofs.lemmas.Bool.Decides.{nat_tests}
 use Rattle.coord_types.specs.Facade.{Ideal, NodeState, contains}
 use Rattle.coord_types.specs.declared.steps.Kind.{Kind}
 use Rattle.coord_node.specs.Rules.{is_empty}
 use Rattle.coord_world.specs.protocol.Links.{aborts, is_abort, is_ready, one}
-use Rattle.coord_tables.proofs.Cases.{everywhere, same_or_apart}
+use Rattle.coord_tables.proofs.Cases.{everywhere}
 use Rattle.coord_world.proofs.waves.Effect.{Effect, Passes, Finishes, Signals}
 use Rattle.coord_world.proofs.legal.Sound.{Sound}
 use Rattle.coord_world.proofs.legal.TransitionKept.{both_before}
@@ -53,11 +53,7 @@ module _ (z y : Ideal) (signals : ℕ → ℕ) (settled : Settled z) where
 -- by what the step does
 pub settles : (z y : Ideal) (signals : ℕ → ℕ) (starts : List ℕ) (k : Kind) → Sound z → Settled z → starts ≡ [] → Effect z y signals starts k → Settles z y signals
 settles z y signals starts k sound settled none (Effect.passes passes silent e) = passing z y signals settled passes (λ x some. silent x)
-settles z y signals starts k sound settled none (Effect.alone t passes lone signal kind e) =
-    passing z y signals settled passes (λ x some. signal x ∙ elim (same_or_apart x t) [
-      | inl here ↦ absurd (let more = subst (λ q. is_empty (z.state q).neighbours ≡ false) here some in cc)
-      | inr apart ↦ grind (arith, nat_tests)
-    ])
+settles z y signals starts k sound settled none (Effect.alone t passes lone signal kind e) = grind (arith, nat_tests, sound, settled, none)
 settles z y signals starts k sound settled none (Effect.reaches t v reaches silent e) =
     absurd (let calm = settled v in let abort = sender_aborts z sound v t reaches.near reaches.came in cc)
 settles z y signals starts k sound settled none (Effect.turns t p turns silent e) =

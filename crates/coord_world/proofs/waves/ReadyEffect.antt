@@ -1,5 +1,5 @@
 -- What a Ready that is taken does to a wave.
-use Rattle.std.proofs.Common.{◌≡◌, ℕ, true, List, ◌∷◌, Option, Some, None, refl, ap, arith, inr}
+use Rattle.std.proofs.Common.{◌≡◌, ℕ, true, List, ◌∷◌, Option, Some, refl, ap, arith, inr}
 use Rattle.std.proofs.lemmas.Bool.Decides.{nat_tests}
 use Rattle.coord_types.specs.Facade.{Ideal, NodeState, contains}
 use Rattle.coord_types.specs.declared.messages.Mode.TheVariants.{Converge}
@@ -17,8 +17,7 @@ use Rattle.coord_world.proofs.legal.TakeKept.{after_take}
 
 -- a node's parent is the one that it names
 named : (p : Option ℕ) (v : ℕ) → is_parent p v ≡ true → p ≡ Some v
-named None v h = cc
-named (Some p) v h = grind (arith, nat_tests)
+named p v h1 = grind (arith, nat_tests, h1)
 
 module _ (z : Ideal) (v t : ℕ) (rest : List Msg) (front : z.way v t ≡ msg.Ready ∷ rest) (near : contains (z.state t).neighbours v ≡ true) where
   -- the node that takes the message

@@ -9,12 +9,10 @@ use Rattle.coord_types.specs.declared.outputs.Output.TheVariants.{Receipted, Sig
 use Rattle.coord_types.specs.declared.steps.Kind.{Kind}
 use Rattle.coord_types.specs.declared.steps.Kind.TheVariants.{Finished}
 use Rattle.coord_types.specs.declared.steps.Step.{Step}
-use Rattle.coord_types.specs.declared.steps.Step.TheVariants.{Order, Take, Clear}
 use Rattle.coord_node.specs.Steps.{transitions}
 use Rattle.coord_link.specs.LaneMachine.{Lane}
 use Rattle.coord_world.specs.Facade.{Links, StepOutcome, World, all_sent, front_packet, had_front, lane_at, lanes_in_order, next, outputs, outs, receipts, reply, sent_by, signals, state}
 use Rattle.coord_world.specs.laws.Waves.{Connected, IsExplained, is_signal_of, signals_of}
-use Rattle.coord_tables.proofs.Cases.{by_test}
 use Rattle.coord_world.proofs.waves.StepEffect.{signals_in}
 
 module _ (v : ℕ) where
@@ -24,8 +22,7 @@ module _ (v : ℕ) where
 
   -- a lane signals nobody
   none_sent_by : (before : Option Lane) (k : ℕ × ℕ) (l : Lane) (q : List Msg) → count_by (is_signal_of v) (sent_by before k l q) ≡ 0
-  none_sent_by before k l [] = refl
-  none_sent_by before k l (m ∷ q) = by_test (had_front before l) (λ b. count_by (is_signal_of v) (cond b [] (Sent (front_packet k l m) ∷ [])) ≡ 0) (λ _. refl) (λ _. refl)
+  none_sent_by before k l q = grind (arith, nat_tests)
 
   -- nor do all
   none_sent : (before : Links) (es : List ((ℕ × ℕ) × Lane)) → count_by (is_signal_of v) (all_sent before es) ≡ 0
@@ -34,9 +31,7 @@ module _ (v : ℕ) where
 
   -- nor a receipt
   none_receipted : (s : Step) → count_by (is_signal_of v) (receipts s) ≡ 0
-  none_receipted (Order c n x) = refl
-  none_receipted (Take p) = refl
-  none_receipted (Clear p) = refl
+  none_receipted s = grind (arith, nat_tests)
 
   -- the signals are those of the transitions
   pub signals_given : (w : World) (s : Step) → count_by (is_signal_of v) (outputs w s) ≡ signals_in (state w) s v

@@ -69,14 +69,7 @@ module _ (w settled : World) (s : Step) (stays : changes_topology s ≡ false) (
 
 -- the ideal step leaves the links
 ideal_links : (z : Ideal) (s : Step) → changes_topology s ≡ false → (x y : ℕ) → (ideal_next z s).linked x y ≡ z.linked x y
-ideal_links z (Order c n (Add u g)) stays x y = cc
-ideal_links z (Order c n (Remove u)) stays x y = cc
-ideal_links z (Order c n (Join a b)) stays x y = cc
-ideal_links z (Order c n (Drop a b)) stays x y = cc
-ideal_links z (Order c n (Reset u)) stays x y = refl
-ideal_links z (Order c n (Confirm u e)) stays x y = refl
-ideal_links z (Take p) stays x y = refl
-ideal_links z (Clear p) stays x y = refl
+ideal_links z s h1 x y = grind (arith, nat_tests, h1)
 
 -- and so does the step itself
 pub same_links : (w settled : World) (s : Step) → changes_topology s ≡ false → AllCount w → IsFresh w settled s → (x y : ℕ) → (view (next w s)).linked x y ≡ (view w).linked x y
