@@ -3,7 +3,7 @@ use Rattle.std.proofs.Common.{◌≡◌, ◌≢◌, ℕ, true, false, ◌&&◌, 
 use Rattle.std.proofs.lemmas.Bool.Decides.{nat_tests}
 use Rattle.coord_types.specs.Facade.{Ideal, NodeState, contains}
 use Rattle.coord_types.specs.NodeSet as set
-use Rattle.coord_types.proofs.Sets.{len_zero}
+use Rattle.coord_types.proofs.Sets.{len_zero, contains-remove}
 use Rattle.coord_types.specs.declared.messages.Mode.TheVariants.{Abort, Converge}
 use Rattle.coord_node.specs.Facade.{Transition, ideal_applied, idle, is_empty, is_parent, lost, without, without_link}
 use Rattle.coord_world.proofs.legal.TransitionKept.{LegalLinks, links_of, sound_of, links_kept, row_here, row_there}
@@ -12,7 +12,7 @@ use Rattle.coord_world.proofs.transitions.NodeGoesOn.{goes_lost}
 use Rattle.coord_world.proofs.transitions.LegalBoth.{LegalBoth}
 use Rattle.coord_world.proofs.transitions.KeepsLinks.{Aside, Keeps, aside_lost, keeps_converge, keeps_finish, keeps_idle}
 use Rattle.coord_world.proofs.transitions.RuleCases.{cut_from, lost_cases}
-use Rattle.coord_world.proofs.lists.NodeSets.{empty_has, has_remove}
+use Rattle.coord_world.proofs.lists.NodeSets.{empty_has}
 use Rattle.coord_world.proofs.legal.Sound.{Sound}
 use Rattle.coord_world.proofs.legal.SoundNode.{SoundNode}
 use Rattle.coord_world.specs.protocol.Links.{link, end_of, is_abort, is_ready}
@@ -52,13 +52,13 @@ module _ (r : NodeState) (b : ℕ) (node : SoundNode r) where
   -- a node that isn't Abort awaits nobody
   quiet_left : is_abort r.mode ≡ false → is_empty s.pend ≡ true
   quiet_left e =
-      let zero : set.len s.pend ≡ 0 = len_zero s.pend (λ q. grind (arith, has_remove r.pend b q, empty_has r.pend q (node.quiet e))) in
+      let zero : set.len s.pend ≡ 0 = len_zero s.pend (λ q. grind (arith, contains-remove r.pend b q, empty_has r.pend q (node.quiet e))) in
       grind (arith, nat_tests)
 
   -- somebody else is still awaited
   waits : r.mode ≡ Abort → (contains r.pend b && is_empty s.pend) ≡ false → is_empty s.pend ≡ false
   waits mode more = by_test (is_empty s.pend) (λ t. t ≡ false) (λ none.
-      let zero : set.len r.pend ≡ 0 = len_zero r.pend (λ q. grind (arith, nat_tests, has_remove r.pend b q, empty_has s.pend q none)) in
+      let zero : set.len r.pend ≡ 0 = len_zero r.pend (λ q. grind (arith, nat_tests, contains-remove r.pend b q, empty_has s.pend q none)) in
       absurd (grind (arith, nat_tests, node.awaits (ap is_abort mode)))) (λ some. refl)
 
   -- one end that loses its link to b
@@ -142,12 +142,12 @@ module _ (w : Ideal) (a b : ℕ) (with_b : w.linked a b ≡ true) (sound : Sound
   -- each node names its links
   near_ok : (x y : ℕ) → (dropped w a b).linked x y ≡ contains ((dropped w a b).state x).neighbours y
   near_ok x y = everywhere (λ z. (dropped w a b).linked z y ≡ contains ((dropped w a b).state z).neighbours y) b
-      (grind (arith, nat_tests, sound.linked b y, has_remove (w.state b).neighbours a y) ∙ ap (λ s. contains s y) (sym (goes_lost (w.state b) a).neighbours) ∙ ap (λ r. contains r.neighbours y) (sym (row_here one_end b db)))
+      (grind (arith, nat_tests, sound.linked b y, contains-remove (w.state b).neighbours a y) ∙ ap (λ s. contains s y) (sym (goes_lost (w.state b) a).neighbours) ∙ ap (λ r. contains r.neighbours y) (sym (row_here one_end b db)))
       (λ z far. near_one z far ∙ ap (λ r. contains r.neighbours y) (sym (row_there one_end b db z far))) x
     where
       near_one : (z : ℕ) → z ≢ b → (dropped w a b).linked z y ≡ contains (one_end.state z).neighbours y
       near_one = everywhere (λ z. z ≢ b → (dropped w a b).linked z y ≡ contains (one_end.state z).neighbours y) a
-          (λ far. grind (arith, nat_tests, far, sound.linked a y, has_remove (w.state a).neighbours b y) ∙ ap (λ s. contains s y) (sym (goes_lost (w.state a) b).neighbours) ∙ ap (λ r. contains r.neighbours y) (sym (row_here (without_link w a b) a da)))
+          (λ far. grind (arith, nat_tests, far, sound.linked a y, contains-remove (w.state a).neighbours b y) ∙ ap (λ s. contains s y) (sym (goes_lost (w.state a) b).neighbours) ∙ ap (λ r. contains r.neighbours y) (sym (row_here (without_link w a b) a da)))
           (λ z other far. grind (arith, nat_tests, far, other, sound.linked z y) ∙ ap (λ r. contains r.neighbours y) (sym (row_there (without_link w a b) a da z other)))
 
   -- a link that is dropped

@@ -7,14 +7,14 @@ use Rattle.coord_types.specs.NodeSet as set
 use Rattle.coord_types.specs.declared.messages.Mode.TheVariants.{Abort, Converge}
 use Rattle.coord_types.specs.declared.messages.Msg.{Msg}
 use Rattle.coord_types.specs.declared.messages.Msg.TheVariants as msg
-use Rattle.coord_types.proofs.Sets.{contains-empty}
+use Rattle.coord_types.proofs.Sets.{contains-empty, contains-remove}
 use Rattle.coord_node.specs.Facade.{Transition, added, answer, finish, ideal_applied, idle, is_empty, is_parent, kept, on_abort, on_ack, on_ready, request, transition, wave_back, wave_on}
 use Rattle.coord_world.specs.protocol.Links.{link, acks, is_abort, is_ready}
 use Rattle.coord_world.proofs.legal.TransitionKept.{both_before, but_of, deed_kept, not_self}
 use Rattle.coord_world.proofs.transitions.LegalBoth.{LegalBoth, acked, acked_last, converges_near, passed_by, released, wave_ends, wave_meets, wave_reaches}
 use Rattle.coord_world.proofs.transitions.KeepsLinks.{Aside, Keeps, aside_acked, aside_self, has_without, keeps_alone, keeps_answer, keeps_converge, keeps_finish, keeps_idle, keeps_wave_back, keeps_wave_on}
 use Rattle.coord_world.proofs.transitions.RuleCases.{abort_cases, ack_cases, acked_by, ready_cases, request_cases}
-use Rattle.coord_world.proofs.lists.NodeSets.{empty_has, has_remove, has_only}
+use Rattle.coord_world.proofs.lists.NodeSets.{empty_has, has_only}
 use Rattle.coord_world.proofs.legal.Sound.{Sound}
 use Rattle.coord_world.proofs.legal.SoundNode.{SoundNode}
 use Rattle.coord_world.proofs.legal.TakeKept.{after_take, take_kept}
@@ -65,9 +65,9 @@ module _ (w : Ideal) (v u : ℕ) (rest : List Msg) (near : contains (w.state u).
       (wave_ends (link w u v) _ n refl ready refl (contains-empty v) (grind (arith, nat_tests)) refl (grind (arith, nat_tests, has_only v v)) front before)))
       (λ ready some. subst (λ k. Sound (after_take w v u (wave_on taker (Some v) (set.remove taker.neighbours v) k))) (sym same)
       (take_kept w v u (msg.Abort n) rest front near sound (wave_on taker (Some v) (set.remove taker.neighbours v) n) refl
-      (keeps_wave_on taker v (sound.nodes u) (Some v) (set.remove taker.neighbours v) n ready some (λ y e. grind (arith, nat_tests)) (λ y. grind (arith, nat_tests, has_remove taker.neighbours v y)) (λ _. near))
-      (wave_reaches (link w u v) _ n refl ready refl (grind (arith, nat_tests, has_remove taker.neighbours v v)) (grind (arith, nat_tests)) refl
-      (grind (arith, nat_tests, has_remove taker.neighbours v v, append-nil (w.way u v))) front before)))
+      (keeps_wave_on taker v (sound.nodes u) (Some v) (set.remove taker.neighbours v) n ready some (λ y e. grind (arith, nat_tests)) (λ y. grind (arith, nat_tests, contains-remove taker.neighbours v y)) (λ _. near))
+      (wave_reaches (link w u v) _ n refl ready refl (grind (arith, nat_tests, contains-remove taker.neighbours v v)) (grind (arith, nat_tests)) refl
+      (grind (arith, nat_tests, contains-remove taker.neighbours v v, append-nil (w.way u v))) front before)))
       (λ busy. take_kept w v u (msg.Abort n) rest front near sound (answer taker v) refl (keeps_answer taker v (sound.nodes u))
       (wave_meets (link w u v) _ n busy refl refl (grind (arith, nat_tests, has_only v v)) front before))
 
@@ -105,7 +105,7 @@ module _ (w : Ideal) (v u : ℕ) (rest : List Msg) (near : contains (w.state u).
     ack_taken = ack_cases taker v (λ d. Sound (after_take w v u d))
         (λ none. absurd (grind (arith, none, some_awaited)))
         (λ more. take_kept w v u msg.Ack rest front near sound (idle (acked_by taker v)) refl (keeps_idle taker (acked_by taker v) v aside (still_waits more))
-        (acked (link w u v) _ refl refl waiting waiting (grind (arith, nat_tests, has_remove taker.pend v v)) refl refl (nothing _ (acked_by taker v) v) front before))
+        (acked (link w u v) _ refl refl waiting waiting (grind (arith, nat_tests, contains-remove taker.pend v v)) refl refl (nothing _ (acked_by taker v) v) front before))
         (λ none top. take_kept w v u msg.Ack rest front near sound (finish (acked_by taker v)) refl (keeps_finish taker (acked_by taker v) v aside (ap is_ready waiting) none (λ y far. ap (λ o. is_parent o y) top))
         (acked_last (link w u v) _ waiting (ap (λ o. is_parent o v) top) refl (empty_has (set.remove taker.pend v) v none) refl refl
         (grind (arith, nat_tests, has_without taker.neighbours taker.parent v, top)) front before))

@@ -1,11 +1,11 @@
 -- What the tests of a node say, as facts: the form in which the rules are proved to keep them.
 use Rattle.std.proofs.Common.{◌≡◌, ℕ, ◌<◌, ◌≤◌, Bool, true, false, ◌||◌, List, [], ◌∷◌, Option, Some, None, refl, sym, ap, ◌∙◌, arith, nat_eq}
+use Rattle.coord_types.proofs.Sets.{contains-subset, is_subset_by}
 use Rattle.std.specs.List.{list_all, list_any}
 use Rattle.std.proofs.lemmas.Bool.Decides.{nat_tests}
 use Rattle.coord_types.specs.NodeSet as set
 use Rattle.coord_types.specs.Facade.{NodeSet, NodeState}
 use Rattle.coord_types.specs.declared.messages.Mode.TheVariants.{Ready, Converge}
-use Rattle.coord_types.proofs.Sets.{contains-items}
 use Rattle.coord_node.specs.Rules.{is_empty, is_parent}
 use Rattle.coord_world.specs.Facade.{is_abort, is_legal_node, is_parent_near, is_ready, is_within}
 use Rattle.coord_tables.proofs.Cases.{both, by_test}
@@ -31,20 +31,6 @@ pub record EpochsFit (count : ℕ) (r : NodeState) : Type 0 where
   pub ready : r.mode ≡ Ready → r.distance ≡ 0
   pub within : is_ready r.mode ≡ false → r.distance < count
 
--- within
-all_at : (p : ℕ → Bool) (xs : List ℕ) (q : ℕ) → list_all p xs ≡ true → list_any (λ y. nat_eq y q) xs ≡ true → p q ≡ true
-all_at p [] q all any = cc
-all_at p (x ∷ xs) q all any = by_test (nat_eq x q) (λ b. nat_eq x q ≡ b → p q ≡ true)
-    (λ _ here. let same : x ≡ q = grind (arith, nat_tests) in ap p (sym same) ∙ (both (p x) (list_all p xs) all).0)
-    (λ _ far. all_at p xs q (both (p x) (list_all p xs) all).1 (ap (λ b. b || list_any (λ y. nat_eq y q) xs) (sym far) ∙ any)) refl
-
-all_by : (p : ℕ → Bool) (xs : List ℕ) → ((q : ℕ) → list_any (λ y. nat_eq y q) xs ≡ true → p q ≡ true) → list_all p xs ≡ true
-all_by p [] each = refl
-all_by p (x ∷ xs) each =
-    let here : p x ≡ true = each x (grind (arith, nat_tests)) in
-    let rest : list_all p xs ≡ true = all_by p xs (λ q any. each q (grind (arith, any))) in
-    grind (arith, here, rest)
-
 -- the facts from the tests
 pub sound_node : (count : ℕ) (r : NodeState) → is_legal_node count r ≡ true → SoundNode r
 sound_node count r is = record {
@@ -54,7 +40,7 @@ sound_node count r is = record {
   has_parent = λ h e. grind (arith, nat_tests, is, h, e);
   parent_outside = λ v h. grind (arith, nat_tests, is, h);
   parent_near = λ v h. grind (arith, nat_tests, is, h);
-  within = λ v has. all_at (λ u. set.contains r.neighbours u) (set.items r.pend) v (grind (arith, nat_tests, is)) (sym (contains-items r.pend v) ∙ has);
+  within = contains-subset r.pend r.neighbours (grind (arith, nat_tests, is));
 }
 
 pub epochs_fit : (count : ℕ) (r : NodeState) → is_legal_node count r ≡ true → EpochsFit count r
@@ -68,7 +54,7 @@ epochs_fit count r is = record {
 -- the tests from the facts
 pub legal_node : (count : ℕ) (r : NodeState) → SoundNode r → EpochsFit count r → is_legal_node count r ≡ true
 legal_node count r sound fit =
-    let within : is_within r.pend r.neighbours ≡ true = all_by (λ u. set.contains r.neighbours u) (set.items r.pend) (λ v any. sound.within v (contains-items r.pend v ∙ any)) in
+    let within : is_within r.pend r.neighbours ≡ true = is_subset_by r.pend r.neighbours sound.within in
     let near : is_parent_near r.parent r.pend r.neighbours ≡ true = near_to r.parent r.pend r.neighbours sound.parent_outside sound.parent_near in
     grind (arith, nat_tests, within, near, sound.awaits, sound.quiet, sound.no_parent, sound.has_parent, fit.confirmed, fit.entered, fit.ready, fit.within)
   where

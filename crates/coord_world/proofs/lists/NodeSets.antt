@@ -2,7 +2,7 @@
 use Rattle.std.proofs.Common.{◌≡◌, ℕ, true, false, ◌&&◌, not, ap, ◌∙◌, arith, eqb}
 use Rattle.std.proofs.lemmas.Bool.Decides.{nat_tests}
 use Rattle.coord_types.specs.NodeSet.{NodeSet, contains, remove, len}
-use Rattle.coord_types.proofs.Sets.{contains-empty, contains-insert, contains-remove, empty_of_len}
+use Rattle.coord_types.proofs.Sets.{contains-empty, contains-insert, empty_of_len}
 use Rattle.coord_node.specs.Rules.{is_empty, only}
 
 -- an empty set has no members
@@ -10,10 +10,6 @@ pub empty_has : (s : NodeSet) (x : ℕ) → is_empty s ≡ true → contains s x
 empty_has s x e =
     let zero : len s ≡ 0 = grind (arith, nat_tests) in
     ap (λ t. contains t x) (empty_of_len s zero) ∙ contains-empty x
-
--- a set without a node
-pub has_remove : (s : NodeSet) (k q : ℕ) → contains (remove s k) q ≡ (not (eqb q k) && contains s q)
-has_remove s k q = contains-remove s k q
 
 -- a set of one node
 pub has_only : (k q : ℕ) → contains (only k) q ≡ eqb q k

@@ -6,18 +6,18 @@ use Rattle.coord_types.specs.NodeSet as set
 use Rattle.coord_types.specs.Facade.{NodeSet, NodeState, contains}
 use Rattle.coord_types.specs.declared.messages.Mode.TheVariants.{Ready, Abort, Converge}
 use Rattle.coord_types.specs.declared.messages.Msg.TheVariants as msg
-use Rattle.coord_types.proofs.Sets.{contains-empty, len-empty}
+use Rattle.coord_types.proofs.Sets.{contains-empty, len-empty, contains-remove}
 use Rattle.coord_node.specs.Facade.{Transition, added, answer, carried, finish, idle, is_empty, is_parent, wave_back, wave_on, without, without_parent}
 use Rattle.coord_world.specs.protocol.Links.{Link, end_of, is_abort, is_ready}
 use Rattle.coord_world.proofs.transitions.LegalBoth.{LegalBoth, finishes, converges_up, converges_far, wave_goes_on}
 use Rattle.coord_world.proofs.transitions.RuleCases.{acked_by, cut_from}
-use Rattle.coord_world.proofs.lists.NodeSets.{empty_has, has_remove, has_only}
+use Rattle.coord_world.proofs.lists.NodeSets.{empty_has, has_only}
 use Rattle.coord_world.proofs.legal.SoundNode.{SoundNode}
 
 -- the neighbours without the parent
 pub has_without : (s : NodeSet) (p : Option ℕ) (y : ℕ) → contains (without_parent s p) y ≡ (not (is_parent p y) && contains s y)
 has_without s None y = refl
-has_without s (Some p) y = grind (arith, nat_tests, has_remove s p y)
+has_without s (Some p) y = grind (arith, nat_tests, contains-remove s p y)
 
 -- what is still a parent
 child_left : (p : Option ℕ) (b y : ℕ) → is_parent (without p b) y ≡ (not (eqb y b) && is_parent p y)
@@ -46,12 +46,12 @@ module _ (r : NodeState) (v : ℕ) (node : SoundNode r) where
     mode = refl;
     distance = refl;
     version = refl;
-    awaits = λ y far. grind (arith, nat_tests, has_remove r.pend v y);
+    awaits = λ y far. grind (arith, nat_tests, contains-remove r.pend v y);
     child = λ y far. refl;
     near = λ y far. refl;
-    parent_outside = λ y e. grind (arith, nat_tests, has_remove r.pend v y, node.parent_outside y e);
+    parent_outside = λ y e. grind (arith, nat_tests, contains-remove r.pend v y, node.parent_outside y e);
     parent_near = node.parent_near;
-    within = λ y e. grind (arith, nat_tests, has_remove r.pend v y, node.within y);
+    within = λ y e. grind (arith, nat_tests, contains-remove r.pend v y, node.within y);
   }
 
   -- without the link to v
@@ -60,12 +60,12 @@ module _ (r : NodeState) (v : ℕ) (node : SoundNode r) where
     mode = refl;
     distance = refl;
     version = refl;
-    awaits = λ y far. grind (arith, nat_tests, has_remove r.pend v y);
+    awaits = λ y far. grind (arith, nat_tests, contains-remove r.pend v y);
     child = λ y far. grind (arith, nat_tests, child_left r.parent v y);
-    near = λ y far. grind (arith, nat_tests, has_remove r.neighbours v y);
-    parent_outside = λ y e. grind (arith, nat_tests, has_remove r.pend v y, child_left r.parent v y, node.parent_outside y);
-    parent_near = λ y e. grind (arith, nat_tests, has_remove r.neighbours v y, child_left r.parent v y, node.parent_near y);
-    within = λ y e. grind (arith, nat_tests, has_remove r.pend v y, has_remove r.neighbours v y, node.within y);
+    near = λ y far. grind (arith, nat_tests, contains-remove r.neighbours v y);
+    parent_outside = λ y e. grind (arith, nat_tests, contains-remove r.pend v y, child_left r.parent v y, node.parent_outside y);
+    parent_near = λ y e. grind (arith, nat_tests, contains-remove r.neighbours v y, child_left r.parent v y, node.parent_near y);
+    within = λ y e. grind (arith, nat_tests, contains-remove r.pend v y, contains-remove r.neighbours v y, node.within y);
   }
 
 -- what the transition d at a node with the state r keeps, where its cause is v
@@ -177,5 +177,5 @@ module _ (r : NodeState) (v : ℕ) (node : SoundNode r) where
       parent_near = λ y e. grind (arith, nat_tests, near_v);
       within = λ y e. cc (contains-empty y);
     };
-    elsewhere = λ l y far near here both. absurd (grind (arith, nat_tests, has_remove r.neighbours v y, empty_has (set.remove r.neighbours v) y none, near));
+    elsewhere = λ l y far near here both. absurd (grind (arith, nat_tests, contains-remove r.neighbours v y, empty_has (set.remove r.neighbours v) y none, near));
   }

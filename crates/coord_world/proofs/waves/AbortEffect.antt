@@ -1,5 +1,6 @@
 -- What an Abort that is taken does to a wave.
 use Rattle.std.proofs.Common.{◌≡◌, ◌≢◌, ℕ, ◌≤◌, true, false, List, [], ◌∷◌, ◌++◌, Some, refl, sym, ap, ◌∙◌, arith, count_by}
+use Rattle.coord_types.proofs.Sets.{contains-remove}
 use Rattle.std.proofs.lemmas.Bool.Decides.{nat_tests}
 use Rattle.coord_types.specs.Facade.{Ideal, NodeSet, NodeState, contains}
 use Rattle.coord_types.specs.NodeSet as set
@@ -13,7 +14,7 @@ use Rattle.coord_world.specs.laws.Waves.{is_signal_of}
 use Rattle.coord_world.proofs.legal.TransitionKept.{not_self, row_here, row_there}
 use Rattle.coord_world.proofs.waves.Calm.{calm_take, same_places}
 use Rattle.coord_world.proofs.waves.Effect.{Effect, Reaches}
-use Rattle.coord_world.proofs.lists.NodeSets.{empty_has, has_remove, has_only}
+use Rattle.coord_world.proofs.lists.NodeSets.{empty_has, has_only}
 use Rattle.coord_world.proofs.legal.Sound.{Sound}
 use Rattle.coord_world.proofs.transitions.RuleCases.{abort_cases}
 use Rattle.coord_world.proofs.legal.TakeKept.{after_take}
@@ -66,13 +67,13 @@ module _ (z : Ideal) (v t n : ℕ) (rest : List Msg) (front : z.way v t ≡ msg.
   waits : (distance : ℕ) → (z.state t).mode ≡ Ready → is_empty others ≡ false → TakeEffect z v t (wave_on (z.state t) (Some v) others distance)
   waits distance ready some =
       let d = wave_on (z.state t) (Some v) others distance in
-      Effect.reaches t v (away d ready refl refl (λ x near_x far. grind (arith, nat_tests, has_remove (z.state t).neighbours v x))) (λ x. refl) refl
+      Effect.reaches t v (away d ready refl refl (λ x near_x far. grind (arith, nat_tests, contains-remove (z.state t).neighbours v x))) (λ x. refl) refl
 
   -- one without acknowledges
   acknowledges : (distance : ℕ) → (z.state t).mode ≡ Ready → is_empty others ≡ true → TakeEffect z v t (wave_back (z.state t) v distance)
   acknowledges distance ready none =
       let d = wave_back (z.state t) v distance in
-      Effect.reaches t v (away d ready refl refl (λ x near_x far. absurd (grind (arith, nat_tests, has_remove (z.state t).neighbours v x, empty_has others x none)))) (λ x. refl) refl
+      Effect.reaches t v (away d ready refl refl (λ x near_x far. absurd (grind (arith, nat_tests, contains-remove (z.state t).neighbours v x, empty_has others x none)))) (λ x. refl) refl
 
   -- a node in a reset answers
   answers : is_ready (z.state t).mode ≡ false → TakeEffect z v t (answer (z.state t) v)

@@ -75,4 +75,3 @@ module _ (z : Ideal) (u : ℕ) (xs : List ℕ) (sound : Sound z) (front : Front 
   -- and a node that isn't Ready was reached
   pub busy_reached : (x : ℕ) → is_ready (z.state x).mode ≡ false → among xs x ≡ true
   busy_reached x h = by_test (among xs x) (λ b. b ≡ true) (λ _. refl) (λ none. absurd (let ready = front.others x none in cc))
-

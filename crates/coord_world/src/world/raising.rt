@@ -11,8 +11,11 @@ ghost use Rattle.coord_world.specs.protocol.Rows.{listed};
 
 use super::World;
 use crate::rows::parts::Parts;
-use coord_types::{Mode, NodeId, Version};
+use coord_types::{MAX_NODES, Mode, NodeId, Version};
 use std::alloc::AllocError;
+
+/// One more than the greatest number of a node.
+const END: u8 = MAX_NODES + 1;
 
 impl World {
     /// The least node that is not Ready; None where every node is.
@@ -22,7 +25,7 @@ impl World {
             ((v : ℕ) → v < u → (state self.now v).mode ≡ Ready)) }
     {
         self.ranges();
-        for number in 1..65u8 {
+        for number in 1..END {
             if let Some(id) = NodeId::new(number)
                 && is_busy(self, id)
             {
