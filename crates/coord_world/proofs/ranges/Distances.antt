@@ -1,9 +1,10 @@
 -- Distances stay in their ranges through a step, those of nodes and those that lanes carry.
-use Rattle.std.proofs.Common.{sym, ◌≡◌, ℕ, ◌+◌, ◌≤◌, true, List, [], ◌∷◌, ◌++◌, cond, refl, ◌∙◌, arith}
+use Rattle.std.proofs.Common.{◌≡◌, ℕ, ◌+◌, ◌≤◌, true, List, [], ◌∷◌, ◌++◌, cond, eqb, refl, sym, ap, ◌∙◌, subst, arith, is_some}
 use Rattle.std.proofs.lemmas.Bool.Decides.{nat_tests}
 use Rattle.coord_types.specs.NodeSet as set
 use Rattle.coord_types.specs.Facade.{NodeState, behind_front, has}
 use Rattle.coord_types.specs.declared.messages.Msg.{Msg}
+use Rattle.coord_types.specs.declared.messages.Msg.TheVariants as msg
 use Rattle.coord_types.specs.declared.steps.Command.{Command}
 use Rattle.coord_types.specs.declared.steps.Command.TheVariants.{Add, Remove, Join, Drop, Reset, Confirm}
 use Rattle.coord_types.specs.declared.steps.Step.{Step}
@@ -14,9 +15,9 @@ use Rattle.coord_world.specs.Facade.{CarryWithin, InRange, IsDistant, IsFresh, W
 use Rattle.coord_world.proofs.acceptance.FreshOrder.{Passes, fresh_order}
 use Rattle.coord_world.proofs.acceptance.IsFresh.{fresh_take}
 use Rattle.coord_world.proofs.lanes.EveryLane.{AllLanes, AllSend, LaneCarries, Makes, lanes_next}
-use Rattle.coord_world.proofs.ranges.Brought.{brought_within, farthest_grows}
-use Rattle.coord_world.proofs.ranges.EveryNode.{Adds, AllRows, Carries, brought_by, rows_next}
-use Rattle.coord_world.proofs.transitions.RuleCases.{lost_cases, request_cases}
+use Rattle.coord_world.proofs.ranges.Brought.{brought_within, carried_within, farthest_grows}
+use Rattle.coord_world.proofs.ranges.EveryNode.{Adds, AllRows, Carries, brought_by, rows_next, there_is}
+use Rattle.coord_world.proofs.transitions.RuleCases.{abort_cases, ack_cases, lost_cases, ready_cases, request_cases}
 use Rattle.coord_tables.proofs.Cases.{by_test}
 
 -- ---- nodes
@@ -84,6 +85,12 @@ sends_within n d near y = by_test (set.contains d.to y) (λ b. CarryWithin n (co
 request_near : (r : NodeState) (n : ℕ) → kept r 1 ≤ n → brought (request r).message ≤ n
 request_near r n step = request_cases r (λ d k. brought d.message ≤ n) (λ _ _. omega arith) (λ _ _. omega (arith, step)) (omega arith)
 
+-- an Abort that is taken one more than it brought
+take_near : (r : NodeState) (v : ℕ) (m : Msg) (n : ℕ) → kept r (brought m + 1) ≤ n → brought (transition m r v).message ≤ n
+take_near r v (msg.Abort k) n more = abort_cases r v (λ d. brought d.message ≤ n) k (λ _ _. omega arith) (λ _ _. grind (arith, nat_tests, more)) (λ _. omega arith)
+take_near r v msg.Ack n more = ack_cases r v (λ d. brought d.message ≤ n) (λ _. omega arith) (λ _. omega arith) (λ _ _. omega arith) (λ _ _ _. omega arith)
+take_near r v msg.Ready n more = ready_cases r v (λ d. brought d.message ≤ n) (λ _. omega arith) (λ _ _. omega arith)
+
 -- a link that vanishes sends no Abort
 lost_near : (r : NodeState) (v n : ℕ) → brought (lost r v).message ≤ n
 lost_near r v n = lost_cases r v (λ d. brought d.message ≤ n) (λ _. omega arith) (λ _ _. omega arith) (λ _ _. omega arith) (λ _ _. omega arith) (λ _ _ _. omega arith) (λ _ _ _ _. omega arith)
@@ -91,7 +98,9 @@ lost_near r v n = lost_cases r v (λ d. brought d.message ≤ n) (λ _. omega ar
 module _ (w settled : World) (range : InRange w) where
   -- what a node that is there sends on is within the next world's ranges
   step_within : (u d : ℕ) → has w.nodes u ≡ true → d ≤ farthest w.version w.count → kept (state w u) (d + 1) ≤ farthest w.version (w.count + 1)
-  step_within u d h1 h2 = grind (arith, nat_tests, h1, h2)
+  step_within u d known near =
+      let same = (range.distances u (state w u) (there_is w u known)).version in
+      subst (λ v. cond (eqb v 1) 0 (d + 1) ≤ farthest w.version (w.count + 1)) (sym same) (carried_within w.version w.count d near)
 
   ordered_sends : (c n : ℕ) (x : Command) → Passes w x → AllSend (CarryWithin (farthest w.version (w.count + 1))) (transitions (state w) (Order c n x))
   ordered_sends c n (Add u g) passes = tt
@@ -118,4 +127,11 @@ carried_next w settled s range fresh =
 
 -- no step changes the version
 pub same_version : (w : World) (s : Step) → (next w s).version ≡ w.version
-same_version w s = grind (arith, nat_tests)
+same_version w (Order c n (Add u g)) = refl
+same_version w (Order c n (Remove u)) = refl
+same_version w (Order c n (Join a b)) = refl
+same_version w (Order c n (Drop a b)) = refl
+same_version w (Order c n (Reset u)) = refl
+same_version w (Order c n (Confirm u e)) = refl
+same_version w (Take p) = refl
+same_version w (Clear p) = refl
