@@ -1,5 +1,6 @@
 -- What one more row changes of what the rows that were read say of the next one.
 use Rattle.std.proofs.Common.{◌≡◌, ◌≢◌, ℕ, ◌+◌, ◌-◌, ◌<◌, ◌≤◌, Bool, true, false, ◌||◌, List, [], ◌∷◌, ◌++◌, Option, Some, None, length, get_or, set, cond, eqb, refl, sym, ap, ◌∙◌, subst, arith, IsSome}
+use Rattle.coord_world.proofs.Facade.{by_test}
 use Rattle.std.specs.Ordering.{eq_by_cmp, nat_cmp}
 use Rattle.std.specs.FinMap.Entries.{find}
 use Rattle.std.proofs.lemmas.Bool.Decides.{nat_tests}
@@ -10,10 +11,6 @@ use Rattle.coord_world.specs.declared.rows.parts.NodeRow.{NodeRow}
 use Rattle.coord_tables.specs.declared.links.LinkRow.{LinkRow}
 use Rattle.coord_codec.specs.Worlds.{last_ends}
 use Rattle.coord_codec.proofs.Rising.{last_push}
-
-by_test : (t : Bool) (P : Bool → Type 0) → (t ≡ true → P true) → (t ≡ false → P false) → P t
-by_test true P whenever otherwise = whenever refl
-by_test false P whenever otherwise = otherwise refl
 
 -- ---- groups
 

@@ -1,14 +1,11 @@
 -- The entries of a table by number, and their rows.
-use Rattle.std.specs.Prelude.{◌≡◌, ℕ, ◌+◌, ◌-◌, ◌≤◌, List, [], ◌∷◌, Option, Some, None, if◌then◌else◌}
+use Rattle.std.specs.Prelude.{◌≡◌, ℕ, ◌+◌, ◌-◌, ◌≤◌, List, [], ◌∷◌, Option, Some, None}
 use Rattle.std.specs.Cmp.{nat_cmp_total}
 use Rattle.std.specs.Option.{option_map}
 use Rattle.std.specs.List.{range_with_len}
 use Rattle.coord_types.specs.Facade.{NodeState, Table, get}
 use Rattle.coord_types.specs.declared.steps.Session.{Session}
-use Rattle.coord_link.specs.LaneMachine.{Lane}
-use Rattle.coord_world.specs.protocol.NumberedWorld.{World}
 use Rattle.coord_world.specs.protocol.Rows as rows
-use Rattle.coord_tables.specs.declared.links.LinkRow.{LinkRow}
 use Rattle.coord_codec.specs.Worlds.{client_row, node_row}
 
 abbrev pub one_or_none : {A : Type 0} → Option A → List A
