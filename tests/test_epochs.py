@@ -34,6 +34,16 @@ class Epochs(Served):
             self.expect_each_signal_once(server)
             self.expect_closed(server, 64 * 4)
 
+    def test_the_longest_way(self):
+        """64 nodes in a row: the last one is 63 links away from the first."""
+        row = topology([(node, 1) for node in range(1, 65)], [(node, node + 1) for node in range(1, 64)])
+        with Serving(self.made(row)) as server:
+            for epoch, node in enumerate((1, 64), 1):
+                self.assertEqual(server.order(epoch, "reset", node=node)["kind"], STARTED)
+                server.await_signals(64 * epoch)
+            self.expect_each_signal_once(server)
+            self.expect_closed(server, 64 * 2)
+
     def test_several_that_ask_at_once(self):
         """Those that begin or join one wave: as many signals of each node as its epoch says."""
         with Serving(self.made(ring(16))) as server:

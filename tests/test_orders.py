@@ -175,13 +175,6 @@ class Stores(Served):
             self.assertEqual([row[4:6] for row in server.show()["nodes"]], [[first + 1, first - 1], [second + 1] * 2])
             self.expect_closed(server, 2)
 
-    def test_a_store_takes_so_many_steps(self):
-        with Serving(self.write("store", stores.store(stores.world(2**40 - 1, [stores.node(1)])))) as server:
-            for _ in range(2):
-                self.assertEqual(server.order(1, "reset", node=1), answered(FINISHED, 2**40))
-                self.assertEqual(server.order(2, "reset", node=1), refused(3, "Exhausted"))
-            self.expect_closed(server, 1)
-
     def test_a_store_of_version_1_stays_so(self):
         path = self.write("store", stores.store())
         with Serving(path) as server:
