@@ -1,4 +1,4 @@
-//! Tests of the store. Each is of something that no contract says.
+//! Tests of the store. Each is of something that no contract says. What fails here fails its test.
 #![tactic(auto)]
 
 #[cfg(test)]
@@ -8,13 +8,7 @@ mod checkpoints;
 #[cfg(test)]
 mod faults;
 #[cfg(test)]
-mod longest_world;
-#[cfg(test)]
-mod migrated;
-#[cfg(test)]
 mod migration;
-#[cfg(test)]
-mod migration_stops;
 #[cfg(test)]
 mod scripts;
 #[cfg(test)]

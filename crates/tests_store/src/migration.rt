@@ -1,10 +1,16 @@
 //! A store of version 1 becomes one of version 2, unless a node is in a reset.
 
-use crate::scripts::{begun, commits, opened, order, told_on};
-use coord_store::StoreFault;
-use coord_types::{Command, Group, NodeId};
-use std::alloc::Global;
-use std::test::Fail;
+ghost use Rattle.std.specs.Prelude.{IfSome};
+ghost use Rattle.std.specs.List.{AllByRecursion};
+ghost use Rattle.coord_batch.specs.Batches.{IsNumbered};
+
+use crate::scripts::{
+    Host, OPENING, adding, begun, choosing, commit, created, node, opened, order, reset_to,
+    resetting, told_on,
+};
+use coord_disk::{BlipDisk, CrashDisk, FailingDisk, FuseDisk, MemDisk, Rule};
+use coord_store::{Store, StoreFault};
+use coord_types::{Command, Mode, Output, Step};
 
 /// Where the second half begins.
 const SECOND_HALF: usize = 32_785;
@@ -17,42 +23,164 @@ const RAISED: [u8; 74] = [
     1, 0, 0, 0, 0, 0, 0, 0, 1, 0, 0,
 ];
 
-// Whether the second half is selected, and has these bytes.
-fn is_raised(bytes: &[u8]) -> bool {
-    bytes.first() == Some(&1) && bytes.get(SECOND_HALF..) == Some(RAISED.as_slice())
-}
-
-// Whether the store of one node is one of version 2 after a migration, in the other half, and its
-// bytes stay so through a second one.
-fn is_migrated(alloc: Global) -> Result<bool, Fail> {
-    let mut store = opened(alloc, begun(alloc, 1)?)?;
-    let first = store.migrate();
-    let second = store.migrate();
-    let disk = store.into_disk();
-    let is_raised = is_raised(disk.bytes());
-    let told = told_on(alloc, disk);
-    first?;
-    second?;
-    Ok(is_raised && told? == (2, 1))
-}
-
-// Whether it is refused where the node was reset and awaits another one.
-fn is_refused_in_a_reset(alloc: Global) -> Result<bool, Fail> {
-    let (one, two) = (NodeId::new(1).unwrap(), NodeId::new(2).unwrap());
-    let group = Group::new(1).unwrap();
-    let add = order(2, &Command::Add(two, group));
-    let join = order(3, &Command::Join(one, two));
-    let reset = order(4, &Command::Reset(one));
-    let mut store = opened(alloc, begun(alloc, 1)?)?;
-    let are_fresh = commits(&mut store, &[add, join, reset]);
-    let answer = store.migrate();
-    let told = told_on(alloc, store.into_disk());
-    let is_refused = answer == Err(StoreFault::NotQuiet(one));
-    Ok(are_fresh? && is_refused && told? == (1, 4))
+// Nodes 1 to 4 stand in a ring.
+fn ring() -> [Step; 8]
+    ensures { AllByRecursion IsNumbered result }
+{
+    [
+        adding(1),
+        adding(2),
+        adding(3),
+        adding(4),
+        order(5, Command::Join(node(1), node(2))),
+        order(6, Command::Join(node(2), node(3))),
+        order(7, Command::Join(node(3), node(4))),
+        order(8, Command::Join(node(4), node(1))),
+    ]
 }
 
 #[test]
-fn a_quiet_store_is_migrated(rt: HostRuntime) -> Result<(), Fail> {
-    assert!(rt; is_migrated(rt.alloc())? && is_refused_in_a_reset(rt.alloc())?);
-    Ok(())
+fn a_quiet_store_is_migrated(rt: HostRuntime) {
+    let mut store = opened(&rt, begun(&rt, 1));
+    assert_eq!(rt; (store.migrate(), store.migrate()), (Ok(()), Ok(())));
+    let disk = store.into_disk();
+    assert_eq!(rt; disk.bytes().first().copied(), Some(1));
+    assert_eq!(rt;
+        disk.bytes().get(SECOND_HALF..).unwrap_or(&[]),
+        RAISED.as_slice()
+    );
+    assert_eq!(rt; told_on(&rt, disk), Ok((2, 1)));
+    // not while a node is in a reset
+    let mut store = created(&rt, 1);
+    commit(&rt, &mut store, &ring()).expect(&rt, "not committed");
+    commit(&rt, &mut store, &[resetting(9)]).expect(&rt, "not committed");
+    assert_eq!(rt; store.migrate(), Err(StoreFault::NotQuiet(node(1))));
+    assert_eq!(rt; told_on(&rt, store.into_disk()), Ok((1, 9)));
+}
+
+// The step that is due for an output: a packet is taken, and a receipt clears its lane.
+fn due(output: &Output) -> Option<Step>
+    ensures { IfSome result IsNumbered }
+{
+    match *output {
+        Output::Sent(packet) => Some(Step::Take(packet)),
+        Output::Receipted(receipt) => Some(Step::Clear(receipt)),
+        Output::Signalled(..) => None,
+    }
+}
+
+// Takes this step, where it is fresh.
+fn take(rt: &impl Host, store: &mut Store<MemDisk>, step: Step)
+    requires { IsNumbered step }
+{
+    let steps = [step];
+    if store.takes(&steps).expect(rt, "not judged") {
+        store.commit(&steps).expect(rt, "not committed");
+    }
+}
+
+// Takes what is on the way, as far as it is fresh, and gives the greatest distance of node 3 meanwhile.
+fn go_round(rt: &impl Host, store: &mut Store<MemDisk>) -> u64 {
+    let mut greatest = 0;
+    let outputs = store.world().resend().expect(rt, "no outputs");
+    for output in &outputs {
+        if let Some(step) = due(output) {
+            take(rt, store, step);
+        }
+        if let Some(state) = store.world().node(node(3)) {
+            greatest = state.distance().max(greatest);
+        }
+    }
+    greatest
+}
+
+// A reset goes round it to the node opposite, two links away, and its steps are read again, with the
+// distances of its Aborts.
+#[test]
+fn a_reset_goes_round_a_raised_ring(rt: HostRuntime) {
+    let mut store = created(&rt, 1);
+    commit(&rt, &mut store, &ring()).expect(&rt, "not committed");
+    store.migrate().expect(&rt, "not raised");
+    commit(&rt, &mut store, &[resetting(9)]).expect(&rt, "not committed");
+    let mut greatest = 0;
+    for _ in 0..8u8 {
+        greatest = go_round(&rt, &mut store).max(greatest);
+    }
+    assert_eq!(rt; greatest, 2);
+    let store = opened(&rt, store.into_disk());
+    for number in 1..=4u8 {
+        let state = store
+            .world()
+            .node(node(number))
+            .map(|it| (it.epoch(), it.mode()));
+        assert_eq!(rt; state, Some((1, Mode::Ready)), "node {number}");
+    }
+}
+
+// The checkpoint writes version 2 over the first half.
+#[test]
+fn a_raised_store_makes_checkpoints(rt: HostRuntime) {
+    let mut store = opened(&rt, begun(&rt, 1));
+    store.migrate().expect(&rt, "not raised");
+    reset_to(&rt, &mut store, 1_212);
+    let disk = store.into_disk();
+    assert_eq!(rt;
+        (disk.bytes().first().copied(), disk.bytes().get(17).copied()),
+        (Some(0), Some(2))
+    );
+    assert_eq!(rt; told_on(&rt, disk), Ok((2, 1_212)));
+}
+
+/// How many calls of the device a migration takes.
+const CALLS: u64 = 4;
+
+/// The version that a crash leaves, for each choice, where all but the last sync was passed.
+const LEFT: [u8; 5] = [1, 2, 2, 1, 2];
+
+// Whether a migration over a device that fails a call once so many were passed leaves a store of this
+// version, and makes no call behind it.
+fn leaves<R: Rule>(rt: &impl Host, disk: FailingDisk<MemDisk, R>, passed: u64, version: u8) {
+    let mut store = opened(rt, disk);
+    let answers = (store.migrate(), store.migrate());
+    let disk = store.into_disk();
+    let calls = disk.calls();
+    let left = (answers, calls, told_on(rt, disk.into_inner().crash()));
+    let failed = (Err(StoreFault::Device), Err(StoreFault::Stopped));
+    let (wanted, made) = if passed < CALLS {
+        (failed, passed + 1)
+    } else {
+        ((Ok(()), Ok(())), CALLS)
+    };
+    assert_eq!(rt;
+        left,
+        (wanted, OPENING + made, Ok((version, 1))),
+        "behind {passed}"
+    );
+}
+
+#[test]
+fn a_migration_leaves_the_one_version_or_the_other(rt: HostRuntime) {
+    let store = begun(&rt, 1);
+    for passed in 0..=CALLS {
+        for (which, last) in LEFT.into_iter().enumerate() {
+            let version = match passed {
+                0..3 => 1,
+                3 => last,
+                _ => 2,
+            };
+            let chosen = || choosing(&rt, store.bytes(), which);
+            leaves(
+                &rt,
+                FuseDisk::new(chosen(), OPENING + passed),
+                passed,
+                version,
+            );
+            leaves(
+                &rt,
+                BlipDisk::new(chosen(), OPENING + passed),
+                passed,
+                version,
+            );
+        }
+    }
 }
