@@ -4,7 +4,7 @@ use Rattle.coord_admin.specs.declared.request.Request.{Request}
 use Rattle.coord_admin.specs.declared.answer.Answer.{Answer}
 use Rattle.coord_admin.specs.declared.fault.ServeFault.{ServeFault}
 use Rattle.coord_admin.specs.declared.session.Ended.{Ended}
-use Rattle.coord_admin.specs.declared.session.Ended.TheVariants.{Input, Closed}
+use Rattle.coord_admin.specs.declared.session.Ended.TheVariants.{Input, Closed, Cut}
 use Rattle.coord_admin.specs.Stream.{Served}
 
 -- what came in and what went out over a connection
@@ -25,6 +25,7 @@ talks cs = map (λ c. c.talk) cs
 abbrev pub has_closed : Result Ended ServeFault → Bool
 has_closed (Ok Closed) = true
 has_closed (Ok Input) = false
+has_closed (Ok Cut) = false
 has_closed (Err f) = false
 
 module _ {D : Type 0} (answers : D → Request → Answer → D → Type 0) where

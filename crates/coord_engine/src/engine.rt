@@ -6,9 +6,9 @@ ghost use Rattle.coord_ledger.specs.ledger.Calls.{keeps_store, releases_in};
 ghost use Rattle.coord_ledger.specs.ledger.State.{IsCollectable, reply_of};
 ghost use Rattle.coord_engine.specs.Calls.{RefusesTicket};
 ghost use Rattle.coord_engine.specs.Closing.{IsSince, RefusesClosing};
-ghost use Rattle.coord_engine.specs.Flights.{ComesBack, Commits, RefusesFlush};
+ghost use Rattle.coord_engine.specs.Flights.{AnswersFlush, ComesBack, Commits};
 ghost use Rattle.coord_engine.specs.State.{based_on, most_shares};
-ghost use Rattle.coord_engine.specs.Threads.{AtSomeMoment, Closes, Flushes, Leaves, RefusesShow, SendsAgain, Shows, Submits};
+ghost use Rattle.coord_engine.specs.Threads.{AtSomeMoment, Closes, Leaves, RefusesShow, SendsAgain, Shows, Submits};
 
 use crate::{CloseFault, Closed, Collected, Guarded, Origin, Share};
 use coord_disk::Disk;
@@ -195,15 +195,7 @@ impl<D: Disk, L: Origin> Engine<D, L> {
     ///
     /// After `OutOfMemory` it may be tried again; after `Device` the ledger has stopped.
     pub fn flush_once<R: Wait>(&self, rt: &R) -> Result<Option<Releases>, CommitFault>
-        ensures flushed { IfOk result (λ begun.
-            IfSome begun (λ releases.
-            AtSomeMoment (based_on D.keeps_model D.present L.base L.before)
-            (Flushes {D = D} releases))) }
-        ensures nothing { IfOk result (λ begun.
-            IfNone begun (AtSomeMoment (based_on D.keeps_model D.present L.base L.before) (λ g.
-            keeps_store g.ledger ≡ true))) }
-        ensures refused { IfErr result
-            (RefusesFlush (based_on D.keeps_model D.present L.base L.before) D.failures) }
+        ensures { AnswersFlush (based_on D.keeps_model D.present L.base L.before) D.failures result }
     {
         let mut flight = match self.begin(rt) {
             Ok(Some(flight)) => flight,

@@ -71,3 +71,7 @@ DeskPosts {D} b d request posted e = ⊥
 -- then its reply is waited for, and nothing more is noted
 abbrev pub DeskReplies : {D : Type 0} → Basis D → DeskState → Result Claim Refusal → Result Reply Refusal → DeskState → Type 0
 DeskReplies {D} b d posted reply e = Replies b posted reply × (e.notes ≡ d.notes) × (e.seen ≡ seen_after reply d.seen)
+
+-- how many steps its engine has kept
+abbrev pub DeskKeeps : {D : Type 0} → Basis D → DeskState → ℕ → Type 0
+DeskKeeps {D} b d kept = AtSomeMoment {D = D} b (λ g. kept ≡ length g.ledger.log.trail)

@@ -20,7 +20,7 @@ use std::sync::Wait;
 pub struct EngineDesk<'a, D: Disk, L: Origin, P: Port, R: Wait> {
     rt: &'a R,
     engine: &'a Engine<D, L>,
-    port: &'a P,
+    port: P,
     share: Share<L>,
     seen: Seen,
 }
@@ -33,9 +33,9 @@ impl<'a, D: Disk, L: Origin, P: Port, R: Wait> Model for EngineDesk<'a, D, L, P,
     ghost view = { λ d. record { notes = d.share; seen = d.seen } };
 }
 
-impl<'a, D: Disk, L: Origin, P: Port, R: Wait> EngineDesk<'a, D, L, P, R> {
+impl<'a, D: Disk, L: Origin, P: Port + Drop, R: Wait> EngineDesk<'a, D, L, P, R> {
     /// A desk that has seen nothing yet.
-    pub fn new(rt: &'a R, engine: &'a Engine<D, L>, port: &'a P, share: Share<L>) -> Self
+    pub fn new(rt: &'a R, engine: &'a Engine<D, L>, port: P, share: Share<L>) -> Self
         ensures { result ≡ record { notes = share; seen = 0 } }
     {
         EngineDesk {
@@ -96,7 +96,7 @@ fn show<D: Disk, L: Origin, R: Wait>(
 fn resend<D: Disk, L: Origin, P: Port, R: Wait>(
     rt: &R,
     engine: &Engine<D, L>,
-    port: &P,
+    port: &mut P,
 ) -> Result<u64, Refusal>
     ensures { Resends (based_on D.keeps_model D.present L.base L.before) result }
 {
@@ -108,7 +108,7 @@ fn resend<D: Disk, L: Origin, P: Port, R: Wait>(
 
 impl<'a, D: Disk, L: Origin, P: Port, R: Wait> Desk for EngineDesk<'a, D, L, P, R> {
     ghost use Rattle.coord_engine.specs.State.{based_on};
-    ghost use Rattle.coord_server.specs.EngineDesk.{DeskAnswers, DeskPosts, DeskReplies};
+    ghost use Rattle.coord_server.specs.EngineDesk.{DeskAnswers, DeskKeeps, DeskPosts, DeskReplies};
     ghost use Rattle.coord_server.specs.Halves.{desk_answered, desk_apart};
 
     /// A ticket for the reply, or why the order was refused.
@@ -119,6 +119,12 @@ impl<'a, D: Disk, L: Origin, P: Port, R: Wait> Desk for EngineDesk<'a, D, L, P, 
     ghost posts = { DeskPosts (based_on D.keeps_model D.present L.base L.before) };
 
     ghost replies = { DeskReplies (based_on D.keeps_model D.present L.base L.before) };
+
+    ghost keeps = { DeskKeeps (based_on D.keeps_model D.present L.base L.before) };
+
+    fn kept(&self) -> usize {
+        self.engine.kept(self.rt)
+    }
 
     fn post(&mut self, client: Client, number: u64, command: Command) -> Result<Ticket, Refusal> {
         let step = Step::Order(client, number, command);
@@ -136,7 +142,7 @@ impl<'a, D: Disk, L: Origin, P: Port, R: Wait> Desk for EngineDesk<'a, D, L, P, 
     }
 
     fn resend(&mut self) -> Result<u64, Refusal> {
-        resend(self.rt, self.engine, self.port)
+        resend(self.rt, self.engine, &mut self.port)
     }
 
     fn close(&mut self) {}

@@ -57,7 +57,7 @@ fn is_text(text: String, wanted: &str) -> bool {
 fn serves<R: Clock + Abort>(rt: &R, alloc: Global, listener: &TcpListener, patience: Patience) {
     let mut callers = Accepted::new(rt, listener, patience);
     let mut desk = CountDesk::new(alloc, 0);
-    let served = serve_connections(alloc, &mut callers, &mut desk);
+    let served = serve_connections(alloc, usize::MAX, &mut callers, &mut desk);
     drop(callers);
     drop(desk);
     served.expect(rt, "no close");

@@ -1,6 +1,6 @@
 //! Clients by a script, and a listener that fails.
 
-use coord_admin::{ACCEPT_TRIES, Accepted, CountDesk, DISCARD_READS, Patience, serve_connections};
+use coord_admin::{ACCEPT_TRIES, Accepted, CountDesk, DISCARD_READS, Patience, Stop, serve_connections};
 use std::alloc::Global;
 use std::io::{ErrorKind, Read, Write};
 use std::net::{IpAddr, Ipv4Addr, OpenListener, OpenStream, Shutdown, SocketAddr};
@@ -204,7 +204,8 @@ fn ended<T: Clock>(rt: &T, alloc: Global, clients: [Client; 6], patience: Patien
     let listener = &script;
     let mut callers = Accepted::new(rt, &listener, patience);
     let mut desk = CountDesk::new(alloc, 0);
-    let is_closed = serve_connections(alloc, &mut callers, &mut desk).is_ok();
+    let served = serve_connections(alloc, usize::MAX, &mut callers, &mut desk);
+    let is_closed = matches!(served, Ok(Stop::Closed));
     drop(callers);
     drop(desk);
     let met = script.met(is_closed);

@@ -57,6 +57,12 @@ impl<'a, E: Desk> Desk for Telling<'a, E> {
 
     ghost replies = { λ _ _ _ _. Unit {0} };
 
+    ghost keeps = { λ _ _. Unit {0} };
+
+    fn kept(&self) -> usize {
+        self.desk.kept()
+    }
+
     fn post(&mut self, client: Client, number: u64, command: Command) -> E::Posted {
         self.desk.post(client, number, command)
     }
@@ -90,7 +96,7 @@ fn are_replied<E: Desk>(alloc: Global, desk: &mut E) -> bool {
         reader: LINES,
         writer: &mut told,
     };
-    let served = serve(alloc, &mut halves, desk).is_ok();
+    let served = serve(alloc, usize::MAX, &mut halves, desk).is_ok();
     let are_replies = told.as_slice() == REPLIES.as_bytes();
     drop(told);
     served && are_replies

@@ -43,7 +43,7 @@ fn channels<R: Abort>(rt: &R, alloc: Global) -> (Vec<Sender<Packet>>, Vec<Receiv
 // Sends again what may have been lost.
 fn resend<D: Disk, L: Origin, R: Wait>(rt: &R, engine: &Engine<D, L>, ring: &Ring<&R>) {
     if let Ok(releases) = engine.resend(rt) {
-        hand_over(rt, engine, ring, releases);
+        hand_over(rt, engine, &mut { ring }, releases);
     }
 }
 
@@ -108,7 +108,7 @@ fn run<D: Disk + Send, L: Origin + Send + Sync, R: Threads + Wait + Clock + Sync
             for packets in channels {
                 let share = engine.share(rt).expect(rt, "no share");
                 let started = scope
-                    .spawn(move || worker(rt, alloc, engine, packets, share))
+                    .spawn(move || worker(rt, alloc, engine, packets.iter(rt), share))
                     .ok()
                     .expect(rt, "no thread");
                 running.push(started).expect(rt, "no memory");
@@ -137,11 +137,14 @@ pub(super) fn start_flusher<
     E,
     D: Disk + Send,
     L: Origin + Send + Sync,
-    P: Port + Sync,
+    P: Port + Send + Drop + 'p,
     R: Wait + Clock + Sync + Abort,
->(scope: &Scope<'s, E>, rt: &'r R, engine: &'e Engine<D, L>, port: &'p P) -> JoinHandle<()> {
+>(scope: &Scope<'s, E>, rt: &'r R, engine: &'e Engine<D, L>, port: P) -> JoinHandle<()> {
     scope
-        .spawn(move || flusher(rt, engine, port))
+        .spawn(move || {
+            let mut port = port;
+            flusher(rt, engine, &mut port)
+        })
         .ok()
         .expect(rt, "no thread")
 }

@@ -4,7 +4,7 @@ use crate::ServerFault;
 
 /// What ended the serving in one life.
 #[derive(Clone, Copy, Debug, PartialEq, Eq, Drop)]
-pub enum Left {
+pub enum LifeEnd {
     /// The life is old; the server goes on with the next one.
     Resting,
     /// The server ends, by a close or by this fault.

@@ -5,18 +5,15 @@ ghost use Rattle.std.specs.Thread.{IsSend, IsSync};
 ghost use Rattle.coord_engine.specs.State.{based_on};
 ghost use Rattle.coord_server.specs.Ending.{AddsWorkers, HasRun, IsOfStart, ServesLife, new_desk};
 
-use crate::age::Age;
-use crate::left::Left;
+use crate::life_end::LifeEnd;
 use crate::printing::Opening;
-use crate::resting::LifeCallers;
 use crate::setting::Setting;
-use crate::{EngineDesk, LocalPort, ServerFault};
-use coord_admin::{Callers, Desk, serve_connections};
+use crate::{EngineDesk, ServerFault};
+use coord_admin::{Callers, Desk, Stop, serve_connections};
 use coord_disk::Disk;
 use coord_engine::{Engine, Origin, PacketShare, Port, Share, flusher, packet_worker};
 use coord_types::Packet;
 use crossbeam_channel::Receiver;
-use std::alloc::Global;
 use std::io::Write;
 use std::sync::Wait;
 use std::sync::ledger::Ledger as Count;
@@ -43,15 +40,7 @@ pub struct Begun<L: Count> {
 pub struct Ran<L: Count, C> {
     pub shares: Vec<Share<L>>,
     pub callers: C,
-    pub left: Left,
-}
-
-/// What a desk leaves that has served.
-#[derive(Drop)]
-struct Served<L: Count, C> {
-    own: Share<L>,
-    callers: C,
-    left: Left,
+    pub left: LifeEnd,
 }
 
 /// The threads of a life: its flusher, and a worker for each channel.
@@ -73,7 +62,6 @@ pub fn run<
 >(
     setting: &Setting<'_, R>,
     engine: &Engine<D, L>,
-    port: &LocalPort<&R>,
     begun: Begun<L>,
     callers: C,
     opening: Option<Opening<W>>,
@@ -90,7 +78,7 @@ pub fn run<
             ensures { IfOk result (λ ran.
                 HasRun (based_on D.keeps_model D.present L.base L.before) C.met
                 setting.entry.now.life_steps callers ran.callers ran.left ran.shares.items) }
-        { run_in(scope, setting, engine, port, begun, callers, opening) },
+        { run_in(scope, setting, engine, begun, callers, opening) },
     )
 }
 
@@ -100,7 +88,6 @@ fn run_in<
     's,
     'r: 's,
     'e: 's,
-    'p: 's,
     E,
     D: Disk + Send,
     L: Origin + Send + Sync,
@@ -111,7 +98,6 @@ fn run_in<
     scope: &Scope<'s, E>,
     setting: &Setting<'r, R>,
     engine: &'e Engine<D, L>,
-    port: &'p LocalPort<&R>,
     begun: Begun<L>,
     callers: C,
     opening: Option<Opening<W>>,
@@ -121,10 +107,11 @@ fn run_in<
         callers ran.callers ran.left ran.shares.items) }
 {
     let rt = setting.rt;
+    let mut callers = callers;
     let Begun { own, room, packets } = begun;
-    let Some(crew) = start(scope, setting, engine, port, packets) else {
+    let Some(crew) = start(scope, setting, engine, packets) else {
         engine.finish(rt);
-        port.hang_up();
+        setting.port.hang_up();
         drop(own);
         drop(room);
         drop(callers);
@@ -132,12 +119,10 @@ fn run_in<
         return Err(ServerFault::OutOfMemory);
     };
     let Crew { flushing, workers } = crew;
-    let Served { own, callers, left } = serve_over(
-        setting, &*engine, &*port, own, callers, opening,
-    );
+    let (own, left) = serve_over(setting, &*engine, own, &mut callers, opening);
     engine.finish(rt);
     flushing.join(rt);
-    port.hang_up();
+    setting.port.hang_up();
     Ok(Ran {
         shares: all_joined(rt, room, own, workers),
         callers,
@@ -150,44 +135,27 @@ fn start<
     's,
     'r: 's,
     'e: 's,
-    'p: 's,
     E,
     D: Disk + Send,
     L: Origin + Send + Sync,
-    P: Port + Sync,
     R: Wait + Clock + Sync,
 >(
     scope: &Scope<'s, E>,
     setting: &Setting<'r, R>,
     engine: &'e Engine<D, L>,
-    port: &'p P,
     packets: Vec<Receiver<Packet>>,
 ) -> Option<Crew<L>>
     ensures { IfSome result (λ crew. vec_len crew.workers ≡ vec_len packets) }
 {
-    let flushing = start_flusher(scope, setting.rt, engine, port)?;
+    let (rt, port) = (setting.rt, setting.port);
+    let flushing = scope
+        .spawn(move || {
+            let mut port = port;
+            flusher(rt, engine, &mut port);
+        })
+        .ok()?;
     let workers = start_workers(scope, setting, engine, packets)?;
     Some(Crew { flushing, workers })
-}
-
-/// Starts a flusher, unless no thread can be had.
-fn start_flusher<
-    's,
-    'r: 's,
-    'e: 's,
-    'p: 's,
-    E,
-    D: Disk + Send,
-    L: Origin + Send + Sync,
-    P: Port + Sync,
-    R: Wait + Clock + Sync,
->(
-    scope: &Scope<'s, E>,
-    rt: &'r R,
-    engine: &'e Engine<D, L>,
-    port: &'p P,
-) -> Option<JoinHandle<()>> {
-    scope.spawn(move || flusher(rt, engine, port)).ok()
 }
 
 /// Starts a worker on each channel. None where one of them can't be had: the others then end with
@@ -224,30 +192,24 @@ fn start_worker<'s, 'r: 's, 'e: 's, E, D: Disk + Send, L: Origin + Send + Sync, 
         .ok()
 }
 
-/// Opens the output, and serves those who call by a desk with this share.
-fn serve_over<'a, D: Disk, L: Origin, C: Callers, W: Write + Drop, R: Wait>(
-    setting: &'a Setting<'_, R>,
-    engine: &'a Engine<D, L>,
-    port: &'a LocalPort<&R>,
+/// Opens the output, and serves those who call by a desk with this share. What ended that, and the
+/// share.
+fn serve_over<D: Disk, L: Origin, C: Callers, W: Write + Drop, R: Wait>(
+    setting: &Setting<'_, R>,
+    engine: &Engine<D, L>,
     own: Share<L>,
-    callers: C,
+    callers: &mut C,
     opening: Option<Opening<W>>,
-) -> Served<L, C>
+) -> (Share<L>, LifeEnd)
     requires { own ≡ [] }
     ensures { (seen : ℕ) × ServesLife
-        (based_on D.keeps_model D.present L.base L.before) C.met setting.now.life_steps callers
-        result.callers (record { notes = result.own; seen = seen }) result.left }
+        (based_on D.keeps_model D.present L.base L.before) C.met setting.now.life_steps callers.old
+        callers.new (record { notes = result.0; seen = seen }) result.1 }
 {
-    let opened = open(setting.rt, &callers, opening);
-    let age = Age::new(setting.rt, engine, setting.life_steps);
-    let mut life = LifeCallers::new(callers, &age);
-    let mut desk = EngineDesk::new(setting.rt, engine, port, own);
-    let left = serve_clients(setting.alloc, opened, &age, &mut life, &mut desk);
-    Served {
-        own: desk.into_share(),
-        callers: life.into_callers(),
-        left,
-    }
+    let opened = open(setting.rt, &*callers, opening);
+    let mut desk = EngineDesk::new(setting.rt, engine, setting.port, own);
+    let left = serve_clients(setting, opened, callers, &mut desk);
+    (desk.into_share(), left)
 }
 
 /// Opens the output, where that was not done before; or says why it can't be opened.
@@ -267,28 +229,27 @@ fn open<C: Callers, W: Write + Drop, R: Wait>(
 /// Once the output is open, sends again what may have been lost, and serves those who call until
 /// the life is old. What ended it: where the output could not be opened, why.
 fn serve_clients<D: Disk, L: Origin, C: Callers, P: Port, R: Wait>(
-    alloc: Global,
+    setting: &Setting<'_, R>,
     opened: Result<(), ServerFault>,
-    age: &Age<'_, D, L, R>,
-    life: &mut LifeCallers<'_, C, D, L, R>,
+    callers: &mut C,
     desk: &mut EngineDesk<'_, D, L, P, R>,
-) -> Left
+) -> LifeEnd
     requires start { IfErr opened IsOfStart }
     requires new { desk.old ≡ new_desk }
-    ensures told { IfErr opened (λ fault. result ≡ Left.Ended (Some fault)) }
+    ensures told { IfErr opened (λ fault. result ≡ LifeEnd.Ended (Some fault)) }
     ensures served { ServesLife (based_on D.keeps_model D.present L.base L.before) C.met
-        age.now.most life.old.callers life.new.callers desk.new result }
+        setting.now.life_steps callers.old callers.new desk.new result }
 {
     if let Err(fault) = opened {
-        return Left::Ended(Some(fault));
+        return LifeEnd::Ended(Some(fault));
     }
     if desk.resend().is_err() {
-        return Left::Ended(Some(ServerFault::OutOfMemory));
+        return LifeEnd::Ended(Some(ServerFault::OutOfMemory));
     }
-    match serve_connections(alloc, life, desk) {
-        Ok(()) => Left::Ended(None),
-        Err(_) if age.is_old() => Left::Resting,
-        Err(_) => Left::Ended(Some(ServerFault::Socket)),
+    match serve_connections(setting.alloc, setting.life_steps, callers, desk) {
+        Ok(Stop::Closed) => LifeEnd::Ended(None),
+        Ok(Stop::Old) => LifeEnd::Resting,
+        Err(_) => LifeEnd::Ended(Some(ServerFault::Socket)),
     }
 }
 

@@ -10,7 +10,7 @@ use coord_engine::Closed;
 
 /// What is left of a server's last engine and of those who called, and how the server ended.
 #[derive(Drop)]
-pub struct Ended<D: Disk, C> {
+pub struct ServerEnd<D: Disk, C> {
     pub closed: Closed<D>,
     pub callers: C,
     /// What ended the serving, if not a close.
@@ -19,7 +19,7 @@ pub struct Ended<D: Disk, C> {
     pub is_broken: bool,
 }
 
-impl<D: Disk, C> Ended<D, C> {
+impl<D: Disk, C> ServerEnd<D, C> {
     /// The one fault to tell: a stopped store first, then what ended the serving, then a failed
     /// output. None if the server was closed and nothing failed.
     pub fn fault(&self) -> Option<ServerFault>
