@@ -28,7 +28,7 @@ abbrev pub GivesSettled : {D : Type 0} → Closed D → List ℕ → Type 0
 GivesSettled left bytes =
     Recovered bytes left.store.world
     ⊎ ((size : ℕ) × (has_stopped left.store ≡ true) × (left.settled + size ≤ left.base.count + length left.trail.items)
-      × Recovered bytes (fold left.base (take (left.settled - left.base.count + size) left.trail.items)))
+    × Recovered bytes (fold left.base (take (left.settled - left.base.count + size) left.trail.items)))
 
 -- whatever a crash may leave of the disk of a life gives so
 abbrev pub LivesLeaveSteps : Type 0 → Type 0

@@ -131,15 +131,7 @@ fn run_in<
 }
 
 /// Starts a flusher, and a worker on each channel. None where one of them can't be had.
-fn start<
-    's,
-    'r: 's,
-    'e: 's,
-    E,
-    D: Disk + Send,
-    L: Origin + Send + Sync,
-    R: Wait + Clock + Sync,
->(
+fn start<'s, 'r: 's, 'e: 's, E, D: Disk + Send, L: Origin + Send + Sync, R: Wait + Clock + Sync>(
     scope: &Scope<'s, E>,
     setting: &Setting<'r, R>,
     engine: &'e Engine<D, L>,

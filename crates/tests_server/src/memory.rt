@@ -128,7 +128,10 @@ fn run<D: Disk + Send, L: Origin + Send + Sync, R: Threads + Wait + Clock + Sync
                 has_forgotten: false,
             };
             let flushing = scope
-                .spawn(move || flusher(rt, engine, port))
+                .spawn(move || {
+                    let mut port = port;
+                    flusher(rt, engine, &mut port);
+                })
                 .ok()
                 .expect(rt, "no thread");
             let is_replied = is_replied_at_last(alloc, &mut desk);

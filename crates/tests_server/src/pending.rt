@@ -6,7 +6,7 @@ ghost use Rattle.std.specs.Thread.{IsSend, IsSync};
 use crate::rings::created;
 use coord_admin::{Desk, Halves, serve};
 use coord_disk::{Disk, MemDisk};
-use coord_engine::{Engine, Origin, Port, Share, flusher};
+use coord_engine::{Engine, Origin, Share, flusher};
 use coord_ledger::{Ledger, View};
 use coord_server::{EngineDesk, LocalPort};
 use coord_types::{Client, Command, Group, NodeId, Refusal, Reply, Step};
@@ -103,10 +103,10 @@ fn are_replied<E: Desk>(alloc: Global, desk: &mut E) -> bool {
 }
 
 /// Flushes once a reply is waited for.
-fn flush_then<D: Disk, L: Origin, P: Port, R: Wait + Clock>(
+fn flush_then<D: Disk, L: Origin, R: Wait + Clock>(
     rt: &R,
     engine: &Engine<D, L>,
-    port: &P,
+    port: &LocalPort<&R>,
     is_waiting: &AtomicBool,
 ) {
     for _ in 0..LOOKS {
@@ -115,7 +115,8 @@ fn flush_then<D: Disk, L: Origin, P: Port, R: Wait + Clock>(
         }
         thread::sleep(rt, Duration::from_millis(1));
     }
-    flusher(rt, engine, port);
+    let mut port = port;
+    flusher(rt, engine, &mut port);
 }
 
 /// The first step adds the node, and each other one resets it.

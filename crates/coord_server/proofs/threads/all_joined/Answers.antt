@@ -1,6 +1,6 @@
 use Rattle.std.proofs.Common.{[], ◌∷◌, arith}
 use Rattle.coord_server.proofs.Ends.{adds_worker}
-use Rattle.coord_server.proofs.crew.all_joined.Goals as goal
+use Rattle.coord_server.proofs.threads.all_joined.Goals as goal
 
 pub loop-worker-preserved : goal.loop-worker-preserved
 loop-worker-preserved g c =

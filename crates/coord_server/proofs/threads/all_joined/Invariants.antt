@@ -1,7 +1,7 @@
 use Rattle.std.proofs.Common.{◌≡◌, ◌+◌, ◌≤◌, [], ◌∷◌, vec_capacity, vec_len}
 use Rattle.std.specs.Vec.Iter.{into_iter_len}
 use Rattle.coord_server.specs.Ending.{AddsWorkers}
-use Rattle.coord_server.proofs.crew.all_joined.Given as goal
+use Rattle.coord_server.proofs.threads.all_joined.Given as goal
 
 -- each worker so far has left its share, and there is room for the others'
 abbrev pub invariant-loop-worker : goal.invariant-loop-worker

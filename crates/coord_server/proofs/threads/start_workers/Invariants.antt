@@ -1,6 +1,6 @@
 use Rattle.std.proofs.Common.{◌≡◌, ◌+◌, vec_len}
 use Rattle.std.specs.Vec.Iter.{into_iter_len}
-use Rattle.coord_server.proofs.crew.start_workers.Given as goal
+use Rattle.coord_server.proofs.threads.start_workers.Given as goal
 
 -- a worker runs on each channel so far
 abbrev pub invariant-loop-inbox : goal.invariant-loop-inbox
