@@ -54,15 +54,13 @@ pub fn serve_life<
     ensures { IfOk result
         (IsLife (based_on D.keeps_model D.present store.world []) C.met setting.now.life_steps callers) }
 {
-    match Ledger::adopt(setting.alloc, store) {
-        Ok(ledger) => {
-            let blank = Blank::new(65536);
-            serve_ledger::<D, Brand, C, W, R>(setting, blank, ledger, callers, opening)
-        }
-        Err(_) => Err(ServerFault::OutOfMemory),
-    }
+    let Ok(ledger) = Ledger::adopt(setting.alloc, store) else {
+        return Err(ServerFault::OutOfMemory);
+    };
+    serve_ledger::<D, Brand, C, W, R>(setting, Blank::new(65536), ledger, callers, opening)
 }
 
+/// Runs the threads of a life over an engine, and takes the engine apart. `L` names the ledger.
 fn serve_ledger<
     D: Disk + Send,
     L: Origin + Send + Sync,
@@ -85,15 +83,9 @@ fn serve_ledger<
         (IsLife (based_on D.keeps_model D.present L.base L.before) C.met setting.now.life_steps callers) }
 {
     let engine: Engine<D, L> = Engine::new(setting.alloc, blank, ledger);
-    match begin(setting, &engine) {
-        Ok(begun) => live_and_close(setting, engine, begun, callers, opening),
-        Err(fault) => {
-            drop(engine);
-            drop(callers);
-            drop(opening);
-            Err(fault)
-        }
-    }
+    let begun = begin(setting, &engine)?;
+    let ran = run(setting, &engine, begun, callers, opening)?;
+    closed_life(engine, ran)
 }
 
 /// Gives out the desk's share, makes room for all that a life may not lose, and connects the port to
@@ -111,34 +103,6 @@ fn begin<D: Disk, L: Origin, R: Wait>(
     let (to, packets) = channels(setting.alloc)?;
     setting.port.connect(to);
     Ok(Begun { own, room, packets })
-}
-
-/// Runs the threads of a life, and takes its engine apart.
-fn live_and_close<
-    D: Disk + Send,
-    L: Origin + Send + Sync,
-    C: Callers + Drop,
-    W: Write + Drop,
-    R: Threads + Wait + Clock + Sync,
->(
-    setting: &Setting<'_, R>,
-    engine: Engine<D, L>,
-    begun: Begun<L>,
-    callers: C,
-    opening: Option<Opening<W>>,
-) -> Result<Life<D, C>, ServerFault>
-    requires parts { L.parts ≡ 65536 }
-    requires before { L.before ≡ [] }
-    ensures { IfOk result
-        (IsLife (based_on D.keeps_model D.present L.base L.before) C.met setting.now.life_steps callers) }
-{
-    match run(setting, &engine, begun, callers, opening) {
-        Ok(ran) => closed_life(engine, ran),
-        Err(fault) => {
-            drop(engine);
-            Err(fault)
-        }
-    }
 }
 
 /// What is left of a life, once its engine is taken apart with all shares.
@@ -165,10 +129,7 @@ fn closed_life<D: Disk, L: Origin, C: Drop>(
             callers,
             left,
         }),
-        Err((fault, _engine, _shares)) => {
-            drop(callers);
-            Err(ServerFault::NotClosed(fault))
-        }
+        Err((fault, _engine, _shares)) => Err(ServerFault::NotClosed(fault)),
     }
 }
 

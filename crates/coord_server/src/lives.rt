@@ -54,19 +54,11 @@ pub fn serve_lives<
     ensures lives { IfOk result (HasLived D.keeps_model D.present C.met most store.world callers) }
     ensures whole { IfOk result (λ ended. EndsOneHistory store.world ended.closed) }
 {
-    let outlet = match Outlet::new(rt, alloc, output) {
-        Ok(outlet) => outlet,
-        Err(_) => {
-            drop(store);
-            drop(callers);
-            return Err(ServerFault::OutOfMemory);
-        }
-    };
     let Outlet {
         port,
         opening,
         printing,
-    } = outlet;
+    } = Outlet::new(rt, alloc, output)?;
     let setting = Setting {
         rt,
         alloc,
@@ -136,9 +128,6 @@ fn print_and_live<
         (HasLived D.keeps_model D.present C.met setting.now.life_steps store.world callers) }
 {
     let Some(printing) = printing else {
-        drop(store);
-        drop(callers);
-        drop(opening);
         return Err(ServerFault::OutOfMemory);
     };
     let lived = live(setting, store, callers, opening);

@@ -112,10 +112,6 @@ fn run_in<
     let Some(crew) = start(scope, setting, engine, packets) else {
         engine.finish(rt);
         setting.port.hang_up();
-        drop(own);
-        drop(room);
-        drop(callers);
-        drop(opening);
         return Err(ServerFault::OutOfMemory);
     };
     let Crew { flushing, workers } = crew;
