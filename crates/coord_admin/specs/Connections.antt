@@ -9,8 +9,8 @@ use Rattle.coord_admin.specs.Stream.{Served}
 
 -- what came in and what went out over a connection
 pub record Talk : Type 0 where
-  pub came : List ℕ
-  pub went : List ℕ
+  pub bytes_read : List ℕ
+  pub bytes_written : List ℕ
 
 -- a connection that was served: what was read from it and written to it, and how it ended
 pub record Connection : Type 0 where
@@ -30,7 +30,7 @@ has_closed (Err f) = false
 
 module _ {D : Type 0} (answers : D → Request → Answer → D → Type 0) where
   abbrev pub IsServed : D → Connection → D → Type 0
-  IsServed d c e = Served answers d c.talk.came c.talk.went c.ended e
+  IsServed d c e = Served answers d c.talk.bytes_read c.talk.bytes_written c.ended e
 
   -- connections one after the other, none of which closed the desk
   abbrev pub AllServed : D → List Connection → D → Type 0

@@ -42,9 +42,9 @@ pub trait Callers {
     /// time to read the last answer.
     fn end(&mut self, line: Self::Line, ends_here: bool)
         ensures ended { ended self.old line ends_here self.new }
-        ensures met { (first : Self.Line) (came went : List ℕ) → begins first →
-            Self.Line.exchanged first came went line →
-            met self.old (record { came = came; went = went } ∷ []) self.new };
+        ensures met { (first : Self.Line) (bytes_read bytes_written : List ℕ) → begins first →
+            Self.Line.exchanged first bytes_read bytes_written line →
+            met self.old (record { bytes_read = bytes_read; bytes_written = bytes_written } ∷ []) self.new };
 
     ghost at_rest: { (a : Self) → met a [] a };
 

@@ -59,9 +59,9 @@ pub fn serve_connections<C: Callers, D: Desk>(
 /// Ends a connection that ended so for `serve`.
 fn end<C: Callers>(callers: &mut C, line: C::Line, ended: Result<Ended, ServeFault>)
     ensures ended { C.ended callers.old line (ends_here ended) callers.new }
-    ensures met { (first : C.Line) (came went : List ℕ) → C.begins first →
-        C.Line.exchanged first came went line →
-        C.met callers.old (record { came = came; went = went } ∷ []) callers.new }
+    ensures met { (first : C.Line) (bytes_read bytes_written : List ℕ) → C.begins first →
+        C.Line.exchanged first bytes_read bytes_written line →
+        C.met callers.old (record { bytes_read = bytes_read; bytes_written = bytes_written } ∷ []) callers.new }
 {
     callers.end(line, ends_here(ended));
 }

@@ -10,7 +10,7 @@ use Rattle.coord_ledger.specs.declared.ticket.Note.{Note}
 use Rattle.coord_ledger.specs.ledger.State.{Claim}
 use Rattle.coord_view.specs.Shown as shown
 use Rattle.coord_engine.specs.Facade.{Basis, CollectsAs}
-use Rattle.coord_engine.specs.Threads.{AtSomeMoment, RefusesShow, SendsAgain, Shows, Submits}
+use Rattle.coord_engine.specs.Threads.{AnswersShow, AtSomeMoment, SendsAgain, Submits}
 use Rattle.coord_engine.specs.declared.collected.Collected.TheVariants.{Settled, Refused}
 use Rattle.coord_admin.specs.Replies.{order_answer, resend_answer, show_answer}
 use Rattle.coord_admin.specs.declared.answer.Answer.{Answer}
@@ -45,11 +45,6 @@ Replies {D} b (Ok claim) (Err refusal) = AtSomeMoment b (λ g. CollectsAs {D = D
 Replies {D} b (Err why) (Ok reply) = ⊥
 Replies {D} b (Err why) (Err refusal) = refusal ≡ why
 
--- the settled world is shown, of which the desk has seen no more
-abbrev pub ShowsTo : {D : Type 0} → Basis D → Result shown.Shown Refusal → ℕ → ℕ → Type 0
-ShowsTo {D} b (Ok view) before after = AtSomeMoment b (Shows {D = D} view before after)
-ShowsTo {D} b (Err refusal) before after = AtSomeMoment b (RefusesShow {D = D} refusal before) × (after ≡ before)
-
 -- how many packets were sent again
 abbrev pub Resends : {D : Type 0} → Basis D → Result ℕ Refusal → Type 0
 Resends {D} b (Ok count) = (released : List Release) × AtSomeMoment b (SendsAgain {D = D} released) × (count ≡ length released)
@@ -59,7 +54,7 @@ abbrev pub DeskAnswers : {D : Type 0} → Basis D → DeskState → Request → 
 DeskAnswers {D} b d (request.Order client number command) answer e =
     (result : Result Reply Refusal) × (answer ≡ order_answer result) × Orders b (step.Order client number command) result d.notes e.notes × (e.seen ≡ seen_after result d.seen)
 DeskAnswers {D} b d request.Show answer e =
-    (result : Result shown.Shown Refusal) × (answer ≡ show_answer result) × ShowsTo b result d.seen e.seen × (e.notes ≡ d.notes)
+    (result : Result shown.Shown Refusal) × (answer ≡ show_answer result) × AnswersShow b result d.seen e.seen × (e.notes ≡ d.notes)
 DeskAnswers {D} b d request.Resend answer e = (result : Result ℕ Refusal) × (answer ≡ resend_answer result) × Resends b result × (e ≡ d)
 DeskAnswers {D} b d request.Close answer e = (answer ≡ Closed) × (e ≡ d)
 

@@ -3,7 +3,7 @@
 ghost use Rattle.std.specs.Prelude.{◌≡◌};
 ghost use Rattle.coord_types.specs.declared.refusals.Refusal.TheVariants.{OutOfMemory};
 ghost use Rattle.coord_engine.specs.State.{based_on};
-ghost use Rattle.coord_server.specs.EngineDesk.{Replies, Resends, ShowsTo};
+ghost use Rattle.coord_server.specs.EngineDesk.{Replies, Resends};
 
 use coord_admin::Desk;
 use coord_disk::Disk;
@@ -81,17 +81,6 @@ fn collect<D: Disk, L: Origin, R: Wait>(
     }
 }
 
-/// Shows the settled world, which is no older than what the desk has shown before.
-fn show<D: Disk, L: Origin, R: Wait>(
-    rt: &R,
-    engine: &Engine<D, L>,
-    seen: &mut Seen,
-) -> Result<View, Refusal>
-    ensures { ShowsTo (based_on D.keeps_model D.present L.base L.before) result seen.old seen.new }
-{
-    engine.show(rt, seen)
-}
-
 /// Hands to a port again what may have been lost, and answers how many packets that are.
 fn resend<D: Disk, L: Origin, P: Port, R: Wait>(
     rt: &R,
@@ -138,7 +127,7 @@ impl<'a, D: Disk, L: Origin, P: Port, R: Wait> Desk for EngineDesk<'a, D, L, P, 
     }
 
     fn show(&mut self) -> Result<View, Refusal> {
-        show(self.rt, self.engine, &mut self.seen)
+        self.engine.show(self.rt, &mut self.seen)
     }
 
     fn resend(&mut self) -> Result<u64, Refusal> {
