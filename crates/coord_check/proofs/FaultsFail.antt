@@ -3,6 +3,7 @@ use Rattle.std.proofs.Common.{◌≡◌, ℕ, ◌+◌, true, false, Bool, List, 
 use Rattle.std.specs.List.{AllByRecursion, flat_map}
 use Rattle.coord_types.specs.Table.{has}
 use Rattle.coord_world.specs.Facade.{InRange, World, is_linked}
+use Rattle.coord_world.proofs.Facade.{lane-mirrored}
 use Rattle.coord_check.specs.declared.violation.Letter.{Letter}
 use Rattle.coord_check.specs.declared.violation.Letter.TheVariants as letter
 use Rattle.coord_check.specs.declared.violation.Violation.{Violation}
@@ -49,7 +50,7 @@ module _ (w : World) (range : InRange w) where
   link_fails : (a b : ℕ) → AllByRecursion (Fails w) (link_faults w a b)
   link_fails a b = all_where (Fails w) (is_linked w a b) (flat_map (letter_faults w a b) link_letters) (λ is.
       all_flat (Fails w) (letter_faults w a b) link_letters (λ x.
-      all_append (Fails w) (end_faults w a b x) (end_faults w b a x) (end_fails a b is x) (end_fails b a (sym (range.mirrored a b) ∙ is) x)))
+      all_append (Fails w) (end_faults w a b x) (end_faults w b a x) (end_fails a b is x) (end_fails b a (sym (lane-mirrored w.links a b) ∙ is) x)))
 
   node_fails : (u : ℕ) → AllByRecursion (Fails w) (node_faults w u)
   node_fails u = all_where (Fails w) (has w.nodes u) _ (λ there. all_told (Fails w) _ (record { a = u; b = u; letter = letter.N }) (λ fails. (refl, there, fails)))

@@ -2,14 +2,13 @@
 use Rattle.std.proofs.Common.{◌≡◌, ℕ, zero, suc, ◌+◌, ◌-◌, ◌<◌, ◌≤◌, Bool, true, false, Option, Some, None, List, [], ◌∷◌, ◌++◌, length, get_or, drop, refl, sym, ap, ◌∙◌, arith, if◌then◌else◌}
 use Rattle.std.specs.List.{flat_map, range_with_len}
 use Rattle.std.proofs.lemmas.List.{drop_more}
-use Rattle.coord_types.specs.Table.{get}
 use Rattle.coord_link.specs.LaneMachine.{Lane, transit}
-use Rattle.coord_world.specs.Facade.{World, is_linked, lane_or_none, link, transit_or_none, view}
+use Rattle.coord_world.specs.Facade.{World, is_linked, lane_at, link, transit_or_none, view}
 use Rattle.coord_check.specs.declared.violation.Letter.{Letter}
 use Rattle.coord_check.specs.declared.violation.Letter.TheVariants as letter
 use Rattle.coord_check.specs.declared.violation.Violation.{Violation}
 use Rattle.coord_check.specs.Faults.{first, nodes_from, holds_of, link_holds, fault_unless, end_faults, letter_faults, link_letters, link_faults}
-use Rattle.coord_check.specs.Sides.{side, end_at, seen}
+use Rattle.coord_check.specs.Sides.{side, end_at, lane_or_none, seen}
 use Rattle.coord_check.specs.declared.side.Side.{Side}
 
 -- a list with a first element has that one before another list too; one with none is empty
@@ -66,7 +65,7 @@ way_is (Some l) = refl
 
 -- the code's reading of two ends
 link_is : (w : World) (u v : ℕ) → link (view w) u v ≡ seen (side w u v) (side w v u)
-link_is w u v i = record { here = end_at (side w u v); there = end_at (side w v u); out = way_is (get w.lanes (u, v)) i; back = way_is (get w.lanes (v, u)) i }
+link_is w u v i = record { here = end_at (side w u v); there = end_at (side w v u); out = way_is (lane_at w.links u v) i; back = way_is (lane_at w.links v u) i }
 
 told_true : (b : Bool) (v : Violation) → b ≡ true → fault_unless b v ≡ []
 told_true true v is = refl

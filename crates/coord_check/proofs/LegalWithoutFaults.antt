@@ -2,8 +2,10 @@
 use Rattle.std.proofs.Common.{◌≡◌, ℕ, ◌+◌, ◌≤◌, ◌<◌, ◌⊎◌, inl, inr, Bool, true, false, List, [], Option, Some, None, refl, sym, ap, ◌∙◌, arith, is_some, IsNone, if◌then◌else◌}
 use Rattle.std.specs.List.{flat_map}
 use Rattle.coord_types.specs.Facade.{NodeState, get}
-use Rattle.coord_world.specs.Facade.{InRange, Legal, World, is_legal_node, is_linked, lane_or_none, state_or_none}
+use Rattle.coord_world.specs.Facade.{InRange, Legal, World, is_legal_node, is_linked, lane_at, state_or_none}
 use Rattle.coord_link.specs.LaneMachine.{Lane, has_front_taken_at_most}
+use Rattle.coord_world.proofs.Facade.{lane-apart, lane-mirrored}
+use Rattle.coord_check.specs.Sides.{lane_or_none}
 use Rattle.coord_check.specs.declared.violation.Letter.{Letter}
 use Rattle.coord_check.specs.declared.violation.Letter.TheVariants as letter
 use Rattle.coord_check.specs.declared.violation.Violation.{Violation}
@@ -41,16 +43,16 @@ module _ (w : World) (range : InRange w) where
     lesser_first a b lt is =
         let parts = both_empty (flat_map (node_faults w) (nodes_from 1)) (flat_map (faults_from w) (nodes_from 1)) clear in
         let node = is_node a b is in
-        let other = is_node b a (sym (range.mirrored a b) ∙ is) in
+        let other = is_node b a (sym (lane-mirrored w.links a b) ∙ is) in
         none_told (link_faults w a) (a + 1) (none_told (faults_from w) 1 parts.1 a node.0 node.1) b (omega arith) other.1
 
     each_holds : (u v : ℕ) → is_linked w u v ≡ true → (x : Letter) → link_holds w u v x ≡ true
     each_holds u v is x =
-        let back : is_linked w v u ≡ true = sym (range.mirrored u v) ∙ is in
+        let back : is_linked w v u ≡ true = sym (lane-mirrored w.links u v) ∙ is in
         elim (order u v) [
           | inl less ↦ (clean_link u v is (lesser_first u v less is) x).0
           | inr (inl more) ↦ (clean_link v u back (lesser_first v u more back) x).1
-          | inr (inr same) ↦ let e : is_linked w u u ≡ true = ap (is_linked w u) same ∙ is in let none = range.apart u in cc
+          | inr (inr same) ↦ let e : is_linked w u u ≡ true = ap (is_linked w u) same ∙ is in let none = lane-apart w.links range.turned u in cc
         ]
 
     node_holds : (u : ℕ) (r : NodeState) → get w.nodes u ≡ Some r → is_legal_node w.count r ≡ true
@@ -79,7 +81,7 @@ module _ (w : World) (range : InRange w) where
     holds : (u v : ℕ) → is_linked w u v ≡ true → (x : Letter) → link_holds w u v x ≡ true
     holds u v is letter.N = refl
     holds u v is letter.A =
-        let found : (l : Lane) × (get w.lanes (u, v) ≡ Some l) = has_one (get w.lanes (u, v)) is in
+        let found : (l : Lane) × (lane_at w.links u v ≡ Some l) = has_one (lane_at w.links u v) is in
         ap (λ o. has_front_taken_at_most (lane_or_none o)) found.1 ∙ legal.lanes u v found.0 found.1
     holds u v is letter.B = (legal.links u v is).ack_in_one_place
     holds u v is letter.C = (legal.links u v is).one_ready_at_most
@@ -95,7 +97,7 @@ module _ (w : World) (range : InRange w) where
         of_test : (t : Bool) → is_linked w a b ≡ t → link_faults w a b ≡ []
         of_test true is =
             there w a b is
-            ∙ letters_none (letter_faults w a b) (λ x. empty_both _ _ (not_told _ _ (holds a b is x)) (not_told _ _ (holds b a (sym (range.mirrored a b) ∙ is) x)))
+            ∙ letters_none (letter_faults w a b) (λ x. empty_both _ _ (not_told _ _ (holds a b is x)) (not_told _ _ (holds b a (sym (lane-mirrored w.links a b) ∙ is) x)))
         of_test false is = ap (λ t. if t then flat_map (letter_faults w a b) link_letters else []) is
 
     no_node_fault : (u : ℕ) → node_faults w u ≡ []

@@ -7,6 +7,7 @@ use Rattle.std.proofs.lemmas.Map.Keys.{sorted_head, sorted_tail}
 use Rattle.coord_types.specs.NodeSet.{NodeSet, first as first_member, items, remove}
 use Rattle.coord_types.proofs.Sets.{contains-items, items-first, items-sorted}
 use Rattle.coord_world.specs.Facade.{InRange, World, is_linked, state}
+use Rattle.coord_world.proofs.Facade.{lane-mirrored}
 use Rattle.coord_check.specs.declared.violation.Violation.{Violation}
 use Rattle.coord_check.specs.Faults.{first, faults_from, letter_faults, link_faults, link_letters, nodes_from}
 use Rattle.coord_check.proofs.FirstFault.{first_further}
@@ -118,7 +119,7 @@ module _ (w : World) (a : ℕ) where
     unfolding near
     neighbour v is =
         let linked : is_linked w a v ≡ true = range.linked a v ∙ contains-items near v ∙ is in
-        let found = is_node w range v a (sym (range.mirrored a v) ∙ linked) in
+        let found = is_node w range v a (sym (lane-mirrored w.links a v) ∙ linked) in
         let least = found.0 in
         let most = found.1 in
         (omega arith, omega arith)

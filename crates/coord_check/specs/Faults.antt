@@ -2,9 +2,10 @@
 use Rattle.std.specs.Prelude.{◌≡◌, ℕ, ◌+◌, ◌-◌, Bool, true, false, List, [], ◌∷◌, ◌++◌, Option, Some, None, if◌then◌else◌}
 use Rattle.std.specs.List.{flat_map, range_with_len}
 use Rattle.coord_types.specs.declared.limits.TheConstants.{MAX_NODES}
-use Rattle.coord_types.specs.Table.{get, has}
+use Rattle.coord_types.specs.Table.{has}
 use Rattle.coord_link.specs.LaneMachine.{Lane, has_front_taken_at_most}
-use Rattle.coord_world.specs.Facade.{Link, World, has_ack_in_one_place, has_no_early_ready, has_one_parent_at_most, has_one_ready_at_most, has_readies_first, has_ready_for_child, has_right_distances, is_legal_node, is_linked, lane_or_none, link, state, view}
+use Rattle.coord_world.specs.Facade.{Link, World, has_ack_in_one_place, has_no_early_ready, has_one_parent_at_most, has_one_ready_at_most, has_readies_first, has_ready_for_child, has_right_distances, is_legal_node, is_linked, lane_at, link, state, view}
+use Rattle.coord_check.specs.Sides.{lane_or_none}
 use Rattle.coord_check.specs.declared.violation.Letter.{Letter}
 use Rattle.coord_check.specs.declared.violation.Letter.TheVariants as letter
 use Rattle.coord_check.specs.declared.violation.Violation.{Violation}
@@ -24,7 +25,7 @@ holds_of letter.H lane l = has_right_distances l
 
 -- of the link of u and v, as u sees it
 abbrev pub link_holds : World → ℕ → ℕ → Letter → Bool
-link_holds w u v x = holds_of x (lane_or_none (get w.lanes (u, v))) (link (view w) u v)
+link_holds w u v x = holds_of x (lane_or_none (lane_at w.links u v)) (link (view w) u v)
 
 -- the letter that a violation names fails: N at a node that is there, any other letter at a link that is there
 abbrev pub FailsAt : World → ℕ → ℕ → Letter → Type 0

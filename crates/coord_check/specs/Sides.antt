@@ -1,12 +1,11 @@
 -- What the code reads of one end of a link, and the link whose two ends these are.
-use Rattle.std.specs.Prelude.{ℕ, Bool, true, false, List}
+use Rattle.std.specs.Prelude.{ℕ, Bool, true, false, List, Option, Some, None}
 use Rattle.coord_types.specs.NodeSet as set
-use Rattle.coord_types.specs.Table.{get}
 use Rattle.coord_types.specs.declared.messages.Msg.{Msg}
 use Rattle.coord_types.specs.declared.messages.Msg.TheVariants as msg
-use Rattle.coord_link.specs.LaneMachine.{transit}
+use Rattle.coord_link.specs.LaneMachine.{Lane, new_lane, transit}
 use Rattle.coord_node.specs.Rules.{carried, is_parent}
-use Rattle.coord_world.specs.Facade.{End, Link, World, aborts, acks, lane_or_none, readies, state}
+use Rattle.coord_world.specs.Facade.{End, Link, World, aborts, acks, lane_at, readies, state}
 use Rattle.coord_check.specs.declared.side.Side.{Side}
 
 -- a message is of a kind, whatever it carries
@@ -22,6 +21,11 @@ count (msg.Abort k) ms = aborts ms
 count msg.Ack ms = acks ms
 count msg.Ready ms = readies ms
 
+-- a lane that is there, or an empty one
+abbrev pub lane_or_none : Option Lane → Lane
+lane_or_none None = new_lane 0
+lane_or_none (Some l) = l
+
 -- u's end of its link to v
 abbrev pub side : World → ℕ → ℕ → Side
 side w u v = record {
@@ -30,7 +34,7 @@ side w u v = record {
   child = is_parent (state w u).parent v;
   distance = (state w u).distance;
   carries = carried (state w u);
-  lane = lane_or_none (get w.lanes (u, v));
+  lane = lane_or_none (lane_at w.links u v);
 }
 
 abbrev pub end_at : Side → End

@@ -4,18 +4,15 @@ use Rattle.std.specs.Cmp.{nat_cmp_total}
 use Rattle.std.specs.Option.{option_map}
 use Rattle.std.specs.List.{flat_map, range_with_len}
 use Rattle.std.specs.Ordering.{eq_by_cmp, is_lt, nat_cmp}
-use Rattle.std.specs.FinMap.Entries.{below_all, find, is_sorted, same_entries, where_key}
+use Rattle.std.specs.FinMap.Entries.{below_all, find, is_sorted, same_entries}
 use Rattle.std.proofs.lemmas.Bool.Decides.{nat_tests}
 use Rattle.std.proofs.lemmas.Grind.{flat_map-append}
 use Rattle.std.proofs.lemmas.List.{length-map}
 use Rattle.std.proofs.lemmas.List.Folds.{flat_map-map}
 use Rattle.coord_types.specs.Table.{Table, entries, get, len}
 use Rattle.coord_types.proofs.Tables.{get-entries, len-entries}
-use Rattle.coord_link.specs.LaneMachine.{Lane}
-use Rattle.coord_world.specs.Facade.{World, goes_up, link_row, pair_cmp}
-use Rattle.coord_world.specs.declared.rows.parts.LinkRow.{LinkRow}
 use Rattle.coord_world.proofs.Facade.{by_test}
-use Rattle.coord_codec.specs.ByNumber.{HasKeysTo, entry_at, numbers, one_or_none, row_of_lane}
+use Rattle.coord_codec.specs.ByNumber.{HasKeysTo, entry_at, numbers, one_or_none}
 
 -- the first of the numbers, and those behind it
 pub numbers_next : (most u : ℕ) → u ≤ most → numbers most u ≡ u ∷ numbers most (u + 1)
@@ -120,13 +117,6 @@ module _ {X : Type 0} (m : Table nat_cmp_total X) (most : ℕ) (text : ℕ × X 
 
   pub all_written : (u : ℕ) (before out : List ℕ) → most < u → IsWrittenTo u before out → out ≡ written before
   all_written u before out past so_far = sym (append-nil out) ∙ ap (λ us. out ++ flat_map text (flat_map (entry_at m) us)) (sym (no_more_numbers most u past)) ∙ so_far
-
--- the rows of the links of these lanes
-abbrev pub links_in : World → List ((ℕ × ℕ) × Lane) → List LinkRow
-links_in w es = map (link_row w) (where_key pair_cmp goes_up es)
-
-pub links_next : (w : World) (e : (ℕ × ℕ) × Lane) (es : List ((ℕ × ℕ) × Lane)) → links_in w (e ∷ es) ≡ row_of_lane w e ++ links_in w es
-links_next w e es = by_test (goes_up e.0) (λ t. map (link_row w) (cond t (e ∷ where_key pair_cmp goes_up es) (where_key pair_cmp goes_up es)) ≡ cond t (link_row w e ∷ []) [] ++ links_in w es) (λ _. refl) (λ _. refl)
 
 -- what is written of each entry is what is written of each row
 pub rows_text : {X A : Type 0} (m : Table nat_cmp_total X) (row : ℕ × X → A) (text : A → List ℕ) → len m ∷ flat_map (λ e. text (row e)) (entries m) ≡ length (map row (entries m)) ∷ flat_map text (map row (entries m))

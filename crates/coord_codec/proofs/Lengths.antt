@@ -8,7 +8,7 @@ use Rattle.coord_types.specs.declared.messages.Msg.TheVariants as msg
 use Rattle.coord_world.specs.laws.Laws.{HasFewAborts}
 use Rattle.coord_world.specs.Facade.{LinkRowFits, NodeRowFits, Rows, RowsFit, SessionInRange, aborts}
 use Rattle.coord_world.specs.declared.rows.parts.NodeRow.{NodeRow}
-use Rattle.coord_world.specs.declared.rows.parts.LinkRow.{LinkRow}
+use Rattle.coord_tables.specs.declared.links.LinkRow.{LinkRow}
 use Rattle.coord_world.specs.declared.rows.parts.ClientRow.{ClientRow}
 use Rattle.coord_batch.specs.Fields.{at_most, client, from_one_to, group, how_many, message, node}
 use Rattle.coord_batch.specs.Steps.{command}

@@ -5,7 +5,7 @@ use Rattle.coord_types.specs.declared.steps.Command.{Command}
 use Rattle.coord_types.proofs.Masks.{mask_back}
 use Rattle.coord_world.specs.protocol.Ranges.{answers}
 use Rattle.coord_world.specs.declared.rows.parts.NodeRow.{NodeRow}
-use Rattle.coord_world.specs.declared.rows.parts.LinkRow.{LinkRow}
+use Rattle.coord_tables.specs.declared.links.LinkRow.{LinkRow}
 use Rattle.coord_world.specs.declared.rows.parts.ClientRow.{ClientRow}
 use Rattle.coord_batch.specs.Facade.{byte, client, message, node, such_that, u64}
 use Rattle.coord_codec.specs.Worlds.{can_link, client_row, clients, ends, first_rises, kind, kind_from, kind_number, lane, last_by, link_row, links, mask, mode, most_distance, node_row, nodes, parent, parent_from, parent_number, queue, second_rises, world}

@@ -17,7 +17,7 @@ use Rattle.coord_types.proofs.Masks.{maskable_nodes, mask_below, nodes_back}
 use Rattle.coord_link.specs.LaneMachine.{Lane}
 use Rattle.coord_world.specs.Facade.{CarryWithin, IsNode, LaneInRange, LanesCarryWithin, LinkRowFits, NodeRowFits, RowIsDistant, Rows, RowsFit, SessionInRange, answers, by_client, by_ends, by_id, degree, farthest, group_in, group_of, is_end, pair_cmp, pair_cmp_total}
 use Rattle.coord_world.specs.declared.rows.parts.NodeRow.{NodeRow}
-use Rattle.coord_world.specs.declared.rows.parts.LinkRow.{LinkRow}
+use Rattle.coord_tables.specs.declared.links.LinkRow.{LinkRow}
 use Rattle.coord_world.specs.declared.rows.parts.ClientRow.{ClientRow}
 use Rattle.coord_world.proofs.Facade.{all_weaker}
 use Rattle.coord_batch.specs.Decoding.{is_version}

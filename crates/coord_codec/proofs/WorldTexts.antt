@@ -8,7 +8,7 @@ use Rattle.coord_types.specs.declared.messages.Msg.TheVariants as msg
 use Rattle.coord_link.specs.LaneMachine.{Lane}
 use Rattle.coord_world.specs.protocol.Rows.{Rows}
 use Rattle.coord_world.specs.declared.rows.parts.NodeRow.{NodeRow}
-use Rattle.coord_world.specs.declared.rows.parts.LinkRow.{LinkRow}
+use Rattle.coord_tables.specs.declared.links.LinkRow.{LinkRow}
 use Rattle.coord_batch.specs.Fields.{at_most, distance, from_one_to, group, how_many, message, message_case, node, unless}
 use Rattle.coord_codec.specs.Worlds.{client_row, clients, content_of_lane, ends, lane, link_row, links, mask, mode, most_distance, node_row, nodes, parent, parent_number, queue, world}
 

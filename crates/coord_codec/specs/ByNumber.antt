@@ -1,4 +1,4 @@
--- The entries of a table by number and their rows, and the row of a link by its lanes.
+-- The entries of a table by number, and their rows.
 use Rattle.std.specs.Prelude.{◌≡◌, ℕ, ◌+◌, ◌-◌, ◌≤◌, List, [], ◌∷◌, Option, Some, None, if◌then◌else◌}
 use Rattle.std.specs.Cmp.{nat_cmp_total}
 use Rattle.std.specs.Option.{option_map}
@@ -8,7 +8,7 @@ use Rattle.coord_types.specs.declared.steps.Session.{Session}
 use Rattle.coord_link.specs.LaneMachine.{Lane}
 use Rattle.coord_world.specs.protocol.NumberedWorld.{World}
 use Rattle.coord_world.specs.protocol.Rows as rows
-use Rattle.coord_world.specs.declared.rows.parts.LinkRow.{LinkRow}
+use Rattle.coord_tables.specs.declared.links.LinkRow.{LinkRow}
 use Rattle.coord_codec.specs.Worlds.{client_row, node_row}
 
 abbrev pub one_or_none : {A : Type 0} → Option A → List A
@@ -34,8 +34,3 @@ node_text version e = (node_row version 0 []).text (rows.node_row e)
 -- and a client's last order
 abbrev pub session_text : ℕ → ℕ × Session → List ℕ
 session_text version e = (client_row 0 []).text (rows.client_row e)
-
--- The row of a link, made of its lane from the lesser end to the greater one; of the lane back no
--- row is made.
-abbrev pub row_of_lane : World → (ℕ × ℕ) × Lane → List LinkRow
-row_of_lane w e = if rows.goes_up e.0 then rows.link_row w e ∷ [] else []

@@ -1,3 +1,4 @@
 pub mod Worlds
+pub mod Sizes
 pub mod ByNumber
 pub mod Laws

@@ -11,7 +11,7 @@ use Rattle.coord_types.specs.declared.steps.Kind.TheVariants as kinds
 use Rattle.coord_link.specs.LaneMachine.{Lane}
 use Rattle.coord_world.specs.Facade.{Rows, answers, degree, group_of}
 use Rattle.coord_world.specs.declared.rows.parts.NodeRow.{NodeRow}
-use Rattle.coord_world.specs.declared.rows.parts.LinkRow.{LinkRow}
+use Rattle.coord_tables.specs.declared.links.LinkRow.{LinkRow}
 use Rattle.coord_world.specs.declared.rows.parts.ClientRow.{ClientRow}
 use Rattle.coord_batch.specs.Format.{Format, byte, u64, such_that, followed, ◌&◌, made, counted}
 use Rattle.coord_batch.specs.Facade.{at_most, client, command, distance, from_one_to, group, how_many, message, node}

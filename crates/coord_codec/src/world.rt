@@ -6,6 +6,7 @@ ghost use Rattle.coord_world.specs.protocol.Rows.{RowsFit, listed, rows_of};
 ghost use Rattle.coord_world.specs.protocol.Ranges.{InRange};
 ghost use Rattle.coord_world.specs.protocol.Legal.{Legal};
 ghost use Rattle.coord_batch.specs.Decoding.{Answers, bad_version, decoded, is_version};
+ghost use Rattle.coord_codec.specs.Sizes.{most_world_bytes as most_bytes};
 ghost use Rattle.coord_codec.specs.Worlds.{world};
 
 use crate::world_reading::read_parts;
@@ -75,6 +76,8 @@ pub fn write_world(alloc: Global, written: &World) -> Result<Vec<u8>, AllocError
     ensures spelled { IfOk result (λ v. v.items ≡
         (world written.now.version).text (rows_of written.now)) }
     ensures len { Legal written.now → IfOk result (λ v. length v.items ≤ MAX_SNAPSHOT_BYTES) }
+    // 13,515 bytes, so that a snapshot has room for each legal world.
+    ensures most { Legal written.now → IfOk result (λ v. length v.items ≤ most_bytes) }
 {
     written.ranges();
     let mut out = Vec::with_capacity(alloc, most_world_bytes(written.version()))?;

@@ -1,19 +1,15 @@
 //! Writing of worlds, row by row.
 
 ghost use Rattle.std.specs.Prelude.{◌≡◌, ◌≤◌, ℕ, List, ◌++◌, [], ◌∷◌, length, OnOk};
-ghost use Rattle.std.specs.Option.{option_copied};
 ghost use Rattle.std.specs.List.{flat_map};
 ghost use Rattle.std.specs.Int.{w64, to_be_bytes};
-ghost use Rattle.std.specs.FinMap.Entries.{where_key};
-ghost use Rattle.coord_types.specs.declared.limits.TheConstants.{MAX_LINKS};
 ghost use Rattle.coord_batch.specs.Fields.{distance, message};
 ghost use Rattle.coord_codec.specs.Worlds.{clients, content_of_lane, kind_number, lane, link_row, links, most_distance, nodes, parent_number, queue};
-ghost use Rattle.coord_codec.specs.ByNumber.{HasKeysTo, entry_at, node_text, row_of_lane, session_text};
+ghost use Rattle.coord_codec.specs.ByNumber.{HasKeysTo, entry_at, node_text, session_text};
 ghost use Rattle.coord_types.specs.NodeState.{mode_number};
 ghost use Rattle.coord_types.specs.Table.{entries, len};
-ghost use Rattle.coord_world.specs.protocol.NumberedWorld.{pair_cmp};
 ghost use Rattle.coord_world.specs.protocol.Ranges.{InRange};
-ghost use Rattle.coord_world.specs.protocol.Rows.{goes_up, lane_or_none, rows_of};
+ghost use Rattle.coord_world.specs.protocol.Rows.{rows_of};
 
 use coord_batch::{put_command, put_message};
 use coord_link::Lane;
@@ -234,49 +230,6 @@ fn put_rows<const MOST: u8, R: Row>(
     Ok(())
 }
 
-/// Puts the row of a link, given its lane from the lesser end to the greater one; for the lane back
-/// nothing is put.
-fn put_link(
-    out: &mut Vec<u8>,
-    world: &World,
-    entry: &((NodeId, NodeId), Lane),
-) -> Result<(), AllocError>
-    ensures { OnOk result (out.new.items ≡
-        out.old.items ++ flat_map (link_row world.now.version 0 [] []).text
-        (row_of_lane world.now entry.now)) }
-{
-    let ((a, b), forth) = *entry;
-    if a >= b {
-        return Ok(());
-    }
-    let back = lane_or_new(world.lane(b, a));
-    put_link_row(out, world.version(), &LinkRow { a, b, forth, back })
-}
-
-/// A copy of the lane back. Each lane of a world has one; without one it would be a new lane.
-fn lane_or_new(lane: Option<&Lane>) -> Lane
-    ensures { result ≡ lane_or_none (option_copied lane.entry) }
-{
-    match lane {
-        Some(lane) => *lane,
-        None => Lane::new(0),
-    }
-}
-
-/// How many of these lanes go from the lesser end of their link to the greater one.
-fn count_up(lanes: &[((NodeId, NodeId), Lane)]) -> u8
-    requires { length (where_key pair_cmp goes_up lanes.now) ≤ MAX_LINKS }
-    ensures { result ≡ length (where_key pair_cmp goes_up lanes.now) }
-{
-    let mut count = 0;
-    for entry in lanes {
-        if entry.0.0 < entry.0.1 {
-            count += 1;
-        }
-    }
-    count
-}
-
 #[tactic(auto, unfolding(crate::specs::Worlds::nodes, coord_batch::specs::Fields::how_many))]
 pub fn put_nodes(out: &mut Vec<u8>, world: &World) -> Result<(), AllocError>
     requires { InRange world.now }
@@ -292,10 +245,10 @@ pub fn put_links(out: &mut Vec<u8>, world: &World) -> Result<(), AllocError>
     ensures { OnOk result (out.new.items ≡ out.old.items ++ (links world.now.version 0 []).text
         (rows_of world.now).links) }
 {
-    let lanes = world.lanes();
-    out.push(count_up(lanes))?;
-    for entry in lanes {
-        put_link(out, world, entry)?;
+    let rows = world.links();
+    out.push(rows.len() as u8)?;
+    for row in rows {
+        put_link_row(out, world.version(), row)?;
     }
     Ok(())
 }

@@ -1,6 +1,5 @@
 -- What a request asks of a drill, by the front world of its ledger.
 use Rattle.std.specs.Prelude.{ℕ, ◌+◌, List, [], ◌∷◌, Option, Some, None, Result, Ok, Err}
-use Rattle.coord_types.specs.Table.{get}
 use Rattle.coord_types.specs.declared.messages.Msg.{Msg}
 use Rattle.coord_types.specs.declared.packets.DataPacket.{DataPacket}
 use Rattle.coord_types.specs.declared.steps.Step.{Step}
@@ -8,7 +7,7 @@ use Rattle.coord_types.specs.declared.steps.Step.TheVariants as step
 use Rattle.coord_types.specs.declared.refusals.Refusal.{Refusal}
 use Rattle.coord_types.specs.declared.refusals.Refusal.TheVariants.{NoLink}
 use Rattle.coord_link.specs.LaneMachine.{Lane}
-use Rattle.coord_world.specs.Facade.{World, front_packet, last_number, receipt}
+use Rattle.coord_world.specs.Facade.{World, front_packet, lane_at, last_number, receipt}
 use Rattle.coord_drill.specs.declared.request.Request.{Request}
 use Rattle.coord_drill.specs.declared.request.Request.TheVariants as request
 use Rattle.coord_drill.specs.declared.asked.Asked.{Asked}
@@ -25,7 +24,7 @@ packet_on u v (Some l) = Ok (packet_of u v l l.queue)
 
 -- the packet that travels from u to v; an error where they are not linked
 unfoldable pub front : World → ℕ → ℕ → Result (Option DataPacket) Refusal
-front w u v = packet_on u v (get w.lanes (u, v))
+front w u v = packet_on u v (lane_at w.links u v)
 
 abbrev pub asked_of_front : (DataPacket → Step) → Result (Option DataPacket) Refusal → Asked
 asked_of_front f (Err refusal) = Refuse refusal

@@ -6,4 +6,6 @@ pub mod SortedEntries
 pub mod SlotTables
 pub mod PutAtPlace
 pub mod SameTables
-pub mod IndexedLanes
+pub mod IndexedEntries
+pub mod LinkLanes
+pub mod IndexedLinks

@@ -2,3 +2,4 @@ pub mod Pairs
 pub mod Place
 pub mod Places
 pub mod Slots
+pub mod Links

@@ -2,26 +2,15 @@
 
 ghost use Rattle.std.specs.Prelude.{◌≡◌, ◌↔◌, IsTrue};
 
+use crate::links::LinkRow;
 use coord_link::Lane;
 use coord_node::Node;
-use coord_types::{Client, Msg, NodeId, Session};
+use coord_types::{Msg, Session};
 
 /// Values with an exact comparison: it says yes just where contracts see equal values.
 pub trait Same {
     fn is_same(&self, other: &Self) -> bool
         ensures { IsTrue result ↔ (self.now ≡ other.now) };
-}
-
-impl Same for NodeId {
-    fn is_same(&self, other: &NodeId) -> bool {
-        self == other
-    }
-}
-
-impl Same for Client {
-    fn is_same(&self, other: &Client) -> bool {
-        self == other
-    }
 }
 
 impl Same for Msg {
@@ -77,9 +66,12 @@ impl Same for Lane {
     }
 }
 
-impl<K: Same, V: Same> Same for (K, V) {
-    fn is_same(&self, other: &(K, V)) -> bool {
-        self.0.is_same(&other.0) && self.1.is_same(&other.1)
+impl Same for LinkRow {
+    fn is_same(&self, other: &LinkRow) -> bool {
+        self.a == other.a
+            && self.b == other.b
+            && self.forth.is_same(&other.forth)
+            && self.back.is_same(&other.back)
     }
 }
 

@@ -1,33 +1,38 @@
-//! Where each lane stands in the list of lanes, by its ends.
+//! Where each link stands in the list of links, by its ends.
 
-ghost use Rattle.std.specs.Prelude.{◌≡◌, ◌≤◌, ◌<◌, ◌^◌, length, slice_index, OnOk, OnErr};
+ghost use Rattle.std.specs.Prelude.{◌≡◌, ◌≤◌, ◌<◌, ◌^◌, ℕ, None, map, length, slice_index, OnOk, OnErr};
+ghost use Rattle.std.specs.FinMap.Entries.{find};
 ghost use Rattle.coord_types.specs.StepRanges.{IsNode};
+ghost use Rattle.coord_tables.specs.Links.{link_entry};
+ghost use Rattle.coord_tables.specs.Pairs.{pair_cmp};
+ghost use Rattle.coord_tables.specs.Place.{IsGapFor};
 ghost use Rattle.coord_tables.specs.Places.{pair_place, noted_place, IsIndexOf};
 
-use coord_link::Lane;
+use crate::links::LinkRow;
 use coord_types::{MAX_NODES, NodeId};
 use std::alloc::AllocError;
+use std::cmp::Ordering;
 
 /// How many ordered pairs of nodes there are.
 pub const PAIRS: usize = MAX_NODES as usize * MAX_NODES as usize;
 
 /// Where a pair stands among all pairs.
-fn pair_place(from: NodeId, to: NodeId) -> usize
-    ensures value { result ≡ pair_place from to }
+fn pair_place(a: NodeId, b: NodeId) -> usize
+    ensures value { result ≡ pair_place a b }
     ensures within { result < PAIRS }
-    ensures from { IsNode from }
-    ensures to { IsNode to }
+    ensures from { IsNode a }
+    ensures to { IsNode b }
 {
-    (from.number() as usize - 1) * MAX_NODES as usize + (to.number() as usize - 1)
+    (a.number() as usize - 1) * MAX_NODES as usize + (b.number() as usize - 1)
 }
 
-/// Where the lane between two nodes stands.
-pub fn place_in(places: &[u16], from: NodeId, to: NodeId) -> Option<usize>
-    ensures value { result ≡ noted_place (slice_index places.now (pair_place from to)) }
-    ensures from { IsNode from }
-    ensures to { IsNode to }
+/// Where the link of two nodes stands, of which `a` is the lesser.
+pub fn place_of(places: &[u8], a: NodeId, b: NodeId) -> Option<usize>
+    ensures value { result ≡ noted_place (slice_index places.now (pair_place a b)) }
+    ensures from { IsNode a }
+    ensures to { IsNode b }
 {
-    let pair = pair_place(from, to);
+    let pair = pair_place(a, b);
     if pair >= places.len() {
         return None;
     }
@@ -39,24 +44,39 @@ pub fn place_in(places: &[u16], from: NodeId, to: NodeId) -> Option<usize>
     }
 }
 
-/// Makes places for all pairs, where there are none yet.
-pub fn grow(places: &mut Vec<u16>) -> Result<(), AllocError>
+/// Makes places for all pairs, where there are none yet. What is noted stays.
+pub fn grow(places: &mut Vec<u8>) -> Result<(), AllocError>
     requires { length places.old.items ≤ PAIRS }
     ensures ok { OnOk result (length places.new.items ≡ PAIRS) }
+    ensures most { length places.new.items ≤ PAIRS }
+    ensures kept { (k : ℕ) → slice_index places.new.items k ≡ slice_index places.old.items k }
     ensures err { OnErr result (places.new.items ≡ places.old.items) }
 {
     places.resize(PAIRS, 0)
 }
 
-/// Notes where each of these lanes stands.
-pub fn index_all(places: &mut Vec<u16>, lanes: &[((NodeId, NodeId), Lane)])
+/// Notes where each of these links stands.
+pub fn index_all(places: &mut Vec<u8>, links: &[LinkRow])
     requires whole { length places.old.items ≡ PAIRS }
-    requires few { length lanes.now < 2 ^ 16 }
-    ensures { IsIndexOf places.new.items lanes.now }
+    requires few { length links.now < 2 ^ 8 }
+    ensures { IsIndexOf places.new.items (map link_entry links.now) }
 {
     places.fill(0);
-    for (at, entry) in lanes.iter().enumerate() {
-        let pair = pair_place(entry.0.0, entry.0.1);
-        places[pair] = at as u16 + 1;
+    for (at, link) in links.iter().enumerate() {
+        let pair = pair_place(link.a, link.b);
+        places[pair] = at as u8 + 1;
     }
+}
+
+/// Where a new link would stand, of which `a` is the lesser end: behind those with lesser ends.
+pub fn place_for(links: &[LinkRow], a: NodeId, b: NodeId) -> usize
+    requires { find pair_cmp record { 0 = a; 1 = b } (map link_entry links.now) ≡ None }
+    ensures { IsGapFor pair_cmp (map link_entry links.now) record { 0 = a; 1 = b } result }
+{
+    for (at, link) in links.iter().enumerate() {
+        if (a, b).cmp(&(link.a, link.b)) == Ordering::Less {
+            return at;
+        }
+    }
+    links.len()
 }

@@ -1,6 +1,6 @@
 -- What is shown of a world.
 use Rattle.std.specs.Prelude.{ℕ, List, map}
-use Rattle.coord_world.specs.declared.rows.parts.LinkRow.{LinkRow}
+use Rattle.coord_tables.specs.declared.links.LinkRow.{LinkRow}
 use Rattle.coord_world.specs.declared.rows.parts.NodeRow.{NodeRow}
 use Rattle.coord_world.specs.Facade.{World, rows_of}
 use Rattle.coord_view.specs.declared.view.LinkView.{LinkView}

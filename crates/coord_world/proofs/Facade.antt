@@ -2,6 +2,8 @@
 pub use Rattle.coord_world.proofs.listings.RowsOfWorldFit.{rows_have_few_aborts, rows_of_world_fit}
 pub use Rattle.coord_world.proofs.listings.RowsGiveWorld.{rows_give_world}
 pub use Rattle.coord_tables.proofs.KeyedLists.{all_weaker}
+pub use Rattle.coord_tables.proofs.LinkLanes.{lane-apart, lane-mirrored}
+pub use Rattle.coord_world.proofs.legal.EmptyWorld.{no_lane}
 pub use Rattle.coord_world.proofs.acceptance.IsFresh.{fresh_count}
 pub use Rattle.coord_world.proofs.acceptance.FreshOverItself.{itself}
 pub use Rattle.coord_tables.proofs.Cases.{by_test, same_or_apart}

@@ -3,8 +3,6 @@ pub mod Counts
 pub mod EveryLane
 pub mod HasNumber
 pub mod IsShort
-pub mod LanePairs
 pub mod MessageCounts
-pub mod OnLane
 pub mod PlaceForTransition
 pub mod Transit

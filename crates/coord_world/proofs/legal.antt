@@ -17,3 +17,4 @@ pub mod TakeKept
 pub mod Versions
 pub mod NoCycle
 pub mod RaisedLegal
+pub mod NoDistance

@@ -8,3 +8,4 @@ pub mod WorkedSteps
 pub mod ReleasedRun
 pub mod Cycles
 pub mod Raised
+pub mod Version1

@@ -6,6 +6,7 @@ ghost use Rattle.coord_world.specs.laws.Raised.{RaisedIsLegal};
 ghost use Rattle.coord_world.specs.laws.KeptReplies.{KeptReplyLaw};
 ghost use Rattle.coord_world.specs.laws.Release.{FreshWhereReleased, ReleaseLaw, ReleasedFromBase, ReleasedGrows, ReleaseStays, ResendLaw};
 ghost use Rattle.coord_world.specs.laws.Trails.{FoldCounts, TrailGoesOn, TrailIsCut, TrailKeepsWorlds};
+ghost use Rattle.coord_world.specs.laws.Version1.{Version1AsksNoDistance};
 ghost use Rattle.coord_world.specs.laws.Waves.{OncePerWave};
 
 /// A step that a world takes over some settled world, it takes over itself.
@@ -37,6 +38,12 @@ pub fn lanes_are_short()
 /// on the way from one to the next.
 pub fn no_parent_cycle()
     ensures { NoParentCycle }
+{}
+
+/// In a world of version 1 within its ranges the predicates ask nothing of distances: H holds of
+/// each link, and N of each node of which the rest of N does.
+pub fn version_1_asks_no_distance()
+    ensures { Version1AsksNoDistance }
 {}
 
 /// A legal world of version 1 in which every node is Ready is a legal one of version 2 with every

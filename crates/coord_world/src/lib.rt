@@ -1,4 +1,4 @@
-//! A world: nodes, the lanes between them, and the last order of each client.
+//! A world: nodes, the links between them, and the last order of each client.
 //!
 //! `World` is the code. Contracts see the numbered world of `specs/protocol/NumberedWorld.antt`;
 //! beside it stand which steps a world takes (`Acceptance`), what each makes of it (`Next`) and
@@ -20,6 +20,7 @@ mod tables;
 mod verdicts;
 mod world;
 
-pub use rows::parts::{ClientRow, LinkRow, NodeRow, Parts};
+pub use coord_tables::LinkRow;
+pub use rows::parts::{ClientRow, NodeRow, Parts};
 pub use verdicts::Verdict;
 pub use world::{Outcome, World};

@@ -3,5 +3,4 @@
 mod assembly;
 mod listing;
 mod neighbours;
-mod ordering;
 pub mod parts;

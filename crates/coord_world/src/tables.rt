@@ -1,4 +1,4 @@
-//! The tables of a world: its count, its nodes, its lanes and the clients' last orders, before
+//! The tables of a world: its count, its nodes, its links and the clients' last orders, before
 //! anything is promised of them.
 
 ghost use Rattle.std.specs.Prelude.{◌≡◌, IfOk, IsTrue, ◌↔◌};
@@ -9,7 +9,7 @@ ghost use Rattle.coord_world.specs.protocol.Acceptance.{lane};
 
 use coord_link::Lane;
 use coord_node::Node;
-use coord_tables::{LaneTable, NodeTable, SessionTable};
+use coord_tables::{LinkTable, NodeTable, SessionTable};
 use coord_types::{NodeId, Version};
 use std::alloc::{AllocError, Global};
 use std::marker::Model;
@@ -20,7 +20,7 @@ pub struct Tables {
     pub version: Version,
     pub count: u64,
     pub nodes: NodeTable,
-    pub lanes: LaneTable,
+    pub links: LinkTable,
     pub sessions: SessionTable,
 }
 
@@ -35,7 +35,7 @@ impl Model for Tables {
       version = a.version;
       count = a.count;
       nodes = a.nodes;
-      lanes = a.lanes;
+      links = a.links;
       sessions = a.sessions;
     } };
 }
@@ -48,7 +48,7 @@ impl Tables {
             version,
             count: 0,
             nodes: NodeTable::new(alloc),
-            lanes: LaneTable::new(alloc),
+            links: LinkTable::new(alloc),
             sessions: SessionTable::new(alloc),
         }
     }
@@ -63,7 +63,7 @@ impl Tables {
     pub fn lane_of(&self, from: NodeId, to: NodeId, inc: u64) -> Option<&Lane>
         ensures { option_copied result ≡ lane self.now from to inc }
     {
-        let lane = self.lanes.get(from, to)?;
+        let lane = self.links.lane(from, to)?;
         if lane.inc() == inc { Some(lane) } else { None }
     }
 
@@ -73,7 +73,7 @@ impl Tables {
         self.version == other.version
             && self.count == other.count
             && self.nodes.is_same(&other.nodes)
-            && self.lanes.is_same(&other.lanes)
+            && self.links.is_same(&other.links)
             && self.sessions.is_same(&other.sessions)
     }
 
@@ -84,7 +84,7 @@ impl Tables {
             version: self.version,
             count: self.count,
             nodes: self.nodes.copy()?,
-            lanes: self.lanes.copy()?,
+            links: self.links.copy()?,
             sessions: self.sessions.copy()?,
         })
     }

@@ -1,8 +1,9 @@
-//! The world of nodes, lanes and sessions.
+//! The world of nodes, links and sessions.
 
 ghost use Rattle.std.specs.Prelude.{◌≡◌, ◌↔◌, IsTrue, Ok, IfOk, OnOk, OnErr};
 ghost use Rattle.std.specs.Option.{option_copied};
 ghost use Rattle.coord_types.specs.Table as table;
+ghost use Rattle.coord_tables.specs.Links.{lane_at, link_rows};
 ghost use Rattle.coord_types.specs.declared.steps.Kind.{Kind};
 ghost use Rattle.coord_node.specs.Steps.{kind};
 ghost use Rattle.coord_world.specs.protocol.NumberedWorld.{no_world, state};
@@ -20,7 +21,7 @@ use crate::tables::Tables;
 use crate::verdicts::Verdict;
 use coord_link::Lane;
 use coord_node::Node;
-use coord_tables::{NodeTable, SessionTable};
+use coord_tables::{LinkRow, NodeTable, SessionTable};
 use coord_types::{Client, NodeId, Output, Refusal, Reply, Session, Step, Version};
 use std::alloc::{AllocError, Global};
 use std::marker::Model;
@@ -53,7 +54,7 @@ impl Model for World {
     ghost invariant = { λ a. InRange a.tables };
 }
 
-/// Equal worlds have the same count, nodes, lanes and last orders.
+/// Equal worlds have the same count, nodes, links and last orders.
 impl PartialEq for World {
     ghost use Rattle.std.specs.Cmp.{decided, partial_equiv_from_equiv};
     ghost use Rattle.coord_world.specs.code.SameWorlds.{same_world, same_world_decides};
@@ -148,16 +149,16 @@ impl World {
 
     /// The lane from one node to another.
     pub fn lane(&self, from: NodeId, to: NodeId) -> Option<&Lane>
-        ensures { option_copied result ≡ table.get self.now.lanes record { 0 = from; 1 = to } }
+        ensures { option_copied result ≡ lane_at self.now.links from to }
     {
-        self.tables.lanes.get(from, to)
+        self.tables.links.lane(from, to)
     }
 
-    /// The lanes with their ends, in ascending order.
-    pub fn lanes(&self) -> &[((NodeId, NodeId), Lane)]
-        ensures { result.now ≡ table.entries self.now.lanes }
+    /// The links as rows, in ascending order of their ends.
+    pub fn links(&self) -> &[LinkRow]
+        ensures { result.now ≡ link_rows self.now.links }
     {
-        self.tables.lanes.entries()
+        self.tables.links.rows()
     }
 
     /// The nodes by their numbers.

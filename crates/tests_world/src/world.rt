@@ -369,8 +369,8 @@ fn at_most_2_to_the_40_steps_and_128_links(rt: HostRuntime) -> Result<(), Fail> 
 }
 
 /// Whether a world of version 1 in which every node is Ready becomes one of version 2 with as
-/// many lanes, and the same last order.
-fn is_raised(world: &World, lanes: usize) -> Result<bool, AllocError>
+/// many links, and the same last order.
+fn is_raised(world: &World, links: usize) -> Result<bool, AllocError>
     requires { Legal world.now }
 {
     if world.version().number() != 1 || world.first_busy().is_some() {
@@ -378,9 +378,9 @@ fn is_raised(world: &World, lanes: usize) -> Result<bool, AllocError>
     }
     let raised = world.raised()?;
     let is_second = raised.version().number() == 2 && raised.count() == world.count();
-    let has_lanes = raised.lanes().len() == lanes && raised.last(client()) == world.last(client());
+    let has_links = raised.links().len() == links && raised.last(client()) == world.last(client());
     drop(raised);
-    Ok(is_second && has_lanes)
+    Ok(is_second && has_links)
 }
 
 fn is_empty_world_raised(alloc: Global) -> Result<bool, AllocError> {
@@ -406,7 +406,7 @@ fn is_raised_until_64_resets(world: &mut World) -> Result<bool, AllocError>
     requires { Legal world.old }
 {
     link_with_64(world)?;
-    let is_raised = is_raised(world, 2)?;
+    let is_raised = is_raised(world, 1)?;
     let _ = takes(world, &order(4, Command::Reset(id(64))))?;
     Ok(is_raised && world.first_busy() == Some(id(64)))
 }

@@ -5,7 +5,8 @@ use Rattle.coord_types.specs.Facade.{get}
 use Rattle.coord_types.specs.Table as table
 use Rattle.coord_types.proofs.Tables.{get-empty}
 use Rattle.coord_store.specs.Migrating.{risen}
-use Rattle.coord_world.specs.Facade.{Legal, World, is_linked, no_world, pair_cmp_total}
+use Rattle.coord_world.proofs.Facade.{no_lane}
+use Rattle.coord_world.specs.Facade.{Legal, World, is_linked, lane_at, no_world}
 use Rattle.coord_ledger.specs.declared.events.Event.TheVariants as event
 use Rattle.coord_ledger.specs.Facade.{Answered, Log, after_submit, cut_to, log_over, machine_over, moved, run, verdict}
 use Rattle.coord_drill.specs.Answered.{IsAnswered}
@@ -17,8 +18,8 @@ use Rattle.coord_drill.specs.Facade.{Accepted, Answer, Asked, Begun, Fresh, IsEm
 pub no_world_legal : (version : ℕ) → Legal (no_world version)
 no_world_legal version = record {
   nodes = λ u r is. let none : get (no_world version).nodes u ≡ None = get-empty nat_cmp_total u in cc;
-  lanes = λ u v l is. let none : get (no_world version).lanes (u, v) ≡ None = get-empty pair_cmp_total (u, v) in cc;
-  links = λ u v is. let none : is_linked (no_world version) u v ≡ false = ap is_some (get-empty pair_cmp_total (u, v)) in cc;
+  lanes = λ u v l is. let none : lane_at (no_world version).links u v ≡ None = no_lane version u v in cc;
+  links = λ u v is. let none : is_linked (no_world version) u v ≡ false = ap is_some (no_lane version u v) in cc;
 }
 
 pub risen_empty : risen (no_world 1) ≡ no_world 2

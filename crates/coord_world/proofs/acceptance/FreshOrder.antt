@@ -20,7 +20,7 @@ pub record Joinable (w : World) (a b : ℕ) : Type 0 where
   pub free : is_linked w a b ≡ false
   pub first_room : set.len (state w a).neighbours ≤ 15
   pub second_room : set.len (state w b).neighbours ≤ 15
-  pub room : len w.lanes ≤ 255
+  pub room : len w.links ≤ 127
 
 -- two nodes whose link may be dropped
 pub record Droppable (w : World) (a b : ℕ) : Type 0 where

@@ -17,7 +17,7 @@ use Rattle.coord_link.specs.LaneMachine.{Lane, Tests, refused_or}
 use Rattle.coord_node.specs.Steps.{kind}
 use Rattle.coord_world.specs.declared.verdicts.Verdict.{Verdict}
 use Rattle.coord_world.specs.declared.verdicts.Verdict.TheVariants.{Fresh, Repeat}
-use Rattle.coord_world.specs.Facade.{IsFresh, World, against, against_data, against_receipt, is_exhausted, judged, lane, of_incarnation, or_repeat, state}
+use Rattle.coord_world.specs.Facade.{IsFresh, World, against, against_data, against_receipt, is_exhausted, judged, lane, lane_at, of_incarnation, or_repeat, state}
 use Rattle.coord_tables.proofs.Cases.{by_test}
 
 -- none of the tests holds
@@ -75,7 +75,7 @@ module _ (w settled : World) (s : Step) (fresh : IsFresh w settled s) where
 pub record Takes (w : World) (p : DataPacket) : Type 0 where
   pub lane : Lane
   pub rest : List Msg
-  pub there : get w.lanes (p.from, p.to) ≡ Some lane
+  pub there : lane_at w.links p.from p.to ≡ Some lane
   pub idle : lane.got ≡ lane.base
   pub front : lane.queue ≡ p.msg ∷ rest
 
@@ -92,7 +92,7 @@ fresh_take w settled p fresh = of_lane (lane w p.from p.to p.inc) refl (tests_pa
         record {
           lane = l;
           rest = front.0;
-          there = with_incarnation p.inc (get w.lanes (p.from, p.to)) l is;
+          there = with_incarnation p.inc (lane_at w.links p.from p.to) l is;
           idle = grind (arith, nat_tests);
           front = front.1;
         }
@@ -100,7 +100,7 @@ fresh_take w settled p fresh = of_lane (lane w p.from p.to p.inc) refl (tests_pa
 -- the message that a receipt names was taken
 pub record Clears (w : World) (p : ReceiptPacket) : Type 0 where
   pub lane : Lane
-  pub there : get w.lanes (p.from, p.to) ≡ Some lane
+  pub there : lane_at w.links p.from p.to ≡ Some lane
   pub more : lane.base + 1 ≤ lane.got
 
 -- a receipt that clears names such a lane
@@ -110,4 +110,4 @@ fresh_clear w settled p fresh = of_lane (lane w p.from p.to p.inc) refl (tests_p
     of_lane : (o : Option Lane) → lane w p.from p.to p.inc ≡ o →
         NoneHolds (against_receipt o (lane settled p.from p.to p.inc) p) → Clears w p
     of_lane None is h = cc
-    of_lane (Some l) is h = record { lane = l; there = with_incarnation p.inc (get w.lanes (p.from, p.to)) l is; more = grind (arith, nat_tests) }
+    of_lane (Some l) is h = record { lane = l; there = with_incarnation p.inc (lane_at w.links p.from p.to) l is; more = grind (arith, nat_tests) }

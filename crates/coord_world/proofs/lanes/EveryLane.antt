@@ -1,19 +1,18 @@
 -- What every lane keeps through a step, it keeps through each change of a lane.
 use Rattle.std.proofs.Common.{◌≡◌, ℕ, ◌+◌, List, [], ◌∷◌, Some, cond, eqb, sym, ◌∙◌}
-use Rattle.coord_types.specs.Table.{get}
 use Rattle.coord_types.specs.declared.messages.Msg.{Msg}
 use Rattle.coord_types.specs.declared.steps.Command.TheVariants.{Add, Remove, Join, Drop, Reset, Confirm}
 use Rattle.coord_types.specs.declared.steps.Step.{Step}
 use Rattle.coord_types.specs.declared.steps.Step.TheVariants.{Order, Take, Clear}
 use Rattle.coord_link.specs.LaneMachine.{Lane, cleared, new_lane, sent, took}
 use Rattle.coord_node.specs.Facade.{Transition, added, is_link, transitions}
-use Rattle.coord_world.specs.Facade.{World, is_lane, next, on_lane, prepared, state, with_transition, with_transitions}
+use Rattle.coord_world.specs.Facade.{World, is_lane, lane_at, next, on_lane, prepared, state, with_transition, with_transitions}
 use Rattle.coord_tables.proofs.Cases.{by_test}
 use Rattle.coord_world.proofs.lists.GetAfter.{lane_done, lane_on, lane_left, lane_made, each_changed, each_left, each_made}
 
 -- what holds of every lane, with its ends
 abbrev pub AllLanes : (ℕ → ℕ → Lane → Type 0) → World → Type 0
-AllLanes P w = (x y : ℕ) (l : Lane) → get w.lanes (x, y) ≡ Some l → P x y l
+AllLanes P w = (x y : ℕ) (l : Lane) → lane_at w.links x y ≡ Some l → P x y l
 
 -- where P holds of a lane before a step that sends such messages, Q holds of what the step makes of the lane
 pub record LaneCarries (M : List Msg → Type 0) (P Q : ℕ → ℕ → Lane → Type 0) : Type 0 where
@@ -45,7 +44,7 @@ module _ (M : List Msg → Type 0) (P Q : ℕ → ℕ → Lane → Type 0) (carr
   all_done : (w : World) (ds : List (ℕ × Transition)) → AllSend M ds → AllLanes Q w → AllLanes Q (with_transitions w ds)
   all_done w [] sends all = all
   all_done w (d ∷ ds) sends all = all_done (with_transition w d.0 d.1) ds sends.1 (λ x y m e.
-      each_changed (get w.lanes (x, y)) (λ l. cond (eqb x d.0) (sent (added d.1 y) l) l) (Q x y)
+      each_changed (lane_at w.links x y) (λ l. cond (eqb x d.0) (sent (added d.1 y) l) l) (Q x y)
       (λ l is. by_test (eqb x d.0) (λ b. Q x y (cond b (sent (added d.1 y) l) l)) (λ _. carries.send x y l (added d.1 y) (sends.0 y) (all x y l is)) (λ _. all x y l is))
       m (sym (lane_done w d.0 d.1 x y) ∙ e))
 
@@ -56,7 +55,7 @@ module _ (M : List Msg → Type 0) (P Q : ℕ → ℕ → Lane → Type 0) (carr
 
     -- one lane changes
     on_one : (u v : ℕ) (f : Lane → Lane) → ((x y : ℕ) (l : Lane) → P x y l → Q x y (f l)) → AllLanes Q (on_lane w u v f)
-    on_one u v f changed x y m e = each_changed (get w.lanes (x, y)) (λ l. cond (is_lane (x, y) u v) (f l) l) (Q x y)
+    on_one u v f changed x y m e = each_changed (lane_at w.links x y) (λ l. cond (is_lane (x, y) u v) (f l) l) (Q x y)
         (λ l is. by_test (is_lane (x, y) u v) (λ b. Q x y (cond b (f l) l)) (λ _. changed x y l (before x y l is)) (λ _. later x y l is))
         m (sym (lane_on w u v f x y) ∙ e)
 
@@ -64,9 +63,9 @@ module _ (M : List Msg → Type 0) (P Q : ℕ → ℕ → Lane → Type 0) (carr
     all_prepared : (s : Step) → Makes Q w.count s → AllLanes Q (prepared w s)
     all_prepared (Order c n (Add u g)) makes = later
     all_prepared (Order c n (Remove u)) makes = later
-    all_prepared (Order c n (Join a b)) makes = λ x y m e. each_made (get w.lanes (x, y)) (is_link a b x y) (new_lane (w.count + 1)) (Q x y) (λ _. makes x y) (λ _ l is. later x y l is)
+    all_prepared (Order c n (Join a b)) makes = λ x y m e. each_made (lane_at w.links x y) (is_link a b x y) (new_lane (w.count + 1)) (Q x y) (λ _. makes x y) (λ _ l is. later x y l is)
         m (sym (lane_made w a b x y) ∙ e)
-    all_prepared (Order c n (Drop a b)) makes = λ x y m e. later x y m (each_left (get w.lanes (x, y)) (is_link a b x y) m (sym (lane_left w a b x y) ∙ e))
+    all_prepared (Order c n (Drop a b)) makes = λ x y m e. later x y m (each_left (lane_at w.links x y) (is_link a b x y) m (sym (lane_left w a b x y) ∙ e))
     all_prepared (Order c n (Reset u)) makes = later
     all_prepared (Order c n (Confirm u e)) makes = later
     all_prepared (Take p) makes = on_one p.from p.to took carries.take

@@ -1,12 +1,12 @@
 -- Lanes of sound worlds are short.
 use Rattle.std.proofs.Common.{◌≡◌, ℕ, ◌+◌, ◌≤◌, Bool, true, List, [], ◌∷◌, Some, length, sym, ap, ◌∙◌, subst, arith, is_some}
 use Rattle.std.proofs.lemmas.Bool.Decides.{nat_tests}
-use Rattle.coord_types.specs.Facade.{Ideal, behind_front, contains, get}
+use Rattle.coord_types.specs.Facade.{Ideal, behind_front, contains}
 use Rattle.coord_types.specs.declared.messages.Msg.{Msg}
 use Rattle.coord_types.specs.declared.messages.Msg.TheVariants.{Abort, Ack, Ready}
 use Rattle.coord_link.specs.LaneMachine.{Lane, transit}
 use Rattle.coord_world.specs.laws.Laws.{IsShort}
-use Rattle.coord_world.specs.Facade.{World, aborts, acks, one, readies, transit_or_none, view}
+use Rattle.coord_world.specs.Facade.{World, aborts, acks, lane_at, one, readies, transit_or_none, view}
 use Rattle.coord_world.proofs.legal.Sound.{Sound}
 
 -- each message is of one of three kinds
@@ -53,7 +53,7 @@ length-queue : (l : Lane) → length l.queue ≤ length (transit l) + 1
 length-queue l = grind (arith, nat_tests, length-behind l.queue)
 
 -- a lane of a sound world is short
-pub lane_short : (w : World) (u v : ℕ) (l : Lane) → Sound (view w) → get w.lanes (u, v) ≡ Some l → IsShort l
+pub lane_short : (w : World) (u v : ℕ) (l : Lane) → Sound (view w) → lane_at w.links u v ≡ Some l → IsShort l
 lane_short w u v l sound there =
     let way : length (transit l) ≤ 3 = subst (λ o. length (transit_or_none o) ≤ 3) there (way_short (view w) u v sound (ap is_some there)) in
     let few : aborts (transit l) ≤ 1 = subst (λ o. aborts (transit_or_none o) ≤ 1) there (way_aborts (view w) u v sound (ap is_some there)) in

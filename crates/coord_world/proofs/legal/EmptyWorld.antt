@@ -4,7 +4,9 @@ use Rattle.std.specs.Cmp.{nat_cmp_total}
 use Rattle.coord_types.specs.Facade.{contains, get}
 use Rattle.coord_types.proofs.Sets.{contains-empty}
 use Rattle.coord_types.proofs.Tables.{get-empty, len-empty}
-use Rattle.coord_link.specs.LaneMachine.{Lane}
+use Rattle.std.specs.Option.{option_map}
+use Rattle.coord_tables.specs.Links.{Lanes, ends, lane_at, toward}
+use Rattle.coord_tables.proofs.LinkLanes.{turned-empty}
 use Rattle.coord_world.specs.Facade.{InRange, Legal, is_linked, no_world, pair_cmp_total, state_or_none}
 
 module _ (version : ℕ) where
@@ -13,8 +15,9 @@ module _ (version : ℕ) where
   no_row u = get-empty nat_cmp_total u
 
   -- no lane
-  no_lane : (u v : ℕ) → get (no_world version).lanes (u, v) ≡ None
-  no_lane u v = get-empty pair_cmp_total (u, v)
+  pub no_lane : (u v : ℕ) → lane_at (no_world version).links u v ≡ None
+  unfolding lane_at
+  no_lane u v = ap (option_map (toward u v)) (get-empty pair_cmp_total (ends u v))
 
   -- no session
   no_session : (c : ℕ) → get (no_world version).sessions c ≡ None
@@ -38,10 +41,9 @@ module _ (version : ℕ) where
     awaited = λ u k awaits. let none = ap (λ o. contains (state_or_none o).pend k) (no_row u) ∙ contains-empty k in cc;
     parents = λ u p is. let none = ap (λ o. (state_or_none o).parent) (no_row u) in cc;
     sessions = λ c s is. let none = no_session c in cc;
-    links = omega (arith, len-empty pair_cmp_total Lane);
+    links = omega (arith, len-empty pair_cmp_total Lanes);
     linked = λ u v. no_link u v ∙ sym (contains-empty v) ∙ ap (λ o. contains (state_or_none o).neighbours v) (sym (no_row u));
-    mirrored = λ u v. no_link u v ∙ sym (no_link v u);
-    apart = λ u. no_link u u;
+    turned = turned-empty;
     ends = λ u v is. let none = no_link u v in cc;
     one_group = λ u v is. let none = no_link u v in cc;
     one_incarnation = λ u v l k is back. let none = no_lane u v in cc;

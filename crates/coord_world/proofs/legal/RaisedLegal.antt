@@ -76,8 +76,7 @@ module _ (w : World) (range : InRange w) (legal : Legal w) (first : w.version �
     sessions = range.sessions;
     links = range.links;
     linked = λ u v. range.linked u v ∙ ap (λ s. contains s v) (sym (near_same u));
-    mirrored = range.mirrored;
-    apart = range.apart;
+    turned = range.turned;
     ends = λ u v is. there_same u ∙ range.ends u v is;
     one_group = λ u v is. field (λ r. r.group) (λ x r. refl) u ∙ range.one_group u v is ∙ sym (field (λ r. r.group) (λ x r. refl) v);
     one_incarnation = range.one_incarnation;

@@ -1,14 +1,14 @@
 -- A fresh step keeps the view sound.
 use Rattle.std.proofs.Common.{◌≡◌, ℕ, true, ◌∷◌, sym, ◌∙◌, ap, subst, arith, is_some}
 use Rattle.std.proofs.lemmas.Bool.Decides.{nat_tests}
-use Rattle.coord_types.specs.Facade.{contains, get, no_node}
+use Rattle.coord_types.specs.Facade.{contains, no_node}
 use Rattle.coord_types.specs.declared.steps.Command.{Command}
 use Rattle.coord_types.specs.declared.steps.Command.TheVariants.{Add, Remove, Join, Drop, Reset, Confirm}
 use Rattle.coord_types.specs.declared.steps.Step.{Step}
 use Rattle.coord_types.specs.declared.steps.Step.TheVariants.{Order, Take, Clear}
 use Rattle.coord_types.proofs.Sets.{len-empty}
 use Rattle.coord_node.specs.Facade.{ideal_next, is_empty}
-use Rattle.coord_world.specs.Facade.{IsFresh, World, next, state, state_or_none, transit_or_none, view}
+use Rattle.coord_world.specs.Facade.{IsFresh, World, lane_at, next, state, state_or_none, transit_or_none, view}
 use Rattle.coord_world.proofs.lanes.Counts.{AllCount}
 use Rattle.coord_world.proofs.legal.DropKept.{drop_kept}
 use Rattle.coord_world.proofs.acceptance.IsFresh.{fresh_take}
@@ -38,7 +38,7 @@ ideal_kept w settled (Order c n x) sound even fresh = ordered_kept w c n x sound
 ideal_kept w settled (Take p) sound even fresh =
     let take = fresh_take w settled p fresh in
     let out : contains (state w p.from).neighbours p.to ≡ true = sym (sound.linked p.from p.to) ∙ ap is_some take.there in
-    let front : transit_or_none (get w.lanes (p.from, p.to)) ≡ p.msg ∷ take.rest = ap transit_or_none take.there ∙ grind (arith, nat_tests, take.idle) ∙ take.front in
+    let front : transit_or_none (lane_at w.links p.from p.to) ≡ p.msg ∷ take.rest = ap transit_or_none take.there ∙ grind (arith, nat_tests, take.idle) ∙ take.front in
     taken_kept (view w) p.from p.to p.msg take.rest (sym (even p.from p.to out)) front (sym (sound.mirrored p.from p.to) ∙ out) sound
 ideal_kept w settled (Clear p) sound even fresh = sound
 

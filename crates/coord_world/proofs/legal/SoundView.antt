@@ -1,6 +1,7 @@
 -- A legal world in its ranges has a sound view.
 use Rattle.std.proofs.Common.{◌≡◌, ℕ, Option, Some, None, refl, sym, ◌∙◌}
 use Rattle.coord_types.specs.Facade.{NodeState, get}
+use Rattle.coord_tables.proofs.LinkLanes.{lane-apart, lane-mirrored}
 use Rattle.coord_world.specs.Facade.{InRange, Legal, World, link, state, state_or_none, view}
 use Rattle.coord_world.proofs.legal.SoundLink.{sound_link}
 use Rattle.coord_world.proofs.legal.SoundNode.{SoundNode, sound_node}
@@ -21,6 +22,6 @@ sound_view w range legal = record {
   links = λ x y near. sound_link (link (view w) x y) (legal.links x y (range.linked x y ∙ near));
   nodes = at_each w SoundNode (new_legal 1 0) (λ u r is. sound_node w.count r (legal.nodes u r is));
   linked = range.linked;
-  mirrored = λ x y. sym (range.linked x y) ∙ range.mirrored x y ∙ range.linked y x;
-  apart = λ x. sym (range.linked x x) ∙ range.apart x;
+  mirrored = λ x y. sym (range.linked x y) ∙ lane-mirrored w.links x y ∙ range.linked y x;
+  apart = λ x. sym (range.linked x x) ∙ lane-apart w.links range.turned x;
 }

@@ -6,6 +6,7 @@ use Rattle.coord_types.specs.declared.steps.Command.TheVariants.{Add, Remove, Jo
 use Rattle.coord_types.specs.declared.steps.Step.{Step}
 use Rattle.coord_types.specs.declared.steps.Step.TheVariants.{Order, Take, Clear}
 use Rattle.coord_node.specs.Facade.{ideal_next, request, transition}
+use Rattle.coord_tables.proofs.LinkLanes.{lane-mirrored}
 use Rattle.coord_world.specs.Facade.{InRange, IsFresh, World, is_linked, next, state, view}
 use Rattle.coord_world.specs.laws.Waves.{changes_topology}
 use Rattle.coord_world.proofs.lanes.Counts.{AllCount}
@@ -22,7 +23,7 @@ version_is w range x y linked = (range.distances x (state w x) (there_is w x (ra
 pub versions_view : (w : World) → InRange w → SameVersions (view w)
 versions_view w range x y near =
     let linked = range.linked x y ∙ near in
-    version_is w range x y linked ∙ sym (version_is w range y x (sym (range.mirrored x y) ∙ linked))
+    version_is w range x y linked ∙ sym (version_is w range y x (sym (lane-mirrored w.links x y) ∙ linked))
 
 -- what a node keeps where no node and no link comes or goes
 record Fixed (r s : NodeState) : Type 0 where

@@ -1,12 +1,14 @@
 -- Neighbours that are noted one link after the other.
-use Rattle.std.proofs.Common.{◌≡◌, ◌≢◌, ℕ, ◌-◌, Bool, true, false, ◌||◌, List, length, set, cond, eqb, refl, sym, ap, ◌∙◌, arith}
+use Rattle.std.proofs.Common.{◌≡◌, ◌≢◌, ℕ, ◌-◌, Bool, true, false, ◌||◌, List, [], ◌∷◌, length, map, set, cond, eqb, refl, sym, ap, ◌∙◌, arith}
 use Rattle.std.proofs.lemmas.Bool.Decides.{nat_tests}
 use Rattle.std.proofs.lemmas.List.{length-set, get_or-set_same, get_or-set_other}
 use Rattle.coord_types.specs.NodeSet.{NodeSet, contains, empty, insert}
 use Rattle.coord_types.specs.StepRanges.{IsNode}
 use Rattle.coord_types.proofs.Sets.{contains-insert, same_nodes}
-use Rattle.coord_world.specs.code.Assembly.{near_in}
-use Rattle.coord_world.specs.declared.rows.parts.LinkRow.{LinkRow}
+use Rattle.coord_world.specs.code.Assembly.{AreNear, entry_with, near_in, node_entry}
+use Rattle.std.specs.List.{AllByRecursion}
+use Rattle.coord_tables.specs.declared.links.LinkRow.{LinkRow}
+use Rattle.coord_world.specs.declared.rows.parts.NodeRow.{NodeRow}
 use Rattle.coord_tables.proofs.Cases.{by_test}
 
 -- one more neighbour of a node
@@ -38,3 +40,9 @@ both_noted near r long is_a is_b u is_u =
     (λ is. by_test (eqb u r.b) (λ t. cond t (insert (insert (near_in near u) r.b) r.a) (insert (near_in near u) r.b) ≡ insert (near_in near u) r.b)
     (λ also. let same : r.a ≡ r.b = grind (arith, nat_tests) in ap (insert (insert (near_in near u) r.b)) same ∙ twice (near_in near u) r.b) (λ _. refl))
     (λ _. refl)
+
+-- rows of nodes with the same neighbours are the same
+pub same_with : (version : ℕ) (near : List NodeSet) (links : List LinkRow) → AreNear links near → (rs : List NodeRow) → AllByRecursion (λ r. IsNode r.id) rs → map (entry_with version (near_in near)) rs ≡ map (node_entry version links) rs
+same_with version near links known [] all = refl
+same_with version near links known (r ∷ rs) all = λ i.
+    (r.id, record { version = version; group = r.group; mode = r.mode; parent = r.parent; pend = r.pend; neighbours = known r.id all.0 i; epoch = r.epoch; confirmed = r.confirmed; distance = r.distance }) ∷ same_with version near links known rs all.1 i

@@ -2,21 +2,22 @@
 use Rattle.std.proofs.Common.{◌≡◌, ℕ, ◌≤◌, Bool, true, false, List, [], ◌∷◌, Option, Some, None, map, cond, eqb, length, refl, sym, ap, ◌∙◌, subst, arith, Ordering, is_some, nat_cmp}
 use Rattle.std.specs.Cmp.{nat_cmp_total}
 use Rattle.std.specs.List.{AllByRecursion}
-use Rattle.std.specs.FinMap.Entries.{find, is_sorted, is_sorted-where_key}
+use Rattle.std.specs.FinMap.Entries.{find, is_sorted}
 use Rattle.std.proofs.lemmas.Bool.Decides.{nat_tests}
 use Rattle.coord_types.specs.Facade.{IsMaskable, NodeState, contains, entries, get, has}
 use Rattle.coord_types.specs.NodeSet as set
 use Rattle.coord_types.proofs.Sets.{len-empty}
-use Rattle.coord_types.proofs.Tables.{get-entries, option_map}
-use Rattle.coord_link.specs.LaneMachine.{Lane}
+use Rattle.coord_types.proofs.Tables.{get-entries, len-entries, option_map}
+use Rattle.std.proofs.lemmas.List.{length-map}
+use Rattle.coord_tables.specs.Links.{Lanes, link_row, link_rows}
+use Rattle.coord_tables.proofs.LinkLanes.{lanes_at_key}
 use Rattle.coord_world.specs.laws.Laws.{HasFewAborts, RowsHaveFewAborts, RowsOfWorldFit}
-use Rattle.coord_world.specs.Facade.{CarryWithin, InRange, LaneInRange, LanesCarryWithin, LinkRowFits, NodeRowFits, RowIsDistant, SessionInRange, World, aborts, by_ends, client_row, degree, farthest, goes_up, group_in, group_of, is_linked, lane_or_none, link_row, node_row, pair_cmp, pair_cmp_total, state, state_or_none}
+use Rattle.coord_world.specs.Facade.{CarryWithin, InRange, LaneInRange, LanesCarryWithin, LinkRowFits, NodeRowFits, RowIsDistant, SessionInRange, World, aborts, by_ends, client_row, degree, farthest, group_in, group_of, is_linked, lane_at, node_row, pair_cmp, pair_cmp_total, state, state_or_none}
 use Rattle.coord_world.proofs.lanes.IsShort.{lane_short}
-use Rattle.coord_world.specs.declared.rows.parts.LinkRow.{LinkRow}
-use Rattle.coord_tables.proofs.Cases.{by_test, some_value}
-use Rattle.coord_world.proofs.listings.Degree.{HasBoth, IsNear, degree_within, links_within}
+use Rattle.coord_tables.specs.declared.links.LinkRow.{LinkRow}
+use Rattle.coord_tables.proofs.Cases.{by_test}
+use Rattle.coord_world.proofs.listings.Degree.{IsNear, IsTurned, degree_within}
 use Rattle.coord_tables.proofs.KeyedLists.{all_mapped, all_weaker, each_entry, sorted-keys}
-use Rattle.coord_world.proofs.listings.WithLinks.{Turned, find-ups, ups}
 use Rattle.coord_tables.proofs.Found.{same_number, same_pair}
 use Rattle.coord_world.proofs.listings.RowsGiveWorld.{row_listed}
 use Rattle.coord_world.proofs.ranges.EveryNode.{there_is}
@@ -38,11 +39,6 @@ module _ {K X A : Type 0} (R : K → K → Ordering) (made : K × X → A) (key 
   -- rows with their keys rise as the entries do that they were made of
   sorted_rows : (es : List (K × X)) → is_sorted R (map with_key (map made es)) ≡ is_sorted R es
   sorted_rows es = ap (is_sorted R) (through es) ∙ sorted-keys R (λ e. with_key (made e)) (λ e. e) same es ∙ ap (is_sorted R) (itself es)
-
--- what is found where a test holds
-passes : (t : Bool) (o : Option Lane) (l : Lane) → cond t o None ≡ Some l → (t ≡ true) × (o ≡ Some l)
-passes true o l is = (refl, is)
-passes false o l is = cc
 
 module _ (w : World) (range : InRange w) where
   node_fits : (u : ℕ) (r : NodeState) → find nat_cmp u (entries w.nodes) ≡ Some r → NodeRowFits w.count (node_row (u, r))
@@ -75,76 +71,64 @@ module _ (w : World) (range : InRange w) where
   clients_fit = all_mapped client_row (λ r. SessionInRange w.count r.client r.session) (entries w.sessions)
       (each_entry nat_cmp_total same_number (λ e. SessionInRange w.count e.0 e.1) (entries w.sessions) (is_true _ w.sessions.sorted) (λ c s found. range.sessions c s (get-entries w.sessions c ∙ found)))
 
-  ups_sorted : is_sorted pair_cmp (ups w) ≡ true
-  ups_sorted = is_true _ (is_sorted-where_key pair_cmp goes_up (entries w.lanes) w.lanes.sorted)
+  -- what holds of the row of each link holds of all rows
+  each_link : (P : LinkRow → Type 0) → ((a b : ℕ) (l : Lanes) → get w.links (a, b) ≡ Some l → P (link_row ((a, b), l))) → AllByRecursion P (link_rows w.links)
+  each_link P each = all_mapped link_row P (entries w.links) (each_entry pair_cmp_total same_pair (λ e. P (link_row e)) (entries w.links) (is_true _ w.links.sorted) (λ q l found. each q.0 q.1 l (get-entries w.links q ∙ found)))
 
-  -- what holds of the rows of all lanes that go up holds of each link
-  each_link : (P : LinkRow → Type 0) → ((a b : ℕ) (l : Lane) → goes_up (a, b) ≡ true → get w.lanes (a, b) ≡ Some l → P (link_row w ((a, b), l))) → AllByRecursion P (map (link_row w) (ups w))
-  each_link P each = all_mapped (link_row w) P (ups w) (each_entry pair_cmp_total same_pair (λ e. P (link_row w e)) (ups w) ups_sorted (λ q l found.
-      let both = passes (goes_up q) (get w.lanes q) l (sym (find-ups w q) ∙ found) in
-      each q.0 q.1 l both.0 both.1))
-
-  -- a lane's way back
-  way_back : (a b : ℕ) (l : Lane) → get w.lanes (a, b) ≡ Some l → is_linked w b a ≡ true
-  way_back a b l there = range.mirrored b a ∙ ap is_some there
+  -- the two lanes of a link
+  both_lanes : (a b : ℕ) (l : Lanes) → get w.links (a, b) ≡ Some l → (lane_at w.links a b ≡ Some l.forth) × (lane_at w.links b a ≡ Some l.back)
+  both_lanes a b l there = lanes_at_key w.links range.turned (a, b) l there
 
   -- the group of a node that is there is listed
   group_listed : (u : ℕ) → has w.nodes u ≡ true → group_of (map node_row (entries w.nodes)) u ≡ Some (state w u).group
   group_listed u known = ap group_in (row_listed w u ∙ ap (λ o. option_map (λ r. node_row (u, r)) o) (there_is w u known))
 
-  link_fits : (a b : ℕ) (l : Lane) → goes_up (a, b) ≡ true → get w.lanes (a, b) ≡ Some l → LinkRowFits w.count (map node_row (entries w.nodes)) (link_row w ((a, b), l))
-  link_fits a b l up there =
-      let linked : is_linked w a b ≡ true = ap is_some there in
-      let back = some_value (get w.lanes (b, a)) (way_back a b l there) in
-      let it : lane_or_none (get w.lanes (b, a)) ≡ back.0 = ap lane_or_none back.1 in
+  link_fits : (a b : ℕ) (l : Lanes) → get w.links (a, b) ≡ Some l → LinkRowFits w.count (map node_row (entries w.nodes)) (link_row ((a, b), l))
+  link_fits a b l there =
+      let lanes = both_lanes a b l there in
+      let linked : is_linked w a b ≡ true = ap is_some lanes.0 in
       record {
-        turned = grind (arith, nat_tests);
+        turned = range.turned a b (ap is_some there);
         ends = record {
           group = (state w a).group;
           first = group_listed a (range.ends a b linked);
-          second = group_listed b (range.ends b a (way_back a b l there)) ∙ ap Some (sym (range.one_group a b linked));
+          second = group_listed b (range.ends b a (ap is_some lanes.1)) ∙ ap Some (sym (range.one_group a b linked));
         };
-        forth = range.lanes a b l there;
-        back = subst (LaneInRange w.count) (sym it) (range.lanes b a back.0 back.1);
-        forth_short = range.short a b l there;
-        back_short = subst (λ k. length k.queue ≤ 4) (sym it) (range.short b a back.0 back.1);
-        one_incarnation = range.one_incarnation a b l back.0 there back.1 ∙ ap (λ k. k.inc) (sym it);
+        forth = range.lanes a b l.forth lanes.0;
+        back = range.lanes b a l.back lanes.1;
+        forth_short = range.short a b l.forth lanes.0;
+        back_short = range.short b a l.back lanes.1;
+        one_incarnation = range.one_incarnation a b l.forth l.back lanes.0 lanes.1;
       }
 
-  pub links_fit : AllByRecursion (LinkRowFits w.count (map node_row (entries w.nodes))) (map (link_row w) (ups w))
+  pub links_fit : AllByRecursion (LinkRowFits w.count (map node_row (entries w.nodes))) (link_rows w.links)
   links_fit = each_link (LinkRowFits w.count (map node_row (entries w.nodes))) link_fits
 
   -- and those that lanes carry
-  pub carried_fit : AllByRecursion (LanesCarryWithin (farthest w.version w.count)) (map (link_row w) (ups w))
-  carried_fit = each_link (LanesCarryWithin (farthest w.version w.count)) (λ a b l up there.
-      let back = some_value (get w.lanes (b, a)) (way_back a b l there) in
-      let it : lane_or_none (get w.lanes (b, a)) ≡ back.0 = ap lane_or_none back.1 in
-      record { forth = range.carried a b l there; back = subst (λ k. CarryWithin (farthest w.version w.count) k.queue) (sym it) (range.carried b a back.0 back.1) })
+  pub carried_fit : AllByRecursion (LanesCarryWithin (farthest w.version w.count)) (link_rows w.links)
+  carried_fit = each_link (LanesCarryWithin (farthest w.version w.count)) (λ a b l there. let lanes = both_lanes a b l there in record { forth = range.carried a b l.forth lanes.0; back = range.carried b a l.back lanes.1 })
 
-  links_turned : AllByRecursion Turned (map (link_row w) (ups w))
-  links_turned = all_weaker (LinkRowFits w.count (map node_row (entries w.nodes))) Turned (λ r fits. fits.turned) (map (link_row w) (ups w)) links_fit
+  links_turned : AllByRecursion IsTurned (link_rows w.links)
+  links_turned = all_weaker (LinkRowFits w.count (map node_row (entries w.nodes))) IsTurned (λ r fits. fits.turned) (link_rows w.links) links_fit
 
-  pub links_rise : is_sorted pair_cmp (by_ends (map (link_row w) (ups w))) ≡ true
-  links_rise = sorted_rows pair_cmp (link_row w) (λ r. (r.a, r.b)) (λ e. refl) (ups w) ∙ ups_sorted
+  pub links_rise : is_sorted pair_cmp (by_ends (link_rows w.links)) ≡ true
+  links_rise = sorted_rows pair_cmp link_row (λ r. (r.a, r.b)) (λ e. refl) (entries w.links) ∙ is_true _ w.links.sorted
 
   -- the far ends of a node's links are neighbours
-  near : (u a b : ℕ) (l : Lane) → get w.lanes (a, b) ≡ Some l → IsNear u (state w u).neighbours (link_row w ((a, b), l))
-  near u a b l there end = by_test (eqb u a) (λ t. contains (state w u).neighbours (cond t b a) ≡ true)
-      (λ is. let same : u ≡ a = grind (arith, nat_tests) in sym (range.linked u b) ∙ ap (λ z. is_linked w z b) same ∙ ap is_some there)
-      (λ not_a. let same : u ≡ b = grind (arith, nat_tests) in sym (range.linked u a) ∙ ap (λ z. is_linked w z a) same ∙ way_back a b l there)
+  near : (u a b : ℕ) (l : Lanes) → get w.links (a, b) ≡ Some l → IsNear u (state w u).neighbours (link_row ((a, b), l))
+  near u a b l there end =
+      let lanes = both_lanes a b l there in
+      by_test (eqb u a) (λ t. contains (state w u).neighbours (cond t b a) ≡ true)
+      (λ is. let same : u ≡ a = grind (arith, nat_tests) in sym (range.linked u b) ∙ ap (λ z. is_linked w z b) same ∙ ap is_some lanes.0)
+      (λ not_a. let same : u ≡ b = grind (arith, nat_tests) in sym (range.linked u a) ∙ ap (λ z. is_linked w z a) same ∙ ap is_some lanes.1)
 
-  pub degrees_fit : (u : ℕ) → degree u (map (link_row w) (ups w)) ≤ 16
+  pub degrees_fit : (u : ℕ) → degree u (link_rows w.links) ≤ 16
   degrees_fit u =
       let most = at_each w (λ r. set.len r.neighbours ≤ 16) (omega (arith, len-empty)) (λ v r is. (range.nodes v r is).degree) u in
-      omega (arith, most, degree_within u (state w u).neighbours (map (link_row w) (ups w)) links_turned links_rise (each_link (IsNear u (state w u).neighbours) (λ a b l _ there. near u a b l there)))
+      omega (arith, most, degree_within u (state w u).neighbours (link_rows w.links) links_turned links_rise (each_link (IsNear u (state w u).neighbours) (near u)))
 
-  pub most_fit : length (map (link_row w) (ups w)) ≤ 128
-  most_fit = omega (
-    arith,
-    range.links,
-    links_within w.lanes (map (link_row w) (ups w)) links_turned links_rise
-        (each_link (HasBoth w.lanes) (λ a b l _ there. record { forth = ap is_some there; back = way_back a b l there })),
-  )
+  pub most_fit : length (link_rows w.links) ≤ 128
+  most_fit = omega (arith, range.links, len-entries w.links, length-map (entries w.links) link_row)
 
 -- all together
 pub rows_of_world_fit : RowsOfWorldFit
@@ -166,10 +150,9 @@ rows_of_world_fit w range = record {
 
 -- few Aborts stand in the queues of a legal world's rows
 pub rows_have_few_aborts : RowsHaveFewAborts
-rows_have_few_aborts w range legal = each_link w range HasFewAborts (λ a b l up there.
-    let back = some_value (get w.lanes (b, a)) (way_back w range a b l there) in
-    let it : lane_or_none (get w.lanes (b, a)) ≡ back.0 = ap lane_or_none back.1 in
+rows_have_few_aborts w range legal = each_link w range HasFewAborts (λ a b l there.
+    let lanes = both_lanes w range a b l there in
     record {
-      forth = (lane_short w a b l (sound_view w range legal) there).few_aborts;
-      back = subst (λ k. aborts k.queue ≤ 2) (sym it) (lane_short w b a back.0 (sound_view w range legal) back.1).few_aborts;
+      forth = (lane_short w a b l.forth (sound_view w range legal) lanes.0).few_aborts;
+      back = (lane_short w b a l.back (sound_view w range legal) lanes.1).few_aborts;
     })

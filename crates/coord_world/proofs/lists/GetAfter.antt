@@ -1,33 +1,28 @@
 -- What is found in a world's tables after each change of the world.
-use Rattle.std.proofs.Common.{◌≡◌, ℕ, ◌+◌, Bool, true, false, Option, Some, None, ap, ◌∙◌, refl, subst, arith, cond, eqb}
-use Rattle.std.specs.Ordering.{eq_by_cmp}
-use Rattle.std.proofs.lemmas.Bool.Decides.{nat_tests}
-use Rattle.coord_types.specs.Table as table
-use Rattle.coord_types.specs.Table.{get}
-use Rattle.coord_types.proofs.Tables.{get-insert, get-remove, get-change, option_map}
+use Rattle.std.proofs.Common.{◌≡◌, ℕ, ◌+◌, Bool, true, false, Option, Some, None, refl, subst, cond, eqb}
+use Rattle.coord_types.proofs.Tables.{option_map}
 use Rattle.coord_link.specs.LaneMachine.{Lane, sent, new_lane}
 use Rattle.coord_node.specs.Facade.{Transition, added, is_link}
 use Rattle.coord_types.specs.declared.steps.Command.TheVariants.{Join, Drop}
-use Rattle.coord_tables.proofs.Found.{same_pair}
-use Rattle.coord_world.specs.Facade.{World, is_lane, on_lane, pair_cmp, with_command, with_transition}
+use Rattle.coord_tables.proofs.LinkLanes.{lane-changed, lane-joined, lane-parted}
+use Rattle.coord_world.specs.Facade.{World, is_lane, lane_at, on_lane, with_command, with_transition}
 
 module _ (w : World) where
   -- a lane after a transition at u
-  pub lane_done : (u : ℕ) (d : Transition) (x y : ℕ) → get (with_transition w u d).lanes (x, y) ≡ option_map (λ l. cond (eqb x u) (sent (added d y) l) l) (get w.lanes (x, y))
-  lane_done u d x y = get-change pair_cmp (λ k l. cond (eqb k.0 u) (sent (added d k.1) l) l) same_pair w.lanes (x, y)
+  pub lane_done : (u : ℕ) (d : Transition) (x y : ℕ) → lane_at (with_transition w u d).links x y ≡ option_map (λ l. cond (eqb x u) (sent (added d y) l) l) (lane_at w.links x y)
+  lane_done u d x y = lane-changed w.links (λ k l. cond (eqb k.0 u) (sent (added d k.1) l) l) x y
 
   -- a lane after a change of the one from u to v
-  pub lane_on : (u v : ℕ) (f : Lane → Lane) (x y : ℕ) → get (on_lane w u v f).lanes (x, y) ≡ option_map (λ l. cond (is_lane (x, y) u v) (f l) l) (get w.lanes (x, y))
-  lane_on u v f x y = get-change pair_cmp (λ k l. cond (is_lane k u v) (f l) l) same_pair w.lanes (x, y)
+  pub lane_on : (u v : ℕ) (f : Lane → Lane) (x y : ℕ) → lane_at (on_lane w u v f).links x y ≡ option_map (λ l. cond (is_lane (x, y) u v) (f l) l) (lane_at w.links x y)
+  lane_on u v f x y = lane-changed w.links (λ k l. cond (is_lane k u v) (f l) l) x y
 
-  -- a lane after a link is cut, and after one is made
-  pub lane_left : (a b x y : ℕ) → get (with_command w (Drop a b)).lanes (x, y) ≡ cond (is_link a b x y) None (get w.lanes (x, y))
-  lane_left a b x y = get-remove (table.remove w.lanes (a, b)) (b, a) (x, y) ∙ ap (cond (eq_by_cmp pair_cmp (x, y) (b, a)) None) (get-remove w.lanes (a, b) (x, y)) ∙ grind (arith, nat_tests)
+  -- a lane after a link is cut
+  pub lane_left : (a b x y : ℕ) → lane_at (with_command w (Drop a b)).links x y ≡ cond (is_link a b x y) None (lane_at w.links x y)
+  lane_left a b x y = lane-parted w.links a b x y
 
   -- and after one is made
-  pub lane_made : (a b x y : ℕ) → get (with_command w (Join a b)).lanes (x, y) ≡ cond (is_link a b x y) (Some (new_lane (w.count + 1))) (get w.lanes (x, y))
-  lane_made a b x y = get-insert (table.insert w.lanes (a, b) (new_lane (w.count + 1))) (b, a) (new_lane (w.count + 1)) (x, y)
-      ∙ ap (cond (eq_by_cmp pair_cmp (x, y) (b, a)) (Some (new_lane (w.count + 1)))) (get-insert w.lanes (a, b) (new_lane (w.count + 1)) (x, y)) ∙ grind (arith, nat_tests)
+  pub lane_made : (a b x y : ℕ) → lane_at (with_command w (Join a b)).links x y ≡ cond (is_link a b x y) (Some (new_lane (w.count + 1))) (lane_at w.links x y)
+  lane_made a b x y = lane-joined w.links a b (new_lane (w.count + 1)) x y
 
 module _ {X : Type 0} (o : Option X) where
   -- what is found among changed ones was changed

@@ -1,6 +1,6 @@
 -- How many entries tables have.
-use Rattle.std.proofs.Common.{◌≡◌, ◌⊎◌, ℕ, ◌+◌, ◌≤◌, true, List, [], ◌∷◌, cond, length, refl, ap, inl, inr, arith, Ordering}
-use Rattle.std.specs.Cmp.{IsTotalOrder, eq_by_cmp_equiv}
+use Rattle.std.proofs.Common.{◌≡◌, ℕ, ◌+◌, ◌≤◌, true, List, [], ◌∷◌, cond, length, refl, ap, arith, Ordering}
+use Rattle.std.specs.Cmp.{IsTotalOrder}
 use Rattle.std.specs.FinMap.Entries.{length-put, length_without}
 use Rattle.coord_types.specs.NodeSet as set
 use Rattle.coord_types.specs.NodeSet.{NodeSet}
@@ -16,15 +16,6 @@ module _ {K X : Type 0} {R : K → K → Ordering} {o : IsTotalOrder R} where
   pub len-remove : (m : Table o X) (k : K) → cond (has m k) 1 0 + len (remove m k) ≡ len m
   unfolding len remove get
   len-remove m k = length_without R o k m.list m.sorted
-
-  -- a table has an entry, or none
-  pub some_entry : (m : Table o X) → (len m ≡ 0) ⊎ ((k : K) × (has m k ≡ true))
-  unfolding len get
-  some_entry m = of_list m.list refl
-    where
-      of_list : (es : List (K × X)) → m.list ≡ es → (length m.list ≡ 0) ⊎ ((k : K) × (has m k ≡ true))
-      of_list [] is = inl (ap length is)
-      of_list (e ∷ es) is = inr (e.0, grind (arith, is, (eq_by_cmp_equiv o).refl e.0))
 
 -- changed values are as many
 length-changed : {K X : Type 0} (R : K → K → Ordering) (f : K → X → X) (es : List (K × X)) → length (changed_by R f es) ≡ length es

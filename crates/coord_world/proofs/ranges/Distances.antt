@@ -10,6 +10,7 @@ use Rattle.coord_types.specs.declared.steps.Command.TheVariants.{Add, Remove, Jo
 use Rattle.coord_types.specs.declared.steps.Step.{Step}
 use Rattle.coord_types.specs.declared.steps.Step.TheVariants.{Order, Take, Clear}
 use Rattle.coord_node.specs.Facade.{Transition, added, kept, lost, request, transition, transitions}
+use Rattle.coord_tables.proofs.LinkLanes.{lane-mirrored}
 use Rattle.coord_world.specs.Facade.{CarryWithin, InRange, IsDistant, IsFresh, World, brought, farthest, next, state}
 use Rattle.coord_world.proofs.acceptance.FreshOrder.{Passes, fresh_order}
 use Rattle.coord_world.proofs.acceptance.IsFresh.{fresh_take}
@@ -114,7 +115,7 @@ module _ (w settled : World) (range : InRange w) where
   fresh_sends (Order c n x) fresh = ordered_sends c n x (fresh_order w settled c n x fresh)
   fresh_sends (Take p) fresh =
       let take = fresh_take w settled p fresh in
-      let known = range.ends p.to p.from (sym (range.mirrored p.from p.to) ∙ ap is_some take.there) in
+      let known = range.ends p.to p.from (sym (lane-mirrored w.links p.from p.to) ∙ ap is_some take.there) in
       (sends_within _ (transition p.msg (state w p.to) p.from) (take_near (state w p.to) p.from p.msg _ (step_within p.to (brought p.msg) known (brought_within w settled (Take p) range fresh))), tt)
   fresh_sends (Clear p) fresh = tt
 

@@ -10,6 +10,7 @@ use Rattle.coord_types.specs.declared.steps.Command.TheVariants.{Add, Remove, Jo
 use Rattle.coord_types.specs.declared.steps.Step.{Step}
 use Rattle.coord_types.specs.declared.steps.Step.TheVariants.{Order, Take, Clear}
 use Rattle.coord_node.specs.Rules.{with_neighbour}
+use Rattle.coord_tables.proofs.LinkLanes.{lane-mirrored}
 use Rattle.coord_world.specs.Facade.{InRange, IsFresh, World, brought, next, state, state_or_none}
 use Rattle.coord_world.proofs.transitions.NodeGoesOn.{Goes, goes_deed, goes_lost, goes_request}
 use Rattle.coord_world.proofs.acceptance.IsFresh.{fresh_take}
@@ -95,6 +96,6 @@ module _ (P Q : ℕ → NodeState → Type 0) (w : World) (before : AllRows P w.
   rows_next settled (Order c n x) carries range adds fresh = ordered_rows c n x carries (fresh_order w settled c n x fresh) adds
   rows_next settled (Take p) carries range adds fresh =
       let take = fresh_take w settled p fresh in
-      let known = range.ends p.to p.from (sym (range.mirrored p.from p.to) ∙ ap is_some take.there) in
+      let known = range.ends p.to p.from (sym (lane-mirrored w.links p.from p.to) ∙ ap is_some take.there) in
       all_set Q w.nodes p.to _ (later P Q w (brought p.msg) carries before) (same_near P Q w (brought p.msg) carries before p.to known _ (goes_deed (state w p.to) p.from p.msg))
   rows_next settled (Clear p) carries range adds fresh = later P Q w 0 carries before

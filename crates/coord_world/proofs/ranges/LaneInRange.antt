@@ -1,13 +1,12 @@
 -- Lanes stay in their ranges through a step, and the two lanes of a link keep one incarnation.
 use Rattle.std.proofs.Common.{◌≡◌, ℕ, ◌+◌, Bool, true, false, Some, cond, refl, sym, ◌∙◌, ap, arith}
 use Rattle.std.proofs.lemmas.Bool.Decides.{nat_tests}
-use Rattle.coord_types.specs.Table.{get}
 use Rattle.coord_types.specs.declared.steps.Command.TheVariants.{Join}
 use Rattle.coord_types.specs.declared.steps.Step.{Step}
 use Rattle.coord_types.specs.declared.steps.Step.TheVariants.{Order}
 use Rattle.coord_link.specs.LaneMachine.{Lane, new_lane}
 use Rattle.coord_node.specs.Facade.{is_link, transitions}
-use Rattle.coord_world.specs.Facade.{InRange, LaneInRange, World, next, state, with_command}
+use Rattle.coord_world.specs.Facade.{InRange, LaneInRange, World, lane_at, next, state, with_command}
 use Rattle.coord_world.proofs.lanes.EveryLane.{AllLanes, Any, LaneCarries, Makes, all_any, lanes_next}
 use Rattle.coord_world.proofs.lists.GetAfter.{lane_made}
 
@@ -31,10 +30,10 @@ lane_ranges_next w s range = lanes_next Any (λ x y l. LaneInRange w.count l) (�
 
 -- a lane was there before, of the same incarnation
 abbrev Stems : World → ℕ → ℕ → Lane → Type 0
-Stems w x y l = (k : Lane) × ((get w.lanes (x, y) ≡ Some k) × (k.inc ≡ l.inc))
+Stems w x y l = (k : Lane) × ((lane_at w.links x y ≡ Some k) × (k.inc ≡ l.inc))
 
 -- no change of a lane changes its incarnation
-carries_stems : (w : World) → LaneCarries Any (λ x y l. get w.lanes (x, y) ≡ Some l) (Stems w)
+carries_stems : (w : World) → LaneCarries Any (λ x y l. lane_at w.links x y ≡ Some l) (Stems w)
 carries_stems w = record {
   weaken = λ x y l is. (l, (is, refl));
   take = λ x y l is. (l, (is, refl));
@@ -44,12 +43,12 @@ carries_stems w = record {
 
 -- the two lanes of a link
 abbrev OneInc : World → Type 0
-OneInc w = (u v : ℕ) (l k : Lane) → get w.lanes (u, v) ≡ Some l → get w.lanes (v, u) ≡ Some k → l.inc ≡ k.inc
+OneInc w = (u v : ℕ) (l k : Lane) → lane_at w.links u v ≡ Some l → lane_at w.links v u ≡ Some k → l.inc ≡ k.inc
 
 -- a step that makes no link leaves the incarnations
 of_stems : (w : World) (s : Step) → InRange w → Makes (Stems w) w.count s → OneInc (next w s)
 of_stems w s range makes u v l k out back =
-    let all = lanes_next Any (λ x y l. get w.lanes (x, y) ≡ Some l) (Stems w) (carries_stems w) w (λ x y l is. is) s makes (all_any (transitions (state w) s)) in
+    let all = lanes_next Any (λ x y l. lane_at w.links x y ≡ Some l) (Stems w) (carries_stems w) w (λ x y l is. is) s makes (all_any (transitions (state w) s)) in
     let from = all u v l out in
     let to = all v u k back in
     sym from.1.1 ∙ range.one_incarnation u v from.0 to.0 from.1.0 to.1.0 ∙ to.1.1
@@ -58,9 +57,9 @@ of_stems w s range makes u v l k out back =
 inc_made : (w : World) (a b : ℕ) → InRange w → OneInc (with_command w (Join a b))
 inc_made w a b range u v l k out back =
     let turned : is_link a b v u ≡ is_link a b u v = grind (arith, nat_tests) in
-    either (is_link a b u v) (sym (lane_made w a b u v) ∙ out) (ap (λ t. cond t (Some (new_lane (w.count + 1))) (get w.lanes (v, u))) (sym turned) ∙ sym (lane_made w a b v u) ∙ back)
+    either (is_link a b u v) (sym (lane_made w a b u v) ∙ out) (ap (λ t. cond t (Some (new_lane (w.count + 1))) (lane_at w.links v u)) (sym turned) ∙ sym (lane_made w a b v u) ∙ back)
   where
-    either : (t : Bool) → cond t (Some (new_lane (w.count + 1))) (get w.lanes (u, v)) ≡ Some l → cond t (Some (new_lane (w.count + 1))) (get w.lanes (v, u)) ≡ Some k → l.inc ≡ k.inc
+    either : (t : Bool) → cond t (Some (new_lane (w.count + 1))) (lane_at w.links u v) ≡ Some l → cond t (Some (new_lane (w.count + 1))) (lane_at w.links v u) ≡ Some k → l.inc ≡ k.inc
     either true e f = cc
     either false e f = range.one_incarnation u v l k e f
 

@@ -2,7 +2,7 @@
 use Rattle.std.proofs.Common.{◌≡◌, ℕ, ◌+◌, ◌≤◌, true, List, [], ◌∷◌, Option, Some, None, refl, sym, ◌∙◌, subst, arith, is_some}
 use Rattle.coord_types.specs.Facade.{NodeState, contains}
 use Rattle.std.proofs.lemmas.Bool.Decides.{nat_tests}
-use Rattle.coord_types.specs.Table.{get, has, insert, len, remove}
+use Rattle.coord_types.specs.Table.{get, has, len}
 use Rattle.coord_types.specs.declared.steps.Command.TheVariants.{Add, Remove, Join, Drop, Reset, Confirm}
 use Rattle.coord_types.specs.declared.steps.Step.{Step}
 use Rattle.coord_types.specs.declared.steps.Step.TheVariants.{Order, Take, Clear}
@@ -19,7 +19,8 @@ use Rattle.coord_world.proofs.view.ViewOfNext.{view_next}
 use Rattle.coord_world.proofs.ranges.NodeInRange.{nodes_next}
 use Rattle.coord_world.proofs.ranges.Distances.{carried_next, distances_next, same_version}
 use Rattle.coord_world.proofs.acceptance.FreshOrder.{fresh_order}
-use Rattle.coord_world.proofs.lanes.LanePairs.{even_lanes}
+use Rattle.coord_tables.proofs.LinkLanes.{turned-changed, turned-joined, turned-parted}
+use Rattle.coord_tables.specs.Links.{Turned, ends, joined}
 use Rattle.coord_world.proofs.ranges.EveryNode.{AllRows, there_is}
 use Rattle.coord_world.proofs.ranges.SessionInRange.{sessions_next}
 use Rattle.coord_world.proofs.lanes.IsShort.{lane_short}
@@ -47,28 +48,42 @@ parent_is : (o : Option ℕ) (p : ℕ) → o ≡ Some p → is_parent o p ≡ tr
 parent_is o p is = grind (arith, nat_tests, is)
 
 -- transitions make and drop no lane
-len-all_do : (w : World) (ds : List (ℕ × Transition)) → len (with_transitions w ds).lanes ≡ len w.lanes
+len-all_do : (w : World) (ds : List (ℕ × Transition)) → len (with_transitions w ds).links ≡ len w.links
 len-all_do w [] = refl
-len-all_do w (d ∷ ds) = len-all_do (with_transition w d.0 d.1) ds ∙ len-change _ w.lanes
+len-all_do w (d ∷ ds) = len-all_do (with_transition w d.0 d.1) ds ∙ len-change _ w.links
 
--- a step makes two lanes at most, where there are an even number, below 256
-pub links_next : (w settled : World) (s : Step) → InRange w → IsFresh w settled s → len (next w s).lanes ≤ 256
+-- a step makes one link at most, where there are fewer than 128
+pub links_next : (w settled : World) (s : Step) → InRange w → IsFresh w settled s → len (next w s).links ≤ 128
 links_next w settled (Order c n (Add u g)) range fresh = range.links
 links_next w settled (Order c n (Remove u)) range fresh = range.links
 links_next w settled (Order c n (Join a b)) range fresh =
-    let even = even_lanes w (record { mirrored = range.mirrored; apart = range.apart }) in
     let room = (fresh_order w settled c n (Join a b) fresh).room in
     let l = new_lane (w.count + 1) in
-    let one : len (insert w.lanes (a, b) l) ≤ len w.lanes + 1 = grind (arith, len-insert w.lanes (a, b) l) in
-    let two : len (insert (insert w.lanes (a, b) l) (b, a) l) ≤ len (insert w.lanes (a, b) l) + 1 = grind (arith, len-insert (insert w.lanes (a, b) l) (b, a) l) in
-    omega (arith, even.1, room, one, two)
+    let one : len (joined w.links a b l) ≤ len w.links + 1 = grind (arith, len-insert w.links (ends a b) (record { forth = l; back = l })) in
+    omega (arith, room, one)
 links_next w settled (Order c n (Drop a b)) range fresh =
-    let fewer : len (with_command w (Drop a b)).lanes ≤ 256 = omega (arith, range.links, len-remove w.lanes (a, b), len-remove (remove w.lanes (a, b)) (b, a)) in
-    subst (λ k. k ≤ 256) (sym (len-all_do (with_command w (Drop a b)) (transitions_ordered (state w) (Drop a b)))) fewer
-links_next w settled (Order c n (Reset u)) range fresh = subst (λ k. k ≤ 256) (sym (len-all_do w (transitions_ordered (state w) (Reset u)))) range.links
+    let fewer : len (with_command w (Drop a b)).links ≤ 128 = omega (arith, range.links, len-remove w.links (ends a b)) in
+    subst (λ k. k ≤ 128) (sym (len-all_do (with_command w (Drop a b)) (transitions_ordered (state w) (Drop a b)))) fewer
+links_next w settled (Order c n (Reset u)) range fresh = subst (λ k. k ≤ 128) (sym (len-all_do w (transitions_ordered (state w) (Reset u)))) range.links
 links_next w settled (Order c n (Confirm u e)) range fresh = range.links
-links_next w settled (Take p) range fresh = subst (λ k. k ≤ 256) (sym (len-all_do (on_lane w p.from p.to took) (transitions (state w) (Take p)) ∙ len-change _ w.lanes)) range.links
-links_next w settled (Clear p) range fresh = subst (λ k. k ≤ 256) (sym (len-change _ w.lanes)) range.links
+links_next w settled (Take p) range fresh = subst (λ k. k ≤ 128) (sym (len-all_do (on_lane w p.from p.to took) (transitions (state w) (Take p)) ∙ len-change _ w.links)) range.links
+links_next w settled (Clear p) range fresh = subst (λ k. k ≤ 128) (sym (len-change _ w.links)) range.links
+
+-- transitions leave the links turned
+turned-all_do : (w : World) (ds : List (ℕ × Transition)) → Turned w.links → Turned (with_transitions w ds).links
+turned-all_do w [] turned = turned
+turned-all_do w (d ∷ ds) turned = turned-all_do (with_transition w d.0 d.1) ds (turned-changed _ w.links turned)
+
+-- so does a step
+pub turned_next : (w settled : World) (s : Step) → Turned w.links → IsFresh w settled s → Turned (next w s).links
+turned_next w settled (Order c n (Add u g)) turned fresh = turned
+turned_next w settled (Order c n (Remove u)) turned fresh = turned
+turned_next w settled (Order c n (Join a b)) turned fresh = turned-joined w.links a b (new_lane (w.count + 1)) (fresh_order w settled c n (Join a b) fresh).apart turned
+turned_next w settled (Order c n (Drop a b)) turned fresh = turned-all_do (with_command w (Drop a b)) (transitions_ordered (state w) (Drop a b)) (turned-parted w.links a b turned)
+turned_next w settled (Order c n (Reset u)) turned fresh = turned-all_do w (transitions_ordered (state w) (Reset u)) turned
+turned_next w settled (Order c n (Confirm u e)) turned fresh = turned
+turned_next w settled (Take p) turned fresh = turned-all_do (on_lane w p.from p.to took) (transitions (state w) (Take p)) (turned-changed _ w.links turned)
+turned_next w settled (Clear p) turned fresh = turned-changed _ w.links turned
 
 -- all ranges together
 pub ranges_next : NextKeepsRanges
@@ -90,8 +105,7 @@ ranges_next w settled s within range legal fresh =
       sessions = sessions_next w range settled s within fresh;
       links = links_next w settled s range fresh;
       linked = sound.linked;
-      mirrored = λ u v. sound.linked u v ∙ sound.mirrored u v ∙ sym (sound.linked v u);
-      apart = λ u. sound.linked u u ∙ sound.apart u;
+      turned = turned_next w settled s range.turned fresh;
       ends = ends_known (next w s) sound;
       one_group = groups;
       one_incarnation = inc_next w s range;

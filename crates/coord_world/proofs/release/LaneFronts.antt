@@ -1,12 +1,11 @@
 -- Fronts and their receipts, what a step makes of them, and which numbers no front has again.
 use Rattle.std.proofs.Common.{◌≡◌, ◌⊎◌, ℕ, ◌+◌, ◌≤◌, List, [], ◌∷◌, ◌++◌, Option, Some, None, sym, ap, ◌∙◌, subst, inl, inr, arith}
-use Rattle.coord_types.specs.Table.{get}
 use Rattle.coord_types.specs.declared.messages.Msg.{Msg}
 use Rattle.coord_types.specs.declared.packets.DataPacket.{DataPacket}
 use Rattle.coord_types.specs.declared.packets.ReceiptPacket.{ReceiptPacket}
 use Rattle.coord_types.specs.declared.steps.Step.{Step}
 use Rattle.coord_link.specs.LaneMachine.{Lane, cleared, new_lane, sent, took}
-use Rattle.coord_world.specs.Facade.{IsFresh, World, fold, next}
+use Rattle.coord_world.specs.Facade.{IsFresh, World, fold, lane_at, next}
 use Rattle.coord_world.specs.laws.Trails.{IsSound}
 use Rattle.coord_world.proofs.acceptance.IsFresh.{fresh_take}
 use Rattle.coord_world.proofs.release.LaneAfterStep.{LaneStep, lane_step}
@@ -15,7 +14,7 @@ use Rattle.coord_world.proofs.release.Trails.{EachFresh, sound_next}
 -- the lane from x to y has this incarnation, and its front would have this number
 pub record IsNumbered (w : World) (x y i n : ℕ) : Type 0 where
   pub lane : Lane
-  pub there : get w.lanes (x, y) ≡ Some lane
+  pub there : lane_at w.links x y ≡ Some lane
   pub inc : lane.inc ≡ i
   pub number : lane.base + 1 ≡ n
 
@@ -33,7 +32,7 @@ pub record IsFrontReceipt (w : World) (p : ReceiptPacket) : Type 0 where
 -- no lane will have this number in front again
 pub record IsPast (w : World) (x y i n : ℕ) : Type 0 where
   pub made : i ≤ w.count
-  pub past : (l : Lane) → get w.lanes (x, y) ≡ Some l → l.inc ≡ i → n ≤ l.base
+  pub past : (l : Lane) → lane_at w.links x y ≡ Some l → l.inc ≡ i → n ≤ l.base
 
 -- a number that is past is no front's
 pub front_not_past : {A : Type 0} (w : World) (x y inc number : ℕ) → IsNumbered w x y inc number → IsPast w x y inc number → A
@@ -47,7 +46,7 @@ one_lane o k l is also = cc
 pub past_next : (w : World) (s : Step) (x y inc number : ℕ) → IsPast w x y inc number → IsPast (next w s) x y inc number
 past_next w s x y inc number gone = record { made = let old = gone.made in omega arith; past = by_step (lane_step w s x y) }
   where
-    by_step : LaneStep w s x y (get (next w s).lanes (x, y)) → (l : Lane) → get (next w s).lanes (x, y) ≡ Some l → l.inc ≡ inc → number ≤ l.base
+    by_step : LaneStep w s x y (lane_at (next w s).links x y) → (l : Lane) → lane_at (next w s).links x y ≡ Some l → l.inc ≡ inc → number ≤ l.base
     by_step (LaneStep.is_none e) l there is = cc
     by_step (LaneStep.is_made e) l there is = let old = gone.made in let same = one_lane _ (new_lane (w.count + 1)) l e there in absurd (let count = ap (λ k. k.inc) same in omega arith)
     by_step (LaneStep.is_kept k ms was e) l there is = let same = one_lane _ (sent ms k) l e there in subst (λ b. number ≤ b) (ap (λ z. z.base) same) (gone.past k was (ap (λ z. z.inc) same ∙ is))
@@ -66,17 +65,17 @@ module _ (w : World) (s : Step) (sound : IsSound w) where
   inc_within_count x y inc number at = subst (λ i. i ≤ w.count) at.inc (sound.in_range.lanes x y at.lane at.there).inc
 
   -- where a step removes the lane, its front's number is past
-  past_none : (x y inc number : ℕ) → IsNumbered w x y inc number → get (next w s).lanes (x, y) ≡ None → IsPast (next w s) x y inc number
+  past_none : (x y inc number : ℕ) → IsNumbered w x y inc number → lane_at (next w s).links x y ≡ None → IsPast (next w s) x y inc number
   past_none x y inc number at none = record { made = let old = inc_within_count x y inc number at in omega arith; past = λ l there is. cc }
 
   -- so where it makes the lane anew
-  past_made : (x y inc number : ℕ) → IsNumbered w x y inc number → get (next w s).lanes (x, y) ≡ Some (new_lane (w.count + 1)) → IsPast (next w s) x y inc number
+  past_made : (x y inc number : ℕ) → IsNumbered w x y inc number → lane_at (next w s).links x y ≡ Some (new_lane (w.count + 1)) → IsPast (next w s) x y inc number
   past_made x y inc number at made =
       let old = inc_within_count x y inc number at in
       record { made = omega arith; past = λ l there is. let same = one_lane _ (new_lane (w.count + 1)) l made there in absurd (let count = ap (λ k. k.inc) same in omega arith) }
 
   -- and where it clears the front
-  past_cleared : (x y inc number : ℕ) (at : IsNumbered w x y inc number) → get (next w s).lanes (x, y) ≡ Some (cleared at.lane) → IsPast (next w s) x y inc number
+  past_cleared : (x y inc number : ℕ) (at : IsNumbered w x y inc number) → lane_at (next w s).links x y ≡ Some (cleared at.lane) → IsPast (next w s) x y inc number
   past_cleared x y inc number at e =
       let old = inc_within_count x y inc number at in
       record { made = omega arith; past = λ l there is. let same = one_lane _ (cleared at.lane) l e there in subst (λ b. number ≤ b) (ap (λ z. z.base) same) (omega (arith, at.number)) }
@@ -88,7 +87,7 @@ module _ (w : World) (s : Step) (sound : IsSound w) where
       at : IsNumbered w p.from p.to p.inc p.number
       at = front.at
 
-      by_step : LaneStep w s p.from p.to (get (next w s).lanes (p.from, p.to)) → IsFront (next w s) p ⊎ IsPast (next w s) p.from p.to p.inc p.number
+      by_step : LaneStep w s p.from p.to (lane_at (next w s).links p.from p.to) → IsFront (next w s) p ⊎ IsPast (next w s) p.from p.to p.inc p.number
       by_step (LaneStep.is_none e) = inr (past_none p.from p.to p.inc p.number at e)
       by_step (LaneStep.is_made e) = inr (past_made p.from p.to p.inc p.number at e)
       by_step (LaneStep.is_kept k ms was e) =
@@ -106,7 +105,7 @@ module _ (w : World) (s : Step) (sound : IsSound w) where
       at : IsNumbered w p.from p.to p.inc p.number
       at = receipt.at
 
-      by_step : LaneStep w s p.from p.to (get (next w s).lanes (p.from, p.to)) → IsFrontReceipt (next w s) p ⊎ IsPast (next w s) p.from p.to p.inc p.number
+      by_step : LaneStep w s p.from p.to (lane_at (next w s).links p.from p.to) → IsFrontReceipt (next w s) p ⊎ IsPast (next w s) p.from p.to p.inc p.number
       by_step (LaneStep.is_none e) = inr (past_none p.from p.to p.inc p.number at e)
       by_step (LaneStep.is_made e) = inr (past_made p.from p.to p.inc p.number at e)
       by_step (LaneStep.is_kept k ms was e) =
@@ -114,7 +113,7 @@ module _ (w : World) (s : Step) (sound : IsSound w) where
           inl (record { at = record { lane = sent ms k; there = e; inc = ap (λ z. z.inc) same ∙ at.inc; number = ap (λ z. z.base + 1) same ∙ at.number }; got = ap (λ z. z.got) same ∙ receipt.got ∙ sym (ap (λ z. z.base + 1) same) })
       by_step (LaneStep.is_taken k ms q t ends was e) =
           let taken = fresh_take w w q (subst (IsFresh w w) t fresh) in
-          let named : get w.lanes (q.from, q.to) ≡ Some at.lane = ap (get w.lanes) (λ i. (ends.0 i, ends.1 i)) ∙ at.there in
+          let named : lane_at w.links q.from q.to ≡ Some at.lane = (λ i. lane_at w.links (ends.0 i) (ends.1 i)) ∙ at.there in
           let same = one_lane _ taken.lane at.lane taken.there named in
           absurd (let idle = sym (ap (λ z. z.got) same) ∙ taken.idle ∙ ap (λ z. z.base) same in omega (arith, receipt.got))
       by_step (LaneStep.is_cleared k q t ends was e) = let same = one_lane _ k at.lane was at.there in inr (past_cleared p.from p.to p.inc p.number at (e ∙ ap (λ z. Some (cleared z)) same))

@@ -10,6 +10,7 @@ use Rattle.coord_types.specs.declared.packets.DataPacket.{DataPacket}
 use Rattle.coord_types.specs.declared.packets.ReceiptPacket.{ReceiptPacket}
 use Rattle.coord_types.specs.declared.steps.Step.{Step}
 use Rattle.coord_link.specs.LaneMachine.{Lane}
+use Rattle.coord_tables.specs.Links.{Turned}
 use Rattle.coord_world.specs.Facade.{World, again, fold, has_receipted, has_sent, lane, next, outputs}
 use Rattle.coord_world.specs.laws.Release.{IsReleased, ReleaseLaw, ResendLaw, TellsReleased, outputs_of}
 use Rattle.coord_world.specs.laws.Trails.{IsSound}
@@ -24,11 +25,11 @@ use Rattle.coord_world.proofs.release.Trails.{EachFresh, fold-take_drop, each_fr
 use Rattle.coord_world.proofs.lanes.Transit.{counts_cases}
 
 -- a front at the end was given out by the steps, or was one before them
-pub front_of_steps : (ss : List Step) (w : World) (p : DataPacket) → IsFront (fold w ss) p → Contains (outputs_of w ss) (Sent p) ⊎ IsFront w p
-front_of_steps [] w p front = inr front
-front_of_steps (s ∷ ss) w p front = elim (front_of_steps ss (next w s) p front) [
+pub front_of_steps : (ss : List Step) (w : World) (p : DataPacket) → IsSound w → EachFresh w ss → IsFront (fold w ss) p → Contains (outputs_of w ss) (Sent p) ⊎ IsFront w p
+front_of_steps [] w p sound each front = inr front
+front_of_steps (s ∷ ss) w p sound each front = elim (front_of_steps ss (next w s) p (sound_next w s sound each.0) each.1 front) [
   | inl later ↦ inl (Contains-append_right (outputs w s) (outputs_of (next w s) ss) (Sent p) later)
-  | inr now ↦ elim (front_from_step w s p now) [
+  | inr now ↦ elim (front_from_step w s (sound_next w s sound each.0).in_range.turned p now) [
     | inl given ↦ inl (Contains-append_left (outputs w s) (outputs_of (next w s) ss) (Sent p) given)
     | inr before ↦ inr before
   ]
@@ -49,37 +50,40 @@ receipt_of_steps (s ∷ ss) w p sound each receipt = elim (receipt_of_steps ss (
 outputs_of_front : (ss : List Step) (w : World) (p : DataPacket) → IsSound w → EachFresh w ss → Contains (outputs_of w ss) (Sent p) → IsFront (fold w ss) p ⊎ IsPast (fold w ss) p.from p.to p.inc p.number
 outputs_of_front [] w p sound each h = not_in_nil (Sent p) h
 outputs_of_front (s ∷ ss) w p sound each h = elim (Contains-append_cases (outputs w s) (outputs_of (next w s) ss) (Sent p) h) [
-  | inl now ↦ front_fold ss (next w s) p (sound_next w s sound each.0) each.1 (outputs_front w s p now)
+  | inl now ↦ front_fold ss (next w s) p (sound_next w s sound each.0) each.1 (outputs_front w s (sound_next w s sound each.0).in_range.turned p now)
   | inr later ↦ outputs_of_front ss (next w s) p (sound_next w s sound each.0) each.1 later
 ]
 
 outputs_of_receipt : (ss : List Step) (w : World) (p : ReceiptPacket) → IsSound w → EachFresh w ss → Contains (outputs_of w ss) (Receipted p) → IsFrontReceipt (fold w ss) p ⊎ IsPast (fold w ss) p.from p.to p.inc p.number
 outputs_of_receipt [] w p sound each h = not_in_nil (Receipted p) h
 outputs_of_receipt (s ∷ ss) w p sound each h = elim (Contains-append_cases (outputs w s) (outputs_of (next w s) ss) (Receipted p) h) [
-  | inl now ↦ receipt_fold ss (next w s) p (sound_next w s sound each.0) each.1 (outputs_receipt w s p each.0.0 now)
+  | inl now ↦ receipt_fold ss (next w s) p (sound_next w s sound each.0) each.1 (outputs_receipt w s p (sound_next w s sound each.0).in_range.turned each.0.0 now)
   | inr later ↦ outputs_of_receipt ss (next w s) p (sound_next w s sound each.0) each.1 later
 ]
 
 module _ (base : World) (ss : List Step) (sound : IsSound base) (each : EachFresh base ss) where
   -- a released packet is in front at the end, or its number is past
   released_front : (p : DataPacket) → IsReleased base ss (Sent p) → IsFront (fold base ss) p ⊎ IsPast (fold base ss) p.from p.to p.inc p.number
-  released_front p gone = elim gone [ inl given ↦ outputs_of_front ss base p sound each given | inr before ↦ front_fold ss base p sound each (again_front base p before) ]
+  released_front p gone = elim gone [ inl given ↦ outputs_of_front ss base p sound each given | inr before ↦ front_fold ss base p sound each (again_front base sound.in_range.turned p before) ]
 
   released_receipt : (p : ReceiptPacket) → IsReleased base ss (Receipted p) → IsFrontReceipt (fold base ss) p ⊎ IsPast (fold base ss) p.from p.to p.inc p.number
-  released_receipt p gone = elim gone [ inl given ↦ outputs_of_receipt ss base p sound each given | inr before ↦ receipt_fold ss base p sound each (again_receipt base p before) ]
+  released_receipt p gone = elim gone [ inl given ↦ outputs_of_receipt ss base p sound each given | inr before ↦ receipt_fold ss base p sound each (again_receipt base sound.in_range.turned p before) ]
 
   -- and a front at the end is released
   front_released : (p : DataPacket) → IsFront (fold base ss) p → IsReleased base ss (Sent p)
-  front_released p front = elim (front_of_steps ss base p front) [ inl given ↦ inl given | inr before ↦ inr (front_again base p before) ]
+  front_released p front = elim (front_of_steps ss base p sound each front) [ inl given ↦ inl given | inr before ↦ inr (front_again base sound.in_range.turned p before) ]
 
   receipt_released : (p : ReceiptPacket) → IsFrontReceipt (fold base ss) p → IsReleased base ss (Receipted p)
   receipt_released p receipt = elim (receipt_of_steps ss base p sound each receipt) [ inl given ↦ inl given | inr before ↦ inr (receipt_again base p sound before) ]
 
+  turned_end : Turned (fold base ss).links
+  turned_end = (sound_fold ss base sound each).in_range.turned
+
   -- what the end sends again is released
   pub again_released : (o : Output) → Contains (again (fold base ss)) o → IsReleased base ss o
-  again_released (Receipted p) h = receipt_released p (again_receipt (fold base ss) p h)
-  again_released (Signalled u e) h = again_no_signal (fold base ss) u e h
-  again_released (Sent p) h = front_released p (again_front (fold base ss) p h)
+  again_released (Receipted p) h = receipt_released p (again_receipt (fold base ss) turned_end p h)
+  again_released (Signalled u e) h = again_no_signal (fold base ss) turned_end u e h
+  again_released (Sent p) h = front_released p (again_front (fold base ss) turned_end p h)
 
 -- the resend law
 pub resend_law : ResendLaw

@@ -2,15 +2,15 @@
 use Rattle.std.proofs.Common.{◌≡◌, ℕ, Bool, true, List, [], ◌∷◌, ◌++◌, Some, if◌then◌else◌, refl, sym, ap, ◌∙◌, subst, inl, inr, flat_map, Contains, arith}
 use Rattle.std.proofs.lemmas.Bool.Decides.{nat_tests}
 use Rattle.std.specs.List.{AllByRecursion}
-use Rattle.coord_types.specs.Table.{Table, entries, get}
 use Rattle.coord_types.specs.declared.messages.Msg.{Msg}
 use Rattle.coord_types.specs.declared.outputs.Output.{Output}
 use Rattle.coord_types.specs.declared.outputs.Output.TheVariants.{Receipted, Signalled, Sent}
 use Rattle.coord_types.specs.declared.packets.DataPacket.{DataPacket}
 use Rattle.coord_types.specs.declared.packets.ReceiptPacket.{ReceiptPacket}
-use Rattle.coord_types.proofs.Tables.{get-entries}
+use Rattle.coord_tables.specs.Links.{Turned}
+use Rattle.coord_tables.proofs.LinkLanes.{in_order-found, in_order-sorted}
 use Rattle.coord_link.specs.LaneMachine.{Lane, is_front_taken}
-use Rattle.coord_world.specs.Facade.{World, again, again_by, all_again, all_sent, front_packet, pair_cmp, pair_cmp_total, receipt, sent_by}
+use Rattle.coord_world.specs.Facade.{Links, World, again, again_by, all_again, all_sent, front_packet, lane_at, lanes_in_order, pair_cmp, pair_cmp_total, receipt, sent_by}
 use Rattle.coord_world.specs.laws.Trails.{IsSound}
 use Rattle.coord_tables.proofs.Cases.{by_test}
 use Rattle.coord_tables.proofs.KeyedLists.{each_entry}
@@ -18,7 +18,6 @@ use Rattle.coord_tables.proofs.Found.{same_pair}
 use Rattle.coord_world.proofs.lanes.Transit.{counts_cases}
 use Rattle.coord_world.proofs.release.Membership.{Contains-cons_cases, Contains-head, not_in_nil, Contains-one, Contains-flat_map_found, Contains-flat_map_entry, Contains-tail}
 use Rattle.coord_world.proofs.release.LaneFronts.{IsFront, IsFrontReceipt}
-use Rattle.coord_tables.proofs.TableEntries.{is_true}
 use Rattle.coord_world.proofs.lanes.Transit.{counts_cases}
 
 -- both lists are made of the entries of the lanes
@@ -26,13 +25,13 @@ all_again-flat_map : (es : List ((ℕ × ℕ) × Lane)) → all_again es ≡ fla
 all_again-flat_map [] = refl
 all_again-flat_map (e ∷ es) = ap (λ l. again_by e.0 e.1 e.1.queue ++ l) (all_again-flat_map es)
 
-pub all_sent-flat_map : (before : Table pair_cmp_total Lane) (es : List ((ℕ × ℕ) × Lane)) → all_sent before es ≡ flat_map (λ e. sent_by (get before e.0) e.0 e.1 e.1.queue) es
+pub all_sent-flat_map : (before : Links) (es : List ((ℕ × ℕ) × Lane)) → all_sent before es ≡ flat_map (λ e. sent_by (lane_at before e.0.0 e.0.1) e.0 e.1 e.1.queue) es
 all_sent-flat_map before [] = refl
-all_sent-flat_map before (e ∷ es) = ap (λ l. sent_by (get before e.0) e.0 e.1 e.1.queue ++ l) (all_sent-flat_map before es)
+all_sent-flat_map before (e ∷ es) = ap (λ l. sent_by (lane_at before e.0.0 e.0.1) e.0 e.1 e.1.queue ++ l) (all_sent-flat_map before es)
 
 -- each entry is found
-pub entries_found : (w : World) → AllByRecursion (λ e. get w.lanes e.0 ≡ Some e.1) (entries w.lanes)
-entries_found w = each_entry pair_cmp_total same_pair (λ e. get w.lanes e.0 ≡ Some e.1) (entries w.lanes) (is_true _ w.lanes.sorted) (λ k l is. get-entries w.lanes k ∙ is)
+pub entries_found : (w : World) → Turned w.links → AllByRecursion (λ e. lane_at w.links e.0.0 e.0.1 ≡ Some e.1) (lanes_in_order w.links)
+entries_found w turned = each_entry pair_cmp_total same_pair (λ e. lane_at w.links e.0.0 e.0.1 ≡ Some e.1) (lanes_in_order w.links) (in_order-sorted w.links) (λ k l is. sym (in_order-found w.links turned k.0 k.1) ∙ is)
 
 -- the receipt of a front, where b says that it was taken
 abbrev receipted : ℕ × ℕ → Lane → Msg → Bool → List Output
@@ -57,32 +56,32 @@ module _ (k : ℕ × ℕ) (l : Lane) where
   ]
 
 -- what is in the list comes from a lane
-again_lane : (w : World) (o : Output) → Contains (again w) o → (e : (ℕ × ℕ) × Lane) × ((get w.lanes e.0 ≡ Some e.1) × Contains (again_by e.0 e.1 e.1.queue) o)
-again_lane w o h = Contains-flat_map_entry pair_cmp same_pair (λ e. again_by e.0 e.1 e.1.queue) (λ e. get w.lanes e.0 ≡ Some e.1) (entries w.lanes) o (entries_found w) (subst (λ l. Contains l o) (all_again-flat_map (entries w.lanes)) h)
+again_lane : (w : World) → Turned w.links → (o : Output) → Contains (again w) o → (e : (ℕ × ℕ) × Lane) × ((lane_at w.links e.0.0 e.0.1 ≡ Some e.1) × Contains (again_by e.0 e.1 e.1.queue) o)
+again_lane w turned o h = Contains-flat_map_entry pair_cmp same_pair (λ e. again_by e.0 e.1 e.1.queue) (λ e. lane_at w.links e.0.0 e.0.1 ≡ Some e.1) (lanes_in_order w.links) o (entries_found w turned) (subst (λ l. Contains l o) (all_again-flat_map (lanes_in_order w.links)) h)
 
 -- and what a lane sends again is in it
-lane_again : (w : World) (o : Output) (k : ℕ × ℕ) (l : Lane) → get w.lanes k ≡ Some l → Contains (again_by k l l.queue) o → Contains (again w) o
-lane_again w o k l there h = subst (λ z. Contains z o) (sym (all_again-flat_map (entries w.lanes)))
-    (Contains-flat_map_found pair_cmp same_pair (λ e. again_by e.0 e.1 e.1.queue) (entries w.lanes) k l o (sym (get-entries w.lanes k) ∙ there) h)
+lane_again : (w : World) → Turned w.links → (o : Output) (k : ℕ × ℕ) (l : Lane) → lane_at w.links k.0 k.1 ≡ Some l → Contains (again_by k l l.queue) o → Contains (again w) o
+lane_again w turned o k l there h = subst (λ z. Contains z o) (sym (all_again-flat_map (lanes_in_order w.links)))
+    (Contains-flat_map_found pair_cmp same_pair (λ e. again_by e.0 e.1 e.1.queue) (lanes_in_order w.links) k l o (in_order-found w.links turned k.0 k.1 ∙ there) h)
 
 -- a packet that is sent again is a front
-pub again_front : (w : World) (p : DataPacket) → Contains (again w) (Sent p) → IsFront w p
-again_front w p h =
-    let on = again_lane w (Sent p) h in
+pub again_front : (w : World) → Turned w.links → (p : DataPacket) → Contains (again w) (Sent p) → IsFront w p
+again_front w turned p h =
+    let on = again_lane w turned (Sent p) h in
     let by = again_by_sent on.0.0 on.0.1 on.0.1.queue p on.1.1 in
     subst (IsFront w) by.1.1.1 (record { at = record { lane = on.0.1; there = on.1.0; inc = refl; number = refl }; rest = by.1.0; queue = by.1.1.0 })
 
 -- a receipt that is sent again is of a front that was taken
-pub again_receipt : (w : World) (p : ReceiptPacket) → Contains (again w) (Receipted p) → IsFrontReceipt w p
-again_receipt w p h =
-    let on = again_lane w (Receipted p) h in
+pub again_receipt : (w : World) → Turned w.links → (p : ReceiptPacket) → Contains (again w) (Receipted p) → IsFrontReceipt w p
+again_receipt w turned p h =
+    let on = again_lane w turned (Receipted p) h in
     let by = again_by_receipted on.0.0 on.0.1 on.0.1.queue p on.1.1 in
     let taken = by.0 in
     subst (IsFrontReceipt w) by.1.1 (record { at = record { lane = on.0.1; there = on.1.0; inc = refl; number = refl }; got = grind (arith, nat_tests, taken) })
 
 -- no signal is sent again
-pub again_no_signal : {A : Type 0} (w : World) (u e : ℕ) → Contains (again w) (Signalled u e) → A
-again_no_signal {A} w u e h = let on = again_lane w (Signalled u e) h in of_queue on.0.0 on.0.1 on.0.1.queue on.1.1
+pub again_no_signal : {A : Type 0} (w : World) → Turned w.links → (u e : ℕ) → Contains (again w) (Signalled u e) → A
+again_no_signal {A} w turned u e h = let on = again_lane w turned (Signalled u e) h in of_queue on.0.0 on.0.1 on.0.1.queue on.1.1
   where
     of_queue : (k : ℕ × ℕ) (l : Lane) (q : List Msg) → Contains (again_by k l q) (Signalled u e) → A
     of_queue k l [] h = not_in_nil (Signalled u e) h
@@ -100,17 +99,17 @@ front_receipt_is : (w : World) (p : ReceiptPacket) (r : IsFrontReceipt w p) (m :
 front_receipt_is w p r m i = record { from = p.from; to = p.to; inc = r.at.inc i; number = r.at.number i }
 
 -- each front is sent again
-pub front_again : (w : World) (p : DataPacket) → IsFront w p → Contains (again w) (Sent p)
-front_again w p front =
+pub front_again : (w : World) → Turned w.links → (p : DataPacket) → IsFront w p → Contains (again w) (Sent p)
+front_again w turned p front =
     let l = front.at.lane in
-    lane_again w (Sent p) (p.from, p.to) l front.at.there
+    lane_again w turned (Sent p) (p.from, p.to) l front.at.there
     (subst (λ q. Contains (again_by (p.from, p.to) l q) (Sent p)) (sym front.queue)
     (subst (λ z. Contains (again_by (p.from, p.to) l (p.msg ∷ front.rest)) (Sent z)) (front_packet_is w p front)
     (Contains-head (Sent (front_packet (p.from, p.to) l p.msg)) (receipted (p.from, p.to) l p.msg (is_front_taken l)))))
 
 -- so is its receipt, once it was taken
 pub receipt_again : (w : World) (p : ReceiptPacket) → IsSound w → IsFrontReceipt w p → Contains (again w) (Receipted p)
-receipt_again w p sound r = lane_again w (Receipted p) (p.from, p.to) l r.at.there (of_queue l.queue refl)
+receipt_again w p sound r = lane_again w sound.in_range.turned (Receipted p) (p.from, p.to) l r.at.there (of_queue l.queue refl)
   where
     l : Lane
     l = r.at.lane

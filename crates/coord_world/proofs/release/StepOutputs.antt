@@ -2,7 +2,7 @@
 use Rattle.std.proofs.Common.{◌≡◌, ◌⊎◌, ℕ, ◌+◌, true, false, List, [], ◌∷◌, ◌++◌, Option, Some, None, cond, refl, sym, ap, ◌∙◌, subst, inl, inr, Contains, arith}
 use Rattle.std.proofs.lemmas.Bool.Decides.{nat_tests}
 use Rattle.std.proofs.lemmas.List.Elements.{Contains-append_cases, Contains-append_left, Contains-append_right}
-use Rattle.coord_types.specs.Facade.{entries, get, is_nil}
+use Rattle.coord_types.specs.Facade.{is_nil}
 use Rattle.coord_types.specs.declared.messages.Msg.{Msg}
 use Rattle.coord_types.specs.declared.outputs.Output.{Output}
 use Rattle.coord_types.specs.declared.outputs.Output.TheVariants.{Receipted, Signalled, Sent}
@@ -10,10 +10,11 @@ use Rattle.coord_types.specs.declared.packets.DataPacket.{DataPacket}
 use Rattle.coord_types.specs.declared.packets.ReceiptPacket.{ReceiptPacket}
 use Rattle.coord_types.specs.declared.steps.Step.{Step}
 use Rattle.coord_types.specs.declared.steps.Step.TheVariants.{Clear, Order, Take}
-use Rattle.coord_types.proofs.Tables.{get-entries}
+use Rattle.coord_tables.specs.Links.{Turned}
+use Rattle.coord_tables.proofs.LinkLanes.{in_order-found}
 use Rattle.coord_link.specs.LaneMachine.{Lane, cleared, new_lane, sent, took}
 use Rattle.coord_node.specs.Facade.{Transition, transitions}
-use Rattle.coord_world.specs.Facade.{IsFresh, World, all_sent, front_packet, had_front, next, outputs, pair_cmp, receipt, receipts, sent_by, signals, state}
+use Rattle.coord_world.specs.Facade.{IsFresh, World, all_sent, front_packet, had_front, lane_at, lanes_in_order, next, outputs, pair_cmp, receipt, receipts, sent_by, signals, state}
 use Rattle.coord_world.specs.laws.Trails.{IsSound}
 use Rattle.coord_tables.proofs.Cases.{by_test}
 use Rattle.coord_world.proofs.lanes.Transit.{counts_cases}
@@ -54,20 +55,20 @@ sent_by_front before k l [] o h = not_in_nil o h
 sent_by_front before k l (m ∷ ms) o h = by_test (had_front before l) (λ b. Contains (cond b [] (Sent (front_packet k l m) ∷ [])) o → (n : Msg) × ((ns : List Msg) × ((m ∷ ms ≡ n ∷ ns) × (Sent (front_packet k l n) ≡ o))))
     (λ _ x. not_in_nil o x) (λ _ x. (m, (ms, (refl, Contains-one (Sent (front_packet k l m)) o x)))) h
 
-module _ (w : World) (s : Step) where
+module _ (w : World) (s : Step) (turned : Turned (next w s).links) where
   -- what is sent comes from a lane of the next world
-  all_sent_lane : (o : Output) → Contains (all_sent w.lanes (entries (next w s).lanes)) o → (e : (ℕ × ℕ) × Lane) × ((get (next w s).lanes e.0 ≡ Some e.1) × Contains (sent_by (get w.lanes e.0) e.0 e.1 e.1.queue) o)
-  all_sent_lane o h = Contains-flat_map_entry pair_cmp same_pair (λ e. sent_by (get w.lanes e.0) e.0 e.1 e.1.queue) (λ e. get (next w s).lanes e.0 ≡ Some e.1) (entries (next w s).lanes) o (entries_found (next w s))
-      (subst (λ l. Contains l o) (all_sent-flat_map w.lanes (entries (next w s).lanes)) h)
+  all_sent_lane : (o : Output) → Contains (all_sent w.links (lanes_in_order (next w s).links)) o → (e : (ℕ × ℕ) × Lane) × ((lane_at (next w s).links e.0.0 e.0.1 ≡ Some e.1) × Contains (sent_by (lane_at w.links e.0.0 e.0.1) e.0 e.1 e.1.queue) o)
+  all_sent_lane o h = Contains-flat_map_entry pair_cmp same_pair (λ e. sent_by (lane_at w.links e.0.0 e.0.1) e.0 e.1 e.1.queue) (λ e. lane_at (next w s).links e.0.0 e.0.1 ≡ Some e.1) (lanes_in_order (next w s).links) o (entries_found (next w s) turned)
+      (subst (λ l. Contains l o) (all_sent-flat_map w.links (lanes_in_order (next w s).links)) h)
 
   -- and what a lane sends is sent
-  lane_sent : (o : Output) (k : ℕ × ℕ) (l : Lane) → get (next w s).lanes k ≡ Some l → Contains (sent_by (get w.lanes k) k l l.queue) o → Contains (all_sent w.lanes (entries (next w s).lanes)) o
-  lane_sent o k l there h = subst (λ z. Contains z o) (sym (all_sent-flat_map w.lanes (entries (next w s).lanes)))
-      (Contains-flat_map_found pair_cmp same_pair (λ e. sent_by (get w.lanes e.0) e.0 e.1 e.1.queue) (entries (next w s).lanes) k l o (sym (get-entries (next w s).lanes k) ∙ there) h)
+  lane_sent : (o : Output) (k : ℕ × ℕ) (l : Lane) → lane_at (next w s).links k.0 k.1 ≡ Some l → Contains (sent_by (lane_at w.links k.0 k.1) k l l.queue) o → Contains (all_sent w.links (lanes_in_order (next w s).links)) o
+  lane_sent o k l there h = subst (λ z. Contains z o) (sym (all_sent-flat_map w.links (lanes_in_order (next w s).links)))
+      (Contains-flat_map_found pair_cmp same_pair (λ e. sent_by (lane_at w.links e.0.0 e.0.1) e.0 e.1 e.1.queue) (lanes_in_order (next w s).links) k l o (in_order-found (next w s).links turned k.0 k.1 ∙ there) h)
 
   -- what a step gives out is a receipt, a signal, or sent
-  outputs_cases : {A : Type 0} (o : Output) → (Contains (receipts s) o → A) → (Contains (signals (transitions (state w) s)) o → A) → (Contains (all_sent w.lanes (entries (next w s).lanes)) o → A) → Contains (outputs w s) o → A
-  outputs_cases o first second third h = elim (Contains-append_cases (receipts s ++ signals (transitions (state w) s)) (all_sent w.lanes (entries (next w s).lanes)) o h) [
+  outputs_cases : {A : Type 0} (o : Output) → (Contains (receipts s) o → A) → (Contains (signals (transitions (state w) s)) o → A) → (Contains (all_sent w.links (lanes_in_order (next w s).links)) o → A) → Contains (outputs w s) o → A
+  outputs_cases o first second third h = elim (Contains-append_cases (receipts s ++ signals (transitions (state w) s)) (all_sent w.links (lanes_in_order (next w s).links)) o h) [
     | inl early ↦ elim (Contains-append_cases (receipts s) (signals (transitions (state w) s)) o early) [ inl receipt ↦ first receipt | inr signal ↦ second signal ]
     | inr sends ↦ third sends
   ]
@@ -77,7 +78,7 @@ module _ (w : World) (s : Step) where
   outputs_front p h = outputs_cases (Sent p) (receipts_no_data s p) (signals_no_packet (transitions (state w) s) (Sent p) tt)
       (λ last.
       let on = all_sent_lane (Sent p) last in
-      let by = sent_by_front (get w.lanes on.0.0) on.0.0 on.0.1 on.0.1.queue (Sent p) on.1.1 in
+      let by = sent_by_front (lane_at w.links on.0.0.0 on.0.0.1) on.0.0 on.0.1 on.0.1.queue (Sent p) on.1.1 in
       let is : front_packet on.0.0 on.0.1 by.0 ≡ p = let e = by.1.1.1 in cc e in
       subst (IsFront (next w s)) is (record { at = record { lane = on.0.1; there = on.1.0; inc = refl; number = refl }; rest = by.1.0; queue = by.1.1.0 }))
       h
@@ -87,24 +88,24 @@ module _ (w : World) (s : Step) where
   outputs_receipt_taken p h = outputs_cases (Receipted p) (receipts_taken s p) (signals_no_packet (transitions (state w) s) (Receipted p) tt)
       (λ last.
       let on = all_sent_lane (Receipted p) last in
-      let by = sent_by_front (get w.lanes on.0.0) on.0.0 on.0.1 on.0.1.queue (Receipted p) on.1.1 in
+      let by = sent_by_front (lane_at w.links on.0.0.0 on.0.0.1) on.0.0 on.0.1 on.0.1.queue (Receipted p) on.1.1 in
       absurd (let e = by.1.1.1 in cc e))
       h
 
   -- a front that wasn't one before is given out
-  new_front_output : (p : DataPacket) (front : IsFront (next w s) p) → had_front (get w.lanes (p.from, p.to)) front.at.lane ≡ false → Contains (outputs w s) (Sent p)
+  new_front_output : (p : DataPacket) (front : IsFront (next w s) p) → had_front (lane_at w.links p.from p.to) front.at.lane ≡ false → Contains (outputs w s) (Sent p)
   new_front_output p front new =
       let l = front.at.lane in
-      let before = get w.lanes (p.from, p.to) in
+      let before = lane_at w.links p.from p.to in
       let sends : Contains (sent_by before (p.from, p.to) l l.queue) (Sent p) =
       subst (λ q. Contains (sent_by before (p.from, p.to) l q) (Sent p)) (sym front.queue)
       (subst (λ b. Contains (cond b [] (Sent (front_packet (p.from, p.to) l p.msg) ∷ [])) (Sent p)) (sym new)
       (subst (λ z. Contains (Sent (front_packet (p.from, p.to) l p.msg) ∷ []) (Sent z)) (front_packet_is (next w s) p front) (Contains-head (Sent (front_packet (p.from, p.to) l p.msg)) []))) in
-      Contains-append_right (receipts s ++ signals (transitions (state w) s)) (all_sent w.lanes (entries (next w s).lanes)) (Sent p) (lane_sent (Sent p) (p.from, p.to) l front.at.there sends)
+      Contains-append_right (receipts s ++ signals (transitions (state w) s)) (all_sent w.links (lanes_in_order (next w s).links)) (Sent p) (lane_sent (Sent p) (p.from, p.to) l front.at.there sends)
 
 -- a receipt that is given out is of a front that was taken
-pub outputs_receipt : (w : World) (s : Step) (p : ReceiptPacket) → IsFresh w w s → Contains (outputs w s) (Receipted p) → IsFrontReceipt (next w s) p
-outputs_receipt w s p fresh h = let by = outputs_receipt_taken w s p h in subst (λ z. IsFrontReceipt (next w z) p) (sym by.1.0) (subst (IsFrontReceipt (next w (Take by.0))) by.1.1 (taken by.0 (subst (IsFresh w w) by.1.0 fresh)))
+pub outputs_receipt : (w : World) (s : Step) (p : ReceiptPacket) → Turned (next w s).links → IsFresh w w s → Contains (outputs w s) (Receipted p) → IsFrontReceipt (next w s) p
+outputs_receipt w s p turned fresh h = let by = outputs_receipt_taken w s turned p h in subst (λ z. IsFrontReceipt (next w z) p) (sym by.1.0) (subst (IsFrontReceipt (next w (Take by.0))) by.1.1 (taken by.0 (subst (IsFresh w w) by.1.0 fresh)))
   where
     taken : (q : DataPacket) → IsFresh w w (Take q) → IsFrontReceipt (next w (Take q)) (receipt q)
     taken q fresh =
@@ -131,21 +132,21 @@ same_front [] ms m rest more is = cc
 same_front (x ∷ q) ms m rest more is = let same : x ≡ m = cc is in (q, ap (λ z. z ∷ q) same)
 
 -- a front was given out by the step, or was one before
-pub front_from_step : (w : World) (s : Step) (p : DataPacket) → IsFront (next w s) p → Contains (outputs w s) (Sent p) ⊎ IsFront w p
-front_from_step w s p front = by_test (had_front (get w.lanes (p.from, p.to)) front.at.lane) (λ b. had_front (get w.lanes (p.from, p.to)) front.at.lane ≡ b → Contains (outputs w s) (Sent p) ⊎ IsFront w p)
-    (λ had _. inr (by_step (had_front_lane (get w.lanes (p.from, p.to)) front.at.lane had) (lane_step w s p.from p.to))) (λ new _. inl (new_front_output w s p front new)) refl
+pub front_from_step : (w : World) (s : Step) → Turned (next w s).links → (p : DataPacket) → IsFront (next w s) p → Contains (outputs w s) (Sent p) ⊎ IsFront w p
+front_from_step w s turned p front = by_test (had_front (lane_at w.links p.from p.to) front.at.lane) (λ b. had_front (lane_at w.links p.from p.to) front.at.lane ≡ b → Contains (outputs w s) (Sent p) ⊎ IsFront w p)
+    (λ had _. inr (by_step (had_front_lane (lane_at w.links p.from p.to) front.at.lane had) (lane_step w s p.from p.to))) (λ new _. inl (new_front_output w s turned p front new)) refl
   where
     at : IsNumbered (next w s) p.from p.to p.inc p.number
     at = front.at
 
     -- it was in front already
-    kept : (had : Had (get w.lanes (p.from, p.to)) at.lane) (k : Lane) (ms : List Msg) → get w.lanes (p.from, p.to) ≡ Some k → k.queue ++ ms ≡ at.lane.queue → IsFront w p
+    kept : (had : Had (lane_at w.links p.from p.to) at.lane) (k : Lane) (ms : List Msg) → lane_at w.links p.from p.to ≡ Some k → k.queue ++ ms ≡ at.lane.queue → IsFront w p
     kept had k ms was is =
         let same = one_lane _ had.lane k had.there was in
         let old = same_front k.queue ms p.msg front.rest (ap (λ z. is_nil z.queue) (sym same) ∙ had.more) (is ∙ front.queue) in
         record { at = record { lane = k; there = was; inc = ap (λ z. z.inc) (sym same) ∙ had.inc ∙ at.inc; number = ap (λ z. z.base + 1) (sym same) ∙ ap (λ n. n + 1) had.base ∙ at.number }; rest = old.0; queue = old.1 }
 
-    by_step : Had (get w.lanes (p.from, p.to)) at.lane → LaneStep w s p.from p.to (get (next w s).lanes (p.from, p.to)) → IsFront w p
+    by_step : Had (lane_at w.links p.from p.to) at.lane → LaneStep w s p.from p.to (lane_at (next w s).links p.from p.to) → IsFront w p
     by_step had (LaneStep.is_none e) = absurd (let there = at.there in cc)
     by_step had (LaneStep.is_made e) = absurd (let same = one_lane _ (new_lane (w.count + 1)) at.lane e at.there in let none = ap (λ z. z.queue) same ∙ front.queue in cc none)
     by_step had (LaneStep.is_kept k ms was e) = kept had k ms was (ap (λ z. z.queue) (one_lane _ (sent ms k) at.lane e at.there))
@@ -163,7 +164,7 @@ receipt_from_step w s p sound fresh r = by_step (lane_step w s p.from p.to)
     at : IsNumbered (next w s) p.from p.to p.inc p.number
     at = r.at
 
-    by_step : LaneStep w s p.from p.to (get (next w s).lanes (p.from, p.to)) → Contains (outputs w s) (Receipted p) ⊎ IsFrontReceipt w p
+    by_step : LaneStep w s p.from p.to (lane_at (next w s).links p.from p.to) → Contains (outputs w s) (Receipted p) ⊎ IsFrontReceipt w p
     by_step (LaneStep.is_none e) = absurd (let there = at.there in cc)
     by_step (LaneStep.is_made e) = absurd (let same = one_lane _ (new_lane (w.count + 1)) at.lane e at.there in let got = ap (λ z. z.got) same in omega (arith, got, r.got))
     by_step (LaneStep.is_kept k ms was e) =
@@ -172,12 +173,12 @@ receipt_from_step w s p sound fresh r = by_step (lane_step w s p.from p.to)
     by_step (LaneStep.is_taken k ms q t ends was e) =
         let same = one_lane _ (sent ms (took k)) at.lane e at.there in
         let is = fresh_take_is_next w w q (subst (IsFresh w w) t fresh) in
-        let here : is.front.at.lane ≡ k = one_lane _ is.front.at.lane k is.front.at.there (ap (get w.lanes) (λ i. (ends.0 i, ends.1 i)) ∙ was) in
+        let here : is.front.at.lane ≡ k = one_lane _ is.front.at.lane k is.front.at.there ((λ i. lane_at w.links (ends.0 i) (ends.1 i)) ∙ was) in
         let inc : q.inc ≡ p.inc = sym is.front.at.inc ∙ ap (λ z. z.inc) here ∙ ap (λ z. z.inc) same ∙ at.inc in
         let number : q.number ≡ p.number = sym is.front.at.number ∙ ap (λ z. z.base + 1) here ∙ ap (λ z. z.base + 1) same ∙ at.number in
         let named : receipt q ≡ p = λ i. record { from = ends.0 i; to = ends.1 i; inc = inc i; number = number i } in
         let first : Contains (receipts s) (Receipted p) = subst (λ z. Contains (receipts z) (Receipted p)) (sym t) (subst (λ z. Contains (Receipted (receipt q) ∷ []) (Receipted z)) named (Contains-head (Receipted (receipt q)) [])) in
-        inl (Contains-append_left (receipts s ++ signals (transitions (state w) s)) (all_sent w.lanes (entries (next w s).lanes)) (Receipted p) (Contains-append_left (receipts s) (signals (transitions (state w) s)) (Receipted p) first))
+        inl (Contains-append_left (receipts s ++ signals (transitions (state w) s)) (all_sent w.links (lanes_in_order (next w s).links)) (Receipted p) (Contains-append_left (receipts s) (signals (transitions (state w) s)) (Receipted p) first))
     by_step (LaneStep.is_cleared k q t ends was e) =
         let same = one_lane _ (cleared k) at.lane e at.there in
         let got = ap (λ z. z.got) same in

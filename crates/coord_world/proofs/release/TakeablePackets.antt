@@ -1,13 +1,13 @@
 -- What is known of a packet that is refused for nothing but its release.
 use Rattle.std.proofs.Common.{◌≡◌, ℕ, ◌+◌, ◌≤◌, true, false, [], ◌∷◌, Option, Some, None, Ok, Err, Result, cond, refl, arith}
 use Rattle.std.proofs.lemmas.Bool.Decides.{nat_tests}
-use Rattle.coord_types.specs.Facade.{begins_with, get}
+use Rattle.coord_types.specs.Facade.{begins_with}
 use Rattle.coord_types.specs.declared.packets.DataPacket.{DataPacket}
 use Rattle.coord_types.specs.declared.packets.ReceiptPacket.{ReceiptPacket}
 use Rattle.coord_types.specs.declared.refusals.Refusal.{Refusal}
 use Rattle.coord_types.specs.declared.steps.Step.TheVariants.{Take}
 use Rattle.coord_link.specs.LaneMachine.{Lane, Tests, against_clear, against_take, refused_or}
-use Rattle.coord_world.specs.Facade.{IsFresh, World, against_data, lane, of_incarnation}
+use Rattle.coord_world.specs.Facade.{IsFresh, World, against_data, lane, lane_at, of_incarnation}
 use Rattle.coord_world.specs.laws.Release.{IsClearable, IsTakeable}
 use Rattle.coord_tables.proofs.Cases.{by_test}
 use Rattle.coord_world.proofs.acceptance.IsFresh.{NoneHolds, begins_is, tests_passed, with_incarnation}
@@ -29,8 +29,8 @@ of_incarnation_inc i None l h = cc
 of_incarnation_inc i (Some k) l h = grind (arith, nat_tests, h)
 
 -- such a lane is there
-pub lane_found : (w : World) (u v i : ℕ) (l : Lane) → lane w u v i ≡ Some l → (get w.lanes (u, v) ≡ Some l) × (l.inc ≡ i)
-lane_found w u v i l is = (with_incarnation i (get w.lanes (u, v)) l is, of_incarnation_inc i (get w.lanes (u, v)) l is)
+pub lane_found : (w : World) (u v i : ℕ) (l : Lane) → lane w u v i ≡ Some l → (lane_at w.links u v ≡ Some l) × (l.inc ≡ i)
+lane_found w u v i l is = (with_incarnation i (lane_at w.links u v) l is, of_incarnation_inc i (lane_at w.links u v) l is)
 
 -- and one that is there is found by its incarnation
 of_incarnation_found : (i : ℕ) (o : Option Lane) (l : Lane) → o ≡ Some l → l.inc ≡ i → of_incarnation i o ≡ Some l
@@ -38,7 +38,7 @@ of_incarnation_found i None l is inc = cc
 of_incarnation_found i (Some k) l is inc = let same : k ≡ l = cc in grind (arith, nat_tests, inc, same)
 
 pub lane_numbered : (w : World) (u v i n : ℕ) (at : IsNumbered w u v i n) → lane w u v i ≡ Some at.lane
-lane_numbered w u v i n at = of_incarnation_found i (get w.lanes (u, v)) at.lane at.there at.inc
+lane_numbered w u v i n at = of_incarnation_found i (lane_at w.links u v) at.lane at.there at.inc
 
 -- the packet is its lane's front, and isn't taken yet
 pub record IsNextPacket (w : World) (p : DataPacket) : Type 0 where

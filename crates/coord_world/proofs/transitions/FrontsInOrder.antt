@@ -4,16 +4,15 @@ use Rattle.std.specs.List.{AllByRecursion}
 use Rattle.std.specs.Ordering.{eq_by_cmp, is_eq, is_lt, nat_cmp, ordering_reverse, ordering_then}
 use Rattle.std.specs.FinMap.Entries.{below_all, find, is_sorted}
 use Rattle.std.proofs.lemmas.Bool.Decides.{nat_tests}
-use Rattle.coord_types.specs.Table.{Table, entries, get}
-use Rattle.coord_types.proofs.Tables.{get-entries}
+use Rattle.coord_tables.specs.Links.{Turned}
+use Rattle.coord_tables.proofs.LinkLanes.{in_order-found, in_order-sorted}
 use Rattle.coord_types.specs.declared.outputs.Output.{Output}
 use Rattle.coord_link.specs.LaneMachine.{Lane}
-use Rattle.coord_world.specs.Facade.{all_sent, pair_cmp, pair_cmp_total, sent_by}
+use Rattle.coord_world.specs.Facade.{Links, all_sent, lane_at, lanes_in_order, pair_cmp, pair_cmp_total, sent_by}
 use Rattle.coord_tables.proofs.Cases.{both}
 use Rattle.coord_tables.proofs.Found.{same_pair}
 use Rattle.coord_tables.proofs.KeyedLists.{each_entry, find-below}
 use Rattle.coord_tables.proofs.SortedEntries.{is_less}
-use Rattle.coord_tables.proofs.TableEntries.{is_true}
 
 -- keys in ascending order
 abbrev pub Rising : List (ℕ × ℕ) → Type 0
@@ -59,11 +58,11 @@ below_less p k (e ∷ es) less below =
     let parts = both (is_lt (pair_cmp k e.0)) (below_all pair_cmp k es) below in
     λ i. is_lt (pair_cmp_total.trans p k e.0 less (is_less _ parts.0) i) && below_less p k es less parts.1 i
 
-module _ (before : Table pair_cmp_total Lane) where
+module _ (before : Links) where
   -- the new front of a lane that is now this one
   abbrev pub front_now : ℕ × ℕ → Option Lane → List Output
   front_now k None = []
-  front_now k (Some l) = sent_by (get before k) k l l.queue
+  front_now k (Some l) = sent_by (lane_at before k.0 k.1) k l l.queue
 
   -- those of the lanes at these keys
   abbrev pub fronts_at : List ((ℕ × ℕ) × Lane) → List (ℕ × ℕ) → List Output
@@ -72,7 +71,7 @@ module _ (before : Table pair_cmp_total Lane) where
 
   -- no other lane has a new front
   abbrev pub Quiet : List (ℕ × ℕ) → List ((ℕ × ℕ) × Lane) → Type 0
-  Quiet ks es = AllByRecursion (λ e. among e.0 ks ≡ false → sent_by (get before e.0) e.0 e.1 e.1.queue ≡ []) es
+  Quiet ks es = AllByRecursion (λ e. among e.0 ks ≡ false → sent_by (lane_at before e.0.0 e.0.1) e.0 e.1 e.1.queue ≡ []) es
 
   none_at : (ks : List (ℕ × ℕ)) → fronts_at [] ks ≡ []
   none_at [] = refl
@@ -121,21 +120,21 @@ module _ (before : Table pair_cmp_total Lane) where
   gather (e ∷ es) sorted ks rising quiet = step e es sorted (gather es (both _ _ sorted).1) ks rising quiet
 
   -- the new fronts of the lanes at these keys, as they are in a table
-  abbrev pub fronts_in : Table pair_cmp_total Lane → List (ℕ × ℕ) → List Output
+  abbrev pub fronts_in : Links → List (ℕ × ℕ) → List Output
   fronts_in after [] = []
-  fronts_in after (k ∷ ks) = front_now k (get after k) ++ fronts_in after ks
+  fronts_in after (k ∷ ks) = front_now k (lane_at after k.0 k.1) ++ fronts_in after ks
 
-  looked_up : (after : Table pair_cmp_total Lane) (ks : List (ℕ × ℕ)) → fronts_at (entries after) ks ≡ fronts_in after ks
-  looked_up after [] = refl
-  looked_up after (k ∷ ks) = λ i. front_now k (sym (get-entries after k) i) ++ looked_up after ks i
+  looked_up : (after : Links) → Turned after → (ks : List (ℕ × ℕ)) → fronts_at (lanes_in_order after) ks ≡ fronts_in after ks
+  looked_up after turned [] = refl
+  looked_up after turned (k ∷ ks) = λ i. front_now k (in_order-found after turned k.0 k.1 i) ++ looked_up after turned ks i
 
-  pub fronts_join : (after : Table pair_cmp_total Lane) (ks qs : List (ℕ × ℕ)) → fronts_in after (ks ++ qs) ≡ fronts_in after ks ++ fronts_in after qs
+  pub fronts_join : (after : Links) (ks qs : List (ℕ × ℕ)) → fronts_in after (ks ++ qs) ≡ fronts_in after ks ++ fronts_in after qs
   fronts_join after [] qs = refl
-  fronts_join after (k ∷ ks) qs = ap (λ l. front_now k (get after k) ++ l) (fronts_join after ks qs) ∙ sym (append_assoc (front_now k (get after k)) (fronts_in after ks) (fronts_in after qs))
+  fronts_join after (k ∷ ks) qs = ap (λ l. front_now k (lane_at after k.0 k.1) ++ l) (fronts_join after ks qs) ∙ sym (append_assoc (front_now k (lane_at after k.0 k.1)) (fronts_in after ks) (fronts_in after qs))
 
-  pub in_order : (after : Table pair_cmp_total Lane) (ks : List (ℕ × ℕ)) → Rising ks →
-      ((k : ℕ × ℕ) (l : Lane) → get after k ≡ Some l → among k ks ≡ false → sent_by (get before k) k l l.queue ≡ []) → all_sent before (entries after) ≡ fronts_in after ks
-  in_order after ks rising quiet =
-      gather (entries after) (is_true _ after.sorted) ks rising
-      (each_entry pair_cmp_total same_pair (λ e. among e.0 ks ≡ false → sent_by (get before e.0) e.0 e.1 e.1.queue ≡ []) (entries after) (is_true _ after.sorted) (λ k l is. quiet k l (get-entries after k ∙ is)))
-      ∙ looked_up after ks
+  pub in_order : (after : Links) → Turned after → (ks : List (ℕ × ℕ)) → Rising ks →
+      ((k : ℕ × ℕ) (l : Lane) → lane_at after k.0 k.1 ≡ Some l → among k ks ≡ false → sent_by (lane_at before k.0 k.1) k l l.queue ≡ []) → all_sent before (lanes_in_order after) ≡ fronts_in after ks
+  in_order after turned_after ks rising quiet =
+      gather (lanes_in_order after) (in_order-sorted after) ks rising
+      (each_entry pair_cmp_total same_pair (λ e. among e.0 ks ≡ false → sent_by (lane_at before e.0.0 e.0.1) e.0 e.1 e.1.queue ≡ []) (lanes_in_order after) (in_order-sorted after) (λ k l is. quiet k l (sym (in_order-found after turned_after k.0 k.1) ∙ is)))
+      ∙ looked_up after turned_after ks

@@ -4,13 +4,13 @@ use Rattle.std.specs.List.{AllByRecursion, list_any}
 use Rattle.std.specs.List.Sorted.{IsStrictlySortedBy}
 use Rattle.std.proofs.lemmas.Bool.Decides.{nat_tests}
 use Rattle.coord_types.specs.NodeSet as set
-use Rattle.coord_types.specs.Table.{Table, entries, get}
+use Rattle.coord_tables.specs.Links.{Turned}
 use Rattle.coord_types.proofs.Sets.{contains-items, items-sorted}
 use Rattle.coord_types.proofs.Tables.{option_map}
 use Rattle.coord_types.specs.declared.messages.Msg.{Msg}
 use Rattle.coord_link.specs.LaneMachine.{Lane, sent, took}
 use Rattle.coord_node.specs.Facade.{Transition, added, sends_of}
-use Rattle.coord_world.specs.Facade.{all_sent, had_front, pair_cmp, pair_cmp_total, sent_by}
+use Rattle.coord_world.specs.Facade.{Links, all_sent, had_front, lane_at, lanes_in_order, pair_cmp, sent_by}
 use Rattle.coord_world.specs.code.Fronts.{front_sent, fronts_sent}
 use Rattle.coord_tables.proofs.Cases.{by_test}
 use Rattle.coord_world.proofs.release.LaneAfterStep.{sent_none}
@@ -68,8 +68,8 @@ one_front i b g (n ∷ ns) k m =
     let same : had_front (Some (record { inc = i; base = b; got = g; queue = n ∷ ns })) (record { inc = i; base = b; got = g; queue = n ∷ ns ++ m ∷ [] }) ≡ true = grind (arith, nat_tests) in
     grind (arith, nat_tests, same)
 
-module _ (before after : Table pair_cmp_total Lane) (u : ℕ) (d : Transition) (sends : (v : ℕ) → set.contains d.to v ≡ true → get after (u, v) ≡ option_map (sent (d.message ∷ [])) (get before (u, v))) where
-  front_of : (k : ℕ × ℕ) (o p : Option Lane) → get before k ≡ o → p ≡ option_map (sent (d.message ∷ [])) o → front_now before k p ≡ front_sent o k d.message
+module _ (before after : Links) (u : ℕ) (d : Transition) (sends : (v : ℕ) → set.contains d.to v ≡ true → lane_at after u v ≡ option_map (sent (d.message ∷ [])) (lane_at before u v)) where
+  front_of : (k : ℕ × ℕ) (o p : Option Lane) → lane_at before k.0 k.1 ≡ o → p ≡ option_map (sent (d.message ∷ [])) o → front_now before k p ≡ front_sent o k d.message
   front_of k None p was is = ap (front_now before k) is
   front_of k (Some l) p was is =
       ap (front_now before k) is ∙ ap (λ o. sent_by o k (sent (d.message ∷ []) l) (l.queue ++ d.message ∷ [])) was ∙ one_front l.inc l.base l.got l.queue k d.message
@@ -78,7 +78,7 @@ module _ (before after : Table pair_cmp_total Lane) (u : ℕ) (d : Transition) (
   fronts_each [] within = refl
   fronts_each (x ∷ xs) within =
       let here : set.contains d.to x ≡ true = within x (grind (arith, nat_tests)) in
-      let first = front_of (u, x) (get before (u, x)) (get after (u, x)) refl (sends x here) in
+      let first = front_of (u, x) (lane_at before u x) (lane_at after u x) refl (sends x here) in
       let rest = fronts_each xs (λ v is. within v (grind (arith, nat_tests, is))) in
       λ i. first i ++ rest i
 
@@ -117,14 +117,14 @@ among_join k [] qs away = (refl, away)
 among_join k (q ∷ ks) qs away = by_test (eqb k.0 q.0 && eqb k.1 q.1) (λ b. (b || among k (ks ++ qs)) ≡ false → ((b || among k ks) ≡ false) × (among k qs ≡ false)) (λ _ e. cc) (λ _ e. among_join k ks qs e) away
 
 -- two nodes send, the lesser one first
-pub two_fronts : (before after : Table pair_cmp_total Lane) (u v : ℕ) (d e : Transition) → nat_lt u v ≡ true →
-    ((y : ℕ) → set.contains d.to y ≡ true → get after (u, y) ≡ option_map (sent (d.message ∷ [])) (get before (u, y))) →
-    ((y : ℕ) → set.contains e.to y ≡ true → get after (v, y) ≡ option_map (sent (e.message ∷ [])) (get before (v, y))) →
-    ((k : ℕ × ℕ) → among k (lanes_to u (set.items d.to)) ≡ false → among k (lanes_to v (set.items e.to)) ≡ false → Still k (get before k) (get after k)) →
-    fronts_sent before u (sends_of d) ++ fronts_sent before v (sends_of e) ≡ all_sent before (entries after)
-two_fronts before after u v d e less one other quiet =
+pub two_fronts : (before after : Links) → Turned after → (u v : ℕ) (d e : Transition) → nat_lt u v ≡ true →
+    ((y : ℕ) → set.contains d.to y ≡ true → lane_at after u y ≡ option_map (sent (d.message ∷ [])) (lane_at before u y)) →
+    ((y : ℕ) → set.contains e.to y ≡ true → lane_at after v y ≡ option_map (sent (e.message ∷ [])) (lane_at before v y)) →
+    ((k : ℕ × ℕ) → among k (lanes_to u (set.items d.to)) ≡ false → among k (lanes_to v (set.items e.to)) ≡ false → Still k (lane_at before k.0 k.1) (lane_at after k.0 k.1)) →
+    fronts_sent before u (sends_of d) ++ fronts_sent before v (sends_of e) ≡ all_sent before (lanes_in_order after)
+two_fronts before after turned u v d e less one other quiet =
     let ks = lanes_to u (set.items d.to) in
     let qs = lanes_to v (set.items e.to) in
-    sym (in_order before after (ks ++ qs) (rising_both u v (set.items d.to) (set.items e.to) less (items-sorted d.to) (items-sorted e.to))
+    sym (in_order before after turned (ks ++ qs) (rising_both u v (set.items d.to) (set.items e.to) less (items-sorted d.to) (items-sorted e.to))
     (λ k l is away. let apart = among_join k ks qs away in quiet k apart.0 apart.1 l is)
     ∙ fronts_join before after ks qs ∙ (λ i. fronts_of_sends before after u d one i ++ fronts_of_sends before after v e other i))

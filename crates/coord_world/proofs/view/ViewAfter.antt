@@ -7,7 +7,7 @@ use Rattle.coord_types.specs.declared.steps.Command.TheVariants.{Drop, Join}
 use Rattle.coord_types.proofs.Tables.{option_map}
 use Rattle.coord_link.specs.LaneMachine.{Lane, sent, took, cleared, transit, new_lane}
 use Rattle.coord_node.specs.Facade.{Transition, added, headed, ideal_applied, is_link, linked_up, set_state, with_neighbour, without_link}
-use Rattle.coord_world.specs.Facade.{World, is_lane, on_lane, state, state_or_none, transit_or_none, view, with_command, with_state, with_transition}
+use Rattle.coord_world.specs.Facade.{World, is_lane, lane_at, on_lane, state, state_or_none, transit_or_none, view, with_command, with_state, with_transition}
 use Rattle.coord_tables.proofs.Cases.{by_test}
 use Rattle.coord_world.proofs.lanes.Counts.{AllCount, it_is, was_taken}
 use Rattle.coord_tables.proofs.Found.{get-set, get-unset}
@@ -43,10 +43,10 @@ module _ (w : World) where
     way = λ x y. (ap transit_or_none (lane_left w a b x y) ∙ ways x y) i;
   }
     where
-      links : (x y : ℕ) → is_some (cond (is_link a b x y) None (get w.lanes (x, y))) ≡ (without_link (view w) a b).linked x y
+      links : (x y : ℕ) → is_some (cond (is_link a b x y) None (lane_at w.links x y)) ≡ (without_link (view w) a b).linked x y
       links x y = grind (arith, nat_tests)
 
-      ways : (x y : ℕ) → transit_or_none (cond (is_link a b x y) None (get w.lanes (x, y))) ≡ (without_link (view w) a b).way x y
+      ways : (x y : ℕ) → transit_or_none (cond (is_link a b x y) None (lane_at w.links x y)) ≡ (without_link (view w) a b).way x y
       ways x y = grind (arith, nat_tests)
 
   -- a link is made
@@ -62,10 +62,10 @@ module _ (w : World) where
       rows x = ap state_or_none (get-set (table.insert w.nodes a (with_neighbour (state w a) b)) b (with_neighbour (state w b) a) x
           ∙ ap (cond (eqb x b) (Some (with_neighbour (state w b) a))) (get-set w.nodes a (with_neighbour (state w a) b) x)) ∙ grind (arith, nat_tests)
 
-      links : (x y : ℕ) → is_some (cond (is_link a b x y) (Some (new_lane (w.count + 1))) (get w.lanes (x, y))) ≡ (linked_up (view w) a b).linked x y
+      links : (x y : ℕ) → is_some (cond (is_link a b x y) (Some (new_lane (w.count + 1))) (lane_at w.links x y)) ≡ (linked_up (view w) a b).linked x y
       links x y = grind (arith, nat_tests)
 
-      ways : (x y : ℕ) → transit_or_none (cond (is_link a b x y) (Some (new_lane (w.count + 1))) (get w.lanes (x, y))) ≡ (linked_up (view w) a b).way x y
+      ways : (x y : ℕ) → transit_or_none (cond (is_link a b x y) (Some (new_lane (w.count + 1))) (lane_at w.links x y)) ≡ (linked_up (view w) a b).way x y
       ways x y = grind (arith, nat_tests)
 
 -- where the numbers fit the queues
@@ -75,43 +75,43 @@ module _ (w : World) (counts : AllCount w) where
   view_done u d i = record {
     version = w.version;
     state = λ x. rows x i;
-    linked = λ x y. (ap is_some (lane_done w u d x y) ∙ some_mapped _ (get w.lanes (x, y))) i;
-    way = λ x y. (ap transit_or_none (lane_done w u d x y) ∙ ways x y (get w.lanes (x, y)) refl) i;
+    linked = λ x y. (ap is_some (lane_done w u d x y) ∙ some_mapped _ (lane_at w.links x y)) i;
+    way = λ x y. (ap transit_or_none (lane_done w u d x y) ∙ ways x y (lane_at w.links x y) refl) i;
   }
     where
       rows : (x : ℕ) → state (with_transition w u d) x ≡ cond (eqb x u) d.state (state w x)
       rows x = ap state_or_none (get-set w.nodes u d.state x) ∙ grind (arith, nat_tests)
 
-      ways : (x y : ℕ) (o : Option Lane) → get w.lanes (x, y) ≡ o →
+      ways : (x y : ℕ) (o : Option Lane) → lane_at w.links x y ≡ o →
           transit_or_none (option_map (λ l. cond (eqb x u) (sent (added d y) l) l) o) ≡ cond (eqb x u && is_some o) (transit_or_none o ++ added d y) (transit_or_none o)
       ways x y None e = grind (arith, nat_tests)
       ways x y (Some l) e = let behind = transit-sent l (added d y) (counts x y l e) in grind (arith, nat_tests, behind)
 
   -- a front that is taken leaves the way
-  pub view_took : (v u : ℕ) (k : Lane) → get w.lanes (v, u) ≡ Some k → k.got ≡ k.base → view (on_lane w v u took) ≡ headed (view w) v u
+  pub view_took : (v u : ℕ) (k : Lane) → lane_at w.links v u ≡ Some k → k.got ≡ k.base → view (on_lane w v u took) ≡ headed (view w) v u
   view_took v u k there idle i = record {
     version = w.version;
     state = state w;
-    linked = λ x y. (ap is_some (lane_on w v u took x y) ∙ some_mapped _ (get w.lanes (x, y))) i;
-    way = λ x y. (ap transit_or_none (lane_on w v u took x y) ∙ ways x y (get w.lanes (x, y)) refl) i;
+    linked = λ x y. (ap is_some (lane_on w v u took x y) ∙ some_mapped _ (lane_at w.links x y)) i;
+    way = λ x y. (ap transit_or_none (lane_on w v u took x y) ∙ ways x y (lane_at w.links x y) refl) i;
   }
     where
-      ways : (x y : ℕ) (o : Option Lane) → get w.lanes (x, y) ≡ o →
+      ways : (x y : ℕ) (o : Option Lane) → lane_at w.links x y ≡ o →
           transit_or_none (option_map (λ l. cond (is_lane (x, y) v u) (took l) l) o) ≡ cond (eqb x v && eqb y u) (behind_front (transit_or_none o)) (transit_or_none o)
       ways x y None e = grind (arith, nat_tests)
       ways x y (Some l) e = by_test (is_lane (x, y) v u) (λ b. transit (cond b (took l) l) ≡ cond b (behind_front (transit l)) (transit l))
           (λ t. transit-took l (subst (λ (z : Lane). z.got ≡ z.base) (sym (it_is w v u x y k l there e t)) idle)) (λ _. refl)
 
   -- a front that is cleared was not on the way
-  pub view_cleared : (u v : ℕ) (k : Lane) → get w.lanes (u, v) ≡ Some k → k.base + 1 ≤ k.got → view (on_lane w u v cleared) ≡ view w
+  pub view_cleared : (u v : ℕ) (k : Lane) → lane_at w.links u v ≡ Some k → k.base + 1 ≤ k.got → view (on_lane w u v cleared) ≡ view w
   view_cleared u v k there more i = record {
     version = w.version;
     state = state w;
-    linked = λ x y. (ap is_some (lane_on w u v cleared x y) ∙ some_mapped _ (get w.lanes (x, y))) i;
-    way = λ x y. (ap transit_or_none (lane_on w u v cleared x y) ∙ ways x y (get w.lanes (x, y)) refl) i;
+    linked = λ x y. (ap is_some (lane_on w u v cleared x y) ∙ some_mapped _ (lane_at w.links x y)) i;
+    way = λ x y. (ap transit_or_none (lane_on w u v cleared x y) ∙ ways x y (lane_at w.links x y) refl) i;
   }
     where
-      ways : (x y : ℕ) (o : Option Lane) → get w.lanes (x, y) ≡ o → transit_or_none (option_map (λ l. cond (is_lane (x, y) u v) (cleared l) l) o) ≡ transit_or_none o
+      ways : (x y : ℕ) (o : Option Lane) → lane_at w.links x y ≡ o → transit_or_none (option_map (λ l. cond (is_lane (x, y) u v) (cleared l) l) o) ≡ transit_or_none o
       ways x y None e = refl
       ways x y (Some l) e = by_test (is_lane (x, y) u v) (λ b. transit (cond b (cleared l) l) ≡ transit l)
           (λ t. transit-cleared l (was_taken l (counts x y l e) (subst (λ (z : Lane). z.base + 1 ≤ z.got) (sym (it_is w u v x y k l there e t)) more)).0) (λ _. refl)

@@ -3,7 +3,6 @@ use Rattle.std.proofs.Common.{◌≡◌, ℕ, ◌+◌, ◌≤◌, List, [], ◌�
 use Rattle.std.proofs.lemmas.Bool.Decides.{nat_tests}
 use Rattle.std.proofs.lemmas.List.Elements.{All-cons, All-nil}
 use Rattle.std.proofs.lemmas.List.Sums.{sum_by-append, sum_by-cons}
-use Rattle.coord_types.specs.Table.{Table, get, entries}
 use Rattle.coord_types.specs.declared.messages.Msg.{Msg}
 use Rattle.coord_types.specs.declared.outputs.Output.{Output}
 use Rattle.coord_types.specs.declared.outputs.Output.TheVariants.{Receipted, Signalled, Sent}
@@ -13,7 +12,7 @@ use Rattle.coord_types.specs.declared.steps.Step.{Step}
 use Rattle.coord_types.specs.declared.steps.Step.TheVariants.{Order, Take, Clear}
 use Rattle.coord_node.specs.Steps.{transitions}
 use Rattle.coord_link.specs.LaneMachine.{Lane}
-use Rattle.coord_world.specs.Facade.{StepOutcome, World, all_sent, front_packet, had_front, next, outputs, outs, pair_cmp_total, receipts, reply, sent_by, signals, state}
+use Rattle.coord_world.specs.Facade.{Links, StepOutcome, World, all_sent, front_packet, had_front, lane_at, lanes_in_order, next, outputs, outs, receipts, reply, sent_by, signals, state}
 use Rattle.coord_world.specs.laws.Waves.{Connected, IsExplained, is_signal_of, signals_of}
 use Rattle.coord_tables.proofs.Cases.{by_test}
 use Rattle.coord_world.proofs.waves.StepEffect.{signals_in}
@@ -29,9 +28,9 @@ module _ (v : ℕ) where
   none_sent_by before k l (m ∷ q) = by_test (had_front before l) (λ b. count_by (is_signal_of v) (cond b [] (Sent (front_packet k l m) ∷ [])) ≡ 0) (λ _. refl) (λ _. refl)
 
   -- nor do all
-  none_sent : (before : Table pair_cmp_total Lane) (es : List ((ℕ × ℕ) × Lane)) → count_by (is_signal_of v) (all_sent before es) ≡ 0
+  none_sent : (before : Links) (es : List ((ℕ × ℕ) × Lane)) → count_by (is_signal_of v) (all_sent before es) ≡ 0
   none_sent before [] = refl
-  none_sent before (e ∷ es) = sum_by-append signal_in (sent_by (get before e.0) e.0 e.1 e.1.queue) (all_sent before es) ∙ omega (arith, none_sent_by (get before e.0) e.0 e.1 e.1.queue, none_sent before es)
+  none_sent before (e ∷ es) = sum_by-append signal_in (sent_by (lane_at before e.0.0 e.0.1) e.0 e.1 e.1.queue) (all_sent before es) ∙ omega (arith, none_sent_by (lane_at before e.0.0 e.0.1) e.0 e.1 e.1.queue, none_sent before es)
 
   -- nor a receipt
   none_receipted : (s : Step) → count_by (is_signal_of v) (receipts s) ≡ 0
@@ -42,8 +41,8 @@ module _ (v : ℕ) where
   -- the signals are those of the transitions
   pub signals_given : (w : World) (s : Step) → count_by (is_signal_of v) (outputs w s) ≡ signals_in (state w) s v
   signals_given w s =
-      sum_by-append signal_in (receipts s ++ signals (transitions (state w) s)) (all_sent w.lanes (entries (next w s).lanes))
-      ∙ omega (arith, sum_by-append signal_in (receipts s) (signals (transitions (state w) s)), none_receipted s, none_sent w.lanes (entries (next w s).lanes))
+      sum_by-append signal_in (receipts s ++ signals (transitions (state w) s)) (all_sent w.links (lanes_in_order (next w s).links))
+      ∙ omega (arith, sum_by-append signal_in (receipts s) (signals (transitions (state w) s)), none_receipted s, none_sent w.links (lanes_in_order (next w s).links))
 
   -- those of a step come first
   pub signals_first : (w : World) (s : Step) (ss : List Step) → signals_of v (outs w (s ∷ ss)) ≡ signals_in (state w) s v + signals_of v (outs (next w s) ss)

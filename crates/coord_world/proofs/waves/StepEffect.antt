@@ -1,14 +1,14 @@
 -- What a fresh step that keeps all nodes and links does to a wave.
 use Rattle.std.proofs.Common.{◌≡◌, ℕ, true, false, List, [], ◌∷◌, refl, sym, ◌∙◌, ap, subst, arith, count_by, is_some}
 use Rattle.std.proofs.lemmas.Bool.Decides.{nat_tests}
-use Rattle.coord_types.specs.Facade.{Ideal, NodeState, contains, get}
+use Rattle.coord_types.specs.Facade.{Ideal, NodeState, contains}
 use Rattle.coord_types.specs.declared.messages.Msg.{Msg}
 use Rattle.coord_types.specs.declared.messages.Msg.TheVariants as msg
 use Rattle.coord_types.specs.declared.steps.Command.TheVariants.{Add, Remove, Join, Drop, Reset, Confirm}
 use Rattle.coord_types.specs.declared.steps.Step.{Step}
 use Rattle.coord_types.specs.declared.steps.Step.TheVariants.{Order, Take, Clear}
 use Rattle.coord_node.specs.Facade.{ideal_next, kind, set_state, transition, transitions}
-use Rattle.coord_world.specs.Facade.{IsFresh, World, next, signals, state, transit_or_none, view}
+use Rattle.coord_world.specs.Facade.{IsFresh, World, lane_at, next, signals, state, transit_or_none, view}
 use Rattle.coord_world.specs.laws.Waves.{changes_topology, is_signal_of, started_by}
 use Rattle.coord_world.proofs.waves.AbortEffect.{TakeEffect, abort_effect}
 use Rattle.coord_world.proofs.waves.AckEffect.{ack_effect}
@@ -58,7 +58,7 @@ ideal_effect w settled (Order c n (Confirm u e)) stays sound fresh = confirmed (
 ideal_effect w settled (Take p) stays sound fresh =
     let take = fresh_take w settled p fresh in
     let out : contains (state w p.from).neighbours p.to ≡ true = sym (sound.linked p.from p.to) ∙ ap is_some take.there in
-    let front : transit_or_none (get w.lanes (p.from, p.to)) ≡ p.msg ∷ take.rest = ap transit_or_none take.there ∙ grind (arith, nat_tests, take.idle) ∙ take.front in
+    let front : transit_or_none (lane_at w.links p.from p.to) ≡ p.msg ∷ take.rest = ap transit_or_none take.there ∙ grind (arith, nat_tests, take.idle) ∙ take.front in
     taken (view w) p.from p.to p.msg take.rest front (sym (sound.mirrored p.from p.to) ∙ out) sound
 ideal_effect w settled (Clear p) stays sound fresh = unchanged (view w) (Clear p) (λ v. refl) refl
 

@@ -6,6 +6,7 @@ use Rattle.std.specs.Ordering.{nat_cmp, eq_by_cmp}
 use Rattle.std.specs.FinMap.Entries.{find}
 use Rattle.coord_types.specs.Table as table
 use Rattle.coord_types.specs.NodeSet as set
+use Rattle.coord_tables.specs.Links.{lane_at}
 use Rattle.coord_types.specs.NodeState.{NodeState}
 use Rattle.coord_types.specs.declared.messages.Mode.TheVariants.{Ready}
 use Rattle.coord_world.specs.Facade.{World, fold, no_world, state_or_none}
@@ -28,12 +29,12 @@ all_ready w ready v = ready_entries w.nodes.list ready v
 
 -- the steps that link the nodes are fresh in turn
 linking : EachFresh (no_world 1) two_linked
-unfolding table.empty table.get table.insert table.remove table.change table.len set.contains set.empty set.insert set.remove set.len
+unfolding table.empty table.get table.insert table.remove table.change table.len set.contains set.empty set.insert set.remove set.len lane_at
 linking = ((refl, (omega arith, omega arith, ((omega arith, omega arith), omega arith, omega arith))), ((refl, (omega arith, omega arith, ((omega arith, omega arith), omega arith, omega arith))), ((refl, (omega arith, omega arith, ((omega arith, omega arith), (omega arith, omega arith)))), tt)))
 
 -- so are those of the reset
 resetting : EachFresh (fold (no_world 1) two_linked) one_reset
-unfolding table.empty table.get table.insert table.remove table.change table.len set.contains set.empty set.insert set.remove set.len
+unfolding table.empty table.get table.insert table.remove table.change table.len set.contains set.empty set.insert set.remove set.len lane_at
 resetting = ((refl, (omega arith, omega arith, (omega arith, omega arith))), ((refl, tt), ((refl, tt), ((refl, tt), ((refl, tt), tt)))))
 
 -- the reset is a trail
@@ -42,17 +43,17 @@ reset_is_trail = trail_of one_reset (fold (no_world 1) two_linked) (sound_fold t
 
 -- one reset starts, at node 1
 one_start : started (fold (no_world 1) two_linked) one_reset ≡ 1 ∷ []
-unfolding table.empty table.get table.insert table.remove table.change table.len set.contains set.empty set.insert set.remove set.len
+unfolding table.empty table.get table.insert table.remove table.change table.len set.contains set.empty set.insert set.remove set.len lane_at
 one_start = refl
 
 -- the nodes are Ready before it
 ready_before : AllByRecursion (λ e. e.1.mode ≡ Ready) (fold (no_world 1) two_linked).nodes.list
-unfolding table.empty table.get table.insert table.remove table.change table.len set.contains set.empty set.insert set.remove set.len
+unfolding table.empty table.get table.insert table.remove table.change table.len set.contains set.empty set.insert set.remove set.len lane_at
 ready_before = (refl, (refl, tt))
 
 -- and after it
 ready_after : AllByRecursion (λ e. e.1.mode ≡ Ready) (fold (fold (no_world 1) two_linked) one_reset).nodes.list
-unfolding table.empty table.get table.insert table.remove table.change table.len set.contains set.empty set.insert set.remove set.len
+unfolding table.empty table.get table.insert table.remove table.change table.len set.contains set.empty set.insert set.remove set.len lane_at
 ready_after = (refl, (refl, tt))
 
 -- so it is a wave

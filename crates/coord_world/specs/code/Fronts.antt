@@ -1,6 +1,6 @@
 -- The new fronts of a step, lane by lane: only what the step sends, or clears, makes one.
 use Rattle.std.specs.Prelude.{◌≡◌, ℕ, ◌-◌, ◌^◌, ◌<◌, nat_lt, List, [], ◌∷◌, ◌++◌, Option, Some, None, if◌then◌else◌}
-use Rattle.coord_types.specs.Facade.{Table, behind_front, get, is_nil}
+use Rattle.coord_types.specs.Facade.{behind_front, is_nil}
 use Rattle.coord_types.specs.declared.messages.Msg.{Msg}
 use Rattle.coord_types.specs.declared.outputs.Output.{Output}
 use Rattle.coord_types.specs.declared.outputs.Output.TheVariants.{Sent}
@@ -10,7 +10,7 @@ use Rattle.coord_types.specs.declared.steps.Step.{Step}
 use Rattle.coord_types.specs.declared.steps.Step.TheVariants.{Order, Take, Clear}
 use Rattle.coord_link.specs.LaneMachine.{Lane, cleared}
 use Rattle.coord_node.specs.Rules.{lost, request, sends_of, transition}
-use Rattle.coord_world.specs.protocol.NumberedWorld.{World, state, pair_cmp_total}
+use Rattle.coord_world.specs.protocol.NumberedWorld.{Links, World, lane_at, state}
 use Rattle.coord_world.specs.protocol.Outputs.{front_packet}
 
 -- one more than the lane's base is a number that the program holds
@@ -18,8 +18,8 @@ abbrev pub HasNumber : (ℕ × ℕ) × Lane → Type 0
 HasNumber e = e.1.base < 2 ^ 64 - 1
 
 -- so is that of each lane
-abbrev pub AreNumbered : Table pair_cmp_total Lane → Type 0
-AreNumbered lanes = (u v : ℕ) (l : Lane) → get lanes (u, v) ≡ Some l → l.base < 2 ^ 64 - 1
+abbrev pub AreNumbered : Links → Type 0
+AreNumbered links = (u v : ℕ) (l : Lane) → lane_at links u v ≡ Some l → l.base < 2 ^ 64 - 1
 
 -- the packet of a lane's front, where it has one
 abbrev pub packets_of : ℕ × ℕ → Lane → List Msg → List Output
@@ -32,9 +32,9 @@ front_sent None k m = []
 front_sent (Some l) k m = if is_nil l.queue then Sent (front_packet k l m) ∷ [] else []
 
 -- the fronts that u's messages become
-abbrev pub fronts_sent : Table pair_cmp_total Lane → ℕ → List (ℕ × Msg) → List Output
-fronts_sent lanes u [] = []
-fronts_sent lanes u (s ∷ ss) = front_sent (get lanes (u, s.0)) (u, s.0) s.1 ++ fronts_sent lanes u ss
+abbrev pub fronts_sent : Links → ℕ → List (ℕ × Msg) → List Output
+fronts_sent links u [] = []
+fronts_sent links u (s ∷ ss) = front_sent (lane_at links u s.0) (u, s.0) s.1 ++ fronts_sent links u ss
 
 -- the message behind a front becomes the front when that one is cleared
 abbrev pub front_behind : Option Lane → ℕ × ℕ → List Output
@@ -49,12 +49,12 @@ abbrev pub fronts_ordered : World → Command → List Output
 fronts_ordered w (Add u g) = []
 fronts_ordered w (Remove u) = []
 fronts_ordered w (Join a b) = []
-fronts_ordered w (Drop a b) = by_lesser a b (fronts_sent w.lanes a (sends_of (lost (state w a) b))) (fronts_sent w.lanes b (sends_of (lost (state w b) a)))
-fronts_ordered w (Reset u) = fronts_sent w.lanes u (sends_of (request (state w u)))
+fronts_ordered w (Drop a b) = by_lesser a b (fronts_sent w.links a (sends_of (lost (state w a) b))) (fronts_sent w.links b (sends_of (lost (state w b) a)))
+fronts_ordered w (Reset u) = fronts_sent w.links u (sends_of (request (state w u)))
 fronts_ordered w (Confirm u e) = []
 
 -- the new fronts of a step, in ascending order of their lanes
 abbrev pub new_fronts : World → Step → List Output
 new_fronts w (Order c n x) = fronts_ordered w x
-new_fronts w (Take p) = fronts_sent w.lanes p.to (sends_of (transition p.msg (state w p.to) p.from))
-new_fronts w (Clear p) = front_behind (get w.lanes (p.from, p.to)) (p.from, p.to)
+new_fronts w (Take p) = fronts_sent w.links p.to (sends_of (transition p.msg (state w p.to) p.from))
+new_fronts w (Clear p) = front_behind (lane_at w.links p.from p.to) (p.from, p.to)

@@ -1,12 +1,11 @@
 -- The laws of steps, over the definitions alone.
 use Rattle.std.specs.Prelude.{◌≡◌, ℕ, ◌≤◌, Some, length}
 use Rattle.std.specs.List.{AllByRecursion}
-use Rattle.coord_world.specs.declared.rows.parts.LinkRow.{LinkRow}
-use Rattle.coord_types.specs.Table.{get}
+use Rattle.coord_tables.specs.declared.links.LinkRow.{LinkRow}
 use Rattle.coord_types.specs.declared.steps.Step.{Step}
 use Rattle.coord_link.specs.LaneMachine.{Lane, transit, Counts}
 use Rattle.coord_node.specs.IdealRules.{ideal_next}
-use Rattle.coord_world.specs.protocol.NumberedWorld.{World, view}
+use Rattle.coord_world.specs.protocol.NumberedWorld.{World, lane_at, view}
 use Rattle.coord_world.specs.protocol.Next.{next}
 use Rattle.coord_world.specs.protocol.Acceptance.{IsFresh}
 use Rattle.coord_world.specs.protocol.Legal.{Legal}
@@ -28,7 +27,7 @@ NextKeepsLegal = (w settled : World) (s : Step) → InRange w → Legal w → Is
 
 -- what a step makes of the view is the ideal step, where each lane has taken at most one message more than it cleared
 abbrev pub ViewOfNext : Type 0
-ViewOfNext = (w settled : World) (s : Step) → ((u v : ℕ) (l : Lane) → get w.lanes (u, v) ≡ Some l → Counts l) → IsFresh w settled s → view (next w s) ≡ ideal_next (view w) s
+ViewOfNext = (w settled : World) (s : Step) → ((u v : ℕ) (l : Lane) → lane_at w.links u v ≡ Some l → Counts l) → IsFresh w settled s → view (next w s) ≡ ideal_next (view w) s
 
 -- in a legal world at most 3 messages are on the way on a lane, and a queue has at most 4, of which at most 2 are Aborts
 pub record IsShort (l : Lane) : Type 0 where
@@ -37,7 +36,7 @@ pub record IsShort (l : Lane) : Type 0 where
   pub few_aborts : aborts l.queue ≤ 2
 
 abbrev pub LanesAreShort : Type 0
-LanesAreShort = (w : World) (u v : ℕ) (l : Lane) → InRange w → Legal w → get w.lanes (u, v) ≡ Some l → IsShort l
+LanesAreShort = (w : World) (u v : ℕ) (l : Lane) → InRange w → Legal w → lane_at w.links u v ≡ Some l → IsShort l
 
 -- the rows of a world in its ranges fit together
 abbrev pub RowsOfWorldFit : Type 0

@@ -1,6 +1,6 @@
 -- Which steps a world takes, and why it refuses the others: a list of tests, each with its refusal, that is read from the
 -- front, so the text shows the exact order of refusals.
-use Rattle.std.specs.Prelude.{◌≡◌, ℕ, ◌+◌, ◌*◌, ◌==◌, ◌&&◌, ◌||◌, not, nat_le, nat_lt, Bool, false, true, [], ◌∷◌, ◌++◌, Option, Some, None, Result, Ok, if◌then◌else◌}
+use Rattle.std.specs.Prelude.{◌≡◌, ℕ, ◌+◌, ◌==◌, ◌&&◌, ◌||◌, not, nat_le, nat_lt, Bool, false, true, [], ◌∷◌, ◌++◌, Option, Some, None, Result, Ok, if◌then◌else◌}
 use Rattle.coord_types.specs.NodeSet as set
 use Rattle.coord_types.specs.Table.{get, has, len}
 use Rattle.coord_types.specs.Facade.{NodeState, is_nil, same_command}
@@ -18,7 +18,7 @@ use Rattle.coord_link.specs.LaneMachine.{Lane, Tests, refused_or, against_take, 
 use Rattle.coord_node.specs.Facade.{is_empty, kind}
 use Rattle.coord_world.specs.declared.verdicts.Verdict.{Verdict}
 use Rattle.coord_world.specs.declared.verdicts.Verdict.TheVariants.{Fresh, Repeat}
-use Rattle.coord_world.specs.protocol.NumberedWorld.{World, state, is_linked}
+use Rattle.coord_world.specs.protocol.NumberedWorld.{World, lane_at, state, is_linked}
 
 abbrev pub is_unknown : World → ℕ → Bool
 is_unknown w u = not (has w.nodes u)
@@ -27,9 +27,9 @@ is_unknown w u = not (has w.nodes u)
 abbrev pub is_full : NodeState → Bool
 is_full r = nat_le MAX_DEGREE (set.len r.neighbours)
 
--- a world has its most links, each of two lanes
+-- a world has its most links
 abbrev pub has_all_links : World → Bool
-has_all_links w = nat_le (2 * MAX_LINKS) (len w.lanes)
+has_all_links w = nat_le MAX_LINKS (len w.links)
 
 -- a command is judged by the front world alone
 abbrev pub against_command : World → Command → Tests
@@ -48,7 +48,7 @@ of_incarnation i (Some l) = if l.inc == i then Some l else None
 
 -- the lane from u to v, where it has this incarnation
 abbrev pub lane : World → ℕ → ℕ → ℕ → Option Lane
-lane w u v i = of_incarnation i (get w.lanes (u, v))
+lane w u v i = of_incarnation i (lane_at w.links u v)
 
 -- whether a settled lane has given out the data packet with this number
 abbrev pub has_sent : Option Lane → ℕ → Bool

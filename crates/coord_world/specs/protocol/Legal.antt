@@ -7,7 +7,7 @@ use Rattle.coord_types.specs.declared.messages.Mode.{Mode}
 use Rattle.coord_types.specs.declared.messages.Mode.TheVariants.{Ready, Abort, Converge}
 use Rattle.coord_link.specs.LaneMachine.{Lane, Counts}
 use Rattle.coord_node.specs.Rules.{is_empty}
-use Rattle.coord_world.specs.protocol.NumberedWorld.{World, view, is_linked}
+use Rattle.coord_world.specs.protocol.NumberedWorld.{World, lane_at, view, is_linked}
 use Rattle.coord_world.specs.protocol.Links.{link, LegalLink}
 
 -- a node is Abort exactly where it awaits somebody
@@ -47,5 +47,5 @@ is_legal_node count r =
 -- N of each node, A of each lane, and B to H of each link as each of its ends sees it
 pub record Legal (w : World) : Type 0 where
   pub nodes : (u : ℕ) (r : NodeState) → get w.nodes u ≡ Some r → is_legal_node w.count r ≡ true
-  pub lanes : (u v : ℕ) (l : Lane) → get w.lanes (u, v) ≡ Some l → Counts l
+  pub lanes : (u v : ℕ) (l : Lane) → lane_at w.links u v ≡ Some l → Counts l
   pub links : (u v : ℕ) → is_linked w u v ≡ true → LegalLink (link (view w) u v)

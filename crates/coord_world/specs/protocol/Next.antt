@@ -3,7 +3,7 @@
 -- The order of the list is the order of the signals. Both transitions of a drop are computed from the world before it,
 -- since its two ends differ.
 use Rattle.std.specs.Prelude.{ℕ, ◌+◌, ◌==◌, ◌&&◌, Bool, List, [], ◌∷◌, if◌then◌else◌}
-use Rattle.coord_types.specs.Table.{insert, remove, change}
+use Rattle.coord_types.specs.Table.{insert, remove}
 use Rattle.coord_types.specs.NodeState.{NodeState, new_node}
 use Rattle.coord_types.specs.declared.steps.Command.{Command}
 use Rattle.coord_types.specs.declared.steps.Command.TheVariants.{Add, Remove, Join, Drop, Reset, Confirm}
@@ -11,6 +11,7 @@ use Rattle.coord_types.specs.declared.steps.Step.{Step}
 use Rattle.coord_types.specs.declared.steps.Step.TheVariants.{Order, Take, Clear}
 use Rattle.coord_types.specs.declared.steps.Reply.{Reply}
 use Rattle.coord_link.specs.LaneMachine.{Lane, new_lane, sent, took, cleared}
+use Rattle.coord_tables.specs.Links.{change_lanes, joined, parted}
 use Rattle.coord_node.specs.Facade.{Transition, added, kind, transitions, with_neighbour}
 use Rattle.coord_world.specs.protocol.NumberedWorld.{World, state}
 
@@ -19,14 +20,14 @@ is_lane k u v = (k.0 == u) && (k.1 == v)
 
 -- a change of the lane from u to v alone
 abbrev pub on_lane : World → ℕ → ℕ → (Lane → Lane) → World
-on_lane w u v f = record w { lanes = change (λ k l. if is_lane k u v then f l else l) w.lanes }
+on_lane w u v f = record w { links = change_lanes (λ k l. if is_lane k u v then f l else l) w.links }
 
 abbrev pub with_state : World → ℕ → NodeState → World
 with_state w u r = record w { nodes = insert w.nodes u r }
 
 -- node u does a transition: its state changes, and its messages join its lanes
 abbrev pub with_transition : World → ℕ → Transition → World
-with_transition w u d = record w { nodes = insert w.nodes u d.state; lanes = change (λ k l. if k.0 == u then sent (added d k.1) l else l) w.lanes }
+with_transition w u d = record w { nodes = insert w.nodes u d.state; links = change_lanes (λ k l. if k.0 == u then sent (added d k.1) l else l) w.links }
 
 -- transitions, one after the other
 abbrev pub with_transitions : World → List (ℕ × Transition) → World
@@ -39,9 +40,9 @@ with_command w (Add u g) = with_state w u (new_node w.version g)
 with_command w (Remove u) = record w { nodes = remove w.nodes u }
 with_command w (Join a b) = record w {
   nodes = insert (insert w.nodes a (with_neighbour (state w a) b)) b (with_neighbour (state w b) a);
-  lanes = insert (insert w.lanes (a, b) (new_lane (w.count + 1))) (b, a) (new_lane (w.count + 1));
+  links = joined w.links a b (new_lane (w.count + 1));
 }
-with_command w (Drop a b) = record w { lanes = remove (remove w.lanes (a, b)) (b, a) }
+with_command w (Drop a b) = record w { links = parted w.links a b }
 with_command w (Reset u) = w
 with_command w (Confirm u e) = with_state w u (record (state w u) { confirmed = e })
 

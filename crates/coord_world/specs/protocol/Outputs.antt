@@ -1,6 +1,6 @@
 -- What a step gives out, and what is sent again.
 use Rattle.std.specs.Prelude.{ℕ, ◌+◌, ◌==◌, ◌&&◌, Bool, false, not, List, [], ◌∷◌, ◌++◌, Option, Some, None, if◌then◌else◌}
-use Rattle.coord_types.specs.Facade.{Table, entries, get, is_nil}
+use Rattle.coord_types.specs.Facade.{is_nil}
 use Rattle.coord_types.specs.declared.messages.Msg.{Msg}
 use Rattle.coord_types.specs.declared.packets.DataPacket.{DataPacket}
 use Rattle.coord_types.specs.declared.packets.ReceiptPacket.{ReceiptPacket}
@@ -11,7 +11,7 @@ use Rattle.coord_types.specs.declared.outputs.Output.TheVariants.{Receipted, Sig
 use Rattle.coord_types.specs.declared.steps.Reply.{Reply}
 use Rattle.coord_node.specs.Facade.{Transition, transitions}
 use Rattle.coord_link.specs.LaneMachine.{Lane, is_front_taken}
-use Rattle.coord_world.specs.protocol.NumberedWorld.{World, state, pair_cmp_total}
+use Rattle.coord_world.specs.protocol.NumberedWorld.{Links, World, lane_at, lanes_in_order, state}
 use Rattle.coord_world.specs.protocol.Next.{next, reply}
 
 -- the receipt of a data packet
@@ -43,14 +43,14 @@ abbrev pub sent_by : Option Lane → ℕ × ℕ → Lane → List Msg → List O
 sent_by before k l [] = []
 sent_by before k l (m ∷ ms) = if had_front before l then [] else Sent (front_packet k l m) ∷ []
 
--- what lanes send that were these before, in ascending order of their ends
-abbrev pub all_sent : Table pair_cmp_total Lane → List ((ℕ × ℕ) × Lane) → List Output
+-- what these lanes send that were as in `before`
+abbrev pub all_sent : Links → List ((ℕ × ℕ) × Lane) → List Output
 all_sent before [] = []
-all_sent before (e ∷ es) = sent_by (get before e.0) e.0 e.1 e.1.queue ++ all_sent before es
+all_sent before (e ∷ es) = sent_by (lane_at before e.0.0 e.0.1) e.0 e.1 e.1.queue ++ all_sent before es
 
--- what a step gives out after its reply
+-- what a step gives out after its reply; packets come in ascending order of their lanes' ends
 abbrev pub outputs : World → Step → List Output
-outputs w s = receipts s ++ signals (transitions (state w) s) ++ all_sent w.lanes (entries (next w s).lanes)
+outputs w s = receipts s ++ signals (transitions (state w) s) ++ all_sent w.links (lanes_in_order (next w s).links)
 
 -- a step's reply, and what it gives out after that
 pub record StepOutcome : Type 0 where
@@ -73,4 +73,4 @@ all_again (e ∷ es) = again_by e.0 e.1 e.1.queue ++ all_again es
 
 -- the resend list: what may have been lost and is sent again, in ascending order of the lanes
 abbrev pub again : World → List Output
-again w = all_again (entries w.lanes)
+again w = all_again (lanes_in_order w.links)

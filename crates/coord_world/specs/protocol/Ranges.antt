@@ -1,5 +1,5 @@
 -- The ranges of a world, which its type keeps: what is true of every world by its form, legal or not.
-use Rattle.std.specs.Prelude.{◌≡◌, ℕ, ◌*◌, ◌==◌, ◌≤◌, Bool, true, false, List, Some, length, if◌then◌else◌}
+use Rattle.std.specs.Prelude.{◌≡◌, ℕ, ◌==◌, ◌≤◌, Bool, true, false, List, Some, length, if◌then◌else◌}
 use Rattle.std.specs.List.{AllByRecursion}
 use Rattle.coord_types.specs.NodeSet as set
 use Rattle.coord_types.specs.Facade.{IsMaskable, NodeState}
@@ -15,7 +15,8 @@ use Rattle.coord_types.specs.declared.steps.Command.TheVariants.{Reset}
 use Rattle.coord_types.specs.declared.steps.Kind.{Kind}
 use Rattle.coord_types.specs.declared.steps.Kind.TheVariants.{Done, Started, Finished, Joined}
 use Rattle.coord_link.specs.LaneMachine.{Lane}
-use Rattle.coord_world.specs.protocol.NumberedWorld.{World, state, is_linked}
+use Rattle.coord_world.specs.protocol.NumberedWorld.{World, lane_at, state, is_linked}
+use Rattle.coord_tables.specs.Links.{Turned}
 
 pub record NodeInRange (count u : ℕ) (r : NodeState) : Type 0 where
   pub least : 1 ≤ u
@@ -66,23 +67,23 @@ pub record SessionInRange (count c : ℕ) (s : Session) : Type 0 where
   pub replied_by : s.reply.step ≤ count
   pub answered : answers s.command s.reply.kind ≡ true
 
--- a node's neighbours are those that it has lanes to; a link has two lanes, of one incarnation, between two nodes of one group
+-- a node's neighbours are those that it has lanes to; a link stands with its lesser end first, and has two lanes, of one
+-- incarnation, between two nodes of one group
 pub record InRange (w : World) : Type 0 where
   pub first : 1 ≤ w.version
   pub last : w.version ≤ 2
   pub count : w.count ≤ MAX_STEPS
   pub nodes : (u : ℕ) (r : NodeState) → get w.nodes u ≡ Some r → NodeInRange w.count u r
   pub distances : (u : ℕ) (r : NodeState) → get w.nodes u ≡ Some r → IsDistant w.version w.count r
-  pub lanes : (u v : ℕ) (l : Lane) → get w.lanes (u, v) ≡ Some l → LaneInRange w.count l
-  pub short : (u v : ℕ) (l : Lane) → get w.lanes (u, v) ≡ Some l → length l.queue ≤ 4
-  pub carried : (u v : ℕ) (l : Lane) → get w.lanes (u, v) ≡ Some l → CarryWithin (farthest w.version w.count) l.queue
+  pub lanes : (u v : ℕ) (l : Lane) → lane_at w.links u v ≡ Some l → LaneInRange w.count l
+  pub short : (u v : ℕ) (l : Lane) → lane_at w.links u v ≡ Some l → length l.queue ≤ 4
+  pub carried : (u v : ℕ) (l : Lane) → lane_at w.links u v ≡ Some l → CarryWithin (farthest w.version w.count) l.queue
   pub awaited : (u : ℕ) → IsMaskable (state w u).pend
   pub parents : (u p : ℕ) → (state w u).parent ≡ Some p → IsNode p
   pub sessions : (c : ℕ) (s : Session) → get w.sessions c ≡ Some s → SessionInRange w.count c s
-  pub links : len w.lanes ≤ 2 * MAX_LINKS
+  pub links : len w.links ≤ MAX_LINKS
   pub linked : (u v : ℕ) → is_linked w u v ≡ set.contains (state w u).neighbours v
-  pub mirrored : (u v : ℕ) → is_linked w u v ≡ is_linked w v u
-  pub apart : (u : ℕ) → is_linked w u u ≡ false
+  pub turned : Turned w.links
   pub ends : (u v : ℕ) → is_linked w u v ≡ true → has w.nodes u ≡ true
   pub one_group : (u v : ℕ) → is_linked w u v ≡ true → (state w u).group ≡ (state w v).group
-  pub one_incarnation : (u v : ℕ) (l k : Lane) → get w.lanes (u, v) ≡ Some l → get w.lanes (v, u) ≡ Some k → l.inc ≡ k.inc
+  pub one_incarnation : (u v : ℕ) (l k : Lane) → lane_at w.links u v ≡ Some l → lane_at w.links v u ≡ Some k → l.inc ≡ k.inc

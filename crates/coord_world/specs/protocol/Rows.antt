@@ -1,17 +1,17 @@
 -- A world as lists of rows, and which lists are those of a world.
-use Rattle.std.specs.Prelude.{◌≡◌, ℕ, ◌+◌, ◌≤◌, ◌<◌, ◌==◌, ◌||◌, nat_lt, Bool, true, List, [], ◌∷◌, map, length, Option, Some, None, if◌then◌else◌}
+use Rattle.std.specs.Prelude.{◌≡◌, ℕ, ◌+◌, ◌≤◌, ◌<◌, ◌==◌, ◌||◌, Bool, true, List, [], ◌∷◌, map, length, Option, Some, None, if◌then◌else◌}
 use Rattle.std.specs.Ordering.{nat_cmp}
 use Rattle.std.specs.List.{AllByRecursion}
-use Rattle.std.specs.FinMap.Entries.{is_sorted, where_key, find}
-use Rattle.coord_types.specs.Facade.{IsMaskable, NodeState, entries, get}
+use Rattle.std.specs.FinMap.Entries.{is_sorted, find}
+use Rattle.coord_types.specs.Facade.{IsMaskable, NodeState, entries}
 use Rattle.coord_types.specs.declared.limits.TheConstants.{MAX_DEGREE, MAX_GROUPS, MAX_LINKS, MAX_NODES, MAX_STEPS}
 use Rattle.coord_types.specs.declared.steps.Session.{Session}
-use Rattle.coord_link.specs.LaneMachine.{Lane, new_lane}
+use Rattle.coord_tables.specs.Links.{link_rows}
+use Rattle.coord_tables.specs.declared.links.LinkRow.{LinkRow}
 use Rattle.coord_world.specs.protocol.NumberedWorld.{World, pair_cmp}
 use Rattle.coord_world.specs.protocol.Ranges.{CarryWithin, IsNode, LaneInRange, SessionInRange, farthest}
 use Rattle.coord_types.specs.declared.messages.Mode.TheVariants.{Ready}
 use Rattle.coord_world.specs.declared.rows.parts.NodeRow.{NodeRow}
-use Rattle.coord_world.specs.declared.rows.parts.LinkRow.{LinkRow}
 use Rattle.coord_world.specs.declared.rows.parts.ClientRow.{ClientRow}
 use Rattle.coord_world.specs.declared.rows.parts.Parts.{Parts}
 
@@ -29,17 +29,6 @@ listed p = record { version = p.version; count = p.count; nodes = p.nodes.items;
 abbrev pub node_row : ℕ × NodeState → NodeRow
 node_row e = record { id = e.0; group = e.1.group; mode = e.1.mode; parent = e.1.parent; pend = e.1.pend; epoch = e.1.epoch; confirmed = e.1.confirmed; distance = e.1.distance }
 
-abbrev pub lane_or_none : Option Lane → Lane
-lane_or_none None = new_lane 0
-lane_or_none (Some l) = l
-
--- a link stands with the lane that goes from its lesser end to its greater one
-abbrev pub goes_up : ℕ × ℕ → Bool
-goes_up k = nat_lt k.0 k.1
-
-abbrev pub link_row : World → (ℕ × ℕ) × Lane → LinkRow
-link_row w e = record { a = e.0.0; b = e.0.1; forth = e.1; back = lane_or_none (get w.lanes (e.0.1, e.0.0)) }
-
 abbrev pub client_row : ℕ × Session → ClientRow
 client_row e = record { client = e.0; session = e.1 }
 
@@ -49,7 +38,7 @@ rows_of w = record {
   version = w.version;
   count = w.count;
   nodes = map node_row (entries w.nodes);
-  links = map (link_row w) (where_key pair_cmp goes_up (entries w.lanes));
+  links = link_rows w.links;
   clients = map client_row (entries w.sessions);
 }
 

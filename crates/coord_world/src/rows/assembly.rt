@@ -1,24 +1,22 @@
 //! How the rows of a world are put together.
 
-ghost use Rattle.std.specs.Prelude.{◌≡◌, ◌≤◌, true, IfOk, length, map};
+ghost use Rattle.std.specs.Prelude.{◌≡◌, true, IfOk, map};
 ghost use Rattle.std.specs.Ordering.{nat_cmp};
 ghost use Rattle.std.specs.FinMap.Entries.{is_sorted};
 ghost use Rattle.coord_types.specs.Table as table;
 ghost use Rattle.coord_world.specs.protocol.Rows.{RowsFit, by_client, by_id, listed};
-ghost use Rattle.coord_world.specs.code.Assembly.{AreNear, AreNodes, LinksRise, assembled, client_entry, entry_with, near_in, state_with, with_links};
+ghost use Rattle.coord_world.specs.code.Assembly.{assembled, client_entry, entry_with, near_in, state_with};
 
 use crate::rows::neighbours::Neighbours;
-use crate::rows::ordering::lanes_of;
-use crate::rows::parts::{ClientRow, LinkRow, NodeRow, Parts};
+use crate::rows::parts::{ClientRow, NodeRow, Parts};
 use crate::tables::Tables;
 use coord_node::{Node, NodeFields};
-use coord_tables::{LaneTable, NodeTable, SessionTable};
-use coord_types::{Client, MAX_LINKS, NodeId, Session, Version};
+use coord_tables::{LinkTable, NodeTable, SessionTable};
+use coord_types::{Client, NodeId, Session, Version};
 use std::alloc::{AllocError, Global};
 
 impl Tables {
-    /// The world that has these rows. Its lanes come last, since they take most of the memory and
-    /// let the rows of links go.
+    /// The world that has these rows.
     pub fn assemble(alloc: Global, parts: Parts) -> Result<Tables, AllocError>
         requires { RowsFit (listed parts) }
         ensures { IfOk result (λ tables. tables ≡ assembled (listed parts)) }
@@ -33,12 +31,12 @@ impl Tables {
         let near = Neighbours::by(&links);
         let nodes = node_table(alloc, version, nodes, &near)?;
         let sessions = session_table(alloc, clients)?;
-        let lanes = lane_table(alloc, links, &near)?;
+        let links = LinkTable::from_rows(links)?;
         Ok(Tables {
             version,
             count,
             nodes,
-            lanes,
+            links,
             sessions,
         })
     }
@@ -66,21 +64,6 @@ fn session_table(alloc: Global, rows: Vec<ClientRow>) -> Result<SessionTable, Al
 {
     let sessions = sessions_of(alloc, &rows)?;
     SessionTable::from_sorted(alloc, &sessions)
-}
-
-/// The two lanes of each link.
-fn lane_table(
-    alloc: Global,
-    links: Vec<LinkRow>,
-    near: &Neighbours,
-) -> Result<LaneTable, AllocError>
-    requires rise { LinksRise links.items }
-    requires few { length links.items ≤ MAX_LINKS }
-    requires near { AreNear links.items near.now.sets }
-    requires ends { AreNodes links.items }
-    ensures { IfOk result (λ lanes. lanes ≡ with_links table.empty links.items) }
-{
-    LaneTable::from_sorted(lanes_of(alloc, links, near)?)
 }
 
 fn nodes_of(

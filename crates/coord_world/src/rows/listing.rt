@@ -1,17 +1,11 @@
 //! How a world is listed as rows.
 
 ghost use Rattle.std.specs.Prelude.{◌≡◌, IfOk, map};
-ghost use Rattle.std.specs.Option.{option_copied};
-ghost use Rattle.std.specs.FinMap.Entries.{where_key};
-ghost use Rattle.coord_types.specs.Table as table;
-ghost use Rattle.coord_world.specs.protocol.NumberedWorld.{no_world, pair_cmp};
-ghost use Rattle.coord_world.specs.protocol.Rows.{client_row, goes_up, lane_or_none, link_row, listed, node_row, rows_of};
+ghost use Rattle.coord_world.specs.protocol.Rows.{client_row, listed, node_row, rows_of};
 
-use crate::rows::parts::{ClientRow, LinkRow, NodeRow, Parts};
+use crate::rows::parts::{ClientRow, NodeRow, Parts};
 use crate::tables::Tables;
-use coord_link::Lane;
 use coord_node::Node;
-use coord_tables::LaneTable;
 use coord_types::{Client, NodeId, Session};
 use std::alloc::{AllocError, Global};
 
@@ -24,7 +18,7 @@ impl Tables {
             version: self.version,
             count: self.count,
             nodes: node_rows(alloc, &self.nodes.entries(alloc)?)?,
-            links: link_rows(alloc, &self.lanes)?,
+            links: Vec::from_slice(alloc, self.links.rows())?,
             clients: client_rows(alloc, &self.sessions.entries(alloc)?)?,
         })
     }
@@ -52,33 +46,6 @@ fn node_row(id: NodeId, node: &Node) -> NodeRow
         epoch: node.epoch(),
         confirmed: node.confirmed(),
         distance: node.distance(),
-    }
-}
-
-/// One row for the two lanes of each link.
-fn link_rows(alloc: Global, lanes: &LaneTable) -> Result<Vec<LinkRow>, AllocError>
-    ensures { IfOk result (λ links. links.items ≡
-        map (link_row (record (no_world 1) { lanes = lanes.now }))
-        (where_key pair_cmp goes_up (table.entries lanes.now))) }
-{
-    let mut links = Vec::new(alloc);
-    for entry in lanes.entries() {
-        let ((a, b), forth) = *entry;
-        if a < b {
-            let back = lane_or_new(lanes.get(b, a));
-            links.push(LinkRow { a, b, forth, back })?;
-        }
-    }
-    Ok(links)
-}
-
-/// Each lane of a world has its way back.
-fn lane_or_new(lane: Option<&Lane>) -> Lane
-    ensures { result ≡ lane_or_none (option_copied lane.entry) }
-{
-    match lane {
-        Some(lane) => *lane,
-        None => Lane::new(0),
     }
 }
 

@@ -5,7 +5,7 @@ ghost use Rattle.coord_types.specs.NodeSet as set;
 ghost use Rattle.coord_types.specs.StepRanges.{IsNode};
 ghost use Rattle.coord_world.specs.code.Assembly.{AreNear, near_in};
 
-use crate::rows::parts::LinkRow;
+use coord_tables::LinkRow;
 use coord_types::{MAX_NODES, NodeId, NodeSet};
 
 /// One place for each node.

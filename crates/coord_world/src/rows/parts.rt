@@ -1,6 +1,6 @@
 //! The rows of a world, as they are listed and stored.
 
-use coord_link::Lane;
+use coord_tables::LinkRow;
 use coord_types::{Client, Group, Mode, NodeId, NodeSet, Session, Version};
 
 /// A node's row: its state, but for its neighbours, which the links give.
@@ -17,17 +17,6 @@ pub struct NodeRow {
     /// How many links lie between the node and the one that began its reset; 0 where it is Ready, and
     /// in version 1.
     pub distance: u64,
-}
-
-/// A link's row: its ends, of which `a` is below `b`, and the lane each way.
-#[derive(Clone, Copy, Debug)]
-pub struct LinkRow {
-    pub a: NodeId,
-    pub b: NodeId,
-    /// From `a` to `b`.
-    pub forth: Lane,
-    /// From `b` to `a`.
-    pub back: Lane,
 }
 
 /// A client's row: its last order.

@@ -62,7 +62,7 @@ impl Tables {
         ensures { IfOk result (λ outputs. outputs.items ≡ again self.now) }
     {
         let mut outputs = Vec::new(alloc);
-        outputs::push_all_again(&self.lanes, &mut outputs)?;
+        outputs::push_all_again(alloc, &self.links, &mut outputs)?;
         Ok(outputs)
     }
 

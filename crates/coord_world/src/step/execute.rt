@@ -1,9 +1,10 @@
 //! How a step is carried out in place, once all memory that it needs is there.
 
-ghost use Rattle.std.specs.Prelude.{◌≡◌, ◌<◌, ◌-◌, ◌^◌, ◌∷◌, [], ◌++◌, length, IsSome, IfOk, OnOk, OnErr};
+ghost use Rattle.std.specs.Prelude.{◌≡◌, ◌≢◌, ◌<◌, ◌-◌, ◌^◌, ◌∷◌, [], ◌++◌, length, None, IsSome, IfOk, OnOk, OnErr};
 ghost use Rattle.std.specs.Option.{ForSome};
 ghost use Rattle.coord_types.specs.Table as table;
 ghost use Rattle.coord_types.specs.declared.steps.Step.TheVariants.{Order};
+ghost use Rattle.coord_tables.specs.Links.{lane_at};
 ghost use Rattle.coord_link.specs.LaneMachine.{took, cleared};
 ghost use Rattle.coord_node.specs.Rules.{lost, request, sends_of, transition};
 ghost use Rattle.coord_node.specs.Steps.{transitions_ordered};
@@ -54,14 +55,11 @@ impl Tables {
 
     /// A node takes the data packet that came.
     pub fn deliver(&mut self, alloc: Global, packet: &DataPacket) -> Result<Vec<Output>, AllocError>
-        requires taken { ForSome (table.get self.old.lanes record {
-          0 = packet.now.from;
-          1 = packet.now.to;
-        }) (λ l. l.got < 2 ^ 64 - 1) }
+        requires taken { ForSome (lane_at self.old.links packet.now.from packet.now.to) (λ l. l.got < 2 ^ 64 - 1) }
         requires acts { CanApply self.old packet.now.to
             (transition packet.now.msg (state self.old packet.now.to) packet.now.from)
-            (on_lane self.old packet.now.from packet.now.to took).lanes }
-        requires numbered { AreNumbered self.old.lanes }
+            (on_lane self.old packet.now.from packet.now.to took).links }
+        requires numbered { AreNumbered self.old.links }
         requires near { brought packet.now.msg < 2 ^ 64 - 1 }
         ensures world { OnOk result (self.new ≡
             with_transition (on_lane self.old packet.now.from packet.now.to took) packet.now.to
@@ -72,7 +70,7 @@ impl Tables {
               0 = packet.now.to;
               1 = transition packet.now.msg (state self.old packet.now.to) packet.now.from;
             } ∷ []) ++
-            fronts_sent self.old.lanes packet.now.to
+            fronts_sent self.old.links packet.now.to
             (sends_of (transition packet.now.msg
             (state self.old packet.now.to) packet.now.from)))) }
         ensures err { OnErr result (self.new ≡ self.old) }
@@ -81,39 +79,39 @@ impl Tables {
         let mut outputs = Vec::with_capacity(alloc, node_step.deed.sends.len() + 2)?;
         push_receipt(packet, &mut outputs)?;
         push_signal(&node_step, &mut outputs)?;
-        push_fronts(&self.lanes, &node_step, &mut outputs)?;
+        push_fronts(&self.links, &node_step, &mut outputs)?;
         self.take_front(packet.from, packet.to);
         self.carry_out(node_step);
         Ok(outputs)
     }
     /// A reset is asked for at a node.
     fn reset(&mut self, alloc: Global, id: NodeId) -> Result<Vec<Output>, AllocError>
-        requires acts { CanApply self.old id (request (state self.old id)) self.old.lanes }
-        requires numbered { AreNumbered self.old.lanes }
+        requires acts { CanApply self.old id (request (state self.old id)) self.old.links }
+        requires numbered { AreNumbered self.old.links }
         ensures world { OnOk result (self.new ≡
             with_transition self.old id (request (state self.old id))) }
         ensures outputs { IfOk result (λ outputs. outputs.items ≡
             signals (record { 0 = id; 1 = request (state self.old id) } ∷ []) ++
-            fronts_sent self.old.lanes id (sends_of (request (state self.old id)))) }
+            fronts_sent self.old.links id (sends_of (request (state self.old id)))) }
         ensures err { OnErr result (self.new ≡ self.old) }
     {
         let node_step = self.requested(alloc, id)?;
         let mut outputs = Vec::with_capacity(alloc, node_step.deed.sends.len() + 1)?;
         push_signal(&node_step, &mut outputs)?;
-        push_fronts(&self.lanes, &node_step, &mut outputs)?;
+        push_fronts(&self.links, &node_step, &mut outputs)?;
         self.carry_out(node_step);
         Ok(outputs)
     }
 
     /// The link of two nodes vanishes, first at `a` and then at `b`.
     fn drop_link(&mut self, alloc: Global, a: NodeId, b: NodeId) -> Result<Vec<Output>, AllocError>
-        requires linked { IsSome (table.get self.old.lanes record { 0 = a; 1 = b }) }
+        requires linked { IsSome (lane_at self.old.links a b) }
         requires first { CanApply self.old a (lost (state self.old a) b)
-            (with_command self.old (Command.Drop a b)).lanes }
+            (with_command self.old (Command.Drop a b)).links }
         requires second { CanApply self.old b (lost (state self.old b) a)
             (with_transition (with_command self.old (Command.Drop a b)) a
-            (lost (state self.old a) b)).lanes }
-        requires numbered { AreNumbered self.old.lanes }
+            (lost (state self.old a) b)).links }
+        requires numbered { AreNumbered self.old.links }
         ensures world { OnOk result (self.new ≡
             with_transition (with_transition (with_command self.old (Command.Drop a b)) a
             (lost (state self.old a) b)) b (lost (state self.old b) a)) }
@@ -129,7 +127,7 @@ impl Tables {
         let mut outputs = Vec::new(alloc);
         push_signal(&first, &mut outputs)?;
         push_signal(&second, &mut outputs)?;
-        push_fronts_of_both(&self.lanes, &first, &second, &mut outputs)?;
+        push_fronts_of_both(&self.links, &first, &second, &mut outputs)?;
         self.drop_lanes(a, b);
         self.carry_out(first);
         self.carry_out(second);
@@ -138,18 +136,20 @@ impl Tables {
 
     /// The lanes of a link vanish, with all that is on them.
     fn drop_lanes(&mut self, a: NodeId, b: NodeId)
-        requires { IsSome (table.get self.old.lanes record { 0 = a; 1 = b }) }
+        requires { IsSome (lane_at self.old.links a b) }
         ensures { self.new ≡ with_command self.old (Command.Drop a b) }
     {
-        self.lanes.unlink(a, b);
+        self.links.part(a, b);
     }
 
     /// Two nodes are linked, by two empty lanes.
     fn join(&mut self, alloc: Global, a: NodeId, b: NodeId) -> Result<(), AllocError>
         requires one { IsSome (table.get self.old.nodes a) }
         requires other { IsSome (table.get self.old.nodes b) }
+        requires apart { a ≢ b }
+        requires free { lane_at self.old.links a b ≡ None }
         requires count { self.old.count < 2 ^ 64 - 1 }
-        requires room { table.len self.old.lanes < 2 ^ 16 - 2 }
+        requires room { table.len self.old.links < 2 ^ 8 - 1 }
         ensures ok { OnOk result (self.new ≡ with_command self.old (Command.Join a b)) }
         ensures err { OnErr result (self.new ≡ self.old) }
     {
@@ -157,7 +157,7 @@ impl Tables {
         one.gained(alloc, b);
         let mut other = *self.node(b).unwrap();
         other.gained(alloc, a);
-        self.lanes.link(a, b, Lane::new(self.count + 1))?;
+        self.links.join(a, b, Lane::new(self.count + 1))?;
         self.nodes.replace(a, one);
         self.nodes.replace(b, other);
         Ok(())
@@ -175,16 +175,16 @@ impl Tables {
 
     /// Notes on a lane that its front was taken.
     fn take_front(&mut self, from: NodeId, to: NodeId)
-        requires { ForSome (table.get self.old.lanes record { 0 = from; 1 = to }) (λ l.
+        requires { ForSome (lane_at self.old.links from to) (λ l.
             l.got < 2 ^ 64 - 1) }
         ensures { self.new ≡ on_lane self.old from to took }
     {
-        let Some(lane) = self.lanes.get(from, to) else {
+        let Some(lane) = self.links.lane(from, to) else {
             return;
         };
         let mut lane = *lane;
         lane.take();
-        self.lanes.replace(from, to, lane);
+        self.links.set_lane(from, to, lane);
     }
 
     /// Clears the front of a lane.
@@ -194,25 +194,25 @@ impl Tables {
         from: NodeId,
         to: NodeId,
     ) -> Result<Vec<Output>, AllocError>
-        requires there { ForSome (table.get self.old.lanes record { 0 = from; 1 = to }) (λ l.
+        requires there { ForSome (lane_at self.old.links from to) (λ l.
             0 < length l.queue) }
-        requires numbered { ForSome (table.get self.old.lanes record { 0 = from; 1 = to }) (λ l.
+        requires numbered { ForSome (lane_at self.old.links from to) (λ l.
             l.base < 2 ^ 64 - 2) }
         ensures world { OnOk result (self.new ≡ on_lane self.old from to cleared) }
         ensures outputs { IfOk result (λ outputs. outputs.items ≡
-            front_behind (table.get self.old.lanes record { 0 = from; 1 = to }) record {
+            front_behind (lane_at self.old.links from to) record {
               0 = from;
               1 = to;
             }) }
         ensures err { OnErr result (self.new ≡ self.old) }
     {
-        let Some(lane) = self.lanes.get(from, to) else {
+        let Some(lane) = self.links.lane(from, to) else {
             return Ok(Vec::new(alloc));
         };
         let mut lane = *lane;
         lane.clear();
         let outputs = front_packets(alloc, from, to, &lane)?;
-        self.lanes.replace(from, to, lane);
+        self.links.set_lane(from, to, lane);
         Ok(outputs)
     }
 }

@@ -117,13 +117,13 @@ impl Tables {
         if one.group() != other.group() {
             return Err(Refusal::OtherGroup);
         }
-        if self.lanes.get(a, b).is_some() {
+        if self.links.lane(a, b).is_some() {
             return Err(Refusal::LinkExists);
         }
         if one.neighbours().len() >= MAX_DEGREE || other.neighbours().len() >= MAX_DEGREE {
             return Err(Refusal::DegreeFull);
         }
-        if self.lanes.len() >= 2 * MAX_LINKS {
+        if self.links.len() >= MAX_LINKS {
             return Err(Refusal::LinksFull);
         }
         Ok(())
@@ -138,7 +138,7 @@ impl Tables {
         if a == b {
             return Err(Refusal::SameNode);
         }
-        if self.lanes.get(a, b).is_none() {
+        if self.links.lane(a, b).is_none() {
             return Err(Refusal::NoLink);
         }
         Ok(())

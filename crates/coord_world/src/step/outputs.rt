@@ -2,14 +2,14 @@
 
 ghost use Rattle.std.specs.Prelude.{◌≡◌, ◌<◌, ◌-◌, ◌^◌, ◌∷◌, [], ◌++◌, IfOk, OnOk};
 ghost use Rattle.std.specs.List.{All};
-ghost use Rattle.coord_types.specs.Table as table;
+ghost use Rattle.coord_tables.specs.Links.{lane_at, lanes_in_order};
 ghost use Rattle.coord_world.specs.protocol.Outputs.{again_by, all_again, receipt};
 ghost use Rattle.coord_world.specs.code.Fronts.{AreNumbered, HasNumber, by_lesser, front_sent, fronts_sent, packets_of};
 ghost use Rattle.coord_world.specs.code.NodeSteps.{signal_of};
 
 use crate::step::node_step::NodeStep;
 use coord_link::Lane;
-use coord_tables::LaneTable;
+use coord_tables::LinkTable;
 use coord_types::{DataPacket, Msg, NodeId, Output, ReceiptPacket};
 use std::alloc::{AllocError, Global};
 
@@ -39,59 +39,56 @@ pub fn push_signal(node_step: &NodeStep, outputs: &mut Vec<Output>) -> Result<()
 
 /// Adds the new fronts that the messages of a node become, in ascending order of their lanes.
 pub fn push_fronts(
-    lanes: &LaneTable,
+    links: &LinkTable,
     node_step: &NodeStep,
     outputs: &mut Vec<Output>,
 ) -> Result<(), AllocError>
-    requires { AreNumbered lanes.now }
+    requires { AreNumbered links.now }
     ensures { OnOk result (outputs.new.items ≡
-        outputs.old.items ++ fronts_sent lanes.now node_step.now.id
+        outputs.old.items ++ fronts_sent links.now node_step.now.id
         node_step.now.deed.sends.items) }
 {
     for send in &node_step.deed.sends {
-        push_front(lanes, node_step.id, send.0, send.1, outputs)?;
+        push_front(links, node_step.id, send.0, send.1, outputs)?;
     }
     Ok(())
 }
 
 /// Adds the new fronts of the two ends of a link, those of the lesser one first.
 pub fn push_fronts_of_both(
-    lanes: &LaneTable,
+    links: &LinkTable,
     first: &NodeStep,
     second: &NodeStep,
     outputs: &mut Vec<Output>,
 ) -> Result<(), AllocError>
-    requires { AreNumbered lanes.now }
+    requires { AreNumbered links.now }
     ensures { OnOk result (outputs.new.items ≡
         outputs.old.items ++ by_lesser first.now.id second.now.id
-        (fronts_sent lanes.now first.now.id first.now.deed.sends.items)
-        (fronts_sent lanes.now second.now.id second.now.deed.sends.items)) }
+        (fronts_sent links.now first.now.id first.now.deed.sends.items)
+        (fronts_sent links.now second.now.id second.now.deed.sends.items)) }
 {
     if first.id < second.id {
-        push_fronts(lanes, first, outputs)?;
-        push_fronts(lanes, second, outputs)
+        push_fronts(links, first, outputs)?;
+        push_fronts(links, second, outputs)
     } else {
-        push_fronts(lanes, second, outputs)?;
-        push_fronts(lanes, first, outputs)
+        push_fronts(links, second, outputs)?;
+        push_fronts(links, first, outputs)
     }
 }
 
 /// Adds the packet of a message that becomes a front: nothing stands before it on its lane.
 fn push_front(
-    lanes: &LaneTable,
+    links: &LinkTable,
     from: NodeId,
     to: NodeId,
     msg: Msg,
     outputs: &mut Vec<Output>,
 ) -> Result<(), AllocError>
-    requires { AreNumbered lanes.now }
+    requires { AreNumbered links.now }
     ensures { OnOk result (outputs.new.items ≡
-        outputs.old.items ++ front_sent (table.get lanes.now record {
-          0 = from;
-          1 = to;
-        }) record { 0 = from; 1 = to } msg) }
+        outputs.old.items ++ front_sent (lane_at links.now from to) record { 0 = from; 1 = to } msg) }
 {
-    let Some(lane) = lanes.get(from, to) else {
+    let Some(lane) = links.lane(from, to) else {
         return Ok(());
     };
     if lane.queue().is_empty() {
@@ -160,12 +157,17 @@ fn push_again(entry: &((NodeId, NodeId), Lane), outputs: &mut Vec<Output>) -> Re
 }
 
 /// Adds what is sent again on all lanes, in ascending order.
-pub fn push_all_again(lanes: &LaneTable, outputs: &mut Vec<Output>) -> Result<(), AllocError>
-    requires { All HasNumber (table.entries lanes.now) }
+pub fn push_all_again(
+    alloc: Global,
+    links: &LinkTable,
+    outputs: &mut Vec<Output>,
+) -> Result<(), AllocError>
+    requires { All HasNumber (lanes_in_order links.now) }
     ensures { OnOk result (outputs.new.items ≡
-        outputs.old.items ++ all_again (table.entries lanes.now)) }
+        outputs.old.items ++ all_again (lanes_in_order links.now)) }
 {
-    for entry in lanes.entries() {
+    let lanes = links.lanes_in_order(alloc)?;
+    for entry in &lanes {
         push_again(entry, outputs)?;
     }
     Ok(())

@@ -3,6 +3,7 @@
 ghost use Rattle.std.specs.Prelude.{◌≡◌, ◌∷◌, [], ◌<◌, length, IsSome};
 ghost use Rattle.std.specs.Option.{ForSome};
 ghost use Rattle.coord_types.specs.Table as table;
+ghost use Rattle.coord_tables.specs.Links.{lane_at};
 ghost use Rattle.coord_link.specs.LaneMachine.{sent};
 ghost use Rattle.coord_world.specs.protocol.Next.{on_lane};
 ghost use Rattle.coord_world.specs.code.Sends.{CanSend, sent_lanes};
@@ -16,7 +17,7 @@ impl Tables {
     /// Has a node be as it will be, and puts what it sends into its lanes.
     pub fn carry_out(&mut self, node_step: NodeStep)
         requires there { IsSome (table.get self.old.nodes node_step.id) }
-        requires room { CanSend node_step.id node_step.deed.sends.items self.old.lanes }
+        requires room { CanSend node_step.id node_step.deed.sends.items self.old.links }
         ensures { self.new ≡ node_stepped self.old node_step.id node_step.node
             node_step.deed.sends.items }
     {
@@ -27,8 +28,8 @@ impl Tables {
 
     /// Puts messages into the lanes from one node to those that they go to.
     fn send_all(&mut self, from: NodeId, sends: &[(NodeId, Msg)])
-        requires { CanSend from sends.now self.old.lanes }
-        ensures { self.new ≡ record self.old { lanes = sent_lanes from sends.now self.old.lanes } }
+        requires { CanSend from sends.now self.old.links }
+        ensures { self.new ≡ record self.old { links = sent_lanes from sends.now self.old.links } }
     {
         for send in sends {
             self.send(from, send.0, send.1);
@@ -37,15 +38,15 @@ impl Tables {
 
     /// Puts a message into the lane from one node to another.
     fn send(&mut self, from: NodeId, to: NodeId, msg: Msg)
-        requires { ForSome (table.get self.old.lanes record { 0 = from; 1 = to }) (λ l.
+        requires { ForSome (lane_at self.old.links from to) (λ l.
             length l.queue < 4) }
         ensures { self.new ≡ on_lane self.old from to (sent (msg ∷ [])) }
     {
-        let Some(lane) = self.lanes.get(from, to) else {
+        let Some(lane) = self.links.lane(from, to) else {
             return;
         };
         let mut lane = *lane;
         lane.send(msg);
-        self.lanes.replace(from, to, lane);
+        self.links.set_lane(from, to, lane);
     }
 }

@@ -1,5 +1,6 @@
 -- Letter by letter.
 use Rattle.std.proofs.Common.{sym, refl, ap, ◌∙◌, arith}
+use Rattle.coord_world.proofs.Facade.{lane-mirrored}
 use Rattle.coord_check.specs.Faults.{first}
 use Rattle.coord_check.proofs.FirstFault.{there, none_left, broken_here, broken_back, unbroken_letter}
 use Rattle.coord_check.proofs.search.first_of_link.Goals as goal
@@ -23,3 +24,7 @@ pub returns : goal.returns
 returns c =
     sym (none_left c.args.world.now c.args.a c.args.b c.loop-letter.letter-index (omega arith) (omega arith))
     ∙ c.loop-letter.invariant ∙ sym (ap first (there c.args.world.now c.args.a c.args.b c.in_ok-near.ensures.linked))
+
+-- A link stands both ways, so the other end is there too.
+pub returns-in_err-far : goal.returns-in_err-far
+returns-in_err-far c = grind (arith, lane-mirrored c.args.world.now.links c.args.a c.args.b)

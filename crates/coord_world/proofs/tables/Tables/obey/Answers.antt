@@ -2,7 +2,7 @@
 use Rattle.std.proofs.Common.{subst}
 use Rattle.coord_types.specs.declared.steps.Step.TheVariants.{Order}
 use Rattle.coord_world.specs.code.Ready.{IsReadyFor}
-use Rattle.coord_world.proofs.transitions.CanApply.{are_numbered, can_reset, can_drop_first, can_drop_second, confirm_there, drop_linked, join_room, join_there}
+use Rattle.coord_world.proofs.transitions.CanApply.{are_numbered, can_reset, can_drop_first, can_drop_second, confirm_there, drop_linked, join_apart, join_free, join_room, join_there}
 use Rattle.coord_world.proofs.tables.Tables.obey.Goals as goal
 
 pub join-requires-clause-one : goal.join-requires-clause-one
@@ -18,6 +18,16 @@ join-requires-clause-other c =
 pub join-requires-clause-room : goal.join-requires-clause-room
 join-requires-clause-room c =
     join_room c.args.self.now c.args.client c.args.number c.in-Join.a c.in-Join.b
+    (subst (λ x. IsReadyFor c.args.self.now (Order c.args.client c.args.number x)) c.in-Join.is c.requires)
+
+pub join-requires-clause-apart : goal.join-requires-clause-apart
+join-requires-clause-apart c =
+    join_apart c.args.self.now c.args.client c.args.number c.in-Join.a c.in-Join.b
+    (subst (λ x. IsReadyFor c.args.self.now (Order c.args.client c.args.number x)) c.in-Join.is c.requires)
+
+pub join-requires-clause-free : goal.join-requires-clause-free
+join-requires-clause-free c =
+    join_free c.args.self.now c.args.client c.args.number c.in-Join.a c.in-Join.b
     (subst (λ x. IsReadyFor c.args.self.now (Order c.args.client c.args.number x)) c.in-Join.is c.requires)
 
 pub drop_link-requires-clause-first : goal.drop_link-requires-clause-first

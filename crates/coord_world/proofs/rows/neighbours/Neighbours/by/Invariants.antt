@@ -3,7 +3,7 @@ use Rattle.std.proofs.Common.{◌≡◌, ℕ, List, drop, length}
 use Rattle.coord_types.specs.NodeSet.{NodeSet, empty}
 use Rattle.coord_types.specs.StepRanges.{IsNode}
 use Rattle.coord_world.specs.code.Assembly.{near_in, near_with}
-use Rattle.coord_world.specs.declared.rows.parts.LinkRow.{LinkRow}
+use Rattle.coord_tables.specs.declared.links.LinkRow.{LinkRow}
 use Rattle.coord_world.proofs.rows.neighbours.Neighbours.by.Given as goal
 
 pub record AreMet (sets : List NodeSet) (rest links : List LinkRow) : Type 0 where

@@ -1,0 +1,303 @@
+-- Links in ascending order with a table of their places: what is found there, and that they stay so through each change.
+use Rattle.std.proofs.Common.{◌≡◌, ◌≢◌, ℕ, zero, suc, ◌+◌, ◌<◌, ◌≤◌, ◌-◌, Bool, true, false, ◌&&◌, not, List, [], ◌∷◌, ◌++◌, Option, Some, None, map, length, cond, eqb, refl, sym, ap, ◌∙◌, subst, arith, is_some, IsSome, nat_lt, set, get_or, slice_get, slice_index, take, drop, replicate}
+use Rattle.std.proofs.lemmas.Bool.Decides.{nat_tests}
+use Rattle.std.proofs.lemmas.List.{drop-map, length-map, length-set, map-append, map-set, take-map}
+use Rattle.std.proofs.lemmas.Option.{get_or_from_slice_get, slice_get-get_or, slice_get-map, slice_get_within}
+use Rattle.std.specs.FinMap.Entries.{below_all, find, is_sorted, put, where_key}
+use Rattle.std.specs.List as list
+use Rattle.std.specs.List.{AllByRecursion}
+use Rattle.std.specs.Option.{option_map}
+use Rattle.std.specs.Cmp.{eq_by_cmp_equiv, tied_itself}
+use Rattle.std.specs.Ordering.{eq_by_cmp, is_eq, is_lt}
+use Rattle.coord_types.specs.StepRanges.{IsNode}
+use Rattle.coord_types.specs.Table.{from_sorted, get, has, insert, remove}
+use Rattle.coord_types.proofs.Tables as tables
+use Rattle.coord_types.proofs.Tables.{get-change, get-from_sorted, get-insert}
+use Rattle.coord_link.specs.LaneMachine.{Lane}
+use Rattle.coord_tables.specs.Links.{AreIndexed, Lanes, Links, LinksRise, Turned, ends, joined, lane_at, link_entry, links_of, parted, toward, with_lane}
+use Rattle.coord_tables.specs.Pairs.{pair_cmp, pair_cmp_total}
+use Rattle.coord_tables.specs.Place.{IsGapFor}
+use Rattle.coord_tables.specs.Places.{HasKeyAt, IsIndexOf, IsIndexed, noted_place, pair_place}
+use Rattle.coord_tables.specs.declared.links.LinkRow.{LinkRow}
+use Rattle.coord_tables.proofs.Cases.{both, by_test}
+use Rattle.coord_tables.proofs.Found.{same_pair}
+use Rattle.coord_tables.proofs.IndexedEntries.{at_noted, is_put, nothing_noted, still_indexed}
+use Rattle.coord_tables.proofs.KeyedLists.{not_tied}
+use Rattle.coord_tables.proofs.LinkLanes.{same_links, turned_of}
+use Rattle.coord_tables.proofs.PutAtPlace.{put_between}
+use Rattle.coord_tables.proofs.SortedEntries.{below_each, found}
+use Rattle.coord_tables.proofs.TableEntries.{from_sorted-out, from_sorted-put, sorted-out, sorted-put}
+
+-- ---- what is found
+
+-- a row's lanes
+abbrev pub lanes_in : LinkRow → Lanes
+lanes_in r = record { forth = r.forth; back = r.back }
+
+module _ (rows : List LinkRow) (places : List ℕ) (are : AreIndexed rows places) where
+  abbrev es : List ((ℕ × ℕ) × Lanes)
+  es = map link_entry rows
+
+  pub indexed : IsIndexed es places
+  indexed = record { sorted = are.rise.rise; index = are.index }
+
+  -- the row at a place that is noted has the ends that it is noted for
+  pub row_there : (a b i : ℕ) → IsNode a → IsNode b → noted_place (slice_index places (pair_place a b)) ≡ Some i → (r : LinkRow) × ((slice_get rows i ≡ Some r) × ((r.a ≡ a) × (r.b ≡ b)))
+  row_there a b i is_a is_b noted = let at = at_noted es places indexed a b is_a is_b i noted in of_row (slice_get rows i) refl at.0 (sym (slice_get-map link_entry rows i) ∙ at.1)
+    where
+      of_row : (o : Option LinkRow) → slice_get rows i ≡ o → (x : Lanes) → option_map link_entry (slice_get rows i) ≡ Some ((a, b), x) → (r : LinkRow) × ((slice_get rows i ≡ Some r) × ((r.a ≡ a) × (r.b ≡ b)))
+      of_row None is x here = absurd (let none = ap (option_map link_entry) (sym is) ∙ here in cc)
+      of_row (Some r) is x here = let same : link_entry r ≡ ((a, b), x) = let some = ap (option_map link_entry) (sym is) ∙ here in cc in (r, (is, (ap (λ e. e.0.0) same, ap (λ e. e.0.1) same)))
+
+  -- a row is found at its ends
+  pub row_found : (i : ℕ) (r : LinkRow) → slice_get rows i ≡ Some r → get (links_of rows) (r.a, r.b) ≡ Some (lanes_in r)
+  row_found i r here = get-from_sorted pair_cmp_total es (r.a, r.b) are.rise.rise ∙ found pair_cmp pair_cmp_total es i (link_entry r) are.rise.rise (slice_get-map link_entry rows i ∙ ap (option_map link_entry) here)
+
+  -- what stands at the ends of x and y
+  module _ (x y a b : ℕ) (is_a : IsNode a) (is_b : IsNode b) (are_ends : ◌≡◌ {A = ℕ × ℕ} (a, b) (ends x y)) where
+    pub lane_absent : noted_place (slice_index places (pair_place a b)) ≡ None → lane_at (links_of rows) x y ≡ None
+    unfolding lane_at
+    lane_absent none = ap (λ q. option_map (toward x y) (get (links_of rows) q)) (sym are_ends) ∙ ap (option_map (toward x y)) (nothing_noted es places indexed a b is_a is_b none)
+
+    module _ (i : ℕ) (e : LinkRow) (noted : noted_place (slice_index places (pair_place a b)) ≡ Some i) (is : e ≡ get_or rows i e) where
+      pub row_is : slice_get rows i ≡ Some e
+      row_is = let there = row_there a b i is_a is_b noted in there.1.0 ∙ ap Some (sym (is ∙ get_or_from_slice_get rows i there.0 e there.1.0))
+
+      pub row_ends : ◌≡◌ {A = ℕ × ℕ} (e.a, e.b) (ends x y)
+      row_ends =
+          let there = row_there a b i is_a is_b noted in
+          let same : e ≡ there.0 = is ∙ get_or_from_slice_get rows i there.0 e there.1.0 in
+          let first : e.a ≡ a = ap (λ r. r.a) same ∙ there.1.1.0 in
+          let second : e.b ≡ b = ap (λ r. r.b) same ∙ there.1.1.1 in
+          (λ j. (first j, second j)) ∙ are_ends
+
+      pub link_there : get (links_of rows) (ends x y) ≡ Some (lanes_in e)
+      link_there = ap (get (links_of rows)) (sym row_ends) ∙ row_found i e row_is
+
+      pub lane_there : lane_at (links_of rows) x y ≡ Some (toward x y (lanes_in e))
+      unfolding lane_at
+      lane_there = ap (option_map (toward x y)) link_there
+
+  pub within : (a b i : ℕ) → IsNode a → IsNode b → noted_place (slice_index places (pair_place a b)) ≡ Some i → i < length rows
+  within a b i is_a is_b noted = slice_get_within rows i _ (row_there a b i is_a is_b noted).1.0
+
+-- ---- a lane in place of another
+
+-- of a link's two lanes the one from x to y put there
+abbrev pub put_in : ℕ → ℕ → Lane → LinkRow → LinkRow
+put_in x y m r = cond (nat_lt x y) (record r { forth = m }) (record r { back = m })
+
+module _ (t : Links) (turned : Turned t) (x y : ℕ) (m : Lane) where
+  abbrev changed : ℕ × ℕ → Lanes → Lanes
+  changed k l = record { forth = cond (eqb k.0 x && eqb k.1 y) m l.forth; back = cond (eqb k.1 x && eqb k.0 y) m l.back }
+
+  pub put_is_change : (r : LinkRow) → get t (ends x y) ≡ Some (lanes_in r) → insert t (ends x y) (lanes_in (put_in x y m r)) ≡ with_lane t x y m
+  put_is_change r there = same_links _ _ (λ k. get-insert t (ends x y) (lanes_in (put_in x y m r)) k
+      ∙ by_test (eq_by_cmp pair_cmp k (ends x y)) (λ c. cond c (Some (lanes_in (put_in x y m r))) (get t k) ≡ tables.option_map (changed k) (get t k))
+      (λ tied. sym (ap (λ q. tables.option_map (changed q) (get t q)) (same_pair k (ends x y) tied) ∙ ap (tables.option_map (changed (ends x y))) there ∙ ap Some here))
+      (λ apart. untouched k (get t k) refl apart)
+      ∙ sym (get-change pair_cmp changed same_pair t k))
+    where
+      here : changed (ends x y) (lanes_in r) ≡ lanes_in (put_in x y m r)
+      here = by_test (nat_lt x y) (λ c. nat_lt x y ≡ c → get t (cond c (x, y) (y, x)) ≡ Some (lanes_in r) → changed (cond c (x, y) (y, x)) (lanes_in r) ≡ lanes_in (cond c (record r { forth = m }) (record r { back = m })))
+          (λ _ up _. let one : (eqb x x && eqb y y) ≡ true = grind (arith, nat_tests) in let two : (eqb y x && eqb x y) ≡ false = grind (arith, nat_tests, up) in
+          λ i. record { forth = cond (one i) m r.forth; back = cond (two i) m r.back })
+          (λ _ down is. let less : y < x = turned y x (ap is_some is) in
+          let one : (eqb y x && eqb x y) ≡ false = grind (arith, nat_tests, less) in let two : (eqb x x && eqb y y) ≡ true = grind (arith, nat_tests) in
+          λ i. record { forth = cond (one i) m r.forth; back = cond (two i) m r.back }) refl there
+
+      untouched : (k : ℕ × ℕ) (o : Option Lanes) → get t k ≡ o → eq_by_cmp pair_cmp k (ends x y) ≡ false → o ≡ tables.option_map (changed k) o
+      untouched k None is apart = refl
+      untouched k (Some l) is apart =
+          let less : k.0 < k.1 = turned k.0 k.1 (ap is_some is) in
+          let one : (eqb k.0 x && eqb k.1 y) ≡ false = by_test (eqb k.0 x && eqb k.1 y) (λ c. c ≡ false)
+          (λ same. let up : nat_lt x y ≡ true = grind (arith, nat_tests, same, less) in
+          absurd (let other : eq_by_cmp pair_cmp k (x, y) ≡ false = ap (λ c. eq_by_cmp pair_cmp k (cond {A = ℕ × ℕ} c (x, y) (y, x))) (sym up) ∙ apart in grind (arith, nat_tests, same, other))) (λ _. refl) in
+          let two : (eqb k.1 x && eqb k.0 y) ≡ false = by_test (eqb k.1 x && eqb k.0 y) (λ c. c ≡ false)
+          (λ same. let down : nat_lt x y ≡ false = grind (arith, nat_tests, same, less) in
+          absurd (let other : eq_by_cmp pair_cmp k (y, x) ≡ false = ap (λ c. eq_by_cmp pair_cmp k (cond {A = ℕ × ℕ} c (x, y) (y, x))) (sym down) ∙ apart in grind (arith, nat_tests, same, other))) (λ _. refl) in
+          λ i. Some (record { forth = cond (sym one i) m l.forth; back = cond (sym two i) m l.back })
+
+-- what holds of each row holds of each where one that has it is put
+all_set : (P : LinkRow → Type 0) (rows : List LinkRow) (i : ℕ) (r : LinkRow) → P r → AllByRecursion P rows → AllByRecursion P (set rows i r)
+all_set P [] i r one all = tt
+all_set P (x ∷ rows) zero r one all = (one, all.1)
+all_set P (x ∷ rows) (suc i) r one all = (all.0, all_set P rows i r one all.1)
+
+all_at : (P : LinkRow → Type 0) (rows : List LinkRow) (i : ℕ) (r : LinkRow) → slice_get rows i ≡ Some r → AllByRecursion P rows → P r
+all_at P [] i r here all = cc
+all_at P (x ∷ rows) zero r here all = let same : x ≡ r = cc in subst P same all.0
+all_at P (x ∷ rows) (suc i) r here all = all_at P rows i r here all.1
+
+-- the ends stay
+put_keeps : (x y : ℕ) (m : Lane) (e : LinkRow) → ((put_in x y m e).a ≡ e.a) × ((put_in x y m e).b ≡ e.b)
+put_keeps x y m e = either (nat_lt x y)
+  where
+    either : (c : Bool) → ((cond c (record e { forth = m }) (record e { back = m })).a ≡ e.a) × ((cond c (record e { forth = m }) (record e { back = m })).b ≡ e.b)
+    either true = (refl, refl)
+    either false = (refl, refl)
+
+module _ (rows : List LinkRow) (places : List ℕ) (are : AreIndexed rows places) where
+  module _ (i : ℕ) (e r : LinkRow) (here : slice_get rows i ≡ Some e) (first : r.a ≡ e.a) (second : r.b ≡ e.b) where
+    at_ends : HasKeyAt (map link_entry rows) i (e.a, e.b)
+    at_ends = (lanes_in e, slice_get-map link_entry rows i ∙ ap (option_map link_entry) here)
+
+    mapped : map link_entry (set rows i r) ≡ set (map link_entry rows) i ((e.a, e.b), lanes_in r)
+    mapped = map-set link_entry rows i r ∙ (λ j. set (map link_entry rows) i ((first j, second j), lanes_in r))
+
+    row_put : AreIndexed (set rows i r) places
+    row_put =
+        let still = still_indexed (map link_entry rows) places (indexed rows places are) (e.a, e.b) i (lanes_in r) at_ends in
+        let less = all_at (λ z. z.a < z.b) rows i e here are.rise.turned in
+        record {
+          rise = record { turned = all_set (λ z. z.a < z.b) rows i r (omega (arith, less, first, second)) are.rise.turned; rise = ap (is_sorted pair_cmp) mapped ∙ still.sorted };
+          few = omega (arith, are.few, length-set rows i r);
+          index = subst (λ es. IsIndexOf places es) (sym mapped) still.index;
+        }
+
+    links_put : links_of (set rows i r) ≡ insert (links_of rows) (e.a, e.b) (lanes_in r)
+    links_put = ap from_sorted mapped ∙ is_put (map link_entry rows) places (indexed rows places are) (e.a, e.b) i (lanes_in r) at_ends
+
+  -- the lane from x to y is put in place of the one that is there
+  module _ (x y a b : ℕ) (is_a : IsNode a) (is_b : IsNode b) (are_ends : ◌≡◌ {A = ℕ × ℕ} (a, b) (ends x y)) (i : ℕ) (e r : LinkRow) (m : Lane)
+      (noted : noted_place (slice_index places (pair_place a b)) ≡ Some i) (is : e ≡ get_or rows i e) (made : r ≡ put_in x y m e) where
+    here : slice_get rows i ≡ Some e
+    here = row_is rows places are x y a b is_a is_b are_ends i e noted is
+
+    first : r.a ≡ e.a
+    first = ap (λ z. z.a) made ∙ (put_keeps x y m e).0
+
+    second : r.b ≡ e.b
+    second = ap (λ z. z.b) made ∙ (put_keeps x y m e).1
+
+    pub lane_put-indexed : AreIndexed (set rows i r) places
+    lane_put-indexed = row_put i e r here first second
+
+    pub lane_put : links_of (set rows i r) ≡ with_lane (links_of rows) x y m
+    lane_put = links_put i e r here first second
+        ∙ (λ j. insert (links_of rows) (row_ends rows places are x y a b is_a is_b are_ends i e noted is j) (lanes_in (made j)))
+        ∙ put_is_change (links_of rows) (turned_of rows are.rise) x y m e (link_there rows places are x y a b is_a is_b are_ends i e noted is)
+
+-- ---- a link more
+
+-- no link where no lane is
+pub no_link : (t : Links) (x y : ℕ) → lane_at t x y ≡ None → get t (ends x y) ≡ None
+unfolding lane_at
+no_link t x y none = of_option (get t (ends x y)) none
+  where
+    of_option : (o : Option Lanes) → option_map (toward x y) o ≡ None → o ≡ None
+    of_option None is = refl
+    of_option (Some l) is = cc
+
+pub none_found : (rows : List LinkRow) (t : Links) (x y a b : ℕ) → LinksRise rows → links_of rows ≡ t → ◌≡◌ {A = ℕ × ℕ} (a, b) (ends x y) → lane_at t x y ≡ None → find pair_cmp (a, b) (map link_entry rows) ≡ None
+none_found rows t x y a b rise is are_ends none =
+    sym (get-from_sorted pair_cmp_total (map link_entry rows) (a, b) rise.rise) ∙ (λ i. get (is i) (are_ends i)) ∙ no_link t x y none
+
+-- places that grew
+pub still_noted : (rows : List LinkRow) (places more : List ℕ) → AreIndexed rows places → length more ≡ 4096 → ((k : ℕ) → slice_index more k ≡ slice_index places k) → AreIndexed rows more
+still_noted rows places more are long kept = record {
+  rise = are.rise;
+  few = are.few;
+  index = record {
+    most = omega (arith, long);
+    long = λ k some. long;
+    there = λ u v i p q is. are.index.there u v i p q (sym (kept (pair_place u v)) ∙ is);
+    absent = λ u v p q is. are.index.absent u v p q (sym (kept (pair_place u v)) ∙ is);
+  };
+}
+
+all_insert : (P : LinkRow → Type 0) (rows : List LinkRow) (i : ℕ) (r : LinkRow) → P r → AllByRecursion P rows → AllByRecursion P (list.insert rows i r)
+all_insert P rows zero r one all = (one, all)
+all_insert P [] (suc i) r one all = (one, tt)
+all_insert P (x ∷ rows) (suc i) r one all = (all.0, all_insert P rows i r one all.1)
+
+module _ (rows : List LinkRow) (rise : LinksRise rows) (r : LinkRow) (less : r.a < r.b) (i : ℕ) (gap : IsGapFor pair_cmp (map link_entry rows) (r.a, r.b) i) where
+  entries_made : map link_entry (list.insert rows i r) ≡ put pair_cmp (r.a, r.b) (lanes_in r) (map link_entry rows)
+  entries_made = map-append link_entry (take i rows) (r ∷ drop i rows)
+      ∙ (λ j. sym (take-map link_entry i rows) j ++ link_entry r ∷ sym (drop-map link_entry i rows) j) ∙ put_between pair_cmp (r.a, r.b) (lanes_in r) (map link_entry rows) i gap
+
+  pub rise_made : LinksRise (list.insert rows i r)
+  rise_made = record {
+    turned = all_insert (λ z. z.a < z.b) rows i r less rise.turned;
+    rise = ap (is_sorted pair_cmp) entries_made ∙ sorted-put pair_cmp_total (map link_entry rows) (r.a, r.b) (lanes_in r) rise.rise;
+  }
+
+  pub links_made : links_of (list.insert rows i r) ≡ insert (links_of rows) (r.a, r.b) (lanes_in r)
+  links_made = ap from_sorted entries_made ∙ from_sorted-put pair_cmp_total (map link_entry rows) (r.a, r.b) (lanes_in r) rise.rise
+
+-- ---- a link less
+
+all_remove : (P : LinkRow → Type 0) (rows : List LinkRow) (i : ℕ) → AllByRecursion P rows → AllByRecursion P (list.remove rows i)
+all_remove P [] zero all = tt
+all_remove P [] (suc i) all = tt
+all_remove P (x ∷ rows) zero all = all.1
+all_remove P (x ∷ rows) (suc i) all = (all.0, all_remove P rows i all.1)
+
+abbrev other_than : ℕ × ℕ → ℕ × ℕ → Bool
+other_than k q = not (eq_by_cmp pair_cmp k q)
+
+-- what is below all isn't among them
+all_others : (k : ℕ × ℕ) (es : List ((ℕ × ℕ) × Lanes)) → below_all pair_cmp k es ≡ true → es ≡ where_key pair_cmp (other_than k) es
+all_others k [] below = refl
+all_others k (e ∷ es) below =
+    let parts = both (is_lt (pair_cmp k e.0)) (below_all pair_cmp k es) below in
+    let apart : other_than k e.0 ≡ true = ap not (not_tied (pair_cmp k e.0) parts.0) in
+    ap (λ l. e ∷ l) (all_others k es parts.1) ∙ ap (λ c. cond c (e ∷ where_key pair_cmp (other_than k) es) (where_key pair_cmp (other_than k) es)) (sym apart)
+
+taken_out : (es : List ((ℕ × ℕ) × Lanes)) (i : ℕ) (e : (ℕ × ℕ) × Lanes) → is_sorted pair_cmp es ≡ true → slice_get es i ≡ Some e → list.remove es i ≡ where_key pair_cmp (other_than e.0) es
+taken_out [] i e sorted here = cc
+taken_out (x ∷ es) zero e sorted here =
+    let parts = both (below_all pair_cmp x.0 es) (is_sorted pair_cmp es) sorted in
+    let same : x ≡ e = cc in
+    let out : other_than e.0 x.0 ≡ false = ap (λ (z : (ℕ × ℕ) × Lanes). not (eq_by_cmp pair_cmp e.0 z.0)) same ∙ ap (λ o. not (is_eq o)) (tied_itself pair_cmp_total e.0) in
+    all_others x.0 es parts.0 ∙ ap (λ (z : (ℕ × ℕ) × Lanes). where_key pair_cmp (other_than z.0) es) same
+    ∙ ap (λ c. cond c (x ∷ where_key pair_cmp (other_than e.0) es) (where_key pair_cmp (other_than e.0) es)) (sym out)
+taken_out (x ∷ es) (suc i) e sorted here =
+    let parts = both (below_all pair_cmp x.0 es) (is_sorted pair_cmp es) sorted in
+    let apart : other_than e.0 x.0 ≡ true = ap not ((eq_by_cmp_equiv pair_cmp_total).symm e.0 x.0 ∙ not_tied _ (below_each pair_cmp pair_cmp_total x.0 es i e parts.0 here)) in
+    ap (λ l. x ∷ l) (taken_out es i e parts.1 here) ∙ ap (λ c. cond c (x ∷ where_key pair_cmp (other_than e.0) es) (where_key pair_cmp (other_than e.0) es)) (sym apart)
+
+module _ (rows : List LinkRow) (rise : LinksRise rows) (i : ℕ) (r : LinkRow) (here : slice_get rows i ≡ Some r) where
+  entries_left : map link_entry (list.remove rows i) ≡ where_key pair_cmp (other_than (r.a, r.b)) (map link_entry rows)
+  entries_left = map-append link_entry (take i rows) (drop (suc i) rows) ∙ (λ j. sym (take-map link_entry i rows) j ++ sym (drop-map link_entry (suc i) rows) j)
+      ∙ taken_out (map link_entry rows) i (link_entry r) rise.rise (slice_get-map link_entry rows i ∙ ap (option_map link_entry) here)
+
+  pub rise_left : LinksRise (list.remove rows i)
+  rise_left = record {
+    turned = all_remove (λ z. z.a < z.b) rows i rise.turned;
+    rise = ap (is_sorted pair_cmp) entries_left ∙ sorted-out pair_cmp_total (map link_entry rows) (r.a, r.b) rise.rise;
+  }
+
+  pub links_left : links_of (list.remove rows i) ≡ remove (links_of rows) (r.a, r.b)
+  links_left = ap from_sorted entries_left ∙ from_sorted-out pair_cmp_total (map link_entry rows) (r.a, r.b) rise.rise
+
+-- ---- places
+
+zeros : (m k : ℕ) → slice_index (replicate m 0) k ≡ 0
+zeros zero k = refl
+zeros (suc m) zero = refl
+zeros (suc m) (suc k) = zeros m k
+
+nothing : (n : ℕ) → ◌≡◌ {A = List ℕ} (take n []) []
+nothing zero = refl
+nothing (suc n) = refl
+
+-- a table of places that grew has the same places
+pub kept_index : (old : List ℕ) (n k : ℕ) → length old ≤ n → slice_index (take n old ++ replicate (n - length old) 0) k ≡ slice_index old k
+kept_index [] n k few = ap (λ l. slice_index (l ++ replicate (n - 0) 0) k) (nothing n) ∙ zeros (n - 0) k
+kept_index (x ∷ old) zero k few = absurd (omega (arith, few))
+kept_index (x ∷ old) (suc n) zero few = refl
+kept_index (x ∷ old) (suc n) (suc k) few =
+    let less : suc n - length (x ∷ old) ≡ n - length old = omega (arith, few) in
+    ap (λ m. slice_index (take n old ++ replicate m 0) k) less ∙ kept_index old n k (omega (arith, few))
+
+-- ---- the place of a new link
+
+-- what isn't found ties with none
+pub none_tied : (k : ℕ × ℕ) (es : List ((ℕ × ℕ) × Lanes)) (i : ℕ) (e : (ℕ × ℕ) × Lanes) → find pair_cmp k es ≡ None → slice_get es i ≡ Some e → eq_by_cmp pair_cmp k e.0 ≡ false
+none_tied k [] i e none here = cc
+none_tied k (x ∷ es) zero e none here =
+    let same : x ≡ e = cc in
+    ap (λ (z : (ℕ × ℕ) × Lanes). eq_by_cmp pair_cmp k z.0) (sym same) ∙ by_test (eq_by_cmp pair_cmp k x.0) (λ t. cond t (Some x.1) (find pair_cmp k es) ≡ None → t ≡ false) (λ _ some. cc) (λ _ _. refl) none
+none_tied k (x ∷ es) (suc i) e none here =
+    none_tied k es i e (by_test (eq_by_cmp pair_cmp k x.0) (λ t. cond t (Some x.1) (find pair_cmp k es) ≡ None → find pair_cmp k es ≡ None) (λ _ some. cc) (λ _ later. later) none) here

@@ -1,0 +1,94 @@
+-- Links in one table, each under its two ends, the lesser first, with the lanes both ways.
+use Rattle.std.specs.Prelude.{◌≡◌, ℕ, ◌<◌, ◌^◌, ◌==◌, ◌&&◌, nat_lt, Bool, true, List, [], ◌∷◌, map, length, Option, is_some, if◌then◌else◌}
+use Rattle.std.proofs.Common.{refl}
+use Rattle.std.specs.Coded.{Coded, code_by, coded×, coded_ℕ}
+use Rattle.std.specs.FinMap.Entries.{is_sorted}
+use Rattle.std.specs.List.{AllByRecursion}
+use Rattle.std.specs.Option.{option_map}
+use Rattle.coord_types.specs.Table.{Table, change, code, empty, entries, from_sorted, get, has, insert, remove}
+use Rattle.coord_link.specs.LaneMachine.{Lane, lane_code}
+use Rattle.coord_tables.specs.declared.links.LinkRow.{LinkRow}
+use Rattle.coord_tables.specs.Pairs.{pair_cmp, pair_cmp_total}
+use Rattle.coord_tables.specs.Places.{IsIndexOf}
+
+-- the lane from the lesser end to the greater one, and the one back
+pub record Lanes : Type 0 where
+  pub forth : Lane
+  pub back : Lane
+
+abbrev pub Links : Type 0
+Links = Table pair_cmp_total Lanes
+
+-- two nodes, the lesser first
+abbrev pub ends : ℕ → ℕ → ℕ × ℕ
+ends x y = if nat_lt x y then (x, y) else (y, x)
+
+-- of the two lanes of a link the one from x to y
+abbrev pub toward : ℕ → ℕ → Lanes → Lane
+toward x y l = if nat_lt x y then l.forth else l.back
+
+-- the lane from x to y
+unfoldable pub lane_at : Links → ℕ → ℕ → Option Lane
+lane_at t x y = option_map (toward x y) (get t (ends x y))
+
+-- each link stands with its lesser end first
+abbrev pub Turned : Links → Type 0
+Turned t = (a b : ℕ) → has t (a, b) ≡ true → a < b
+
+-- each lane changed, with the nodes at hand that it comes from and goes to
+abbrev pub change_lanes : (ℕ × ℕ → Lane → Lane) → Links → Links
+change_lanes f t = change (λ k l. record { forth = f k l.forth; back = f (k.1, k.0) l.back }) t
+
+-- this lane in place of the one from x to y
+abbrev pub with_lane : Links → ℕ → ℕ → Lane → Links
+with_lane t x y m = change_lanes (λ k l. if (k.0 == x) && (k.1 == y) then m else l) t
+
+-- two nodes linked, with the same lane each way
+abbrev pub joined : Links → ℕ → ℕ → Lane → Links
+joined t x y l = insert t (ends x y) (record { forth = l; back = l })
+
+-- two nodes no more linked
+abbrev pub parted : Links → ℕ → ℕ → Links
+parted t x y = remove t (ends x y)
+
+-- these lanes, and the two of each link
+abbrev pub with_lanes : Table pair_cmp_total Lane → List ((ℕ × ℕ) × Lanes) → Table pair_cmp_total Lane
+with_lanes lanes [] = lanes
+with_lanes lanes (e ∷ es) = with_lanes (insert (insert lanes e.0 e.1.forth) (e.0.1, e.0.0) e.1.back) es
+
+-- all lanes in ascending order of the nodes that they come from, and then of those that they go to
+abbrev pub lanes_in_order : Links → List ((ℕ × ℕ) × Lane)
+lanes_in_order t = entries (with_lanes empty (entries t))
+
+-- a link as a row, and back
+abbrev pub link_row : (ℕ × ℕ) × Lanes → LinkRow
+link_row e = record { a = e.0.0; b = e.0.1; forth = e.1.forth; back = e.1.back }
+
+abbrev pub link_entry : LinkRow → (ℕ × ℕ) × Lanes
+link_entry r = ((r.a, r.b), record { forth = r.forth; back = r.back })
+
+-- the rows of links, in ascending order
+abbrev pub link_rows : Links → List LinkRow
+link_rows t = map link_row (entries t)
+
+-- the links of rows that rise
+abbrev pub links_of : List LinkRow → Links
+links_of rows = from_sorted (map link_entry rows)
+
+-- rows in ascending order, each with its lesser end first
+pub record LinksRise (rows : List LinkRow) : Type 0 where
+  pub turned : AllByRecursion (λ r. r.a < r.b) rows
+  pub rise : is_sorted pair_cmp (map link_entry rows) ≡ true
+
+-- a link's lanes are stored as a pair
+abbrev pub lanes_code : Coded Lanes
+lanes_code = code_by (Lane × Lane) (coded× lane_code lane_code) (λ l. (l.forth, l.back)) (λ p. record { forth = p.0; back = p.1 }) (λ _. refl)
+
+abbrev pub links_code : Coded Links
+links_code = code (coded× coded_ℕ coded_ℕ) lanes_code
+
+-- such rows, with a table of the places where they stand
+pub record AreIndexed (rows : List LinkRow) (places : List ℕ) : Type 0 where
+  pub rise : LinksRise rows
+  pub few : length rows < 2 ^ 8
+  pub index : IsIndexOf places (map link_entry rows)
