@@ -12,7 +12,7 @@ use crate::life_limit::next_in_life;
 use crate::session::{Ended, serve};
 use std::alloc::Global;
 use std::io;
-use std::io::ErrorKind;
+use std::sync::Wait;
 
 /// Why those who call are served no more.
 #[derive(Clone, Copy, Debug, PartialEq, Eq)]
@@ -27,9 +27,10 @@ pub enum Stop {
 /// keeps `most` steps then. A connection that is open at twice as many is cut, once its lines that
 /// have ended have their replies.
 ///
-/// What befalls a connection ends that one alone. An error is that no one comes any more, and then
-/// the desk was not closed.
-pub fn serve_connections<C: Callers, D: Desk>(
+/// What befalls a connection ends that one alone. An error is that those who call have failed: no one
+/// comes any more, and the desk was not closed.
+pub fn serve_connections<C: Callers, D: Desk, R: Wait>(
+    rt: &R,
     alloc: Global,
     most: usize,
     callers: &mut C,
@@ -39,10 +40,12 @@ pub fn serve_connections<C: Callers, D: Desk>(
         callers.new desk.new }
     ensures old { result ≡ Ok StopAs.Old → ServedOpen D.answers C.met callers.old desk.old
         callers.new desk.new × HasKept D.keeps desk.new most }
-    ensures failed { OnErr result
+    ensures failed { OnErr result ((last : C) × ServedOpen D.answers C.met callers.old desk.old last
+        desk.new × C.failed last callers.new) }
+    ensures open { OnErr result
         (ServedOpen D.answers C.met callers.old desk.old callers.new desk.new) }
 {
-    for _ in 0..u64::MAX {
+    for _ in rt.forever() {
         let mut line = match next_in_life(most, callers, desk)? {
             Some(line) => line,
             None => return Ok(Stop::Old),
@@ -53,7 +56,7 @@ pub fn serve_connections<C: Callers, D: Desk>(
             return Ok(Stop::Closed);
         }
     }
-    Err(ErrorKind::TimedOut.into())
+    unreachable!()
 }
 
 /// Ends a connection that ended so for `serve`.

@@ -5,10 +5,17 @@ use Rattle.coord_store.specs.declared.faults.CommitFault.{CommitFault}
 use Rattle.coord_store.specs.declared.faults.CommitFault.TheVariants.{OutOfMemory}
 use Rattle.coord_ledger.specs.declared.release.Release.{Release}
 use Rattle.coord_engine.specs.Flights.{AnswersFlush, RefusesFlush}
-use Rattle.coord_engine.specs.Pacing.{is_over}
+use Rattle.coord_engine.specs.Pacing.{is_idle, is_over}
 use Rattle.coord_engine.specs.Port.{AreAsked, deliveries_of}
 use Rattle.coord_engine.specs.State.{Basis}
 use Rattle.coord_engine.specs.Threads.{AtSomeMoment}
+use Rattle.coord_engine.specs.declared.flushing.TheConstants.{CALLERS_PART, PATIENCE, REST}
+
+-- how many milliseconds a flight waits for packets, which part of the last flight's time for callers, and how many milliseconds a flusher rests that found no memory (docs/DECISIONS.md)
+pub record TimesAreUsual : Type 0 where
+  pub packets : PATIENCE ≡ 5
+  pub callers : CALLERS_PART ≡ 16
+  pub rest : REST ≡ 1
 
 -- the meaning of an engine, and of the port that it hands to
 module _ {D P : Type 0} (b : Basis D) (failures : D → ℕ) (carried : P → ℕ → Packet → Bool → P → Type 0) (signalled : P → ℕ → ℕ → Bool → P → Type 0) where
@@ -19,10 +26,12 @@ module _ {D P : Type 0} (b : Basis D) (failures : D → ℕ) (carried : P → �
   Follows port (Err OutOfMemory) later = later ≡ port
   Follows port (Err fault) later = ⊥
 
-  -- so many flushes, each followed so
+  -- so many flushes, each behind a moment at which something could be flushed, and followed so
   abbrev pub Flushed : ℕ → P → P → Type 0
   Flushed zero port later = later ≡ port
-  Flushed (suc n) port later = (next : P) × Flushed n port next × ((answer : Result (Option (List Release)) CommitFault) × AnswersFlush b failures answer × Follows next answer later)
+  Flushed (suc n) port later =
+      (next : P) × Flushed n port next
+      × (AtSomeMoment b (λ g. is_idle g ≡ false) × ((answer : Result (Option (List Release)) CommitFault) × AnswersFlush b failures answer × Follows next answer later))
 
   -- some flushes, and then nothing will be flushed any more, or one more has failed for good
   abbrev pub HasFlushed : P → P → Type 0

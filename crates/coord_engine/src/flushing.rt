@@ -2,7 +2,7 @@
 
 ghost use Rattle.std.specs.Prelude.{◌≡◌, Bool, false, true, length};
 ghost use Rattle.coord_engine.specs.Flushing.{HasFlushed};
-ghost use Rattle.coord_engine.specs.Pacing.{is_over};
+ghost use Rattle.coord_engine.specs.Pacing.{is_idle, is_over};
 ghost use Rattle.coord_engine.specs.Port.{IsAsked, AreAsked, deliveries_of};
 ghost use Rattle.coord_engine.specs.State.{based_on};
 ghost use Rattle.coord_engine.specs.Threads.{AtSomeMoment};
@@ -66,13 +66,17 @@ impl<D: Disk, L: Origin> Engine<D, L> {
     /// the last flight's time allows, and a little for packets that are in hand. False once no
     /// flight will start any more.
     fn waits_for_flight<R: Wait + Clock>(&self, rt: &R, for_callers: Duration) -> bool
-        ensures { result ≡ false →
+        ensures starts { result ≡ true →
+            AtSomeMoment (based_on D.keeps_model D.present L.base L.before) (λ g.
+            is_idle g ≡ false) }
+        ensures ends { result ≡ false →
             AtSomeMoment (based_on D.keeps_model D.present L.base L.before) (λ g.
             is_over g ≡ true) }
     {
         let guarded = self
             .work
             .wait_while(rt, self.guarded.lock(rt), |guarded| guarded.is_idle());
+        guarded.keeps();
         let (mut guarded, waited) = self
             .work
             .wait_timeout_while(rt, guarded, for_callers, |guarded| {

@@ -234,7 +234,7 @@ fn serve_clients<D: Disk, L: Origin, C: Callers, P: Port, R: Wait>(
     if desk.resend().is_err() {
         return LifeEnd::Ended(Some(ServerFault::OutOfMemory));
     }
-    match serve_connections(setting.alloc, setting.life_steps, callers, desk) {
+    match serve_connections(setting.rt, setting.alloc, setting.life_steps, callers, desk) {
         Ok(Stop::Closed) => LifeEnd::Ended(None),
         Ok(Stop::Old) => LifeEnd::Resting,
         Err(_) => LifeEnd::Ended(Some(ServerFault::Socket)),
