@@ -1,5 +1,6 @@
 -- What a desk over an engine may answer. Other threads call the engine too, so each answer is one that it can give in some state that it can have.
-use Rattle.std.specs.Prelude.{◌≡◌, ◌⊎◌, ℕ, List, max, length, Result, Ok, Err}
+use Rattle.std.specs.Prelude.{◌≡◌, ◌⊎◌, ℕ, Bool, List, max, length, Result, Ok, Err}
+use Rattle.coord_types.specs.declared.packets.Packet.{Packet}
 use Rattle.coord_types.specs.declared.refusals.Refusal.{Refusal}
 use Rattle.coord_types.specs.declared.refusals.Refusal.TheVariants.{OutOfMemory}
 use Rattle.coord_types.specs.declared.steps.Reply.{Reply}
@@ -9,7 +10,7 @@ use Rattle.coord_ledger.specs.declared.release.Release.{Release}
 use Rattle.coord_ledger.specs.declared.ticket.Note.{Note}
 use Rattle.coord_ledger.specs.ledger.State.{Claim}
 use Rattle.coord_view.specs.Shown as shown
-use Rattle.coord_engine.specs.Facade.{Basis, CollectsAs}
+use Rattle.coord_engine.specs.Facade.{AreAsked, Basis, CollectsAs, deliveries_of}
 use Rattle.coord_engine.specs.Threads.{AnswersShow, AtSomeMoment, SendsAgain, Submits}
 use Rattle.coord_engine.specs.declared.collected.Collected.TheVariants.{Settled, Refused}
 use Rattle.coord_admin.specs.Replies.{order_answer, resend_answer, show_answer}
@@ -49,6 +50,11 @@ Replies {D} b (Err why) (Err refusal) = refusal ≡ why
 abbrev pub Resends : {D : Type 0} → Basis D → Result ℕ Refusal → Type 0
 Resends {D} b (Ok count) = (released : List Release) × AtSomeMoment b (SendsAgain {D = D} released) × (count ≡ length released)
 Resends {D} b (Err refusal) = refusal ≡ OutOfMemory
+
+-- What may have been lost was asked of a port again, each packet once and in order, and so many they are. `carried`, `signalled`: what the port may be once it was asked so.
+abbrev pub HandsAgain : {D P : Type 0} → Basis D → (P → ℕ → Packet → Bool → P → Type 0) → (P → ℕ → ℕ → Bool → P → Type 0) → ℕ → P → P → Type 0
+HandsAgain {D} b carried signalled count port later =
+    (released : List Release) × AtSomeMoment b (SendsAgain {D = D} released) × (count ≡ length released) × AreAsked carried signalled port (deliveries_of released) later
 
 abbrev pub DeskAnswers : {D : Type 0} → Basis D → DeskState → Request → Answer → DeskState → Type 0
 DeskAnswers {D} b d (request.Order client number command) answer e =

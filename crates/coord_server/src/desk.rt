@@ -1,9 +1,9 @@
 //! A desk over an engine.
 
-ghost use Rattle.std.specs.Prelude.{◌≡◌};
+ghost use Rattle.std.specs.Prelude.{◌≡◌, IfOk};
 ghost use Rattle.coord_types.specs.declared.refusals.Refusal.TheVariants.{OutOfMemory};
 ghost use Rattle.coord_engine.specs.State.{based_on};
-ghost use Rattle.coord_server.specs.EngineDesk.{Replies, Resends};
+ghost use Rattle.coord_server.specs.EngineDesk.{HandsAgain, Replies, Resends};
 
 use coord_admin::Desk;
 use coord_disk::Disk;
@@ -87,7 +87,10 @@ fn resend<D: Disk, L: Origin, P: Port, R: Wait>(
     engine: &Engine<D, L>,
     port: &mut P,
 ) -> Result<u64, Refusal>
-    ensures { Resends (based_on D.keeps_model D.present L.base L.before) result }
+    ensures counted { Resends (based_on D.keeps_model D.present L.base L.before) result }
+    ensures handed { IfOk result (λ count. HandsAgain
+        (based_on D.keeps_model D.present L.base L.before) P.carried P.signalled count port.old
+        port.new) }
 {
     match engine.resend(rt) {
         Ok(releases) => Ok(hand_over(rt, engine, port, releases)),
@@ -97,7 +100,9 @@ fn resend<D: Disk, L: Origin, P: Port, R: Wait>(
 
 impl<'a, D: Disk, L: Origin, P: Port, R: Wait> Desk for EngineDesk<'a, D, L, P, R> {
     ghost use Rattle.coord_engine.specs.State.{based_on};
-    ghost use Rattle.coord_server.specs.EngineDesk.{DeskAnswers, DeskKeeps, DeskPosts, DeskReplies};
+    ghost use Rattle.coord_admin.specs.Replies.{resend_answer};
+    ghost use Rattle.coord_admin.specs.declared.request.Request.TheVariants as request;
+    ghost use Rattle.coord_server.specs.EngineDesk.{DeskAnswers, DeskKeeps, DeskPosts, DeskReplies, HandsAgain};
     ghost use Rattle.coord_server.specs.Halves.{desk_answered, desk_apart};
 
     /// A ticket for the reply, or why the order was refused.
@@ -130,7 +135,13 @@ impl<'a, D: Disk, L: Origin, P: Port, R: Wait> Desk for EngineDesk<'a, D, L, P, 
         self.engine.show(self.rt, &mut self.seen)
     }
 
-    fn resend(&mut self) -> Result<u64, Refusal> {
+    fn resend(&mut self) -> Result<u64, Refusal>
+        ensures answered { DeskAnswers (based_on D.keeps_model D.present L.base L.before) self.old
+            request.Resend (resend_answer result) self.new }
+        ensures handed { IfOk result (λ count. (port : P) × (later : P) × HandsAgain
+            (based_on D.keeps_model D.present L.base L.before) P.carried P.signalled count port
+            later) }
+    {
         resend(self.rt, self.engine, &mut self.port)
     }
 

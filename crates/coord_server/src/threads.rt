@@ -1,8 +1,9 @@
 //! The threads of one life of a server, while connections are served.
 
-ghost use Rattle.std.specs.Prelude.{◌≡◌, ◌+◌, ◌≤◌, [], ◌∷◌, ℕ, IfErr, IfOk, IfSome, Some, length, vec_capacity, vec_len};
+ghost use Rattle.std.specs.Prelude.{◌≡◌, ◌⊎◌, ◌+◌, ◌≤◌, [], ◌∷◌, ℕ, IfErr, IfOk, IfSome, Some, length, vec_capacity, vec_len};
 ghost use Rattle.std.specs.Thread.{IsSend, IsSync};
 ghost use Rattle.coord_engine.specs.State.{based_on};
+ghost use Rattle.coord_server.specs.EngineDesk.{HandsAgain};
 ghost use Rattle.coord_server.specs.Ending.{AddsWorkers, HasRun, IsOfStart, ServesLife, new_desk};
 
 use crate::life_end::LifeEnd;
@@ -225,15 +226,19 @@ fn serve_clients<D: Disk, L: Origin, C: Callers, P: Port, R: Wait>(
     requires start { IfErr opened IsOfStart }
     requires new { desk.old ≡ new_desk }
     ensures told { IfErr opened (λ fault. result ≡ LifeEnd.Ended (Some fault)) }
+    ensures resent { IfOk opened (λ _.
+        (result ≡ LifeEnd.Ended (Some ServerFault.OutOfMemory)) ⊎ ((count : ℕ) × (port : P) ×
+        (later : P) × HandsAgain (based_on D.keeps_model D.present L.base L.before) P.carried
+        P.signalled count port later)) }
     ensures served { ServesLife (based_on D.keeps_model D.present L.base L.before) C.met
         setting.now.life_steps callers.old callers.new desk.new result }
 {
     if let Err(fault) = opened {
         return LifeEnd::Ended(Some(fault));
     }
-    if desk.resend().is_err() {
+    let Ok(_) = desk.resend() else {
         return LifeEnd::Ended(Some(ServerFault::OutOfMemory));
-    }
+    };
     match serve_connections(setting.rt, setting.alloc, setting.life_steps, callers, desk) {
         Ok(Stop::Closed) => LifeEnd::Ended(None),
         Ok(Stop::Old) => LifeEnd::Resting,
