@@ -2,7 +2,7 @@
 .PHONY: help demo drill example services soak lives takeover build prove test program refusals bench sweep nightly install uninstall deb
 
 PREFIX ?= /usr/local
-# So many checks run at a time, each on one processor and with up to 4 GB of memory.
+# So many checks run at a time, each on one processor and with up to 3 GB of memory.
 JOBS ?= $(shell nproc)
 
 help:

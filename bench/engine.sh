@@ -12,22 +12,9 @@ here=$(cd "$(dirname "$0")/.." && pwd)
 scratch=$(mktemp -d ${2:+-p "$2"})
 trap 'rm -rf "$scratch"' EXIT
 
-crate=$scratch/crates/engine_bench
-mkdir -p "$crate/src" "$crate/proofs/parts/time_part"
-cp "$here/HANDLES" "$scratch"
-for name in coord_disk coord_journal coord_types coord_link coord_node coord_tables coord_world coord_check coord_batch coord_codec coord_store coord_view coord_ledger coord_engine; do
-  cp -r "$here/crates/$name" "$scratch/crates/$name"
-  grep "^$name:" "$here/crates.txt" >> "$scratch/crates.txt"
-done
-echo 'engine_bench: coord_disk coord_types coord_store coord_ledger coord_engine crossbeam_channel' >> "$scratch/crates.txt"
-for name in main callers engines meter orders parts timed wave; do
-  cp "$here/bench/engine/$name.rt.txt" "$crate/src/$name.rt"
-done
-cp "$here/bench/engine/Invariants.antt.txt" "$crate/proofs/parts/time_part/Invariants.antt"
-
-(cd "$crate" && "${RT:-rt}" run > "$scratch/build.txt" 2>&1) || { tail -n 40 "$scratch/build.txt"; exit 1; }
+program=$("$here/bench/program" engine "${BUILT:-$scratch}/engine")
 for ((round = 0; round < rounds; round++)); do
-  (cd "$scratch" && "$crate/out/engine_bench")
+  (cd "$scratch" && "$program")
 done | awk '
   $1 == "callers" {
     printf "%-4s %2d callers: %7.0f steps/s, %.3f syncs a step, p50 %8.1f us, p99 %8.1f us; %5d syncs in %7.1f ms, %.2f times as many raw pairs\n",

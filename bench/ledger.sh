@@ -12,20 +12,9 @@ here=$(cd "$(dirname "$0")/.." && pwd)
 scratch=$(mktemp -d)
 trap 'rm -rf "$scratch"' EXIT
 
-crate=$scratch/crates/ledger_bench
-mkdir -p "$crate/src"
-for name in coord_disk coord_journal coord_types coord_link coord_node coord_tables coord_world coord_check coord_batch coord_codec coord_store coord_view coord_ledger; do
-  tar -C "$here/crates" --exclude="$name/out/incremental" -cf - "$name" | tar -C "$scratch/crates" -xf -
-  grep "^$name:" "$here/crates.txt" >> "$scratch/crates.txt"
-done
-echo 'ledger_bench: coord_disk coord_types coord_world coord_store coord_ledger' >> "$scratch/crates.txt"
-for name in main fault steps alone; do
-  cp "$here/bench/ledger/$name.rt.txt" "$crate/src/$name.rt"
-done
-
-(cd "$crate" && "${RT:-rt}" run > "$scratch/build.txt" 2>&1) || { tail -n 40 "$scratch/build.txt"; exit 1; }
+program=$("$here/bench/program" ledger "${BUILT:-$scratch}/ledger")
 for ((round = 0; round < rounds; round++)); do
-  "$crate/out/ledger_bench"
+  "$program"
 done | awk '
   { part = $1 " " $2; ns = $4 / $3; if (!(part in least) || ns < least[part]) least[part] = ns }
   END {

@@ -12,25 +12,12 @@ here=$(cd "$(dirname "$0")/.." && pwd)
 scratch=$(mktemp -d)
 trap 'rm -rf "$scratch"' EXIT
 
-crate=$scratch/crates/measures
-mkdir -p "$crate/src" "$crate/proofs/are_writable"
-libraries='coord_types coord_link coord_node coord_tables coord_world coord_check coord_batch coord_codec'
-for name in $libraries; do
-  cp -r "$here/crates/$name" "$scratch/crates/$name"
-  grep "^$name:" "$here/crates.txt" >> "$scratch/crates.txt"
-done
-echo "measures: $libraries" >> "$scratch/crates.txt"
-for name in main fault samples wave; do
-  cp "$here/bench/measures/$name.rt.txt" "$crate/src/$name.rt"
-done
-cp "$here/bench/measures/Invariants.antt.txt" "$crate/proofs/are_writable/Invariants.antt"
-
-(cd "$crate" && "${RT:-rt}" run > "$scratch/build.txt" 2>&1) || { tail -n 40 "$scratch/build.txt"; exit 1; }
+program=$("$here/bench/program" measures "${BUILT:-$scratch}/measures")
 if [ -n "${YARDSTICK:-}" ]; then
   rustc --edition 2021 -O -C target-cpu=native -o "$scratch/yardstick" "$YARDSTICK/yardstick.rs" 2> "$scratch/yardstick.txt"
 fi
 for ((round = 0; round < rounds; round++)); do
-  "$crate/out/measures" >> "$scratch/ours.txt"
+  "$program" >> "$scratch/ours.txt"
   [ -z "${YARDSTICK:-}" ] || "$scratch/yardstick" >> "$scratch/theirs.txt"
 done
 awk '$2 == 0 { size[$1] = $3; next }

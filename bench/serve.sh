@@ -11,6 +11,7 @@
 # Then orders that are sent together: 1, 4, 16, 64 and 256 before the first answer is read, by 16 clients in turn
 # and by one, over the file and over one whose syncs wait a millisecond first, with the syncs that each takes; by
 # turns with another program, where one is given. It needs a C compiler, $CC or cc.
+# Where SHORTER names a number, the logs are so many times shorter than they are named: for a trial of this script.
 # usage: bench/serve.sh [PROGRAM [FOLDER [OTHER PROGRAM]]]
 set -euo pipefail
 here=$(cd "$(dirname "$0")/.." && pwd)
@@ -25,7 +26,7 @@ trap 'rm -rf "$scratch" "${swift:-}"' EXIT
 swift=$(mktemp -d -p /dev/shm resetd-serve-XXXXXX 2> /dev/null || mktemp -d -p "$scratch")
 
 echo "files in $folder, on $system"
-python3 -B "$here/bench/serve/measure.py" "$program" "$scratch" "$swift"
+python3 -B "$here/bench/serve/measure.py" "$program" "$scratch" "$swift" "${SHORTER:-1}"
 
 "${CC:-cc}" -O2 -shared -fPIC -x c -o "$scratch/syncs.so" "$here/bench/serve/syncs.c.txt"
 python3 -B "$here/bench/serve/together.py" "$scratch" "$scratch/syncs.so" "program=$program" $other

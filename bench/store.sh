@@ -13,23 +13,9 @@ here=$(cd "$(dirname "$0")/.." && pwd)
 scratch=$(mktemp -d)
 trap 'rm -rf "$scratch"' EXIT
 
-crate=$scratch/crates/store_bench
-mkdir -p "$crate/src" "$crate/proofs/steps/are_numbered" "$crate/proofs/full/are_writable"
-for name in coord_disk coord_journal coord_types coord_link coord_node coord_tables coord_world coord_check coord_batch coord_codec coord_store; do
-  cp -r "$here/crates/$name" "$scratch/crates/$name"
-  grep "^$name:" "$here/crates.txt" >> "$scratch/crates.txt"
-done
-echo 'store_bench: coord_disk coord_types coord_world coord_batch coord_codec coord_store' >> "$scratch/crates.txt"
-for name in main fault steps full migration held; do
-  cp "$here/bench/store/$name.rt.txt" "$crate/src/$name.rt"
-done
-cp "$here/bench/measures/wave.rt.txt" "$crate/src/wave.rt"
-cp "$here/bench/store/Invariants.antt.txt" "$crate/proofs/steps/are_numbered/Invariants.antt"
-cp "$here/bench/store/Writable.antt.txt" "$crate/proofs/full/are_writable/Invariants.antt"
-
-(cd "$crate" && "${RT:-rt}" run > "$scratch/build.txt" 2>&1) || { tail -n 40 "$scratch/build.txt"; exit 1; }
+program=$("$here/bench/program" store "${BUILT:-$scratch}/store")
 for ((round = 0; round < rounds; round++)); do
-  (cd "$scratch" && "$crate/out/store_bench")
+  (cd "$scratch" && "$program")
 done | awk '
   { part = $1 " " $2; steps[part] = $3; if (!(part in least) || $4 < least[part]) least[part] = $4 }
   END {
@@ -47,7 +33,7 @@ done | awk '
   }'
 
 "${CC:-cc}" -O2 -shared -fPIC -x c -o "$scratch/heap.so" "$here/bench/store/heap.c.txt"
-(cd "$scratch" && LD_PRELOAD=$scratch/heap.so "$crate/out/store_bench") | awk '
+(cd "$scratch" && LD_PRELOAD=$scratch/heap.so "$program") | awk '
   $1 == "heap" { used[part] = $2; most[part] = $3; next }
   { part = $1; bytes[part] = $2 }
   END {

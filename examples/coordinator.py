@@ -1,4 +1,4 @@
-"""The client library, which stands in the folder client/ beside this one, in a clone as where it was installed."""
+"""The client library, from the folder client/ beside this one, both in a clone and after an installation."""
 
 import json
 import os
@@ -11,7 +11,7 @@ from resetd_client import (  # noqa: E402, F401
 
 
 def ask(address, request, seconds=10):
-    """One request and its answer, whatever it says. Raises Away where none came."""
+    """One request and its answer, whatever it says. Raises Away if none came."""
     try:
         return json.loads(Port(address, seconds).raw(request))
     except ValueError as fault:

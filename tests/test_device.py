@@ -1,8 +1,8 @@
 """What the device has at each moment: an answer and a signal go out only once their step is there for good.
 
-The calls of the program are written down as it serves. From them this makes what a power cut may leave at a moment: all
-that was synced, and of what was written since any first part. Each such file has to be a legal store with every step that
-was answered, or whose signal was printed, before that moment.
+The test notes the calls of the program as it serves. From them it makes what a power cut may leave at each moment: all
+that was synced, and any first part of what was written since. Each such file has to be a legal store with every step
+that was answered, or whose signal was printed, before that moment.
 """
 
 import random

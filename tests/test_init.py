@@ -52,6 +52,10 @@ class Init(Case):
         self.assertEqual(self.init(topology([(1, 1)]))[0], 0)
         self.assertEqual(self.read("store")[9:17], stores.wide(65_536))
 
+    def test_the_longest_text(self):
+        """A comment fills it up, to one byte less than is refused."""
+        self.assertEqual(self.init(PAIR.ljust(65_535, "#") + "\n"), Ended(0, "created 3\n", ""))
+
     def test_an_empty_topology(self):
         self.assertEqual(self.init(""), Ended(0, "created 0\n", ""))
         self.assertEqual(ran("show", self.path("store")), Ended(0, "view 0 0\n", ""))

@@ -1,4 +1,4 @@
-"""A server for which the system has few descriptors, or few threads."""
+"""A server to which the system gives few descriptors, or few threads."""
 
 import os
 import resource

@@ -1,7 +1,8 @@
-"""A listener that fails: what may pass is waited for, and what does not pass ends the server."""
+"""A listener that fails: what may pass is waited for, and what does not pass ends the server. One to which nobody comes."""
 
 import errno
 import os
+import time
 
 from support import preloaded
 from support.case import Case
@@ -48,11 +49,32 @@ class Listener(Case):
                     self.assertEqual(ended.printed, f"listening {server.address}\n{signals}")
 
     def test_what_lasts(self):
-        """It fails sixty times in turn, and the server does not spin meanwhile."""
+        """It fails 60 times in turn, and as often again before the next client: more than it may in turn. The server does
+        not spin meanwhile."""
         for name in ("ENFILE", "EPROTO"):
             with self.subTest(error=name), self.serving(name, 60) as server:
-                self.assertEqual(server.ask({"op": "resend"}), {"count": 0, "kind": "resent"})
+                for _ in range(2):
+                    self.assertEqual(server.ask({"op": "resend"}), {"count": 0, "kind": "resent"})
                 self.assertLess(processor_seconds(server.process.pid), 5)
+
+
+class Idle(Case):
+    takes = 3
+
+    def test_a_server_that_nobody_asks(self):
+        """It waits, and takes no processor for that: before the first client, and behind an order of one that stays."""
+        with Serving(self.made(topology([(1, 1)]))) as server:
+            self.expect_rest(server)
+            with server.connect() as connection:
+                connection.send({"op": "reset", "client": 1, "number": 1, "node": 1})
+                self.assertEqual(connection.reply()["step"], 2)
+                self.expect_rest(server)
+            self.assertEqual(server.close().status, 0)
+
+    def expect_rest(self, server):
+        before = processor_seconds(server.process.pid)
+        time.sleep(1)
+        self.assertLess(processor_seconds(server.process.pid) - before, 0.05)
 
 
 def processor_seconds(process):

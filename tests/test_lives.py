@@ -38,6 +38,21 @@ class Lives(Served):
             self.expect_each_signal_once(server)
             self.expect_closed(server, 8 * epoch)
 
+    def test_a_hundred_and_fifty_lives(self):
+        """One for each connection, and no more threads than in the first one."""
+        with Serving(self.made(topology([(1, 1)])), program=SHORT) as server:
+            lives, threads, count = set(), set(), 150 * SHORT_STEPS
+            for first in range(1, count, SHORT_STEPS):
+                numbers = range(first, first + SHORT_STEPS)
+                with server.connect() as connection:
+                    connection.send(*({"op": "reset", "client": 1, "number": number, "node": 1} for number in numbers))
+                    self.assertEqual([connection.reply()["step"] for _ in numbers], [1 + number for number in numbers])
+                    lives.add(self.flusher(server))
+                    threads.add(len(os.listdir(f"/proc/{server.process.pid}/task")))
+            self.assertEqual((len(lives), len(threads)), (150, 1))
+            self.assertEqual(server.await_signals(count), [(1, epoch) for epoch in range(1, count + 1)])
+            self.expect_closed(server, count)
+
     def test_orders_are_answered_the_same_in_a_later_life(self):
         with Serving(self.made(topology([(1, 1), (2, 1)])), program=SHORT) as server:
             kept = [server.order(1, "reset", client, node=1) for client in range(2, 9)]

@@ -1,4 +1,4 @@
-"""Commands of which each allocation in turn is refused: they end as with ample memory, or tell it and leave all as it was."""
+"""Each allocation of a command is refused in turn: it ends as with ample memory, or says so and leaves all as it was."""
 
 import os
 import re

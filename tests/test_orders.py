@@ -1,6 +1,7 @@
 """Orders and other lines: each kind's reply, its repeat and its refusals, and what a start finds in a store."""
 
 from support import stores
+from support.case import until
 from support.program import ran
 from support.served import DONE, FINISHED, STARTED, Served, answered, refused
 from support.serving import Serving
@@ -116,6 +117,48 @@ class Stores(Served):
                 self.expect_each_signal_once(server)
                 self.expect_closed(server, 2)
                 self.assertEqual(stores.version_of(server.store), version)
+
+    def test_all_that_may_be_lost_is_sent_again(self):
+        """A front on each of 256 lanes. Those to the nodes with a number by 8, which one worker has, are to be taken; those
+        from them were taken, and the receipt may be lost."""
+        others = [node for node in range(1, 65) if node % 8]
+        pairs = sorted(tuple(sorted((8 * hub, others[(7 * hub + near) % 56]))) for hub in range(1, 9) for near in range(16))
+        sent, taken = (0, 0, [stores.IS_READY]), (0, 1, [stores.IS_READY])
+        for version in (1, 2):
+            rows = [stores.node(at, epoch=3, version=version) for at in range(1, 65)]
+            links = [stores.link(a, b, 65 + place, *((sent, taken) if b % 8 == 0 else (taken, sent)))
+                     for place, (a, b) in enumerate(pairs)]
+            content = stores.store(stores.world(1_000, rows, links), version)
+            with self.subTest(version=version), Serving(self.write(f"store{version}", content)) as server:
+                # each is taken, where it was not, and its receipt clears it; nobody asks for it again meanwhile
+                until("each packet", lambda: server.show()["accepted"] == 1_000 + 128 + 256)
+                self.assertEqual(server.ask({"op": "resend"}), {"count": 0, "kind": "resent"})
+                self.expect_closed(server, 0)
+
+    def test_a_store_that_has_served_for_long(self):
+        """Great numbers of steps, epochs, packets and orders: a wave goes on from them."""
+        first, second, number, count = 2**39, 2**39 + 7, 2**36, 2**40 - 1_000
+        rows = [stores.node(1, epoch=first, confirmed=first - 1, version=2), stores.node(64, epoch=second, version=2)]
+        links = [stores.link(1, 64, 2**37, (2**38, 2**38, []), (2**35, 2**35, []))]
+        # the last order of client 3, a reset of node 1, which finished
+        session = b"\1\3" + stores.wide(number) + b"\4\1" + stores.wide(number + 9) + b"\2"
+        content = stores.store(stores.world(count, rows, links)[:-1] + session, version=2)
+        with Serving(self.write("store", content)) as server:
+            self.assertEqual(server.order(number, "reset", 3, node=1), answered(FINISHED, number + 9))
+            self.assertEqual(server.order(number + 1, "reset", 3, node=1), answered(STARTED, count + 1))
+            self.assertEqual(sorted(server.await_signals(2)), [(1, first + 1), (64, second + 1)])
+            server.await_quiet()
+            accepted = server.show()["accepted"]
+            self.assertEqual(server.order(number + 2, "confirm", 3, node=64, epoch=second + 1), answered(DONE, accepted + 1))
+            self.assertEqual([row[4:6] for row in server.show()["nodes"]], [[first + 1, first - 1], [second + 1] * 2])
+            self.expect_closed(server, 2)
+
+    def test_a_store_takes_so_many_steps(self):
+        with Serving(self.write("store", stores.store(stores.world(2**40 - 1, [stores.node(1)])))) as server:
+            for _ in range(2):
+                self.assertEqual(server.order(1, "reset", node=1), answered(FINISHED, 2**40))
+                self.assertEqual(server.order(2, "reset", node=1), refused(3, "Exhausted"))
+            self.expect_closed(server, 1)
 
     def test_a_store_of_version_1_stays_so(self):
         path = self.write("store", stores.store())

@@ -11,10 +11,10 @@ PAIR = topology([(1, 1), (2, 1)], [(1, 2)])
 LOST = (3, "resetd: Write\n")
 
 
-def by_shell(redirected, *words):
+def by_shell(redirected, *words, seconds=PATIENCE):
     """Runs the program by a shell's redirections: its status, and its fault."""
     done = subprocess.run(["sh", "-c", f'exec "$0" "$@" {redirected}', PROGRAM, *words], stdin=subprocess.DEVNULL,
-                          capture_output=True, timeout=PATIENCE)
+                          capture_output=True, timeout=seconds)
     return done.returncode, done.stderr.decode()
 
 
@@ -43,6 +43,16 @@ class Unprinted(Case):
     def test_a_violation_that_is_not_printed(self):
         path = self.write("store", stores.store(stores.world(4, [stores.node(64, stores.ABORT)])))
         self.assertEqual(by_shell(">/dev/full", "check", path), LOST)
+
+    def test_a_store_does_not_take_the_place_of_a_stream(self):
+        """With some of them closed, what is printed goes nowhere, and not into the file of the store."""
+        content, topology_path = stores.store(), self.write("topology", PAIR)
+        for closed in ("<&- >&- 2>&-", ">&- 2>&-", "<&- >&-"):
+            for command, more in (("init", [topology_path]), ("check", []), ("show", []), ("serve", ["127.0.0.1:0"])):
+                with self.subTest(closed=closed, command=command):
+                    path = self.write("store", content)
+                    self.assertEqual(by_shell(closed, command, path, *more, seconds=30)[0], 1 if command == "init" else 3)
+                    self.assertEqual(self.read("store"), content)
 
     def test_a_fault_line_that_can_not_be_written(self):
         """The status tells it."""

@@ -1,4 +1,4 @@
-"""For how long a client is waited for: each time of docs/OPERATING.md, against a client that provokes it."""
+"""For how long the server waits for a client: each time of docs/OPERATING.md, against a client that provokes it."""
 
 import contextlib
 import os
@@ -7,23 +7,23 @@ import threading
 import time
 
 from support import preloaded
-from support.case import Case
+from support.case import Case, until
 from support.serving import Serving
 from support.stores import ring, topology
 
-LINE, REPLY, SILENCE, CONNECTION = 10, 10, 15, 600
+LINE, REPLY, SILENCE, CONNECTION, DISCARD = 10, 10, 15, 600, 1
 LATE = 10  # seconds by which a busy machine may be late
 SHOW = {"op": "show"}
 
 
 def await_end(connection):
-    """Waits until the server has ended a connection."""
+    """Waits until the server has ended a connection: what it said meanwhile."""
     connection.socket.settimeout(SILENCE + LATE + 2)
-    try:
-        while connection.socket.recv(65_536):
-            pass
-    except ConnectionResetError:
-        pass
+    said = b""
+    with contextlib.suppress(ConnectionResetError):
+        while more := connection.socket.recv(65_536):
+            said += more
+    return said
 
 
 def ends_of(connection):
@@ -44,6 +44,7 @@ def untaken(client, server):
 
 class Patience(Case):
     takes = 25
+    told = 0
 
     def serving(self, nodes=1, **how):
         return Serving(self.made(ring(nodes) if nodes > 2 else topology([(1, 1)])), **how)
@@ -110,12 +111,40 @@ class Patience(Case):
         return begun
 
     def test_the_rest_of_a_line(self):
-        """A first part, and then nothing."""
+        """A first part, and then nothing. It is not answered as the last line of a client that sends no more is."""
         with self.serving() as server, server.connect() as connection:
             begun = time.monotonic()
             connection.send(b'{"op":"sh')
-            await_end(connection)
+            self.assertEqual(await_end(connection), b"")
             self.expect_within(LINE, begun, server)
+
+    def test_the_times_that_the_system_is_told(self):
+        """For each read and each write: of a line that has begun what is left of its time, and not of a silence."""
+        self.needs("a C compiler", preloaded.has_compiler())
+        log = self.path("calls")
+        with self.serving(env=preloaded.environment(self.folder, CALLS=log, WAITS=1)) as server, server.connect() as connection:
+            self.expect_times(log, [SILENCE])
+            for part, times in ((b'{"op":', [LINE]), (b'"resend"', [LINE]), (b'}\n', [-REPLY, SILENCE]),
+                                (b'{"op":"resend"}\n', [-REPLY, SILENCE]), (b'{"op":"close"', [LINE]),
+                                (b"}\n", [-REPLY, DISCARD])):
+                connection.send(part)
+                self.expect_times(log, times)
+            connection.socket.close()
+            self.assertEqual(server.ended().status, 0)
+
+    def expect_times(self, log, wanted):
+        """These are told next, in seconds, a write's as a negative number. Of each some may be over, but less than half."""
+        def told():
+            with open(log, encoding="ascii") as calls:
+                rows = [line.split(" ") for line in calls.readlines()[self.told:]]
+            times = [(name, int(millis) / 1_000) for name, _, millis, _ in rows if name.endswith("-within")]
+            return (times, len(rows)) if len(times) >= len(wanted) else None
+        times, rows = until(f"times to wait {wanted}", told)
+        self.told += rows
+        self.assertEqual(len(times), len(wanted), times)
+        for (name, seconds), most in zip(times, wanted):
+            self.assertEqual(name, "read-within" if most > 0 else "write-within", times)
+            self.assertTrue(abs(most) / 2 < seconds <= abs(most), times)
 
     def test_lines_that_are_slow_but_in_time(self):
         """Each takes some seconds, and all more than any one time."""
@@ -168,10 +197,10 @@ class Patience(Case):
 
     def test_a_connection_that_lasts(self):
         """By a clock that is put forward. It is looked at before a line is waited for, so one more line may be answered.
-        The second client has as long as the first one."""
+        The second client has as long as the first one, and so has one that comes after years."""
         self.needs("a C compiler", preloaded.has_compiler())
         with self.serving(env=preloaded.environment(self.folder, CLOCK=self.clock(0))) as server:
-            for begun in (0, 10_000):
+            for begun in (0, 10_000, 300_000_000):
                 self.clock(begun)
                 with server.connect() as connection:
                     self.expect_served(connection, lines=2)

@@ -1,4 +1,4 @@
-"""A device whose syncs take long: what is accepted and not yet settled is seen by nobody but in a count."""
+"""A device whose syncs take long: what is accepted and not yet settled shows in a count alone."""
 
 import time
 

@@ -10,7 +10,7 @@ from support.program import Ended
 from support.serving import Serving
 from support.stores import topology
 
-SIGNALS = 500  # more than a page of lines
+SIGNALS = 2_000  # far more than a page of lines
 
 
 class Piped(Serving):
@@ -55,8 +55,9 @@ class SlowOutput(Case):
     def reset(self, server, numbers):
         """Orders over one connection, each of which is answered though nothing is printed."""
         with server.connect() as connection:
-            for first in range(numbers.start, numbers.stop, 50):
-                each = range(first, min(first + 50, numbers.stop))
+            connection.socket.settimeout(60)
+            for first in range(numbers.start, numbers.stop, 250):
+                each = range(first, min(first + 250, numbers.stop))
                 connection.send(*({"op": "reset", "client": 1, "number": number, "node": 1} for number in each))
                 for number in each:
                     self.assertEqual(connection.reply(), {"kind": "finished", "step": number + 1})

@@ -89,7 +89,7 @@ class Refused(Case):
         self.assertEqual(os.listdir(self.folder), [])
 
     def test_what_is_no_file(self):
-        """It is told before it is opened, which of a pipe would wait for somebody at its other end."""
+        """The program says so before it opens it: to open a pipe would wait for somebody at its other end."""
         pipe, ring = self.path("pipe"), self.write("ring.toml", stores.ring(3))
         os.mkfifo(pipe)
         os.symlink(pipe, self.path("name"))

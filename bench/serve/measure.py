@@ -1,4 +1,5 @@
-"""Measures a coordinator: the words are its program, a folder of a real file system and a swift one."""
+"""Measures a coordinator: the words are its program, a folder of a real file system, a swift one, and by how much the
+logs are shorter than they are named (1)."""
 
 import os
 import sys
@@ -11,11 +12,11 @@ from served.server import Server  # noqa: E402
 
 
 def main():
-    program, scratch, swift = sys.argv[1:]
+    program, scratch, swift, shorter = sys.argv[1:]
     servers = [Server(program, f"{scratch}/lone"), Server(program, f"{swift}/ring")]
     try:
         latency.measure(servers[0])
-        opening.measure(servers[1], scratch)
+        opening.measure(servers[1], scratch, int(shorter))
     except Lost as lost:
         sys.exit(f"LOST: {lost}")
     finally:

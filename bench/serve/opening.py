@@ -15,17 +15,18 @@ ONE_RESET = MIB // 16  # more than the log grows by in one
 RESEND, NOTHING = b'{"op":"resend"}\n', [b'{"count":0,"kind":"resent"}\n']
 PATIENCE = 60  # seconds within which a reset has to end
 ROUNDS = 5
+SIZES = {1: MIB, 4: 4 * MIB, 16: HALF - ONE_RESET}  # of a log, by the MiB that it is named by
 
 
-def measure(growing, scratch):
-    """Grows one store, and copies it at each size into the folder."""
+def measure(growing, scratch, shorter):
+    """Grows one store, and copies it at each size into the folder; each size is divided by `shorter`."""
     growing.found(topology(HALF, 2))
     resets = Resets("started")
-    for size in (MIB, 4 * MIB, HALF - ONE_RESET):
-        grow(growing, resets, size)
-        store = Server(growing.program, f"{scratch}/{size}")
+    for name, size in SIZES.items():
+        grow(growing, resets, size // shorter)
+        store = Server(growing.program, f"{scratch}/{name}")
         shutil.copyfile(growing.store, store.store)
-        tell(store)
+        tell(store, name)
 
 
 def grow(server, resets, size):
@@ -51,12 +52,12 @@ def wait_for(count, come):
     raise Lost(f"a reset has not come to its end within {PATIENCE} seconds")
 
 
-def tell(server):
+def tell(server, name):
     """The least times of several rounds."""
     rounds = [(start(server), check(server), read(server.store)) for _ in range(ROUNDS)]
     started, checked, plain = (min(spent) * 1e3 for spent in zip(*rounds))
     steps = server.command("check")[1][0].split()[1]
-    print(f"log of {os.path.getsize(server.store) / MIB:5.2f} MiB, {steps:>7} steps: listens after {started:5.0f} ms; "
+    print(f"log of {name:2} MiB, {os.path.getsize(server.store):8} bytes, {steps:>7} steps: listens after {started:5.0f} ms; "
           f"check {checked:5.0f} ms; a plain read {plain:4.1f} ms", flush=True)
 
 

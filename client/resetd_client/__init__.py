@@ -5,8 +5,8 @@
     orders.order("reset", node=3)                       # Reply(kind='started', step=17)
     port.show().node(3)                                 # Node(node=3, group=1, mode='ready', parent=0, ..)
 
-A service is a `Member`, or sits behind a `Gateway`; docs/SERVICES.md says what a signal tells it. `Away` says that
-the same call is to be made again (`patiently` does), every other exception that a person is needed.
+A service is a `Member`, or sits behind a `Gateway`; docs/SERVICES.md says what a signal tells it. After
+`Away` make the same call again (`patiently` does); every other exception needs a person.
 """
 
 from .answers import (Away, Fault, Faulted, Garbled, NotNow, NotTaken, Refusal, Refused, Reply)
@@ -19,7 +19,7 @@ from .signals import Clock, Follower, Stream, Wake, Wakes
 from .starts import Due, Shelf, Starts
 from .view import Link, Node, View
 
-__version__ = "0.12.0"  # that of the first heading of CHANGELOG.md
+__version__ = "0.13.0"  # that of the first heading of CHANGELOG.md
 
 __all__ = [
     "Away", "CLIENTS", "Clock", "CountLost", "CountNotFound", "Due", "Fault", "Faulted", "Follower", "Garbled",

@@ -42,7 +42,7 @@ MOST_AT_NODE, MOST_LINKS = 16, 128
 
 
 def explained(fault: NotTaken | NotNow, order: Mapping[str, Any], view: View | None = None) -> str:
-    """A refusal or a fault with what was found in the present view, or else with what to do."""
+    """A refusal or a fault, with what the present view says about it, or else with what to do."""
     text = ""
     if isinstance(fault, Refused) and fault.refusal is not None:
         text = (found(fault.refusal, order, view) if view else "") or WHAT_TO_DO.get(fault.refusal, "")
@@ -55,7 +55,7 @@ def explained(fault: NotTaken | NotNow, order: Mapping[str, Any], view: View | N
 
 
 def found(refusal: Refusal, order: Mapping[str, Any], view: View) -> str:
-    """What the view says of an order that was refused; nothing where the view has changed since, and would take it."""
+    """What the view says of an order that was refused; nothing if the view has changed since, so that it fits now."""
     names = [int(order[name]) for name in ("node", "a", "b") if name in order]
     rows = {row.node: row for row in view.nodes}
     absent = [node for node in names if node not in rows]

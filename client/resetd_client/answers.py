@@ -52,8 +52,8 @@ PASSING_REFUSALS = frozenset({Refusal.STOPPED, Refusal.OUT_OF_MEMORY, Refusal.PE
 
 
 class Away(Exception):
-    """No answer came, or one that says "not now": the same line is to be sent again. An order that was sent may
-    have been carried out or not; sent again with the same number it is carried out once."""
+    """No answer came, or one that says "not now": send the same line again. The order may have been carried out or
+    not; sent again with the same number it is carried out once."""
 
 
 class NotNow(Away):
@@ -65,13 +65,13 @@ class NotNow(Away):
 
 
 class NotTaken(Exception):
-    """The coordinator refused an order, or does not know the line. The same line would be answered so again."""
+    """The coordinator refused an order, or does not know the line. The same line would get the same answer."""
 
     name: str
 
 
 class Refused(NotTaken):
-    """A refusal. `refusal` is None where this library does not know the number."""
+    """A refusal. `refusal` is None if this library does not know the number."""
 
     def __init__(self, number: int, name: str) -> None:
         super().__init__(f"{number} {name}")
@@ -81,8 +81,8 @@ class Refused(NotTaken):
 
 
 class Faulted(NotTaken):
-    """A line that is no request, so that nothing was carried out. `fault` is None where this library does not know
-    the name, and then it cannot say that."""
+    """The line was no request, and nothing was carried out. `fault` is None if this library does not know the name;
+    then something may have been carried out."""
 
     def __init__(self, name: str) -> None:
         super().__init__(name)

@@ -13,7 +13,7 @@ class Held(Exception):
 
 
 def keep(path: str, text: str) -> None:
-    """Puts a text in the place of a file's content, at once, and has it on the disk before it returns."""
+    """Replaces a file's content by a text, as a whole; when it returns, the text is on the disk."""
     with open(path + ".new", "w", encoding="utf-8") as file:
         file.write(text)
         file.flush()
@@ -36,8 +36,8 @@ def read(path: str) -> str | None:
 
 
 def hold(folder: str, seconds: float = 0.0) -> IO[str]:
-    """Makes a folder, and holds it until the result is closed or the process ends. Raises Held where another
-    process has it for longer than this."""
+    """Makes a folder, and holds it until the result is closed or the process ends. Raises Held if another process
+    has it for longer than this."""
     os.makedirs(folder, exist_ok=True)
     lock = open(os.path.join(folder, "lock"), "w", encoding="utf-8")
     until = time.monotonic() + seconds

@@ -20,7 +20,7 @@ class Stopped(Exception):
 
 
 class Following:
-    """Looks, waits for a wake-up, and looks again. `look` is another one's, and so is how long to wait."""
+    """Looks, waits for a wake-up, and looks again. A subclass says how to look, and for how long to wait."""
 
     def __init__(self, orders: Orders, told: Callable[[str], None] = warn) -> None:
         self.orders, self._told = orders, told
@@ -63,14 +63,14 @@ class Following:
         return Wake.END
 
     def _confirm(self, epochs: Mapping[int, int]) -> None:
-        """Confirms epochs of nodes, however long the coordinator is away. That one was confirmed before, or that a
-        node has gone or went back meanwhile, is no fault: the next look sees it. Raises Refused for all else, and
+        """Confirms epochs of nodes, however long the coordinator is away. It is no fault if an epoch was confirmed
+        before, or if a node has gone or went back meanwhile: the next look sees it. Raises Refused for all else, and
         Stopped."""
         self._order([{"op": "confirm", "node": node, "epoch": epoch} for node, epoch in epochs.items()],
                     {Refusal.BAD_EPOCH, Refusal.UNKNOWN_NODE})
 
     def _ask_reset(self, node: int, why: str) -> None:
-        """Asks for a reset, and tells of the first in a row. That the node has gone meanwhile is no fault. Raises as
+        """Asks for a reset, and tells of the first in a row. It is no fault if the node has gone meanwhile. Raises as
         `_confirm` does."""
         if node not in self._asked:
             self._told(f"node {node}: {why}: a reset is asked for")
@@ -78,7 +78,7 @@ class Following:
         self._order([{"op": "reset", "node": node}], {Refusal.UNKNOWN_NODE})
 
     def _order(self, orders: list[Order], passed: set[Refusal]) -> None:
-        """Carries out orders; those refusals of them pass."""
+        """Carries out orders; goes on after these refusals."""
         def ordered() -> list[Outcome]:
             if self._is_stopping:
                 raise Stopped

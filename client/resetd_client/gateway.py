@@ -23,8 +23,8 @@ MOST_TURNS = 100  # of one look
 
 # A member's folder has two files of one line each, each put in place as a whole:
 #   wanted   EPOCH TOKEN   the gateway wants this epoch begun. The token is new each time, since an epoch can come again
-#   begun    EPOCH TOKEN   the member has begun just that, and keeps it with its work; or `lost EPOCH TOKEN`, where
-#                          the work that it began for this is gone
+#   begun    EPOCH TOKEN   the member has begun just that, and keeps it with its work; or `lost EPOCH TOKEN`, if the
+#                          work that it began for this is gone
 # and one for members that talk with each other:
 #   run      EPOCH TAG     the run that the group is in; absent while somebody is not through
 
@@ -50,7 +50,7 @@ class Seat:
 
     @property
     def begun(self) -> int | None:
-        """The epoch that the member has begun, None where that is not what it was told last."""
+        """The epoch that the member has begun, None if that is not what it was told last."""
         return int(self._wanted.split()[0]) if self._wanted and self.has_begun else None
 
     def want(self, epoch: int) -> None:
@@ -91,7 +91,7 @@ class Desk:
         return Due.WAIT if self._is_told(row) else self.starts.due(view, row)
 
     def has_begun(self, row: Node) -> bool:
-        """Whether all members have begun what this process told them, and that is to be confirmed."""
+        """Whether all members have begun what this process told them, so that it is due to be confirmed."""
         return self._is_told(row) and self._begun() == row.epoch
 
     def waiting(self) -> list[Seat]:
@@ -166,7 +166,7 @@ class Gateway(Following):
                 return
 
     def _judge(self, view: View, rows: Mapping[int, Node]) -> list[Judged]:
-        """What is due at each node that is there; what has to be kept of it is on the disk."""
+        """What is due at each node that is there. Puts on the disk what has to be kept of that."""
         judged = [Judged(desk, rows[desk.node], desk.due(view, rows[desk.node])) for desk in self.desks if desk.node in rows]
         for each in judged:
             if each.due is Due.BEGIN:
@@ -187,7 +187,7 @@ class Gateway(Following):
                 each.desk.want(each.row.epoch)
 
     def _order_what_is_due(self, judged: list[Judged]) -> bool:
-        """Confirms what was begun, and asks for a reset, one at a time, since it reaches others too. Whether there was
+        """Confirms what was begun, and asks for one reset, since that may reach the others too. Answers whether there was
         something to order."""
         begun = [each for each in judged if each.desk.has_begun(each.row)]
         self._confirm({each.desk.node: each.row.epoch for each in begun})
@@ -212,7 +212,7 @@ class Served:
         self._folder = folder
 
     def wanted(self) -> int | None:
-        """The epoch that is to be begun, None where the one that was told last has begun, or was lost."""
+        """The epoch to begin; None if the member has begun, or lost, the one that it was told last."""
         wanted = self._read("wanted")
         if not wanted or self._read("begun") in (wanted, f"lost {wanted}"):
             return None
@@ -220,11 +220,11 @@ class Served:
         return int(wanted.split()[0])
 
     def has_begun(self) -> None:
-        """Says that what `wanted` told last was begun, and stands with the work on the disk."""
+        """Says that the member has begun what `wanted` told last, and that this stands with the work on the disk."""
         files.keep(os.path.join(self._folder, "begun"), self._told)
 
     def has_lost(self) -> None:
-        """Says that the work of what was begun is gone: it is told to begin anew, after a reset where others have it."""
+        """Says that the work of what was begun is gone. The gateway then tells the member to begin anew, after a reset."""
         wanted = self._read("wanted")
         if wanted and self._read("begun") == wanted:
             files.keep(os.path.join(self._folder, "begun"), f"lost {wanted}")

@@ -24,7 +24,7 @@ class Level(enum.IntEnum):
 
 @dataclass(frozen=True)
 class Bounds:
-    """For how many seconds something may last before it is told."""
+    """For how many seconds something may last before it is reported."""
 
     steps: float = 5.0
     wave: float = 5.0
@@ -34,7 +34,7 @@ class Bounds:
 
 @dataclass(frozen=True)
 class Health:
-    """What was found. `is_stopped` says that the server answers Stopped: it has to be closed and started again."""
+    """What was found. `is_stopped`: the server answers Stopped, so it has to be closed and started again."""
 
     level: Level
     findings: tuple[str, ...]
@@ -67,7 +67,7 @@ class Since:
 
 
 def check(port: Port, since: Since, bounds: Bounds, patience: float = 0.0, signals: Signals | None = None) -> Health:
-    """Looks, and says what is wrong; where there was no view for so many seconds, what had lasted goes on. Raises
+    """Looks, and says what is wrong. If there is no view for so many seconds, what has lasted so far is kept. Raises
     NotTaken."""
     try:
         view = patiently(port.show, patience)

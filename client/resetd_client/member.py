@@ -24,25 +24,25 @@ MOST_TURNS = 100  # of one look: each begins or confirms an epoch that is new, o
 
 @dataclass(frozen=True)
 class Run:
-    """What a member may exchange messages in. Each message or connection has the tag, and another tag is refused."""
+    """In a run a member may exchange messages. Each message or connection has the tag; refuse another tag."""
 
     epoch: int
     tag: str
 
 
 class OutOfRun(Exception):
-    """No run is on, or the message is of another one: it is not to be taken, and its connection is to be closed."""
+    """No run is on, or the message is of another one: don't take it, and close its connection."""
 
 
 class Member(Following):
     """Looks at `show` whenever it is woken, and never trusts what woke it.
 
-    `begin` is called with an epoch: it drops all work in hand and whatever is open to other members, loads the
+    It calls `begin` with an epoch: that drops all work in hand and whatever is open to other members, loads the
     common start, keeps it with the epoch, and returns only once that is on the disk. `begun` is the epoch that
-    stands with the work, None for no work. Beside the work stands a file of the member's own, `start-NODE.json` in
-    the folder of its orders: it is kept as long as the work, and moved with it.
+    stands with the work, None for no work. The member keeps a file of its own, `start-NODE.json` in the folder of
+    its orders: keep it as long as the work, and move it with the work.
 
-    One thread follows; any others work `in_run`.
+    One thread calls `follow`; any others work `in_run`.
     """
 
     def __init__(self, port: Port, orders: Orders, node: int, begun: int | None, begin: Callable[[int], None], *,
@@ -65,15 +65,15 @@ class Member(Following):
 
     @property
     def run(self) -> Run | None:
-        """The run that the group is in, None while somebody is not through. It may be over as soon as it is read:
-        what changes the work is done `in_run`."""
+        """The run that the group is in, None while somebody is not through. It may be over as soon as you have read it:
+        change the work `in_run`."""
         return self._run
 
     @contextmanager
     def in_run(self, tag: str | None = None, wait: float = 0.0) -> Iterator[Run]:
-        """Holds off a begin while work of the run changes, and every other `in_run`. With a tag, that of a message,
-        only where it is this run's. Raises OutOfRun, where no run is on after so many seconds too; at another tag
-        `follow` looks, since this run may be over. The body is short, and does not wait for others."""
+        """While the body works, no begin and no other `in_run` comes in between. `tag` is that of a message: the body
+        works only if it is this run's. Raises OutOfRun at another tag, and if no run is on after `wait` seconds; at
+        another tag `follow` looks, since this run may be over. Keep the body short, and don't wait for others in it."""
         with self._changes:
             if not self._changes.wait_for(lambda: self._run is not None, wait):
                 raise OutOfRun("no run is on")
@@ -85,8 +85,8 @@ class Member(Following):
 
     def look(self) -> View:
         """Asks `show`, begins anew, confirms and asks for resets until there is nothing more to do, and answers the
-        last view. `run` is then the run that the group is in, or None while somebody is not through. Raises Away
-        where it is to be called again, and Refused or Faulted where a person is needed."""
+        last view. `run` is then the run that the group is in, or None while somebody is not through. After Away call
+        it again; Refused and Faulted need a person."""
         for _ in range(MOST_TURNS):
             view = self.port.show()
             row = view.node(self.node)
@@ -115,7 +115,7 @@ class Member(Following):
         return min(every, FIRST_WAIT * 1.3 ** min(self._waits, 12))
 
     def _advance(self, view: View, row: Node) -> bool:
-        """Does what the view asks for. Whether it has to be looked at again."""
+        """Does what the view asks for. Answers whether to look again."""
         due = self._starts.due(view, row)
         self._shelf.keep()
         self._set_run(Run(row.epoch, view.tag(row.node, self._word)) if due is Due.TALK else None)

@@ -25,7 +25,7 @@ NEXT_IS = frozenset({Refusal.BAD_EPOCH, Refusal.UNKNOWN_NODE})
 
 
 class CountLost(Refused):
-    """The order's number is neither the last one taken nor the next, or the last one with another order: this
+    """The order's number is neither the client's last nor the next, or it is the last one with another order: this
     client's numbers are not those of the coordinator. `Orders.recover` finds them."""
 
 
@@ -55,17 +55,17 @@ class Series:
 
 
 class Orders:
-    """The orders of one client, whose folder keeps those that were sent last.
+    """The orders of one client. Its folder keeps those that were sent last.
 
-    They are written down, with their numbers, before they are sent, so that after any failure they are sent again
-    with the same numbers and each is carried out once. A folder is held by one process at a time, and no two folders
-    may be of one client. Where the folder has no order yet, the client's count is looked for before the first one.
+    It writes orders down, with their numbers, before it sends them. So after any failure it sends them again with the
+    same numbers, and each is carried out once. One process at a time holds a folder, and a client may have only one
+    folder. If the folder has no order yet, it looks for the client's count before the first one.
     """
 
     def __init__(self, port: Port, client: int, folder: str, *, recovers: bool = False, held_seconds: float = 0.0,
                  told: Callable[[str], None] = warn) -> None:
-        """`recovers` says that an order may be sent once more, with a number that was found, where the count was
-        lost: for orders that do no harm when they are carried out twice. Raises Held, and ValueError."""
+        """With `recovers`, if the count was lost, it finds it and sends the order once more: for orders that do no harm
+        when they are carried out twice. Raises Held, and ValueError."""
         if client not in CLIENTS:
             raise ValueError(f"{client} is no client: clients are 1 to {CLIENTS[-1]}")
         self.port, self.client, self.recovers, self.told = port, client, recovers, told
@@ -99,12 +99,12 @@ class Orders:
         self.close()
 
     def order(self, op: str, *, above: int = 0, **members: int) -> Reply:
-        """Carries out an order. One without an answer comes first; where it is the same as this one, it is this
-        one. A new order whose reply is of a step not above `above` was carried out before, so that the count was
-        not the coordinator's.
+        """Carries out an order. An earlier one without an answer comes first; if it is the same order, it counts as
+        this one. If the reply to a new order has a step not above `above`, that order was carried out before: then
+        the count is not the coordinator's.
 
-        Raises Away where it is to be called again with the same order, CountLost, and Refused or Faulted, of
-        which the number is free for the next order.
+        After Away call it again with the same order. Raises CountLost, and Refused or Faulted, after which the
+        number is free for the next order.
         """
         [outcome] = self.order_all([{"op": op, **members}], above=above)
         if isinstance(outcome, NotTaken):
@@ -112,11 +112,11 @@ class Orders:
         return outcome
 
     def order_all(self, orders: Sequence[Order], *, above: int = 0) -> list[Outcome]:
-        """Carries out orders, in this order and each once; those behind the first are sent together. Answers what
-        came of each, up to the first that was refused (or is a fault), that one too: nothing behind it was carried
-        out. Where a reply was lost, CARRIED_OUT stands for it.
+        """Carries out orders, in this sequence and each once; it sends those after the first together. Answers what
+        came of each, up to and with the first that was refused (or is a fault): nothing after that was carried out.
+        CARRIED_OUT stands for a reply that was lost.
 
-        Raises Away where it is to be called again with the same orders: it then goes on. Raises CountLost.
+        After Away call it again with the same orders: it then goes on. Raises CountLost.
         """
         if self._series is None or self._series.wanted != [dict(order) for order in orders]:
             self._series = Series([dict(order) for order in orders])
@@ -140,8 +140,8 @@ class Orders:
         return series.outcomes
 
     def recover(self, most: int = MOST_TRIED) -> int:
-        """Finds the number of this client's last order, writes it down, and answers it. An order without an
-        answer is given up: whether it was carried out, `show` tells. Raises CountNotFound, and Away."""
+        """Finds the number of this client's last order, writes it down, and answers it. It gives up an order without
+        an answer: `show` tells whether that was carried out. Raises CountNotFound, and Away."""
         number = find_count(self.port, self.client, self.number, most)
         if self._is_known and number != self.number:
             self.told(f"client {self.client}: the last order had number {number}, and not {self.number}")
@@ -168,7 +168,7 @@ class Orders:
             self.recover()
 
     def _settle_others(self) -> None:
-        """Sends orders again that are not those of now. Where one is refused it is told, and given up."""
+        """Sends earlier orders again. If one is refused it says so, and gives it up."""
         others, number = self.unanswered, self._number + 1
         try:
             for outcome in self.settle():
@@ -181,9 +181,9 @@ class Orders:
             self.recover()
 
     def _send(self, series: Series, above: int) -> None:
-        """Sends what is written down, and notes what comes of each. An order's number is taken where it, or one
-        behind it, is answered by more than OutOfTurn: so an OutOfTurn before that is of an order that was carried
-        out before. One that was not taken leaves its number, and those behind it, free."""
+        """Sends what is written down, and notes what comes of each. If an order, or one after it, gets another answer
+        than OutOfTurn, its number was taken: so an OutOfTurn before that answer is of an order that was carried out
+        before. An order that was not taken leaves its number, and those after it, free."""
         number, pending, done = self._number, self._pending, list[Outcome]()
         requests = [self._request(number + 1 + place, order) for place, order in enumerate(pending)]
         try:
@@ -209,7 +209,7 @@ class Orders:
         return {**order, "client": self.client, "number": number}
 
     def _note(self, number: int, pending: list[Order]) -> None:
-        """Writes down the number of the last order that was taken, and those behind it that are sent."""
+        """Writes down the number of the last order that was taken, and the orders after it that are sent."""
         is_new = not self._is_known or (number, pending) != (self._number, self._pending)
         self._number, self._pending, self._is_known = number, pending, True
         if is_new:

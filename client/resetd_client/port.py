@@ -28,8 +28,8 @@ class Port:
     """Asks a coordinator, one connection after the other, each closed at once: the port serves one at a time.
 
     `addresses` are `HOST:PORT`, one or several with commas between, all of one coordinator, of which one serves at a
-    time; they are tried in turn, beginning with the one that answered last. One that gives no answer, or answers
-    Stopped, PendingFull or OutOfMemory, gives way to the next.
+    time. It tries them in turn, beginning with the one that answered last, and goes on to the next if one gives no
+    answer, or answers Stopped, PendingFull or OutOfMemory.
     """
 
     def __init__(self, addresses: str, seconds: float = REPLY_SECONDS) -> None:
@@ -42,7 +42,7 @@ class Port:
         return self._at_one(lambda address: members_of(self._answer(address, request), name_of(address)))
 
     def raw(self, request: Request) -> str:
-        """The line that answers one request, whatever it says. Raises Away where none came."""
+        """The line that answers one request, whatever it says. Raises Away if none came."""
         return self._at_one(lambda address: self._answer(address, request))
 
     def show(self) -> View:
@@ -63,9 +63,9 @@ class Port:
             raise Garbled("close")
 
     def ask_many(self, requests: Sequence[Request]) -> Iterator[dict[str, Any] | NotTaken]:
-        """The answers to many requests, in their order, over few connections, each part in one write: a server may
-        end a connection between two lines, and then the rest goes on over the next. Where nothing is answered over
-        one, or "not now", raises Away."""
+        """The answers to many requests, in their order, over few connections, each part in one write. A server may end
+        a connection between two lines; then the rest goes over the next one. Raises Away if a connection brings no
+        answer, or "not now"."""
         done = 0
         while done < len(requests):
             rest = requests[done:]
@@ -92,7 +92,7 @@ class Port:
         return next(self._lines(address, [request]))
 
     def _lines(self, address: tuple[str, int], requests: Sequence[Request]) -> Iterator[str]:
-        """The lines that answer requests over one connection. Where not all come, raises Away behind the last."""
+        """The lines that answer requests over one connection. If not all come, raises Away after the last."""
         with connected(address, self.seconds) as connection:
             for place in range(0, len(requests), AT_ONCE):
                 part = requests[place:place + AT_ONCE]
@@ -107,8 +107,8 @@ class Port:
                         if is_silent else "it ended the connection without an answer"))
 
     def _at_one(self, call: Callable[[tuple[str, int]], T]) -> T:
-        """What a call gives at the first address that answers. Raises what the last one raised; where one of them
-        answered "not now", that."""
+        """What a call gives at the first address that answers. If none does, raises "not now" if one of them said so,
+        else what the last one raised."""
         fault: Away = Away("no address")
         for turn in range(len(self.addresses)):
             place = (self._last + turn) % len(self.addresses)

@@ -5,6 +5,7 @@ from __future__ import annotations
 import os
 import select
 import socket
+import stat
 from collections.abc import Iterator
 from dataclasses import dataclass
 
@@ -12,8 +13,8 @@ LISTENS = "0A"  # the state in /proc/net/tcp
 
 
 def lock_holders(found: os.stat_result) -> list[int]:
-    """The processes of this machine that have a lock on a file. Some file systems give a lock another device's number
-    than the file has: there the process is asked what it has open."""
+    """The processes of this machine that have a lock on a file. On some file systems a lock has another device's number
+    than the file: then it looks at what the process has open."""
     device = f"{os.major(found.st_dev):02x}:{os.minor(found.st_dev):02x}"
     try:
         with open("/proc/locks", encoding="utf-8") as lines:
@@ -101,11 +102,11 @@ class Pipe:
 
 
 def output_pipe(process: int) -> Pipe | None:
-    """The pipe that is a process's standard output; None where it is something else."""
+    """The pipe that is a process's standard output, a FIFO too; None if it is something else."""
     path = f"/proc/{process}/fd/1"
     try:
         name = os.readlink(path)
-        if not name.startswith("pipe:"):
+        if not stat.S_ISFIFO(os.stat(path).st_mode):
             return None
         writer = os.open(path, os.O_WRONLY | os.O_NONBLOCK)
     except OSError:
@@ -120,10 +121,10 @@ def output_pipe(process: int) -> Pipe | None:
 
 
 def reads(process: int, name: str) -> bool:
-    """Whether a process has what is called so open to read it."""
+    """Whether a process has opened what is called so to read it, or to read and write it."""
     for number in opened(process):
         try:
-            if os.readlink(f"/proc/{process}/fd/{number}") == name and not flags_of(process, number) & os.O_ACCMODE:
+            if os.readlink(f"/proc/{process}/fd/{number}") == name and flags_of(process, number) & os.O_ACCMODE != os.O_WRONLY:
                 return True
         except OSError:
             pass

@@ -1,5 +1,5 @@
-"""Whether a server's file of signals has a line for each signal. Where it can't be written any more, as on a full disk,
-the server goes on and prints no further line until its next start: services then learn of a reset by looking alone."""
+"""Whether a server's file of signals has a line for each signal. If the server can't write it any more, as on a full
+disk, it goes on and prints no further line until its next start: services then learn of a reset only by looking."""
 
 from __future__ import annotations
 
@@ -26,9 +26,9 @@ class Mark:
 
 
 class Signals:
-    """What a file of signals lacks. A line may be gone with a kill, or with a file that was moved away or cut; behind a
-    mark within one life of the server and one file none is. So each epoch that has risen since the mark has to have its
-    line there. Where all of them have it, the mark is set anew, so that little is read each time."""
+    """What a file of signals lacks. A kill may take a line, and so may a file that was moved away or cut; but after a
+    mark, within one run of the server and one file, no line is lost so. So each epoch that has risen since the mark
+    has to have its line there. If all have it, the mark is set anew, so that little is read each time."""
 
     def __init__(self, path: str, kept: str) -> None:
         self._path, self._kept = path, kept

@@ -1,11 +1,11 @@
 """The starts of a member: which epoch it may begin, when it has to ask for a reset, and with whom a start may talk.
 
-Two rules make an epoch of a node the name of one start, and a start that of one run:
+By two rules a node and an epoch name one start, and a start belongs to one run:
 
-- no epoch is begun that is not above all that were begun before, unless its start never talked to anybody;
+- a member begins only an epoch above all that it began before, or the same one again if that start never talked;
 - a start talks only with those that were connected when it first talked, at the epochs that they had then.
 
-Where one of them would be broken, a reset brings new epochs to all that links connect.
+If one of them would be broken, the member asks for a reset, which gives new epochs to all that links connect.
 """
 
 from __future__ import annotations
@@ -27,8 +27,8 @@ class Due(enum.Enum):
 
 
 class Shelf:
-    """What is kept of the starts of one or more nodes, in one file: of each the greatest epoch that was begun, and
-    with whom that start first talked (None: with nobody yet). Of a node that is not in it nothing is known."""
+    """What is kept of the starts of one or more nodes, in one file: for each the greatest epoch that was begun, and
+    with whom that start first talked (None: with nobody yet). Nothing is known of a node that is not in it."""
 
     def __init__(self, path: str) -> None:
         self._path, self._is_kept = path, True
@@ -38,12 +38,12 @@ class Shelf:
         return self._starts.get(node, (-1, frozenset()))
 
     def put(self, node: int, epoch: int, party: frozenset[str] | None) -> None:
-        """Exchanges what is known of a node. It is on the disk after the next `keep`."""
+        """Replaces what is known of a node. It is on the disk after the next `keep`."""
         self._starts[node] = epoch, party
         self._is_kept = False
 
     def keep(self) -> None:
-        """Has all that was put on the disk."""
+        """Writes all that was put to the disk."""
         if not self._is_kept:
             files.keep(self._path, json.dumps({
                 str(node): {"epoch": epoch, "party": None if party is None else sorted(party)}
@@ -60,8 +60,8 @@ class Shelf:
 
 
 class Starts:
-    """The starts of one node's member, beside its work. The caller has `shelf.keep` called after `due` and after
-    `note_begin`, before it acts upon them."""
+    """The starts of one node's member, beside its work. The caller calls `shelf.keep` after `due` and after
+    `note_begin`, before it acts on them."""
 
     def __init__(self, shelf: Shelf, node: int, begun: int | None) -> None:
         """`begun` is the epoch of the work in hand, None for no work."""
@@ -71,7 +71,7 @@ class Starts:
             self._greatest, self._party = begun, frozenset()
 
     def due(self, view: View, row: Node) -> Due:
-        """What a view with the row of the member's node asks for. With whom a start first talks is put down."""
+        """What a view with the row of the member's node asks for. It notes with whom a start first talks."""
         if row.epoch > row.confirmed:
             is_new = row.epoch > self._greatest or (row.epoch == self._greatest and self._party is None)
             if is_new:
@@ -92,7 +92,7 @@ class Starts:
         return f"epoch {row.epoch} is shown, {row.confirmed} is confirmed, and {work} here"
 
     def note_begin(self, epoch: int) -> None:
-        """An epoch is begun: put down before any work of the one before is dropped."""
+        """An epoch is begun: to be called before any work of the one before is dropped."""
         self._put(epoch, None)
         self.begun = None
 
@@ -101,8 +101,8 @@ class Starts:
         self.begun = epoch
 
     def _admits(self, party: frozenset[str]) -> bool:
-        """Whether the start may talk with those that are connected now: the first ones, of which some may have gone
-        and to which none may have come."""
+        """Whether the start may talk with those that are connected now: some of the first ones may have gone, but no
+        others may have come."""
         if self._party is None:
             self._put(self._greatest, party)
             return True

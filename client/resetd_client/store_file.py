@@ -1,4 +1,4 @@
-"""A store's file, read by docs/FORMATS.md, also while it is served: what it holds, and a copy of it."""
+"""A store's file, read as docs/FORMATS.md says, also while it is served: what it holds, and a copy of it."""
 
 from __future__ import annotations
 
@@ -21,7 +21,7 @@ Read = Callable[[int, int], bytes]
 
 
 class NoStore(Exception):
-    """The file does not read as a store: the name that `resetd` has for it, and where it stops."""
+    """The file does not read as a store: the name of the fault as `resetd` tells it, and where it stops."""
 
     def __init__(self, name: str, place: int, what: str) -> None:
         super().__init__(f"{name}: at byte {place}, {what}")
@@ -71,7 +71,7 @@ class Half:
 
 @dataclass(frozen=True)
 class Store:
-    """A half whose snapshot spells a world, and its bodies batches that go on from there."""
+    """A half: its snapshot spells a world, and its bodies spell batches that go on from there."""
 
     half: Half
     world: World
@@ -84,7 +84,7 @@ class Store:
 
 
 def store_of(half: Half) -> Store:
-    """The store that a half spells. Whether the world takes the steps, `resetd check` tells. Raises NoStore."""
+    """The store that a half spells. `resetd check` looks whether the world takes the steps. Raises NoStore."""
     if half.version not in VERSIONS:
         raise NoStore("BadSnapshot", half.start, f"version {half.version} is not known")
     try:
@@ -188,7 +188,7 @@ def reader_of(descriptor: int) -> Read:
 
 
 def open_store(path: str) -> int:
-    """A descriptor of a store's file. What is no file is refused, and is not waited for. Raises OSError."""
+    """A descriptor of a store's file. It refuses what is no regular file, and waits for nothing. Raises OSError."""
     descriptor = os.open(path, os.O_RDONLY | os.O_NONBLOCK | os.O_CLOEXEC)
     if not stat.S_ISREG(os.fstat(descriptor).st_mode):
         os.close(descriptor)

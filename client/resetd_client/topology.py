@@ -1,4 +1,4 @@
-"""Topology files, and the orders that make a network what such a file wants."""
+"""Topology files, and the orders that make a network what such a file says."""
 
 from __future__ import annotations
 
@@ -122,9 +122,9 @@ def number(value: Any, limits: range, what: str) -> int:
 
 
 def plan(have: Network, want: Network) -> list[Order]:
-    """The orders that make of one network the other: nodes whose group changes go and come again; then nodes are
-    added, links joined before others are dropped, so that nobody is cut off meanwhile, and nodes removed. Where a
-    join has no room, a link that is to go is dropped first, and the order says so."""
+    """The orders that turn one network into the other. They remove and add nodes whose group changes; then add nodes,
+    join links before they drop others, so that nobody is cut off meanwhile, and remove nodes. If a join has no room,
+    they first drop a link that is to go, and the order says so."""
     now = Network(dict(have.groups), set(have.links))
     orders: list[Order] = []
 
@@ -156,7 +156,7 @@ def plan(have: Network, want: Network) -> list[Order]:
 
 
 def rooms(now: Network, want: Network, link: Pair) -> list[Pair]:
-    """The links to be dropped before a link can be joined; of those that are to go anyway."""
+    """Which of the links that are to go have to be dropped before a link can be joined."""
     going, chosen = now.links - want.links, set[Pair]()
     for end in link:
         if now.degree(end) - sum(end in other for other in chosen) >= MOST_LINKS_AT_NODE:

@@ -45,7 +45,7 @@ class View:
 
     @staticmethod
     def of(answer: Mapping[str, Any]) -> View:
-        """The view of an answer's members. What a later version adds behind a row is left out."""
+        """The view of an answer's members. It leaves out what a later version adds to a row."""
         return View(
             int(answer["accepted"]), int(answer["settled"]),
             tuple(Node(int(n), int(g), str(mode), int(parent), int(e), int(c))
@@ -62,8 +62,8 @@ class View:
         return next((node for node in self.nodes if node.node == number), None)
 
     def connected(self, number: int) -> tuple[Node, ...]:
-        """The rows of the node and of all that links connect with it, in ascending order: those that a reset of
-        one of them reaches. None where the node is not there."""
+        """The rows of the node and of all that links connect with it, in ascending order: a reset of one of them reaches
+        all. None if the node is not there."""
         if self.node(number) is None:
             return ()
         near: dict[int, set[int]] = {}
@@ -89,7 +89,7 @@ class View:
             f"{link.a} {link.b} {link.incarnation}" for link in self.links if link.a in ids)
 
     def tag(self, number: int, word: str = "") -> str:
-        """A digest of the party, a line each in the order of their bytes: the name of the run that it is in. `word`
-        is one that the whole group shares; where it is not empty, it is the first line."""
+        """A digest of the party's lines, in the order of their bytes: the name of the run that it is in. `word` is one
+        that the whole group shares; if it is not empty, it is the first line."""
         told = [word] * bool(word) + sorted(self.party(number))
         return hashlib.sha256("".join(f"{line}\n" for line in told).encode()).hexdigest()[:32]

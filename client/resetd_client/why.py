@@ -1,5 +1,5 @@
-"""What stands behind one word of `resetd`, as Device, NoMagic or Socket: a store's file and an address, looked at from
-outside. Nothing is locked, written or kept open by it."""
+"""What is behind a fault of `resetd`, as Device, NoMagic or Socket: it looks at a store's file and an address from
+outside, and locks, writes and keeps open nothing."""
 
 from __future__ import annotations
 
@@ -24,8 +24,8 @@ KINDS = {stat.S_IFREG: "file", stat.S_IFDIR: "folder", stat.S_IFIFO: "FIFO", sta
 
 @dataclass(frozen=True)
 class Finding:
-    """A line for a person. `fault` is the word with which a start of the server would end for it, or nothing; `later`
-    that of a server that has started, once it writes."""
+    """A line for a person. `fault` names the fault with which a start of the server would end because of it, `later` what
+    a running server will meet; either may be empty."""
 
     about: str
     text: str
@@ -34,7 +34,7 @@ class Finding:
 
 
 def of_file(path: str) -> Iterator[Finding]:
-    """What there is to know of a store's file, from the outside inwards."""
+    """What there is to know of a store's file, from its folder to its bytes."""
     yield from of_folder(os.path.dirname(os.path.abspath(os.path.realpath(path))))
     try:
         found = os.stat(path)
@@ -93,7 +93,7 @@ def user_name(number: int) -> str:
 
 
 def of_access(path: str) -> Finding:
-    """Whether this user may use the file; a server may be another one."""
+    """Whether this user may use the file; the server's user may be another one."""
     user = user_name(os.geteuid())
     if os.access(path, os.R_OK | os.W_OK, effective_ids=os.access in os.supports_effective_ids):
         return Finding("access", f"{user} may read and write it; whether its server's user may, the modes above say")
@@ -152,7 +152,7 @@ def of_space(path: str, found: os.stat_result) -> Iterator[Finding]:
 
 
 def half_size(path: str) -> int:
-    """The size of a half, or the least one where the file does not tell."""
+    """The size of a half, or the least one if the file does not tell."""
     try:
         with open(path, "rb") as file:
             size = int.from_bytes(file.read(HEADER)[9:], "big")
@@ -202,7 +202,7 @@ def of_answer(text: str, seconds: float, path: str, fault: str) -> Iterator[Find
 
 
 def count_of(path: str) -> int | None:
-    """How many steps a store has, where it reads."""
+    """How many steps a store has; None if it does not read."""
     try:
         return read_store(path).count
     except (NoStore, Restless, OSError):

@@ -147,8 +147,16 @@ class BesideTheProgram(Case):
         self.assertNotIn("that is not the store on this file", out)
 
     def test_an_output_that_nobody_reads(self) -> None:
+        self.expect_the_reader_told(*os.pipe())
+
+    def test_a_fifo_that_nobody_reads(self) -> None:
+        """A pipe with a name, which its reader has opened for both, as a shell's `<>` does."""
+        os.mkfifo(f"{self.folder}/fifo")
+        reader = os.open(f"{self.folder}/fifo", os.O_RDWR)
+        self.expect_the_reader_told(reader, os.open(f"{self.folder}/fifo", os.O_WRONLY))
+
+    def expect_the_reader_told(self, reader: int, writer: int) -> None:
         """The one who has the pipe is named, and once it is full that is the word of a server that runs."""
-        reader, writer = os.pipe()
         self.addCleanup(os.close, reader)
         fcntl.fcntl(writer, fcntl.F_SETPIPE_SZ, 4_096)
         assert isinstance(self.server, Real)

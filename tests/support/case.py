@@ -12,7 +12,7 @@ OPTIONAL = "optional: "  # how the reason begins of what may be skipped in CI to
 
 
 def until(what, holds, seconds=120.0):
-    """Waits until something holds, and gives what it holds by. It is looked at often, so nothing waits on a clock."""
+    """Waits until a call gives something true, and answers that. It looks often, so nothing waits on a clock."""
     end = time.monotonic() + seconds
     while not (found := holds()):
         if time.monotonic() > end:
@@ -22,8 +22,8 @@ def until(what, holds, seconds=120.0):
 
 
 class Case(unittest.TestCase):
-    """`takes` is in about how many seconds: what takes longest begins first. Within `most` seconds it has to end, also on
-    a busy machine. `program` is what it runs, and `programs` are the variables that name what has to be built for it."""
+    """`takes` is about how many seconds it takes: the longest test begins first. Within `most` seconds it has to end, even
+    on a busy machine. `program` is what it runs, and `programs` are the variables that name what has to be built for it."""
 
     maxDiff = 2_000
     takes = 1
@@ -55,7 +55,7 @@ class Case(unittest.TestCase):
         return self.path(name)
 
     def needs(self, what, has, is_optional=False):
-        """What a test can't do without: where it lacks, the test is skipped, which fails in CI unless it is optional."""
+        """What a test can't do without: without it the test is skipped, which fails in CI unless it is optional."""
         if not has:
             self.skipTest(f"{OPTIONAL if is_optional else ''}it needs {what}")
 

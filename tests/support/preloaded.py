@@ -1,5 +1,6 @@
 """A library that stands ahead of the C library in a program, and changes what a few calls of the system answer."""
 
+import os
 import shutil
 import subprocess
 
@@ -7,12 +8,14 @@ SOURCE = r"""
 #define _GNU_SOURCE
 #include <errno.h>
 #include <fcntl.h>
+#include <stdarg.h>
 #include <stdio.h>
 #include <stdlib.h>
 #include <string.h>
 #include <sys/mman.h>
 #include <sys/socket.h>
 #include <sys/syscall.h>
+#include <sys/time.h>
 #include <time.h>
 #include <unistd.h>
 static long setting(const char *name) { return getenv(name) ? atol(getenv(name)) : 0; }
@@ -59,16 +62,33 @@ static void note(const char *call, int file, long place, const void *bytes, size
     syscall(SYS_write, calls, line, length);
     free(line);
 }
+// At a place of a file at most PIECE bytes are written or read at once.
+static size_t piece(size_t count) {
+    size_t most = setting("PIECE");
+    return most && most < count ? most : count;
+}
 ssize_t pwrite64(int file, const void *bytes, size_t count, off_t place) {
-    note("write", file, place, bytes, count);
-    return syscall(SYS_pwrite64, file, bytes, count, place);
+    note("write", file, place, bytes, piece(count));
+    return syscall(SYS_pwrite64, file, bytes, piece(count), place);
 }
 ssize_t pwrite(int file, const void *bytes, size_t count, off_t place) { return pwrite64(file, bytes, count, place); }
-// A sync takes SYNC_MILLIS longer.
+ssize_t pread64(int file, void *buffer, size_t count, off_t place) {
+    return syscall(SYS_pread64, file, buffer, piece(count), place);
+}
+ssize_t pread(int file, void *buffer, size_t count, off_t place) { return pread64(file, buffer, count, place); }
+// A sync takes SYNC_MILLIS longer. Sync number SYNC_FAILS fails, and no other. What was synced is written down by its path.
 static int synced(int number, int file) {
+    static long syncs;
+    char name[40], path[4096];
     usleep(1000 * setting("SYNC_MILLIS"));
+    if (__atomic_add_fetch(&syncs, 1, __ATOMIC_SEQ_CST) == setting("SYNC_FAILS")) {
+        errno = EIO;
+        return -1;
+    }
     int status = syscall(number, file);
-    if (status == 0) note("sync", file, 0, "", 0);
+    sprintf(name, "/proc/self/fd/%d", file);
+    long length = syscall(SYS_readlink, name, path, sizeof path);
+    if (status == 0) note("sync", file, 0, path, length < 0 ? 0 : length);
     return status;
 }
 int fsync(int file) { return synced(SYS_fsync, file); }
@@ -80,6 +100,23 @@ ssize_t send(int socket, const void *bytes, size_t count, int flags) {
 ssize_t write(int file, const void *bytes, size_t count) {
     note("out", file, 0, bytes, count);
     return syscall(SYS_write, file, bytes, count);
+}
+// With WAITS it is written down too for how many milliseconds a client is waited for.
+int setsockopt(int socket, int level, int option, const void *value, socklen_t length) {
+    if (getenv("WAITS") && level == SOL_SOCKET && (option == SO_RCVTIMEO || option == SO_SNDTIMEO)) {
+        const struct timeval *time = value;
+        note(option == SO_RCVTIMEO ? "read-within" : "write-within", socket, time->tv_sec * 1000 + time->tv_usec / 1000, "", 0);
+    }
+    return syscall(SYS_setsockopt, socket, level, option, value, length);
+}
+// Where a file is to be made, another process has just made one there: the file MEANWHILE has this name too.
+int open(const char *path, int flags, ...) {
+    va_list words;
+    va_start(words, flags);
+    int mode = flags & O_CREAT ? va_arg(words, int) : 0;
+    va_end(words);
+    if (flags & O_CREAT && getenv("MEANWHILE")) syscall(SYS_link, getenv("MEANWHILE"), path);
+    return syscall(SYS_openat, AT_FDCWD, path, flags, mode);
 }
 // A read gives at most READ_MOST bytes.
 ssize_t read(int file, void *buffer, size_t count) {
@@ -94,7 +131,9 @@ def has_compiler():
 
 
 def compiled(folder):
-    """The library, in this folder."""
+    """The library, in this folder, where it stands from the first time on."""
+    if os.path.exists(f"{folder}/preloaded.so"):
+        return f"{folder}/preloaded.so"
     with open(f"{folder}/preloaded.c", "w", encoding="ascii") as file:
         file.write(SOURCE)
     subprocess.run(["cc", "-O1", "-shared", "-fPIC", "-o", f"{folder}/preloaded.so", f"{folder}/preloaded.c"], check=True)

@@ -3,12 +3,12 @@
 
 Member 1 makes items 1, 2, 3 and so on and hands them to member 2, which hands them to 3, and so round to 1. Each start
 has a name of its own, which the coordinator does not know and the tag does not hold; each message has the names of
-all starts that it comes from. So a member tells where it hears of two starts of one member within one start of its
-own (MIXED), and where an item is left out (GAP).
+all starts that it comes from. So a member reports when it hears of two starts of one member within one start of its
+own (MIXED), and when an item is left out (GAP).
 
 usage: queue_member NODE ADDR FOLDER OWN PEER SIGNALS [WITHOUT..]
-    OWN and PEER are ports. WITHOUT is what a trial leaves out, to see that it is missed:
-    greatest    an epoch is begun that was begun before, or a lower one
+    OWN and PEER are ports. WITHOUT is what a trial leaves out, to see that this is noticed:
+    greatest    a member begins an epoch that it began before, or a lower one
     party       a start talks with whoever is connected
     reset       a member without a start of the shown epoch begins it, confirmed or not, and asks for no reset
 """

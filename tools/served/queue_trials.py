@@ -1,7 +1,7 @@
-"""Trials of a work queue of three members, for which the store or a member goes back, comes again or is exchanged.
+"""Trials of a work queue of three members, while the store or a member goes back, comes again or is replaced.
 
-In each of them a start of a member could be taken for another one. The members themselves tell where they hear of two
-starts of one member in one run (MIXED), and where an item is left out (GAP).
+In each of them a start of a member could be taken for another one. The members themselves report when they hear of two
+starts of one member in one run (MIXED), and when an item is left out (GAP).
 """
 
 import json

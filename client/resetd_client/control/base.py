@@ -68,7 +68,7 @@ class Control:
         return self.patient(self.port.show)
 
     def orders(self) -> Orders:
-        """The orders of the client, whose count is found again where another person has ordered as the same one."""
+        """The orders of the client. They find its count again if another person has ordered as the same client."""
         folder = os.path.join(self.folder, f"client-{self.words.client}")
         return Orders(self.port, self.words.client, folder, recovers=True, held_seconds=10.0, told=complain)
 
@@ -86,14 +86,14 @@ class Control:
             self.patient(book.recover)
 
     def carry_out(self, book: Orders, op: str, **members: int) -> Reply:
-        """One order. A reply of a step that was there before is another one's: the count is not this client's."""
+        """One order. If its reply has a step that was there before, that is another order's: the count is wrong."""
         self._asked = {"op": op, **members}
         accepted = self.show().accepted
         return self.patient(lambda: book.order(op, above=accepted, **members))
 
     def carry_out_all(self, book: Orders, orders: list[Order], above: int) -> Iterator[Reply]:
-        """The replies of orders that are sent together, of steps above this one. Raises what the first that was not
-        taken was answered."""
+        """The replies to orders that are sent together, of steps above this one. At the first that was not taken, raises
+        its answer."""
         for order, outcome in zip(orders, self.patient(lambda: book.order_all(orders, above=above))):
             if isinstance(outcome, NotTaken):
                 self._asked = order
@@ -101,7 +101,7 @@ class Control:
             yield outcome
 
     def why(self, fault: NotTaken | Away) -> str:
-        """A refusal, a fault or a silence, with what was found or what to do."""
+        """A refusal, a fault or a silence, with what it found or what to do."""
         if isinstance(fault, NotNow):
             return f"the server answers {explained(fault, {})}"
         if isinstance(fault, Away):
@@ -117,7 +117,7 @@ class Control:
 
 @contextmanager
 def told_after(seconds: float, text: str) -> Iterator[threading.Timer]:
-    """Tells a person something where the body takes longer than this, and doesn't cancel it."""
+    """Tells a person something if the body takes longer than this and doesn't cancel the timer."""
     timer = threading.Timer(seconds, complain, [text])
     timer.daemon = True
     timer.start()
@@ -136,5 +136,5 @@ def told_order(order: Mapping[str, Any]) -> str:
 
 
 def told_reply(reply: Reply) -> str:
-    """A reply as a line; of one that was lost with a connection the step is not known."""
+    """A reply as a line; without its step if the reply was lost with a connection."""
     return f"{reply.kind} {reply.step}" if reply.step else reply.kind

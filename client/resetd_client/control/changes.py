@@ -1,4 +1,4 @@
-"""Commands that order: each order is made once."""
+"""Commands that give orders, each once."""
 
 from __future__ import annotations
 
@@ -65,8 +65,7 @@ def diff(control: Control) -> int:
 
 
 def apply(control: Control) -> int:
-    """Makes the orders, each once, all but the first together. Where it is stopped in between, the same words again
-    go on."""
+    """Makes the orders, each once, all but the first together. If it is stopped in between, the same command goes on."""
     with control.orders() as book:
         control.settle(book)
         view = control.show()

@@ -42,8 +42,8 @@ def table(view: View) -> str:
 
 
 def watch(control: Control) -> int:
-    """Draws the mode of each node, in place, as it changes; where the output is no terminal, a line with the time for
-    each change."""
+    """Draws the mode of each node, in place, as it changes; if the output is no terminal, it writes a line with the time
+    for each change."""
     until = time.monotonic() + control.words.for_seconds if control.words.for_seconds else None
     is_terminal = sys.stdout.isatty()
     seen: list[str] | None = None
@@ -57,8 +57,8 @@ def watch(control: Control) -> int:
 
 
 def looked(control: Control) -> list[str]:
-    """A mark for each node's mode, in order, with how many steps there are, and each node that is not through; or why
-    there is no view."""
+    """Two lines: a mark for each node's mode, with the count of steps; and the nodes that are not through. Or one line
+    that says why there is no view."""
     try:
         view = control.port.show()
     except NotNow as not_now:

@@ -13,7 +13,7 @@ from .base import DONE, REFUSED, WRONG_WORDS, Command, Control, complain
 
 
 def why(control: Control) -> int:
-    """Prints what stands behind a fault of a start: of a store's file and of an address."""
+    """Prints what is behind a fault of a start, of a store's file and of an address."""
     words = control.words
     findings = list(of_file(words.file))
     if words.at:
@@ -26,7 +26,7 @@ def why(control: Control) -> int:
 
 
 def told_start(findings: list[Finding]) -> str:
-    """With which word a start of the server would end now, or a server later; nothing where there is none."""
+    """With which fault a start of the server would end now, and what a running server will meet; empty if neither."""
     faults = sorted((finding for finding in findings if finding.fault), key=lambda finding: finding.fault != "Usage")
     told = [f"a start now would end with {finding.fault}: {finding.about}: {finding.text}" for finding in faults[:1]]
     told += [f"a server that runs meets {finding.later}: {finding.about}: {finding.text}" for finding in findings if finding.later]
@@ -53,7 +53,7 @@ def store_rows(store: Store) -> Iterator[str]:
 
 
 def backup(control: Control) -> int:
-    """Copies a store that may be served meanwhile. A link that has the copy's name goes on leading to it."""
+    """Copies a store that may be served meanwhile. If the copy's name is a link, the copy goes where it leads."""
     words = control.words
     out = os.path.realpath(words.out)
     descriptor = open_store(words.file)
@@ -89,7 +89,7 @@ def why_not(out: str, source: os.stat_result) -> str:
 
 
 def put(path: str, data: bytes, like: os.stat_result) -> None:
-    """Puts a file in place as a whole, and has it on the disk; with the mode and, where it may, the owner of another."""
+    """Puts a file in place as a whole, and on the disk, with the mode and, if this user may, the owner of another file."""
     new = f"{path}.new"
     with open(os.open(new, os.O_WRONLY | os.O_CREAT | os.O_TRUNC, 0o600), "wb") as file:
         file.write(data)

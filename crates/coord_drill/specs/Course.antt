@@ -75,7 +75,7 @@ Passes {D} disk crashes m told [] (a ∷ given) old new = ⊥
 Passes {D} disk crashes m told (e ∷ es) [] old new = ⊥
 Passes {D} disk crashes m told (e ∷ es) (a ∷ given) old new =
     AllKept m told (disk.present old)
-    × ((next : D) × LeavesWithin disk.present disk.clock disk.left_since crashes e (IsKept (found_by_crash m e a) told) old next × Passes disk crashes (after m e a) told es given next new)
+    × ((next : D) × LeavesWithin disk crashes e (IsKept (found_by_crash m e a) told) old next × Passes disk crashes (after m e a) told es given next new)
 
 -- ---- a line
 
@@ -141,7 +141,7 @@ pub record Ended {D : Type 0} (disk : Ghosts D) (crashes : D → D → Type 0) (
 -- The line is cut short, and this disk given up: behind some of its events, as they have left it; in a crash perhaps
 -- behind the taking of an image, and in `version 2` at a moment of the raising.
 abbrev pub IsLeftBy : {D : Type 0} → Ghosts D → (D → D → Type 0) → Place D → Asked → Machine → D → D → Type 0
-IsLeftBy disk crashes p Crash m mid lost = (lost ≡ mid) ⊎ Reopens disk.present disk.clock disk.left_since crashes (IsKept m p.told) mid lost
+IsLeftBy disk crashes p Crash m mid lost = (lost ≡ mid) ⊎ Reopens disk crashes (IsKept m p.told) mid lost
 IsLeftBy disk crashes p Version2 m mid lost = Raises disk p lost
 IsLeftBy disk crashes p a m mid lost = lost ≡ mid
 

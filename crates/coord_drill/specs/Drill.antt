@@ -10,7 +10,7 @@ use Rattle.coord_ledger.specs.declared.events.Answer.{Answer}
 use Rattle.coord_ledger.specs.declared.events.Answer.TheVariants.{Accepted, Begun}
 use Rattle.coord_ledger.specs.declared.events.Event.{Event}
 use Rattle.coord_ledger.specs.declared.events.Event.TheVariants as event
-use Rattle.coord_ledger.specs.laws.Moving.{with_base_moved}
+use Rattle.coord_ledger.specs.laws.Rebasing.{rebased_machine}
 use Rattle.coord_ledger.specs.Facade.{Log, Machine, adopted, front_world, machine_over, run}
 use Rattle.coord_drill.specs.declared.asked.Asked.{Asked}
 use Rattle.coord_drill.specs.declared.asked.Asked.TheVariants.{Submit, Hold, Flush, Crash, Version2}
@@ -62,7 +62,7 @@ line_events holds asked given = []
 
 -- the same machine, its log seen from the settled world
 abbrev pub from_settled : Machine → Machine
-from_settled m = with_base_moved m m.log.settled
+from_settled m = rebased_machine m m.log.settled
 
 -- after a crash it is seen from the world that was opened; a drill of version 2 begins before any step
 abbrev pub machine_after : DrillState → Asked → List Answer → Machine

@@ -6,7 +6,7 @@ use Rattle.coord_world.specs.Facade.{World, next, no_world, reply}
 use Rattle.coord_ledger.specs.declared.events.Answer.{Answer}
 use Rattle.coord_ledger.specs.declared.events.Answer.TheVariants.{Begun, Committed, Failed, Finished, Nothing}
 use Rattle.coord_ledger.specs.declared.release.Release.{Release}
-use Rattle.coord_ledger.specs.Facade.{Claim, Driven, IsGranted, LedgerState, Log, claimed, front_world, log_over, pending, reply_of, settled_world, settling_releases}
+use Rattle.coord_ledger.specs.Facade.{Claim, DriverState, IsGranted, LedgerState, Log, claimed, front_world, log_over, pending, reply_of, settled_world, settling_releases}
 use Rattle.coord_drill.specs.Drill.{DrillState}
 use Rattle.coord_drill.specs.Printed.{commit_line, output_line, reply_line}
 use Rattle.coord_drill.specs.declared.drill.Drill.{Drill}
@@ -23,7 +23,7 @@ abbrev pub IsHeld : {D : Type 0} → LedgerState D → List Claim → Type 0
 IsHeld l claims = claims ≡ claims_of (settled_world l.log) (pending l.log)
 
 -- a driver with these tickets, of which no flight is out
-abbrev pub IsReadyWith : {D : Type 0} → Driven D → List Claim → Type 0
+abbrev pub IsReadyWith : {D : Type 0} → DriverState D → List Claim → Type 0
 IsReadyWith v claims = (v.flight ≡ None) × IsHeld v.ledger claims
 
 abbrev pub IsReady : {D : Type 0} → Drill D → Type 0

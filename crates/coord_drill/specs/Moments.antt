@@ -1,7 +1,7 @@
 -- What a line does to the drill's disk, moment by moment, as the code's functions say it of each other.
 --
--- The events of a line lead from one driver to another, whatever machine the first one follows: with just the answers
--- that the line's text and the drill's new state go by. The answers are that machine's, what is then driven follows it,
+-- The events of a line lead from one driver to another, whatever machine the first one represents: with just the answers
+-- that the line's text and the drill's new state go by. The answers are that machine's, the other driver represents it,
 -- and the headline's chain of moments (`EachMoment`) leads from the disk as it was before the line to the disk then.
 use Rattle.std.specs.Prelude.{◌≡◌, ◌≢◌, ◌⊎◌, ℕ, ◌+◌, ◌≤◌, List, [], ◌∷◌, length, take, false, true, Option, Some, Result}
 use Rattle.std.specs.List.{AllByRecursion}
@@ -20,7 +20,7 @@ use Rattle.coord_ledger.specs.declared.events.Answer.TheVariants.{Refused}
 use Rattle.coord_ledger.specs.declared.events.Event.{Event}
 use Rattle.coord_ledger.specs.declared.events.Event.TheVariants.{Submit}
 use Rattle.coord_ledger.specs.declared.handed.Handed.{Handed}
-use Rattle.coord_ledger.specs.Facade.{Answered, Beside, Driven, EachMoment, EventInRange, Follows, HandedTo, HasFailed, IsConsistent, LedgerState, Machine, MayBegin, Reopens, Survives, answer_to, disk_driven, failed_until, has_stopped, held, ledger_over, model_driven, nothing_beside, run, settled_count, settled_world, started}
+use Rattle.coord_ledger.specs.Facade.{Answered, DriverState, EachMoment, EventInRange, HandedTo, HasFailed, IsConsistent, LedgerState, Machine, MayBegin, Reopens, Represents, Survives, answer_to, disk_held, failed_until, has_stopped, ledger_over, model_held, run, settled_count, settled_world, started}
 use Rattle.coord_drill.specs.Answered.{IsAnswered, flight_lines}
 use Rattle.coord_drill.specs.Course.{AllKept, Place, start}
 use Rattle.coord_drill.specs.Drill.{flight_events, line_events, machine_of, seen_as}
@@ -39,71 +39,70 @@ pub record LedDisk {D : Type 0} (disk : Ghosts D) (crashes : D → D → Type 0)
   pub new : D
   pub holds : now ≡ Some new
   pub keeps : disk.keeps_model new ≡ true
-  pub moments : EachMoment disk.present disk.clock disk.left_since crashes true s events given old new
+  pub moments : EachMoment disk crashes true s events given old new
 
--- events have led from one driver to another, where the first follows this machine
-pub record Led {D : Type 0} (disk : Ghosts D) (crashes : D → D → Type 0) (s : Machine) (events : List Event) (given : List Answer) (d new : Driven D) : Type 0 where
-  pub beside : Beside
+-- events have led from one driver to another, where the first represents this machine
+pub record Led {D : Type 0} (disk : Ghosts D) (crashes : D → D → Type 0) (s : Machine) (events : List Event) (given : List Answer) (d new : DriverState D) : Type 0 where
   pub in_range : AllByRecursion EventInRange events
   pub answered : Answered s events given
   pub consistent : IsConsistent (run s events given)
-  pub follows : Follows (held new beside) (run s events given)
-  pub moments : (old : D) → disk_driven d ≡ Some old → disk.keeps_model old ≡ true → LedDisk disk crashes s events given old (disk_driven new)
-  pub failed : (n : ℕ) → HasFailed disk.failures (disk_driven d) n → HasFailed disk.failures (disk_driven new) (n + failed_until events given)
+  pub represents : Represents new (run s events given)
+  pub moments : (old : D) → disk_held d ≡ Some old → disk.keeps_model old ≡ true → LedDisk disk crashes s events given old (disk_held new)
+  pub failed : (n : ℕ) → HasFailed disk.failures (disk_held d) n → HasFailed disk.failures (disk_held new) (n + failed_until events given)
 
--- so whatever machine it follows
-abbrev pub Leads : {D : Type 0} → Ghosts D → (D → D → Type 0) → Driven D → List Event → List Answer → Driven D → Type 0
-Leads disk crashes d events given new = (b : Beside) (s : Machine) → IsConsistent s → Follows (held d b) s → Led disk crashes s events given d new
+-- so whatever machine it represents
+abbrev pub Leads : {D : Type 0} → Ghosts D → (D → D → Type 0) → DriverState D → List Event → List Answer → DriverState D → Type 0
+Leads disk crashes d events given new = (s : Machine) → IsConsistent s → Represents d s → Led disk crashes s events given d new
 
--- a driver follows the machine over its own log
-pub record Begins {D : Type 0} (d : Driven D) : Type 0 where
+-- a driver represents the machine over its own log
+pub record Begins {D : Type 0} (d : DriverState D) : Type 0 where
   pub consistent : IsConsistent (started d.ledger)
-  pub follows : Follows (held d nothing_beside) (started d.ledger)
+  pub represents : Represents d (started d.ledger)
 
 -- from there the events have led to another driver
-abbrev pub IsRun : {D : Type 0} → Ghosts D → (D → D → Type 0) → Driven D → List Event → List Answer → Driven D → Type 0
+abbrev pub IsRun : {D : Type 0} → Ghosts D → (D → D → Type 0) → DriverState D → List Event → List Answer → DriverState D → Type 0
 IsRun disk crashes d events given new = Led disk crashes (started d.ledger) events given d new
 
 -- so a flight does
-abbrev pub GoesBy : {D : Type 0} → Ghosts D → (D → D → Type 0) → Driven D → List Answer → Driven D → Type 0
+abbrev pub GoesBy : {D : Type 0} → Ghosts D → (D → D → Type 0) → DriverState D → List Answer → DriverState D → Type 0
 GoesBy disk crashes d given new = Leads disk crashes d (flight_events given) given new
 
 -- Of these events, by their answers, a first part was answered, and the disk was given up as it was then.
-pub record LeadsPart {D : Type 0} (disk : Ghosts D) (crashes : D → D → Type 0) (d : Driven D) (events : List Answer → List Event) (lost : D) : Type 0 where
+pub record LeadsPart {D : Type 0} (disk : Ghosts D) (crashes : D → D → Type 0) (d : DriverState D) (events : List Answer → List Event) (lost : D) : Type 0 where
   pub given : List Answer
-  pub mid : Driven D
+  pub mid : DriverState D
   pub moments : Leads disk crashes d (take (length given) (events given)) given mid
-  pub left : disk_driven mid ≡ Some lost
+  pub left : disk_held mid ≡ Some lost
 
 -- a driver is handed a step
-pub record Hands {D : Type 0} (disk : Ghosts D) (crashes : D → D → Type 0) (d : Driven D) (x : Step) (answer : Result Handed Refusal) (new : Driven D) : Type 0 where
+pub record Hands {D : Type 0} (disk : Ghosts D) (crashes : D → D → Type 0) (d : DriverState D) (x : Step) (answer : Result Handed Refusal) (new : DriverState D) : Type 0 where
   pub handed : HandedTo d.ledger x answer new.ledger
   pub flight : new.flight ≡ d.flight
-  pub stays : disk_driven new ≡ disk_driven d
+  pub stays : disk_held new ≡ disk_held d
   pub moments : Leads disk crashes d (Submit x ∷ []) (answer_to answer ∷ []) new
 
 -- ---- the line `version 2`
 
 -- these bytes give the settled world, in its own version or in version 2
-abbrev pub GivesRaised : {D : Type 0} → Driven D → List ℕ → Type 0
+abbrev pub GivesRaised : {D : Type 0} → DriverState D → List ℕ → Type 0
 GivesRaised d = GivesEither (settled_world d.ledger.log) (risen (settled_world d.ledger.log))
 
 -- the store at home, which has not stopped, was raised, and is the new ledger's
-pub record RaisesTo {D : Type 0} (disk : Ghosts D) (crashes : D → D → Type 0) (d new : Driven D) : Type 0 where
-  pub begins : MayBegin disk.keeps_model disk.present disk.clock disk.left_since crashes new
+pub record RaisesTo {D : Type 0} (disk : Ghosts D) (crashes : D → D → Type 0) (d new : DriverState D) : Type 0 where
+  pub begins : MayBegin disk crashes new
   pub old : D
-  pub there : disk_driven d ≡ Some old
+  pub there : disk_held d ≡ Some old
   pub raised : D
   pub is : new.ledger ≡ ledger_over (risen (settled_world d.ledger.log)) raised
-  pub now : disk_driven new ≡ Some raised
+  pub now : disk_held new ≡ Some raised
   pub keeps : disk.keeps_model old ≡ true → disk.keeps_model raised ≡ true
   pub failed : disk.failures raised ≡ disk.failures old
   pub moments : has_stopped d.ledger.log ≡ false → disk.keeps_model old ≡ true → LeavesOnly disk.clock disk.left_since old raised (GivesRaised d)
 
 -- it was given up at a moment of that, for this fault
-pub record RaisesPart {D : Type 0} (disk : Ghosts D) (d : Driven D) (why : Fault) (lost : D) : Type 0 where
+pub record RaisesPart {D : Type 0} (disk : Ghosts D) (d : DriverState D) (why : Fault) (lost : D) : Type 0 where
   pub old : D
-  pub there : disk_driven d ≡ Some old
+  pub there : disk_held d ≡ Some old
   pub moments : has_stopped d.ledger.log ≡ false → disk.keeps_model old ≡ true → LeavesOnly disk.clock disk.left_since old lost (GivesRaised d)
   pub cause : IsEmptyLog d.ledger.log → IsPassing why
   pub failed : disk.failures lost ≡ disk.failures old + failed_by why
@@ -123,16 +122,16 @@ pub record Carries {D : Type 0} (disk : Ghosts D) (crashes : D → D → Type 0)
 
 -- What is said of a line's moments: on a disk that keeps the model, and of `version 2` before any step.
 abbrev pub IsPromised : {D : Type 0} → Ghosts D → Drill D → Asked → Type 0
-IsPromised disk d a = (model_driven disk.keeps_model d.driver ≡ Some true) × (a ≡ Version2 → IsEmptyLog d.driver.ledger.log)
+IsPromised disk d a = (model_held disk.keeps_model d.driver ≡ Some true) × (a ≡ Version2 → IsEmptyLog d.driver.ledger.log)
 
 abbrev pub CarriesIf : {D : Type 0} → Ghosts D → (D → D → Type 0) → Drill D → Asked → List ℕ → Drill D → Type 0
 CarriesIf disk crashes d a told new = IsPromised disk d a → Carries disk crashes d a told new
 
 -- the disk was given up in a crash, behind the taking of an image
-pub record IsLostInCrash {D : Type 0} (disk : Ghosts D) (crashes : D → D → Type 0) (d : Driven D) (why : Fault) (lost : D) : Type 0 where
-  pub moments : (b : Beside) (s : Machine) → IsConsistent s → Follows (held d b) s → (old : D) → disk_driven d ≡ Some old → disk.keeps_model old ≡ true → Reopens disk.present disk.clock disk.left_since crashes (Survives s) old lost
-  pub cause : model_driven disk.keeps_model d ≡ Some true → IsPassing why
-  pub failed : (n : ℕ) → HasFailed disk.failures (disk_driven d) n → disk.failures lost ≡ n + failed_by why
+pub record IsLostInCrash {D : Type 0} (disk : Ghosts D) (crashes : D → D → Type 0) (d : DriverState D) (why : Fault) (lost : D) : Type 0 where
+  pub moments : (s : Machine) → IsConsistent s → Represents d s → (old : D) → disk_held d ≡ Some old → disk.keeps_model old ≡ true → Reopens disk crashes (Survives s) old lost
+  pub cause : model_held disk.keeps_model d ≡ Some true → IsPassing why
+  pub failed : (n : ℕ) → HasFailed disk.failures (disk_held d) n → disk.failures lost ≡ n + failed_by why
 
 -- for want of memory behind a part of its events
 abbrev pub LacksMemory : {D : Type 0} → Ghosts D → (D → D → Type 0) → Asked → Drill D → Fault → D → Type 0
@@ -161,11 +160,10 @@ pub record Flies {D : Type 0} (disk : Ghosts D) (crashes : D → D → Type 0) (
 -- accepted its world is empty.
 pub record Stands {D : Type 0} (disk : Ghosts D) (d : Drill D) (p : Place D) : Type 0 where
   pub state : p.state ≡ state_of d
-  pub holds : disk_driven d.driver ≡ Some p.disk
+  pub holds : disk_held d.driver ≡ Some p.disk
   pub keeps : disk.keeps_model p.disk ≡ true
   pub consistent : IsConsistent p.machine
-  pub beside : Beside
-  pub follows : Follows (held d.driver beside) p.machine
+  pub represents : Represents d.driver p.machine
   pub told : AllByRecursion (λ n. n ≤ settled_count p.machine.log) p.told
   pub empty : p.state.has_begun ≡ false → IsEmptyLog p.state.log
   pub kept : AllKept p.machine p.told (disk.present p.disk)

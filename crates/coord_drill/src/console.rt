@@ -2,7 +2,7 @@
 
 ghost use Rattle.std.specs.Prelude.{◌≡◌, ◌⊎◌, ◌<◌, ◌≤◌, ◌+◌, ◌-◌, ◌^◌, ℕ, List, [], true, OnOk, IfErr, IfOk, IfSome, Some, length};
 ghost use Rattle.std.specs.Io.KnownBytes.{Appends, Consumes, IsAtEnd};
-ghost use Rattle.coord_ledger.specs.Facade.{disk_driven};
+ghost use Rattle.coord_ledger.specs.Facade.{disk_held};
 ghost use Rattle.coord_lines.specs.Lines.{lines_on};
 ghost use Rattle.coord_drill.specs.Course.{BrokeOff, Ended, NotMade};
 ghost use Rattle.coord_drill.specs.Drilled.{IsDrilled, WritesFirstPart};
@@ -214,7 +214,7 @@ impl<D: CrashDisk> Console<D> {
 
     /// Ends the drill, and gives its disk back.
     fn into_disk(self) -> D
-        ensures { disk_driven self.drill.driver ≡ Some result }
+        ensures { disk_held self.drill.driver ≡ Some result }
     {
         let Console {
             drill,

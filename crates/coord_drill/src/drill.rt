@@ -1,7 +1,7 @@
 //! A drill: the driver of a ledger, and a ticket for each step that is not settled.
 
 ghost use Rattle.std.specs.Prelude.{◌≡◌, [], true, Some, IfOk, IfErr, string_bytes};
-ghost use Rattle.coord_ledger.specs.Facade.{disk_driven};
+ghost use Rattle.coord_ledger.specs.Facade.{disk_held};
 ghost use Rattle.coord_world.specs.protocol.NumberedWorld.{no_world};
 ghost use Rattle.coord_drill.specs.Asked.{asked};
 ghost use Rattle.coord_drill.specs.Course.{NotMade};
@@ -55,7 +55,7 @@ impl<D: CrashDisk> Drill<D> {
             IfErr result (λ refused. NotMade ⟦<D as Disk>⟧ disk refused.0 refused.1) }
     {
         let driver = Driver::over(new_ledger(alloc, disk)?);
-        driver.begins();
+        driver.lemma_begins();
         Ok(Drill {
             alloc,
             driver,
@@ -106,7 +106,7 @@ impl<D: CrashDisk> Drill<D> {
 
     /// Ends the drill, and gives its disk back. What is pending is lost.
     pub fn into_disk(self) -> D
-        ensures { disk_driven self.driver ≡ Some result }
+        ensures { disk_held self.driver ≡ Some result }
     {
         let Drill {
             alloc: _,
@@ -122,7 +122,7 @@ impl<D: CrashDisk> Drill<D> {
     /// Drops a driver that ran out of memory, and gives its disk back.
     pub fn lost(self) -> (Fault, D)
         ensures fault { result.0 ≡ OutOfMemory }
-        ensures disk { disk_driven self.driver ≡ Some result.1 }
+        ensures disk { disk_held self.driver ≡ Some result.1 }
     {
         (Fault::OutOfMemory, self.into_disk())
     }

@@ -128,7 +128,7 @@ impl<D: Disk, L: Origin> Guarded<D, L> {
     pub fn keeps(&self)
         ensures { CanHold (based_on D.keeps_model D.present L.base L.before) self.now }
     {
-        self.ledger.log_is_consistent();
-        self.ledger.images_give_settled();
+        self.ledger.lemma_log_is_consistent();
+        self.ledger.lemma_images_give_settled();
     }
 }

@@ -1,3 +1,4 @@
 pub mod machine
 pub mod follows
-pub mod drives
+pub mod runs
+pub mod simulates

@@ -6,8 +6,7 @@ pub mod Given
 pub mod Kept
 pub mod IsOut
 pub mod Follows
-pub mod FollowsSteps
-pub mod FollowsFlights
+pub mod FollowsAnswers
 pub mod FollowsTickets
 pub mod FollowsCrashes
 pub mod FollowsCalls

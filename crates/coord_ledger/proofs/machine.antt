@@ -12,5 +12,5 @@ pub mod Consistent
 pub mod SettledStays
 pub mod Safe
 pub mod Silent
-pub mod Moved
+pub mod Rebased
 pub mod SignalsOnce

@@ -17,7 +17,7 @@ pub use Rattle.coord_ledger.specs.declared.mark.Mark.TheVariants.{Good, New, Tor
 pub use Rattle.coord_ledger.specs.declared.release.Release.{Release}
 pub use Rattle.coord_ledger.specs.declared.ticket.Note.{Note}
 pub use Rattle.coord_ledger.specs.declared.trace.RunFaultKind.{RunFaultKind}
-pub use Rattle.coord_ledger.specs.machine.Log.{Log, accepted_count, cut_to, front_world, has_stopped, log_over, moved, pending, settled_count, settled_steps, settled_world, with_doubt, with_settled, with_step, world_after}
+pub use Rattle.coord_ledger.specs.machine.Log.{Log, accepted_count, cut_to, front_world, has_stopped, log_over, rebased, pending, settled_count, settled_steps, settled_world, with_doubt, with_settled, with_step, world_after}
 pub use Rattle.coord_ledger.specs.machine.Submits.{is_full, unless_full, verdict}
 pub use Rattle.coord_ledger.specs.machine.Machine.{FlightOut, Machine, adopted, machine_over}
 pub use Rattle.coord_ledger.specs.machine.Answers.{IsOneOf, answers, kept, kept_by, kept_with, next_size, stays_home, ticket, to_begin, to_collect, to_commit, to_finish, to_show, to_submit, with_flight}
@@ -25,12 +25,15 @@ pub use Rattle.coord_ledger.specs.machine.After.{after, after_finish, after_subm
 pub use Rattle.coord_ledger.specs.machine.Runs.{Answered, run}
 pub use Rattle.coord_ledger.specs.machine.Consistent.{DoubtFits, EventInRange, FitsOut, FlightFits, IsConsistent, IsConsistentLog, IsTold, TicketFits}
 pub use Rattle.coord_ledger.specs.ledger.State.{Claim, FlightState, IsCollectable, IsGranted, IsInTrail, IsKeptBy, LedgerState, ledger_over, reply_of, started}
-pub use Rattle.coord_ledger.specs.ledger.Follows.{Follows, FollowsTo, GivesOneOf, Held, HoldsFlight, HoldsTicket, HoldsTickets, ImagesGive, IsOut, flight_out}
+pub use Rattle.coord_ledger.specs.ledger.Flights.{GivesOneOf, HoldsFlight, ImagesGive, IsOut, flight_out}
 pub use Rattle.coord_ledger.specs.ledger.Calls.{FlightGives, GivesFlown, GivesSettled, HandedTo, LedgerGives, RefusesFlight, RefusesStep, claimed, keeps_store, next_flight, releases_in, taken_back, with_accepted, with_out}
-pub use Rattle.coord_ledger.specs.ledger.Driver.{Drives, HasFailed, HeldSurvives, HeldTouches, IsEventFault, IsLost, IsPromised, IsReopenFault, IsReopened, brought_home, disk_held, disk_with, model_of}
-pub use Rattle.coord_ledger.specs.ledger.Driven.{Beside, Driven, FinishesTo, IsAnew, MayBegin, after_crash, answer_to, at_home, disk_driven, held, model_driven, nothing_beside, with_claim, with_releases}
+pub use Rattle.coord_ledger.specs.ledger.Driver.{RunSoFar, HasFailed, DiskSurvives, DiskEffect, IsEventFault, IsLost, IsPromised, IsReopenFault, IsReopened, MayBegin, brought_home}
+pub use Rattle.coord_ledger.specs.ledger.DriverState.{DriverState, IsAnew, answer_to, at_home, disk_held, disk_with, finish_answer, model_held}
+pub use Rattle.coord_ledger.specs.ledger.Simulates.{Simulates, Represents, goes_to, machine_of}
+pub use Rattle.coord_ledger.specs.ledger.Follows.{Follows, FollowsTo, HoldsTicket, HoldsTickets}
+pub use Rattle.coord_ledger.specs.declared.event_driver.run.Run.{Run}
 pub use Rattle.coord_ledger.specs.promises.Parts.{IsPartOf, released_first}
 pub use Rattle.coord_ledger.specs.promises.Moments.{LeavesWithin, Reopens, touches_disk}
-pub use Rattle.coord_ledger.specs.promises.Headline.{CrashPrefix, EachMoment, IsAgainOf, IsLeft, IsReplyOf, IsSafe, IsTrulyAgain, Promised, Ran, Survives, Touches, ended, found_by_crash, is_crash, is_signal}
+pub use Rattle.coord_ledger.specs.promises.Headline.{CrashPrefix, EachMoment, IsAgainOf, IsLeft, IsReplyOf, IsSafe, IsTrulyAgain, Promised, Completed, Survives, Touches, ended, found_by_crash, is_crash, is_signal}
 pub use Rattle.coord_ledger.specs.promises.Faults.{failed_at, failed_in, failed_until, run_fault_number}
-pub use Rattle.coord_ledger.specs.promises.Broken.{Broke, EndsAt, HasCause, IsCommitted, IsCutShort, IsGivenBack, IsGivenUp, IsLeftOut, IsLostInCrash, wants_memory}
+pub use Rattle.coord_ledger.specs.promises.Broken.{EndedEarly, EndsAt, HasCause, IsCommitted, IsCutShort, IsGivenBack, IsGivenUp, IsLeftOut, IsLostInCrash, wants_memory}

@@ -1,6 +1,8 @@
 -- A ledger, a flight and a ticket as contracts see them, and how they follow the event machine.
 pub mod State
-pub mod Follows
+pub mod Flights
 pub mod Calls
+pub mod DriverState
+pub mod Simulates
 pub mod Driver
-pub mod Driven
+pub mod Follows

@@ -2,44 +2,37 @@
 
 ghost use Rattle.std.specs.Prelude.{◌≡◌, IfErr, IfOk, IsSomeAnd, None, Some};
 ghost use Rattle.std.specs.Option.{option_map};
-ghost use Rattle.coord_ledger.specs.declared.mark.Mark.TheVariants.{Good};
-ghost use Rattle.coord_ledger.specs.ledger.Driven.{Beside, MayBegin, at_home, disk_driven, held};
-ghost use Rattle.coord_ledger.specs.ledger.Driver.{HeldSurvives, brought_home};
-ghost use Rattle.coord_ledger.specs.ledger.Follows.{Follows, ImagesGive, flight_out};
-ghost use Rattle.coord_ledger.specs.machine.Answers.{kept_by};
-ghost use Rattle.coord_ledger.specs.machine.Consistent.{IsConsistent};
-ghost use Rattle.coord_ledger.specs.machine.Machine.{Machine};
+ghost use Rattle.coord_ledger.specs.Facade.{DiskSurvives, Good, ImagesGive, IsConsistent, Machine, MayBegin, Represents, at_home, brought_home, disk_held, flight_out, kept_by};
 
 mod crashing;
 mod flying;
 mod submitting;
 
 use crate::{Flight, Ledger};
-use coord_disk::CrashDisk;
+use coord_disk::{CrashDisk, Disk};
 use std::marker::Model;
 
 /// A ledger, and the flight that is out of it: all of a run that touches the store. Its holder
 /// keeps the tickets, what was shown and what was released, so nothing grows in here but the
 /// ledger. `into_disk` ends it.
 ///
-/// Each call is an event of the event machine (`answered`): its answer is one that the machine may
-/// give in this state, and what is held afterwards is what the machine becomes with that answer.
-/// The clause `disk` says what the call does to the disk at each of its moments. How much of the
-/// log stays is said too, so that a holder can tell the machine's state from the ledger. Replies,
-/// resends and views change nothing: for these call [`Driver::ledger`].
+/// Each call is an event of the event machine, whatever its holder has given out (`simulates`): its
+/// answer is one that the machine may give in this state, and the driver is then where the machine
+/// goes with that answer. The clause `disk` says what the call does to the disk at each of its
+/// moments. Replies, resends and views change nothing: for these call [`Driver::ledger`].
 ///
-/// Contracts see `Driven` (`specs/ledger/Driven.antt`); its type keeps that the flight is the
-/// ledger's own.
+/// Contracts see `DriverState` (`specs/ledger/DriverState.antt`), and the machine of it
+/// (`specs/ledger/Simulates.antt`); its type keeps that the flight is the ledger's own.
 pub struct Driver<D: CrashDisk> {
     ledger: Ledger<D>,
     flight: Option<Flight<D>>,
 }
 
 impl<D: CrashDisk> Model for Driver<D> {
-    ghost use Rattle.coord_ledger.specs.ledger.Driven.{Driven};
-    ghost use Rattle.coord_ledger.specs.ledger.Follows.{HoldsFlight};
+    ghost use Rattle.coord_ledger.specs.ledger.DriverState.{DriverState};
+    ghost use Rattle.coord_ledger.specs.ledger.Flights.{HoldsFlight};
 
-    ghost Value = { Driven D };
+    ghost Value = { DriverState D };
 
     ghost view = { λ d. record { ledger = d.ledger; flight = d.flight } };
 
@@ -68,24 +61,24 @@ impl<D: CrashDisk> Driver<D> {
     /// Does nothing. Its contract says what a crash may leave between two events: a legal world,
     /// after a prefix of the accepted steps that holds all that was released. The types of its
     /// parts keep that.
-    pub fn survives(&self)
-        ensures { (b : Beside) (s : Machine) → IsConsistent s → Follows (held self.now b) s →
-            HeldSurvives D.keeps_model D.present (held self.now b) s }
+    pub fn lemma_survives(&self)
+        ensures { (s : Machine) → IsConsistent s → Represents self.now s →
+            DiskSurvives D.keeps_model D.present (disk_held self.now) s }
     {
         match &self.flight {
-            Some(flight) => flight.images_give_world(),
-            None => self.ledger.images_give_settled(),
+            Some(flight) => flight.lemma_images_give_world(),
+            None => self.ledger.lemma_images_give_settled(),
         }
     }
 
     /// Does nothing. Its contract says that a run of events may begin here, where no flight is out:
-    /// what a run keeps (`Drives`) holds of the run of no event, from the ledger's disk on.
-    pub fn begins(&self)
+    /// what a run keeps (`RunSoFar`) holds of the run of no event, from the ledger's disk on.
+    pub fn lemma_begins(&self)
         requires { self.now.flight ≡ None }
-        ensures { MayBegin D.keeps_model D.present D.clock D.left_since D.crashes self.now }
+        ensures { MayBegin ⟦<D as Disk>⟧ D.crashes self.now }
     {
-        self.ledger.log_is_consistent();
-        self.survives();
+        self.ledger.lemma_log_is_consistent();
+        self.lemma_survives();
     }
 
     /// Gives the ledger up, where no flight is out of it.
@@ -102,7 +95,7 @@ impl<D: CrashDisk> Driver<D> {
 
     /// Gives the disk up, the ledger's or that of the flight that is out.
     pub fn into_disk(self) -> D
-        ensures disk { disk_driven self ≡ Some result }
+        ensures disk { disk_held self ≡ Some result }
         ensures images { ImagesGive (D.keeps_model result) (D.present result) self.ledger.log
             (kept_by self.ledger.log.settled
             (option_map flight_out self.flight) self.ledger.log.doubt) }
@@ -111,12 +104,12 @@ impl<D: CrashDisk> Driver<D> {
         match flight {
             Some(flight) => {
                 drop(ledger);
-                flight.images_give_world();
+                flight.lemma_images_give_world();
                 flight.into_disk()
             }
             None => {
-                ledger.log_is_consistent();
-                ledger.images_give_settled();
+                ledger.lemma_log_is_consistent();
+                ledger.lemma_images_give_settled();
                 match ledger.close() {
                     Ok(store) => store.into_disk(),
                     Err(_) => unreachable!(),
@@ -129,7 +122,7 @@ impl<D: CrashDisk> Driver<D> {
     /// that, the ledger is given up too, and the disk is left.
     pub(crate) fn bring_home(self) -> Result<Ledger<D>, D>
         ensures home { IfOk result (λ home. home ≡ brought_home self.ledger self.flight) }
-        ensures disk { IfErr result (λ disk. disk_driven self ≡ Some disk) }
+        ensures disk { IfErr result (λ disk. disk_held self ≡ Some disk) }
         ensures out { IfErr result (λ _. IsSomeAnd self.flight (λ flight. flight.mark ≡ Good)) }
     {
         let Driver { mut ledger, flight } = self;

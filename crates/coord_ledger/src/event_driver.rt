@@ -2,11 +2,7 @@
 
 ghost use Rattle.std.specs.Prelude.{◌≡◌, ◌+◌, ℕ, IfErr, IfOk, MatchResult, None, Some, length, take};
 ghost use Rattle.std.specs.Option.{option_map};
-ghost use Rattle.coord_ledger.specs.ledger.Driver.{HasFailed};
-ghost use Rattle.coord_ledger.specs.ledger.State.{started};
-ghost use Rattle.coord_ledger.specs.promises.Broken.{Broke, HasCause};
-ghost use Rattle.coord_ledger.specs.promises.Faults.{failed_in, failed_until};
-ghost use Rattle.coord_ledger.specs.promises.Headline.{Promised, Ran};
+ghost use Rattle.coord_ledger.specs.Facade.{Completed, EndedEarly, HasCause, HasFailed, Promised, failed_in, failed_until, started};
 
 mod crashes;
 mod ending;
@@ -16,7 +12,7 @@ mod released;
 mod run;
 
 use crate::{Driver, Event, Ledger, RunFault, Seen, Trace};
-use coord_disk::CrashDisk;
+use coord_disk::{CrashDisk, Disk};
 use run::Run;
 use std::alloc::Global;
 
@@ -37,7 +33,7 @@ use std::alloc::Global;
 /// A fault names the event at which the run ended, and has the answers to the events before it and
 /// all that was released until then. The ledger, its flight and its tickets are given up. The disk
 /// is given back: as those events have left it, or, where the run ended in a crash, as the opening
-/// behind the crash has left it (`Broke`).
+/// behind the crash has left it (`EndedEarly`).
 pub fn run_events_keeping_disk<D: CrashDisk>(
     alloc: Global,
     ledger: Ledger<D>,
@@ -48,7 +44,7 @@ pub fn run_events_keeping_disk<D: CrashDisk>(
     // A run that is answered: the main theorem, and the ledger that is left.
     ensures ran { IfOk result (λ r. (before : D) → (after : D) → ledger.disk ≡ Some before →
         r.1.disk ≡ Some after
-        → Promised (D.keeps_model before) events.now (Ran D.present D.clock D.left_since D.crashes
+        → Promised (D.keeps_model before) events.now (Completed ⟦<D as Disk>⟧ D.crashes
         (started ledger) events.now r.0.answers.items r.0.released.items r.1
         (D.keeps_model after) before after)) }
     ensures at_home { IfOk result (λ r. r.1.out ≡ None) }
@@ -57,7 +53,7 @@ pub fn run_events_keeping_disk<D: CrashDisk>(
 
     // A run that ended early.
     ensures broke { IfErr result (λ r. (before : D) → ledger.disk ≡ Some before
-        → Promised (D.keeps_model before) events.now (Broke D.present D.clock D.left_since D.crashes
+        → Promised (D.keeps_model before) events.now (EndedEarly ⟦<D as Disk>⟧ D.crashes
         (started ledger) events.now r.0.at r.0.trace.answers.items r.0.trace.released.items r.0.kind
         (D.keeps_model before) before r.1)) }
     ensures cause { IfErr result (λ r. (before : D) → ledger.disk ≡ Some before →
@@ -73,7 +69,7 @@ pub fn run_events_keeping_disk<D: CrashDisk>(
         failed_in r.0.kind) }
 {
     let driver = Driver::over(ledger);
-    driver.begins();
+    driver.lemma_begins();
     let mut held = Run {
         driver,
         tickets: Vec::new(alloc),
@@ -87,7 +83,7 @@ pub fn run_events_keeping_disk<D: CrashDisk>(
     for (at, event) in events.iter().enumerate() {
         match held.meet(alloc, *event) {
             Ok((answer, next)) => {
-                next.survives();
+                next.driver.lemma_survives();
                 answers.push_reserved(answer);
                 held = next;
             }
@@ -112,7 +108,7 @@ pub fn run_events<D: CrashDisk>(
     // A run that is answered: the main theorem, and the ledger that is left.
     ensures ran { IfOk result (λ r. (before : D) → (after : D) → ledger.disk ≡ Some before →
         r.1.disk ≡ Some after
-        → Promised (D.keeps_model before) events.now (Ran D.present D.clock D.left_since D.crashes
+        → Promised (D.keeps_model before) events.now (Completed ⟦<D as Disk>⟧ D.crashes
         (started ledger) events.now r.0.answers.items r.0.released.items r.1
         (D.keeps_model after) before after)) }
     ensures at_home { IfOk result (λ r. r.1.out ≡ None) }
@@ -124,7 +120,7 @@ pub fn run_events<D: CrashDisk>(
         → (lost : D) × ((D.failures lost ≡
         (D.failures before + failed_until (take fault.at events.now) fault.trace.answers.items) +
         failed_in fault.kind)
-        × Promised (D.keeps_model before) events.now (Broke D.present D.clock D.left_since D.crashes
+        × Promised (D.keeps_model before) events.now (EndedEarly ⟦<D as Disk>⟧ D.crashes
         (started ledger) events.now fault.at fault.trace.answers.items fault.trace.released.items
         fault.kind (D.keeps_model before) before lost))) }
     ensures cause { IfErr result (λ fault. (before : D) → ledger.disk ≡ Some before →

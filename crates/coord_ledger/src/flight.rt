@@ -163,7 +163,7 @@ impl<D: Disk> Flight<D> {
     }
 
     /// Does nothing: its contract is what the type keeps of every flight.
-    pub fn images_give_world(&self)
+    pub fn lemma_images_give_world(&self)
         ensures some { 1 ≤ length self.now.steps }
         ensures most { length self.now.steps ≤ MAX_BATCH_STEPS }
         ensures images { D.keeps_model self.now.disk ≡ true → FlightGives D.present self.now }

@@ -3,7 +3,7 @@
 
 ghost use Rattle.coord_ledger.specs.laws.Commits.{CommitIsSafe};
 ghost use Rattle.coord_ledger.specs.laws.Laws.{AdoptedIsConsistent, FinishKeepsKept, HasAnswer, KeptIsSafe, LogStays, PrefixFromImages, RunGoesOn, RunIsConsistent, SettledStays, SignalsOnce, StaysConsistent, SubmitOrder};
-ghost use Rattle.coord_ledger.specs.laws.Moving.{CrashReopens, MovedAnswersAlike, MovedGoesOn, MovedIsConsistent};
+ghost use Rattle.coord_ledger.specs.laws.Rebasing.{CrashReopens, RebasedAnswersAlike, RebasedGoesOn, RebasedIsConsistent};
 
 /// The first refusal that applies: Stopped; unless it is a repeat, PendingFull; then Exhausted, and
 /// the step's own in the order of their numbers.
@@ -86,22 +86,22 @@ pub fn prefix_from_images()
 {}
 
 /// A log stays consistent where its base moves along its settled steps.
-#[tactic(auto, using(crate::proofs::machine::Logs::moved_is_consistent))]
-pub fn moved_is_consistent()
-    ensures { MovedIsConsistent }
+#[tactic(auto, using(crate::proofs::machine::Logs::rebased_is_consistent))]
+pub fn rebased_is_consistent()
+    ensures { RebasedIsConsistent }
 {}
 
 /// A ledger whose base is moved along the settled steps, as it is after a crash, gives the same
 /// answers.
-#[tactic(auto, using(crate::proofs::machine::Moved::moved_answers_alike))]
-pub fn moved_answers_alike()
-    ensures { MovedAnswersAlike }
+#[tactic(auto, using(crate::proofs::machine::Rebased::rebased_answers_alike))]
+pub fn rebased_answers_alike()
+    ensures { RebasedAnswersAlike }
 {}
 
 /// After each of these answers too it is the same ledger with its base moved, until a crash.
-#[tactic(auto, using(crate::proofs::machine::Moved::moved_goes_on))]
-pub fn moved_goes_on()
-    ensures { MovedGoesOn }
+#[tactic(auto, using(crate::proofs::machine::Rebased::rebased_goes_on))]
+pub fn rebased_goes_on()
+    ensures { RebasedGoesOn }
 {}
 
 /// After a crash it is as one that was just made of a store of the kept world.

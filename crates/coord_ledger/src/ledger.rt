@@ -100,8 +100,7 @@ fn copies(world: &World) -> Result<(World, World, World), AllocError>
 }
 
 impl<D: Disk> Ledger<D> {
-    ghost use Rattle.coord_ledger.specs.ledger.Calls.{LedgerGives};
-    ghost use Rattle.coord_ledger.specs.ledger.State.{ledger_over};
+    ghost use Rattle.coord_ledger.specs.Facade.{LedgerGives, ledger_over};
 
     /// Makes a ledger over a store that has not stopped. The store's world is the base, and no step
     /// has been accepted since.
@@ -193,7 +192,7 @@ impl<D: Disk> Ledger<D> {
     }
 
     /// Does nothing: its contract is what the type keeps of every ledger.
-    pub fn images_give_settled(&self)
+    pub fn lemma_images_give_settled(&self)
         ensures { IfSome self.now.disk (λ disk. D.keeps_model disk ≡ true →
             LedgerGives D.present self.now disk) }
     {

@@ -13,13 +13,14 @@
 //! `Ledger` is the code: `submit` accepts a step and gives a `Ticket` for its reply, `begin_flush`
 //! sends the store out with the next steps as a `Flight`, `Flight::commit` writes them, `end_flush`
 //! takes the flight back and gives the `Releases` of what it settled, and `collect` gives the reply.
-//! `show` gives the settled world as coord_view's `View`. Contracts see `LedgerState`, `FlightState` and a `Claim` (`specs/ledger/State.antt`), and what
-//! each call makes of them (`specs/ledger/Calls.antt`).
+//! `show` gives the settled world as coord_view's `View`. Contracts see `LedgerState`,
+//! `FlightState` and a `Claim` (`specs/ledger/State.antt`), and what each call makes of them
+//! (`specs/ledger/Calls.antt`).
 //!
 //! [`run_events_keeping_disk`] runs a list of events in one thread, with crashes in between: the main
 //! theorem is its contract, and `specs/promises/Broken.antt` has what it says of a run that ends
-//! early. [`run_events`] is the same without the disk. `specs/ledger/Follows.antt` has what a run
-//! keeps from one event to the next.
+//! early. [`run_events`] is the same without the disk. `specs/ledger/Follows.antt` says where a run
+//! is between two events.
 //!
 //! [`laws`] proves of the machine what the main theorem stands on.
 #![tactic(auto)]

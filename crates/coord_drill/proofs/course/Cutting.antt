@@ -4,8 +4,8 @@ use Rattle.std.specs.Option.{option_map}
 use Rattle.std.proofs.lemmas.Bool.{false≢true}
 use Rattle.coord_disk.specs.declared.disk.Disk.{Ghosts}
 use Rattle.coord_ledger.specs.declared.events.Event.{Event}
-use Rattle.coord_ledger.specs.Facade.{Machine, Survives, disk_driven, failed_until, model_driven, run}
-use Rattle.coord_ledger.proofs.drives.EachMoment.{reopens_more}
+use Rattle.coord_ledger.specs.Facade.{Machine, Survives, disk_held, failed_until, model_held, run}
+use Rattle.coord_ledger.proofs.runs.EachMoment.{reopens_more}
 use Rattle.coord_drill.specs.Drill.{DrillState, line_events}
 use Rattle.coord_drill.specs.declared.asked.Asked.TheVariants.{Crash, Version2}
 use Rattle.coord_drill.specs.Facade.{Answer, Asked, CutShort, Cuts, Drill, Fault, IsEmptyLog, IsKept, IsLeftBy, IsLostInCrash, IsOfMemory, IsPassing, IsPromised, LeadsPart, Passes, Place, RaisesPart, Stands, failed_by}
@@ -26,11 +26,11 @@ module _ {D : Type 0} (disk : Ghosts D) (crashes : D → D → Type 0) (d : Dril
   cut_part : (a : Asked) (why : Fault) (lost : D) → is_version a ≡ false → IsOfMemory why → LeadsPart disk crashes d.driver (line_events d.holds a) lost → CutShort disk crashes p a why lost
   cut_part a why lost other memory part =
       let given = part.given in
-      let led = part.moments at.beside p.machine at.consistent at.follows in
+      let led = part.moments p.machine at.consistent at.represents in
       let there = led.moments p.disk at.holds at.keeps in
       let same : lost ≡ there.new = cc (there.holds, part.left) in
       let es = take (length given) (line_events d.holds a given) in
-      let count = failed_is disk crashes p.disk there.new (disk_driven d.driver) (disk_driven part.mid) es given led.failed at.holds there.holds in
+      let count = failed_is disk crashes p.disk there.new (disk_held d.driver) (disk_held part.mid) es given led.failed at.holds there.holds in
       let none : failed_by why ≡ 0 = ap failed_by memory in
       let all : disk.failures lost ≡ disk.failures p.disk + (failed_until es given + failed_by why) = omega (arith, ap disk.failures same, count, none) in
       record {
@@ -48,10 +48,10 @@ module _ {D : Type 0} (disk : Ghosts D) (crashes : D → D → Type 0) (d : Dril
   cut_before_events a why lost cause left failed = record { cause = cause; given = []; mid = p.disk; moments = (refl, at.kept); left = left; failed = omega (arith, failed) }
 
   -- in a crash
-  cut_crash : (why : Fault) (lost : D) → model_driven disk.keeps_model d.driver ≡ Some true → IsLostInCrash disk crashes d.driver why lost → CutShort disk crashes p Crash why lost
+  cut_crash : (why : Fault) (lost : D) → model_held disk.keeps_model d.driver ≡ Some true → IsLostInCrash disk crashes d.driver why lost → CutShort disk crashes p Crash why lost
   cut_crash why lost model part =
-      let reopens = part.moments at.beside p.machine at.consistent at.follows p.disk at.holds at.keeps in
-      let kept = reopens_more disk.present disk.clock disk.left_since crashes (Survives p.machine) (IsKept p.machine p.told) p.disk lost reopens (λ bytes survives. kept_of p.machine p.told bytes at.consistent at.told survives) in
+      let reopens = part.moments p.machine at.consistent at.represents p.disk at.holds at.keeps in
+      let kept = reopens_more disk crashes (Survives p.machine) (IsKept p.machine p.told) p.disk lost reopens (λ bytes survives. kept_of p.machine p.told bytes at.consistent at.told survives) in
       cut_before_events Crash why lost (part.cause model) (inr kept) (part.failed (disk.failures p.disk) (ap (option_map disk.failures) at.holds))
 
   -- in `version 2`

@@ -8,7 +8,7 @@ use Rattle.coord_store.specs.Migrating.{risen}
 use Rattle.coord_world.proofs.Facade.{no_lane}
 use Rattle.coord_world.specs.Facade.{Legal, World, is_linked, lane_at, no_world}
 use Rattle.coord_ledger.specs.declared.events.Event.TheVariants as event
-use Rattle.coord_ledger.specs.Facade.{Answered, Log, after_submit, cut_to, log_over, machine_over, moved, run, verdict}
+use Rattle.coord_ledger.specs.Facade.{Answered, Log, after_submit, cut_to, log_over, machine_over, rebased, run, verdict}
 use Rattle.coord_drill.specs.Answered.{IsAnswered}
 use Rattle.coord_drill.specs.Drill.{DrillState, after_asked, begun_after, flight_events, machine_of, step_events}
 use Rattle.coord_drill.specs.declared.asked.Asked.TheVariants as ask
@@ -37,13 +37,13 @@ empty_flight w (a ∷ given) answered = refl
 
 -- a crash keeps no step
 empty_crash : (w : World) (given : List Answer) → Answered (machine_over (log_over w)) (event.Crash ∷ []) given →
-    moved (run (machine_over (log_over w)) (event.Crash ∷ []) given).log (run (machine_over (log_over w)) (event.Crash ∷ []) given).log.settled ≡ log_over w
+    rebased (run (machine_over (log_over w)) (event.Crash ∷ []) given).log (run (machine_over (log_over w)) (event.Crash ∷ []) given).log.settled ≡ log_over w
 empty_crash w [] answered = absurd answered
 empty_crash w (a ∷ given) answered = elim answered.0 [
   | inl same ↦
       let none : w.count + 0 - w.count ≡ 0 = omega arith in
-      ap (λ b. moved (run (machine_over (log_over w)) (event.Crash ∷ []) (b ∷ given)).log (run (machine_over (log_over w)) (event.Crash ∷ []) (b ∷ given)).log.settled) same
-      ∙ ap (λ n. moved (cut_to (log_over w) n) n) none
+      ap (λ b. rebased (run (machine_over (log_over w)) (event.Crash ∷ []) (b ∷ given)).log (run (machine_over (log_over w)) (event.Crash ∷ []) (b ∷ given)).log.settled) same
+      ∙ ap (λ n. rebased (cut_to (log_over w) n) n) none
   | inr never ↦ absurd never
 ]
 
@@ -89,7 +89,7 @@ module _ (s t : DrillState) (given : List Answer) (told : List ℕ) (empty : s.h
       by_world (λ log. (run (machine_over log) (flight_events given) given).log) (ap (λ (r : DrillState). r.log) answered.goes_on) (sym (ap (λ (r : DrillState). r.has_begun) answered.goes_on) ∙ begun)
       (λ w one. empty_flight w given (subst (λ log. Answered (machine_over log) (flight_events given) given) one answered.answered))
   stays_empty ask.Crash answered =
-      by_world (λ log. moved (run (machine_over log) (event.Crash ∷ []) given).log (run (machine_over log) (event.Crash ∷ []) given).log.settled) (ap (λ (r : DrillState). r.log) answered.goes_on) (sym (ap (λ (r : DrillState). r.has_begun) answered.goes_on) ∙ begun)
+      by_world (λ log. rebased (run (machine_over log) (event.Crash ∷ []) given).log (run (machine_over log) (event.Crash ∷ []) given).log.settled) (ap (λ (r : DrillState). r.log) answered.goes_on) (sym (ap (λ (r : DrillState). r.has_begun) answered.goes_on) ∙ begun)
       (λ w one. empty_crash w given (subst (λ log. Answered (machine_over log) (event.Crash ∷ []) given) one answered.answered))
   stays_empty ask.Version2 answered = inr (ap (λ (r : DrillState). r.log) answered.goes_on)
   stays_empty a answered = same_log (ap (λ (r : DrillState). r.log) answered.goes_on) (sym (ap (λ (r : DrillState). r.has_begun) answered.goes_on) ∙ begun)

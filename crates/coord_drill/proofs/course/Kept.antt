@@ -13,7 +13,7 @@ use Rattle.coord_ledger.specs.declared.events.Event.TheVariants.{Commit, Crash}
 use Rattle.coord_ledger.specs.declared.mark.Mark.{Mark}
 use Rattle.coord_ledger.specs.declared.mark.Mark.TheVariants.{New, Good, Torn}
 use Rattle.coord_ledger.specs.Facade.{Answered, EachMoment, EventInRange, FlightOut, IsConsistent, IsOneOf, LeavesWithin, Machine, Survives, after, answers, found_by_crash, run, settled_count, to_commit, with_flight, world_after}
-use Rattle.coord_ledger.proofs.drives.EachMoment.{reopens_more}
+use Rattle.coord_ledger.proofs.runs.EachMoment.{reopens_more}
 use Rattle.coord_ledger.proofs.machine.Consistent.{stays_consistent}
 use Rattle.coord_ledger.proofs.machine.ConsistentFlights.{kept_more}
 use Rattle.coord_ledger.proofs.machine.Lists.{all_raised}
@@ -76,11 +76,11 @@ settled_grows m (e ∷ es) (a ∷ gs) named is answered =
     omega (arith, later, keeps.settled, ap (λ (w : World). w.count) keeps.base)
 
 module _ {D : Type 0} (disk : Ghosts D) (crashes : D → D → Type 0) where
-  within_more : (e : Event) (P Q : List ℕ → Type 0) (old new : D) → LeavesWithin disk.present disk.clock disk.left_since crashes e P old new → ((bytes : List ℕ) → P bytes → Q bytes) → LeavesWithin disk.present disk.clock disk.left_since crashes e Q old new
-  within_more Crash P Q old new leaves more = reopens_more disk.present disk.clock disk.left_since crashes P Q old new leaves more
+  within_more : (e : Event) (P Q : List ℕ → Type 0) (old new : D) → LeavesWithin disk crashes e P old new → ((bytes : List ℕ) → P bytes → Q bytes) → LeavesWithin disk crashes e Q old new
+  within_more Crash P Q old new leaves more = reopens_more disk crashes P Q old new leaves more
   within_more e P Q old new leaves more = weaker disk.clock disk.left_since old new P Q leaves more
 
-  pub passes : (m : Machine) (told : List ℕ) (es : List Event) (gs : List Answer) (old new : D) → AllByRecursion EventInRange es → IsConsistent m → Answered m es gs → Settled m told → EachMoment disk.present disk.clock disk.left_since crashes true m es gs old new →
+  pub passes : (m : Machine) (told : List ℕ) (es : List Event) (gs : List Answer) (old new : D) → AllByRecursion EventInRange es → IsConsistent m → Answered m es gs → Settled m told → EachMoment disk crashes true m es gs old new →
       Passes disk crashes m told es gs old new
   passes m told [] [] old new named is answered all moments = (moments.0, λ image here. kept_of m told image is all (moments.1 refl image here))
   passes m told [] (a ∷ gs) old new named is answered all moments = absurd moments
@@ -98,7 +98,7 @@ module _ {D : Type 0} (disk : Ghosts D) (crashes : D → D → Type 0) where
       )
 
   -- what the disk may hold behind them
-  pub kept_behind : (m : Machine) (told : List ℕ) (es : List Event) (gs : List Answer) (old new : D) → EachMoment disk.present disk.clock disk.left_since crashes true m es gs old new → IsConsistent (run m es gs) → Settled (run m es gs) told → AllKept (run m es gs) told (disk.present new)
+  pub kept_behind : (m : Machine) (told : List ℕ) (es : List Event) (gs : List Answer) (old new : D) → EachMoment disk crashes true m es gs old new → IsConsistent (run m es gs) → Settled (run m es gs) told → AllKept (run m es gs) told (disk.present new)
   kept_behind m told [] [] old new moments is all = λ image here. kept_of m told image is all (moments.1 refl image here)
   kept_behind m told [] (a ∷ gs) old new moments is all = absurd moments
   kept_behind m told (e ∷ es) [] old new moments is all = absurd moments

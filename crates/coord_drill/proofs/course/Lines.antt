@@ -5,7 +5,7 @@ use Rattle.coord_disk.specs.declared.disk.Disk.{Ghosts}
 use Rattle.coord_lines.specs.Lines.{Line}
 use Rattle.coord_types.specs.declared.packets.DataPacket.{DataPacket}
 use Rattle.coord_world.specs.Facade.{World}
-use Rattle.coord_ledger.specs.Facade.{disk_driven, front_world}
+use Rattle.coord_ledger.specs.Facade.{disk_held, front_world}
 use Rattle.coord_drill.specs.Answered.{IsAnswered}
 use Rattle.coord_drill.specs.Asked.{asked, asked_of_front, front}
 use Rattle.coord_drill.specs.Drill.{DrillState, version_of}
@@ -125,7 +125,7 @@ module _ {D : Type 0} (disk : Ghosts D) (crashes : D → D → Type 0) where
   tells_bad d n old text (Err e) line same told goes = tt
 
   -- it could not be told
-  pub told_lost : (d : Drill D) (p : Place D) → Stands disk d p → (line : Line) (fault : Fault) (lost : D) → IsOfMemory fault → disk_driven d.driver ≡ Some lost → IsGivenBack disk crashes p (line ∷ []) fault lost
+  pub told_lost : (d : Drill D) (p : Place D) → Stands disk d p → (line : Line) (fault : Fault) (lost : D) → IsOfMemory fault → disk_held d.driver ≡ Some lost → IsGivenBack disk crashes p (line ∷ []) fault lost
   told_lost d p at line fault lost memory there = inl (cc (there, at.holds), λ why same. let no : ⊥ = cc in no)
 
   -- ---- lines

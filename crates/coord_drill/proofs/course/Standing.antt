@@ -12,7 +12,7 @@ use Rattle.coord_store.specs.Migrating.{risen}
 use Rattle.coord_world.proofs.Facade.{trail_keeps_worlds}
 use Rattle.coord_world.specs.Facade.{no_world}
 use Rattle.coord_ledger.specs.declared.events.Event.{Event}
-use Rattle.coord_ledger.specs.Facade.{CrashPrefix, Driven, Follows, HasFailed, IsConsistent, LedgerState, Log, Machine, MayBegin, adopted, disk_driven, failed_until, has_stopped, held, log_over, machine_over, nothing_beside, run, settled_count, settled_world, started}
+use Rattle.coord_ledger.specs.Facade.{CrashPrefix, DriverState, HasFailed, IsConsistent, LedgerState, Log, Machine, MayBegin, Represents, adopted, disk_held, failed_until, has_stopped, log_over, machine_over, run, settled_count, settled_world, started}
 use Rattle.coord_ledger.proofs.follows.Follows.{count_is, settled_is}
 use Rattle.coord_ledger.proofs.machine.Lists.{all_both, all_raised}
 use Rattle.coord_ledger.proofs.machine.Logs.{count_after}
@@ -29,28 +29,27 @@ use Rattle.coord_drill.proofs.course.Told.{told_settled}
 -- ---- a store that was just made
 
 module _ {D : Type 0} (disk : Ghosts D) (crashes : D → D → Type 0) where
-  prefix_of : (d : Driven D) (here : D) (may : MayBegin disk.keeps_model disk.present disk.clock disk.left_since crashes d) → disk_driven d ≡ Some here → disk.keeps_model here ≡ true → (m : Machine) → started d.ledger ≡ m → CrashPrefix m true (disk.present here)
+  prefix_of : (d : DriverState D) (here : D) (may : MayBegin disk crashes d) → disk_held d ≡ Some here → disk.keeps_model here ≡ true → (m : Machine) → started d.ledger ≡ m → CrashPrefix m true (disk.present here)
   prefix_of d here may there on m same =
-      let drives = may.drives in
-      let last : drives.disk ≡ here = cc (drives.holds, there) in
-      let first : may.first ≡ here = sym drives.moments.0 ∙ last in
+      let so_far = may.so_far in
+      let last : so_far.disk ≡ here = cc (so_far.holds, there) in
+      let first : may.first ≡ here = sym so_far.moments.0 ∙ last in
       subst (λ (k : Machine). CrashPrefix k true (disk.present here)) same
-      (λ _ image is. drives.moments.1 (ap disk.keeps_model first ∙ on) image (subst (λ x. IsImage (disk.present x) image) (sym last) is))
+      (λ _ image is. so_far.moments.1 (ap disk.keeps_model first ∙ on) image (subst (λ x. IsImage (disk.present x) image) (sym last) is))
 
   -- whatever the disk of a driver may hold is kept, where nothing was told of yet
-  pub first_kept : (d : Driven D) (here : D) → MayBegin disk.keeps_model disk.present disk.clock disk.left_since crashes d → disk_driven d ≡ Some here → disk.keeps_model here ≡ true → AllKept (started d.ledger) [] (disk.present here)
-  first_kept d here may there on image is = kept_of (started d.ledger) [] image may.drives.consistent tt (prefix_of d here may there on (started d.ledger) refl refl image is)
+  pub first_kept : (d : DriverState D) (here : D) → MayBegin disk crashes d → disk_held d ≡ Some here → disk.keeps_model here ≡ true → AllKept (started d.ledger) [] (disk.present here)
+  first_kept d here may there on image is = kept_of (started d.ledger) [] image may.so_far.consistent tt (prefix_of d here may there on (started d.ledger) refl refl image is)
 
-  pub stands_first : (d : Drill D) (begun : D) → MayBegin disk.keeps_model disk.present disk.clock disk.left_since crashes d.driver → disk_driven d.driver ≡ Some begun → disk.keeps_model begun ≡ true → d.driver.ledger.log ≡ log_over (no_world 1) → d.holds ≡ false → d.has_begun ≡ false → Stands disk d (start begun)
+  pub stands_first : (d : Drill D) (begun : D) → MayBegin disk crashes d.driver → disk_held d.driver ≡ Some begun → disk.keeps_model begun ≡ true → d.driver.ledger.log ≡ log_over (no_world 1) → d.holds ≡ false → d.has_begun ≡ false → Stands disk d (start begun)
   stands_first d begun may there on empty holds none =
       let same : started d.driver.ledger ≡ adopted (no_world 1) = ap (λ (log : Log). machine_over log) empty in
       record {
         state = λ i. record { log = sym empty i; holds = sym holds i; has_begun = sym none i };
         holds = there;
         keeps = on;
-        consistent = subst IsConsistent same may.drives.consistent;
-        beside = nothing_beside;
-        follows = subst (Follows (held d.driver nothing_beside)) same may.drives.follows;
+        consistent = subst IsConsistent same may.so_far.consistent;
+        represents = subst (Represents d.driver) same may.so_far.represents;
         told = tt;
         empty = λ _. inl refl;
         kept = subst (λ m. AllKept m [] (disk.present begun)) same (first_kept d.driver begun may there on);
@@ -115,10 +114,10 @@ module _ {D : Type 0} (disk : Ghosts D) (crashes : D → D → Type 0) where
     pub reached : (a : Asked) (given : List Answer) (told : List ℕ) → is_version a ≡ false → IsAnswered (state_of d) a given told (state_of new) → Leads disk crashes d.driver (line_events d.holds a given) given new.driver → Reached d new p a given
     reached a given told other answered leads =
         let es = line_events d.holds a given in
-        let led = leads at.beside p.machine at.consistent at.follows in
+        let led = leads p.machine at.consistent at.represents in
         let there = led.moments p.disk at.holds at.keeps in
         let m = run p.machine es given in
-        let count = count_is (held new.driver led.beside) m led.consistent led.follows in
+        let count = count_is new.driver m led.consistent led.represents in
         let grows = settled_grows p.machine es given led.in_range at.consistent led.answered in
         let before = all_raised (λ k. k) (settled_count p.machine.log) (settled_count m.log) p.told grows at.told in
         let later : Settled m (told_by p.state a given) = subst (λ (s : DrillState). Settled m (told_by s a given)) (sym at.state) (subst (λ n. AllByRecursion (λ k. k ≤ n) (told_by (state_of d) a given)) count (told_settled (state_of d) (state_of new) a given told answered)) in
@@ -127,7 +126,7 @@ module _ {D : Type 0} (disk : Ghosts D) (crashes : D → D → Type 0) where
         let goes : Goes a given q =
         subst (λ (s : DrillState). (m ≡ run p.machine (line_events s.holds a given) given)
         × (Passes disk crashes p.machine p.told (line_events s.holds a given) given p.disk there.new × (disk.failures there.new ≡ disk.failures p.disk + failed_until (line_events s.holds a given) given))) (sym at.state)
-        (refl, (passes disk crashes p.machine p.told es given p.disk there.new led.in_range at.consistent led.answered at.told there.moments, failed_is p.disk there.new (disk_driven d.driver) (disk_driven new.driver) es given led.failed at.holds there.holds)) in
+        (refl, (passes disk crashes p.machine p.told es given p.disk there.new led.in_range at.consistent led.answered at.told there.moments, failed_is p.disk there.new (disk_held d.driver) (disk_held new.driver) es given led.failed at.holds there.holds)) in
         record {
           place = q;
           state = refl;
@@ -138,8 +137,7 @@ module _ {D : Type 0} (disk : Ghosts D) (crashes : D → D → Type 0) where
             holds = there.holds;
             keeps = there.keeps;
             consistent = led.consistent;
-            beside = led.beside;
-            follows = led.follows;
+            represents = led.represents;
             told = all;
             empty = λ none. stays_empty (state_of d) (state_of new) given told (subst (λ (s : DrillState). s.has_begun ≡ false → IsEmptyLog s.log) at.state at.empty) none a answered;
             kept = kept_behind disk crashes p.machine (p.told ++ told_by p.state a given) es given p.disk there.new there.moments led.consistent all;
@@ -148,7 +146,7 @@ module _ {D : Type 0} (disk : Ghosts D) (crashes : D → D → Type 0) where
 
     kept_two : IsEmptyLog d.driver.ledger.log → (bytes : List ℕ) → Recovered bytes (no_world 2) → IsKept (adopted (no_world 2)) p.told bytes
     kept_two empty bytes recovered =
-        let count : settled_count p.machine.log ≡ 0 = sym (count_is (held d.driver at.beside) p.machine at.consistent at.follows) ∙ none_settled d.driver.ledger.log empty in
+        let count : settled_count p.machine.log ≡ 0 = sym (count_is d.driver p.machine at.consistent at.represents) ∙ none_settled d.driver.ledger.log empty in
         record {
           steps = 0;
           within = omega arith;
@@ -165,14 +163,14 @@ module _ {D : Type 0} (disk : Ghosts D) (crashes : D → D → Type 0) where
         inl (record {
           steps = log.settled;
           within = le;
-          recovered = subst (Recovered bytes) (settled_is (held d.driver at.beside) p.machine at.consistent at.follows) own;
+          recovered = subst (Recovered bytes) (settled_is d.driver p.machine at.consistent at.represents) own;
           legal = (trail_keeps_worlds log.base log.trail log.settled at.consistent.log.trail).legal;
           has_told = all_raised (λ k. k) (settled_count log) (settled_world log).count p.told (omega (arith, count)) at.told;
         })
     raising_kept empty bytes (inr raised) = inr (kept_two empty bytes (subst (Recovered bytes) (raised_to d.driver.ledger.log empty) raised))
 
     -- each moment of the raising
-    pub raises : IsEmptyLog d.driver.ledger.log → (old lost : D) → disk_driven d.driver ≡ Some old → (has_stopped d.driver.ledger.log ≡ false → disk.keeps_model old ≡ true → LeavesOnly disk.clock disk.left_since old lost (GivesRaised d.driver)) → Raises disk p lost
+    pub raises : IsEmptyLog d.driver.ledger.log → (old lost : D) → disk_held d.driver ≡ Some old → (has_stopped d.driver.ledger.log ≡ false → disk.keeps_model old ≡ true → LeavesOnly disk.clock disk.left_since old lost (GivesRaised d.driver)) → Raises disk p lost
     raises empty old lost there moments =
         let same : old ≡ p.disk = cc (there, at.holds) in
         let leaves = moments (none_stopped d.driver.ledger.log empty) (ap disk.keeps_model same ∙ at.keeps) in
@@ -187,11 +185,11 @@ module _ {D : Type 0} (disk : Ghosts D) (crashes : D → D → Type 0) where
         let same : started new.driver.ledger ≡ adopted (no_world 2) = ap machine_over log_is in
         let old : to.old ≡ p.disk = cc (to.there, at.holds) in
         let on = to.keeps (ap disk.keeps_model old ∙ at.keeps) in
-        let count : settled_count p.machine.log ≡ 0 = sym (count_is (held d.driver at.beside) p.machine at.consistent at.follows) ∙ none_settled d.driver.ledger.log empty in
+        let count : settled_count p.machine.log ≡ 0 = sym (count_is d.driver p.machine at.consistent at.represents) ∙ none_settled d.driver.ledger.log empty in
         let told_nothing : p.told ≡ p.told ++ [] = sym (append-nil p.told) in
         let all : Settled (adopted (no_world 2)) (p.told ++ []) = subst (Settled (adopted (no_world 2))) told_nothing (all_raised (λ k. k) (settled_count p.machine.log) (settled_count (adopted (no_world 2)).log) p.told (omega (arith, count)) at.told) in
-        let consistent = subst IsConsistent same to.begins.drives.consistent in
-        let follows = subst (Follows (held new.driver nothing_beside)) same to.begins.drives.follows in
+        let consistent = subst IsConsistent same to.begins.so_far.consistent in
+        let represents = subst (Represents new.driver) same to.begins.so_far.represents in
         let first : CrashPrefix (adopted (no_world 2)) true (disk.present to.raised) = prefix_of new.driver to.raised to.begins to.now on (adopted (no_world 2)) same in
         record {
           place = record { state = state_of new; machine = adopted (no_world 2); told = p.told ++ []; disk = to.raised };
@@ -203,8 +201,7 @@ module _ {D : Type 0} (disk : Ghosts D) (crashes : D → D → Type 0) where
             holds = to.now;
             keeps = on;
             consistent = consistent;
-            beside = nothing_beside;
-            follows = follows;
+            represents = represents;
             told = all;
             empty = λ _. inr log_is;
             kept = λ image is. kept_of (adopted (no_world 2)) (p.told ++ []) image consistent all (first refl image is);

@@ -2,7 +2,7 @@
 use Rattle.std.proofs.Common.{◌≡◌, false, true, Some, refl, sym, inl}
 use Rattle.std.proofs.lemmas.Bool.{false≢true}
 use Rattle.coord_disk.specs.declared.disk.Disk.{Ghosts}
-use Rattle.coord_ledger.specs.Facade.{disk_driven}
+use Rattle.coord_ledger.specs.Facade.{disk_held}
 use Rattle.coord_drill.specs.Drill.{line_events}
 use Rattle.coord_drill.specs.declared.asked.Asked.TheVariants.{Crash, Version2}
 use Rattle.coord_drill.specs.Facade.{Asked, Cuts, CutsIf, Drill, Fault, IsOfMemory, LeadsPart}
@@ -16,5 +16,5 @@ module _ {D : Type 0} (disk : Ghosts D) (crashes : D → D → Type 0) where
   cuts_part d a why lost other memory part = (memory, part)
 
   -- none was
-  pub cut_before : (d : Drill D) (a : Asked) (why : Fault) (lost : D) → is_version a ≡ false → IsOfMemory why → Survive disk crashes d.driver → disk_driven d.driver ≡ Some lost → CutsIf disk crashes a d why lost
+  pub cut_before : (d : Drill D) (a : Asked) (why : Fault) (lost : D) → is_version a ≡ false → IsOfMemory why → Survive disk crashes d.driver → disk_held d.driver ≡ Some lost → CutsIf disk crashes a d why lost
   cut_before d a why lost other memory survives there promised = cuts_part d a why lost other memory (none_led disk crashes d.driver d.driver (line_events d.holds a) lost survives refl there)

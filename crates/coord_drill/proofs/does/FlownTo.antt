@@ -7,10 +7,10 @@ use Rattle.coord_disk.specs.declared.disk.Disk.{Ghosts}
 use Rattle.coord_types.specs.declared.refusals.Refusal.TheVariants.{OutOfMemory}
 use Rattle.coord_store.specs.declared.faults.CommitFault.TheVariants as commit
 use Rattle.coord_world.specs.Facade.{World, fold, outs}
-use Rattle.coord_ledger.proofs.follows.Follows.{log_is}
+use Rattle.coord_ledger.proofs.follows.Follows.{flight_is, log_is}
 use Rattle.coord_ledger.proofs.machine.Logs.{world-add}
 use Rattle.coord_ledger.specs.declared.events.Event.TheVariants.{Begin}
-use Rattle.coord_ledger.specs.Facade.{Claim, Driven, IsGranted, IsOneOf, Log, Machine, flight_out, held, next_size, nothing_beside, pending, run as after_run, settled_count, settled_world, settling_releases, started, stays_home, to_begin, with_doubt, with_settled}
+use Rattle.coord_ledger.specs.Facade.{Claim, DriverState, IsGranted, IsOneOf, Log, Machine, flight_out, next_size, pending, run as after_run, settled_count, settled_world, settling_releases, started, stays_home, to_begin, with_doubt, with_settled}
 use Rattle.coord_drill.specs.Facade.{AreGranted, Begins, Begun, Drill, Flies, Flown, FlownTo, GoesBy, Lands, IsHeld, IsReadyWith, IsRun, Leads, LeadsPart, Nothing, Refused, Release, Reply, claims_of, collected_lines, drill_of, flight_events, flight_lines, flown_answers, flown_lines, landed_answers, landing_events, left_by, machine_of, seen_as, settled_lines, waiting}
 use Rattle.coord_drill.specs.declared.drill.flying.Flown.TheVariants as flown
 use Rattle.coord_drill.proofs.does.Moments.{leads_then}
@@ -36,13 +36,13 @@ flown_to old mid new (flown.Settled rs) same back = subst (λ g. Lands g (flown.
 flown_to old mid new (flown.Failed fault) same back = subst (λ g. Lands g (flown.Failed fault) new) same back
 
 -- the departure of a flight, and then its commit and its return
-pub flown_by : {D : Type 0} (disk : Ghosts D) (crashes : D → D → Type 0) (v out new : Driven D) (r : Flown) (b count : ℕ) → Lands out.ledger.log r new.ledger.log → Leads disk crashes v (Begin ∷ []) (Begun b ∷ []) out → Leads disk crashes out landing_events (landed_answers r count) new →
+pub flown_by : {D : Type 0} (disk : Ghosts D) (crashes : D → D → Type 0) (v out new : DriverState D) (r : Flown) (b count : ℕ) → Lands out.ledger.log r new.ledger.log → Leads disk crashes v (Begin ∷ []) (Begun b ∷ []) out → Leads disk crashes out landing_events (landed_answers r count) new →
     GoesBy disk crashes v (flown_answers r b count) new
 flown_by disk crashes v out new flown.Nothing b count back begun landed = absurd back
 flown_by disk crashes v out new r b count back begun landed = leads_then disk crashes v out new (Begin ∷ []) landing_events (Begun b ∷ []) (landed_answers r count) begun landed
 
 -- the departure of a flight, where a part of the rest was answered
-pub flown_part : {D : Type 0} (disk : Ghosts D) (crashes : D → D → Type 0) (v out : Driven D) (b : ℕ) (lost : D) → Leads disk crashes v (Begin ∷ []) (Begun b ∷ []) out → LeadsPart disk crashes out (λ _. landing_events) lost → LeadsPart disk crashes v flight_events lost
+pub flown_part : {D : Type 0} (disk : Ghosts D) (crashes : D → D → Type 0) (v out : DriverState D) (b : ℕ) (lost : D) → Leads disk crashes v (Begin ∷ []) (Begun b ∷ []) out → LeadsPart disk crashes out (λ _. landing_events) lost → LeadsPart disk crashes v flight_events lost
 flown_part disk crashes v out b lost begun part =
     record {
       given = Begun b ∷ part.given;
@@ -73,7 +73,7 @@ flew m (flown.Failed fault) b count = refl
 
 -- ---- the drill that goes by it
 
-module _ {D : Type 0} (disk : Ghosts D) (crashes : D → D → Type 0) (v w : Driven D) (claims : List Claim) (all : IsHeld v.ledger claims) (count : ℕ) where
+module _ {D : Type 0} (disk : Ghosts D) (crashes : D → D → Type 0) (v w : DriverState D) (claims : List Claim) (all : IsHeld v.ledger claims) (count : ℕ) where
   abbrev log : Log
   log = v.ledger.log
 
@@ -87,7 +87,7 @@ module _ {D : Type 0} (disk : Ghosts D) (crashes : D → D → Type 0) (v w : Dr
   After r = after_run (started v.ledger) (flight_events (flown_answers r b count)) (flown_answers r b count)
 
   by_base : (r : Flown) → Runs r → w.ledger.log.base ≡ (After r).log.base → w.ledger.log ≡ (After r).log
-  by_base r run same = log_is (held w run.beside) (After r) run.consistent run.follows same
+  by_base r run same = log_is w (After r) run.consistent run.represents same
 
   is : (r : Flown) → Runs r → FlownTo log r w.ledger.log → w.ledger.log ≡ flew_log log r b
   is flown.Nothing run to = to
@@ -101,10 +101,10 @@ module _ {D : Type 0} (disk : Ghosts D) (crashes : D → D → Type 0) (v w : Dr
 
   -- no flight is out
   home : (r : Flown) → Runs r → w.flight ≡ None
-  home flown.Nothing run = none_out flight_out w.flight run.follows.flight
-  home (flown.Settled rs) run = none_out flight_out w.flight run.follows.flight
-  home (flown.Failed commit.Device) run = none_out flight_out w.flight run.follows.flight
-  home (flown.Failed fault) run = none_out flight_out w.flight run.follows.flight
+  home flown.Nothing run = none_out flight_out w.flight (flight_is w (After flown.Nothing) run.represents)
+  home (flown.Settled rs) run = none_out flight_out w.flight (flight_is w (After (flown.Settled rs)) run.represents)
+  home (flown.Failed commit.Device) run = none_out flight_out w.flight (flight_is w (After (flown.Failed commit.Device)) run.represents)
+  home (flown.Failed fault) run = none_out flight_out w.flight (flight_is w (After (flown.Failed fault)) run.represents)
 
   -- ---- of a flight that is settled
 
@@ -178,7 +178,7 @@ flies disk crashes d new r holds begun all begins to by =
     let w = new.driver in
     let count = settled_count w.ledger.log in
     let given = flown_answers r (next_size v.ledger.log) count in
-    let run = by nothing_beside (started v.ledger) begins.consistent begins.follows in
+    let run = by (started v.ledger) begins.consistent begins.represents in
     record {
       given = given;
       with_memory = flown_memory r (next_size v.ledger.log) count;

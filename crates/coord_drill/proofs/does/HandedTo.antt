@@ -10,7 +10,7 @@ use Rattle.coord_ledger.proofs.follows.Granted.{granted_repeat}
 use Rattle.coord_ledger.specs.declared.events.Answer.TheVariants as answer
 use Rattle.coord_ledger.specs.declared.events.Event.TheVariants as event
 use Rattle.coord_ledger.specs.declared.handed.Handed.TheVariants.{Accepted, Repeated}
-use Rattle.coord_ledger.specs.Facade.{Claim, Driven, HandedTo, IsGranted, LedgerState, RefusesStep, claimed, disk_driven, pending, reply_of, run, settled_count, settled_world, verdict, with_accepted}
+use Rattle.coord_ledger.specs.Facade.{Claim, DriverState, HandedTo, IsGranted, LedgerState, RefusesStep, claimed, disk_held, pending, reply_of, run, settled_count, settled_world, verdict, with_accepted}
 use Rattle.coord_drill.specs.declared.asked.Asked.TheVariants.{Submit}
 use Rattle.coord_ledger.specs.declared.handed.Handed.{Handed}
 use Rattle.coord_drill.specs.Answered.{asked_lines}
@@ -52,8 +52,8 @@ repeated_granted {D} l new x t to =
 
 -- ---- the drill then, and what is printed
 
-module _ {D : Type 0} (disk : Ghosts D) (crashes : D → D → Type 0) (d : Drill D) (w : Driven D) (x : Step) (ready : IsReady d) where
-  abbrev v : Driven D
+module _ {D : Type 0} (disk : Ghosts D) (crashes : D → D → Type 0) (d : Drill D) (w : DriverState D) (x : Step) (ready : IsReady d) where
+  abbrev v : DriverState D
   v = d.driver
 
   -- the ticket of an accepted step joins the others
@@ -76,7 +76,7 @@ module _ {D : Type 0} (disk : Ghosts D) (crashes : D → D → Type 0) (d : Dril
           drill_of w.ledger new.holds new.has_begun ≡ after_asked s (Submit x) given → Carries disk crashes d (Submit x) told new
       carried given told leads memory printed on =
           carries disk crashes d new (Submit x) given told refl begins (subst (Leads disk crashes v (line_events d.holds (Submit x) given) given) (sym now) leads) memory printed
-          (ap (λ (y : Driven D). drill_of y.ledger new.holds new.has_begun) now ∙ on)
+          (ap (λ (y : DriverState D). drill_of y.ledger new.holds new.has_begun) now ∙ on)
 
       pub carries_pending : (t : Claim) → Hands disk crashes v x (Ok (Accepted t)) w → new.has_begun ≡ true → d.holds ≡ true → Carries disk crashes d (Submit x) (pending_line t.step) new
       carries_pending t hands begun held =
@@ -105,7 +105,7 @@ module _ {D : Type 0} (disk : Ghosts D) (crashes : D → D → Type 0) (d : Dril
         let to = hands.handed in
         let given = flown.given in
         let tickets : List (Option Reply) = Some (record { step = t.step; kind = to.kind }) ∷ [] in
-        let mid_is : state_of mid ≡ drill_of (with_accepted v.ledger x) d.holds true = ap (λ (y : Driven D). drill_of y.ledger mid.holds mid.has_begun) there ∙ (λ i. drill_of (to.now i) (holds i) (begun i)) in
+        let mid_is : state_of mid ≡ drill_of (with_accepted v.ledger x) d.holds true = ap (λ (y : DriverState D). drill_of y.ledger mid.holds mid.has_begun) there ∙ (λ i. drill_of (to.now i) (holds i) (begun i)) in
         let hand : Leads disk crashes v (event.Submit x ∷ []) (answer.Accepted t.step ∷ []) mid.driver = subst (Leads disk crashes v (event.Submit x ∷ []) (answer.Accepted t.step ∷ [])) (sym there) hands.moments in
         let all = leads_then disk crashes v mid.driver new.driver (event.Submit x ∷ []) (flight_events given) (answer.Accepted t.step ∷ []) given hand flown.moments in
         carries disk crashes d new (Submit x) (answer.Accepted t.step ∷ given) told refl begins
@@ -127,5 +127,5 @@ module _ {D : Type 0} (disk : Ghosts D) (crashes : D → D → Type 0) (d : Dril
         }
 
     -- the disk was given up as the step that was handed in left it
-    pub cut_handed : (r : Result Handed Refusal) (lost : D) → Survive disk crashes v → Hands disk crashes v x r w → disk_driven w ≡ Some lost → LeadsPart disk crashes v (line_events d.holds (Submit x)) lost
+    pub cut_handed : (r : Result Handed Refusal) (lost : D) → Survive disk crashes v → Hands disk crashes v x r w → disk_held w ≡ Some lost → LeadsPart disk crashes v (line_events d.holds (Submit x)) lost
     cut_handed r lost survives hands there = none_led disk crashes v w (line_events d.holds (Submit x)) lost survives hands.stays there

@@ -6,9 +6,10 @@ use Rattle.std.specs.Option.{option_map}
 use Rattle.coord_disk.specs.Model.Present.{IsImage}
 use Rattle.coord_disk.specs.declared.disk.Disk.{Ghosts}
 use Rattle.coord_types.specs.declared.refusals.Refusal.TheVariants.{OutOfMemory}
-use Rattle.coord_ledger.specs.Facade.{Answered, Beside, Driven, EachMoment, EventInRange, Follows, FollowsTo, HeldSurvives, HasFailed, HeldTouches, IsConsistent, Machine, MayBegin, Touches, after, disk_driven, failed_at, failed_until, found_by_crash, held, is_crash, model_driven, nothing_beside, run, started, touches_disk}
-use Rattle.coord_ledger.proofs.drives.EachMoment.{met_aside}
+use Rattle.coord_ledger.specs.Facade.{Answered, DiskEffect, DiskSurvives, DriverState, EachMoment, EventInRange, HasFailed, IsConsistent, Machine, MayBegin, Represents, Simulates, Touches, after, disk_held, failed_at, failed_until, found_by_crash, is_crash, model_held, run, started, touches_disk}
+use Rattle.coord_ledger.proofs.runs.EachMoment.{answered_without_disk}
 use Rattle.coord_ledger.proofs.machine.Consistent.{stays_consistent}
+use Rattle.coord_ledger.proofs.simulates.Represents.{represents_allowed, represents_to}
 use Rattle.coord_ledger.proofs.machine.Lists.{all_both}
 use Rattle.coord_drill.specs.Answered.{asked_lines}
 use Rattle.coord_drill.specs.Drill.{after_asked, line_events}
@@ -60,89 +61,87 @@ failed_both s [] fs (g ∷ gs) hs answered = absurd answered
 failed_both s (e ∷ es) fs [] hs answered = absurd answered
 failed_both s (e ∷ es) fs (g ∷ gs) hs answered = omega (arith, failed_both (after s e g) es fs gs hs answered.1)
 
--- a driver follows the machine over its own log
-pub begins_by : {D : Type 0} (disk : Ghosts D) (crashes : D → D → Type 0) (d : Driven D) → MayBegin disk.keeps_model disk.present disk.clock disk.left_since crashes d → Begins d
-begins_by disk crashes d may = record { consistent = may.drives.consistent; follows = may.drives.follows }
+-- a driver represents the machine over its own log
+pub begins_by : {D : Type 0} (disk : Ghosts D) (crashes : D → D → Type 0) (d : DriverState D) → MayBegin disk crashes d → Begins d
+begins_by disk crashes d may = record { consistent = may.so_far.consistent; represents = may.so_far.represents }
 
 module _ {D : Type 0} (disk : Ghosts D) (crashes : D → D → Type 0) where
-  moments_both : (s : Machine) (es fs : List Event) (gs hs : List Answer) (old mid new : D) → EachMoment disk.present disk.clock disk.left_since crashes true s es gs old mid → EachMoment disk.present disk.clock disk.left_since crashes true (run s es gs) fs hs mid new →
-      EachMoment disk.present disk.clock disk.left_since crashes true s (es ++ fs) (gs ++ hs) old new
-  moments_both s [] fs [] hs old mid new first more = subst (λ d. EachMoment disk.present disk.clock disk.left_since crashes true s fs hs d new) first.0 more
+  moments_both : (s : Machine) (es fs : List Event) (gs hs : List Answer) (old mid new : D) → EachMoment disk crashes true s es gs old mid → EachMoment disk crashes true (run s es gs) fs hs mid new →
+      EachMoment disk crashes true s (es ++ fs) (gs ++ hs) old new
+  moments_both s [] fs [] hs old mid new first more = subst (λ d. EachMoment disk crashes true s fs hs d new) first.0 more
   moments_both s [] fs (g ∷ gs) hs old mid new first more = absurd first
   moments_both s (e ∷ es) fs [] hs old mid new first more = absurd first
   moments_both s (e ∷ es) fs (g ∷ gs) hs old mid new first more = (first.0, (first.1.0, (first.1.1.0, moments_both (after s e g) es fs gs hs first.1.0 mid new first.1.1.1 more)))
 
-  -- whatever is driven survives
-  abbrev pub Survive : Driven D → Type 0
-  Survive d = (b : Beside) (s : Machine) → IsConsistent s → Follows (held d b) s → HeldSurvives disk.keeps_model disk.present (held d b) s
+  -- whatever a crash may leave of the driver's disk survives
+  abbrev pub Survive : DriverState D → Type 0
+  Survive d = (s : Machine) → IsConsistent s → Represents d s → DiskSurvives disk.keeps_model disk.present (disk_held d) s
 
   -- no event
-  pub leads_none : (d : Driven D) → Survive d → Leads disk crashes d [] [] d
-  leads_none d survives b s is follows = record {
-    beside = b;
+  pub leads_none : (d : DriverState D) → Survive d → Leads disk crashes d [] [] d
+  leads_none d survives s is represents = record {
     in_range = tt;
     answered = tt;
     consistent = is;
-    follows = follows;
-    moments = λ old there keeps. record { new = old; holds = there; keeps = keeps; moments = (refl, λ _. survives b s is follows old there keeps) };
-    failed = λ n has. let same : n ≡ n + 0 = omega arith in subst (HasFailed disk.failures (disk_driven d)) same has;
+    represents = represents;
+    moments = λ old there keeps. record { new = old; holds = there; keeps = keeps; moments = (refl, λ _. survives s is represents old there keeps) };
+    failed = λ n has. let same : n ≡ n + 0 = omega arith in subst (HasFailed disk.failures (disk_held d)) same has;
   }
 
-  module _ (d new : Driven D) (e : Event) (a : Answer) (next : Beside → Beside) (named : EventInRange e) (before : Survive d) (later : Survive new) where
+  module _ (d new : DriverState D) (e : Event) (a : Answer) (named : EventInRange e) (before : Survive d) (later : Survive new) where
     -- one event
-    pub leads_one : model_driven disk.keeps_model new ≡ model_driven disk.keeps_model d → ((n : ℕ) → HasFailed disk.failures (disk_driven d) n → HasFailed disk.failures (disk_driven new) (n + failed_at e a)) → ((b : Beside) (s : Machine) → IsConsistent s → Follows (held d b) s → FollowsTo s e a (held new (next b))) →
-        ((b : Beside) (s : Machine) → IsConsistent s → Follows (held d b) s → HeldTouches disk.keeps_model disk.present disk.clock disk.left_since crashes (found_by_crash s e a) (touches_disk e a) e (held d b) (held new (next b))) → Leads disk crashes d (e ∷ []) (a ∷ []) new
-    leads_one model failed answered touches b s is follows =
-        let to = answered b s is follows in
-        let then = stays_consistent s e a named is to.allowed in
+    pub leads_one : model_held disk.keeps_model new ≡ model_held disk.keeps_model d → ((n : ℕ) → HasFailed disk.failures (disk_held d) n → HasFailed disk.failures (disk_held new) (n + failed_at e a)) → Simulates d e a new →
+        ((s : Machine) → IsConsistent s → Represents d s → DiskEffect disk crashes (found_by_crash s e a) (touches_disk e a) e (disk_held d) (disk_held new)) → Leads disk crashes d (e ∷ []) (a ∷ []) new
+    leads_one model failed simulates touches s is represents =
+        let allowed = represents_allowed d new s is represents e a simulates in
+        let later_shown = represents_to d new s is represents e a simulates in
+        let then = stays_consistent s e a named is allowed in
         record {
-          beside = next b;
           in_range = (named, tt);
-          answered = (to.allowed, tt);
+          answered = (allowed, tt);
           consistent = then;
-          follows = to.follows;
+          represents = later_shown;
           moments = λ old there keeps.
-              let moved = touches b s is follows old there in
-              let same : Some (disk.keeps_model moved.new) ≡ Some (disk.keeps_model old) = sym (ap (option_map disk.keeps_model) moved.holds) ∙ model ∙ ap (option_map disk.keeps_model) there in
-              let on : disk.keeps_model moved.new ≡ true = cc (same, keeps) in
+              let effect = touches s is represents old there in
+              let same : Some (disk.keeps_model effect.new) ≡ Some (disk.keeps_model old) = sym (ap (option_map disk.keeps_model) effect.holds) ∙ model ∙ ap (option_map disk.keeps_model) there in
+              let on : disk.keeps_model effect.new ≡ true = cc (same, keeps) in
               record {
-                new = moved.new;
-                holds = moved.holds;
+                new = effect.new;
+                holds = effect.holds;
                 keeps = on;
                 moments = (
-                  λ _. before b s is follows old there keeps,
+                  λ _. before s is represents old there keeps,
                   (
-                    moved.new,
+                    effect.new,
                     (
-                      subst (λ k. Touches disk.present disk.clock disk.left_since crashes k (found_by_crash s e a) (touches_disk e a) e old moved.new) keeps moved.touched,
-                      (refl, λ _. later (next b) (after s e a) then to.follows moved.new moved.holds on),
+                      subst (λ k. Touches disk crashes k (found_by_crash s e a) (touches_disk e a) e old effect.new) keeps effect.touched,
+                      (refl, λ _. later (after s e a) then later_shown effect.new effect.holds on),
                     ),
                   ),
                 );
               };
-          failed = λ n has. let same : n + failed_at e a ≡ n + (failed_at e a + 0) = omega arith in subst (HasFailed disk.failures (disk_driven new)) same (failed n has);
+          failed = λ n has. let same : n + failed_at e a ≡ n + (failed_at e a + 0) = omega arith in subst (HasFailed disk.failures (disk_held new)) same (failed n has);
         }
 
     -- one that leaves the disk as it is
-    pub leads_aside : ((x : D) (image : List ℕ) → disk.keeps_model x ≡ true → disk.left_since x (disk.clock x) image → IsImage (disk.present x) image) → is_crash e ≡ false → ((s : Machine) → found_by_crash s e a ≡ s) → failed_at e a ≡ 0 → disk_driven new ≡ disk_driven d →
-        ((b : Beside) (s : Machine) → IsConsistent s → Follows (held d b) s → FollowsTo s e a (held new (next b))) → Leads disk crashes d (e ∷ []) (a ∷ []) new
-    leads_aside only_now other found none same answered =
+    pub leads_aside : ((x : D) (image : List ℕ) → disk.keeps_model x ≡ true → disk.left_since x (disk.clock x) image → IsImage (disk.present x) image) → is_crash e ≡ false → ((s : Machine) → found_by_crash s e a ≡ s) → failed_at e a ≡ 0 → disk_held new ≡ disk_held d →
+        Simulates d e a new → Leads disk crashes d (e ∷ []) (a ∷ []) new
+    leads_aside only_now other found none same simulates =
         leads_one (ap (option_map disk.keeps_model) same)
-        (λ n has. let more : n ≡ n + failed_at e a = omega (arith, none) in subst (HasFailed disk.failures (disk_driven new)) more (ap (option_map disk.failures) same ∙ has)) answered
-        (λ b s is follows. met_aside disk.present disk.clock disk.left_since crashes disk.keeps_model only_now s e e a (held d b) (held new (next b)) refl other (found s) same (before b s is follows))
+        (λ n has. let more : n ≡ n + failed_at e a = omega (arith, none) in subst (HasFailed disk.failures (disk_held new)) more (ap (option_map disk.failures) same ∙ has)) simulates
+        (λ s is represents. answered_without_disk disk crashes only_now s e e a (disk_held d) (disk_held new) refl other (found s) same (before s is represents))
 
   -- the events of the one and then of the other
-  pub leads_then : (d m new : Driven D) (es fs : List Event) (gs hs : List Answer) → Leads disk crashes d es gs m → Leads disk crashes m fs hs new → Leads disk crashes d (es ++ fs) (gs ++ hs) new
-  leads_then d m new es fs gs hs first more b s is follows =
-      let one = first b s is follows in
-      let two = more one.beside (run s es gs) one.consistent one.follows in
+  pub leads_then : (d m new : DriverState D) (es fs : List Event) (gs hs : List Answer) → Leads disk crashes d es gs m → Leads disk crashes m fs hs new → Leads disk crashes d (es ++ fs) (gs ++ hs) new
+  leads_then d m new es fs gs hs first more s is represents =
+      let one = first s is represents in
+      let two = more (run s es gs) one.consistent one.represents in
       let all = run_both s es fs gs hs one.answered in
       record {
-        beside = two.beside;
         in_range = all_both EventInRange es fs one.in_range two.in_range;
         answered = answered_both s es fs gs hs one.answered two.answered;
         consistent = subst IsConsistent (sym all) two.consistent;
-        follows = subst (Follows (held new two.beside)) (sym all) two.follows;
+        represents = subst (Represents new) (sym all) two.represents;
         moments = λ old there keeps.
             let x = one.moments old there keeps in
             let y = two.moments x.new x.holds x.keeps in
@@ -150,15 +149,15 @@ module _ {D : Type 0} (disk : Ghosts D) (crashes : D → D → Type 0) where
         failed = λ n has.
             let sum = failed_both s es fs gs hs one.answered in
             let same : n + failed_until es gs + failed_until fs hs ≡ n + failed_until (es ++ fs) (gs ++ hs) = omega (arith, sum) in
-            subst (HasFailed disk.failures (disk_driven new)) same (two.failed (n + failed_until es gs) (one.failed n has));
+            subst (HasFailed disk.failures (disk_held new)) same (two.failed (n + failed_until es gs) (one.failed n has));
       }
 
   -- from the machine over the driver's own log
-  pub run_of : (d new : Driven D) (es : List Event) (gs : List Answer) → Begins d → Leads disk crashes d es gs new → IsRun disk crashes d es gs new
-  run_of d new es gs begins leads = leads nothing_beside (started d.ledger) begins.consistent begins.follows
+  pub run_of : (d new : DriverState D) (es : List Event) (gs : List Answer) → Begins d → Leads disk crashes d es gs new → IsRun disk crashes d es gs new
+  run_of d new es gs begins leads = leads (started d.ledger) begins.consistent begins.represents
 
   -- all of the events were answered, and the disk is given up behind them
-  pub all_led : (d mid : Driven D) (es : List Answer → List Event) (gs : List Answer) (lost : D) → Begins d → Leads disk crashes d (es gs) gs mid → disk_driven mid ≡ Some lost → LeadsPart disk crashes d es lost
+  pub all_led : (d mid : DriverState D) (es : List Answer → List Event) (gs : List Answer) (lost : D) → Begins d → Leads disk crashes d (es gs) gs mid → disk_held mid ≡ Some lost → LeadsPart disk crashes d es lost
   all_led d mid es gs lost begins leads there =
       let run = run_of d mid (es gs) gs begins leads in
       record {
@@ -169,7 +168,7 @@ module _ {D : Type 0} (disk : Ghosts D) (crashes : D → D → Type 0) where
       }
 
   -- none was
-  pub none_led : (d mid : Driven D) (es : List Answer → List Event) (lost : D) → Survive d → disk_driven mid ≡ disk_driven d → disk_driven mid ≡ Some lost → LeadsPart disk crashes d es lost
+  pub none_led : (d mid : DriverState D) (es : List Answer → List Event) (lost : D) → Survive d → disk_held mid ≡ disk_held d → disk_held mid ≡ Some lost → LeadsPart disk crashes d es lost
   none_led d mid es lost survives same there = record { given = []; mid = d; moments = leads_none d survives; left = sym same ∙ there }
 
   -- ---- lines

@@ -8,7 +8,7 @@ use Rattle.coord_store.specs.Migrating.{RefusesMigration}
 use Rattle.coord_store.specs.declared.faults.StoreFault.{StoreFault}
 use Rattle.coord_store.specs.declared.faults.StoreFault.TheVariants.{OutOfMemory, Device, NotQuiet, Stopped}
 use Rattle.coord_world.specs.Facade.{World, is_ready, no_world, state, state_or_none}
-use Rattle.coord_ledger.specs.Facade.{Driven, LedgerState, Log, disk_driven, disk_with, settled_world}
+use Rattle.coord_ledger.specs.Facade.{DriverState, LedgerState, Log, disk_held, disk_with, settled_world}
 use Rattle.coord_drill.specs.Facade.{IsEmptyLog, IsPassing, store_fault}
 
 pub none_torn : {A : Type 0} (o : Option A) → is_some o ≡ false → o ≡ None
@@ -39,5 +39,5 @@ raising_cause log w Stopped is empty refuses going = absurd (going refl)
 raising_cause log w fault is empty refuses going = absurd refuses
 
 -- the disk of a driver of which no flight is out
-pub disk_home : {D : Type 0} (d : Driven D) (l : LedgerState D) (disk : D) → d.flight ≡ None → l ≡ d.ledger → l.disk ≡ Some disk → disk_driven d ≡ Some disk
+pub disk_home : {D : Type 0} (d : DriverState D) (l : LedgerState D) (disk : D) → d.flight ≡ None → l ≡ d.ledger → l.disk ≡ Some disk → disk_held d ≡ Some disk
 disk_home {D} d l disk none same there = ap (disk_with d.ledger.disk) none ∙ sym (ap (λ (k : LedgerState D). k.disk) same) ∙ there

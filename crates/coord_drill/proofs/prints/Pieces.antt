@@ -3,7 +3,7 @@ use Rattle.std.proofs.Common.{◌≡◌, ℕ, ◌+◌, List, [], ◌∷◌, ◌+
 use Rattle.std.specs.Io.KnownBytes.{Appends}
 use Rattle.std.proofs.KnownBytes.{Appends-nil, Appends-trans}
 use Rattle.coord_disk.specs.declared.disk.Disk.{Ghosts}
-use Rattle.coord_ledger.specs.Facade.{disk_driven}
+use Rattle.coord_ledger.specs.Facade.{disk_held}
 use Rattle.coord_lines.specs.Lines.{IsWithin, Line, before_line_feed, behind_line_feed, extended, lines_on}
 use Rattle.coord_lines.proofs.LinesOn.{extended-nothing, lines_on-ended, lines_on-unended}
 use Rattle.coord_drill.specs.Facade.{BreaksOff, CarriesLine, CarriesOut, CutsLine, Drill, EndsWith, Fault, IsGivenBack, IsOfNoStore, IsOfWriting, Place, Takes, WritesFirstPart}
@@ -66,7 +66,7 @@ module _ {D : Type 0} (disk : Ghosts D) (crashes : D → D → Type 0) where
     }
 
   -- the disk is given back behind them
-  pub breaks_behind : (d new : Drill D) (n : ℕ) (ls others all : List Line) (a b : Option (List ℕ)) (fault : Fault) (lost : D) → all ≡ ls ++ others → CarriesOut disk crashes d n ls a b new → IsOfNoStore fault → disk_driven new.driver ≡ Some lost → BreaksOff disk crashes d n all a b fault lost
+  pub breaks_behind : (d new : Drill D) (n : ℕ) (ls others all : List Line) (a b : Option (List ℕ)) (fault : Fault) (lost : D) → all ≡ ls ++ others → CarriesOut disk crashes d n ls a b new → IsOfNoStore fault → disk_held new.driver ≡ Some lost → BreaksOff disk crashes d n all a b fault lost
   breaks_behind d new n ls others all a b fault lost split out none there = record {
     ended = ls;
     others = others;
@@ -86,7 +86,7 @@ module _ {D : Type 0} (disk : Ghosts D) (crashes : D → D → Type 0) where
   }
 
   -- its text was not written whole
-  pub line_unwritten : (d new : Drill D) (n : ℕ) (line : Line) (told : List ℕ) (a b : Option (List ℕ)) (fault : Fault) (lost : D) → CarriesLine disk crashes d n line told new → WritesFirstPart a b told → IsOfNoStore fault → disk_driven new.driver ≡ Some lost → BreaksOff disk crashes d n (line ∷ []) a b fault lost
+  pub line_unwritten : (d new : Drill D) (n : ℕ) (line : Line) (told : List ℕ) (a b : Option (List ℕ)) (fault : Fault) (lost : D) → CarriesLine disk crashes d n line told new → WritesFirstPart a b told → IsOfNoStore fault → disk_held new.driver ≡ Some lost → BreaksOff disk crashes d n (line ∷ []) a b fault lost
   line_unwritten d new n line told a b fault lost carries wrote none there = record {
     ended = line ∷ [];
     others = [];
@@ -117,7 +117,7 @@ module _ {D : Type 0} (disk : Ghosts D) (crashes : D → D → Type 0) where
   pub last_breaks : (d : Drill D) (n : ℕ) (line : Line) (a b : Option (List ℕ)) (fault : Fault) (lost : D) → IsWithin line → BreaksOff disk crashes d n (line ∷ []) a b fault lost → BreaksOff disk crashes d n (lines_on line []) a b fault lost
   last_breaks d n line a b fault lost within breaks = subst (λ ls. BreaksOff disk crashes d n ls a b fault lost) (sym (last_line line within)) breaks
 
-  pub last_ends : (d new : Drill D) (n : ℕ) (line : Line) (a b : Option (List ℕ)) (last : D) → IsWithin line → CarriesOut disk crashes d n (line ∷ []) a b new → disk_driven new.driver ≡ Some last → EndsWith disk crashes d n (lines_on line []) a b last
+  pub last_ends : (d new : Drill D) (n : ℕ) (line : Line) (a b : Option (List ℕ)) (last : D) → IsWithin line → CarriesOut disk crashes d n (line ∷ []) a b new → disk_held new.driver ≡ Some last → EndsWith disk crashes d n (lines_on line []) a b last
   last_ends d new n line a b last within out there = subst (λ ls. EndsWith disk crashes d n ls a b last) (sym (last_line line within)) (record {
     text = out.text;
     wrote = out.wrote;
@@ -169,7 +169,7 @@ module _ {D : Type 0} (disk : Ghosts D) (crashes : D → D → Type 0) where
 
   module _ (d : Drill D) (number : ℕ) (line : Line) (piece : List ℕ) (a b : Option (List ℕ)) (now : Drill D) (reached : ℕ) (so_far : Line) (taken : Takes disk crashes d number line piece [] a b now reached so_far) where
     -- nothing more comes
-    pub takes_breaks : (fault : Fault) (lost : D) → IsOfNoStore fault → disk_driven now.driver ≡ Some lost → BreaksOff disk crashes d (number + 1) (lines_on line piece) a b fault lost
+    pub takes_breaks : (fault : Fault) (lost : D) → IsOfNoStore fault → disk_held now.driver ≡ Some lost → BreaksOff disk crashes d (number + 1) (lines_on line piece) a b fault lost
     takes_breaks fault lost none there = breaks_behind d now (number + 1) taken.ended (lines_on so_far []) (lines_on line piece) a b fault lost (whole d number line piece [] a b now reached so_far taken) taken.out none there
 
     pub takes_ends : (c : Option (List ℕ)) (last : D) → EndsWith disk crashes now (reached + 1) (lines_on so_far []) b c last → EndsWith disk crashes d (number + 1) (lines_on line piece) a c last
@@ -205,7 +205,7 @@ module _ {D : Type 0} (disk : Ghosts D) (crashes : D → D → Type 0) where
       out = record { text = taken.out.text; wrote = subst (Appends a b) taken.out.wrote wrote; goes = taken.out.goes };
     }
 
-    pub takes_unwritten : (now : Drill D) (reached : ℕ) (so_far : Line) (fault : Fault) (lost : D) → Takes disk crashes d number line piece [] (Some []) (Some items) now reached so_far → WritesFirstPart a b items → IsOfNoStore fault → disk_driven now.driver ≡ Some lost → BreaksOff disk crashes d (number + 1) (lines_on line piece) a b fault lost
+    pub takes_unwritten : (now : Drill D) (reached : ℕ) (so_far : Line) (fault : Fault) (lost : D) → Takes disk crashes d number line piece [] (Some []) (Some items) now reached so_far → WritesFirstPart a b items → IsOfNoStore fault → disk_held now.driver ≡ Some lost → BreaksOff disk crashes d (number + 1) (lines_on line piece) a b fault lost
     takes_unwritten now reached so_far fault lost taken part none there =
         record {
           ended = taken.ended;

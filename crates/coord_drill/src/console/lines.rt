@@ -2,7 +2,7 @@
 
 ghost use Rattle.std.specs.Prelude.{◌≡◌, ◌++◌, ◌<◌, ◌≤◌, ◌+◌, ◌-◌, ◌^◌, [], ◌∷◌, IfErr, IfOk, OnOk, Some, length, string_bytes};
 ghost use Rattle.std.specs.Option.{option_copied};
-ghost use Rattle.coord_ledger.specs.Facade.{disk_driven};
+ghost use Rattle.coord_ledger.specs.Facade.{disk_held};
 ghost use Rattle.coord_lines.specs.Lines.{lines_on, IsWithin};
 ghost use Rattle.coord_drill.specs.Drilled.{is_skipped};
 ghost use Rattle.coord_drill.specs.Faults.{IsOfDisk, IsOfWork};
@@ -139,7 +139,7 @@ fn tell_bad<D: CrashDisk>(
     ensures same { IfOk result (λ new. new ≡ drill) }
     ensures told { OnOk result (string_bytes text.new ≡
         string_bytes text.old ++ bad_line number) }
-    ensures lost { IfErr result (λ refused. disk_driven drill.driver ≡ Some refused.1) }
+    ensures lost { IfErr result (λ refused. disk_held drill.driver ≡ Some refused.1) }
     ensures fault { IfErr result (λ refused. refused.0 ≡ OutOfMemory) }
 {
     match print_bad_line(text, number) {

@@ -32,8 +32,8 @@ impl<D: CrashDisk> Drill<D> {
             has_begun,
         } = self;
         forget_all(&mut tickets);
-        driver.begins();
-        driver.survives();
+        driver.lemma_begins();
+        driver.lemma_survives();
         let (count, driver) = match driver.crash(alloc) {
             Ok(opened) => opened,
             Err((kind, disk)) => {
@@ -41,7 +41,7 @@ impl<D: CrashDisk> Drill<D> {
                 return Err((told_as(kind), disk));
             }
         };
-        driver.survives();
+        driver.lemma_survives();
         let drill = Drill {
             alloc,
             driver,

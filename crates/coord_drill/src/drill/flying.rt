@@ -5,7 +5,7 @@ ghost use Rattle.std.specs.List.{AllByRecursion};
 ghost use Rattle.coord_ledger.specs.declared.events.Answer.TheVariants.{Finished};
 ghost use Rattle.coord_ledger.specs.declared.events.Event.TheVariants.{Finish};
 ghost use Rattle.coord_ledger.specs.declared.release.Release.{Release as Row};
-ghost use Rattle.coord_ledger.specs.Facade.{IsGranted, disk_driven, next_size, reply_of, settled_count, settled_world, settling_releases};
+ghost use Rattle.coord_ledger.specs.Facade.{IsGranted, disk_held, next_size, reply_of, settled_count, settled_world, settling_releases};
 ghost use Rattle.coord_drill.specs.Drill.{flight_events, landing_events};
 ghost use Rattle.coord_drill.specs.Faults.{IsOfMemory};
 ghost use Rattle.coord_drill.specs.Holding.{AreGranted, FlownTo, IsReady, Lands, Tells, behind, collected_lines, flown_answers, flown_lines, landed_answers, left, left_by, released_lines, waiting};
@@ -51,7 +51,7 @@ impl<D: CrashDisk> Drill<D> {
             refused.1) }
         ensures fault { IfErr result (λ refused. IsOfMemory refused.0) }
     {
-        self.driver.begins();
+        self.driver.lemma_begins();
         let drill = self.fly(text)?;
         match print_count(text, drill.driver.ledger().settled().count()) {
             Ok(()) => Ok(drill),
@@ -77,7 +77,7 @@ impl<D: CrashDisk> Drill<D> {
             holds,
             has_begun,
         } = self;
-        driver.begins();
+        driver.lemma_begins();
         let Landing { flown, driver } = match send_out(driver) {
             Ok(landing) => landing,
             Err(refused) => {
@@ -132,10 +132,10 @@ fn send_out<D: CrashDisk>(driver: Driver<D>) -> Result<Landing<D>, (Fault, D)>
         LeadsPart ⟦<D as Disk>⟧ D.crashes driver flight_events refused.1) }
     ensures fault { IfErr result (λ refused. IsOfMemory refused.0) }
 {
-    driver.begins();
-    driver.survives();
+    driver.lemma_begins();
+    driver.lemma_survives();
     let (begun, driver) = driver.begin();
-    driver.survives();
+    driver.lemma_survives();
     match begun {
         Answer::Begun(_) => land(driver),
         Answer::Nothing => Ok(Landing {
@@ -156,9 +156,9 @@ fn land<D: CrashDisk>(driver: Driver<D>) -> Result<Landing<D>, (Fault, D)>
     ensures fault { IfErr result (λ refused. IsOfMemory refused.0) }
 {
     let mut driver = driver;
-    driver.survives();
+    driver.lemma_survives();
     let answer = driver.commit();
-    driver.survives();
+    driver.lemma_survives();
     let (releases, driver) = take_back(driver)?;
     match answer {
         Answer::Committed => Ok(Landing {
@@ -186,14 +186,14 @@ fn take_back<D: CrashDisk>(driver: Driver<D>) -> Result<(Releases, Driver<D>), (
         (r.1.ledger.log.settled - driver.ledger.log.settled)) }
     ensures moments { IfOk result (λ r. Leads ⟦<D as Disk>⟧ D.crashes driver (Finish ∷ [])
         (Finished (settled_count r.1.ledger.log) ∷ []) r.1) }
-    ensures disk { IfErr result (λ refused. disk_driven driver ≡ Some refused.1) }
+    ensures disk { IfErr result (λ refused. disk_held driver ≡ Some refused.1) }
     ensures fault { IfErr result (λ refused. IsOfMemory refused.0) }
 {
-    driver.survives();
+    driver.lemma_survives();
     let (landed, driver) = driver.finish();
     match landed {
         Ok(Some(releases)) => {
-            driver.survives();
+            driver.lemma_survives();
             Ok((releases, driver))
         }
         _ => Err(lost(driver)),
@@ -203,7 +203,7 @@ fn take_back<D: CrashDisk>(driver: Driver<D>) -> Result<(Releases, Driver<D>), (
 /// Drops a driver that ran out of memory.
 fn lost<D: CrashDisk>(driver: Driver<D>) -> (Fault, D)
     ensures fault { result.0 ≡ OutOfMemory }
-    ensures disk { disk_driven driver ≡ Some result.1 }
+    ensures disk { disk_held driver ≡ Some result.1 }
 {
     (Fault::OutOfMemory, driver.into_disk())
 }

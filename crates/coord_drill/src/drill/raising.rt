@@ -57,7 +57,7 @@ fn raise<D: CrashDisk>(alloc: Global, driver: Driver<D>) -> Result<Driver<D>, (F
     ensures cut { IfErr result (λ refused. RaisesPart ⟦<D as Disk>⟧ driver refused.0 refused.1) }
     ensures fault { IfErr result (λ refused. IsOfDisk refused.0) }
 {
-    driver.begins();
+    driver.lemma_begins();
     let Ok(mut store) = driver.into_ledger().close() else {
         unreachable!()
     };
@@ -69,7 +69,7 @@ fn raise<D: CrashDisk>(alloc: Global, driver: Driver<D>) -> Result<Driver<D>, (F
     match Ledger::adopt(alloc, store) {
         Ok(ledger) => {
             let driver = Driver::over(ledger);
-            driver.begins();
+            driver.lemma_begins();
             Ok(driver)
         }
         Err((_, store)) => Err((Fault::OutOfMemory, store.into_disk())),

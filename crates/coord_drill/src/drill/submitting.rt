@@ -29,8 +29,8 @@ impl<D: CrashDisk> Drill<D> {
         ensures fault { IfErr result (λ refused. IsOfMemory refused.0) }
     {
         let mut drill = self;
-        drill.driver.begins();
-        drill.driver.survives();
+        drill.driver.lemma_begins();
+        drill.driver.lemma_survives();
         if drill.tickets.reserve(1).is_err() {
             return Err(drill.lost());
         }
@@ -66,9 +66,9 @@ impl<D: CrashDisk> Drill<D> {
 fn hand_in<D: CrashDisk>(driver: &mut Driver<D>, step: Step) -> Result<Handed, Refusal>
     ensures { Hands ⟦<D as Disk>⟧ D.crashes driver.old step result driver.new }
 {
-    driver.survives();
+    driver.lemma_survives();
     let handed = driver.submit(step);
-    driver.survives();
+    driver.lemma_survives();
     step.within_ranges();
     handed
 }

@@ -33,7 +33,7 @@ impl<D: CrashDisk> Drill<D> {
             refused.1) }
         ensures fault { IfErr result (λ refused. IsOfMemory refused.0) }
     {
-        self.driver.survives();
+        self.driver.lemma_survives();
         let printed = print_refusal(text, refusal);
         match printed {
             Ok(()) => Ok(self),
@@ -52,7 +52,7 @@ impl<D: CrashDisk> Drill<D> {
             refused.1) }
         ensures fault { IfErr result (λ refused. IsOfMemory refused.0) }
     {
-        self.driver.survives();
+        self.driver.lemma_survives();
         let printed = print_idle(text);
         match printed {
             Ok(()) => Ok(self),
@@ -71,7 +71,7 @@ impl<D: CrashDisk> Drill<D> {
             refused.1) }
         ensures fault { IfErr result (λ refused. IsOfMemory refused.0) }
     {
-        self.driver.survives();
+        self.driver.lemma_survives();
         let printed = print_resent(self.driver.ledger(), text);
         match printed {
             Ok(()) => Ok(self),
@@ -90,7 +90,7 @@ impl<D: CrashDisk> Drill<D> {
             refused.1) }
         ensures fault { IfErr result (λ refused. IsOfMemory refused.0) }
     {
-        self.driver.survives();
+        self.driver.lemma_survives();
         let printed = print_fault(text, check(self.driver.ledger().front()));
         match printed {
             Ok(()) => Ok(self),
@@ -109,7 +109,7 @@ impl<D: CrashDisk> Drill<D> {
             refused.1) }
         ensures fault { IfErr result (λ refused. IsOfMemory refused.0) }
     {
-        self.driver.survives();
+        self.driver.lemma_survives();
         let printed = print_shown(self.driver.ledger(), text);
         match printed {
             Ok(()) => Ok(self),
@@ -124,7 +124,7 @@ impl<D: CrashDisk> Drill<D> {
         ensures told { CarriesIf ⟦<D as Disk>⟧ D.crashes self ask.Hold [] result }
     {
         let mut drill = self;
-        drill.driver.survives();
+        drill.driver.lemma_survives();
         drill.holds = true;
         drill
     }

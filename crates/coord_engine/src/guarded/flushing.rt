@@ -3,7 +3,7 @@
 ghost use Rattle.std.specs.Prelude.{◌≡◌, ◌-◌, false, true, None, Ok, length, IfErr, IfOk, IsSomeAnd, OnErr, OnOk, Some};
 ghost use Rattle.coord_engine.specs.State.{with_ledger};
 ghost use Rattle.coord_ledger.specs.ledger.Calls.{RefusesFlight, keeps_store, next_flight, releases_in, taken_back, with_out};
-ghost use Rattle.coord_ledger.specs.ledger.Follows.{IsOut};
+ghost use Rattle.coord_ledger.specs.ledger.Flights.{IsOut};
 ghost use Rattle.coord_ledger.specs.machine.Log.{pending};
 
 use super::Guarded;

@@ -4,14 +4,14 @@ use Rattle.std.proofs.Math.Seq.{take-add, take-append_seam}
 use Rattle.std.proofs.lemmas.Bool.Decides.{nat_tests}
 use Rattle.std.proofs.lemmas.List.{append_assoc, drop-append-le, drop-drop, length-append, length-drop, length-take-le, take-append-drop, take-append-le, take-take}
 use Rattle.coord_types.specs.declared.refusals.Refusal.TheVariants.{NotReleased}
-use Rattle.coord_ledger.specs.Facade.{IsConsistentLog, Log, Step, accepted_count, cut_to, front_world, is_full, moved, pending, settled_count, settled_world, with_doubt, with_settled, with_step, world_after}
+use Rattle.coord_ledger.specs.Facade.{IsConsistentLog, Log, Step, accepted_count, cut_to, front_world, is_full, pending, rebased, settled_count, settled_world, with_doubt, with_settled, with_step, world_after}
 use Rattle.coord_store.proofs.Freshness.{fold-push, fresh-push}
 use Rattle.coord_store.specs.Recovered.{AllFresh}
 use Rattle.coord_world.proofs.Facade.{fold_counts, release_stays, trail_goes_on, trail_is_cut}
 use Rattle.coord_world.specs.laws.Trails.{IsTrail}
 use Rattle.coord_world.specs.Facade.{IsFresh, StepInRange, World, accepts, fold, next}
 use Rattle.coord_ledger.specs.laws.Laws.{LogStays}
-use Rattle.coord_ledger.specs.laws.Moving.{MovedIsConsistent}
+use Rattle.coord_ledger.specs.laws.Rebasing.{RebasedIsConsistent}
 
 -- ---- counts
 
@@ -149,33 +149,33 @@ module _ (log : Log) (n : ℕ) (le : n ≤ log.settled) where
   there : n + (log.settled - n) ≡ log.settled
   there = omega (arith, le)
 
-  pub moved_settled : settled_world (moved log n) ≡ settled_world log
-  moved_settled = sym (world-add log n (log.settled - n)) ∙ ap (world_after log) there
+  pub rebased_settled : settled_world (rebased log n) ≡ settled_world log
+  rebased_settled = sym (world-add log n (log.settled - n)) ∙ ap (world_after log) there
 
-  pub moved_pending : pending (moved log n) ≡ pending log
-  moved_pending = drop-drop (log.settled - n) n log.trail ∙ ap (λ k. drop k log.trail) there
+  pub rebased_pending : pending (rebased log n) ≡ pending log
+  rebased_pending = drop-drop (log.settled - n) n log.trail ∙ ap (λ k. drop k log.trail) there
 
   module _ (is : IsConsistentLog log) where
-    pub moved_base : (moved log n).base.count ≡ log.base.count + n
-    moved_base = count_after log n (omega (arith, le, is.within))
+    pub rebased_base : (rebased log n).base.count ≡ log.base.count + n
+    rebased_base = count_after log n (omega (arith, le, is.within))
 
-    pub moved_front : front_world (moved log n) ≡ front_world log
-    moved_front = (trail_is_cut log.base log.trail n is.trail).whole
+    pub rebased_front : front_world (rebased log n) ≡ front_world log
+    rebased_front = (trail_is_cut log.base log.trail n is.trail).whole
 
-    pub moved_accepted : accepted_count (moved log n) ≡ accepted_count log
-    moved_accepted = omega (arith, moved_base, length-drop n log.trail, le, is.within)
+    pub rebased_accepted : accepted_count (rebased log n) ≡ accepted_count log
+    rebased_accepted = omega (arith, rebased_base, length-drop n log.trail, le, is.within)
 
-    pub moved_count : settled_count (moved log n) ≡ settled_count log
-    moved_count = omega (arith, moved_base, le)
+    pub rebased_count : settled_count (rebased log n) ≡ settled_count log
+    rebased_count = omega (arith, rebased_base, le)
 
-    pub moved_within : log.settled - n ≤ length (drop n log.trail)
-    moved_within = omega (arith, length-drop n log.trail, le, is.within)
+    pub rebased_within : log.settled - n ≤ length (drop n log.trail)
+    rebased_within = omega (arith, length-drop n log.trail, le, is.within)
 
-pub moved_is_consistent : MovedIsConsistent
-moved_is_consistent log n is le =
+pub rebased_is_consistent : RebasedIsConsistent
+rebased_is_consistent log n is le =
     record {
       trail = (trail_is_cut log.base log.trail n is.trail).others;
-      within = moved_within log n le is;
-      few = omega (arith, ap length (moved_pending log n le), is.few);
-      fresh = subst (λ w. AllFresh w w (pending (moved log n))) (sym (moved_settled log n le)) (subst (AllFresh (settled_world log) (settled_world log)) (sym (moved_pending log n le)) is.fresh);
+      within = rebased_within log n le is;
+      few = omega (arith, ap length (rebased_pending log n le), is.few);
+      fresh = subst (λ w. AllFresh w w (pending (rebased log n))) (sym (rebased_settled log n le)) (subst (AllFresh (settled_world log) (settled_world log)) (sym (rebased_pending log n le)) is.fresh);
     }

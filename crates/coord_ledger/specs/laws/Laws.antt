@@ -15,7 +15,7 @@ use Rattle.coord_world.specs.laws.Trails.{IsSound}
 use Rattle.coord_world.specs.Facade.{IsFresh, StepInRange, World, against, is_exhausted, or_repeat, state}
 use Rattle.coord_ledger.specs.declared.events.Answer.{Answer}
 use Rattle.coord_ledger.specs.declared.events.Event.{Event}
-use Rattle.coord_ledger.specs.ledger.Follows.{ImagesGive}
+use Rattle.coord_ledger.specs.ledger.Flights.{ImagesGive}
 use Rattle.coord_ledger.specs.machine.After.{after, finished}
 use Rattle.coord_ledger.specs.machine.Answers.{IsOneOf, answers, kept}
 use Rattle.coord_ledger.specs.machine.Consistent.{EventInRange, IsConsistent, IsConsistentLog}

@@ -16,7 +16,7 @@ use Rattle.coord_ledger.specs.declared.handed.Handed.TheVariants as handed
 use Rattle.coord_ledger.specs.declared.mark.Mark.{Mark}
 use Rattle.coord_ledger.specs.declared.mark.Mark.TheVariants.{New, Good, Torn}
 use Rattle.coord_ledger.specs.declared.release.Release.{Release}
-use Rattle.coord_ledger.specs.ledger.Follows.{IsOut}
+use Rattle.coord_ledger.specs.ledger.Flights.{IsOut}
 use Rattle.coord_ledger.specs.ledger.State.{Claim, FlightState, LedgerState}
 use Rattle.coord_ledger.specs.machine.After.{log_back, releases_of}
 use Rattle.coord_ledger.specs.machine.Answers.{stays_home}

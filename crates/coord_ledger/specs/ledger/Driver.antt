@@ -1,7 +1,8 @@
 -- What a driver holds: the disk, with the ledger or with the flight, and what comes of both.
-use Rattle.std.specs.Prelude.{◌≡◌, ◌⊎◌, ℕ, List, Bool, true, false, Option, Some, None, length}
+use Rattle.std.specs.Prelude.{◌≡◌, ◌⊎◌, ℕ, List, [], Bool, true, false, Option, Some, None, length}
 use Rattle.std.specs.Option.{option_map}
 use Rattle.coord_disk.specs.Model.Present.{Present, IsImage}
+use Rattle.coord_disk.specs.declared.disk.Disk.{Ghosts}
 use Rattle.coord_store.specs.Facade.{IsOpenFault, IsPassing, Recovered, RefusesOpen}
 use Rattle.coord_store.specs.declared.faults.StoreFault.{StoreFault}
 use Rattle.coord_world.specs.protocol.NumberedWorld.{World}
@@ -11,7 +12,8 @@ use Rattle.coord_ledger.specs.declared.events.Event.TheVariants.{Crash}
 use Rattle.coord_ledger.specs.declared.trace.RunFaultKind.{RunFaultKind}
 use Rattle.coord_ledger.specs.declared.trace.RunFaultKind.TheVariants.{OutOfMemory, Store}
 use Rattle.coord_ledger.specs.ledger.Calls.{taken_back}
-use Rattle.coord_ledger.specs.ledger.Follows.{Follows, Held}
+use Rattle.coord_ledger.specs.ledger.DriverState.{DriverState, disk_held}
+use Rattle.coord_ledger.specs.ledger.Simulates.{Represents}
 use Rattle.coord_ledger.specs.ledger.State.{FlightState, LedgerState, ledger_over, started}
 use Rattle.coord_ledger.specs.machine.Consistent.{IsConsistent}
 use Rattle.coord_ledger.specs.machine.Machine.{Machine}
@@ -19,17 +21,6 @@ use Rattle.coord_ledger.specs.machine.Runs.{Answered, run}
 use Rattle.coord_ledger.specs.promises.Broken.{IsGivenBack, wants_memory}
 use Rattle.coord_ledger.specs.promises.Headline.{CrashPrefix, EachMoment, Touches, is_crash}
 use Rattle.coord_ledger.specs.promises.Moments.{Reopens}
-
-abbrev pub disk_with : {D : Type 0} → Option D → Option (FlightState D) → Option D
-disk_with disk None = disk
-disk_with disk (Some f) = Some f.disk
-
-abbrev pub disk_held : {D : Type 0} → Held D → Option D
-disk_held h = disk_with h.ledger.disk h.flight
-
--- whether it keeps the model
-abbrev pub model_of : {D : Type 0} → (D → Bool) → Held D → Option Bool
-model_of keeps_model h = option_map keeps_model (disk_held h)
 
 -- its device has failed so often
 abbrev pub HasFailed : {D : Type 0} → (D → ℕ) → Option D → ℕ → Type 0
@@ -52,13 +43,13 @@ pub record AnImageGives (present : Present) (world : World) : Type 0 where
   pub recovered : Recovered image world
 
 -- a ledger that was made anew after a crash of this disk, of the world that one of its images gives
-pub record IsReopened {D : Type 0} (keeps_model : D → Bool) (present : D → Present) (clock : D → ℕ) (left_since : D → ℕ → List ℕ → Type 0) (crashes : D → D → Type 0) (before : D) (l : LedgerState D) : Type 0 where
+pub record IsReopened {D : Type 0} (model : Ghosts D) (crashes : D → D → Type 0) (before : D) (l : LedgerState D) : Type 0 where
   pub world : World
   pub disk : D
   pub is : l ≡ ledger_over world disk
-  pub same_model : keeps_model disk ≡ keeps_model before
-  pub from : keeps_model before ≡ true → AnImageGives (present before) world
-  pub moments : keeps_model before ≡ true → Reopens present clock left_since crashes (IsImage (present before)) before disk
+  pub same_model : model.keeps_model disk ≡ model.keeps_model before
+  pub from : model.keeps_model before ≡ true → AnImageGives (model.present before) world
+  pub moments : model.keeps_model before ≡ true → Reopens model crashes (IsImage (model.present before)) before disk
 
 -- one of a disk's images is refused so
 pub record AnImageIsRefused (present : Present) (fault : StoreFault) : Type 0 where
@@ -83,31 +74,38 @@ abbrev pub IsEventFault : Option Bool → Event → RunFaultKind → Type 0
 IsEventFault model e OutOfMemory = wants_memory e ≡ true
 IsEventFault model e (Store fault) = (e ≡ Crash) × IsOpenFault fault × (model ≡ Some true → IsPassing fault)
 
--- what an event has made of this disk is held now
-pub record HoldsTouched {D : Type 0} (keeps_model : D → Bool) (present : D → Present) (clock : D → ℕ) (left_since : D → ℕ → List ℕ → Type 0) (crashes : D → D → Type 0) (found : Machine) (touches : Bool) (e : Event) (old : D) (now : Option D) : Type 0 where
+-- the driver now holds what an event has made of this disk
+pub record DiskAfter {D : Type 0} (model : Ghosts D) (crashes : D → D → Type 0) (found : Machine) (touches : Bool) (e : Event) (old : D) (now : Option D) : Type 0 where
   pub new : D
   pub holds : now ≡ Some new
-  pub touched : Touches present clock left_since crashes (keeps_model old) found touches e old new
+  pub touched : Touches model crashes (model.keeps_model old) found touches e old new
 
--- so with the disk that is held, where a crash inside the event finds this machine
-abbrev pub HeldTouches : {D : Type 0} → (D → Bool) → (D → Present) → (D → ℕ) → (D → ℕ → List ℕ → Type 0) → (D → D → Type 0) → Machine → Bool → Event → Held D → Held D → Type 0
-HeldTouches {D} keeps_model present clock left_since crashes found touches e h next =
-    (old : D) → disk_held h ≡ Some old → HoldsTouched keeps_model present clock left_since crashes found touches e old (disk_held next)
+-- What an event does to the disk that the driver held, where a crash inside the event finds this machine. `model` has the
+-- ghost members of the disk's type, which say what its disks may hold, and `crashes` says which disks a crash may leave.
+abbrev pub DiskEffect : {D : Type 0} → Ghosts D → (D → D → Type 0) → Machine → Bool → Event → Option D → Option D → Type 0
+DiskEffect {D} model crashes found touches e was now =
+    (old : D) → was ≡ Some old → DiskAfter model crashes found touches e old now
 
 -- An event was cut short, and this disk is given back in place of the one that was held.
-abbrev pub IsLost : {D : Type 0} → (D → Bool) → (D → Present) → (D → ℕ) → (D → ℕ → List ℕ → Type 0) → (D → D → Type 0) → Machine → Event → RunFaultKind → Held D → D → Type 0
-IsLost {D} keeps_model present clock left_since crashes s e kind h lost =
-    (old : D) → disk_held h ≡ Some old → IsGivenBack present clock left_since crashes (keeps_model old) s e kind old lost
+abbrev pub IsLost : {D : Type 0} → Ghosts D → (D → D → Type 0) → Machine → Event → RunFaultKind → Option D → D → Type 0
+IsLost {D} model crashes s e kind was lost =
+    (old : D) → was ≡ Some old → IsGivenBack model crashes (model.keeps_model old) s e kind old lost
 
--- whatever a crash between two events may leave survives
-abbrev pub HeldSurvives : {D : Type 0} → (D → Bool) → (D → Present) → Held D → Machine → Type 0
-HeldSurvives {D} keeps_model present h s = (disk : D) → disk_held h ≡ Some disk → CrashPrefix s (keeps_model disk) (present disk)
+-- whatever a crash between two events may leave of the disk that is held survives
+abbrev pub DiskSurvives : {D : Type 0} → (D → Bool) → (D → Present) → Option D → Machine → Type 0
+DiskSurvives {D} keeps_model present held s = (disk : D) → held ≡ Some disk → CrashPrefix s (keeps_model disk) (present disk)
 
 -- What a driver keeps after events with these answers, where the first event found this disk.
-pub record Drives {D : Type 0} (present : D → Present) (clock : D → ℕ) (left_since : D → ℕ → List ℕ → Type 0) (crashes : D → D → Type 0) (keeps_model : Bool) (first : D) (start : LedgerState D) (events : List Event) (given : List Answer) (h : Held D) : Type 0 where
+pub record RunSoFar {D : Type 0} (model : Ghosts D) (crashes : D → D → Type 0) (keeps_model : Bool) (first : D) (start : LedgerState D) (events : List Event) (given : List Answer) (d : DriverState D) : Type 0 where
   pub answered : Answered (started start) events given
   pub consistent : IsConsistent (run (started start) events given)
-  pub follows : Follows h (run (started start) events given)
+  pub represents : Represents d (run (started start) events given)
   pub disk : D
-  pub holds : disk_held h ≡ Some disk
-  pub moments : EachMoment present clock left_since crashes keeps_model (started start) events given first disk
+  pub holds : disk_held d ≡ Some disk
+  pub moments : EachMoment model crashes keeps_model (started start) events given first disk
+
+-- A run of events may begin at this driver: from its ledger's disk on, it is a run of no event.
+pub record MayBegin {D : Type 0} (model : Ghosts D) (crashes : D → D → Type 0) (d : DriverState D) : Type 0 where
+  pub first : D
+  pub home : d.ledger.disk ≡ Some first
+  pub so_far : RunSoFar model crashes (model.keeps_model first) first d.ledger [] [] d

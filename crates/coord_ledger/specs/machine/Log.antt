@@ -59,5 +59,5 @@ abbrev pub cut_to : Log → ℕ → Log
 cut_to log n = record { base = log.base; trail = take n log.trail; settled = n; doubt = None }
 
 -- the same steps seen from the world after the first n of them
-abbrev pub moved : Log → ℕ → Log
-moved log n = record log { base = world_after log n; trail = drop n log.trail; settled = log.settled - n }
+abbrev pub rebased : Log → ℕ → Log
+rebased log n = record log { base = world_after log n; trail = drop n log.trail; settled = log.settled - n }

@@ -11,12 +11,17 @@
 -- opening behind it leaves only images of that. No other event touches the disk. So at every moment inside every event
 -- of every run, whatever the disk may hold survives.
 --
--- `Ran` has these beside what else a run promises: that the answers are the event machine's, that what was released and
--- collected is true of the steps that are kept, and which ledger is left. `Broken.antt` has what is promised of a run
--- that ends early: its moments, what was answered and released until then, which disk is given back, and why.
+-- `Completed` has these beside what else a run promises: that the answers are the event machine's, that what was
+-- released and collected is true of the steps that are kept, and which ledger is left. `Broken.antt` has what is
+-- promised of a run that ends early: its moments, what was answered and released until then, which disk is given back,
+-- and why.
+--
+-- `model` has the ghost members of the disk's type, which say what its disks may hold, and `crashes` says which disks a
+-- crash may leave.
 use Rattle.std.specs.Prelude.{◌≡◌, ◌⊎◌, ℕ, ◌≤◌, ◌==◌, ◌&&◌, Bool, true, false, List, [], ◌∷◌, map, take, count_by, Some, None}
 use Rattle.std.specs.List.{AllByRecursion}
 use Rattle.coord_disk.specs.Model.Present.{Present, IsImage}
+use Rattle.coord_disk.specs.declared.disk.Disk.{Ghosts}
 use Rattle.coord_types.specs.Table.{get}
 use Rattle.coord_types.specs.declared.steps.Reply.{Reply}
 use Rattle.coord_types.specs.declared.steps.Session.{Session}
@@ -34,7 +39,7 @@ use Rattle.coord_ledger.specs.declared.release.Release.{Release}
 use Rattle.coord_ledger.specs.ledger.State.{LedgerState}
 use Rattle.coord_ledger.specs.machine.After.{after, finished, releases_of}
 use Rattle.coord_ledger.specs.machine.Answers.{IsOneOf, kept}
-use Rattle.coord_ledger.specs.machine.Log.{Log, accepted_count, moved, settled_steps, world_after}
+use Rattle.coord_ledger.specs.machine.Log.{Log, accepted_count, rebased, settled_steps, world_after}
 use Rattle.coord_ledger.specs.machine.Machine.{Machine}
 use Rattle.coord_ledger.specs.machine.Runs.{Answered, run}
 use Rattle.coord_ledger.specs.promises.Moments.{LeavesWithin, touches_disk}
@@ -77,19 +82,19 @@ found_by_crash s event answer = s
 
 -- What an event has made of the disk: nothing where it doesn't touch it, and at each moment since it began, a crash
 -- that then finds this machine leaves only what survives.
-pub record Touches {D : Type 0} (present : D → Present) (clock : D → ℕ) (left_since : D → ℕ → List ℕ → Type 0) (crashes : D → D → Type 0) (keeps_model : Bool) (found : Machine) (touches : Bool) (e : Event) (old new : D) : Type 0 where
+pub record Touches {D : Type 0} (model : Ghosts D) (crashes : D → D → Type 0) (keeps_model : Bool) (found : Machine) (touches : Bool) (e : Event) (old new : D) : Type 0 where
   pub untouched : touches ≡ false → new ≡ old
-  pub inside : keeps_model ≡ true → LeavesWithin present clock left_since crashes e (Survives found) old new
+  pub inside : keeps_model ≡ true → LeavesWithin model crashes e (Survives found) old new
 
 -- A run, moment by moment, from its first disk to its last: whatever a crash between two events or inside one may leave
 -- survives.
-abbrev pub EachMoment : {D : Type 0} → (D → Present) → (D → ℕ) → (D → ℕ → List ℕ → Type 0) → (D → D → Type 0) → Bool → Machine → List Event → List Answer → D → D → Type 0
-EachMoment {D} present clock left_since crashes keeps_model s [] [] first last = (last ≡ first) × CrashPrefix s keeps_model (present last)
-EachMoment {D} present clock left_since crashes keeps_model s [] (a ∷ given) first last = ⊥
-EachMoment {D} present clock left_since crashes keeps_model s (e ∷ es) [] first last = ⊥
-EachMoment {D} present clock left_since crashes keeps_model s (e ∷ es) (a ∷ given) first last =
-    CrashPrefix s keeps_model (present first)
-    × ((next : D) × (Touches present clock left_since crashes keeps_model (found_by_crash s e a) (touches_disk e a) e first next × EachMoment present clock left_since crashes keeps_model (after s e a) es given next last))
+abbrev pub EachMoment : {D : Type 0} → Ghosts D → (D → D → Type 0) → Bool → Machine → List Event → List Answer → D → D → Type 0
+EachMoment {D} model crashes keeps_model s [] [] first last = (last ≡ first) × CrashPrefix s keeps_model (model.present last)
+EachMoment {D} model crashes keeps_model s [] (a ∷ given) first last = ⊥
+EachMoment {D} model crashes keeps_model s (e ∷ es) [] first last = ⊥
+EachMoment {D} model crashes keeps_model s (e ∷ es) (a ∷ given) first last =
+    CrashPrefix s keeps_model (model.present first)
+    × ((next : D) × (Touches model crashes keeps_model (found_by_crash s e a) (touches_disk e a) e first next × EachMoment model crashes keeps_model (after s e a) es given next last))
 
 -- ---- what was given out
 
@@ -138,17 +143,17 @@ ended s = finished s s.flight
 pub record IsLeft {D : Type 0} (s : Machine) (l : LedgerState D) : Type 0 where
   pub by : ℕ
   pub within : by ≤ s.log.settled
-  pub log : l.log ≡ moved s.log by
+  pub log : l.log ≡ rebased s.log by
   pub home : l.out ≡ None
 
 -- A run from a ledger at home, on a disk that it has led from one state to another: the answers are
 -- the machine's, these were released, wherever it is stopped, after an event or at any moment inside one, the headline
 -- holds, and this ledger is left. It is what `run_events` ensures where it answers a trace and a ledger.
-pub record Ran {D : Type 0} (present : D → Present) (clock : D → ℕ) (left_since : D → ℕ → List ℕ → Type 0) (crashes : D → D → Type 0) (start : Machine) (events : List Event) (given : List Answer) (released : List Release) (left : LedgerState D) (keeps_model : Bool) (first last : D) : Type 0 where
+pub record Completed {D : Type 0} (model : Ghosts D) (crashes : D → D → Type 0) (start : Machine) (events : List Event) (given : List Answer) (released : List Release) (left : LedgerState D) (keeps_model : Bool) (first last : D) : Type 0 where
   pub answered : Answered start events given
   pub released_is : released ≡ (run start events given).released
-  pub prefix : CrashPrefix (run start events given) keeps_model (present last)
-  pub moments : EachMoment present clock left_since crashes keeps_model start events given first last
+  pub prefix : CrashPrefix (run start events given) keeps_model (model.present last)
+  pub moments : EachMoment model crashes keeps_model start events given first last
   pub once : ReleasedOnce (run start events given)
   pub again : AgainTruly (run start events given)
   pub signalled : SignalledOnce (run start events given)

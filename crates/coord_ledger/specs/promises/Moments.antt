@@ -1,7 +1,8 @@
 -- What an event does to the disk, and what a crash at a moment of it may leave.
 use Rattle.std.specs.Prelude.{◌≡◌, ℕ, List, Bool, true, false}
 use Rattle.coord_disk.specs.Model.Moments.{LeavesOnly}
-use Rattle.coord_disk.specs.Model.Present.{Present, IsImage, whole}
+use Rattle.coord_disk.specs.Model.Present.{IsImage, whole}
+use Rattle.coord_disk.specs.declared.disk.Disk.{Ghosts}
 use Rattle.coord_store.specs.declared.faults.CommitFault.TheVariants as fault
 use Rattle.coord_ledger.specs.declared.events.Answer.{Answer}
 use Rattle.coord_ledger.specs.declared.events.Answer.TheVariants.{Committed, Failed}
@@ -18,15 +19,15 @@ touches_disk event answer = false
 
 -- A crash has taken one of the disk's images, and at each moment of the opening behind it a crash left only images of
 -- what was taken. These have P.
-pub record Reopens {D : Type 0} (present : D → Present) (clock : D → ℕ) (left_since : D → ℕ → List ℕ → Type 0) (crashes : D → D → Type 0) (P : List ℕ → Type 0) (old new : D) : Type 0 where
+pub record Reopens {D : Type 0} (model : Ghosts D) (crashes : D → D → Type 0) (P : List ℕ → Type 0) (old new : D) : Type 0 where
   pub taken : D
   pub crash : crashes old taken
-  pub image : IsImage (present old) (present taken).read
-  pub synced : present taken ≡ whole (present taken).read
-  pub opening : LeavesOnly clock left_since taken new (IsImage (present taken))
-  pub each : (bytes : List ℕ) → IsImage (present taken) bytes → P bytes
+  pub image : IsImage (model.present old) (model.present taken).read
+  pub synced : model.present taken ≡ whole (model.present taken).read
+  pub opening : LeavesOnly model.clock model.left_since taken new (IsImage (model.present taken))
+  pub each : (bytes : List ℕ) → IsImage (model.present taken) bytes → P bytes
 
 -- at each moment since an event began a crash left only what has P
-abbrev pub LeavesWithin : {D : Type 0} → (D → Present) → (D → ℕ) → (D → ℕ → List ℕ → Type 0) → (D → D → Type 0) → Event → (List ℕ → Type 0) → D → D → Type 0
-LeavesWithin present clock left_since crashes Crash P old new = Reopens present clock left_since crashes P old new
-LeavesWithin present clock left_since crashes event P old new = LeavesOnly clock left_since old new P
+abbrev pub LeavesWithin : {D : Type 0} → Ghosts D → (D → D → Type 0) → Event → (List ℕ → Type 0) → D → D → Type 0
+LeavesWithin model crashes Crash P old new = Reopens model crashes P old new
+LeavesWithin model crashes event P old new = LeavesOnly model.clock model.left_since old new P

@@ -3,28 +3,18 @@
 ghost use Rattle.std.specs.Prelude.{◌≡◌, ◌+◌, false, true, ℕ, IfErr, IfOk, MatchResult, Some};
 ghost use Rattle.coord_disk.specs.Model.Present.{IsImage};
 ghost use Rattle.coord_store.specs.Kept.{has_stopped};
-ghost use Rattle.coord_ledger.specs.declared.events.Answer.TheVariants.{Opened};
-ghost use Rattle.coord_ledger.specs.declared.events.Event.TheVariants.{Crash};
 ghost use Rattle.coord_ledger.specs.declared.trace.RunFaultKind.TheVariants.{OutOfMemory};
-ghost use Rattle.coord_ledger.specs.ledger.Driven.{Beside, IsAnew, after_crash, disk_driven, held, model_driven};
-ghost use Rattle.coord_ledger.specs.ledger.Driver.{HasFailed, HeldTouches, IsEventFault, IsLost, IsReopenFault, IsReopened};
-ghost use Rattle.coord_ledger.specs.ledger.Follows.{Follows, FollowsTo};
-ghost use Rattle.coord_ledger.specs.ledger.State.{ledger_over};
-ghost use Rattle.coord_ledger.specs.machine.Consistent.{IsConsistent};
-ghost use Rattle.coord_ledger.specs.machine.Log.{settled_count};
-ghost use Rattle.coord_ledger.specs.machine.Machine.{Machine};
-ghost use Rattle.coord_ledger.specs.promises.Faults.{failed_in};
-ghost use Rattle.coord_ledger.specs.promises.Moments.{Reopens};
+ghost use Rattle.coord_ledger.specs.Facade.{Crash, DiskEffect, HasFailed, IsAnew, IsConsistent, IsEventFault, IsLost, IsReopenFault, IsReopened, Machine, Opened, Reopens, Represents, Simulates, disk_held, failed_in, ledger_over, model_held, settled_count};
 
 use super::Driver;
 use crate::{Ledger, RunFaultKind};
-use coord_disk::CrashDisk;
+use coord_disk::{CrashDisk, Disk};
 use coord_store::Store;
 use std::alloc::Global;
 
 /// Crashes a disk, and makes a ledger of what it then holds. A refusal gives the disk back.
 fn reopen<D: CrashDisk>(alloc: Global, disk: D) -> Result<Ledger<D>, (RunFaultKind, D)>
-    ensures opened { IfOk result (IsReopened D.keeps_model D.present D.clock D.left_since D.crashes
+    ensures opened { IfOk result (IsReopened ⟦<D as Disk>⟧ D.crashes
         disk) }
     ensures cause { IfErr result (λ refused.
         IsReopenFault (D.keeps_model disk) (D.present disk) (D.present refused.1) refused.0) }
@@ -32,7 +22,7 @@ fn reopen<D: CrashDisk>(alloc: Global, disk: D) -> Result<Ledger<D>, (RunFaultKi
         HasFailed D.failures ledger.disk (D.failures disk)) (λ refused. D.failures refused.1 ≡
         D.failures disk + failed_in refused.0) }
     ensures lost { IfErr result (λ refused. D.keeps_model disk ≡ true →
-        Reopens D.present D.clock D.left_since D.crashes
+        Reopens ⟦<D as Disk>⟧ D.crashes
         (IsImage (D.present disk)) disk refused.1) }
 {
     let opened = match Store::open(alloc, disk.crash()) {
@@ -60,27 +50,26 @@ impl<D: CrashDisk> Driver<D> {
     /// The disk crashes and is opened again, and the flight is gone. The count of the world that was
     /// opened, and its driver; or why none was, and the disk.
     pub fn crash(self, alloc: Global) -> Result<(u64, Self), (RunFaultKind, D)>
-        ensures answered { (b : Beside) (s : Machine) → IsConsistent s → Follows (held self b) s →
-            model_driven D.keeps_model self ≡ Some true
-            → IfOk result (λ opened. FollowsTo s Crash (Opened opened.0)
-            (held opened.1 (after_crash b))) }
+        ensures simulates { model_held D.keeps_model self ≡ Some true →
+            IfOk result (λ opened. Simulates self Crash (Opened opened.0) opened.1) }
         ensures anew { IfOk result (λ opened. IsAnew opened.1) }
         ensures count { IfOk result (λ opened. opened.0 ≡ settled_count opened.1.ledger.log) }
-        ensures disk { (b : Beside) (s : Machine) → IsConsistent s → Follows (held self b) s
+        ensures disk { (s : Machine) → IsConsistent s → Represents self s
             → MatchResult result (λ opened.
-            HeldTouches D.keeps_model D.present D.clock D.left_since D.crashes s true Crash
-            (held self b) (held opened.1 (after_crash b))) (λ refused.
-            IsLost D.keeps_model D.present D.clock D.left_since D.crashes s Crash refused.0
-            (held self b) refused.1) }
-        ensures failures { (n : ℕ) → HasFailed D.failures (disk_driven self) n
-            → MatchResult result (λ opened. HasFailed D.failures (disk_driven opened.1) n)
+            DiskEffect ⟦<D as Disk>⟧ D.crashes s true Crash
+            (disk_held self) (disk_held opened.1)) (λ refused.
+            IsLost ⟦<D as Disk>⟧ D.crashes s Crash refused.0
+            (disk_held self) refused.1) }
+        ensures failures { (n : ℕ) → HasFailed D.failures (disk_held self) n
+            → MatchResult result (λ opened. HasFailed D.failures (disk_held opened.1) n)
             (λ refused. D.failures refused.1 ≡ n + failed_in refused.0) }
-        ensures model { IfOk result (λ opened. model_driven D.keeps_model opened.1 ≡
-            model_driven D.keeps_model self) }
+        ensures model { IfOk result (λ opened. model_held D.keeps_model opened.1 ≡
+            model_held D.keeps_model self) }
         ensures cause { IfErr result (λ refused.
-            IsEventFault (model_driven D.keeps_model self) Crash refused.0) }
+            IsEventFault (model_held D.keeps_model self) Crash refused.0) }
     {
-        self.survives();
+        self.lemma_survives();
+        self.ledger.lemma_log_is_consistent();
         match reopen(alloc, self.into_disk()) {
             Ok(ledger) => {
                 let count = ledger.settled().count();

@@ -1,31 +1,20 @@
 //! Flights go out, are committed, and come back.
 
 ghost use Rattle.std.specs.Prelude.{◌≡◌, ◌+◌, ◌-◌, List, ℕ, Ok, Some};
-ghost use Rattle.coord_ledger.specs.declared.events.Event.TheVariants.{Begin, Commit};
-ghost use Rattle.coord_ledger.specs.declared.release.Release.{Release as Row};
-ghost use Rattle.coord_ledger.specs.ledger.Driven.{Beside, FinishesTo, disk_driven, held, model_driven};
-ghost use Rattle.coord_ledger.specs.ledger.Driver.{HasFailed, HeldTouches};
-ghost use Rattle.coord_ledger.specs.ledger.Follows.{Follows, FollowsTo};
-ghost use Rattle.coord_ledger.specs.machine.After.{settling_releases};
-ghost use Rattle.coord_ledger.specs.machine.Consistent.{IsConsistent};
-ghost use Rattle.coord_ledger.specs.machine.Machine.{Machine};
-ghost use Rattle.coord_ledger.specs.promises.Faults.{failed_at};
-ghost use Rattle.coord_ledger.specs.promises.Headline.{found_by_crash};
-ghost use Rattle.coord_ledger.specs.promises.Moments.{touches_disk};
+ghost use Rattle.coord_ledger.specs.Facade.{Begin, Commit, DiskEffect, Finish, HasFailed, IsConsistent, Machine, Release as Row, Represents, Simulates, disk_held, failed_at, finish_answer, found_by_crash, model_held, settling_releases, touches_disk};
 
 use super::Driver;
 use crate::{Answer, Releases};
-use coord_disk::CrashDisk;
+use coord_disk::{CrashDisk, Disk};
 use coord_types::Refusal;
 
 impl<D: CrashDisk> Driver<D> {
     /// A flight goes out. While one is out, none does. Answers `Begun`, `Nothing`, or `Refused` for
     /// want of memory.
     pub fn begin(self) -> (Answer, Self)
-        ensures answered { (b : Beside) (s : Machine) → IsConsistent s → Follows (held self b) s →
-            FollowsTo s Begin result.0 (held result.1 b) }
+        ensures simulates { Simulates self Begin result.0 result.1 }
         ensures log { result.1.ledger.log ≡ self.ledger.log }
-        ensures disk { disk_driven result.1 ≡ disk_driven self }
+        ensures disk { disk_held result.1 ≡ disk_held self }
     {
         let Driver { mut ledger, flight } = self;
         if let Some(flight) = flight {
@@ -42,18 +31,17 @@ impl<D: CrashDisk> Driver<D> {
 
     /// The flight that is out is committed. Answers `Committed`, `Failed`, or `NoFlight`.
     pub fn commit(&mut self) -> Answer
-        ensures answered { (b : Beside) (s : Machine) → IsConsistent s →
-            Follows (held self.old b) s → FollowsTo s Commit result (held self.new b) }
+        ensures simulates { Simulates self.old Commit result self.new }
         ensures ledger { self.new.ledger ≡ self.old.ledger }
-        ensures disk { (b : Beside) (s : Machine) → IsConsistent s → Follows (held self.old b) s
-            → HeldTouches D.keeps_model D.present D.clock D.left_since D.crashes
-            (found_by_crash s Commit result) (touches_disk Commit result) Commit (held self.old b)
-            (held self.new b) }
-        ensures failures { (n : ℕ) → HasFailed D.failures (disk_driven self.old) n →
-            HasFailed D.failures (disk_driven self.new) (n + failed_at Commit result) }
-        ensures model { model_driven D.keeps_model self.new ≡ model_driven D.keeps_model self.old }
+        ensures disk { (s : Machine) → IsConsistent s → Represents self.old s
+            → DiskEffect ⟦<D as Disk>⟧ D.crashes
+            (found_by_crash s Commit result) (touches_disk Commit result) Commit
+            (disk_held self.old) (disk_held self.new) }
+        ensures failures { (n : ℕ) → HasFailed D.failures (disk_held self.old) n →
+            HasFailed D.failures (disk_held self.new) (n + failed_at Commit result) }
+        ensures model { model_held D.keeps_model self.new ≡ model_held D.keeps_model self.old }
     {
-        self.survives();
+        self.lemma_survives();
         match &mut self.flight {
             None => Answer::NoFlight,
             Some(flight) => match flight.commit() {
@@ -66,13 +54,12 @@ impl<D: CrashDisk> Driver<D> {
     /// The flight that is out comes back: what it releases, or None where no flight is out. For want
     /// of memory it stays out.
     pub fn finish(self) -> (Result<Option<Releases>, Refusal>, Self)
-        ensures answered { (b : Beside) (s : Machine) → IsConsistent s → Follows (held self b) s →
-            FinishesTo s b result.0 result.1 }
+        ensures simulates { Simulates self Finish (finish_answer result.0 result.1) result.1 }
         ensures base { result.1.ledger.log.base ≡ self.ledger.log.base }
         ensures released { (releases : List Row) → result.0 ≡ Ok (Some releases) →
             releases ≡ settling_releases self.ledger.log
             (result.1.ledger.log.settled - self.ledger.log.settled) }
-        ensures disk { disk_driven result.1 ≡ disk_driven self }
+        ensures disk { disk_held result.1 ≡ disk_held self }
     {
         let Driver { mut ledger, flight } = self;
         let Some(flight) = flight else {

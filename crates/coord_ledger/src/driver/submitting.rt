@@ -1,12 +1,7 @@
 //! A step is handed in.
 
 ghost use Rattle.std.specs.Prelude.{◌≡◌};
-ghost use Rattle.coord_ledger.specs.declared.events.Event.TheVariants.{Submit};
-ghost use Rattle.coord_ledger.specs.ledger.Calls.{HandedTo};
-ghost use Rattle.coord_ledger.specs.ledger.Driven.{Beside, answer_to, disk_driven, held, with_claim};
-ghost use Rattle.coord_ledger.specs.ledger.Follows.{Follows, FollowsTo};
-ghost use Rattle.coord_ledger.specs.machine.Consistent.{IsConsistent};
-ghost use Rattle.coord_ledger.specs.machine.Machine.{Machine};
+ghost use Rattle.coord_ledger.specs.Facade.{HandedTo, Simulates, Submit, answer_to, disk_held};
 
 use super::Driver;
 use crate::Handed;
@@ -16,14 +11,12 @@ use coord_types::{Refusal, Step};
 impl<D: CrashDisk> Driver<D> {
     /// Hands a step in: `Ledger::hand_in`.
     pub fn submit(&mut self, step: Step) -> Result<Handed, Refusal>
-        ensures answered { (b : Beside) (s : Machine) → IsConsistent s →
-            Follows (held self.old b) s →
-            FollowsTo s (Submit step) (answer_to result) (held self.new (with_claim b result)) }
+        ensures simulates { Simulates self.old (Submit step) (answer_to result) self.new }
         ensures handed { HandedTo self.old.ledger step result self.new.ledger }
         ensures flight { self.new.flight ≡ self.old.flight }
-        ensures disk { disk_driven self.new ≡ disk_driven self.old }
+        ensures disk { disk_held self.new ≡ disk_held self.old }
     {
-        self.ledger.log_is_consistent();
+        self.ledger.lemma_log_is_consistent();
         self.ledger.hand_in(step)
     }
 }

@@ -1,40 +1,34 @@
 //! Crashes of the disk in a run.
 
 ghost use Rattle.std.specs.Prelude.{◌≡◌, ◌+◌, true, ℕ, IfErr, IfOk, MatchResult};
-ghost use Rattle.coord_ledger.specs.declared.events.Event.TheVariants.{Crash};
-ghost use Rattle.coord_ledger.specs.ledger.Driver.{HasFailed, HeldTouches, IsEventFault, IsLost, IsPromised, disk_held, model_of};
-ghost use Rattle.coord_ledger.specs.ledger.Follows.{Follows, FollowsTo};
-ghost use Rattle.coord_ledger.specs.machine.Consistent.{IsConsistent};
-ghost use Rattle.coord_ledger.specs.machine.Machine.{Machine};
-ghost use Rattle.coord_ledger.specs.promises.Broken.{IsCutShort};
-ghost use Rattle.coord_ledger.specs.promises.Faults.{failed_in};
+ghost use Rattle.coord_ledger.specs.Facade.{Crash, DiskEffect, Follows, FollowsTo, HasFailed, IsConsistent, IsCutShort, IsEventFault, IsLost, IsPromised, Machine, disk_held, failed_in, model_held};
 
 use super::flights::Broken;
 use super::released::forget_all;
 use super::run::Run;
 use crate::{Answer, Seen};
-use coord_disk::CrashDisk;
+use coord_disk::{CrashDisk, Disk};
 use std::alloc::Global;
 
 impl<D: CrashDisk> Run<D> {
     /// The disk crashes and is opened again. Tickets and the flight are gone.
     pub fn crash(self, alloc: Global) -> Result<(Answer, Self), Broken<D>>
         ensures answered { (s : Machine) → IsConsistent s → Follows self s →
-            IsPromised (model_of D.keeps_model self) Crash
+            IsPromised (model_held D.keeps_model self.driver) Crash
             → MatchResult result (λ held. FollowsTo s Crash held.0 held.1) (λ broken.
             IsCutShort s Crash broken.kind broken.released.items) }
         ensures disk { (s : Machine) → IsConsistent s → Follows self s
-            → MatchResult result (λ held.
-            HeldTouches D.keeps_model D.present D.clock D.left_since D.crashes s true Crash self
-            held.1) (λ broken. IsLost D.keeps_model D.present D.clock D.left_since D.crashes s Crash
-            broken.kind self broken.disk) }
-        ensures failures { (n : ℕ) → HasFailed D.failures (disk_held self) n
-            → MatchResult result (λ held. HasFailed D.failures (disk_held held.1) n) (λ broken.
-            D.failures broken.disk ≡ n + failed_in broken.kind) }
-        ensures model { IfOk result (λ held. model_of D.keeps_model held.1 ≡
-            model_of D.keeps_model self) }
+            → MatchResult result (λ held. DiskEffect ⟦<D as Disk>⟧ D.crashes s true Crash
+            (disk_held self.driver) (disk_held held.1.driver)) (λ broken.
+            IsLost ⟦<D as Disk>⟧ D.crashes s Crash
+            broken.kind (disk_held self.driver) broken.disk) }
+        ensures failures { (n : ℕ) → HasFailed D.failures (disk_held self.driver) n
+            → MatchResult result (λ held. HasFailed D.failures (disk_held held.1.driver) n)
+            (λ broken. D.failures broken.disk ≡ n + failed_in broken.kind) }
+        ensures model { IfOk result (λ held. model_held D.keeps_model held.1.driver ≡
+            model_held D.keeps_model self.driver) }
         ensures cause { IfErr result (λ broken.
-            IsEventFault (model_of D.keeps_model self) Crash broken.kind) }
+            IsEventFault (model_held D.keeps_model self.driver) Crash broken.kind) }
     {
         let Run {
             driver,

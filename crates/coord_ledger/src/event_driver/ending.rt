@@ -1,35 +1,32 @@
 //! The end of a run.
 
 ghost use Rattle.std.specs.Prelude.{◌≡◌, List, None, IfErr, IfOk, IsSomeAnd, MatchResult, Some};
-ghost use Rattle.coord_ledger.specs.declared.events.Answer.{Answer as Reaction};
-ghost use Rattle.coord_ledger.specs.declared.events.Event.{Event as What};
-ghost use Rattle.coord_ledger.specs.declared.mark.Mark.TheVariants.{Good};
 ghost use Rattle.coord_ledger.specs.declared.trace.RunFaultKind.TheVariants.{OutOfMemory};
-ghost use Rattle.coord_ledger.specs.ledger.Driver.{Drives, disk_held};
-ghost use Rattle.coord_ledger.specs.ledger.State.{LedgerState, started};
-ghost use Rattle.coord_ledger.specs.promises.Headline.{Ran};
+ghost use Rattle.coord_ledger.specs.Facade.{Answer as Reaction, Completed, Event as What, Follows, Good, LedgerState, RunSoFar, disk_held, run, started};
 
 use super::flights::Broken;
 use super::released::forget_all;
 use super::run::Run;
 use crate::{Ledger, Release, RunFaultKind};
-use coord_disk::CrashDisk;
+use coord_disk::{CrashDisk, Disk};
 
 impl<D: CrashDisk> Run<D> {
     /// Takes back the flight that is out, and drops its releases and the tickets that are left.
     pub fn end(self) -> Result<(Vec<Release>, Ledger<D>), Broken<D>>
         ensures ran { (start : LedgerState D) → (first : D) → (events : List What) →
             (given : List Reaction) → (after : D)
-            → Drives D.present D.clock D.left_since D.crashes
-            (D.keeps_model after) first start events given self
+            → RunSoFar ⟦<D as Disk>⟧ D.crashes
+            (D.keeps_model after) first start events given self.driver
+            → Follows self (run (started start) events given)
             → IfOk result (λ r. r.1.disk ≡ Some after →
-            Ran D.present D.clock D.left_since D.crashes (started start) events given r.0.items r.1
+            Completed ⟦<D as Disk>⟧ D.crashes (started start) events given r.0.items r.1
             (D.keeps_model after) first after) }
         ensures home { IfOk result (λ r. r.1.out ≡ None) }
-        ensures disk { MatchResult result (λ r. r.1.disk ≡ disk_held self) (λ broken.
-            disk_held self ≡ Some broken.disk) }
-        ensures refused { IfErr result (λ broken. broken.released.items ≡ self.released) }
-        ensures out { IfErr result (λ _. IsSomeAnd self.flight (λ flight. flight.mark ≡ Good)) }
+        ensures disk { MatchResult result (λ r. r.1.disk ≡ disk_held self.driver) (λ broken.
+            disk_held self.driver ≡ Some broken.disk) }
+        ensures refused { IfErr result (λ broken. broken.released.items ≡ self.released.items) }
+        ensures out { IfErr result (λ _.
+            IsSomeAnd self.driver.flight (λ flight. flight.mark ≡ Good)) }
         ensures kind { IfErr result (λ broken. broken.kind ≡ OutOfMemory) }
     {
         let Run {
@@ -41,7 +38,7 @@ impl<D: CrashDisk> Run<D> {
         forget_all(tickets);
         match driver.bring_home() {
             Ok(ledger) => {
-                ledger.images_give_settled();
+                ledger.lemma_images_give_settled();
                 Ok((released, ledger))
             }
             Err(disk) => Err(Broken {

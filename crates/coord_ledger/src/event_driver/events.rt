@@ -2,28 +2,21 @@
 
 ghost use Rattle.std.specs.Prelude.{◌≡◌, ◌+◌, ℕ, IfErr, IfOk, MatchResult, Some};
 ghost use Rattle.coord_ledger.specs.declared.trace.RunFaultKind.TheVariants.{OutOfMemory};
-ghost use Rattle.coord_ledger.specs.ledger.Driver.{HasFailed, HeldTouches, IsEventFault, IsLost, IsPromised, disk_held, model_of};
-ghost use Rattle.coord_ledger.specs.ledger.Follows.{Follows, FollowsTo};
-ghost use Rattle.coord_ledger.specs.machine.Consistent.{EventInRange, IsConsistent};
-ghost use Rattle.coord_ledger.specs.machine.Machine.{Machine};
-ghost use Rattle.coord_ledger.specs.promises.Broken.{IsCutShort};
-ghost use Rattle.coord_ledger.specs.promises.Faults.{failed_at, failed_in};
-ghost use Rattle.coord_ledger.specs.promises.Headline.{found_by_crash};
-ghost use Rattle.coord_ledger.specs.promises.Moments.{touches_disk};
+ghost use Rattle.coord_ledger.specs.Facade.{DiskEffect, EventInRange, Follows, FollowsTo, HasFailed, IsConsistent, IsCutShort, IsEventFault, IsLost, IsPromised, Machine, disk_held, failed_at, failed_in, found_by_crash, model_held, touches_disk};
 
 use super::flights::Broken;
 use super::released::forget_all;
 use super::run::Run;
 use crate::{Answer, Event, RunFaultKind};
-use coord_disk::CrashDisk;
+use coord_disk::{CrashDisk, Disk};
 use std::alloc::Global;
 
 impl<D: CrashDisk> Run<D> {
     /// Ends the run for want of memory, and keeps only what was released.
     pub fn lose(self) -> Broken<D>
         ensures kind { result.kind ≡ OutOfMemory }
-        ensures released { result.released.items ≡ self.released }
-        ensures disk { disk_held self ≡ Some result.disk }
+        ensures released { result.released.items ≡ self.released.items }
+        ensures disk { disk_held self.driver ≡ Some result.disk }
     {
         let Run {
             driver,
@@ -43,26 +36,27 @@ impl<D: CrashDisk> Run<D> {
     /// a crash, the run ends, and only what was released and the disk are left.
     pub fn meet(self, alloc: Global, event: Event) -> Result<(Answer, Self), Broken<D>>
         ensures answered { (s : Machine) → IsConsistent s → Follows self s →
-            IsPromised (model_of D.keeps_model self) event
+            IsPromised (model_held D.keeps_model self.driver) event
             → MatchResult result (λ held. FollowsTo s event held.0 held.1) (λ broken.
             IsCutShort s event broken.kind broken.released.items) }
         ensures disk { (s : Machine) → IsConsistent s → Follows self s
             → MatchResult result (λ held.
-            HeldTouches D.keeps_model D.present D.clock D.left_since D.crashes
-            (found_by_crash s event held.0) (touches_disk event held.0) event self held.1)
-            (λ broken. IsLost D.keeps_model D.present D.clock D.left_since D.crashes s event
-            broken.kind self broken.disk) }
-        ensures failures { (n : ℕ) → HasFailed D.failures (disk_held self) n
+            DiskEffect ⟦<D as Disk>⟧ D.crashes
+            (found_by_crash s event held.0) (touches_disk event held.0) event
+            (disk_held self.driver) (disk_held held.1.driver))
+            (λ broken. IsLost ⟦<D as Disk>⟧ D.crashes s event
+            broken.kind (disk_held self.driver) broken.disk) }
+        ensures failures { (n : ℕ) → HasFailed D.failures (disk_held self.driver) n
             → MatchResult result (λ held.
-            HasFailed D.failures (disk_held held.1) (n + failed_at event held.0)) (λ broken.
+            HasFailed D.failures (disk_held held.1.driver) (n + failed_at event held.0)) (λ broken.
             D.failures broken.disk ≡ n + failed_in broken.kind) }
         ensures named { EventInRange event }
-        ensures model { IfOk result (λ held. model_of D.keeps_model held.1 ≡
-            model_of D.keeps_model self) }
+        ensures model { IfOk result (λ held. model_held D.keeps_model held.1.driver ≡
+            model_held D.keeps_model self.driver) }
         ensures cause { IfErr result (λ broken.
-            IsEventFault (model_of D.keeps_model self) event broken.kind) }
+            IsEventFault (model_held D.keeps_model self.driver) event broken.kind) }
     {
-        self.survives();
+        self.driver.lemma_survives();
         let mut held = self;
         let answer = match event {
             Event::Submit(step) => {

@@ -1,13 +1,8 @@
 //! The events of a run that move the store: a flight goes out and comes back, and the disk crashes.
 
 ghost use Rattle.std.specs.Prelude.{◌≡◌, IfErr, MatchResult, Some};
-ghost use Rattle.coord_ledger.specs.declared.events.Event.TheVariants.{Begin, Finish};
 ghost use Rattle.coord_ledger.specs.declared.trace.RunFaultKind.TheVariants.{OutOfMemory};
-ghost use Rattle.coord_ledger.specs.ledger.Driver.{disk_held};
-ghost use Rattle.coord_ledger.specs.ledger.Follows.{Follows, FollowsTo};
-ghost use Rattle.coord_ledger.specs.machine.Consistent.{IsConsistent};
-ghost use Rattle.coord_ledger.specs.machine.Machine.{Machine};
-ghost use Rattle.coord_ledger.specs.promises.Broken.{IsLeftOut};
+ghost use Rattle.coord_ledger.specs.Facade.{Begin, Finish, Follows, FollowsTo, IsConsistent, IsLeftOut, Machine, disk_held};
 
 use super::released::{forget_all, push_releases};
 use super::run::Run;
@@ -45,7 +40,7 @@ impl<D: CrashDisk> Run<D> {
     pub fn begin(self) -> (Answer, Self)
         ensures answered { (s : Machine) → IsConsistent s → Follows self s →
             FollowsTo s Begin result.0 result.1 }
-        ensures disk { disk_held result.1 ≡ disk_held self }
+        ensures disk { disk_held result.1.driver ≡ disk_held self.driver }
     {
         let Run {
             driver,
@@ -68,8 +63,8 @@ impl<D: CrashDisk> Run<D> {
         ensures answered { (s : Machine) → IsConsistent s → Follows self s →
             MatchResult result (λ held. FollowsTo s Finish held.0 held.1) (λ broken.
             IsLeftOut s Finish broken.released.items) }
-        ensures disk { MatchResult result (λ held. disk_held held.1 ≡ disk_held self) (λ broken.
-            disk_held self ≡ Some broken.disk) }
+        ensures disk { MatchResult result (λ held. disk_held held.1.driver ≡ disk_held self.driver)
+            (λ broken. disk_held self.driver ≡ Some broken.disk) }
         ensures kind { IfErr result (λ broken. broken.kind ≡ OutOfMemory) }
     {
         let Run {

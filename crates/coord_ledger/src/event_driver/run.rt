@@ -1,25 +1,16 @@
 //! What a run of events holds between two events.
 
 ghost use Rattle.std.specs.Prelude.{◌≡◌, ◌+◌, ℕ, IfOk, OnErr, Some};
-ghost use Rattle.coord_ledger.specs.declared.events.Event.TheVariants.{Submit, Collect, Resend, Show, Commit};
-ghost use Rattle.coord_ledger.specs.ledger.Driver.{HasFailed, HeldSurvives, HeldTouches, disk_held, model_of};
-ghost use Rattle.coord_ledger.specs.ledger.Follows.{Follows, FollowsTo};
-ghost use Rattle.coord_ledger.specs.machine.Consistent.{IsConsistent};
-ghost use Rattle.coord_ledger.specs.machine.Machine.{Machine};
-ghost use Rattle.coord_ledger.specs.promises.Broken.{IsLeftOut};
-ghost use Rattle.coord_ledger.specs.promises.Faults.{failed_at};
-ghost use Rattle.coord_ledger.specs.promises.Headline.{found_by_crash};
-ghost use Rattle.coord_ledger.specs.promises.Moments.{touches_disk};
+ghost use Rattle.coord_ledger.specs.Facade.{Collect, Commit, DiskEffect, Follows, FollowsTo, HasFailed, IsConsistent, IsLeftOut, Machine, Resend, Show, Submit, disk_held, failed_at, found_by_crash, model_held, touches_disk};
 
 use super::released::push_releases;
 use crate::{Answer, Driver, Handed, Release, Seen, Ticket};
-use coord_disk::CrashDisk;
+use coord_disk::{CrashDisk, Disk};
 use coord_types::{Refusal, Step};
 use std::alloc::AllocError;
-use std::marker::Model;
 
 /// The driver of a ledger, the tickets as they were given, what was shown last, and what was
-/// released. Contracts see `Held` (`specs/ledger/Follows.antt`).
+/// released: where the event machine is (`Follows`, specs/ledger/Follows.antt).
 pub struct Run<D: CrashDisk> {
     pub driver: Driver<D>,
     pub tickets: Vec<Option<Ticket>>,
@@ -27,37 +18,13 @@ pub struct Run<D: CrashDisk> {
     pub released: Vec<Release>,
 }
 
-impl<D: CrashDisk> Model for Run<D> {
-    ghost use Rattle.coord_ledger.specs.ledger.Follows.{Held};
-
-    ghost Value = { Held D };
-
-    ghost view = { λ r. record {
-      ledger = r.driver.ledger;
-      flight = r.driver.flight;
-      claims = r.tickets.items;
-      seen = r.seen;
-      released = r.released.items;
-    } };
-}
-
 impl<D: CrashDisk> Run<D> {
-    /// Does nothing: its contract is what the types of its parts keep of the disk. Whatever a crash
-    /// may leave between two events is the world after a prefix of the accepted steps that holds all
-    /// that was released, and a legal one.
-    pub fn survives(&self)
-        ensures { (s : Machine) → IsConsistent s → Follows self.now s →
-            HeldSurvives D.keeps_model D.present self.now s }
-    {
-        self.driver.survives();
-    }
-
     /// A step is handed in.
     pub fn submit(&mut self, step: Step) -> Result<Answer, AllocError>
         ensures answered { (s : Machine) → IsConsistent s → Follows self.old s →
             IfOk result (λ answer. FollowsTo s (Submit step) answer self.new) }
-        ensures err { OnErr result (self.new ≡ self.old) }
-        ensures disk { disk_held self.new ≡ disk_held self.old }
+        ensures err { OnErr result (self.new.released ≡ self.old.released) }
+        ensures disk { disk_held self.new.driver ≡ disk_held self.old.driver }
     {
         self.tickets.reserve(1)?;
         match self.driver.submit(step) {
@@ -79,7 +46,7 @@ impl<D: CrashDisk> Run<D> {
     pub fn collect(&mut self, index: usize) -> Answer
         ensures answered { (s : Machine) → IsConsistent s → Follows self.old s →
             FollowsTo s (Collect index) result self.new }
-        ensures disk { disk_held self.new ≡ disk_held self.old }
+        ensures disk { disk_held self.new.driver ≡ disk_held self.old.driver }
     {
         if index >= self.tickets.len() {
             return Answer::NoTicket;
@@ -103,11 +70,13 @@ impl<D: CrashDisk> Run<D> {
         ensures answered { (s : Machine) → IsConsistent s → Follows self.old s →
             FollowsTo s Commit result self.new }
         ensures disk { (s : Machine) → IsConsistent s → Follows self.old s
-            → HeldTouches D.keeps_model D.present D.clock D.left_since D.crashes
-            (found_by_crash s Commit result) (touches_disk Commit result) Commit self.old self.new }
-        ensures failures { (n : ℕ) → HasFailed D.failures (disk_held self.old) n →
-            HasFailed D.failures (disk_held self.new) (n + failed_at Commit result) }
-        ensures model { model_of D.keeps_model self.new ≡ model_of D.keeps_model self.old }
+            → DiskEffect ⟦<D as Disk>⟧ D.crashes
+            (found_by_crash s Commit result) (touches_disk Commit result) Commit
+            (disk_held self.old.driver) (disk_held self.new.driver) }
+        ensures failures { (n : ℕ) → HasFailed D.failures (disk_held self.old.driver) n →
+            HasFailed D.failures (disk_held self.new.driver) (n + failed_at Commit result) }
+        ensures model { model_held D.keeps_model self.new.driver ≡
+            model_held D.keeps_model self.old.driver }
     {
         self.driver.commit()
     }
@@ -117,8 +86,8 @@ impl<D: CrashDisk> Run<D> {
         ensures answered { (s : Machine) → IsConsistent s → Follows self.old s →
             IfOk result (λ answer. FollowsTo s Resend answer self.new) }
         ensures cut { (s : Machine) → IsConsistent s → Follows self.old s →
-            OnErr result (IsLeftOut s Resend self.new.released) }
-        ensures disk { disk_held self.new ≡ disk_held self.old }
+            OnErr result (IsLeftOut s Resend self.new.released.items) }
+        ensures disk { disk_held self.new.driver ≡ disk_held self.old.driver }
     {
         match self.driver.ledger().resend() {
             Ok(releases) => {
@@ -133,7 +102,7 @@ impl<D: CrashDisk> Run<D> {
     pub fn show(&mut self) -> Answer
         ensures answered { (s : Machine) → IsConsistent s → Follows self.old s →
             FollowsTo s Show result self.new }
-        ensures disk { disk_held self.new ≡ disk_held self.old }
+        ensures disk { disk_held self.new.driver ≡ disk_held self.old.driver }
     {
         match self.driver.ledger().show(&mut self.seen) {
             Ok(view) => Answer::Shown(view),

@@ -3,9 +3,7 @@
 ghost use Rattle.std.specs.Prelude.{◌≡◌, ◌≢◌, ◌+◌, ◌↔◌, ◌≤◌, false, true, is_some, None, Ok, Some, drop, length, take, IfErr, IfOk, IsSomeAnd, IsTrue, OnErr, OnOk};
 ghost use Rattle.coord_types.specs.declared.limits.TheConstants.{MAX_BATCH_STEPS};
 ghost use Rattle.coord_world.specs.protocol.Next.{fold};
-ghost use Rattle.coord_ledger.specs.ledger.Calls.{RefusesFlight, keeps_store, next_flight, releases_in, taken_back, with_out};
-ghost use Rattle.coord_ledger.specs.ledger.Follows.{IsOut};
-ghost use Rattle.coord_ledger.specs.machine.Log.{pending, settled_world};
+ghost use Rattle.coord_ledger.specs.Facade.{IsOut, RefusesFlight, keeps_store, next_flight, pending, releases_in, settled_world, taken_back, with_out};
 
 use super::Ledger;
 use crate::settling::{are_same, drop_first, is_same_world, released};

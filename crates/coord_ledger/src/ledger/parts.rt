@@ -2,8 +2,7 @@
 
 ghost use Rattle.std.specs.Prelude.{◌≡◌, ◌+◌, ◌≤◌, is_none, is_some, length, None, Some, IfErr, IfOk, IfSome};
 ghost use Rattle.coord_store.specs.Kept.{has_stopped};
-ghost use Rattle.coord_ledger.specs.machine.Consistent.{FitsOut, IsConsistentLog};
-ghost use Rattle.coord_ledger.specs.machine.Log.{pending, settled_count, settled_world};
+ghost use Rattle.coord_ledger.specs.Facade.{FitsOut, IsConsistentLog, pending, settled_count, settled_world};
 
 use super::Ledger;
 use coord_disk::Disk;
@@ -75,7 +74,7 @@ impl<D: Disk> Ledger<D> {
     /// Does nothing. Its contract is what the type keeps of every ledger: the log is consistent,
     /// with the steps that are out and those in doubt; while steps are out the store is out with
     /// them; a ledger that has stopped has its store back.
-    pub fn log_is_consistent(&self)
+    pub fn lemma_log_is_consistent(&self)
         ensures log { IsConsistentLog self.now.log }
         ensures out { IfSome self.now.out (FitsOut self.now.log) }
         ensures doubted { IfSome self.now.log.doubt (λ size. (1 ≤ size) ×

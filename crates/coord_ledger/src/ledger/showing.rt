@@ -2,9 +2,8 @@
 
 ghost use Rattle.std.specs.Prelude.{◌≡◌, ◌<◌, ◌≤◌, Err, is_some, false, true, IfOk, MatchResult, OnErr};
 ghost use Rattle.coord_types.specs.declared.refusals.Refusal.TheVariants.{OutOfMemory, Stopped, Behind};
-ghost use Rattle.coord_ledger.specs.machine.After.{resent};
-ghost use Rattle.coord_ledger.specs.machine.Log.{accepted_count, settled_count, settled_world};
 ghost use Rattle.coord_view.specs.Shown.{shown};
+ghost use Rattle.coord_ledger.specs.Facade.{accepted_count, resent, settled_count, settled_world};
 
 use super::Ledger;
 use crate::settling::push_all;

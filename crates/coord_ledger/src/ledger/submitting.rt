@@ -6,9 +6,7 @@ ghost use Rattle.coord_types.specs.declared.refusals.Refusal.{Refusal as Why};
 ghost use Rattle.coord_types.specs.declared.steps.Kind.{Kind as Sort};
 ghost use Rattle.coord_types.specs.declared.steps.Reply.{Reply as Answered};
 ghost use Rattle.coord_world.specs.protocol.Next.{reply};
-ghost use Rattle.coord_ledger.specs.ledger.Calls.{HandedTo, claimed, with_accepted};
-ghost use Rattle.coord_ledger.specs.machine.Log.{front_world};
-ghost use Rattle.coord_ledger.specs.machine.Submits.{verdict};
+ghost use Rattle.coord_ledger.specs.Facade.{HandedTo, claimed, front_world, verdict, with_accepted};
 
 use super::Ledger;
 use crate::{Handed, Ticket};

@@ -1,12 +1,12 @@
 use Rattle.std.proofs.Common.{◌≡◌, ℕ, ◌+◌, ◌≤◌, length, take, vec_capacity, vec_len}
 use Rattle.coord_ledger.specs.Facade.{HasFailed, disk_held, failed_until}
-use Rattle.coord_ledger.proofs.drives.Drives.{Underway}
+use Rattle.coord_ledger.proofs.runs.SoFar.{LoopInvariant}
 use Rattle.coord_ledger.proofs.event_driver.run_events_keeping_disk.Given as goal
 
 abbrev pub invariant-loop-at : goal.invariant-loop-at
 invariant-loop-at g l = record {
-  underway : Underway {D = g.row.D.Denot} g.D.Disk.present g.D.Disk.clock g.D.Disk.left_since g.D.CrashDisk.crashes g.D.Disk.keeps_model l.fn.ledger l.events l.at l.answers.items l.held;
+  so_far : LoopInvariant {D = g.row.D.Denot} g.D.Disk g.D.CrashDisk.crashes l.fn.ledger l.events l.at l.answers.items l.held;
   room : vec_len l.answers + length l.events ≤ vec_capacity l.answers + l.at;
   many : length l.answers.items ≡ l.at;
-  failed : (n : ℕ) → HasFailed g.D.Disk.failures l.fn.ledger.disk n → HasFailed g.D.Disk.failures (disk_held l.held) (n + failed_until (take l.at l.events) l.answers.items);
+  failed : (n : ℕ) → HasFailed g.D.Disk.failures l.fn.ledger.disk n → HasFailed g.D.Disk.failures (disk_held l.held.driver) (n + failed_until (take l.at l.events) l.answers.items);
 }

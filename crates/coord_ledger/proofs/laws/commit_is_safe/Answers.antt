@@ -1,4 +1,4 @@
-use Rattle.coord_ledger.proofs.drives.EachMoment as law
+use Rattle.coord_ledger.proofs.runs.EachMoment as law
 use Rattle.coord_ledger.proofs.laws.commit_is_safe.Goals as goal
 
 pub returns : goal.returns

@@ -1,6 +1,6 @@
 use Rattle.std.proofs.Common.{◌≡◌, ◌+◌, ◌++◌, [], ◌∷◌, refl, sym, ap, ◌∙◌, subst, arith, rules, string_bytes, inr}
 use Rattle.coord_ledger.specs.declared.events.Event.TheVariants as event
-use Rattle.coord_ledger.specs.Facade.{HasFailed, after_crash, disk_driven}
+use Rattle.coord_ledger.specs.Facade.{HasFailed, disk_held}
 use Rattle.coord_drill.specs.Drill.{line_events}
 use Rattle.coord_drill.specs.Facade.{IsPassing, IsPromised, Leads, Opened, drill_of, failed_by, opened_line}
 use Rattle.coord_drill.specs.declared.asked.Asked.TheVariants.{Crash}
@@ -15,7 +15,7 @@ pub returns-in-Err-clause-cut : goal.returns-in-Err-clause-cut
 returns-in-Err-clause-cut g c promised =
     let told = c.told_as.ensures.told in
     inr (record {
-      moments = λ b s is follows old there keeps. (c.in-Err.ensures.disk b s is follows old there keeps).reopens;
+      moments = λ s is represents old there keeps. (c.in-Err.ensures.disk s is represents old there keeps).reopens;
       cause = λ on. subst IsPassing (sym told) (crash_cause _ c.in-Err.kind c.in-Err.ensures.cause on);
       failed = λ n has. c.in-Err.ensures.failures n has ∙ ap (λ k. n + k) (sym (ap failed_by told ∙ crash_failed c.in-Err.kind));
     })
@@ -27,11 +27,11 @@ returns-in-Ok-print_opened-clause-told g c =
     let count = c.in-Ok.opened.0 in
     let line = opened_line count in
     let text : string_bytes c.print_opened.new.text ≡ string_bytes c.args.text.now ++ line = search rules in
-    let begins = begins_by g.D.Disk g.D.CrashDisk.crashes d.driver c.begins.ensures in
+    let begins = begins_by g.D.Disk g.D.CrashDisk.crashes d.driver c.lemma_begins.ensures in
     let leads : IsPromised g.D.Disk d Crash → Leads g.D.Disk g.D.CrashDisk.crashes d.driver (event.Crash ∷ []) (Opened count ∷ []) w =
-    λ promised. leads_one g.D.Disk g.D.CrashDisk.crashes d.driver w event.Crash (Opened count) after_crash tt c.survives.ensures c.survives-2.ensures c.in-Ok.ensures.model
-    (λ n has. let none : n ≡ n + 0 = omega arith in subst (HasFailed g.D.Disk.failures (disk_driven w)) none (c.in-Ok.ensures.failures n has))
-    (λ b s is follows. c.in-Ok.ensures.answered b s is follows promised.0) c.in-Ok.ensures.disk in (
+    λ promised. leads_one g.D.Disk g.D.CrashDisk.crashes d.driver w event.Crash (Opened count) tt c.lemma_survives.ensures c.lemma_survives-2.ensures c.in-Ok.ensures.model
+    (λ n has. let none : n ≡ n + 0 = omega arith in subst (HasFailed g.D.Disk.failures (disk_held w)) none (c.in-Ok.ensures.failures n has))
+    (c.in-Ok.ensures.simulates promised.0) c.in-Ok.ensures.disk in (
       line,
       (
         text,
@@ -47,9 +47,9 @@ returns-in-Err-print_opened-clause-cut g c promised =
     let d = c.args.self in
     let w = c.in-Ok.opened.1 in
     let count = c.in-Ok.opened.0 in
-    let begins = begins_by g.D.Disk g.D.CrashDisk.crashes d.driver c.begins.ensures in
+    let begins = begins_by g.D.Disk g.D.CrashDisk.crashes d.driver c.lemma_begins.ensures in
     let led : Leads g.D.Disk g.D.CrashDisk.crashes d.driver (event.Crash ∷ []) (Opened count ∷ []) w =
-    leads_one g.D.Disk g.D.CrashDisk.crashes d.driver w event.Crash (Opened count) after_crash tt c.survives.ensures c.survives-2.ensures c.in-Ok.ensures.model
-    (λ n has. let none : n ≡ n + 0 = omega arith in subst (HasFailed g.D.Disk.failures (disk_driven w)) none (c.in-Ok.ensures.failures n has))
-    (λ b s is follows. c.in-Ok.ensures.answered b s is follows promised.0) c.in-Ok.ensures.disk in
+    leads_one g.D.Disk g.D.CrashDisk.crashes d.driver w event.Crash (Opened count) tt c.lemma_survives.ensures c.lemma_survives-2.ensures c.in-Ok.ensures.model
+    (λ n has. let none : n ≡ n + 0 = omega arith in subst (HasFailed g.D.Disk.failures (disk_held w)) none (c.in-Ok.ensures.failures n has))
+    (c.in-Ok.ensures.simulates promised.0) c.in-Ok.ensures.disk in
     cuts_part g.D.Disk g.D.CrashDisk.crashes d Crash _ _ refl c.lost.ensures.fault (all_led g.D.Disk g.D.CrashDisk.crashes d.driver w (line_events d.holds Crash) (Opened count ∷ []) _ begins led c.lost.ensures.disk)

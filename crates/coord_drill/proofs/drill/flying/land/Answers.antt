@@ -1,7 +1,7 @@
 use Rattle.std.proofs.Common.{◌≡◌, ◌-◌, [], ◌∷◌, Some, ap, ◌∙◌, subst, rules}
 use Rattle.std.proofs.lemmas.Result.{IfErr-weaker}
 use Rattle.coord_ledger.specs.declared.events.Event.TheVariants.{Commit, Finish}
-use Rattle.coord_ledger.specs.Facade.{LedgerState, disk_driven, settled_count, settling_releases}
+use Rattle.coord_ledger.specs.Facade.{LedgerState, disk_held, settled_count, settling_releases}
 use Rattle.coord_drill.specs.Facade.{Answer, Finished, Leads, landing_events}
 use Rattle.coord_drill.proofs.does.Moments.{leads_one, leads_then}
 use Rattle.coord_drill.proofs.drill.flying.land.Goals as goal
@@ -13,8 +13,8 @@ returns-in_err-releases-clause-cut g c =
     let tried = c.commit-answer.new.self in
     let given = c.commit-answer.result in
     let tries : Leads g.D.Disk g.D.CrashDisk.crashes v (Commit ∷ []) (given ∷ []) tried =
-    leads_one g.D.Disk g.D.CrashDisk.crashes v tried Commit given (λ b. b) tt c.survives.ensures c.survives-2.ensures c.commit-answer.ensures.model c.commit-answer.ensures.failures c.commit-answer.ensures.answered c.commit-answer.ensures.disk in
-    IfErr-weaker c.from_residual.result (λ refused. disk_driven tried ≡ Some refused.1) _ (λ refused there. record { given = given ∷ []; mid = tried; moments = tries; left = there }) (search rules)
+    leads_one g.D.Disk g.D.CrashDisk.crashes v tried Commit given tt c.lemma_survives.ensures c.lemma_survives-2.ensures c.commit-answer.ensures.model c.commit-answer.ensures.failures c.commit-answer.ensures.simulates c.commit-answer.ensures.disk in
+    IfErr-weaker c.from_residual.result (λ refused. disk_held tried ≡ Some refused.1) _ (λ refused there. record { given = given ∷ []; mid = tried; moments = tries; left = there }) (search rules)
 
 pub returns-clause-lands : goal.returns-clause-lands
 returns-clause-lands g c =
@@ -34,7 +34,7 @@ returns-clause-moments g c =
     let given = c.commit-answer.result in
     let count = settled_count back.ledger.log in
     let tries : Leads g.D.Disk g.D.CrashDisk.crashes v (Commit ∷ []) (given ∷ []) tried =
-    leads_one g.D.Disk g.D.CrashDisk.crashes v tried Commit given (λ b. b) tt c.survives.ensures c.survives-2.ensures c.commit-answer.ensures.model c.commit-answer.ensures.failures c.commit-answer.ensures.answered c.commit-answer.ensures.disk in
+    leads_one g.D.Disk g.D.CrashDisk.crashes v tried Commit given tt c.lemma_survives.ensures c.lemma_survives-2.ensures c.commit-answer.ensures.model c.commit-answer.ensures.failures c.commit-answer.ensures.simulates c.commit-answer.ensures.disk in
     let goes : Leads g.D.Disk g.D.CrashDisk.crashes v landing_events (given ∷ Finished count ∷ []) back =
     leads_then g.D.Disk g.D.CrashDisk.crashes v tried back (Commit ∷ []) (Finish ∷ []) (given ∷ []) (Finished count ∷ []) tries c.in_ok-releases.ensures.moments in
     elim c.match-answer-2.branch [
@@ -51,7 +51,7 @@ returns-clause-cut g c =
     let given = c.commit-answer.result in
     let count = settled_count back.ledger.log in
     let tries : Leads g.D.Disk g.D.CrashDisk.crashes v (Commit ∷ []) (given ∷ []) tried =
-    leads_one g.D.Disk g.D.CrashDisk.crashes v tried Commit given (λ b. b) tt c.survives.ensures c.survives-2.ensures c.commit-answer.ensures.model c.commit-answer.ensures.failures c.commit-answer.ensures.answered c.commit-answer.ensures.disk in
+    leads_one g.D.Disk g.D.CrashDisk.crashes v tried Commit given tt c.lemma_survives.ensures c.lemma_survives-2.ensures c.commit-answer.ensures.model c.commit-answer.ensures.failures c.commit-answer.ensures.simulates c.commit-answer.ensures.disk in
     let goes : Leads g.D.Disk g.D.CrashDisk.crashes v landing_events (given ∷ Finished count ∷ []) back =
     leads_then g.D.Disk g.D.CrashDisk.crashes v tried back (Commit ∷ []) (Finish ∷ []) (given ∷ []) (Finished count ∷ []) tries c.in_ok-releases.ensures.moments in
     elim c.match-answer-2.branch [

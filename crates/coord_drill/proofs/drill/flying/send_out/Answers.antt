@@ -2,7 +2,7 @@ use Rattle.std.proofs.Common.{[], ◌∷◌, refl, subst}
 use Rattle.std.proofs.lemmas.Result.{IfErr-weaker, IfOk-weaker}
 use Rattle.coord_drill.specs.Facade.{Begun, Leads, flight_events}
 use Rattle.coord_ledger.specs.declared.events.Event.TheVariants.{Begin}
-use Rattle.coord_ledger.specs.Facade.{IsOneOf, next_size, nothing_beside, settled_count, started, to_begin}
+use Rattle.coord_ledger.specs.Facade.{IsOneOf, next_size, settled_count, started, to_begin}
 use Rattle.coord_drill.proofs.does.FlownTo.{begun_size, flown_by, flown_part, flown_to}
 use Rattle.coord_drill.proofs.does.Moments.{if_ok_both, leads_aside, none_led}
 use Rattle.coord_drill.proofs.drill.flying.send_out.Goals as goal
@@ -22,11 +22,11 @@ returns-clause-moments g c =
     let v = c.args.driver in
     let out = c.begin-begun.result.1 in
     let goes : Leads g.D.Disk g.D.CrashDisk.crashes v (Begin ∷ []) (c.begin-begun.result.0 ∷ []) out =
-    leads_aside g.D.Disk g.D.CrashDisk.crashes v out Begin c.begin-begun.result.0 (λ b. b) tt c.survives.ensures c.survives-2.ensures g.met.D.Disk.only_now refl (λ s. refl) refl c.begin-begun.ensures.disk c.begin-begun.ensures.answered in
+    leads_aside g.D.Disk g.D.CrashDisk.crashes v out Begin c.begin-begun.result.0 tt c.lemma_survives.ensures c.lemma_survives-2.ensures g.met.D.Disk.only_now refl (λ s. refl) refl c.begin-begun.ensures.disk c.begin-begun.ensures.simulates in
     elim c.match-begun.branch [
       | in-Begun w ↦
-          let drives = c.begins.ensures.drives in
-          let allowed = (c.begin-begun.ensures.answered nothing_beside (started v.ledger) drives.consistent drives.follows).allowed in
+          let so_far = c.lemma_begins.ensures.so_far in
+          let allowed = ((goes (started v.ledger) so_far.consistent so_far.represents).answered).0 in
           let size = begun_size (started v.ledger) w.in-Begun.field-0 (subst (λ a. IsOneOf a (to_begin (started v.ledger))) w.in-Begun.is allowed) in
           let begun = subst (λ a. Leads g.D.Disk g.D.CrashDisk.crashes v (Begin ∷ []) (a ∷ []) out) w.in-Begun.is goes in
           rw w.result-is
@@ -42,11 +42,11 @@ returns-clause-cut g c =
     let v = c.args.driver in
     let out = c.begin-begun.result.1 in
     let goes : Leads g.D.Disk g.D.CrashDisk.crashes v (Begin ∷ []) (c.begin-begun.result.0 ∷ []) out =
-    leads_aside g.D.Disk g.D.CrashDisk.crashes v out Begin c.begin-begun.result.0 (λ b. b) tt c.survives.ensures c.survives-2.ensures g.met.D.Disk.only_now refl (λ s. refl) refl c.begin-begun.ensures.disk c.begin-begun.ensures.answered in
+    leads_aside g.D.Disk g.D.CrashDisk.crashes v out Begin c.begin-begun.result.0 tt c.lemma_survives.ensures c.lemma_survives-2.ensures g.met.D.Disk.only_now refl (λ s. refl) refl c.begin-begun.ensures.disk c.begin-begun.ensures.simulates in
     elim c.match-begun.branch [
       | in-Begun w ↦
           let begun = subst (λ a. Leads g.D.Disk g.D.CrashDisk.crashes v (Begin ∷ []) (a ∷ []) out) w.in-Begun.is goes in
           rw w.result-is (IfErr-weaker w.land.result _ _ (λ refused part. flown_part g.D.Disk g.D.CrashDisk.crashes v out w.in-Begun.field-0 refused.1 begun part) w.land.ensures.cut)
       | in-Nothing w ↦ rw w.result-is tt
-      | in_default w ↦ rw w.result-is (none_led g.D.Disk g.D.CrashDisk.crashes v out flight_events _ c.survives.ensures c.begin-begun.ensures.disk w.lost.ensures.disk)
+      | in_default w ↦ rw w.result-is (none_led g.D.Disk g.D.CrashDisk.crashes v out flight_events _ c.lemma_survives.ensures c.begin-begun.ensures.disk w.lost.ensures.disk)
     ]

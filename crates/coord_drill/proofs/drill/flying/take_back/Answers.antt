@@ -1,7 +1,7 @@
 use Rattle.std.proofs.Common.{Ok, refl, ap, ◌∙◌, subst}
 use Rattle.coord_drill.specs.Facade.{Finished}
 use Rattle.coord_ledger.specs.declared.events.Event.TheVariants.{Finish}
-use Rattle.coord_ledger.specs.Facade.{FinishesTo, settled_count, with_releases}
+use Rattle.coord_ledger.specs.Facade.{Simulates, finish_answer, settled_count}
 use Rattle.coord_drill.proofs.does.Moments.{leads_aside}
 use Rattle.coord_drill.proofs.drill.flying.take_back.Goals as goal
 
@@ -11,5 +11,5 @@ returns-in-Ok-Some-clause-released g c = c.finish-landed.ensures.released c.in-O
 pub returns-in-Ok-Some-clause-moments : goal.returns-in-Ok-Some-clause-moments
 returns-in-Ok-Some-clause-moments g c =
     let new = c.finish-landed.result.1 in
-    leads_aside g.D.Disk g.D.CrashDisk.crashes c.args.driver new Finish (Finished (settled_count new.ledger.log)) (λ b. with_releases b c.in-Ok-Some.releases) tt c.survives.ensures c.survives-in-Ok-Some.ensures g.met.D.Disk.only_now refl (λ s. refl) refl c.finish-landed.ensures.disk
-    (λ b s is follows. subst (λ r. FinishesTo s b r new) (c.in-Ok-Some.is ∙ ap Ok c.in-Ok-Some.field-0-is) (c.finish-landed.ensures.answered b s is follows))
+    leads_aside g.D.Disk g.D.CrashDisk.crashes c.args.driver new Finish (Finished (settled_count new.ledger.log)) tt c.lemma_survives.ensures c.lemma_survives-in-Ok-Some.ensures g.met.D.Disk.only_now refl (λ s. refl) refl c.finish-landed.ensures.disk
+    (subst (λ r. Simulates c.args.driver Finish (finish_answer r new) new) (c.in-Ok-Some.is ∙ ap Ok c.in-Ok-Some.field-0-is) c.finish-landed.ensures.simulates)

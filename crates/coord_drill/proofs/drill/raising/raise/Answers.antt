@@ -2,7 +2,7 @@ use Rattle.std.proofs.Common.{◌≡◌, ◌+◌, false, true, None, refl, sym, 
 use Rattle.coord_disk.specs.Model.Moments.{LeavesOnly}
 use Rattle.coord_store.specs.Facade.{GivesEither, Kept, risen}
 use Rattle.coord_store.specs.Refused.{failed_in}
-use Rattle.coord_ledger.specs.Facade.{Driven, LedgerState, disk_driven, has_stopped, ledger_over, settled_world}
+use Rattle.coord_ledger.specs.Facade.{DriverState, LedgerState, disk_held, has_stopped, ledger_over, settled_world}
 use Rattle.coord_drill.specs.Facade.{GivesRaised, IsPassing, failed_by}
 use Rattle.coord_drill.proofs.course.Standing.{none_stopped}
 use Rattle.coord_drill.proofs.does.Crashes.{told_failures}
@@ -45,15 +45,15 @@ returns-in-Ok-adopt-clause-raised g c =
     λ on keeps. subst (λ w. LeavesOnly g.D.Disk.clock g.D.Disk.left_since store.disk now.disk (GivesEither w (risen w))) world (c.migrate.ensures.any_moment keeps (going on)) in
     let over = c.over-driver.ensures in
     let raised : now.world ≡ risen (settled_world d.ledger.log) = c.in-Ok-migrate.ensures.world ∙ ap risen world in
-    let is : c.over-driver.result.ledger ≡ ledger_over (risen (settled_world d.ledger.log)) now.disk = ap (λ (v : Driven g.row.D.Denot). v.ledger) over ∙ c.in-Ok-adopt.ensures.adopted ∙ ap (λ w. ledger_over w now.disk) raised in
+    let is : c.over-driver.result.ledger ≡ ledger_over (risen (settled_world d.ledger.log)) now.disk = ap (λ (v : DriverState g.row.D.Denot). v.ledger) over ∙ c.in-Ok-adopt.ensures.adopted ∙ ap (λ w. ledger_over w now.disk) raised in
     let failed : g.D.Disk.failures now.disk ≡ g.D.Disk.failures store.disk + 0 = c.in-Ok-migrate.ensures.failures in
     record {
-      begins = c.begins-in-Ok-adopt.ensures;
+      begins = c.lemma_begins-in-Ok-adopt.ensures;
       old = store.disk;
       there = there;
       raised = now.disk;
       is = is;
-      now = ap disk_driven over ∙ ap (λ (l : LedgerState g.row.D.Denot). l.disk) c.in-Ok-adopt.ensures.adopted;
+      now = ap disk_held over ∙ ap (λ (l : LedgerState g.row.D.Denot). l.disk) c.in-Ok-adopt.ensures.adopted;
       keeps = λ keeps. c.migrate.ensures.model ∙ keeps;
       failed = omega (arith, failed);
       moments = moments;

@@ -1,6 +1,6 @@
 use Rattle.std.proofs.Common.{refl}
 use Rattle.coord_ledger.specs.declared.events.Event.TheVariants.{Submit}
-use Rattle.coord_ledger.specs.ledger.Driven.{answer_to, with_claim}
+use Rattle.coord_ledger.specs.ledger.DriverState.{answer_to}
 use Rattle.coord_drill.proofs.does.Moments.{leads_aside}
 use Rattle.coord_drill.proofs.drill.submitting.hand_in.Goals as goal
 
@@ -11,6 +11,6 @@ returns g c =
       handed = c.submit-handed.ensures.handed;
       flight = c.submit-handed.ensures.flight;
       stays = c.submit-handed.ensures.disk;
-      moments = leads_aside g.D.Disk g.D.CrashDisk.crashes c.args.driver.now c.submit-handed.new.self (Submit c.args.step) (answer_to handed) (λ b. with_claim b handed) c.within_ranges.ensures c.survives.ensures c.survives-2.ensures g.met.D.Disk.only_now refl (λ s. refl) refl c.submit-handed.ensures.disk
-          c.submit-handed.ensures.answered;
+      moments = leads_aside g.D.Disk g.D.CrashDisk.crashes c.args.driver.now c.submit-handed.new.self (Submit c.args.step) (answer_to handed) c.within_ranges.ensures c.lemma_survives.ensures c.lemma_survives-2.ensures g.met.D.Disk.only_now refl (λ s. refl) refl c.submit-handed.ensures.disk
+          c.submit-handed.ensures.simulates;
     }

@@ -8,7 +8,7 @@ returns g c =
     let b = based_on g.D.Disk.keeps_model g.D.Disk.present g.L.Origin.base g.L.Origin.before in
     let inv = c.self.invariant in
     let l = c.self.inside.ledger in
-    let e = c.log_is_consistent.ensures in
+    let e = c.lemma_log_is_consistent.ensures in
     subst (CanHold b) c.self.view_is (record {
       log = e.log;
       grown = record { same_base = inv.4; since = inv.5; begins = inv.6; by_shares = inv.3 };
@@ -16,5 +16,5 @@ returns g c =
       out = e.out;
       home = e.home;
       doubt = of_doubt l e.doubted inv.7;
-      images = c.images_give_settled.ensures;
+      images = c.lemma_images_give_settled.ensures;
     })

@@ -1,9 +1,8 @@
 use Rattle.std.proofs.Common.{◌≡◌, length, Option, Some, None, Ok, sym, ap, ◌∙◌, subst, rules}
 use Rattle.coord_types.specs.declared.refusals.Refusal.TheVariants.{OutOfMemory}
-use Rattle.coord_ledger.specs.Facade.{Answer, Begin, Begun, Driven, FlightState, Follows, FollowsTo, HoldsFlight, LedgerState, Nothing, Refused, at_home, held}
-use Rattle.coord_ledger.proofs.follows.FollowsCalls.{follows_next}
-use Rattle.coord_ledger.proofs.follows.FollowsFlights.{follows_not_begun, follows_nothing}
-use Rattle.coord_ledger.proofs.drives.Flights.{begun_err, begun_none, begun_some, departs_own}
+use Rattle.coord_ledger.specs.Facade.{Answer, Begin, Begun, DriverState, FlightState, HoldsFlight, LedgerState, Nothing, Refused, Simulates, at_home}
+use Rattle.coord_ledger.proofs.runs.Flights.{begun_err, begun_none, begun_some, departs_own}
+use Rattle.coord_ledger.proofs.simulates.Begin.{simulates_next, simulates_not_begun, simulates_nothing}
 use Rattle.coord_ledger.proofs.driver.Driver.begin.Goals as goal
 use Rattle.coord_ledger.proofs.driver.Driver.begin.Goals.{in-Ok-Some, in-Ok-None, in-Err}
 
@@ -21,11 +20,14 @@ invariant_of-result-2 g c =
           subst (λ (p : Answer × Option (FlightState g.row.D.Denot)). HoldsFlight c.begin_flush.new.self p.1) (sym w.answer-is) (ap (λ (l : LedgerState g.row.D.Denot). l.out) w.in-Err.ensures.err ∙ home)
     ]
 
-pub returns-clause-answered : goal.returns-clause-answered
-returns-clause-answered g c b s is follows =
-    let inside : Follows _ s = subst (λ (d : Driven g.row.D.Denot). Follows (held d b) s) (sym c.self.view_is) follows in
-    let empty : Follows (held (at_home c.self.inside.ledger) b) s = subst (λ o. Follows {D = g.row.D.Denot} (held (record { ledger = c.self.inside.ledger; flight = o }) b) s) c.in_default.is inside in
-    let To : Answer × Option (FlightState g.row.D.Denot) → Type 0 = λ p. FollowsTo s Begin p.0 (held (record { ledger = c.begin_flush.new.self; flight = p.1 }) b) in
+-- it is an event of its machine
+
+pub returns-clause-simulates : goal.returns-clause-simulates
+returns-clause-simulates g c =
+    let home : c.self.inside.ledger.out ≡ None = subst (HoldsFlight c.self.inside.ledger) c.in_default.is c.self.invariant in
+    let old = at_home c.self.inside.ledger in
+    let same : at_home c.self.inside.ledger ≡ c.args.self = (λ i. record { ledger = c.self.inside.ledger; flight = sym c.in_default.is i }) ∙ c.self.view_is in
+    let To : Answer × Option (FlightState g.row.D.Denot) → Type 0 = λ p. Simulates c.args.self Begin p.0 (record { ledger = c.begin_flush.new.self; flight = p.1 }) in
     elim c.match-begin_flush.branch [
       | in-Ok-Some w ↦
           let departs = begun_some c.self.inside.ledger c.begin_flush.new.self c.begin_flush.result c.begin_flush.ensures.nothing c.begin_flush.ensures.begun w.in-Ok-Some.flight (w.in-Ok-Some.is ∙ ap Ok w.in-Ok-Some.field-0-is) in
@@ -33,15 +35,16 @@ returns-clause-answered g c b s is follows =
           let size : w.len.result ≡ length w.in-Ok-Some.flight.steps = many ∙ ap (λ (f : FlightState g.row.D.Denot). length f.steps) w.flight.view_is in
           subst To (sym w.answer-is)
           (subst (λ n. To (Begun n, Some w.in-Ok-Some.flight)) (sym size)
-          (follows_next _ s w.in-Ok-Some.flight c.begin_flush.new.self is empty departs.goes departs.is departs.now))
+          (subst (λ (d : DriverState g.row.D.Denot). Simulates d Begin (Begun (length w.in-Ok-Some.flight.steps)) (record { ledger = c.begin_flush.new.self; flight = Some w.in-Ok-Some.flight })) same
+          (simulates_next old home w.in-Ok-Some.flight c.begin_flush.new.self departs)))
       | in-Ok-None w ↦
           let stays = begun_none c.self.inside.ledger c.begin_flush.new.self c.begin_flush.result c.begin_flush.ensures.nothing c.begin_flush.ensures.begun (w.in-Ok-None.is ∙ ap Ok w.in-Ok-None.field-0-is) in
           subst To (sym w.answer-is)
-          (subst (λ l. FollowsTo s Begin Nothing (held (at_home l) b)) (sym stays.1)
-          (follows_nothing _ s is empty stays.0))
+          (subst (λ l. Simulates c.args.self Begin Nothing (at_home l)) (sym stays.1)
+          (subst (λ (d : DriverState g.row.D.Denot). Simulates d Begin Nothing (at_home c.self.inside.ledger)) same (simulates_nothing old home stays.0)))
       | in-Err w ↦
           let goes = begun_err c.self.inside.ledger c.begin_flush.new.self c.begin_flush.result c.begin_flush.ensures.nothing c.begin_flush.ensures.begun _ w.in-Err.is in
           subst To (sym w.answer-is)
-          (subst (λ l. FollowsTo s Begin (Refused OutOfMemory) (held (at_home l) b)) (sym w.in-Err.ensures.err)
-          (follows_not_begun _ s is empty goes))
+          (subst (λ l. Simulates c.args.self Begin (Refused OutOfMemory) (at_home l)) (sym w.in-Err.ensures.err)
+          (subst (λ (d : DriverState g.row.D.Denot). Simulates d Begin (Refused OutOfMemory) (at_home c.self.inside.ledger)) same (simulates_not_begun old home goes)))
     ]

@@ -1,21 +1,23 @@
-use Rattle.std.proofs.Common.{◌≡◌, ◌-◌, Some, Ok, sym, ap, ◌∙◌, subst}
-use Rattle.coord_ledger.specs.Facade.{Driven, FinishesTo, Follows, held, settling_releases}
-use Rattle.coord_ledger.proofs.drives.Flights.{gave, same_base}
-use Rattle.coord_ledger.proofs.follows.FollowsFlights.{follows_back}
+use Rattle.std.proofs.Common.{◌≡◌, ◌-◌, sym, ap, ◌∙◌, subst}
+use Rattle.coord_ledger.specs.Facade.{DriverState, Finish, Finished, Simulates, at_home, settled_count, settling_releases}
+use Rattle.coord_ledger.proofs.simulates.Finish.{simulates_back}
+use Rattle.coord_ledger.proofs.runs.Flights.{gave, same_base}
 use Rattle.coord_ledger.proofs.driver.Driver.finish.Goals as goal
-
-pub returns-in-Ok-clause-answered : goal.returns-in-Ok-clause-answered
-returns-in-Ok-clause-answered g c b s is follows =
-    let inside : Follows _ s = subst (λ (d : Driven g.row.D.Denot). Follows (held d b) s) (sym c.self.view_is) follows in
-    subst (λ (d : Driven g.row.D.Denot). FinishesTo s b (Ok (Some c.in-Ok.releases)) d) (sym c.over-in-Ok.ensures)
-    (follows_back _ s is inside c.in-Some.flight c.in-Some.is c.end_flush.new.self c.in-Ok.releases c.in-Ok.ensures.taken c.in-Ok.ensures.released)
 
 pub returns-in-Ok-clause-base : goal.returns-in-Ok-clause-base
 returns-in-Ok-clause-base g c =
-    ap (λ (d : Driven g.row.D.Denot). d.ledger.log.base) c.over-in-Ok.ensures ∙ same_base c.self.inside.ledger c.end_flush.new.self c.in-Some.flight c.in-Ok.ensures.taken ∙ ap (λ (d : Driven g.row.D.Denot). d.ledger.log.base) c.self.view_is
+    ap (λ (d : DriverState g.row.D.Denot). d.ledger.log.base) c.over-in-Ok.ensures ∙ same_base c.self.inside.ledger c.end_flush.new.self c.in-Some.flight c.in-Ok.ensures.taken ∙ ap (λ (d : DriverState g.row.D.Denot). d.ledger.log.base) c.self.view_is
 
 pub returns-in-Ok-clause-released : goal.returns-in-Ok-clause-released
 returns-in-Ok-clause-released g c releases is =
     let same : c.in-Ok.releases ≡ releases = cc in
     let gives = c.in-Ok.ensures.released ∙ gave c.self.inside.ledger c.end_flush.new.self c.in-Some.flight c.in-Ok.ensures.taken c.in-Ok.ensures.own in
     sym same ∙ gives ∙ (λ i. settling_releases (c.self.view_is i).ledger.log ((sym c.over-in-Ok.ensures i).ledger.log.settled - (c.self.view_is i).ledger.log.settled))
+
+-- it is an event of its machine
+
+pub returns-in-Ok-clause-simulates : goal.returns-in-Ok-clause-simulates
+returns-in-Ok-clause-simulates g c =
+    let old : DriverState g.row.D.Denot = record { ledger = c.self.inside.ledger; flight = c.self.inside.flight } in
+    subst (λ (d : DriverState g.row.D.Denot). Simulates c.args.self Finish (Finished (settled_count d.ledger.log)) d) (sym c.over-in-Ok.ensures)
+    (subst (λ (d : DriverState g.row.D.Denot). Simulates d Finish (Finished (settled_count c.end_flush.new.self.log)) (at_home c.end_flush.new.self)) c.self.view_is (simulates_back old c.in-Some.flight c.in-Some.is c.end_flush.new.self c.in-Ok.ensures.taken))

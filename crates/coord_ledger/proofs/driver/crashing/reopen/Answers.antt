@@ -50,7 +50,7 @@ returns-clause-failures g c =
 
 pub returns-clause-lost : goal.returns-clause-lost
 returns-clause-lost g c =
-    IfErr-weaker c.adopt.result _ _ (λ refused is on. subst (λ lost. Reopens g.D.Disk.present g.D.Disk.clock g.D.Disk.left_since g.D.CrashDisk.crashes (IsImage (g.D.Disk.present c.args.disk)) c.args.disk lost) (sym is) (record {
+    IfErr-weaker c.adopt.result _ _ (λ refused is on. subst (λ lost. Reopens g.D.Disk g.D.CrashDisk.crashes (IsImage (g.D.Disk.present c.args.disk)) c.args.disk lost) (sym is) (record {
       taken = c.crash.result;
       crash = c.crash.ensures.crashes;
       image = c.crash.ensures.image on;

@@ -1,7 +1,5 @@
-use Rattle.std.proofs.Common.{sym, subst}
-use Rattle.coord_ledger.specs.ledger.Follows.{Follows, Held}
+use Rattle.coord_ledger.proofs.follows.FollowsAnswers.{follows_begun}
 use Rattle.coord_ledger.proofs.event_driver.run.Run.begin.Goals as goal
 
 pub returns-clause-answered : goal.returns-clause-answered
-returns-clause-answered g c s is follows =
-    c.begin-answer.ensures.answered (record { claims = c.self.inside.tickets.items; seen = c.self.inside.seen; released = c.self.inside.released.items }) s is (subst (λ (h : Held g.row.D.Denot). Follows h s) (sym c.self.view_is) follows)
+returns-clause-answered g c s is follows = follows_begun c.args.self s is follows c.begin-answer.result.1 c.begin-answer.result.0 c.begin-answer.ensures.simulates

@@ -1,10 +1,7 @@
-use Rattle.std.proofs.Common.{refl, sym, subst}
-use Rattle.coord_ledger.specs.Facade.{Drives, Held}
-use Rattle.coord_ledger.proofs.drives.Ends.{ran_home}
+use Rattle.std.proofs.Common.{refl}
+use Rattle.coord_ledger.proofs.runs.Ends.{completed_home}
 use Rattle.coord_ledger.proofs.event_driver.run.Run.end.Goals as goal
 
 pub returns-in-Ok-clause-ran : goal.returns-in-Ok-clause-ran
-returns-in-Ok-clause-ran g c start first events given disk drives at_home =
-    let inside : Drives g.D.Disk.present g.D.Disk.clock g.D.Disk.left_since g.D.CrashDisk.crashes (g.D.Disk.keeps_model disk) first start events given _ =
-    subst (λ (h : Held g.row.D.Denot). Drives g.D.Disk.present g.D.Disk.clock g.D.Disk.left_since g.D.CrashDisk.crashes (g.D.Disk.keeps_model disk) first start events given h) (sym c.self.view_is) drives in
-    ran_home g.D.Disk.present g.D.Disk.clock g.D.Disk.left_since g.D.CrashDisk.crashes start first events given _ c.in-Ok.ledger c.self.inside.released.items g.D.Disk.keeps_model disk inside c.in-Ok.ensures.home refl c.images_give_settled.ensures at_home
+returns-in-Ok-clause-ran g c start first events given disk so_far follows at_home =
+    completed_home g.D.Disk g.D.CrashDisk.crashes start first events given c.args.self c.in-Ok.ledger c.args.self.released.items disk so_far follows c.in-Ok.ensures.home refl c.lemma_images_give_settled.ensures at_home

@@ -1,13 +1,11 @@
-use Rattle.std.proofs.Common.{sym, ap, ◌∙◌, subst}
-use Rattle.coord_ledger.specs.ledger.Follows.{Follows, Held}
-use Rattle.coord_ledger.proofs.drives.Answers.{follows_show, shown_as}
+use Rattle.std.proofs.Common.{sym, ap}
+use Rattle.coord_ledger.proofs.runs.Answers.{follows_show, shown_as}
 use Rattle.coord_ledger.proofs.event_driver.run.Run.show.Goals as goal
-use Rattle.coord_ledger.proofs.event_driver.run.Run.show.Goals.{in-Ok, in-Err}
 
-pub returns-clause-answered : goal.returns-clause-answered
-returns-clause-answered g c s is follows =
-    let inside : Follows _ s = subst (λ (h : Held g.row.D.Denot). Follows h s) (sym c.self.view_is) follows in
-    elim c.match-show.branch [
-      | in-Ok w ↦ follows_show _ s is inside c.show.result c.show.new.seen c.match-show.result (rw c.ledger.ensures at c.show.ensures.stopped) (rw c.ledger.ensures at c.show.ensures.shown) c.show.ensures.unseen (w.result-is ∙ ap shown_as (sym w.in-Ok.is))
-      | in-Err w ↦ follows_show _ s is inside c.show.result c.show.new.seen c.match-show.result (rw c.ledger.ensures at c.show.ensures.stopped) (rw c.ledger.ensures at c.show.ensures.shown) c.show.ensures.unseen (w.result-is ∙ ap shown_as (sym w.in-Err.is))
-    ]
+pub returns-in-Ok-clause-answered : goal.returns-in-Ok-clause-answered
+returns-in-Ok-clause-answered g c s is follows =
+    follows_show c.args.self.now s is follows c.show.result c.show.new.seen _ (rw c.ledger.ensures at c.show.ensures.stopped) (rw c.ledger.ensures at c.show.ensures.shown) c.show.ensures.unseen (ap shown_as (sym c.in-Ok.is))
+
+pub returns-in-Err-clause-answered : goal.returns-in-Err-clause-answered
+returns-in-Err-clause-answered g c s is follows =
+    follows_show c.args.self.now s is follows c.show.result c.show.new.seen _ (rw c.ledger.ensures at c.show.ensures.stopped) (rw c.ledger.ensures at c.show.ensures.shown) c.show.ensures.unseen (ap shown_as (sym c.in-Err.is))

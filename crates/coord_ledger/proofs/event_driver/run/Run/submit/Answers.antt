@@ -1,28 +1,33 @@
 use Rattle.std.proofs.Common.{◌∷◌, ◌++◌, [], Some, Ok, sym, ap, ◌∙◌, subst}
-use Rattle.coord_ledger.specs.Facade.{Accepted, Beside, Follows, FollowsTo, Held, Refused, Repeated, Submit, answer_to, held, with_claim}
+use Rattle.coord_ledger.specs.Facade.{Accepted, FollowsTo, HandedTo, Repeated, Simulates, Submit, answer_to}
+use Rattle.coord_ledger.proofs.follows.FollowsAnswers.{follows_accepted, follows_refused, follows_repeated}
 use Rattle.coord_ledger.proofs.event_driver.run.Run.submit.Goals as goal
 
 pub returns-in-Ok-Accepted-clause-answered : goal.returns-in-Ok-Accepted-clause-answered
 returns-in-Ok-Accepted-clause-answered g c s is follows =
-    let b : Beside = record { claims = c.self.inside.tickets.items; seen = c.self.inside.seen; released = c.self.inside.released.items } in
-    let inside : Follows _ s = subst (λ (h : Held g.row.D.Denot). Follows h s) (sym c.self.view_is) follows in
-    let items = c.push_reserved.ensures.items ∙ ap (λ l. l ++ Some c.in-Ok-Accepted.ticket ∷ []) c.reserve.ensures.items in
-    subst (λ n. FollowsTo s (Submit c.args.step) (Accepted n) (record { ledger = c.submit.new.self.ledger; flight = c.submit.new.self.flight; claims = c.push_reserved.new.self.items; seen = c.self.inside.seen; released = c.self.inside.released.items })) (sym c.step-number.ensures)
-    (subst (λ cs. FollowsTo s (Submit c.args.step) (Accepted c.in-Ok-Accepted.ticket.step) (record { ledger = c.submit.new.self.ledger; flight = c.submit.new.self.flight; claims = cs; seen = c.self.inside.seen; released = c.self.inside.released.items })) (sym items)
-    (subst (λ r. FollowsTo s (Submit c.args.step) (answer_to r) (held c.submit.new.self (with_claim b r))) (ap Ok c.in-Ok-Accepted.field-0-is) (c.in-Ok-Accepted.ensures.answered b s is inside)))
+    let run = c.args.self.now in
+    let t = c.in-Ok-Accepted.ticket in
+    let given = c.in-Ok-Accepted.is ∙ ap Ok c.in-Ok-Accepted.field-0-is in
+    let pushed = c.push_reserved.ensures.items ∙ ap (λ l. l ++ Some t ∷ []) c.reserve.ensures.items in
+    let handed = subst (λ r. HandedTo run.driver.ledger c.args.step r c.submit.new.self.ledger) given c.submit.ensures.handed in
+    let simulates = subst (λ r. Simulates run.driver (Submit c.args.step) (answer_to r) c.submit.new.self) given c.submit.ensures.simulates in
+    subst (λ n. FollowsTo s (Submit c.args.step) (Accepted n) (record run { driver = c.submit.new.self; tickets = c.push_reserved.new.self })) (sym c.step-number.ensures)
+    (follows_accepted run s is follows c.submit.new.self c.args.step t c.push_reserved.new.self pushed handed simulates)
 
 pub returns-in-Ok-Repeated-clause-answered : goal.returns-in-Ok-Repeated-clause-answered
 returns-in-Ok-Repeated-clause-answered g c s is follows =
-    let b : Beside = record { claims = c.self.inside.tickets.items; seen = c.self.inside.seen; released = c.self.inside.released.items } in
-    let inside : Follows _ s = subst (λ (h : Held g.row.D.Denot). Follows h s) (sym c.self.view_is) follows in
-    let items = c.push_reserved-in-Ok-Repeated.ensures.items ∙ ap (λ l. l ++ Some c.in-Ok-Repeated.ticket ∷ []) c.reserve.ensures.items in
-    subst (λ n. FollowsTo s (Submit c.args.step) (Repeated n) (record { ledger = c.submit.new.self.ledger; flight = c.submit.new.self.flight; claims = c.push_reserved-in-Ok-Repeated.new.self.items; seen = c.self.inside.seen; released = c.self.inside.released.items })) (sym c.step-number-in-Ok-Repeated.ensures)
-    (subst (λ cs. FollowsTo s (Submit c.args.step) (Repeated c.in-Ok-Repeated.ticket.step) (record { ledger = c.submit.new.self.ledger; flight = c.submit.new.self.flight; claims = cs; seen = c.self.inside.seen; released = c.self.inside.released.items })) (sym items)
-    (subst (λ r. FollowsTo s (Submit c.args.step) (answer_to r) (held c.submit.new.self (with_claim b r))) (ap Ok c.in-Ok-Repeated.field-0-is) (c.in-Ok-Repeated.ensures.answered b s is inside)))
+    let run = c.args.self.now in
+    let t = c.in-Ok-Repeated.ticket in
+    let given = c.in-Ok-Repeated.is ∙ ap Ok c.in-Ok-Repeated.field-0-is in
+    let pushed = c.push_reserved-in-Ok-Repeated.ensures.items ∙ ap (λ l. l ++ Some t ∷ []) c.reserve.ensures.items in
+    let handed = subst (λ r. HandedTo run.driver.ledger c.args.step r c.submit.new.self.ledger) given c.submit.ensures.handed in
+    let simulates = subst (λ r. Simulates run.driver (Submit c.args.step) (answer_to r) c.submit.new.self) given c.submit.ensures.simulates in
+    subst (λ n. FollowsTo s (Submit c.args.step) (Repeated n) (record run { driver = c.submit.new.self; tickets = c.push_reserved-in-Ok-Repeated.new.self })) (sym c.step-number-in-Ok-Repeated.ensures)
+    (follows_repeated run s is follows c.submit.new.self c.args.step t c.push_reserved-in-Ok-Repeated.new.self pushed handed simulates)
 
 pub returns-in-Err-clause-answered : goal.returns-in-Err-clause-answered
 returns-in-Err-clause-answered g c s is follows =
-    let b : Beside = record { claims = c.self.inside.tickets.items; seen = c.self.inside.seen; released = c.self.inside.released.items } in
-    let inside : Follows _ s = subst (λ (h : Held g.row.D.Denot). Follows h s) (sym c.self.view_is) follows in
-    subst (λ cs. FollowsTo s (Submit c.args.step) (Refused c.in-Err.refusal) (record { ledger = c.submit.new.self.ledger; flight = c.submit.new.self.flight; claims = cs; seen = c.self.inside.seen; released = c.self.inside.released.items })) (sym c.reserve.ensures.items)
-    (c.in-Err.ensures.answered b s is inside)
+    let run = c.args.self.now in
+    let handed = subst (λ r. HandedTo run.driver.ledger c.args.step r c.submit.new.self.ledger) c.in-Err.is c.submit.ensures.handed in
+    let simulates = subst (λ r. Simulates run.driver (Submit c.args.step) (answer_to r) c.submit.new.self) c.in-Err.is c.submit.ensures.simulates in
+    follows_refused run s is follows c.submit.new.self c.args.step c.in-Err.refusal c.reserve.new.self c.reserve.ensures.items handed simulates

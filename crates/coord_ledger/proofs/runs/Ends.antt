@@ -1,0 +1,98 @@
+-- The end of a run: the flight that was out has come back, and the headline holds.
+use Rattle.std.proofs.Common.{◌≡◌, ℕ, Bool, true, List, Option, Some, None, refl, sym, ap, ◌∙◌, subst, IfSome, length, take}
+use Rattle.std.specs.Option.{option_map}
+use Rattle.std.proofs.Math.Seq.{take-length}
+use Rattle.coord_disk.specs.Model.Present.{Present}
+use Rattle.coord_disk.specs.declared.disk.Disk.{Ghosts}
+use Rattle.coord_store.specs.Recovered.{Recovered}
+use Rattle.coord_ledger.specs.Facade.{Answer, Completed, DriverState, EachMoment, Event, Finish, Finished, FlightOut, FlightState, Follows, Good, ImagesGive, IsConsistent, IsLeft, IsOneOf, LedgerGives, LedgerState, Machine, Mark, New, Promised, Release, Represents, Run, RunSoFar, Torn, after_finish, at_home, brought_home, disk_held, disk_with, ended, finished, flight_out, kept, kept_by, run, settled_count, started, taken_back, world_after}
+use Rattle.coord_ledger.proofs.follows.FollowsCalls.{ledger_images}
+use Rattle.coord_ledger.proofs.follows.Follows.{flight_is, log_rebased}
+use Rattle.coord_ledger.proofs.simulates.Finish.{simulates_back}
+use Rattle.coord_ledger.proofs.simulates.Represents.{represents_to}
+use Rattle.coord_ledger.proofs.runs.SoFar.{Holds, LoopInvariant, same_model}
+use Rattle.coord_ledger.proofs.follows.FollowsCrashes.{images_follow}
+use Rattle.coord_ledger.proofs.machine.Safe.{finish_keeps_kept, prefix_from_images}
+use Rattle.coord_ledger.proofs.machine.SignalsOnce.{signals_once}
+
+-- ---- the flight that was out comes back
+
+-- with its store at home, a ledger is where the machine is
+is_back : {D : Type 0} (d : DriverState D) (s : Machine) → IsConsistent s → Represents d s → Represents (at_home (brought_home d.ledger d.flight)) (ended s)
+is_back {D} d s is represents = by_flight d.flight refl
+  where
+    by_flight : (f : Option (FlightState D)) → d.flight ≡ f → Represents (at_home (brought_home d.ledger f)) (ended s)
+    by_flight None none =
+        let home : Represents (at_home d.ledger) s = subst (λ (o : Option (FlightState D)). Represents (record { ledger = d.ledger; flight = o }) s) none represents in
+        subst (λ o. Represents (at_home d.ledger) (finished s o)) (sym (sym (flight_is d s represents) ∙ ap (option_map flight_out) none)) home
+    by_flight (Some f) out =
+        let back = taken_back d.ledger (length f.steps) f.mark f.disk in
+        represents_to d (at_home back) s is represents Finish (Finished (settled_count back.log)) (simulates_back d f out back refl)
+
+is_left : {D : Type 0} (l : LedgerState D) (t : Machine) → Represents (at_home l) t → IsLeft t l
+is_left l t back = record { by = back.by; within = back.within; log = log_rebased (at_home l) t back; home = back.own }
+
+-- ---- what the disk then gives
+
+-- a flight that comes back leaves all worlds on the way
+same_worlds : (s : Machine) (f : Option FlightOut) (n : ℕ) → world_after (finished s f).log n ≡ world_after s.log n
+same_worlds s None n = refl
+same_worlds s (Some f) n = by_mark f.mark
+  where
+    by_mark : (m : Mark) → world_after (after_finish s f.size m).log n ≡ world_after s.log n
+    by_mark New = refl
+    by_mark Good = refl
+    by_mark Torn = refl
+
+-- the images of a ledger at home give what the machine may keep
+home_images : {D : Type 0} (l : LedgerState D) (s : Machine) (keeps_model : Bool) (present : Present) → IsConsistent s → Represents (at_home l) (ended s) → ImagesGive keeps_model present l.log (kept_by l.log.settled None l.log.doubt) → ImagesGive keeps_model present s.log (kept s)
+home_images l s keeps_model present is back images model image here =
+    let one = images_follow (at_home l) (ended s) keeps_model present back images model image here in
+    record {
+      steps = one.steps;
+      allowed = subst (IsOneOf one.steps) (finish_keeps_kept s is) one.allowed;
+      recovered = subst (Recovered image) (same_worlds s s.flight one.steps) one.recovered;
+    }
+
+-- the disk stays as it is
+home_disk : {D : Type 0} (l : LedgerState D) (f : Option (FlightState D)) → (brought_home l f).disk ≡ disk_with l.disk f
+home_disk l None = refl
+home_disk {D} l (Some f) = by_mark f.mark
+  where
+    by_mark : (m : Mark) → (taken_back l (length f.steps) m f.disk).disk ≡ Some f.disk
+    by_mark New = refl
+    by_mark Good = refl
+    by_mark Torn = refl
+
+module _ {D : Type 0} (model : Ghosts D) (crashes : D → D → Type 0) where
+  -- a run whose ledger is left at home
+  pub completed_home : (start : LedgerState D) (first : D) (events : List Event) (given : List Answer) (h : Run D) (l : LedgerState D) (released : List Release) (disk : D) → RunSoFar model crashes (model.keeps_model disk) first start events given h.driver → Follows h (run (started start) events given) →
+      l ≡ brought_home h.driver.ledger h.driver.flight → released ≡ h.released.items → IfSome l.disk (λ d. model.keeps_model d ≡ true → LedgerGives model.present l d) → l.disk ≡ Some disk →
+      Completed model crashes (started start) events given released l (model.keeps_model disk) first disk
+  completed_home start first events given h l released disk so_far follows home given_out gives there =
+      let s = run (started start) events given in
+      let told = so_far.consistent.told in
+      let back : Represents (at_home l) (ended s) = subst (λ (m : LedgerState D). Represents (at_home m) (ended s)) (sym home) (is_back h.driver s so_far.consistent so_far.represents) in
+      let images = ledger_images l disk (model.keeps_model disk) model.present (subst (λ o. IfSome o (λ d. model.keeps_model d ≡ true → LedgerGives model.present l d)) there gives) in
+      let its : Some so_far.disk ≡ Some disk = sym so_far.holds ∙ sym (home_disk h.driver.ledger h.driver.flight) ∙ sym (ap (λ (m : LedgerState D). m.disk) home) ∙ there in
+      let same : so_far.disk ≡ disk = cc in
+      record {
+        answered = so_far.answered;
+        released_is = given_out ∙ follows.released;
+        prefix = prefix_from_images s (model.keeps_model disk) (model.present disk) so_far.consistent (home_images l s (model.keeps_model disk) (model.present disk) so_far.consistent back images);
+        moments = subst (EachMoment model crashes (model.keeps_model disk) (started start) events given first) same so_far.moments;
+        once = told.once;
+        again = told.again;
+        signalled = signals_once s so_far.consistent;
+        replied = told.truly;
+        ledger = is_left l (ended s) back;
+      }
+
+  -- once all events were answered
+  pub completed_all : (start : LedgerState D) (events : List Event) (at : ℕ) (given : List Answer) (h : Run D) (after : D) (Promise : D → Type 0) → LoopInvariant model crashes start events at given h → at ≡ length events → disk_held h.driver ≡ Some after →
+      ((first : D) → RunSoFar model crashes (model.keeps_model after) first start events given h.driver → Follows h (run (started start) events given) → Promise first) → (before : D) → start.disk ≡ Some before → Promised (model.keeps_model before) events (Promise before)
+  completed_all start events at given h after Promise loop last there gives before disk promised =
+      let all : take at events ≡ events = ap (λ n. take n events) last ∙ take-length events in
+      let same = same_model model crashes start events at given h loop before after disk there in
+      let all_held = subst (λ l. Holds model crashes (model.keeps_model before) before start l given h) all (loop.holds before disk promised) in
+      gives before (subst (λ b. RunSoFar model crashes b before start events given h.driver) (sym same) all_held.so_far) all_held.follows

@@ -1,0 +1,29 @@
+-- A base that moves: after a crash a ledger begins a new base, and answers as if it had kept the old one.
+use Rattle.std.specs.Prelude.{◌≡◌, ℕ, ◌≤◌, false}
+use Rattle.coord_ledger.specs.declared.events.Answer.{Answer}
+use Rattle.coord_ledger.specs.declared.events.Event.{Event}
+use Rattle.coord_ledger.specs.machine.After.{after, crashed}
+use Rattle.coord_ledger.specs.machine.Answers.{IsOneOf, answers}
+use Rattle.coord_ledger.specs.machine.Consistent.{IsConsistent, IsConsistentLog}
+use Rattle.coord_ledger.specs.machine.Log.{Log, rebased, world_after}
+use Rattle.coord_ledger.specs.machine.Machine.{Machine, adopted}
+use Rattle.coord_ledger.specs.promises.Headline.{is_crash}
+
+-- the same machine with its base moved along its first n steps
+abbrev pub rebased_machine : Machine → ℕ → Machine
+rebased_machine s n = record s { log = rebased s.log n }
+
+abbrev pub RebasedIsConsistent : Type 0
+RebasedIsConsistent = (log : Log) (n : ℕ) → IsConsistentLog log → n ≤ log.settled → IsConsistentLog (rebased log n)
+
+-- it may give the same answers
+abbrev pub RebasedAnswersAlike : Type 0
+RebasedAnswersAlike = (s : Machine) (n : ℕ) (e : Event) → IsConsistent s → n ≤ s.log.settled → answers (rebased_machine s n) e ≡ answers s e
+
+-- and stays the same machine with its base moved
+abbrev pub RebasedGoesOn : Type 0
+RebasedGoesOn = (s : Machine) (n : ℕ) (e : Event) (a : Answer) → IsConsistent s → n ≤ s.log.settled → is_crash e ≡ false → IsOneOf a (answers s e) → after (rebased_machine s n) e a ≡ rebased_machine (after s e a) n
+
+-- after a crash that keeps n steps, it is one that was just made of a store of their world
+abbrev pub CrashReopens : Type 0
+CrashReopens = (s : Machine) (n : ℕ) → rebased_machine (crashed s n) n ≡ record (adopted (world_after s.log n)) { released = s.released; replied = s.replied }

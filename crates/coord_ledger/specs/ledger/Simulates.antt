@@ -1,0 +1,41 @@
+-- A driver as the event machine: what each of its calls makes of it.
+--
+-- A driver has the log and the flight of a machine. The tickets, what was shown and what was given out are its holder's,
+-- so its calls are events of a machine whatever of these there is. After a crash its log begins with the world that was
+-- opened.
+use Rattle.std.specs.Prelude.{◌≡◌, ◌-◌, ℕ, ◌≤◌}
+use Rattle.std.specs.Option.{option_map}
+use Rattle.coord_ledger.specs.declared.events.Answer.{Answer}
+use Rattle.coord_ledger.specs.declared.events.Answer.TheVariants.{Opened}
+use Rattle.coord_ledger.specs.declared.events.Event.{Event}
+use Rattle.coord_ledger.specs.declared.events.Event.TheVariants.{Crash}
+use Rattle.coord_ledger.specs.laws.Rebasing.{rebased_machine}
+use Rattle.coord_ledger.specs.ledger.DriverState.{DriverState}
+use Rattle.coord_ledger.specs.ledger.Flights.{HoldsFlight, flight_out}
+use Rattle.coord_ledger.specs.machine.After.{after}
+use Rattle.coord_ledger.specs.machine.Answers.{IsOneOf, answers}
+use Rattle.coord_ledger.specs.machine.Log.{world_after}
+use Rattle.coord_ledger.specs.machine.Machine.{Machine, adopted}
+
+-- this machine with the log and the flight of a driver
+abbrev pub machine_of : {D : Type 0} → DriverState D → Machine → Machine
+machine_of d m = record m { log = d.ledger.log; flight = option_map flight_out d.flight }
+
+-- the machine that an event leaves, seen from the world that a crash has opened
+abbrev pub goes_to : Machine → Event → Answer → Machine
+goes_to s Crash (Opened count) = record (adopted (world_after s.log (count - s.log.base.count))) { released = s.released; replied = s.replied }
+goes_to s event answer = after s event answer
+
+-- The driver carries out an event: its answer is one that the machine may give, the driver is then where the machine
+-- goes with that answer, and its flight is the ledger's own.
+pub record Simulates {D : Type 0} (old : DriverState D) (e : Event) (a : Answer) (new : DriverState D) : Type 0 where
+  pub allowed : (m : Machine) → IsOneOf a (answers (machine_of old m) e)
+  pub leaves : (m : Machine) → machine_of new (goes_to (machine_of old m) e a) ≡ goes_to (machine_of old m) e a
+  pub own : HoldsFlight new.ledger new.flight
+
+-- The driver is where the machine of a run is, seen from the world after some of the settled steps.
+pub record Represents {D : Type 0} (d : DriverState D) (s : Machine) : Type 0 where
+  pub by : ℕ
+  pub within : by ≤ s.log.settled
+  pub is : machine_of d s ≡ rebased_machine s by
+  pub own : HoldsFlight d.ledger d.flight

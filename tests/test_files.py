@@ -1,0 +1,136 @@
+"""The file of a store: who may open it, what of it is synced before an answer, and calls of it that fail or do a part."""
+
+import os
+import stat
+
+from support import preloaded, stores
+from support.case import Case
+from support.program import Ended, faulted, ran
+from support.serving import Serving
+from support.stores import topology
+
+ONE = topology([(1, 1)], half=stores.HALF)
+FAILED = faulted(3, "Device")
+STOPPED = {"name": "Stopped", "refused": 1}
+ORDERS = 4
+# The syncs of a start: of the folder and the file; and of an order: of its batch, and of the byte that lets it be read.
+AT_A_START, AT_AN_ORDER = 2, 2
+
+
+class Made(Case):
+    def test_its_owner_alone_may_open_it(self):
+        """Whichever command makes it, and whatever the user lets others do."""
+        words = {"init": [self.write("topology", ONE)], "check": [], "show": [], "migrate": [], "serve": ["127.0.0.1:0"]}
+        for command, more in words.items():
+            with self.subTest(command=command):
+                ran(command, self.path(command), *more, umask=0)
+                self.assertEqual(stat.S_IMODE(os.stat(self.path(command)).st_mode), 0o600)
+
+    def test_one_that_another_process_makes_meanwhile(self):
+        """It stays as it is."""
+        self.needs("a C compiler", preloaded.has_compiler())
+        other = self.made(ONE, "other")
+        before = self.read("other")
+        for command, more in (("init", [f"{other}.toml"]), ("migrate", [])):
+            with self.subTest(command=command):
+                environment = preloaded.environment(self.folder, MEANWHILE=other)
+                self.assertEqual(ran(command, self.path(command), *more, env={**os.environ, **environment}), FAILED)
+                self.assertEqual((self.read("other"), self.read(command)), (before, before))
+
+
+class Called(Case):
+    takes = 8
+
+    def setUp(self):
+        super().setUp()
+        self.needs("a C compiler", preloaded.has_compiler())
+
+    def environment(self, **settings):
+        return {**os.environ, **preloaded.environment(self.folder, **settings)}
+
+    def synced_at_first(self):
+        """What was synced before anything was said, by the paths; and whether something was written that was not."""
+        synced, is_written = [], False
+        with open(self.path("calls"), encoding="ascii") as calls:
+            for name, _, _, text in (line.rstrip("\n").split(" ") for line in calls):
+                if name == "out":
+                    break
+                synced += [bytes.fromhex(text).decode()] if name == "sync" else []
+                is_written = name == "write" or (is_written and name != "sync")
+        os.remove(self.path("calls"))
+        return set(synced), is_written
+
+    def test_a_file_and_its_entry_are_synced(self):
+        """Before anything is said of it. The entry is synced though the file was there: its maker may have left it so."""
+        folder, topology_path, log = self.path("folder"), self.write("topology", ONE), self.path("calls")
+        os.mkdir(folder)
+        store = f"{folder}/store"
+        for words, path in ((["init", store, topology_path], store), (["init", "bare", topology_path], f"{folder}/bare"),
+                            (["check", f"{folder}/absent"], f"{folder}/absent"), (["migrate", store], store)):
+            with self.subTest(words=words):
+                ended = ran(*words, env=self.environment(CALLS=log), cwd=folder)
+                self.assertEqual(ended.status, int(words[0] == "check"))
+                self.assertEqual(self.synced_at_first(), ({folder, path}, False))
+        with Serving(store, env=self.environment(CALLS=log)) as server:
+            self.assertEqual(server.close().status, 0)
+        self.assertEqual(self.synced_at_first(), ({folder, store}, False))
+
+    def test_a_sync_that_fails_where_a_store_is_made(self):
+        """Device is told, whichever it is."""
+        words = ["init", self.path("store"), self.write("topology", ONE)]
+        log = self.path("calls")
+        self.assertEqual(ran(*words, env=self.environment(CALLS=log)), Ended(0, "created 1\n", ""))
+        syncs = self.read("calls").count(b"sync ")
+        self.assertGreater(syncs, 2)
+        for number in range(1, syncs + 1):
+            with self.subTest(sync=number, of=syncs):
+                os.remove(self.path("store"))
+                self.assertEqual(ran(*words, env=self.environment(SYNC_FAILS=number)), FAILED)
+
+    def test_a_sync_that_fails_while_a_store_is_raised(self):
+        """One that fails alone: it is told, and the store is of one version or the other."""
+        content, log = stores.store(bodies=[stores.batch(1, stores.add(1))]), self.path("calls")
+        path = self.write("store", content)
+        self.assertEqual(ran("migrate", path, env=self.environment(CALLS=log)), Ended(0, "migrated 1\n", ""))
+        for number in range(1, self.read("calls").count(b"sync ") + 1):
+            with self.subTest(sync=number):
+                self.write("store", content)
+                self.assertEqual(ran("migrate", path, env=self.environment(SYNC_FAILS=number)), FAILED)
+                self.assertEqual(ran("check", path), Ended(0, "legal 1\n", ""))
+
+    def test_a_sync_that_fails_while_orders_are_served(self):
+        """The order that waited for it, and each later one, is Stopped, though no other sync fails."""
+        for number in range(AT_A_START + 1, AT_A_START + 1 + AT_AN_ORDER * ORDERS):
+            store = self.made(ONE, f"store{number}")
+            done = (number - AT_A_START - 1) // AT_AN_ORDER
+            with self.subTest(sync=number), Serving(store, env=self.environment(SYNC_FAILS=number)) as server:
+                answers = [server.order(each, "reset", node=1) for each in range(1, ORDERS + 1)]
+                kept = [{"kind": "finished", "step": 1 + each} for each in range(1, done + 1)]
+                self.assertEqual(answers, kept + [STOPPED] * (ORDERS - done))
+                ended = server.close()
+                self.assertEqual((ended.status, ended.told), (3, "resetd: Device\n"))
+                self.assertEqual(server.signals(), [(1, epoch) for epoch in range(1, done + 1)])
+            self.assertGreaterEqual(int(ran("check", store).printed.split()[1]), 1 + done)
+
+    def test_a_start_whose_sync_fails(self):
+        store = self.made(ONE)
+        for number in range(1, AT_A_START + 1):
+            self.assertEqual(ran("serve", store, "127.0.0.1:0", env=self.environment(SYNC_FAILS=number)), FAILED)
+
+    def test_read_and_written_in_pieces(self):
+        """The system may do a part of what it is asked for."""
+        pieces = self.environment(PIECE=5)
+        topology_path = self.write("topology", stores.ring(8, stores.HALF))
+        whole, parts = self.path("whole"), self.path("parts")
+        self.assertEqual(ran("init", whole, topology_path).status, 0)
+        self.assertEqual(ran("init", parts, topology_path, env=pieces), Ended(0, "created 16\n", ""))
+        self.assertEqual(self.read("whole"), self.read("parts"))
+        with Serving(parts, env=pieces) as server:
+            for epoch in (1, 2):
+                self.assertEqual(server.order(epoch, "reset", node=epoch)["kind"], "started")
+                server.await_quiet(epoch)
+            count = server.show()["accepted"]
+            self.assertEqual(server.close().status, 0)
+        self.assertEqual(ran("check", parts, env=pieces), Ended(0, f"legal {count}\n", ""))
+        self.assertEqual(ran("migrate", parts, env=pieces), Ended(0, f"migrated {count}\n", ""))
+        self.assertEqual(ran("check", parts), Ended(0, f"legal {count}\n", ""))
