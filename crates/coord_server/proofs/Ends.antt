@@ -13,9 +13,10 @@ use Rattle.coord_world.specs.protocol.NumberedWorld.{World}
 use Rattle.coord_admin.specs.Connections.{Talk}
 use Rattle.coord_admin.specs.LifeLimit.{HasKept as KeepsSteps}
 use Rattle.coord_server.specs.EngineDesk.{DeskKeeps, DeskState}
-use Rattle.coord_server.specs.Ending.{AddsWorkers, HasKept, HasRun, IsLife, IsOneHistory, IsServedToClose, Serves, ServesLife, fault_at_end}
+use Rattle.coord_server.specs.Ending.{AddsWorkers, HasKept, HasRun, IsLife, IsOfStart, IsOneHistory, IsServedToClose, Serves, ServesLife, fault_at_end, new_desk}
 use Rattle.coord_server.specs.Lives.{HasLived, HasLivedToClose, IsOver, Lives, Rests, life_steps, met_any}
 use Rattle.coord_server.specs.declared.fault.ServerFault.{ServerFault}
+use Rattle.coord_server.specs.declared.fault.ServerFault.TheVariants as fault
 use Rattle.coord_server.specs.declared.life.Life.{Life}
 use Rattle.coord_server.specs.declared.life_end.LifeEnd.{LifeEnd}
 use Rattle.coord_server.specs.declared.life_end.LifeEnd.TheVariants.{Resting, Ended}
@@ -48,51 +49,67 @@ one_history {D} b own shares left none added since closed =
 pub kept_most : {D : Type 0} (b : Basis D) (desk : DeskState) (most : ℕ) → KeepsSteps (DeskKeeps b) desk most → HasKept b most
 kept_most b desk most (kept, moment, enough) = record { state = moment.state; held = moment.held; so = omega (arith, moment.so, enough) }
 
-module _ {D : Type 0} (b : Basis D) {V : Type 0} (met : V → List Talk → V → Type 0) where
-  closed_if_none : (stopped : Bool) (served : Option ServerFault) (is_broken : Bool) (v w : V) (desk : DeskState) → fault_at_end stopped served is_broken ≡ None → Serves b met v w desk served → IsServedToClose b desk
+module _ {D : Type 0} (b : Basis D) {V : Type 0} (met : V → List Talk → V → Type 0) (failed : V → V → Type 0) (most : ℕ) where
+  closed_if_none : (stopped : Bool) (served : Option ServerFault) (is_broken : Bool) (v w : V) (desk : DeskState) → fault_at_end stopped served is_broken ≡ None → Serves b met failed most v w desk served → IsServedToClose b desk
   closed_if_none false None false v w desk none s = (s.0, s.1, s.2, tt, s.4, s.5, s.6)
   closed_if_none false None true v w desk none s = absurd cc
-  closed_if_none false (Some fault) is_broken v w desk none s = absurd cc
+  closed_if_none false (Some met_fault) is_broken v w desk none s = absurd cc
   closed_if_none true served is_broken v w desk none s = absurd cc
 
+  -- a fault that is met before anyone is served
+  pub serves_nobody : (v : V) (desk : DeskState) (met_fault : ServerFault) → IsOfStart met_fault → met v [] v → desk ≡ new_desk → ServesLife b met failed most v v desk (Ended (Some met_fault))
+  serves_nobody v desk fault.OutOfMemory start still new = (still, new)
+  serves_nobody v desk fault.Write start still new = (still, new)
+  serves_nobody v desk fault.Socket start still new = inl (still, new)
+  serves_nobody v desk fault.Device start still new = absurd start
+  serves_nobody v desk (fault.NotClosed why) start still new = absurd start
+
   -- the desk's notes, in the share that it gave back
-  pub serves_with : (most : ℕ) (v w : V) (desk : DeskState) (left : LifeEnd) (notes : List Note) → ServesLife b met most v w desk left → notes ≡ desk.notes → (seen : ℕ) × ServesLife b met most v w (record { notes = notes; seen = seen }) left
-  serves_with most v w desk left notes s same = (desk.seen, subst (λ n. ServesLife b met most v w (record { notes = n; seen = desk.seen }) left) (sym same) s)
+  pub serves_with : (v w : V) (desk : DeskState) (left : LifeEnd) (notes : List Note) → ServesLife b met failed most v w desk left → notes ≡ desk.notes → (seen : ℕ) × ServesLife b met failed most v w (record { notes = notes; seen = seen }) left
+  serves_with v w desk left notes s same = (desk.seen, subst (λ n. ServesLife b met failed most v w (record { notes = n; seen = desk.seen }) left) (sym same) s)
 
   -- the shares of the desk and of the workers, once all are back
-  pub has_run : (most : ℕ) (v w : V) (left : LifeEnd) (own : List Note) (shares : List (List Note)) → (seen : ℕ) × ServesLife b met most v w (record { notes = own; seen = seen }) left
-      → AddsWorkers (own ∷ []) shares → length shares ≡ 9 → HasRun b met most v w left shares
-  has_run most v w left own shares s added all = record { desk = record { notes = own; seen = s.0 }; served = s.1; added = added; all = all }
+  pub has_run : (v w : V) (left : LifeEnd) (own : List Note) (shares : List (List Note)) → (seen : ℕ) × ServesLife b met failed most v w (record { notes = own; seen = seen }) left
+      → AddsWorkers (own ∷ []) shares → length shares ≡ 9 → HasRun b met failed most v w left shares
+  has_run v w left own shares s added all = record { desk = record { notes = own; seen = s.0 }; served = s.1; added = added; all = all }
 
   -- one life: how the desk went on, and what is left of the engine, which was taken apart with all shares
-  pub lived : (most : ℕ) (v u : V) (ran : LifeEnd) (shares : List (List Note)) (life : Life D V) → b.before ≡ [] → HasRun b met most v u ran shares
+  pub lived : (v u : V) (ran : LifeEnd) (shares : List (List Note)) (life : Life D V) → b.before ≡ [] → HasRun b met failed most v u ran shares
       → IsSince b.base b.before shares life.closed.base life.closed.trail.items → AtSomeMoment b (Closes {D = D} life.closed.store life.closed.base life.closed.trail.items life.closed.settled shares)
-      → life.callers ≡ u → life.left ≡ ran → IsLife b met most v life
-  lived most v u ran shares life none is since closed same_w same = record {
+      → life.callers ≡ u → life.left ≡ ran → IsLife b met failed most v life
+  lived v u ran shares life none is since closed same_w same = record {
     desk = is.desk;
-    served = subst (λ (x : V). ServesLife b met most v x is.desk life.left) (sym same_w) (subst (λ (l : LifeEnd). ServesLife b met most v u is.desk l) (sym same) is.served);
+    served = subst (λ (x : V). ServesLife b met failed most v x is.desk life.left) (sym same_w) (subst (λ (l : LifeEnd). ServesLife b met failed most v u is.desk l) (sym same) is.served);
     history = one_history b is.desk.notes shares life.closed none is.added since closed;
   }
 
+  -- a last life that ended so
+  served_so : (v w : V) (desk : DeskState) (served : Option ServerFault) → ServesLife b met failed most v w desk (Ended served) → Serves b met failed most v w desk served
+  served_so v w desk None s = s
+  served_so v w desk (Some fault.OutOfMemory) s = s
+  served_so v w desk (Some fault.Write) s = s
+  served_so v w desk (Some fault.Socket) s = s
+  served_so v w desk (Some fault.Device) s = absurd s
+  served_so v w desk (Some (fault.NotClosed why)) s = s
+
+  served_at_last : (v w : V) (desk : DeskState) (left : LifeEnd) (served : Option ServerFault) → ServesLife b met failed most v w desk left → IsOver left served → Serves b met failed most v w desk served
+  served_at_last v w desk Resting served s over = subst (Serves b met failed most v w desk) (sym over) s
+  served_at_last v w desk (Ended met_fault) served s over = subst (Serves b met failed most v w desk) (sym over) (served_so v w desk met_fault s)
+
 -- ---- lives
 
-module _ {D : Type 0} (keeps_model : D → Bool) (present : D → Present) {V : Type 0} (met : V → List Talk → V → Type 0) (most : ℕ) where
+module _ {D : Type 0} (keeps_model : D → Bool) (present : D → Present) {V : Type 0} (met : V → List Talk → V → Type 0) (failed : V → V → Type 0) (most : ℕ) where
   abbrev b : World → Basis D
   b world = based_on keeps_model present world []
 
-  -- a last life has this end
-  served_at_last : (world : World) (v w : V) (desk : DeskState) (left : LifeEnd) (served : Option ServerFault) → ServesLife (b world) met most v w desk left → IsOver left served → Serves (b world) met v w desk served
-  served_at_last world v w desk Resting served s over = subst (Serves (b world) met v w desk) (sym over) s.0
-  served_at_last world v w desk (Ended met_fault) served s over = subst (Serves (b world) met v w desk) (sym over) s
-
-  rests : (world : World) (v : V) (life : Life D V) → life.left ≡ Resting → IsLife (b world) met most v life → has_stopped life.closed.store ≡ false → life.closed.settled ≡ life.closed.base.count + length life.closed.trail.items
+  rests : (world : World) (v : V) (life : Life D V) → life.left ≡ Resting → IsLife (b world) met failed most v life → has_stopped life.closed.store ≡ false → life.closed.settled ≡ life.closed.base.count + length life.closed.trail.items
       → Rests keeps_model present met most world v life.callers life.closed.store.world
   rests world v life is so going all =
-      let rested = subst (ServesLife (b world) met most v life.callers so.desk) is so.served in
+      let rested = subst (ServesLife (b world) met failed most v life.callers so.desk) is so.served in
       record { desk = so.desk; left = life.closed; served = rested.0; old = rested.1; history = so.history; all_settled = all; going = going; goes_on = refl }
 
   -- one more life has rested, and the next one begins with this
-  pub lives_next : (began world : World) (v u others : V) (life : Life D V) (next : Kept D) → (n : ℕ) × Lives keeps_model present met most n began v world u → IsLife (b world) met most u life
+  pub lives_next : (began world : World) (v u others : V) (life : Life D V) (next : Kept D) → (n : ℕ) × Lives keeps_model present met most n began v world u → IsLife (b world) met failed most u life
       → life.left ≡ Resting → next ≡ life.closed.store → others ≡ life.callers → has_stopped life.closed.store ≡ false → life.closed.settled ≡ life.closed.base.count + length life.closed.trail.items
       → ((n : ℕ) × Lives keeps_model present met most n began v next.world others) × (has_stopped next ≡ false)
   lives_next began world v u others life next lives so is same same_w going all =
@@ -102,8 +119,8 @@ module _ {D : Type 0} (keeps_model : D → Bool) (present : D → Present) {V : 
       )
 
   -- and the last one has ended
-  pub lives_end : (began world : World) (v u : V) (life : Life D V) (ended : ServerEnd D V) → (n : ℕ) × Lives keeps_model present met most n began v world u → IsLife (b world) met most u life
-      → IsOver life.left ended.served → ended.closed ≡ life.closed → ended.callers ≡ life.callers → HasLived keeps_model present met most began v ended
+  pub lives_end : (began world : World) (v u : V) (life : Life D V) (ended : ServerEnd D V) → (n : ℕ) × Lives keeps_model present met most n began v world u → IsLife (b world) met failed most u life
+      → IsOver life.left ended.served → ended.closed ≡ life.closed → ended.callers ≡ life.callers → HasLived keeps_model present met failed most began v ended
   lives_end began world v u life ended lives so over same same_w = (
     lives.0,
     world,
@@ -111,11 +128,12 @@ module _ {D : Type 0} (keeps_model : D → Bool) (present : D → Present) {V : 
     lives.1,
     (
       so.desk,
-      subst (λ w. Serves (b world) met u w so.desk ended.served) (sym same_w) (served_at_last world u life.callers so.desk life.left ended.served so.served over),
+      subst (λ w. Serves (b world) met failed most u w so.desk ended.served) (sym same_w) (served_at_last (b world) met failed most u life.callers so.desk life.left ended.served so.served over),
       subst (IsOneHistory (b world) so.desk.notes) (sym same) so.history,
     ),
   )
 
+module _ {D : Type 0} (keeps_model : D → Bool) (present : D → Present) {V : Type 0} (met : V → List Talk → V → Type 0) (most : ℕ) where
   -- whoever called
   rested_any : (world next : World) (v w : V) → Rests keeps_model present met most world v w next → Rests keeps_model present met_any most world tt tt next
   rested_any world next v w r = record {
@@ -134,10 +152,15 @@ module _ {D : Type 0} (keeps_model : D → Bool) (present : D → Present) {V : 
   lives_any (suc n) began next v w is = (is.0, tt, lives_any n began is.0 v is.1 is.2, rested_any is.0 next is.1 w is.3)
 
 -- of a server whose lives have the steps that its own have
-module _ {D : Type 0} (keeps_model : D → Bool) (present : D → Present) {V : Type 0} (met : V → List Talk → V → Type 0) where
-  pub closed_lives : (began : World) (v : V) (ended : ServerEnd D V) → fault_at_end (has_stopped ended.closed.store) ended.served ended.is_broken ≡ None → HasLived keeps_model present met life_steps began v ended → HasLivedToClose keeps_model present began ended.closed
-  closed_lives began v ended none is =
-      (is.0, is.1, lives_any keeps_model present met life_steps is.0 began is.1 v is.2 is.3, (is.4.0, closed_if_none (based_on keeps_model present is.1 []) met (has_stopped ended.closed.store) ended.served ended.is_broken is.2 ended.callers is.4.0 none is.4.1, is.4.2))
+pub closed_lives : {D : Type 0} (keeps_model : D → Bool) (present : D → Present) {V : Type 0} (met : V → List Talk → V → Type 0) (failed : V → V → Type 0) (began : World) (v : V) (ended : ServerEnd D V)
+    → fault_at_end (has_stopped ended.closed.store) ended.served ended.is_broken ≡ None → HasLived keeps_model present met failed life_steps began v ended → HasLivedToClose keeps_model present began ended.closed
+closed_lives keeps_model present met failed began v ended none is =
+    let b = based_on keeps_model present is.1 [] in (
+      is.0,
+      is.1,
+      lives_any keeps_model present met life_steps is.0 began is.1 v is.2 is.3,
+      (is.4.0, closed_if_none b met failed life_steps (has_stopped ended.closed.store) ended.served ended.is_broken is.2 ended.callers is.4.0 none is.4.1, is.4.2),
+    )
 
 -- a store that has not stopped: each image of its disk gives its world
 pub only_world : {D : Type 0} (present : D → Present) (store : Kept D) → has_stopped store ≡ false → ImagesGive present store → (image : List ℕ) → IsImage (present store.disk) image → Recovered image store.world

@@ -151,12 +151,13 @@ module _ {D : Type 0} (keeps_model : D → Bool) (present : D → Present) {V : 
   lives_go_on zero began next v w lives = lives.0
   lives_go_on (suc n) began next v w lives = rest_goes_on began lives.0 next (steps_of keeps_model present met most n began v lives.0 lives.1 lives.2) lives.1 w lives.3 (lives_go_on n began lives.0 v lives.1 lives.2)
 
-  pub lives_are_one : LivesAreOne keeps_model present met most
+module _ {D : Type 0} (keeps_model : D → Bool) (present : D → Present) {V : Type 0} (met : V → List Talk → V → Type 0) (failed : V → V → Type 0) (most : ℕ) where
+  pub lives_are_one : LivesAreOne keeps_model present met failed most
   lives_are_one began v ended lived =
-      one_history began lived.1 (steps_of keeps_model present met most lived.0 began v lived.1 lived.2 lived.3) ended.closed (lives_go_on lived.0 began lived.1 v lived.2 lived.3) (tells (based_on keeps_model present lived.1 []) lived.4.0.notes ended.closed lived.4.2)
+      one_history began lived.1 (steps_of keeps_model present met most lived.0 began v lived.1 lived.2 lived.3) ended.closed (lives_go_on keeps_model present met most lived.0 began lived.1 v lived.2 lived.3) (tells (based_on keeps_model present lived.1 []) lived.4.0.notes ended.closed lived.4.2)
 
   -- so is what they leave
-  pub ends : (began : World) (v : V) (ended : ServerEnd D V) → HasLived keeps_model present met most began v ended → EndsOneHistory began ended.closed
+  pub ends : (began : World) (v : V) (ended : ServerEnd D V) → HasLived keeps_model present met failed most began v ended → EndsOneHistory began ended.closed
   ends began v ended lived = (steps_of keeps_model present met most lived.0 began v lived.1 lived.2 lived.3, lives_are_one began v ended lived)
 
 pub closed_lives_are_one : {D : Type 0} (keeps_model : D → Bool) (present : D → Present) → ClosedLivesAreOne keeps_model present

@@ -1,5 +1,5 @@
 -- How a server ends, and what it leaves of its engine.
-use Rattle.std.specs.Prelude.{◌≡◌, ℕ, ◌≤◌, List, [], ◌∷◌, ◌++◌, All, Bool, true, false, Option, Some, None, length}
+use Rattle.std.specs.Prelude.{◌≡◌, ◌⊎◌, ℕ, ◌≤◌, List, [], ◌∷◌, ◌++◌, All, Bool, true, false, Option, Some, None, length}
 use Rattle.coord_ledger.specs.declared.ticket.Note.{Note}
 use Rattle.coord_engine.specs.Facade.{AtSomeMoment, Basis, Closes, IsNamed, IsOfPacket}
 use Rattle.coord_engine.specs.declared.closed.Closed.{Closed}
@@ -42,32 +42,34 @@ module _ {D : Type 0} (b : Basis D) {V : Type 0} (met : V → List Talk → V �
   abbrev pub IsLeft : V → V → DeskState → Type 0
   IsLeft v w desk = ServedOpen (DeskAnswers b) met v new_desk w desk
 
-  -- how the desk went on until the serving ended so: a store that has stopped is met where a life rests
-  abbrev pub Serves : V → V → DeskState → Option ServerFault → Type 0
-  Serves v w desk None = IsClosed v w desk
-  Serves v w desk (Some fault.Socket) = IsLeft v w desk
-  Serves v w desk (Some fault.Device) = IsLeft v w desk
-  Serves v w desk (Some fault.OutOfMemory) = met v [] w × (desk ≡ new_desk)
-  Serves v w desk (Some fault.Write) = met v [] w × (desk ≡ new_desk)
-  Serves v w desk (Some other) = ⊥
+  -- `failed v w`: those who call were v, and have failed
+  module _ (failed : V → V → Type 0) (most : ℕ) where
+    -- How the desk went on in a life of so many steps. It rests only once its engine has kept them; and it ends by a close, by a fault before anyone was served, or because those who call have failed.
+    abbrev pub ServesLife : V → V → DeskState → LifeEnd → Type 0
+    ServesLife v w desk end.Resting = IsLeft v w desk × HasKept b most
+    ServesLife v w desk (end.Ended None) = IsClosed v w desk
+    ServesLife v w desk (end.Ended (Some fault.OutOfMemory)) = met v [] w × (desk ≡ new_desk)
+    ServesLife v w desk (end.Ended (Some fault.Write)) = met v [] w × (desk ≡ new_desk)
+    ServesLife v w desk (end.Ended (Some fault.Socket)) = (met v [] w × (desk ≡ new_desk)) ⊎ ((last : V) × IsLeft v last desk × failed last w)
+    ServesLife v w desk (end.Ended (Some other)) = ⊥
 
-  -- how the desk went on in a life of so many steps: it rests only once its engine has kept them
-  abbrev pub ServesLife : ℕ → V → V → DeskState → LifeEnd → Type 0
-  ServesLife most v w desk end.Resting = IsLeft v w desk × HasKept b most
-  ServesLife most v w desk (end.Ended served) = Serves v w desk served
+    -- and in the last life of a server that ends so: a store that has stopped is met where a life rests
+    abbrev pub Serves : V → V → DeskState → Option ServerFault → Type 0
+    Serves v w desk (Some fault.Device) = ServesLife v w desk end.Resting
+    Serves v w desk served = ServesLife v w desk (end.Ended served)
 
-  -- the threads of a life have run: the desk served until this end, and with its share all nine are back, the desk's and those of eight workers
-  pub record HasRun (most : ℕ) (v w : V) (left : LifeEnd) (shares : List (List Note)) : Type 0 where
-    pub desk : DeskState
-    pub served : ServesLife most v w desk left
-    pub added : AddsWorkers (desk.notes ∷ []) shares
-    pub all : length shares ≡ 9
+    -- the threads of a life have run: the desk served until this end, and with its share all nine are back, the desk's and those of eight workers
+    pub record HasRun (v w : V) (left : LifeEnd) (shares : List (List Note)) : Type 0 where
+      pub desk : DeskState
+      pub served : ServesLife v w desk left
+      pub added : AddsWorkers (desk.notes ∷ []) shares
+      pub all : length shares ≡ 9
 
-  -- one life: the desk served until this end, and what is left is one history
-  pub record IsLife (most : ℕ) (v : V) (life : Life D V) : Type 0 where
-    pub desk : DeskState
-    pub served : ServesLife most v life.callers desk life.left
-    pub history : IsOneHistory b desk.notes life.closed
+    -- one life: the desk served until this end, and what is left is one history
+    pub record IsLife (v : V) (life : Life D V) : Type 0 where
+      pub desk : DeskState
+      pub served : ServesLife v life.callers desk life.left
+      pub history : IsOneHistory b desk.notes life.closed
 
 -- a desk that began with nothing was served over some connections, the last of which closed it
 abbrev pub IsServedToClose : {D : Type 0} → Basis D → DeskState → Type 0

@@ -52,11 +52,11 @@ module _ {D : Type 0} (keeps_model : D → Bool) (present : D → Present) {V : 
   Lives zero began v next w = (next ≡ began) × (w ≡ v)
   Lives (suc n) began v next w = (world : World) × (u : V) × Lives n began v world u × Rests world u w next
 
-  -- some lives that rest, and then a last one, which leaves this
-  abbrev pub HasLived : World → V → ServerEnd D V → Type 0
-  HasLived began v ended =
-      (n : ℕ) × (world : World) × (u : V) × Lives n began v world u
-      × ((desk : DeskState) × Serves (begun_over world) met u ended.callers desk ended.served × IsOneHistory (begun_over world) desk.notes ended.closed)
+-- some lives that rest, and then a last one, which leaves this. `failed v w`: those who call were v, and have failed
+abbrev pub HasLived : {D : Type 0} → (D → Bool) → (D → Present) → {V : Type 0} → (V → List Talk → V → Type 0) → (V → V → Type 0) → ℕ → World → V → ServerEnd D V → Type 0
+HasLived {D} keeps_model present {V} met failed most began v ended =
+    (n : ℕ) × (world : World) × (u : V) × Lives keeps_model present met most n began v world u
+    × ((desk : DeskState) × Serves (based_on keeps_model present world []) met failed most u ended.callers desk ended.served × IsOneHistory (based_on keeps_model present world []) desk.notes ended.closed)
 
 -- the same where a line has closed the last one, and each life has the steps of a server's
 abbrev pub HasLivedToClose : {D : Type 0} → (D → Bool) → (D → Present) → World → Closed D → Type 0
@@ -99,11 +99,11 @@ module _ {D : Type 0} (keeps_model : D → Bool) (present : D → Present) {V : 
   steps_of zero began v next w lives = []
   steps_of (suc n) began v next w lives = steps_of n began v lives.0 lives.1 lives.2 ++ steps_in lives.3.left ∷ []
 
-  -- lives that rest, and the one behind them that left this, are one history
-  abbrev pub LivesAreOne : Type 0
-  LivesAreOne =
-      (began : World) (v : V) (ended : ServerEnd D V) (lived : HasLived keeps_model present met most began v ended)
-      → AreOneHistory began (steps_of lived.0 began v lived.1 lived.2 lived.3 ++ steps_in ended.closed ∷ []) ended.closed.store ended.closed.settled
+-- lives that rest, and the one behind them that left this, are one history
+abbrev pub LivesAreOne : {D : Type 0} → (D → Bool) → (D → Present) → {V : Type 0} → (V → List Talk → V → Type 0) → (V → V → Type 0) → ℕ → Type 0
+LivesAreOne {D} keeps_model present {V} met failed most =
+    (began : World) (v : V) (ended : ServerEnd D V) (lived : HasLived keeps_model present met failed most began v ended)
+    → AreOneHistory began (steps_of keeps_model present met most lived.0 began v lived.1 lived.2 lived.3 ++ steps_in ended.closed ∷ []) ended.closed.store ended.closed.settled
 
 -- the same where a line has closed the last one
 abbrev pub ClosedLivesAreOne : {D : Type 0} → (D → Bool) → (D → Present) → Type 0

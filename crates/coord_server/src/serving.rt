@@ -115,7 +115,7 @@ pub fn serve_callers<
 ) -> Result<ServerEnd<D, C>, ServerFault>
     requires { has_stopped store ≡ false }
     ensures lives { IfOk result
-        (HasLived D.keeps_model D.present C.met life_steps store.world callers) }
+        (HasLived D.keeps_model D.present C.met C.failed life_steps store.world callers) }
     ensures whole { IfOk result (λ ended. EndsOneHistory store.world ended.closed) }
     ensures images { IfOk result (λ ended. D.keeps_model ended.closed.store.disk ≡ true →
         ImagesGive D.present ended.closed.store) }

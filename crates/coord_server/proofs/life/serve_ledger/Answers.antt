@@ -8,5 +8,5 @@ returns g c =
     let b = based_on g.D.Disk.keeps_model g.D.Disk.present g.L.Origin.base g.L.Origin.before in
     let ran = c.in_ok-ran.ran in
     IfOk-weaker c.closed_life.result _ _
-    (λ life is. lived b g.C.Callers.met c.args.setting.now.life_steps c.args.callers ran.callers ran.left ran.shares.items life c.requires.before.1 c.in_ok-ran.ensures is.0 is.1 is.2 is.3)
+    (λ life is. lived b g.C.Callers.met g.C.Callers.failed c.args.setting.now.life_steps c.args.callers ran.callers ran.left ran.shares.items life c.requires.before.1 c.in_ok-ran.ensures is.0 is.1 is.2 is.3)
     c.closed_life.ensures

@@ -10,7 +10,7 @@ pub returns-clause-lives : goal.returns-clause-lives
 returns-clause-lives g c =
     IfOk-weaker c.closed_of.result _ _
     (λ closed is. subst (HasLivedToClose g.D.Disk.keeps_model g.D.Disk.present c.args.store.world) (sym is.0)
-    (closed_lives g.D.Disk.keeps_model g.D.Disk.present (λ _ _ _. ⊤) c.args.store.world c.args.callers c.in_ok-ended.ended is.1 c.in_ok-ended.ensures.lives))
+    (closed_lives g.D.Disk.keeps_model g.D.Disk.present (λ _ _ _. ⊤) (λ _ _. ⊤) c.args.store.world c.args.callers c.in_ok-ended.ended is.1 c.in_ok-ended.ensures.lives))
     c.closed_of.ensures.closed
 
 pub returns-clause-images : goal.returns-clause-images
