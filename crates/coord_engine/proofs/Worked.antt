@@ -9,20 +9,23 @@ module _ {D : Type 0} (b : Basis D) where
   -- one more was taken, and then those that wait were tried
   pub works_last : (notes next taken later : List Note) (waiting came rest kept left : List Packet) (p : Packet) → Works b notes waiting came next rest → Takes b next rest p taken kept → TriesAll b taken kept later left → Works b notes waiting (came ++ p ∷ []) later left
   works_last notes next taken later waiting [] rest kept left p so takes tries =
-      let here = subst (λ n. Takes b n rest p taken kept) so.0 takes in
-      (taken, kept, later, left, subst (λ w. Takes b notes w p taken kept) so.1 here, tries, refl, refl)
+      (taken, kept, later, left, subst (λ w. Takes b notes w p taken kept) so.1 (subst (λ n. Takes b n rest p taken kept) so.0 takes), tries, refl, refl)
   works_last notes next taken later waiting (q ∷ came) rest kept left p so takes tries =
       (so.0, so.1, so.2, so.3, so.4, so.5, works_last so.2 next taken later so.3 came rest kept left p so.6 takes tries)
 
   tried_one : (notes later : List Note) (p : Packet) (waits : Bool) → Tries b notes p waits later → AddsPackets notes later
-  tried_one notes later p waits is = adds_packet b p (step_of p) refl is.0 notes later is.1
+  tried_one notes later p waits is = adds_packet b p (step_of p) refl is.answer notes later is.submits
+
+  after_one : (next later : List Note) (p : Packet) (ps left : List Packet) (waits : Bool) → ((waits ≡ true) × (later ≡ next) × (left ≡ p ∷ ps)) ⊎ ((waits ≡ false) × TriesAll b next ps later left)
+      → (TriesAll b next ps later left → AddsPackets next later) → AddsPackets next later
+  after_one next later p ps left waits (inl is) more = adds_none next later is.1
+  after_one next later p ps left waits (inr is) more = more is.1
 
   tried_adds : (notes later : List Note) (waiting left : List Packet) → TriesAll b notes waiting later left → AddsPackets notes later
   tried_adds notes later [] left is = adds_none notes later is.0
-  tried_adds notes later (p ∷ ps) left (next, waits, tries, inl stays) = adds_more notes next later (tried_one notes next p waits tries) (adds_none next later stays.1)
-  tried_adds notes later (p ∷ ps) left (next, waits, tries, inr goes) = adds_more notes next later (tried_one notes next p waits tries) (tried_adds next later ps left goes.1)
+  tried_adds notes later (p ∷ ps) left is = adds_more notes is.0 later (tried_one notes is.0 p is.1 is.2) (after_one is.0 later p ps left is.1 is.3 (λ more. tried_adds is.0 later ps left more))
 
   pub works_adds : (notes later : List Note) (waiting came left : List Packet) → Works b notes waiting came later left → AddsPackets notes later
   works_adds notes later waiting [] left is = adds_none notes later is.0
   works_adds notes later waiting (p ∷ came) left is =
-      adds_more notes is.0 later (tried_one notes is.0 p is.4.0 is.4.1) (adds_more is.0 is.2 later (tried_adds is.0 is.2 is.1 is.3 is.5) (works_adds is.2 later is.3 came left is.6))
+      adds_more notes is.0 later (tried_one notes is.0 p is.4.waits is.4.tries) (adds_more is.0 is.2 later (tried_adds is.0 is.2 is.1 is.3 is.5) (works_adds is.2 later is.3 came left is.6))

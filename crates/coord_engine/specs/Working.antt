@@ -38,8 +38,10 @@ Keeps false waiting p left = left ≡ waiting
 
 module _ {D : Type 0} (b : Basis D) where
   -- a packet's step was submitted, and whether the packet has to wait
-  abbrev pub Tries : List Note → Packet → Bool → List Note → Type 0
-  Tries notes p waits later = (answer : Result Claim Refusal) × AtSomeMoment b (Submits {D = D} (step_of p) answer notes later) × (waits ≡ waits_after answer)
+  pub record Tries (notes : List Note) (p : Packet) (waits : Bool) (later : List Note) : Type 0 where
+    pub answer : Result Claim Refusal
+    pub submits : AtSomeMoment b (Submits {D = D} (step_of p) answer notes later)
+    pub follows : waits ≡ waits_after answer
 
   -- those that wait were submitted in order, up to one that still has to wait
   abbrev pub TriesAll : List Note → List Packet → List Note → List Packet → Type 0
@@ -49,8 +51,10 @@ module _ {D : Type 0} (b : Basis D) where
       × (((waits ≡ true) × (later ≡ next) × (left ≡ p ∷ ps)) ⊎ ((waits ≡ false) × TriesAll next ps later left))
 
   -- a packet that came was submitted, and kept where it has to wait
-  abbrev pub Takes : List Note → List Packet → Packet → List Note → List Packet → Type 0
-  Takes notes waiting p later left = (waits : Bool) × Tries notes p waits later × Keeps waits waiting p left
+  pub record Takes (notes : List Note) (waiting : List Packet) (p : Packet) (later : List Note) (left : List Packet) : Type 0 where
+    pub waits : Bool
+    pub tries : Tries notes p waits later
+    pub keeps : Keeps waits waiting p left
 
   -- these packets came, in order: each was taken, and then those that wait were tried before the next one came
   abbrev pub Works : List Note → List Packet → List Packet → List Note → List Packet → Type 0

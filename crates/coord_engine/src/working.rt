@@ -1,10 +1,10 @@
 //! Packets that came, submitted as steps.
 
-ghost use Rattle.std.specs.Prelude.{◌≡◌, [], List};
+ghost use Rattle.std.specs.Prelude.{◌≡◌, [], List, true};
 ghost use Rattle.std.specs.Iterator.{Drains, IsFinite};
 ghost use Rattle.coord_types.specs.declared.packets.Packet.{Packet as Asked};
 ghost use Rattle.coord_engine.specs.State.{based_on};
-ghost use Rattle.coord_engine.specs.Working.{AddsPackets, Takes, Tries, TriesAll, Works, has_to_wait};
+ghost use Rattle.coord_engine.specs.Working.{AddsPackets, Keeps, Takes, Tries, TriesAll, Works, has_to_wait};
 
 use crate::port::step_of;
 use crate::{Engine, Origin, PacketShare, Share, Waiting};
@@ -61,8 +61,14 @@ fn try_waiting<D: Disk, L: Origin, R: Wait>(
     }
 }
 
-/// Submits a packet that came, and puts it down. Where it has to wait it is kept; without memory for
-/// that it is lost, and sent again later.
+/// Keeps a packet that has to wait. Without memory for that it is lost, and sent again later.
+fn keep(packet: Packet, waiting: &mut Waiting)
+    ensures { Keeps true waiting.old packet waiting.new }
+{
+    let _ = waiting.put(packet);
+}
+
+/// Submits a packet that came, keeps it where it has to wait, and puts it down.
 fn take<D: Disk, L: Origin, R: Wait>(
     rt: &R,
     engine: &Engine<D, L>,
@@ -74,7 +80,7 @@ fn take<D: Disk, L: Origin, R: Wait>(
         share.new waiting.new }
 {
     if submit(rt, engine, packet, share) {
-        let _ = waiting.put(packet);
+        keep(packet, waiting);
     }
     engine.put_down(rt);
 }
