@@ -4,7 +4,7 @@ use Rattle.coord_world.specs.protocol.Outputs.{outs}
 use Rattle.coord_ledger.specs.declared.mark.Mark.TheVariants.{New, Good}
 use Rattle.coord_ledger.specs.declared.release.Release.{Release}
 use Rattle.coord_ledger.specs.Facade.{FlightState, keeps_store, next_flight, releases_in, releases_of, with_out}
-use Rattle.coord_engine.specs.Facade.{AnswersBegin, AtSomeMoment, Basis, CanHold, Flushes, GuardedState, Leaves, with_ledger}
+use Rattle.coord_engine.specs.Facade.{AnswersBegin, Basis, CanHold, Flushes, GuardedState, Leaves, with_ledger}
 
 module _ {D E : Type 0} (b : Basis D) (g later : GuardedState D) (is : CanHold b g) where
   -- what the value under the lock says of the next flight
@@ -25,10 +25,6 @@ module _ {D E : Type 0} (b : Basis D) (g later : GuardedState D) (is : CanHold b
   -- is what is answered at that moment
   pub begun_at : (r : Result (Option (FlightState D)) E) → Nothing r → Begun r → AnswersBegin b r
   begun_at = begun_by (keeps_store g.ledger) refl
-
--- the flight that left
-pub left_with : {D E : Type 0} (b : Basis D) (o : Option (FlightState D)) (flight : FlightState D) → o ≡ Some flight → AnswersBegin {E = E} b (Ok o) → AtSomeMoment b (Leaves flight)
-left_with {D} {E} b o flight is so = subst (λ x. AnswersBegin {E = E} b (Ok x)) is so
 
 module _ {D : Type 0} where
   -- a flight that was committed and taken back gives its releases

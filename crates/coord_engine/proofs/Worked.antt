@@ -9,7 +9,7 @@ module _ {D : Type 0} (b : Basis D) where
   -- one more was taken, and then those that wait were tried
   pub works_last : (notes next taken later : List Note) (waiting came rest kept left : List Packet) (p : Packet) → Works b notes waiting came next rest → Takes b next rest p taken kept → TriesAll b taken kept later left → Works b notes waiting (came ++ p ∷ []) later left
   works_last notes next taken later waiting [] rest kept left p so takes tries =
-      (taken, kept, later, left, subst (λ w. Takes b notes w p taken kept) so.1 (subst (λ n. Takes b n rest p taken kept) so.0 takes), tries, refl, refl)
+      (taken, kept, later, left, subst (λ w. Takes b notes w p taken kept) so.1 (subst (λ n. Takes b n rest p taken kept) so.0 takes), tries, (refl, refl))
   works_last notes next taken later waiting (q ∷ came) rest kept left p so takes tries =
       (so.0, so.1, so.2, so.3, so.4, so.5, works_last so.2 next taken later so.3 came rest kept left p so.6 takes tries)
 

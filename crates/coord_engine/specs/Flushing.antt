@@ -1,5 +1,5 @@
 -- What a flusher does: it flushes and hands on what each flight releases, until nothing will be flushed any more or a flight fails for good.
-use Rattle.std.specs.Prelude.{◌≡◌, ◌≢◌, ◌⊎◌, ℕ, zero, suc, Bool, true, List, Option, Some, None, Result, Ok, Err}
+use Rattle.std.specs.Prelude.{◌≡◌, ◌≢◌, ◌⊎◌, ℕ, zero, suc, Bool, true, false, List, Option, Some, None, Result, Ok, Err}
 use Rattle.coord_types.specs.declared.packets.Packet.{Packet}
 use Rattle.coord_store.specs.declared.faults.CommitFault.{CommitFault}
 use Rattle.coord_store.specs.declared.faults.CommitFault.TheVariants.{OutOfMemory}

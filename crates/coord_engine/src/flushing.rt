@@ -1,6 +1,7 @@
 //! Flights as they are needed, and what they release handed to a port.
 
 ghost use Rattle.std.specs.Prelude.{◌≡◌, Bool, false, true, length};
+ghost use Rattle.std.specs.Sync.Mutex.{mutex_guard_value};
 ghost use Rattle.coord_engine.specs.Flushing.{HasFlushed};
 ghost use Rattle.coord_engine.specs.Pacing.{is_idle, is_over};
 ghost use Rattle.coord_engine.specs.Port.{IsAsked, AreAsked, deliveries_of};
@@ -8,12 +9,12 @@ ghost use Rattle.coord_engine.specs.State.{based_on};
 ghost use Rattle.coord_engine.specs.Threads.{AtSomeMoment};
 
 use crate::port::{Delivery, Port};
-use crate::{Engine, Origin};
+use crate::{Engine, Guarded, Origin};
 use coord_disk::Disk;
 use coord_ledger::Releases;
 use coord_store::CommitFault;
 use coord_types::{NodeId, Packet};
-use std::sync::Wait;
+use std::sync::{MutexGuard, Wait};
 use std::time::{Clock, Duration, Instant};
 use std::{io, thread};
 
@@ -62,6 +63,20 @@ impl<D: Disk, L: Origin> Engine<D, L> {
         }
     }
 
+    /// Takes the lock once something can be flushed, or nothing will be any more.
+    fn lock_for_flight<'g, R: Wait>(&'g self, rt: &R) -> MutexGuard<'g, Guarded<D, L>>
+        ensures { is_idle (mutex_guard_value result) ≡ false }
+    {
+        let mut guarded = self.guarded.lock(rt);
+        for _ in rt.forever() {
+            if !guarded.is_idle() {
+                return guarded;
+            }
+            guarded = self.work.wait(rt, guarded);
+        }
+        unreachable!()
+    }
+
     /// Waits until a flight can start. Then it waits for callers that may come again, as long as
     /// the last flight's time allows, and a little for packets that are in hand. False once no
     /// flight will start any more.
@@ -73,9 +88,7 @@ impl<D: Disk, L: Origin> Engine<D, L> {
             AtSomeMoment (based_on D.keeps_model D.present L.base L.before) (λ g.
             is_over g ≡ true) }
     {
-        let guarded = self
-            .work
-            .wait_while(rt, self.guarded.lock(rt), |guarded| guarded.is_idle());
+        let guarded = self.lock_for_flight(rt);
         guarded.keeps();
         let (mut guarded, waited) = self
             .work

@@ -62,24 +62,24 @@ fn try_waiting<D: Disk, L: Origin, R: Wait>(
 }
 
 /// Keeps a packet that has to wait. Without memory for that it is lost, and sent again later.
-fn keep(packet: Packet, waiting: &mut Waiting)
-    ensures { Keeps true waiting.old packet waiting.new }
+fn keep(packet: &Packet, waiting: &mut Waiting)
+    ensures { Keeps true waiting.old packet.now waiting.new }
 {
-    let _ = waiting.put(packet);
+    let _ = waiting.put(*packet);
 }
 
 /// Submits a packet that came, keeps it where it has to wait, and puts it down.
 fn take<D: Disk, L: Origin, R: Wait>(
     rt: &R,
     engine: &Engine<D, L>,
-    packet: Packet,
+    packet: &Packet,
     share: &mut Share<L>,
     waiting: &mut Waiting,
 )
-    ensures { Takes (based_on D.keeps_model D.present L.base L.before) share.old waiting.old packet
-        share.new waiting.new }
+    ensures { Takes (based_on D.keeps_model D.present L.base L.before) share.old waiting.old
+        packet.now share.new waiting.new }
 {
-    if submit(rt, engine, packet, share) {
+    if submit(rt, engine, *packet, share) {
         keep(packet, waiting);
     }
     engine.put_down(rt);
@@ -106,7 +106,7 @@ pub fn worker<D: Disk, L: Origin, I: Iterator<Item = Packet>, R: Wait>(
     let mut share = share;
     let mut waiting = Waiting::new(alloc);
     for packet in packets {
-        take(rt, engine, packet, &mut share, &mut waiting);
+        take(rt, engine, &packet, &mut share, &mut waiting);
         try_waiting(rt, engine, &mut share, &mut waiting);
     }
     share

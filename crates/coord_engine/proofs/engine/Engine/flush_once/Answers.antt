@@ -1,10 +1,10 @@
-use Rattle.coord_engine.specs.State.{based_on}
-use Rattle.coord_engine.proofs.Flights.{left_with}
+use Rattle.std.proofs.Common.{subst}
+use Rattle.coord_engine.specs.Facade.{Begins, based_on}
 use Rattle.coord_engine.proofs.Told.{told_back}
 use Rattle.coord_engine.proofs.engine.Engine.flush_once.Goals as goal
 
 pub returns : goal.returns
 returns g c =
     let b = based_on g.D.Disk.keeps_model g.D.Disk.present g.L.Origin.base g.L.Origin.before in
-    let leaves = left_with b c.in-Ok-Some.field-0 c.in-Ok-Some.flight c.in-Ok-Some.field-0-is c.in-Ok-Some.ensures in
+    let leaves = subst (Begins b) c.in-Ok-Some.field-0-is c.in-Ok-Some.ensures in
     told_back b g.D.Disk.failures c.in-Ok-Some.flight c.commit-committed.new.flight c.end-releases.result leaves c.commit-committed.result c.commit-committed.ensures c.end-releases.ensures.released c.end-releases.ensures.back c.told.result c.told.ensures
