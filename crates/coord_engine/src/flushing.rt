@@ -2,6 +2,7 @@
 
 ghost use Rattle.std.specs.Prelude.{◌≡◌, Bool, false, true, length};
 ghost use Rattle.std.specs.Sync.Mutex.{mutex_guard_value};
+ghost use Rattle.coord_engine.specs.Flights.{AnswersFlush};
 ghost use Rattle.coord_engine.specs.Flushing.{HasFlushed};
 ghost use Rattle.coord_engine.specs.Pacing.{is_idle, is_over};
 ghost use Rattle.coord_engine.specs.Port.{IsAsked, AreAsked, deliveries_of};
@@ -151,6 +152,20 @@ pub fn hand_over<D: Disk, L: Origin, P: Port, R: Wait>(
     count
 }
 
+/// Flushes, and notes how long the next flight waits for callers that this one answers.
+fn flush<D: Disk, L: Origin, R: Wait + Clock>(
+    rt: &R,
+    engine: &Engine<D, L>,
+    patience: &mut Duration,
+) -> Result<Option<Releases>, CommitFault>
+    ensures { AnswersFlush (based_on D.keeps_model D.present L.base L.before) D.failures result }
+{
+    let start = Instant::now(rt);
+    let flushed = engine.flush_once(rt);
+    *patience = patience_since(rt, start);
+    flushed
+}
+
 /// Flushes what is accepted as long as flights start, and hands what each released to the port.
 /// Before a flight it waits for two things. Callers that the last flight answered may come again:
 /// where they are few, they have a sixteenth of that flight's time. Packets that it released may come
@@ -171,10 +186,7 @@ pub fn flusher<D: Disk, L: Origin, P: Port, R: Wait + Clock>(
         if !engine.waits_for_flight(rt, patience) {
             return;
         }
-        let start = Instant::now(rt);
-        let flushed = engine.flush_once(rt);
-        patience = patience_since(rt, start);
-        match flushed {
+        match flush(rt, engine, &mut patience) {
             Ok(None) => {}
             Ok(Some(releases)) => {
                 hand_over(rt, engine, port, releases);

@@ -18,6 +18,5 @@ loop-preserved-in-Ok-Some g c =
 pub loop-preserved : goal.loop-preserved
 loop-preserved g c =
     let b = based_on g.D.Disk.keeps_model g.D.Disk.present g.L.Origin.base g.L.Origin.before in
-    let told = subst (AnswersFlush b g.D.Disk.failures) c.in-Err-OutOfMemory.is c.flush_once-flushed.ensures in
-    let answers = subst (λ f. AnswersFlush b g.D.Disk.failures (Err f)) c.in-Err-OutOfMemory.field-0-is told in
+    let answers = subst (λ f. AnswersFlush b g.D.Disk.failures (Err f)) c.in-Err-OutOfMemory.field-0-is c.in-Err-OutOfMemory.ensures in
     (tt, tt, (suc c.loop.invariant.2.0, (c.loop.port, c.loop.invariant.2.1, (c.if-not-waits_for_flight.ensures.starts refl, (Err OutOfMemory, answers, refl)))))
