@@ -73,44 +73,44 @@ module _ {D P : Type 0} (answers : D → Request → Answer → D → Type 0) (p
         )
 
     -- the lines of what was seen, with a piece more
-    lines-with : (d e : D) (a b : C) (seen came more : List ℕ) (line : Line) (posted : List P) → (s : SoFar d a seen line posted e b) → lines_of (seen ++ (came ++ more)) ≡ s.2.0 ++ (s.2.1 ++ lines_on line (came ++ more))
-    lines-with d e a b seen came more line posted s = s.4 (came ++ more) ∙ ap (λ l. l ++ lines_on line (came ++ more)) s.2.3 ∙ append_assoc s.2.0 s.2.1 (lines_on line (came ++ more))
+    lines-with : (d e : D) (a b : C) (seen bytes_read more : List ℕ) (line : Line) (posted : List P) → (s : SoFar d a seen line posted e b) → lines_of (seen ++ (bytes_read ++ more)) ≡ s.2.0 ++ (s.2.1 ++ lines_on line (bytes_read ++ more))
+    lines-with d e a b seen bytes_read more line posted s = s.4 (bytes_read ++ more) ∙ ap (λ l. l ++ lines_on line (bytes_read ++ more)) s.2.3 ∙ append_assoc s.2.0 s.2.1 (lines_on line (bytes_read ++ more))
 
-    lines-with-all : (d e : D) (a b : C) (seen came : List ℕ) (line : Line) (posted : List P) → (s : SoFar d a seen line posted e b) → lines_of (seen ++ came) ≡ s.2.0 ++ (s.2.1 ++ lines_on line came)
-    lines-with-all d e a b seen came line posted s = s.4 came ∙ ap (λ l. l ++ lines_on line came) s.2.3 ∙ append_assoc s.2.0 s.2.1 (lines_on line came)
+    lines-with-all : (d e : D) (a b : C) (seen bytes_read : List ℕ) (line : Line) (posted : List P) → (s : SoFar d a seen line posted e b) → lines_of (seen ++ bytes_read) ≡ s.2.0 ++ (s.2.1 ++ lines_on line bytes_read)
+    lines-with-all d e a b seen bytes_read line posted s = s.4 bytes_read ∙ ap (λ l. l ++ lines_on line bytes_read) s.2.3 ∙ append_assoc s.2.0 s.2.1 (lines_on line bytes_read)
 
     -- a piece came, and its lines have replies or await them too
-    pub so-far-more : (d e h : D) (a b c f : C) (seen came : List ℕ) (line next : Line) (posted later : List P) → SoFar d a seen line posted e b → exchanged b came [] c
-        → ((d : D) (waiting : List Line) → AwaitReplies posts d waiting posted e → (lines : List Line) × (told : List Answer) × GoesOn answers posts d lines told later h × exchanged c [] (reply_lines told) f × ((more : List ℕ) → waiting ++ lines_on line (came ++ more) ≡ lines ++ lines_on next more))
-        → SoFar d a (seen ++ came) next later h f
-    so-far-more d e h a b c f seen came line next posted later s heard now =
+    pub so-far-more : (d e h : D) (a b c f : C) (seen bytes_read : List ℕ) (line next : Line) (posted later : List P) → SoFar d a seen line posted e b → exchanged b bytes_read [] c
+        → ((d : D) (waiting : List Line) → AwaitReplies posts d waiting posted e → (lines : List Line) × (told : List Answer) × GoesOn answers posts d lines told later h × exchanged c [] (reply_lines told) f × ((more : List ℕ) → waiting ++ lines_on line (bytes_read ++ more) ≡ lines ++ lines_on next more))
+        → SoFar d a (seen ++ bytes_read) next later h f
+    so-far-more d e h a b c f seen bytes_read line next posted later s heard now =
         let g = s.2 in
         let n = now g.2 g.1 g.5 in (
           g.0 ++ n.0,
           s.1 ++ n.1,
           goes-on answers posts d e h s.0 n.0 s.1 n.1 posted later g n.2,
-          told-all exchanged turn a c f (seen ++ came) s.1 n.1 (heard-on exchanged turn a b c seen came (reply_lines s.1) s.3 heard) n.3,
-          λ more. ap lines_of (append_assoc seen came more) ∙ lines-with d e a b seen came more line posted s ∙ ap (λ l. g.0 ++ l) (n.4 more) ∙ sym (append_assoc g.0 n.0 (lines_on next more)),
+          told-all exchanged turn a c f (seen ++ bytes_read) s.1 n.1 (heard-on exchanged turn a b c seen bytes_read (reply_lines s.1) s.3 heard) n.3,
+          λ more. ap lines_of (append_assoc seen bytes_read more) ∙ lines-with d e a b seen bytes_read more line posted s ∙ ap (λ l. g.0 ++ l) (n.4 more) ∙ sym (append_assoc g.0 n.0 (lines_on next more)),
         )
 
     -- one of its lines has closed the desk
-    pub so-far-closed : (d e h : D) (a b c f : C) (seen came : List ℕ) (line : Line) (posted : List P) → SoFar d a seen line posted e b → exchanged b came [] c
-        → ((d : D) (waiting : List Line) → AwaitReplies posts d waiting posted e → (text : List ℕ) × exchanged c [] text f × Closes answers d (waiting ++ lines_on line came) text h) → (text : List ℕ) × exchanged a (seen ++ came) text f × Closes answers d (lines_of (seen ++ came)) text h
-    so-far-closed d e h a b c f seen came line posted s heard now =
+    pub so-far-closed : (d e h : D) (a b c f : C) (seen bytes_read : List ℕ) (line : Line) (posted : List P) → SoFar d a seen line posted e b → exchanged b bytes_read [] c
+        → ((d : D) (waiting : List Line) → AwaitReplies posts d waiting posted e → (text : List ℕ) × exchanged c [] text f × Closes answers d (waiting ++ lines_on line bytes_read) text h) → (text : List ℕ) × exchanged a (seen ++ bytes_read) text f × Closes answers d (lines_of (seen ++ bytes_read)) text h
+    so-far-closed d e h a b c f seen bytes_read line posted s heard now =
         let g = s.2 in
         let n = now g.2 g.1 g.5 in (
           reply_lines s.1 ++ n.0,
-          told-on exchanged turn a c f (seen ++ came) (reply_lines s.1) n.0 (heard-on exchanged turn a b c seen came (reply_lines s.1) s.3 heard) n.1,
-          closes-behind answers d g.2 h (lines_of (seen ++ came)) (g.1 ++ lines_on line came) g.0 s.1 n.0 g.4 (lines-with-all d e a b seen came line posted s) n.2,
+          told-on exchanged turn a c f (seen ++ bytes_read) (reply_lines s.1) n.0 (heard-on exchanged turn a b c seen bytes_read (reply_lines s.1) s.3 heard) n.1,
+          closes-behind answers d g.2 h (lines_of (seen ++ bytes_read)) (g.1 ++ lines_on line bytes_read) g.0 s.1 n.0 g.4 (lines-with-all d e a b seen bytes_read line posted s) n.2,
         )
 
     -- or the reply to one was not written whole
-    pub so-far-cut : (d e h : D) (a b c f : C) (seen came : List ℕ) (line : Line) (posted : List P) → SoFar d a seen line posted e b → exchanged b came [] c
-        → ((d : D) (waiting : List Line) → AwaitReplies posts d waiting posted e → (text : List ℕ) × exchanged c [] text f × BreaksOff answers d (waiting ++ lines_on line came) text h) → (text : List ℕ) × exchanged a (seen ++ came) text f × BreaksOff answers d (lines_of (seen ++ came)) text h
-    so-far-cut d e h a b c f seen came line posted s heard now =
+    pub so-far-cut : (d e h : D) (a b c f : C) (seen bytes_read : List ℕ) (line : Line) (posted : List P) → SoFar d a seen line posted e b → exchanged b bytes_read [] c
+        → ((d : D) (waiting : List Line) → AwaitReplies posts d waiting posted e → (text : List ℕ) × exchanged c [] text f × BreaksOff answers d (waiting ++ lines_on line bytes_read) text h) → (text : List ℕ) × exchanged a (seen ++ bytes_read) text f × BreaksOff answers d (lines_of (seen ++ bytes_read)) text h
+    so-far-cut d e h a b c f seen bytes_read line posted s heard now =
         let g = s.2 in
         let n = now g.2 g.1 g.5 in (
           reply_lines s.1 ++ n.0,
-          told-on exchanged turn a c f (seen ++ came) (reply_lines s.1) n.0 (heard-on exchanged turn a b c seen came (reply_lines s.1) s.3 heard) n.1,
-          breaks-behind answers d g.2 h (lines_of (seen ++ came)) (g.1 ++ lines_on line came) g.0 s.1 n.0 g.4 (lines-with-all d e a b seen came line posted s) n.2,
+          told-on exchanged turn a c f (seen ++ bytes_read) (reply_lines s.1) n.0 (heard-on exchanged turn a b c seen bytes_read (reply_lines s.1) s.3 heard) n.1,
+          breaks-behind answers d g.2 h (lines_of (seen ++ bytes_read)) (g.1 ++ lines_on line bytes_read) g.0 s.1 n.0 g.4 (lines-with-all d e a b seen bytes_read line posted s) n.2,
         )

@@ -292,63 +292,63 @@ module _ {D : Type 0} (answers : D → Request → Answer → D → Type 0) {C :
 
 -- what is exchanged in turn adds up
 abbrev pub InTurn : {C : Type 0} → (C → List ℕ → List ℕ → C → Type 0) → Type 0
-InTurn {C} exchanged = (a b c : C) (came more went later : List ℕ) → exchanged a came went b → exchanged b more later c → exchanged a (came ++ more) (went ++ later) c
+InTurn {C} exchanged = (a b c : C) (bytes_read more bytes_written later : List ℕ) → exchanged a bytes_read bytes_written b → exchanged b more later c → exchanged a (bytes_read ++ more) (bytes_written ++ later) c
 
 module _ {C : Type 0} (exchanged : C → List ℕ → List ℕ → C → Type 0) (turn : InTurn exchanged) where
   -- more goes out
-  pub told-on : (a b c : C) (came went text : List ℕ) → exchanged a came went b → exchanged b [] text c → exchanged a came (went ++ text) c
-  told-on a b c came went text first second = subst (λ l. exchanged a l (went ++ text) c) (append-nil came) (turn a b c came [] went text first second)
+  pub told-on : (a b c : C) (bytes_read bytes_written text : List ℕ) → exchanged a bytes_read bytes_written b → exchanged b [] text c → exchanged a bytes_read (bytes_written ++ text) c
+  told-on a b c bytes_read bytes_written text first second = subst (λ l. exchanged a l (bytes_written ++ text) c) (append-nil bytes_read) (turn a b c bytes_read [] bytes_written text first second)
 
   -- more comes in
-  pub heard-on : (a b c : C) (came more went : List ℕ) → exchanged a came went b → exchanged b more [] c → exchanged a (came ++ more) went c
-  heard-on a b c came more went first second = subst (λ l. exchanged a (came ++ more) l c) (append-nil went) (turn a b c came more went [] first second)
+  pub heard-on : (a b c : C) (bytes_read more bytes_written : List ℕ) → exchanged a bytes_read bytes_written b → exchanged b more [] c → exchanged a (bytes_read ++ more) bytes_written c
+  heard-on a b c bytes_read more bytes_written first second = subst (λ l. exchanged a (bytes_read ++ more) l c) (append-nil bytes_written) (turn a b c bytes_read more bytes_written [] first second)
 
   -- nothing more comes in
-  pub still : (a b c : C) (came went : List ℕ) → exchanged a came went b → exchanged b [] [] c → exchanged a came went c
-  still a b c came went first second = subst (λ l. exchanged a l went c) (append-nil came) (heard-on a b c came [] went first second)
+  pub still : (a b c : C) (bytes_read bytes_written : List ℕ) → exchanged a bytes_read bytes_written b → exchanged b [] [] c → exchanged a bytes_read bytes_written c
+  still a b c bytes_read bytes_written first second = subst (λ l. exchanged a l bytes_written c) (append-nil bytes_read) (heard-on a b c bytes_read [] bytes_written first second)
 
   -- a read that gave no byte
-  pub no-more : (a b c : C) (came bytes went : List ℕ) (count : ℕ) → exchanged a came went b → exchanged b (take count bytes) [] c → count ≡ 0 → exchanged a came went c
-  no-more a b c came bytes went count first second e =
+  pub no-more : (a b c : C) (bytes_read bytes bytes_written : List ℕ) (count : ℕ) → exchanged a bytes_read bytes_written b → exchanged b (take count bytes) [] c → count ≡ 0 → exchanged a bytes_read bytes_written c
+  no-more a b c bytes_read bytes bytes_written count first second e =
       let none : take count bytes ≡ [] = rw e refl in
-      still a b c came went first (subst (λ l. exchanged b l [] c) none second)
+      still a b c bytes_read bytes_written first (subst (λ l. exchanged b l [] c) none second)
 
   -- one more reply
   pub told-one : (a b c : C) (told : List Answer) (x : Answer) → exchanged a [] (reply_lines told) b → exchanged b [] (reply_line x) c → exchanged a [] (reply_lines (told ++ x ∷ [])) c
   told-one a b c told x first second = subst (λ l. exchanged a [] l c) (reply_lines-one told x) (turn a b c [] [] (reply_lines told) (reply_line x) first second)
 
   -- more replies
-  pub told-all : (a b c : C) (came : List ℕ) (told more : List Answer) → exchanged a came (reply_lines told) b → exchanged b [] (reply_lines more) c → exchanged a came (reply_lines (told ++ more)) c
-  told-all a b c came told more first second = subst (λ l. exchanged a came l c) (sym (reply_lines-append told more)) (told-on a b c came (reply_lines told) (reply_lines more) first second)
+  pub told-all : (a b c : C) (bytes_read : List ℕ) (told more : List Answer) → exchanged a bytes_read (reply_lines told) b → exchanged b [] (reply_lines more) c → exchanged a bytes_read (reply_lines (told ++ more)) c
+  told-all a b c bytes_read told more first second = subst (λ l. exchanged a bytes_read l c) (sym (reply_lines-append told more)) (told-on a b c bytes_read (reply_lines told) (reply_lines more) first second)
 
 module _ {D : Type 0} (answers : D → Request → Answer → D → Type 0) {C : Type 0} (exchanged : C → List ℕ → List ℕ → C → Type 0) (turn : InTurn exchanged) where
   -- the reply to the next line was not written whole
-  pub broken-at : (d f e : D) (a b c : C) (came : List ℕ) (lines done left : List Line) (line : Line) (told : List Answer) → AllGet answers d done told f → exchanged a came (reply_lines told) b → lines ≡ done ++ line ∷ left
-      → (x : Answer) × GetsAtLast answers f line x e × WritesPart exchanged b c (reply_line x) → (text : List ℕ) × exchanged a came text c × BreaksOff answers d lines text e
-  broken-at d f e a b c came lines done left line told h written same w =
-      (reply_lines told ++ w.2.0, told-on exchanged turn a b c came (reply_lines told) w.2.0 written w.2.1, (told, line, [], left, f, e, w.0, [], w.2.0, (done, same, h), w.1, refl, inl refl, w.2.2, refl))
+  pub broken-at : (d f e : D) (a b c : C) (bytes_read : List ℕ) (lines done left : List Line) (line : Line) (told : List Answer) → AllGet answers d done told f → exchanged a bytes_read (reply_lines told) b → lines ≡ done ++ line ∷ left
+      → (x : Answer) × GetsAtLast answers f line x e × WritesPart exchanged b c (reply_line x) → (text : List ℕ) × exchanged a bytes_read text c × BreaksOff answers d lines text e
+  broken-at d f e a b c bytes_read lines done left line told h written same w =
+      (reply_lines told ++ w.2.0, told-on exchanged turn a b c bytes_read (reply_lines told) w.2.0 written w.2.1, (told, line, [], left, f, e, w.0, [], w.2.0, (done, same, h), w.1, refl, inl refl, w.2.2, refl))
 
-  pub broken-line : (d f e : D) (a b c : C) (came : List ℕ) (lines done left : List Line) (line : Line) (told : List Answer) → AllGet answers d done told f → exchanged a came (reply_lines told) b → lines ≡ done ++ line ∷ left
-      → (x : Answer) × Gets answers f line x e × WritesPart exchanged b c (reply_line x) → (text : List ℕ) × exchanged a came text c × BreaksOff answers d lines text e
-  broken-line d f e a b c came lines done left line told h written same w = broken-at d f e a b c came lines done left line told h written same (w.0, inl w.1, w.2)
+  pub broken-line : (d f e : D) (a b c : C) (bytes_read : List ℕ) (lines done left : List Line) (line : Line) (told : List Answer) → AllGet answers d done told f → exchanged a bytes_read (reply_lines told) b → lines ≡ done ++ line ∷ left
+      → (x : Answer) × Gets answers f line x e × WritesPart exchanged b c (reply_line x) → (text : List ℕ) × exchanged a bytes_read text c × BreaksOff answers d lines text e
+  broken-line d f e a b c bytes_read lines done left line told h written same w = broken-at d f e a b c bytes_read lines done left line told h written same (w.0, inl w.1, w.2)
 
   -- the next line has closed the desk
-  pub closed-at : (d f e : D) (a b c : C) (came : List ℕ) (lines done : List Line) (line : Line) (behind : List ℕ) (told : List Answer) (closed : Bool) → closed ≡ true → AllGet answers d done told f → exchanged a came (reply_lines told) b
+  pub closed-at : (d f e : D) (a b c : C) (bytes_read : List ℕ) (lines done : List Line) (line : Line) (behind : List ℕ) (told : List Answer) (closed : Bool) → closed ≡ true → AllGet answers d done told f → exchanged a bytes_read (reply_lines told) b
       → lines ≡ done ++ line ∷ lines_on (Some []) behind
-      → (x : Answer) × (closed ≡ is_closed x) × Gets answers f line x e × exchanged b [] (reply_line x) c → (text : List ℕ) × exchanged a came text c × Closes answers d lines text e
-  closed-at d f e a b c came lines done line behind told closed is h written same w =
+      → (x : Answer) × (closed ≡ is_closed x) × Gets answers f line x e × exchanged b [] (reply_line x) c → (text : List ℕ) × exchanged a bytes_read text c × Closes answers d lines text e
+  closed-at d f e a b c bytes_read lines done line behind told closed is h written same w =
       let other = lines_on-some (Some []) behind in
       let k = closes-told w.0 (sym w.1 ∙ is) in (
         reply_lines told ++ reply_line Closed,
-        told-on exchanged turn a b c came (reply_lines told) (reply_line Closed) written (subst (λ x. exchanged b [] (reply_line x) c) k w.3),
+        told-on exchanged turn a b c bytes_read (reply_lines told) (reply_line Closed) written (subst (λ x. exchanged b [] (reply_line x) c) k w.3),
         (told, line, other.0, other.1, f, (done, same ∙ ap (λ l. done ++ line ∷ l) other.2, h), subst (λ x. Gets answers f line x e) k w.2, refl),
       )
 
   -- it has ended, but that could not be told
-  pub broken-end : (d e : D) (a b c : C) (came seen : List ℕ) (line : Line) (done : List Line) (told : List Answer) → IsWithin line → AllGet answers d done told e → exchanged a came (reply_lines told) b
-      → ((more : List ℕ) → lines_of (seen ++ more) ≡ done ++ lines_on line more) → WritesPart exchanged b c (reply_line (Faulted Unfinished)) → (text : List ℕ) × exchanged a came text c × BreaksOff answers d (lines_of seen) text e
-  broken-end d e a b c came seen line done told within h written lines part =
-      broken-at d e e a b c came (lines_of seen) done [] line told h written (last_line answers seen line done within lines) (Faulted Unfinished, inr (refl, refl), part)
+  pub broken-end : (d e : D) (a b c : C) (bytes_read seen : List ℕ) (line : Line) (done : List Line) (told : List Answer) → IsWithin line → AllGet answers d done told e → exchanged a bytes_read (reply_lines told) b
+      → ((more : List ℕ) → lines_of (seen ++ more) ≡ done ++ lines_on line more) → WritesPart exchanged b c (reply_line (Faulted Unfinished)) → (text : List ℕ) × exchanged a bytes_read text c × BreaksOff answers d (lines_of seen) text e
+  broken-end d e a b c bytes_read seen line done told within h written lines part =
+      broken-at d e e a b c bytes_read (lines_of seen) done [] line told h written (last_line answers seen line done within lines) (Faulted Unfinished, inr (refl, refl), part)
 
 -- ---- what is told of an answer, as a line
 

@@ -4,13 +4,13 @@ use Rattle.coord_admin.specs.declared.request.Request.{Request}
 use Rattle.coord_admin.specs.declared.answer.Answer.{Answer}
 use Rattle.coord_admin.specs.declared.fault.ServeFault.{ServeFault}
 use Rattle.coord_admin.specs.declared.session.Ended.{Ended}
-use Rattle.coord_admin.specs.declared.session.Ended.TheVariants.{Input, Closed}
+use Rattle.coord_admin.specs.declared.session.Ended.TheVariants.{Input, Closed, Cut}
 use Rattle.coord_admin.specs.Stream.{Served}
 
 -- what came in and what went out over a connection
 pub record Talk : Type 0 where
-  pub came : List ℕ
-  pub went : List ℕ
+  pub bytes_read : List ℕ
+  pub bytes_written : List ℕ
 
 -- a connection that was served: what was read from it and written to it, and how it ended
 pub record Connection : Type 0 where
@@ -25,11 +25,12 @@ talks cs = map (λ c. c.talk) cs
 abbrev pub has_closed : Result Ended ServeFault → Bool
 has_closed (Ok Closed) = true
 has_closed (Ok Input) = false
+has_closed (Ok Cut) = false
 has_closed (Err f) = false
 
 module _ {D : Type 0} (answers : D → Request → Answer → D → Type 0) where
   abbrev pub IsServed : D → Connection → D → Type 0
-  IsServed d c e = Served answers d c.talk.came c.talk.went c.ended e
+  IsServed d c e = Served answers d c.talk.bytes_read c.talk.bytes_written c.ended e
 
   -- connections one after the other, none of which closed the desk
   abbrev pub AllServed : D → List Connection → D → Type 0

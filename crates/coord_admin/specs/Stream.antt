@@ -115,6 +115,7 @@ module _ {D : Type 0} (answers : D → Request → Answer → D → Type 0) wher
   abbrev pub Served : D → List ℕ → List ℕ → Result Ended ServeFault → D → Type 0
   Served d seen text (Ok ended.Input) e = Finishes d (lines_of seen) text e
   Served d seen text (Ok ended.Closed) e = Closes d (lines_of seen) text e
+  Served d seen text (Ok ended.Cut) e = Stops d (lines_of seen) text e
   Served d seen text (Err serve.Read) e = Stops d (lines_of seen) text e
   Served d seen text (Err serve.Turns) e = Stops d (lines_of seen) text e × (2 ^ 20 ≤ length seen)
   Served d seen text (Err serve.Write) e = BreaksOff d (lines_of seen) text e

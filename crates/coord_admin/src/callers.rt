@@ -26,8 +26,7 @@ pub trait Callers {
     /// It was asked for the next client, and no client will come any more.
     ghost failed: { Self → Self → Type 0 } = { λ _ _. ⊤ };
 
-    /// It was told that this connection has ended, and whether that connection has closed the
-    /// server.
+    /// It was told that this connection has ended, and whether it was ended from here.
     ghost ended: { Self → Self.Line → Bool → Self → Type 0 } = { λ _ _ _ _. ⊤ };
 
     /// At which address they call.
@@ -39,13 +38,13 @@ pub trait Callers {
         ensures failed { OnErr result (failed self.old self.new) }
         ensures none_ended { met self.old [] self.new };
 
-    /// Ends a connection. If it has closed the server, its client is first given time to read the
-    /// answer.
-    fn end(&mut self, line: Self::Line, has_closed: bool)
-        ensures ended { ended self.old line has_closed self.new }
-        ensures met { (first : Self.Line) (came went : List ℕ) → begins first →
-            Self.Line.exchanged first came went line →
-            met self.old (record { came = came; went = went } ∷ []) self.new };
+    /// Ends a connection. If it was ended from here, by a close or a cut, its client is first given
+    /// time to read the last answer.
+    fn end(&mut self, line: Self::Line, ends_here: bool)
+        ensures ended { ended self.old line ends_here self.new }
+        ensures met { (first : Self.Line) (bytes_read bytes_written : List ℕ) → begins first →
+            Self.Line.exchanged first bytes_read bytes_written line →
+            met self.old (record { bytes_read = bytes_read; bytes_written = bytes_written } ∷ []) self.new };
 
     ghost at_rest: { (a : Self) → met a [] a };
 
@@ -118,9 +117,9 @@ impl<'a, S: Read + Write + OpenStream + Drop, L: OpenListener<Stream = S>, T: Cl
         Err(ErrorKind::TimedOut.into())
     }
 
-    fn end(&mut self, line: TimedStream<'a, S, T>, has_closed: bool) {
+    fn end(&mut self, line: TimedStream<'a, S, T>, ends_here: bool) {
         let mut line = line;
-        if has_closed {
+        if ends_here {
             line.discard();
         }
     }

@@ -1,40 +1,72 @@
 //! A server's connections, one after the other.
 
-ghost use Rattle.std.specs.Prelude.{◌≡◌, OnErr, OnOk};
+ghost use Rattle.std.specs.Prelude.{◌≡◌, ◌∷◌, [], List, ℕ, Ok, OnErr};
 ghost use Rattle.coord_admin.specs.Connections.{ServedOpen, ServedToClose, has_closed};
+ghost use Rattle.coord_admin.specs.LifeLimit.{HasKept, ends_here};
+ghost use Rattle.coord_admin.specs.declared.connections.Stop.TheVariants as StopAs;
 
 use crate::callers::Callers;
 use crate::desk::Desk;
 use crate::fault::ServeFault;
+use crate::life_limit::next_in_life;
 use crate::session::{Ended, serve};
 use std::alloc::Global;
 use std::io;
-use std::io::ErrorKind;
+use std::sync::Wait;
 
-/// Serves those who call, one after the other, until a line closes the desk.
+/// Why those who call are served no more.
+#[derive(Clone, Copy, Debug, PartialEq, Eq)]
+pub enum Stop {
+    /// A line has closed the desk.
+    Closed,
+    /// The life of the desk is old.
+    Old,
+}
+
+/// Serves those who call, one after the other, until a line closes the desk or its life is old: it
+/// keeps `most` steps then. A connection that is open at twice as many is cut, once its lines that
+/// have ended have their replies.
 ///
-/// What befalls a connection ends that one alone. An error is that no one comes any more, and then
-/// the desk was not closed.
-pub fn serve_connections<C: Callers, D: Desk>(
+/// What befalls a connection ends that one alone. An error is that those who call have failed: no one
+/// comes any more, and the desk was not closed.
+pub fn serve_connections<C: Callers, D: Desk, R: Wait>(
+    rt: &R,
     alloc: Global,
+    most: usize,
     callers: &mut C,
     desk: &mut D,
-) -> io::Result<()>
-    ensures closed { OnOk result (ServedToClose D.answers C.met callers.old desk.old callers.new
-        desk.new) }
-    ensures failed { OnErr result
+) -> io::Result<Stop>
+    ensures closed { result ≡ Ok StopAs.Closed → ServedToClose D.answers C.met callers.old desk.old
+        callers.new desk.new }
+    ensures old { result ≡ Ok StopAs.Old → ServedOpen D.answers C.met callers.old desk.old
+        callers.new desk.new × HasKept D.keeps desk.new most }
+    ensures failed { OnErr result ((last : C) × ServedOpen D.answers C.met callers.old desk.old last
+        desk.new × C.failed last callers.new) }
+    ensures open { OnErr result
         (ServedOpen D.answers C.met callers.old desk.old callers.new desk.new) }
 {
-    for _ in 0..u64::MAX {
-        let mut line = callers.next()?;
-        let ended = serve(alloc, &mut line, desk);
-        let closed = has_closed(ended);
-        callers.end(line, closed);
-        if closed {
-            return Ok(());
+    for _ in rt.forever() {
+        let mut line = match next_in_life(most, callers, desk)? {
+            Some(line) => line,
+            None => return Ok(Stop::Old),
+        };
+        let ended = serve(alloc, most, &mut line, desk);
+        end(callers, line, ended);
+        if has_closed(ended) {
+            return Ok(Stop::Closed);
         }
     }
-    Err(ErrorKind::TimedOut.into())
+    unreachable!()
+}
+
+/// Ends a connection that ended so for `serve`.
+fn end<C: Callers>(callers: &mut C, line: C::Line, ended: Result<Ended, ServeFault>)
+    ensures ended { C.ended callers.old line (ends_here ended) callers.new }
+    ensures met { (first : C.Line) (bytes_read bytes_written : List ℕ) → C.begins first →
+        C.Line.exchanged first bytes_read bytes_written line →
+        C.met callers.old (record { bytes_read = bytes_read; bytes_written = bytes_written } ∷ []) callers.new }
+{
+    callers.end(line, ends_here(ended));
 }
 
 /// Whether a line closed the desk.
@@ -42,4 +74,11 @@ fn has_closed(ended: Result<Ended, ServeFault>) -> bool
     ensures { result ≡ has_closed ended }
 {
     matches!(ended, Ok(Ended::Closed))
+}
+
+/// Whether a connection was closed or cut from here.
+fn ends_here(ended: Result<Ended, ServeFault>) -> bool
+    ensures { result ≡ ends_here ended }
+{
+    matches!(ended, Ok(Ended::Closed | Ended::Cut))
 }

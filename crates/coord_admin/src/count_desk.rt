@@ -51,6 +51,12 @@ impl Desk for CountDesk {
 
     ghost replies = { λ n posted reply m. (reply ≡ posted.reply) × (m ≡ n) };
 
+    ghost keeps = { λ n kept. kept ≡ n };
+
+    fn kept(&self) -> usize {
+        self.count as usize
+    }
+
     fn post(&mut self, _client: Client, _number: u64, _command: Command) -> Counted {
         if self.count == u64::MAX {
             return Counted {

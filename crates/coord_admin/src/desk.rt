@@ -1,6 +1,6 @@
 //! What stands behind the administration.
 
-ghost use Rattle.std.specs.Prelude.{Result};
+ghost use Rattle.std.specs.Prelude.{ℕ, Result};
 ghost use Rattle.coord_types.specs.declared.refusals.Refusal.{Refusal};
 ghost use Rattle.coord_types.specs.declared.steps.Reply.{Reply};
 ghost use Rattle.coord_admin.specs.declared.request.Request.{Request};
@@ -30,6 +30,13 @@ pub trait Desk {
 
     /// What it may reply to a posted order, and what it may then be.
     ghost replies: { Self → Self.Posted → Result Reply Refusal → Self → Type 0 };
+
+    /// How many steps it may keep.
+    ghost keeps: { Self → ℕ → Type 0 };
+
+    /// How many steps it keeps in memory. By these its life ends (`serve_connections`).
+    fn kept(&self) -> usize
+        ensures { keeps self.now result };
 
     /// Submits a client's order, and waits for nothing.
     fn post(&mut self, client: Client, number: u64, command: Command) -> Self::Posted

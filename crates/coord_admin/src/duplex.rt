@@ -48,6 +48,6 @@ pub trait Duplex {
 
     ghost at_rest: { (a : Self) → exchanged a [] [] a };
 
-    ghost in_turn: { (a b c : Self) (came more went later : List ℕ) → exchanged a came went b →
-        exchanged b more later c → exchanged a (came ++ more) (went ++ later) c };
+    ghost in_turn: { (a b c : Self) (bytes_read more bytes_written later : List ℕ) → exchanged a bytes_read bytes_written b →
+        exchanged b more later c → exchanged a (bytes_read ++ more) (bytes_written ++ later) c };
 }

@@ -17,9 +17,9 @@ pub struct Halves<R, W> {
 }
 
 impl<R: Read, W: Write> Duplex for Halves<R, W> {
-    ghost exchanged = { λ a came went b.
-        Consumes (R.remaining a.reader) (R.remaining b.reader) came ×
-        Appends (W.contents a.writer) (W.contents b.writer) went };
+    ghost exchanged = { λ a bytes_read bytes_written b.
+        Consumes (R.remaining a.reader) (R.remaining b.reader) bytes_read ×
+        Appends (W.contents a.writer) (W.contents b.writer) bytes_written };
 
     ghost has_ended = { λ a. IsAtEnd (R.remaining a.reader) };
 
@@ -36,9 +36,9 @@ impl<R: Read, W: Write> Duplex for Halves<R, W> {
 
     ghost at_rest = { λ a. (Consumes-nil _, Appends-nil _) };
 
-    ghost in_turn = { λ a b c came more went later first second. (
-      Consumes-trans _ _ _ came more first.0 second.0,
-      Appends-trans _ _ _ went later first.1 second.1,
+    ghost in_turn = { λ a b c bytes_read more bytes_written later first second. (
+      Consumes-trans _ _ _ bytes_read more first.0 second.0,
+      Appends-trans _ _ _ bytes_written later first.1 second.1,
     ) };
 }
 

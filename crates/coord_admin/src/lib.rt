@@ -4,8 +4,8 @@
 //! main theorem: each line that was read has its reply, in order, and nothing else is written.
 //! `specs/Requests.antt` says what a line asks for, `specs/Replies.antt` the replies, and
 //! `specs/Stream.antt` what `serve` writes to a whole text, over what its desk may answer.
-//! `serve_connections` does so for one connection after the other of those who call
-//! (`specs/Connections.antt`). `Halves` is a reader and a writer as one connection, `Accepted` the
+//! `serve_connections` does so for one connection after the other of those who call, until the life of
+//! the desk is old (`specs/Connections.antt`, `specs/LifeLimit.antt`). `Halves` is a reader and a writer as one connection, `Accepted` the
 //! connections of a listener, with bounds on how long a client is waited for. `CountDesk` is a desk
 //! that only counts.
 #![tactic(auto)]
@@ -21,6 +21,7 @@ mod duplex;
 mod fault;
 mod halves;
 mod laws;
+mod life_limit;
 mod op;
 mod patience;
 mod queue;
@@ -33,7 +34,7 @@ mod writing;
 
 pub use answer::Answer;
 pub use callers::{Accepted, Callers};
-pub use connections::serve_connections;
+pub use connections::{Stop, serve_connections};
 pub use count_desk::CountDesk;
 pub use desk::Desk;
 pub use duplex::{Duplex, NotRead, NotWritten};

@@ -1,20 +1,22 @@
 //! Lines read from a connection, each answered to it.
 
-ghost use Rattle.std.specs.Prelude.{◌≡◌, ◌++◌, ◌∷◌, ◌<◌, [], length, List, ℕ, Ok, OnOk, OnErr, IfOk, IfSome, IfNone, true, false, vec_len};
+ghost use Rattle.std.specs.Prelude.{◌≡◌, ◌*◌, ◌++◌, ◌∷◌, ◌<◌, [], length, List, ℕ, Ok, OnOk, OnErr, IfOk, IfSome, IfNone, true, false, vec_len};
 ghost use Rattle.std.specs.Option.{option_copied};
 ghost use Rattle.coord_lines.specs.Lines.{Line, lines_on, IsWithin};
 ghost use Rattle.coord_admin.specs.declared.answer.Answer.{Answer};
 ghost use Rattle.coord_admin.specs.declared.answer.Answer.TheVariants.{Closed, Faulted};
 ghost use Rattle.coord_admin.specs.declared.fault.LineFault.TheVariants.{Unfinished};
-ghost use Rattle.coord_admin.specs.declared.session.Ended.TheVariants.{Input};
+ghost use Rattle.coord_admin.specs.declared.session.Ended.TheVariants.{Cut, Input};
+ghost use Rattle.coord_admin.specs.LifeLimit.{HasKept};
 ghost use Rattle.coord_admin.specs.Replies.{reply_line, reply_lines};
 ghost use Rattle.coord_admin.specs.Stream.{last_answers, Gets, GoesOn, AllGet, Closes, BreaksOff, Served, WritesPart, has_begun};
 ghost use Rattle.coord_admin.specs.Together.{AwaitReplies, is_order};
 
 use crate::asking::answer_to;
 use crate::desk::Desk;
-use crate::duplex::{Duplex, NotRead, NotWritten};
+use crate::duplex::{Duplex, NotWritten};
 use crate::fault::{LineFault, ServeFault};
+use crate::life_limit::{Unread, receive_in_life};
 use crate::queue::Queue;
 use crate::reading::read_line;
 use crate::request::Request;
@@ -35,6 +37,8 @@ pub enum Ended {
     Input,
     /// A line has closed the desk. What stands behind it is not answered.
     Closed,
+    /// The life of the desk is over. Nothing more was read.
+    Cut,
 }
 
 /// Reads lines from a connection up to the end of its input or a line that closes the desk, and
@@ -44,6 +48,8 @@ pub enum Ended {
 /// their replies are written together once all are there. Any other line is answered behind those
 /// before it.
 ///
+/// It reads no more once the desk keeps twice `most` steps.
+///
 /// Each line that was read has its reply, in order, and nothing else is written; for want of memory
 /// a line may be told so in place of its answer. `OutOfMemory` comes before anything is read, `Turns`
 /// after `MOST_READS` reads, and `Read` and `Write` with a failed read and write. What the desk
@@ -51,6 +57,7 @@ pub enum Ended {
 /// reply to one was not written.
 pub fn serve<C: Duplex, D: Desk>(
     alloc: Global,
+    most: usize,
     connection: &mut C,
     desk: &mut D,
 ) -> Result<Ended, ServeFault>
@@ -58,9 +65,17 @@ pub fn serve<C: Duplex, D: Desk>(
         × C.exchanged connection.old seen text connection.new
         × Served D.answers desk.old seen text result desk.new }
     ensures end { result ≡ Ok Input → C.has_ended connection.new }
+    ensures cut { result ≡ Ok Cut → (d : D) × HasKept D.keeps d (2 * most) }
 {
     let (mut buffer, mut queue) = room(alloc)?;
-    let ended = serve_lines(alloc, buffer.as_mut_slice(), &mut queue, connection, desk);
+    let ended = serve_lines(
+        alloc,
+        most,
+        buffer.as_mut_slice(),
+        &mut queue,
+        connection,
+        desk,
+    );
     queue.destroy();
     ended
 }
@@ -78,6 +93,7 @@ fn room<D: Desk>(alloc: Global) -> Result<(Vec<u8>, Queue<D>), AllocError>
 /// Reads into a buffer, as often as `serve` may.
 fn serve_lines<C: Duplex, D: Desk>(
     alloc: Global,
+    most: usize,
     buffer: &mut [u8],
     queue: &mut Queue<D>,
     connection: &mut C,
@@ -89,12 +105,13 @@ fn serve_lines<C: Duplex, D: Desk>(
         × C.exchanged connection.old seen text connection.new
         × Served D.answers desk.old seen text result desk.new }
     ensures end { result ≡ Ok Input → C.has_ended connection.new }
+    ensures cut { result ≡ Ok Cut → (d : D) × HasKept D.keeps d (2 * most) }
     ensures queue { queue.new.posted.items ≡ [] }
 {
     let mut line = LineBuffer::new();
     for _ in 0..MOST_READS {
         queue.answer_before_wait(alloc, connection, desk)?;
-        match connection.receive(buffer, has_begun(&line)) {
+        match receive_in_life(most, connection, desk, buffer, has_begun(&line)) {
             Ok(0) => {
                 queue.answer_all(alloc, connection, desk)?;
                 finish(&line, connection)?;
@@ -105,9 +122,13 @@ fn serve_lines<C: Duplex, D: Desk>(
                     return Ok(Ended::Closed);
                 }
             }
-            Err(NotRead) => {
+            Err(Unread::Failed) => {
                 queue.answer_all(alloc, connection, desk)?;
                 return Err(ServeFault::Read);
+            }
+            Err(Unread::Over) => {
+                queue.answer_all(alloc, connection, desk)?;
+                return Ok(Ended::Cut);
             }
         }
     }

@@ -5,10 +5,9 @@ use Rattle.std.specs.Net.Grammar.{IsSocketV4Text}
 use Rattle.std.specs.declared.net.socket_addr.SocketAddrV4.{SocketAddrV4}
 use Rattle.coord_disk.specs.Model.Present.{Present}
 use Rattle.coord_drill.specs.Drilled.{WritesFirstPart}
+use Rattle.coord_engine.specs.declared.closed.Closed.{Closed}
 use Rattle.coord_server.specs.Lives.{HasLivedToClose}
-use Rattle.coord_store.specs.Kept.{Kept}
 use Rattle.coord_store.specs.Recovered.{Recovered}
-use Rattle.coord_types.specs.declared.steps.Step.{Step}
 use Rattle.coord_world.specs.protocol.NumberedWorld.{World}
 use Rattle.coord_commands.specs.Faults.{fault_line, fault_status}
 use Rattle.coord_commands.specs.Inspection.{IsOfOpening}
@@ -40,13 +39,10 @@ IsOfServingAt word bytes fault = IsAddress word × IsOfServing bytes fault
 -- A store on a disk was served until a line closed it: these bytes gave its world, from which there were lives one behind the other, of which a line closed the last, and the bytes that are put back give the world that they left.
 pub record IsServedToEnd {D : Type 0} (keeps_model : D → Bool) (present : D → Present) (bytes after : Option (List ℕ)) : Type 0 where
   pub began : World
-  pub store : Kept D
-  pub base : World
-  pub trail : List Step
-  pub settled : ℕ
+  pub left : Closed D
   pub opened : IfSome bytes (λ known. Recovered known began)
-  pub lived : HasLivedToClose keeps_model present began store base trail settled
-  pub closed : IfSome after (λ known. Recovered known store.world)
+  pub lived : HasLivedToClose keeps_model present began left
+  pub closed : IfSome after (λ known. Recovered known left.store.world)
 
 -- it was closed, and the disk put back
 pub record IsServed (word : List ℕ) (bytes after : Option (List ℕ)) (status : ℕ) (old new : Option (List ℕ)) : Type 0 where

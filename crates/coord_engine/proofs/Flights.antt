@@ -1,44 +1,30 @@
 -- Flights that go out and come back.
-use Rattle.std.proofs.Common.{◌≡◌, Bool, true, false, Option, Some, None, Result, Ok, Err, List, refl, sym, ap, ◌∙◌, subst, IsSomeAnd, is_some}
-use Rattle.std.proofs.lemmas.Bool.{false≢true}
+use Rattle.std.proofs.Common.{◌≡◌, Bool, true, false, Option, Some, None, Result, Ok, Err, List, length, refl, sym, ap, ◌∙◌, subst, IfOk, IsSomeAnd}
 use Rattle.coord_world.specs.protocol.Outputs.{outs}
 use Rattle.coord_ledger.specs.declared.mark.Mark.TheVariants.{New, Good}
 use Rattle.coord_ledger.specs.declared.release.Release.{Release}
-use Rattle.coord_ledger.specs.Facade.{FlightState, next_flight, releases_in, releases_of}
-use Rattle.coord_engine.specs.Facade.{Flushes, GuardedState, Leaves}
+use Rattle.coord_ledger.specs.Facade.{FlightState, keeps_store, next_flight, releases_in, releases_of, with_out}
+use Rattle.coord_engine.specs.Facade.{AnswersBegin, Basis, CanHold, Flushes, GuardedState, Leaves, with_ledger}
 
--- a flight went out, where the store can't have stayed
-pub goes : (b : Bool) → (b ≡ true → ⊥) → b ≡ false
-goes true not = absurd (not refl)
-goes false not = refl
+module _ {D E : Type 0} (b : Basis D) (g later : GuardedState D) (is : CanHold b g) where
+  -- what the value under the lock says of the next flight
+  abbrev Nothing : Result (Option (FlightState D)) E → Type 0
+  Nothing r = keeps_store g.ledger ≡ true → (r ≡ Ok None) × (later ≡ g)
 
--- and none went out where it can't have gone
-pub stays : (b : Bool) → (b ≡ false → ⊥) → b ≡ true
-stays true not = refl
-stays false not = absurd (not refl)
+  abbrev Begun : Result (Option (FlightState D)) E → Type 0
+  Begun r =
+      keeps_store g.ledger ≡ false
+      → IfOk r (λ begun. IsSomeAnd begun (λ flight. (flight ≡ next_flight g.ledger.log flight.disk) × (g.ledger.disk ≡ Some flight.disk) × (later ≡ with_ledger g (with_out g.ledger (length flight.steps)))))
 
-abbrev has_flight : {T E : Type 0} → Result (Option T) E → Bool
-has_flight (Ok o) = is_some o
-has_flight (Err e) = false
+  begun_by : (home : Bool) → keeps_store g.ledger ≡ home → (r : Result (Option (FlightState D)) E) → Nothing r → Begun r → AnswersBegin b r
+  begun_by true at r nothing begun = subst (AnswersBegin b) (sym (nothing at).0) (record { state = g; held = is; so = at })
+  begun_by false at (Ok (Some flight)) nothing begun = record { state = g; held = is; so = (at, (begun at).0) }
+  begun_by false at (Ok None) nothing begun = absurd (begun at)
+  begun_by false at (Err fault) nothing begun = record { state = g; held = is; so = at }
 
-abbrev is_answer : {T E : Type 0} → Result T E → Bool
-is_answer (Ok x) = true
-is_answer (Err e) = false
-
--- a refusal is no answer
-pub is_refused : {T E : Type 0} {e : E} {x : T} → ◌≡◌ {A = Result T E} (Err e) (Ok x) → ⊥
-is_refused same = false≢true (ap is_answer same)
-
-module _ {T : Type 0} (o : Option T) where
-  -- a flight isn't none
-  pub is_flight : {E : Type 0} {x : T} → o ≡ Some x → ◌≡◌ {A = Result (Option T) E} (Ok o) (Ok None) → ⊥
-  is_flight here gone = false≢true (sym (ap has_flight gone) ∙ ap is_some here)
-
-  pub of_flight : (Q : T → Type 0) {x : T} → o ≡ Some x → IsSomeAnd o Q → Q x
-  of_flight Q here is = subst (λ v. IsSomeAnd v Q) here is
-
-  pub of_none : (Q : T → Type 0) → o ≡ None → IsSomeAnd o Q → ⊥
-  of_none Q here is = subst (λ v. IsSomeAnd v Q) here is
+  -- is what is answered at that moment
+  pub begun_at : (r : Result (Option (FlightState D)) E) → Nothing r → Begun r → AnswersBegin b r
+  begun_at = begun_by (keeps_store g.ledger) refl
 
 module _ {D : Type 0} where
   -- a flight that was committed and taken back gives its releases

@@ -1,14 +1,9 @@
 -- One delivery more.
-use Rattle.std.proofs.Common.{◌≡◌, ℕ, zero, suc, List, [], ◌∷◌, ◌++◌, ◌+◌, ◌∙◌, Option, Some, None, drop, take, length, ◌<◌, refl, sym, ap, subst, arith, slice_get}
+use Rattle.std.proofs.Common.{◌≡◌, ℕ, zero, suc, Bool, List, [], ◌∷◌, ◌++◌, ◌+◌, ◌∙◌, Option, Some, None, drop, take, length, ◌<◌, refl, sym, ap, subst, arith, slice_get}
+use Rattle.coord_types.specs.declared.packets.Packet.{Packet}
 use Rattle.coord_ledger.specs.declared.release.Release.{Release}
-use Rattle.coord_engine.specs.Facade.{TakesAll, deliveries_of, delivery_of}
+use Rattle.coord_engine.specs.Facade.{AreAsked, IsAsked, deliveries_of, delivery_of}
 use Rattle.coord_engine.specs.declared.port.Delivery.{Delivery}
-
-module _ {S : Type 0} (takes : S → Delivery → S → Type 0) where
-  -- a last one is taken
-  pub takes_last : (s m t : S) (ds : List Delivery) (d : Delivery) → TakesAll takes s ds m → takes m d t → TakesAll takes s (ds ++ d ∷ []) t
-  takes_last s m t [] d is last = (t, subst (λ x. takes x d t) is last, refl)
-  takes_last s m t (e ∷ ds) d is last = (is.0, is.1, takes_last is.0 m t ds d is.2 last)
 
 abbrev some_is : {A : Type 0} → A → Option A → A
 some_is d None = d
@@ -21,7 +16,7 @@ next_at zero (x ∷ xs) r is = ap (λ y. delivery_of y.output ∷ []) (ap (some_
 next_at (suc k) (x ∷ xs) r is = ap (λ l. delivery_of x.output ∷ l) (next_at k xs r is)
 
 -- the next release is asked for behind those before it
-pub next_asked : (k : ℕ) (released : List Release) (r : Release) → slice_get (drop k released) 0 ≡ Some r → deliveries_of (take (k + 1) released) ≡ deliveries_of (take k released) ++ delivery_of r.output ∷ []
+next_asked : (k : ℕ) (released : List Release) (r : Release) → slice_get (drop k released) 0 ≡ Some r → deliveries_of (take (k + 1) released) ≡ deliveries_of (take k released) ++ delivery_of r.output ∷ []
 next_asked k released r is = let e : k + 1 ≡ suc k = omega arith in ap (λ n. deliveries_of (take n released)) e ∙ next_at k released r is
 
 -- and there is one as long as not all were handed over
@@ -31,10 +26,15 @@ one_left (suc k) [] is lt = omega (arith, lt)
 one_left zero (x ∷ xs) is lt = cc
 one_left (suc k) (x ∷ xs) is lt = one_left k xs is (omega (arith, lt))
 
-module _ {S : Type 0} (takes : S → Delivery → S → Type 0) where
+module _ {P : Type 0} (carried : P → ℕ → Packet → Bool → P → Type 0) (signalled : P → ℕ → ℕ → Bool → P → Type 0) where
+  asked_last : (s m t : P) (ds : List Delivery) (d : Delivery) → AreAsked carried signalled s ds m → IsAsked carried signalled m d t → AreAsked carried signalled s (ds ++ d ∷ []) t
+  asked_last s m t [] d is last = (t, subst (λ x. IsAsked carried signalled x d t) is last, refl)
+  asked_last s m t (e ∷ ds) d is last = (is.0, is.1, asked_last is.0 m t ds d is.2 last)
+
   -- one more is handed over
-  pub hands_next : (s m t u : S) (k : ℕ) (released left : List Release) (r : Release) (d : Delivery) → left ≡ drop k released → TakesAll takes s (deliveries_of (take k released)) m → slice_get left 0 ≡ Some r → d ≡ delivery_of r.output → takes m d u → t ≡ u → TakesAll takes s (deliveries_of (take (k + 1) released)) t
+  pub hands_next : (s m t u : P) (k : ℕ) (released left : List Release) (r : Release) (d : Delivery) → left ≡ drop k released → AreAsked carried signalled s (deliveries_of (take k released)) m
+      → slice_get left 0 ≡ Some r → d ≡ delivery_of r.output → IsAsked carried signalled m d u → t ≡ u → AreAsked carried signalled s (deliveries_of (take (k + 1) released)) t
   hands_next s m t u k released left r d at is next asked last same =
       let now : slice_get (drop k released) 0 ≡ Some r = ap (λ l. slice_get l 0) (sym at) ∙ next in
-      let all : TakesAll takes s (deliveries_of (take k released) ++ delivery_of r.output ∷ []) u = takes_last takes s m u (deliveries_of (take k released)) (delivery_of r.output) is (subst (λ x. takes m x u) asked last) in
-      subst (TakesAll takes s (deliveries_of (take (k + 1) released))) (sym same) (subst (λ ds. TakesAll takes s ds u) (sym (next_asked k released r now)) all)
+      let all : AreAsked carried signalled s (deliveries_of (take k released) ++ delivery_of r.output ∷ []) u = asked_last s m u (deliveries_of (take k released)) (delivery_of r.output) is (subst (λ x. IsAsked carried signalled m x u) asked last) in
+      subst (AreAsked carried signalled s (deliveries_of (take (k + 1) released))) (sym same) (subst (λ ds. AreAsked carried signalled s ds u) (sym (next_asked k released r now)) all)

@@ -1,10 +1,10 @@
 -- What is told of a flight.
-use Rattle.std.proofs.Common.{◌≡◌, ℕ, List, Option, Some, None, Result, Ok, Err, true, refl, sym, ap, subst, inl, inr, IfErr, IfNone, IfOk, IfSome, MatchResult}
+use Rattle.std.proofs.Common.{◌≡◌, ℕ, List, Option, Some, None, Result, Ok, Err, sym, ap, subst, inr, MatchResult}
 use Rattle.coord_store.specs.declared.faults.CommitFault.{CommitFault}
 use Rattle.coord_store.specs.declared.faults.CommitFault.TheVariants.{Again, Device, Full, OutOfMemory, Stopped}
 use Rattle.coord_ledger.specs.declared.mark.Mark.TheVariants.{New}
 use Rattle.coord_ledger.specs.declared.release.Release.{Release}
-use Rattle.coord_ledger.specs.Facade.{FlightState, keeps_store, releases_in}
+use Rattle.coord_ledger.specs.Facade.{FlightState, releases_in}
 use Rattle.coord_engine.specs.Facade.{AnswersFlush, AtSomeMoment, Basis, ComesBack, Commits, Flushes, Leaves, RefusesFlush}
 use Rattle.coord_engine.proofs.Flights.{flushed}
 
@@ -34,17 +34,3 @@ module _ {D : Type 0} (b : Basis D) (failures : D → ℕ) where
       → MatchResult committed (λ _. told ≡ Ok (Some released)) (λ fault. told ≡ Err fault) → AnswersFlush b failures told
   told_back left back released leaves committed tried is comes told same =
       answered committed released told same (flown left back released leaves is comes committed (tried (ap (λ (f : FlightState D). f.mark) leaves.so.1)))
-
-  -- the clauses of an answer, and the answer of its clauses
-  pub clauses : (told : Result (Option (List Release)) CommitFault) → AnswersFlush b failures told
-      → IfOk told (λ begun. IfSome begun (λ released. AtSomeMoment b (Flushes released))) × IfOk told (λ begun. IfNone begun (AtSomeMoment b (λ g. keeps_store g.ledger ≡ true))) × IfErr told (RefusesFlush b failures)
-  clauses (Ok None) is = (tt, is, tt)
-  clauses (Ok (Some released)) is = (is, tt, tt)
-  clauses (Err fault) is = (tt, tt, is)
-
-  pub answer : (told : Result (Option (List Release)) CommitFault)
-      → IfOk told (λ begun. IfSome begun (λ released. AtSomeMoment b (Flushes released))) → IfOk told (λ begun. IfNone begun (AtSomeMoment b (λ g. keeps_store g.ledger ≡ true))) → IfErr told (RefusesFlush b failures)
-      → AnswersFlush b failures told
-  answer (Ok None) flushed nothing refused = nothing
-  answer (Ok (Some released)) flushed nothing refused = flushed
-  answer (Err fault) flushed nothing refused = refused

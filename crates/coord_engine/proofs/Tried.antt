@@ -1,14 +1,31 @@
 -- Packets that wait, tried one after the other.
-use Rattle.std.proofs.Common.{◌≡◌, true, List, [], ◌∷◌, Option, Some, None, Result, refl, sym, ap, subst, inl, slice_get}
+use Rattle.std.proofs.Common.{◌≡◌, ◌+◌, true, false, Bool, List, [], ◌∷◌, Option, Some, None, Result, Ok, Err, drop, length, refl, sym, ap, arith, subst, inl, inr, slice_get, OnErr, OnOk}
 use Rattle.coord_types.specs.declared.packets.Packet.{Packet}
-use Rattle.coord_types.specs.declared.refusals.Refusal.{Refusal}
-use Rattle.coord_engine.specs.Facade.{BenchMoves, TriesAll, has_to_wait, step_of}
+use Rattle.coord_ledger.specs.declared.ticket.Note.{Note}
+use Rattle.coord_engine.specs.Facade.{Basis, Keeps, Tries, TriesAll}
+use Rattle.coord_engine.specs.Waiting.{with_packet}
 
 abbrev some_is : {A : Type 0} (d : A) → Option A → A
 some_is d None = d
 some_is d (Some x) = x
 
-module _ {S : Type 0} (b : BenchMoves S) where
-  pub tries_stuck : (s m : S) (waiting : List Packet) (p : Packet) (answer : Result (Unit {0}) Refusal) → slice_get waiting 0 ≡ Some p → b.submits s (step_of p) answer m → has_to_wait answer ≡ true → TriesAll b s waiting m waiting
-  tries_stuck s m [] p answer is submitted stays = cc
-  tries_stuck s m (q ∷ waiting) p answer is submitted stays = (m, answer, subst (λ x. b.submits s (step_of x) answer m) (sym (ap (some_is p) is)) submitted, inl (stays, refl, refl))
+pub drops_one : (waiting : List Packet) (p : Packet) → slice_get waiting 0 ≡ Some p → length (drop 1 waiting) + 1 ≡ length waiting
+drops_one [] p is = cc
+drops_one (q ∷ waiting) p is = omega arith
+
+module _ {D : Type 0} (b : Basis D) (notes next : List Note) where
+  -- the first still has to wait
+  pub tries_stuck : (waiting : List Packet) (p : Packet) (waits : Bool) → slice_get waiting 0 ≡ Some p → Tries b notes p waits next → waits ≡ true → TriesAll b notes waiting next waiting
+  tries_stuck [] p waits is tried stays = cc
+  tries_stuck (q ∷ waiting) p waits is tried stays = (next, waits, subst (λ x. Tries b notes x waits next) (sym (ap (some_is p) is)) tried, inl (stays, refl, refl))
+
+  -- or it is done with, and the others are tried
+  pub tries_on : (waiting : List Packet) (p : Packet) (waits : Bool) (later : List Note) (left : List Packet) → slice_get waiting 0 ≡ Some p → Tries b notes p waits next → waits ≡ false
+      → TriesAll b next (drop 1 waiting) later left → TriesAll b notes waiting later left
+  tries_on [] p waits later left is tried goes rest = cc
+  tries_on (q ∷ waiting) p waits later left is tried goes rest = (next, waits, subst (λ x. Tries b notes x waits next) (sym (ap (some_is p) is)) tried, inr (goes, rest))
+
+-- a packet was put behind the others, or nothing has changed
+pub keeps : (r : Result (Unit {0}) Packet) (waiting left : List Packet) (p : Packet) → OnOk r (left ≡ with_packet waiting p) → OnErr r (left ≡ waiting) → Keeps true waiting p left
+keeps (Ok done) waiting left p put unchanged = inl put
+keeps (Err back) waiting left p put unchanged = inr unchanged

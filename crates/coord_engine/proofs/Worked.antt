@@ -1,44 +1,31 @@
--- What a worker has noted in the end: nothing but the steps of packets.
-use Rattle.std.proofs.Common.{◌≡◌, ◌⊎◌, ℕ, zero, suc, Bool, true, false, List, [], ◌∷◌, Result, refl, ◌∙◌, inl, inr}
+-- What a worker did with one packet more, and what it has noted in the end: nothing but the steps of packets.
+use Rattle.std.proofs.Common.{◌≡◌, ◌⊎◌, Bool, true, false, List, [], ◌∷◌, ◌++◌, refl, subst, inl, inr}
 use Rattle.coord_types.specs.declared.packets.Packet.{Packet}
-use Rattle.coord_types.specs.declared.refusals.Refusal.{Refusal}
 use Rattle.coord_ledger.specs.declared.ticket.Note.{Note}
-use Rattle.coord_engine.specs.Benches.{HasWorked, Keeps, Round, Rounds, Submits, TriesAll, has_to_wait}
-use Rattle.coord_engine.specs.Port.{step_of}
-use Rattle.coord_engine.specs.State.{Basis}
-use Rattle.coord_engine.specs.Working.{AddsPackets, bench_moves}
+use Rattle.coord_engine.specs.Facade.{AddsPackets, Basis, Takes, Tries, TriesAll, Works, step_of}
 use Rattle.coord_engine.proofs.PacketNotes.{adds_more, adds_none, adds_packet}
 
 module _ {D : Type 0} (b : Basis D) where
-  after_one : (m : List Note) (p : Packet) (ps : List Packet) (t : List Note) (left : List Packet) (answer : Result (Unit {0}) Refusal)
-      → ((has_to_wait answer ≡ true) × (t ≡ m) × (left ≡ p ∷ ps)) ⊎ ((has_to_wait answer ≡ false) × TriesAll (bench_moves b) m ps t left)
-      → (TriesAll (bench_moves b) m ps t left → AddsPackets m t) → AddsPackets m t
-  after_one m p ps t left answer (inl is) more = adds_none m t is.1
-  after_one m p ps t left answer (inr is) more = more is.1
+  -- one more was taken, and then those that wait were tried
+  pub works_last : (notes next taken later : List Note) (waiting came rest kept left : List Packet) (p : Packet) → Works b notes waiting came next rest → Takes b next rest p taken kept → TriesAll b taken kept later left → Works b notes waiting (came ++ p ∷ []) later left
+  works_last notes next taken later waiting [] rest kept left p so takes tries =
+      (taken, kept, later, left, subst (λ w. Takes b notes w p taken kept) so.1 (subst (λ n. Takes b n rest p taken kept) so.0 takes), tries, (refl, refl))
+  works_last notes next taken later waiting (q ∷ came) rest kept left p so takes tries =
+      (so.0, so.1, so.2, so.3, so.4, so.5, works_last so.2 next taken later so.3 came rest kept left p so.6 takes tries)
 
-  tried_adds : (s : List Note) (waiting : List Packet) (t : List Note) (left : List Packet) → TriesAll (bench_moves b) s waiting t left → AddsPackets s t
-  tried_adds s [] t left is = adds_none s t is.0
-  tried_adds s (p ∷ ps) t left is = adds_more s is.0 t (adds_packet b p (step_of p) refl is.2.0 s is.0 is.2.1) (after_one is.0 p ps t left is.1 is.3 (λ more. tried_adds is.0 ps t left more))
+  tried_one : (notes later : List Note) (p : Packet) (waits : Bool) → Tries b notes p waits later → AddsPackets notes later
+  tried_one notes later p waits is = adds_packet b p (step_of p) refl is.answer notes later is.submits
 
-  kept_same : (waits : Bool) (s : List Note) (waiting : List Packet) (p : Packet) (t : List Note) (left : List Packet) → Keeps (bench_moves b) waits s waiting p t left → t ≡ s
-  kept_same true s waiting p t left (inl is) = is.0
-  kept_same true s waiting p t left (inr is) = is.0
-  kept_same false s waiting p t left is = is.0
+  after_one : (next later : List Note) (p : Packet) (ps left : List Packet) (waits : Bool) → ((waits ≡ true) × (later ≡ next) × (left ≡ p ∷ ps)) ⊎ ((waits ≡ false) × TriesAll b next ps later left)
+      → (TriesAll b next ps later left → AddsPackets next later) → AddsPackets next later
+  after_one next later p ps left waits (inl is) more = adds_none next later is.1
+  after_one next later p ps left waits (inr is) more = more is.1
 
-  submitted_adds : (s : List Note) (waiting : List Packet) (p : Packet) (t : List Note) (left : List Packet) → Submits (bench_moves b) s waiting p t left → AddsPackets s t
-  submitted_adds s waiting p t left is =
-      adds_more s is.submitted t (adds_packet b p (step_of p) refl is.submits.0 s is.submitted is.submits.1) (adds_none is.submitted t (is.puts_down ∙ kept_same (has_to_wait is.answer) is.submitted waiting p is.kept left is.keeps))
+  tried_adds : (notes later : List Note) (waiting left : List Packet) → TriesAll b notes waiting later left → AddsPackets notes later
+  tried_adds notes later [] left is = adds_none notes later is.0
+  tried_adds notes later (p ∷ ps) left is = adds_more notes is.0 later (tried_one notes is.0 p is.1 is.2) (after_one is.0 later p ps left is.1 is.3 (λ more. tried_adds is.0 later ps left more))
 
-  round_adds : (s : List Note) (waiting : List Packet) (t : List Note) (left : List Packet) → Round (bench_moves b) s waiting t left → AddsPackets s t
-  round_adds s waiting t left is =
-      adds_more s is.tried t (tried_adds s waiting is.tried is.rest is.tries)
-      (adds_more is.tried is.received t (adds_none is.tried is.received is.receives) (submitted_adds is.received is.rest is.packet t left is.submits))
-
-  rounds_adds : (n : ℕ) (s t : List Note) (left : List Packet) → Rounds (bench_moves b) n s t left → AddsPackets s t
-  rounds_adds zero s t left is = adds_none s t is.0
-  rounds_adds (suc n) s t left is = adds_more s is.0 t (rounds_adds n s is.0 is.1 is.2) (round_adds is.0 is.1 t left is.3)
-
-  pub worked_adds : (s t : List Note) → HasWorked (bench_moves b) s t → AddsPackets s t
-  worked_adds s t is =
-      adds_more s is.last t (rounds_adds is.count s is.last is.waiting is.rounds)
-      (adds_more is.last is.tried t (tried_adds is.last is.waiting is.tried is.rest is.tries) (adds_none is.tried t is.receives))
+  pub works_adds : (notes later : List Note) (waiting came left : List Packet) → Works b notes waiting came later left → AddsPackets notes later
+  works_adds notes later waiting [] left is = adds_none notes later is.0
+  works_adds notes later waiting (p ∷ came) left is =
+      adds_more notes is.0 later (tried_one notes is.0 p is.4.waits is.4.tries) (adds_more is.0 is.2 later (tried_adds is.0 is.2 is.1 is.3 is.5) (works_adds is.2 later is.3 came left is.6))

@@ -1,11 +1,9 @@
 -- The definitions in which the proofs and the crates above speak of this crate.
-pub use Rattle.coord_engine.specs.Benches.{BenchMoves, TriesAll, has_to_wait}
 pub use Rattle.coord_engine.specs.Calls.{AnswersStep, CollectsAs, LedgerAndNotes, RefusesTicket, engine_verdict, note_of}
 pub use Rattle.coord_engine.specs.Closing.{IsSince}
-pub use Rattle.coord_engine.specs.Flights.{AnswersFlush, ComesBack, Commits, RefusesFlush}
-pub use Rattle.coord_engine.specs.Handing.{TakesAll, deliveries_of}
+pub use Rattle.coord_engine.specs.Flights.{AnswersBegin, AnswersFlush, Begins, ComesBack, Commits, RefusesFlush}
 pub use Rattle.coord_engine.specs.Named.{AreNoted, IsNamed, all_notes, notes_of}
-pub use Rattle.coord_engine.specs.Port.{delivery_of, step_of}
+pub use Rattle.coord_engine.specs.Port.{AreAsked, IsAsked, deliveries_of, delivery_of, step_of}
 pub use Rattle.coord_engine.specs.State.{Basis, CanHold, GuardedState, based_on, with_ledger}
-pub use Rattle.coord_engine.specs.Threads.{AtSomeMoment, Closes, Flushes, Leaves, RefusesShow, SendsAgain, Shows}
-pub use Rattle.coord_engine.specs.Working.{AddsPackets, IsOfPacket, bench_moves, told_of}
+pub use Rattle.coord_engine.specs.Threads.{AnswersShow, AnswersTicket, AtSomeMoment, Closes, Flushes, Leaves, RefusesShow, SendsAgain, Shows}
+pub use Rattle.coord_engine.specs.Working.{AddsPackets, IsOfPacket, Keeps, Takes, Tries, TriesAll, Works, waits_after}

@@ -9,6 +9,16 @@ use Rattle.coord_ledger.specs.Facade.{FlightState, IsOut, keeps_store, taken_bac
 use Rattle.coord_engine.specs.State.{Basis, GuardedState, with_ledger}
 use Rattle.coord_engine.specs.Threads.{AtSomeMoment, Flushes, Leaves}
 
+-- the next flight left, or none was to
+abbrev pub Begins : {D : Type 0} → Basis D → Option (FlightState D) → Type 0
+Begins b (Some flight) = AtSomeMoment b (Leaves flight)
+Begins b None = AtSomeMoment b (λ g. keeps_store g.ledger ≡ true)
+
+-- what is answered where it is to leave; or there was no memory for it
+abbrev pub AnswersBegin : {D E : Type 0} → Basis D → Result (Option (FlightState D)) E → Type 0
+AnswersBegin b (Ok begun) = Begins b begun
+AnswersBegin b (Err fault) = AtSomeMoment b (λ g. keeps_store g.ledger ≡ false)
+
 -- this flight, which was out, was taken back by the ledger: once it is torn, the ledger has its steps in doubt
 abbrev pub ComesBack : {D : Type 0} → FlightState D → GuardedState D → Type 0
 ComesBack {D} flight g = (before : GuardedState D) × IsOut before.ledger flight × (g ≡ with_ledger before (taken_back before.ledger (length flight.steps) flight.mark flight.disk))

@@ -1,62 +1,40 @@
--- What a flusher does: it waits for a flight, has it flown and hands on what it releases, until none starts any more or one fails for good.
+-- What a flusher does: it flushes and hands on what each flight releases, until nothing will be flushed any more or a flight fails for good.
 use Rattle.std.specs.Prelude.{◌≡◌, ◌≢◌, ◌⊎◌, ℕ, zero, suc, Bool, true, false, List, Option, Some, None, Result, Ok, Err}
+use Rattle.coord_types.specs.declared.packets.Packet.{Packet}
 use Rattle.coord_store.specs.declared.faults.CommitFault.{CommitFault}
 use Rattle.coord_store.specs.declared.faults.CommitFault.TheVariants.{OutOfMemory}
 use Rattle.coord_ledger.specs.declared.release.Release.{Release}
-use Rattle.coord_engine.specs.Flights.{AnswersFlush}
-use Rattle.coord_engine.specs.Handing.{TakesAll, deliveries_of}
-use Rattle.coord_engine.specs.Pacing.{is_over}
+use Rattle.coord_engine.specs.Flights.{AnswersFlush, RefusesFlush}
+use Rattle.coord_engine.specs.Pacing.{is_idle, is_over}
+use Rattle.coord_engine.specs.Port.{AreAsked, deliveries_of}
 use Rattle.coord_engine.specs.State.{Basis}
 use Rattle.coord_engine.specs.Threads.{AtSomeMoment}
-use Rattle.coord_engine.specs.declared.port.Delivery.{Delivery}
+use Rattle.coord_engine.specs.declared.flushing.TheConstants.{CALLERS_PART, PATIENCE, REST}
 
--- how a deck goes from state to state: it waits whether a flight starts, has it flown, and rests where there was no memory
-pub record DeckMoves (S : Type 0) : Type 1 where
-  pub waits : S → Bool → S → Type 0
-  pub flushes : S → Result (Option (List Release)) CommitFault → S → Type 0
-  pub rests : S → S → Type 0
+-- how many milliseconds a flight waits for packets, which part of the last flight's time for callers, and how many milliseconds a flusher rests that found no memory (docs/DECISIONS.md)
+pub record TimesAreUsual : Type 0 where
+  pub packets : PATIENCE ≡ 5
+  pub callers : CALLERS_PART ≡ 16
+  pub rest : REST ≡ 1
 
-module _ {S : Type 0} (d : DeckMoves S) (takes : S → Delivery → S → Type 0) where
-  -- what follows such an answer before the next round: all that was released is handed on, each delivery once and in order; without memory it rests; any other fault is the end
-  abbrev pub Follows : S → Result (Option (List Release)) CommitFault → S → Type 0
-  Follows s (Ok None) t = t ≡ s
-  Follows s (Ok (Some released)) t = TakesAll takes s (deliveries_of released) t
-  Follows s (Err OutOfMemory) t = d.rests s t
-  Follows s (Err fault) t = ⊥
+-- the meaning of an engine, and of the port that it hands to
+module _ {D P : Type 0} (b : Basis D) (failures : D → ℕ) (carried : P → ℕ → Packet → Bool → P → Type 0) (signalled : P → ℕ → ℕ → Bool → P → Type 0) where
+  -- what follows a flush before the next one: all that was released is asked of the port, each delivery once and in order; where none left or there was no memory, nothing is; behind any other fault no flush follows
+  abbrev pub Follows : P → Result (Option (List Release)) CommitFault → P → Type 0
+  Follows port (Ok None) later = later ≡ port
+  Follows port (Ok (Some released)) later = AreAsked carried signalled port (deliveries_of released) later
+  Follows port (Err OutOfMemory) later = later ≡ port
+  Follows port (Err fault) later = ⊥
 
-  -- a flight started and was flown, or none left, and the flusher goes on
-  pub record Round (s t : S) : Type 0 where
-    pub waited : S
-    pub flushed : S
-    pub answer : Result (Option (List Release)) CommitFault
-    pub starts : d.waits s true waited
-    pub flies : d.flushes waited answer flushed
-    pub follows : Follows flushed answer t
+  -- so many flushes, each behind a moment at which something could be flushed, and followed so
+  abbrev pub Flushed : ℕ → P → P → Type 0
+  Flushed zero port later = later ≡ port
+  Flushed (suc n) port later =
+      (next : P) × Flushed n port next
+      × (AtSomeMoment b (λ g. is_idle g ≡ false) × ((answer : Result (Option (List Release)) CommitFault) × AnswersFlush b failures answer × Follows next answer later))
 
-  -- so many rounds
-  abbrev pub Rounds : ℕ → S → S → Type 0
-  Rounds zero s t = t ≡ s
-  Rounds (suc n) s t = (m : S) × Rounds n s m × Round m t
-
-  -- a flight has failed for another reason than memory
-  pub record Fails (s t : S) : Type 0 where
-    pub waited : S
-    pub fault : CommitFault
-    pub starts : d.waits s true waited
-    pub flies : d.flushes waited (Err fault) t
-    pub for_good : fault ≢ OutOfMemory
-
-  -- some rounds, and then no flight starts any more, or one fails for good
-  pub record HasFlushed (s t : S) : Type 0 where
-    pub count : ℕ
-    pub last : S
-    pub rounds : Rounds count s last
-    pub ended : d.waits last false t ⊎ Fails last t
-
--- how the deck of an engine goes on at a port, which stays the same: none starts any more only where nothing will be flushed any more, and each flush answers as an engine does
-abbrev pub deck_moves : {P D : Type 0} → Basis D → (D → ℕ) → DeckMoves P
-deck_moves b failures = record {
-  waits = λ port starts later. (later ≡ port) × (starts ≡ false → AtSomeMoment b (λ g. is_over g ≡ true));
-  flushes = λ port answer later. (later ≡ port) × AnswersFlush b failures answer;
-  rests = λ port later. later ≡ port;
-}
+  -- some flushes, and then nothing will be flushed any more, or one more has failed for good
+  abbrev pub HasFlushed : P → P → Type 0
+  HasFlushed port later =
+      (n : ℕ) × Flushed n port later
+      × (AtSomeMoment b (λ g. is_over g ≡ true) ⊎ ((fault : CommitFault) × (fault ≢ OutOfMemory) × RefusesFlush b failures fault))

@@ -1,9 +1,7 @@
-pub mod Benches
 pub mod Calls
 pub mod Closing
 pub mod Flights
 pub mod Flushing
-pub mod Handing
 pub mod Named
 pub mod WorkedNames
 pub mod Pacing

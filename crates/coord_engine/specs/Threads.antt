@@ -1,8 +1,9 @@
 -- What an engine's calls answer while other threads call too. Nothing is known of what a lock holds when it is taken but what its type keeps, so a call answers as the value under the lock does in some state that it can have.
-use Rattle.std.specs.Prelude.{◌≡◌, ℕ, ◌≤◌, ◌<◌, false, true, List, is_some, take, Result, Some}
+use Rattle.std.specs.Prelude.{◌≡◌, ℕ, ◌≤◌, ◌<◌, false, true, List, is_some, take, Result, Ok, Err, Some}
 use Rattle.coord_types.specs.declared.limits.TheConstants.{MAX_BATCH_STEPS}
 use Rattle.coord_types.specs.declared.refusals.Refusal.{Refusal}
 use Rattle.coord_types.specs.declared.refusals.Refusal.TheVariants.{Behind, OutOfMemory, Stopped}
+use Rattle.coord_types.specs.declared.steps.Reply.{Reply}
 use Rattle.coord_types.specs.declared.steps.Step.{Step}
 use Rattle.coord_store.specs.Kept.{Kept, has_stopped}
 use Rattle.coord_world.specs.Facade.{World, outs}
@@ -10,9 +11,10 @@ use Rattle.coord_ledger.specs.declared.release.Release.{Release}
 use Rattle.coord_ledger.specs.declared.ticket.Note.{Note}
 use Rattle.coord_ledger.specs.Facade.{Claim, FlightState, LedgerState, accepted_count, keeps_store, next_flight, pending, releases_of, resent, settled_count, settled_world}
 use Rattle.coord_view.specs.Shown.{Shown, shown}
-use Rattle.coord_engine.specs.Calls.{AnswersStep, engine_verdict}
+use Rattle.coord_engine.specs.Calls.{AnswersStep, CollectsAs, engine_verdict}
 use Rattle.coord_engine.specs.Closing.{MayClose}
 use Rattle.coord_engine.specs.State.{Basis, CanHold, GuardedState}
+use Rattle.coord_engine.specs.declared.collected.Collected.TheVariants.{Refused, Settled}
 
 -- so it is in some state that the value under the lock can have
 pub record AtSomeMoment {D : Type 0} (b : Basis D) (P : GuardedState D → Type 0) : Type 0 where
@@ -34,6 +36,16 @@ RefusesShow Stopped seen g = is_some g.ledger.log.doubt ≡ true
 RefusesShow (Behind settled) seen g = (settled ≡ settled_count g.ledger.log) × (settled < seen)
 RefusesShow OutOfMemory seen g = Unit {0}
 RefusesShow refusal seen g = ⊥
+
+-- what is answered to a caller that wants to see it: it is shown, or not and the caller has seen no more
+abbrev pub AnswersShow : {D : Type 0} → Basis D → Result Shown Refusal → ℕ → ℕ → Type 0
+AnswersShow {D} b (Ok view) seen later = AtSomeMoment b (Shows {D = D} view seen later)
+AnswersShow {D} b (Err refusal) seen later = AtSomeMoment b (RefusesShow {D = D} refusal seen) × (later ≡ seen)
+
+-- what is answered to a ticket that was waited for: its reply; or that there will be none, and the ticket comes back
+abbrev pub AnswersTicket : {D : Type 0} → Basis D → Claim → Result Reply (Refusal × Claim) → Type 0
+AnswersTicket {D} b claim (Ok reply) = AtSomeMoment {D = D} b (λ g. CollectsAs g.ledger claim (Settled reply))
+AnswersTicket {D} b claim (Err refused) = (refused.1 ≡ claim) × AtSomeMoment {D = D} b (λ g. CollectsAs g.ledger claim (Refused refused.0 claim))
 
 -- this flight went out
 abbrev pub Leaves : {D : Type 0} → FlightState D → GuardedState D → Type 0

@@ -1,13 +1,14 @@
--- What a worker notes in its share: nothing but the steps of packets.
-use Rattle.std.specs.Prelude.{◌≡◌, List, ◌++◌, All, Result, Ok, Err}
+-- How a worker works: what came, what was tried, what waits, and what it notes in its share.
+use Rattle.std.specs.Prelude.{◌≡◌, ◌⊎◌, Bool, true, false, List, [], ◌∷◌, ◌++◌, All, Result, Ok, Err}
 use Rattle.coord_types.specs.declared.packets.Packet.{Packet}
 use Rattle.coord_types.specs.declared.refusals.Refusal.{Refusal}
+use Rattle.coord_types.specs.declared.refusals.Refusal.TheVariants.{OutOfMemory, PendingFull}
 use Rattle.coord_ledger.specs.declared.ticket.Note.{Note}
 use Rattle.coord_ledger.specs.ledger.State.{Claim}
-use Rattle.coord_engine.specs.Benches.{BenchMoves}
 use Rattle.coord_engine.specs.Port.{step_of}
 use Rattle.coord_engine.specs.State.{Basis}
 use Rattle.coord_engine.specs.Threads.{AtSomeMoment, Submits}
+use Rattle.coord_engine.specs.Waiting.{with_packet}
 
 -- the note of a packet's step
 abbrev pub IsOfPacket : Note → Type 0
@@ -19,16 +20,45 @@ pub record AddsPackets (notes later : List Note) : Type 0 where
   pub are : later ≡ notes ++ added
   pub packets : All IsOfPacket added
 
--- what a worker is told of a step that it submitted: its ticket is forgotten
-abbrev pub told_of : Result Claim Refusal → Result (Unit {0}) Refusal
-told_of (Ok claim) = Ok tt
-told_of (Err refusal) = Err refusal
+-- a packet waits for another try where there was no room for its step
+abbrev pub has_to_wait : Refusal → Bool
+has_to_wait PendingFull = true
+has_to_wait OutOfMemory = true
+has_to_wait refusal = false
 
--- how the notes of a worker change at the bench of an engine: by the answers to the steps that it submits
-abbrev pub bench_moves : {D : Type 0} → Basis D → BenchMoves (List Note)
-bench_moves {D} b = record {
-  receives = λ notes _ later. later ≡ notes;
-  submits = λ notes step answer later. (given : Result Claim Refusal) × AtSomeMoment b (Submits {D = D} step given notes later) × (answer ≡ told_of given);
-  loses = λ notes _ later. later ≡ notes;
-  puts_down = λ notes later. later ≡ notes;
-}
+-- whether it waits after this answer
+abbrev pub waits_after : Result Claim Refusal → Bool
+waits_after (Ok claim) = false
+waits_after (Err refusal) = has_to_wait refusal
+
+-- those that wait once a packet was submitted: one that has to wait does so, or it is lost for want of memory to wait in; any other is done with
+abbrev pub Keeps : Bool → List Packet → Packet → List Packet → Type 0
+Keeps true waiting p left = (left ≡ with_packet waiting p) ⊎ (left ≡ waiting)
+Keeps false waiting p left = left ≡ waiting
+
+module _ {D : Type 0} (b : Basis D) where
+  -- a packet's step was submitted, and whether the packet has to wait
+  pub record Tries (notes : List Note) (p : Packet) (waits : Bool) (later : List Note) : Type 0 where
+    pub answer : Result Claim Refusal
+    pub submits : AtSomeMoment b (Submits {D = D} (step_of p) answer notes later)
+    pub follows : waits ≡ waits_after answer
+
+  -- those that wait were submitted in order, up to one that still has to wait
+  abbrev pub TriesAll : List Note → List Packet → List Note → List Packet → Type 0
+  TriesAll notes [] later left = (later ≡ notes) × (left ≡ [])
+  TriesAll notes (p ∷ ps) later left =
+      (next : List Note) × (waits : Bool) × Tries notes p waits next
+      × (((waits ≡ true) × (later ≡ next) × (left ≡ p ∷ ps)) ⊎ ((waits ≡ false) × TriesAll next ps later left))
+
+  -- a packet that came was submitted, and kept where it has to wait
+  pub record Takes (notes : List Note) (waiting : List Packet) (p : Packet) (later : List Note) (left : List Packet) : Type 0 where
+    pub waits : Bool
+    pub tries : Tries notes p waits later
+    pub keeps : Keeps waits waiting p left
+
+  -- these packets came, in order: each was taken, and then those that wait were tried before the next one came
+  abbrev pub Works : List Note → List Packet → List Packet → List Note → List Packet → Type 0
+  Works notes waiting [] later left = (later ≡ notes) × (left ≡ waiting)
+  Works notes waiting (p ∷ came) later left =
+      (taken : List Note) × (kept : List Packet) × (next : List Note) × (rest : List Packet)
+      × Takes notes waiting p taken kept × TriesAll taken kept next rest × Works next rest came later left

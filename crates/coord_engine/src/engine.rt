@@ -2,13 +2,11 @@
 
 ghost use Rattle.std.specs.Prelude.{◌≡◌, ◌<◌, [], false, true, length, Err, None, Ok, Some, IfErr, IfNone, IfOk, IfSome, MatchResult, OnErr};
 ghost use Rattle.coord_ledger.specs.declared.mark.Mark.TheVariants.{New};
-ghost use Rattle.coord_ledger.specs.ledger.Calls.{keeps_store, releases_in};
-ghost use Rattle.coord_ledger.specs.ledger.State.{IsCollectable, reply_of};
-ghost use Rattle.coord_engine.specs.Calls.{RefusesTicket};
+ghost use Rattle.coord_ledger.specs.ledger.Calls.{releases_in};
 ghost use Rattle.coord_engine.specs.Closing.{IsSince, RefusesClosing};
-ghost use Rattle.coord_engine.specs.Flights.{ComesBack, Commits, RefusesFlush};
+ghost use Rattle.coord_engine.specs.Flights.{AnswersBegin, AnswersFlush, ComesBack, Commits};
 ghost use Rattle.coord_engine.specs.State.{based_on, most_shares};
-ghost use Rattle.coord_engine.specs.Threads.{AtSomeMoment, Closes, Flushes, Leaves, RefusesShow, SendsAgain, Shows, Submits};
+ghost use Rattle.coord_engine.specs.Threads.{AnswersShow, AnswersTicket, AtSomeMoment, Closes, SendsAgain, Submits};
 
 use crate::{CloseFault, Closed, Collected, Guarded, Origin, Share};
 use coord_disk::Disk;
@@ -132,12 +130,7 @@ impl<D: Disk, L: Origin> Engine<D, L> {
     /// of another ledger, and `Stopped` one whose step will not be settled any more; both give it
     /// back.
     pub fn collect<R: Wait>(&self, rt: &R, ticket: Ticket) -> Result<Reply, (Refusal, Ticket)>
-        ensures settled { IfOk result (λ reply. (reply ≡ reply_of ticket) ×
-            AtSomeMoment (based_on D.keeps_model D.present L.base L.before) (λ g.
-            IsCollectable g.ledger.log ticket)) }
-        ensures refused { IfErr result (λ refused. (refused.1 ≡ ticket) ×
-            AtSomeMoment (based_on D.keeps_model D.present L.base L.before) (λ g.
-            RefusesTicket g.ledger ticket refused.0)) }
+        ensures { AnswersTicket (based_on D.keeps_model D.present L.base L.before) ticket result }
     {
         let mut waiting = ticket;
         let mut guarded = self.guarded.lock(rt);
@@ -155,13 +148,8 @@ impl<D: Disk, L: Origin> Engine<D, L> {
 
     /// Shows the settled world, of which the caller must not have seen more.
     pub fn show<R: Wait>(&self, rt: &R, seen: &mut Seen) -> Result<View, Refusal>
-        ensures shown { IfOk result (λ view.
-            AtSomeMoment (based_on D.keeps_model D.present L.base L.before)
-            (Shows {D = D} view seen.old seen.new)) }
-        ensures refused { IfErr result (λ refusal.
-            AtSomeMoment (based_on D.keeps_model D.present L.base L.before)
-            (RefusesShow {D = D} refusal seen.old)) }
-        ensures unseen { OnErr result (seen.new ≡ seen.old) }
+        ensures { AnswersShow (based_on D.keeps_model D.present L.base L.before) result seen.old
+            seen.new }
     {
         let guarded = self.guarded.lock(rt);
         guarded.keeps();
@@ -195,15 +183,7 @@ impl<D: Disk, L: Origin> Engine<D, L> {
     ///
     /// After `OutOfMemory` it may be tried again; after `Device` the ledger has stopped.
     pub fn flush_once<R: Wait>(&self, rt: &R) -> Result<Option<Releases>, CommitFault>
-        ensures flushed { IfOk result (λ begun.
-            IfSome begun (λ releases.
-            AtSomeMoment (based_on D.keeps_model D.present L.base L.before)
-            (Flushes {D = D} releases))) }
-        ensures nothing { IfOk result (λ begun.
-            IfNone begun (AtSomeMoment (based_on D.keeps_model D.present L.base L.before) (λ g.
-            keeps_store g.ledger ≡ true))) }
-        ensures refused { IfErr result
-            (RefusesFlush (based_on D.keeps_model D.present L.base L.before) D.failures) }
+        ensures { AnswersFlush (based_on D.keeps_model D.present L.base L.before) D.failures result }
     {
         let mut flight = match self.begin(rt) {
             Ok(Some(flight)) => flight,
@@ -224,24 +204,12 @@ impl<D: Disk, L: Origin> Engine<D, L> {
 
     /// Sends the next flight out.
     pub(crate) fn begin<R: Wait>(&self, rt: &R) -> Result<Option<Flight<D>>, AllocError>
-        ensures begun { IfOk result (λ begun.
-            IfSome begun (λ flight. AtSomeMoment (based_on D.keeps_model D.present L.base L.before)
-            (Leaves {D = D} flight))) }
-        ensures nothing { IfOk result (λ begun.
-            IfNone begun (AtSomeMoment (based_on D.keeps_model D.present L.base L.before) (λ g.
-            keeps_store g.ledger ≡ true))) }
-        ensures refused { OnErr result
-            (AtSomeMoment (based_on D.keeps_model D.present L.base L.before) (λ g.
-            keeps_store g.ledger ≡ false)) }
+        ensures { AnswersBegin (based_on D.keeps_model D.present L.base L.before) result }
     {
         let mut guarded = self.guarded.lock(rt);
         guarded.count_leaving();
         guarded.keeps();
-        match guarded.begin() {
-            Ok(Some(flight)) => Ok(Some(flight)),
-            Ok(None) => Ok(None),
-            Err(fault) => Err(fault),
-        }
+        guarded.begin()
     }
 
     /// Takes a flight back. Where it is refused, for memory, it is tried again.

@@ -1,22 +1,21 @@
 //! Flights as they are needed, and what they release handed to a port.
 
 ghost use Rattle.std.specs.Prelude.{◌≡◌, Bool, false, true, length};
-ghost use Rattle.coord_engine.specs.Flushing.{HasFlushed, deck_moves};
-ghost use Rattle.coord_engine.specs.Handing.{TakesAll, deliveries_of};
-ghost use Rattle.coord_engine.specs.Pacing.{is_over};
-ghost use Rattle.coord_engine.specs.Port.{IsHanded};
+ghost use Rattle.std.specs.Sync.Mutex.{mutex_guard_value};
+ghost use Rattle.coord_engine.specs.Flights.{AnswersFlush};
+ghost use Rattle.coord_engine.specs.Flushing.{HasFlushed};
+ghost use Rattle.coord_engine.specs.Pacing.{is_idle, is_over};
+ghost use Rattle.coord_engine.specs.Port.{IsAsked, AreAsked, deliveries_of};
 ghost use Rattle.coord_engine.specs.State.{based_on};
 ghost use Rattle.coord_engine.specs.Threads.{AtSomeMoment};
 
-use crate::handing::{Taker, hand_each};
 use crate::port::{Delivery, Port};
-use crate::{Engine, Origin};
+use crate::{Engine, Guarded, Origin};
 use coord_disk::Disk;
 use coord_ledger::Releases;
 use coord_store::CommitFault;
 use coord_types::{NodeId, Packet};
-use std::marker::Model;
-use std::sync::Wait;
+use std::sync::{MutexGuard, Wait};
 use std::time::{Clock, Duration, Instant};
 use std::{io, thread};
 
@@ -29,115 +28,6 @@ const CALLERS_PART: u32 = 16;
 
 /// How many milliseconds a flusher that found no memory waits before it tries again.
 const REST: u64 = 1;
-
-/// What a flusher works at. Its meaning is what it may be after each call.
-pub trait Deck: Taker {
-    ghost use Rattle.coord_engine.specs.Flushing.{DeckMoves};
-
-    /// What it may be after each call but `take`.
-    ghost moves: { DeckMoves Self };
-
-    /// Waits until a flight starts. False once none will start any more.
-    fn wait(&mut self) -> bool
-        ensures { moves.waits self.old result self.new };
-
-    /// Sends the next flight out, commits it and takes it back.
-    fn flush(&mut self) -> Result<Option<Releases>, CommitFault>
-        ensures { moves.flushes self.old result self.new };
-
-    /// Rests a little.
-    fn rest(&mut self)
-        ensures { moves.rests self.old self.new };
-}
-
-/// Flushes as long as flights start, and hands over what each releases. It ends after a fault of
-/// the device; where no memory is found it rests and goes on.
-pub fn flush_all<K: Deck, R: Wait>(rt: &R, deck: &mut K)
-    ensures { HasFlushed K.moves K.takes deck.old deck.new }
-{
-    for _ in rt.forever() {
-        if !deck.wait() {
-            return;
-        }
-        match deck.flush() {
-            Ok(None) => {}
-            Ok(Some(releases)) => {
-                hand_each(deck, releases);
-            }
-            Err(CommitFault::OutOfMemory) => deck.rest(),
-            Err(_) => return,
-        }
-    }
-}
-
-/// A deck over an engine and a port. Contracts see the port.
-#[derive(Drop)]
-struct EngineDeck<'a, D: Disk, L: Origin, P: Port, R: Wait> {
-    rt: &'a R,
-    engine: &'a Engine<D, L>,
-    port: &'a P,
-    /// How long the next flight waits for callers that the last one answered.
-    patience: Duration,
-}
-
-impl<'a, D: Disk, L: Origin, P: Port, R: Wait> EngineDeck<'a, D, L, P, R> {
-    /// No flight has flown.
-    fn new(rt: &'a R, engine: &'a Engine<D, L>, port: &'a P) -> Self
-        ensures { result ≡ port.now }
-    {
-        EngineDeck {
-            rt,
-            engine,
-            port,
-            patience: Duration::ZERO,
-        }
-    }
-}
-
-impl<'a, D: Disk, L: Origin, P: Port, R: Wait> Model for EngineDeck<'a, D, L, P, R> {
-    ghost Value = { P };
-
-    ghost view = { λ d. d.port.now };
-}
-
-impl<'a, D: Disk, L: Origin, P: Port, R: Wait> Taker for EngineDeck<'a, D, L, P, R> {
-    ghost use Rattle.coord_engine.specs.Port.{IsHanded};
-
-    ghost takes = { IsHanded P.carried P.signalled };
-
-    fn take(&mut self, delivery: Delivery) {
-        match delivery {
-            Delivery::Signal(node, epoch) => {
-                self.port.signal(node, epoch);
-            }
-            Delivery::Carry(to, packet) => {
-                self.engine.hand_packet(self.rt, self.port, to, packet);
-            }
-        }
-    }
-}
-
-impl<'a, D: Disk, L: Origin, P: Port, R: Wait + Clock> Deck for EngineDeck<'a, D, L, P, R> {
-    ghost use Rattle.coord_engine.specs.Flushing.{deck_moves};
-    ghost use Rattle.coord_engine.specs.State.{based_on};
-
-    ghost moves = { deck_moves (based_on D.keeps_model D.present L.base L.before) D.failures };
-
-    fn wait(&mut self) -> bool {
-        self.engine.waits_for_flight(self.rt, self.patience)
-    }
-
-    fn flush(&mut self) -> Result<Option<Releases>, CommitFault> {
-        let start = Instant::now(self.rt);
-        let told = self.engine.flush_once(self.rt);
-        self.patience = patience_since(self.rt, start);
-        told
-    }
-
-    fn rest(&mut self) {
-        thread::sleep(self.rt, Duration::from_millis(REST));
-    }
-}
 
 /// How long to wait for callers after a flight that left at `start`; not at all if no clock can be
 /// read.
@@ -154,8 +44,8 @@ fn patience_since<R: Clock>(rt: &R, start: io::Result<Instant>) -> Duration {
 impl<D: Disk, L: Origin> Engine<D, L> {
     /// Hands a packet to a port: it is in hand, unless the port says that it is lost. It is counted
     /// before the port has it, since its worker may be done with it first.
-    fn hand_packet<P: Port, R: Wait>(&self, rt: &R, port: &P, to: NodeId, packet: Packet)
-        ensures { (answer : Bool) × P.carried port.now to packet answer }
+    fn hand_packet<P: Port, R: Wait>(&self, rt: &R, port: &mut P, to: NodeId, packet: Packet)
+        ensures { (answer : Bool) × P.carried port.old to packet answer port.new }
     {
         self.guarded.lock(rt).raise_in_hand();
         if !port.carry(to, packet) {
@@ -174,17 +64,33 @@ impl<D: Disk, L: Origin> Engine<D, L> {
         }
     }
 
+    /// Takes the lock once something can be flushed, or nothing will be any more.
+    fn lock_for_flight<'g, R: Wait>(&'g self, rt: &R) -> MutexGuard<'g, Guarded<D, L>>
+        ensures { is_idle (mutex_guard_value result) ≡ false }
+    {
+        let mut guarded = self.guarded.lock(rt);
+        for _ in rt.forever() {
+            if !guarded.is_idle() {
+                return guarded;
+            }
+            guarded = self.work.wait(rt, guarded);
+        }
+        unreachable!()
+    }
+
     /// Waits until a flight can start. Then it waits for callers that may come again, as long as
     /// the last flight's time allows, and a little for packets that are in hand. False once no
     /// flight will start any more.
     fn waits_for_flight<R: Wait + Clock>(&self, rt: &R, for_callers: Duration) -> bool
-        ensures { result ≡ false →
+        ensures starts { result ≡ true →
+            AtSomeMoment (based_on D.keeps_model D.present L.base L.before) (λ g.
+            is_idle g ≡ false) }
+        ensures ends { result ≡ false →
             AtSomeMoment (based_on D.keeps_model D.present L.base L.before) (λ g.
             is_over g ≡ true) }
     {
-        let guarded = self
-            .work
-            .wait_while(rt, self.guarded.lock(rt), |guarded| guarded.is_idle());
+        let guarded = self.lock_for_flight(rt);
+        guarded.keeps();
         let (mut guarded, waited) = self
             .work
             .wait_timeout_while(rt, guarded, for_callers, |guarded| {
@@ -207,36 +113,86 @@ impl<D: Disk, L: Origin> Engine<D, L> {
     }
 }
 
-/// Hands all that was released to a port, in order and each delivery once (`hand_each`), and answers
-/// how much that was. What the port answers that it has lost is lost.
+/// Asks a port for a delivery.
+fn ask<D: Disk, L: Origin, P: Port, R: Wait>(
+    rt: &R,
+    engine: &Engine<D, L>,
+    port: &mut P,
+    delivery: Delivery,
+)
+    ensures { IsAsked P.carried P.signalled port.old delivery port.new }
+{
+    match delivery {
+        Delivery::Signal(node, epoch) => {
+            port.signal(node, epoch);
+        }
+        Delivery::Carry(to, packet) => engine.hand_packet(rt, port, to, packet),
+    }
+}
+
+/// Hands all that was released to a port, in order and each delivery once, and answers how much that
+/// was. What the port answers that it has lost is lost.
 pub fn hand_over<D: Disk, L: Origin, P: Port, R: Wait>(
     rt: &R,
     engine: &Engine<D, L>,
-    port: &P,
+    port: &mut P,
     releases: Releases,
 ) -> u64
     ensures count { result ≡ length releases }
-    ensures handed { (later : P) ×
-        TakesAll (IsHanded P.carried P.signalled) port.now (deliveries_of releases) later }
+    ensures handed { AreAsked P.carried P.signalled port.old (deliveries_of releases) port.new }
 {
-    hand_each(&mut EngineDeck::new(rt, engine, port), releases)
+    let mut left = releases;
+    let count = left.len();
+    for _handed in 0..count {
+        if let Some(release) = left.next() {
+            ask(rt, engine, port, Delivery::of(release.output));
+        }
+    }
+    left.lose_rest();
+    count
 }
 
-/// Flushes what is accepted, and hands what was released to the port (`flush_all`). Before a flight
-/// it waits for two things. Callers that the last flight answered may come again: where they are
-/// few, they have a sixteenth of that flight's time. Packets that it released may come back as
-/// steps: they have some milliseconds.
+/// Flushes, and notes how long the next flight waits for callers that this one answers.
+fn flush<D: Disk, L: Origin, R: Wait + Clock>(
+    rt: &R,
+    engine: &Engine<D, L>,
+    patience: &mut Duration,
+) -> Result<Option<Releases>, CommitFault>
+    ensures { AnswersFlush (based_on D.keeps_model D.present L.base L.before) D.failures result }
+{
+    let start = Instant::now(rt);
+    let flushed = engine.flush_once(rt);
+    *patience = patience_since(rt, start);
+    flushed
+}
+
+/// Flushes what is accepted as long as flights start, and hands what each released to the port.
+/// Before a flight it waits for two things. Callers that the last flight answered may come again:
+/// where they are few, they have a sixteenth of that flight's time. Packets that it released may come
+/// back as steps: they have some milliseconds.
 ///
 /// It ends after a fault of the device, and after `Engine::finish` once nothing is pending. Where it
-/// finds no memory it tries again.
+/// finds no memory it rests and tries again.
 pub fn flusher<D: Disk, L: Origin, P: Port, R: Wait + Clock>(
     rt: &R,
     engine: &Engine<D, L>,
-    port: &P,
+    port: &mut P,
 )
-    ensures { (later : P) × HasFlushed
-        (deck_moves (based_on D.keeps_model D.present L.base L.before) D.failures)
-        (IsHanded P.carried P.signalled) port.now later }
+    ensures { HasFlushed (based_on D.keeps_model D.present L.base L.before) D.failures
+        P.carried P.signalled port.old port.new }
 {
-    flush_all(rt, &mut EngineDeck::new(rt, engine, port));
+    let mut patience = Duration::ZERO;
+    for _ in rt.forever() {
+        if !engine.waits_for_flight(rt, patience) {
+            return;
+        }
+        match flush(rt, engine, &mut patience) {
+            Ok(None) => {}
+            Ok(Some(releases)) => {
+                hand_over(rt, engine, port, releases);
+            }
+            Err(CommitFault::OutOfMemory) => thread::sleep(rt, Duration::from_millis(REST)),
+            Err(_) => return,
+        }
+    }
 }

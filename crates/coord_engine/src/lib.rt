@@ -14,18 +14,17 @@
 //! contracts of the methods of `Guarded`, and that of `Engine::close`. No contract says that a
 //! thread runs, that a waiter wakes or that anyone is served.
 //!
-//! A [`flusher`] flushes what is accepted and hands what is released to a [`Port`]; a [`worker`]
-//! submits the packets that came for a node. `specs/Pacing.antt` says when a flight starts,
-//! `specs/Waiting.antt` what a worker keeps for another try.
+//! A [`flusher`] flushes what is accepted and hands what is released to a [`Port`], each delivery once
+//! and in order (`specs/Flushing.antt`); a [`worker`] submits the packets that come for a node
+//! (`specs/Working.antt`). `specs/Pacing.antt` says when a flight starts, `specs/Waiting.antt` what a
+//! worker keeps for another try.
 #![tactic(auto)]
 
-mod bench;
 mod closed;
 mod collected;
 mod engine;
 mod flushing;
 mod guarded;
-mod handing;
 pub mod named_rows;
 mod origin;
 mod packet_share;
@@ -35,13 +34,11 @@ mod share;
 mod waiting;
 mod working;
 
-pub use bench::{Bench, work};
 pub use closed::{CloseFault, Closed};
 pub use collected::Collected;
 pub use engine::Engine;
-pub use flushing::{Deck, flush_all, flusher, hand_over};
+pub use flushing::{flusher, hand_over};
 pub use guarded::Guarded;
-pub use handing::{Taker, hand_each};
 pub use origin::Origin;
 pub use packet_share::PacketShare;
 pub use port::{Delivery, Port, step_of};

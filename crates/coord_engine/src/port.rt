@@ -8,25 +8,26 @@ use coord_types::{NodeId, Output, Packet, Step};
 /// What carries released packets to the workers of nodes, and signals to their services. No promise
 /// rests on it: what it takes may be lost, come twice or come late, and it answers false where it
 /// knows that something is lost.
-/// `carried` and `signalled` are true of a port that was asked so and answered so. No port has to
-/// say more of them. To code that works at any port they show what was asked of it.
+///
+/// Its meaning is what it may be after each call. No port has to say more of that; to code that works
+/// at any port it shows what was asked, how often and in which order.
 pub trait Port {
     ghost use Rattle.std.specs.Prelude.{ℕ, Bool, ⊤};
     ghost use Rattle.coord_types.specs.declared.packets.Packet.{Packet as Asked};
 
-    /// It was asked to carry a packet to a node, and answered so.
-    ghost carried: { Self → ℕ → Asked → Bool → Type 0 } = { λ _ _ _ _. ⊤ };
+    /// What it may be once it was asked to carry a packet to a node, and answered so.
+    ghost carried: { Self → ℕ → Asked → Bool → Self → Type 0 } = { λ _ _ _ _ _. ⊤ };
 
-    /// It was asked to signal an epoch to a node, and answered so.
-    ghost signalled: { Self → ℕ → ℕ → Bool → Type 0 } = { λ _ _ _ _. ⊤ };
+    /// What it may be once it was asked to signal an epoch to a node, and answered so.
+    ghost signalled: { Self → ℕ → ℕ → Bool → Self → Type 0 } = { λ _ _ _ _ _. ⊤ };
 
     /// Carries a packet to this node.
-    fn carry(&self, to: NodeId, packet: Packet) -> bool
-        ensures { carried self.now to packet result };
+    fn carry(&mut self, to: NodeId, packet: Packet) -> bool
+        ensures { carried self.old to packet result self.new };
 
     /// Says to the service at this node that a reset has ended there, with the epoch that began.
-    fn signal(&self, node: NodeId, epoch: u64) -> bool
-        ensures { signalled self.now node epoch result };
+    fn signal(&mut self, node: NodeId, epoch: u64) -> bool
+        ensures { signalled self.old node epoch result self.new };
 }
 
 /// What is asked of a port for an output.

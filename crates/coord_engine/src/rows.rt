@@ -1,5 +1,7 @@
-//! Packets that wait, worked out: functions that do nothing, whose contracts say what waits.
+//! Packets that wait, worked out, and the times of a flusher: functions that do nothing, whose contracts
+//! say what waits, and how long.
 
+ghost use Rattle.coord_engine.specs.Flushing.{TimesAreUsual};
 ghost use Rattle.coord_engine.specs.WorkedPackets.{BothKinds, LaterInPlace};
 
 /// The later data of a lane takes the place of the earlier.
@@ -10,4 +12,9 @@ pub fn later_in_place()
 /// Data and a receipt of one lane both wait.
 pub fn both_kinds()
     ensures { BothKinds }
+{}
+
+/// How long a flusher waits.
+pub fn times_are_usual()
+    ensures { TimesAreUsual }
 {}

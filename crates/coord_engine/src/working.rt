@@ -1,91 +1,119 @@
 //! Packets that came, submitted as steps.
 
-ghost use Rattle.coord_engine.specs.Benches.{HasWorked};
+ghost use Rattle.std.specs.Prelude.{◌≡◌, [], List, true};
+ghost use Rattle.std.specs.Iterator.{Drains, IsFinite};
+ghost use Rattle.coord_types.specs.declared.packets.Packet.{Packet as Asked};
 ghost use Rattle.coord_engine.specs.State.{based_on};
-ghost use Rattle.coord_engine.specs.Working.{AddsPackets, bench_moves};
+ghost use Rattle.coord_engine.specs.Working.{AddsPackets, Keeps, Takes, Tries, TriesAll, Works, has_to_wait};
 
-use crate::bench::{Bench, work};
-use crate::{Engine, Origin, PacketShare, Share};
+use crate::port::step_of;
+use crate::{Engine, Origin, PacketShare, Share, Waiting};
 use coord_disk::Disk;
-use coord_types::{Packet, Refusal, Step};
+use coord_types::{Packet, Refusal};
 use crossbeam_channel::Receiver;
 use std::alloc::Global;
-use std::marker::Model;
 use std::sync::Wait;
 
-/// A bench over an engine, a channel and a share. Contracts see the share's notes.
-#[derive(Drop)]
-struct EngineBench<'a, D: Disk, L: Origin, R: Wait> {
-    rt: &'a R,
-    engine: &'a Engine<D, L>,
-    packets: Receiver<Packet>,
-    share: Share<L>,
+/// Whether a packet has to wait after this refusal, since there was no room for its step.
+fn has_to_wait(refusal: Refusal) -> bool
+    ensures { result ≡ has_to_wait refusal }
+{
+    matches!(refusal, Refusal::PendingFull | Refusal::OutOfMemory)
 }
 
-impl<'a, D: Disk, L: Origin, R: Wait> Model for EngineBench<'a, D, L, R> {
-    ghost use Rattle.std.specs.Prelude.{List};
-    ghost use Rattle.coord_ledger.specs.declared.ticket.Note.{Note};
-
-    ghost Value = { List Note };
-
-    ghost view = { λ b. b.share };
-}
-
-impl<'a, D: Disk, L: Origin, R: Wait> Bench for EngineBench<'a, D, L, R> {
-    ghost use Rattle.coord_engine.specs.State.{based_on};
-    ghost use Rattle.coord_engine.specs.Working.{bench_moves};
-
-    ghost moves = { bench_moves (based_on D.keeps_model D.present L.base L.before) };
-
-    fn receive(&mut self) -> Option<Packet> {
-        self.packets.recv(self.rt).ok()
-    }
-
-    fn submit(&mut self, step: Step) -> Result<(), Refusal> {
-        match self.engine.submit(self.rt, step, &mut self.share) {
-            Ok(ticket) => {
-                ticket.forget();
-                Ok(())
-            }
-            Err(refusal) => Err(refusal),
+/// Submits a packet's step, whose reply is forgotten. Whether the packet has to wait.
+fn submit<D: Disk, L: Origin, R: Wait>(
+    rt: &R,
+    engine: &Engine<D, L>,
+    packet: Packet,
+    share: &mut Share<L>,
+) -> bool
+    ensures { Tries (based_on D.keeps_model D.present L.base L.before) share.old packet result
+        share.new }
+{
+    match engine.submit(rt, step_of(packet), share) {
+        Ok(ticket) => {
+            ticket.forget();
+            false
         }
-    }
-
-    fn lose(&mut self, _packet: Packet) {}
-
-    fn put_down(&mut self) {
-        self.engine.put_down(self.rt);
+        Err(refusal) => has_to_wait(refusal),
     }
 }
 
-/// Submits the packets that its channel gives, and ends when that closes. Their replies are
+/// Submits the packets that wait, in order, up to the first that still has to wait.
+fn try_waiting<D: Disk, L: Origin, R: Wait>(
+    rt: &R,
+    engine: &Engine<D, L>,
+    share: &mut Share<L>,
+    waiting: &mut Waiting,
+)
+    ensures { TriesAll (based_on D.keeps_model D.present L.base L.before) share.old waiting.old
+        share.new waiting.new }
+{
+    for _tried in 0..waiting.len() {
+        let Some(packet) = waiting.first() else {
+            return;
+        };
+        if submit(rt, engine, packet, share) {
+            return;
+        }
+        waiting.drop_first();
+    }
+}
+
+/// Keeps a packet that has to wait. Without memory for that it is lost, and sent again later.
+fn keep(packet: &Packet, waiting: &mut Waiting)
+    ensures { Keeps true waiting.old packet.now waiting.new }
+{
+    let _ = waiting.put(*packet);
+}
+
+/// Submits a packet that came, keeps it where it has to wait, and puts it down.
+fn take<D: Disk, L: Origin, R: Wait>(
+    rt: &R,
+    engine: &Engine<D, L>,
+    packet: &Packet,
+    share: &mut Share<L>,
+    waiting: &mut Waiting,
+)
+    ensures { Takes (based_on D.keeps_model D.present L.base L.before) share.old waiting.old
+        packet.now share.new waiting.new }
+{
+    if submit(rt, engine, *packet, share) {
+        keep(packet, waiting);
+    }
+    engine.put_down(rt);
+}
+
+/// Submits the packets that come, in order, and ends behind the last one. Their replies are
 /// forgotten.
 ///
 /// Where no more steps may be pending, or no memory is found, it keeps the packet, and tries those
-/// kept again before it takes the next one (`work`). After any other refusal, and where there is no
-/// memory to keep it, it drops the packet: what was needed is sent again.
-pub fn worker<D: Disk, L: Origin, R: Wait>(
+/// kept again before it takes the next one. After any other refusal, and where there is no memory to
+/// keep it, it drops the packet: what was needed is sent again.
+pub fn worker<D: Disk, L: Origin, I: Iterator<Item = Packet>, R: Wait>(
     rt: &R,
     alloc: Global,
     engine: &Engine<D, L>,
-    packets: Receiver<Packet>,
+    packets: I,
     share: Share<L>,
 ) -> Share<L>
-    ensures worked { HasWorked
-        (bench_moves (based_on D.keeps_model D.present L.base L.before)) share result }
+    requires { I.can_next packets × IsFinite (I.remaining packets) }
+    ensures worked { (came : List Asked) × (left : List Asked) × Drains I.next_gives packets came ×
+        Works (based_on D.keeps_model D.present L.base L.before) share [] came result left }
     ensures packets { AddsPackets share result }
 {
-    let mut bench = EngineBench {
-        rt,
-        engine,
-        packets,
-        share,
-    };
-    work(rt, alloc, &mut bench);
-    bench.share
+    let mut share = share;
+    let mut waiting = Waiting::new(alloc);
+    for packet in packets {
+        take(rt, engine, &packet, &mut share, &mut waiting);
+        try_waiting(rt, engine, &mut share, &mut waiting);
+    }
+    share
 }
 
-/// A worker whose share says by its type that its notes are of packets, for a thread of its own.
+/// A worker over a channel whose share says by its type that its notes are of packets, for a thread
+/// of its own. It ends when the channel closes.
 pub fn packet_worker<D: Disk, L: Origin, R: Wait>(
     rt: &R,
     alloc: Global,
@@ -96,6 +124,6 @@ pub fn packet_worker<D: Disk, L: Origin, R: Wait>(
     ensures { AddsPackets share result }
 {
     PacketShare {
-        share: worker(rt, alloc, engine, packets, share.into_share()),
+        share: worker(rt, alloc, engine, packets.iter(rt), share.into_share()),
     }
 }

@@ -3,6 +3,7 @@ use Rattle.std.proofs.Common.{◌≡◌, ℕ, zero, suc, ◌+◌, List, [], ◌�
 use Rattle.std.proofs.lemmas.Bool.{false≢true}
 use Rattle.std.proofs.lemmas.List.Elements.{All-push}
 use Rattle.coord_engine.specs.Facade.{AtSomeMoment, Basis, Closes, IsNamed, IsOfPacket, IsSince, based_on}
+use Rattle.coord_engine.specs.declared.closed.Closed.{Closed}
 use Rattle.coord_types.specs.declared.steps.Step.{Step}
 use Rattle.coord_ledger.specs.declared.ticket.Note.{Note}
 use Rattle.coord_store.specs.Kept.{GivesKept, ImagesGive, Kept, has_stopped}
@@ -10,12 +11,16 @@ use Rattle.coord_store.specs.Recovered.{Recovered}
 use Rattle.coord_disk.specs.Model.Present.{IsImage, Present}
 use Rattle.coord_world.specs.protocol.NumberedWorld.{World}
 use Rattle.coord_admin.specs.Connections.{Talk}
-use Rattle.coord_server.specs.EngineDesk.{DeskState}
-use Rattle.coord_server.specs.Ending.{AddsWorkers, HasRun, IsLife, IsOneHistory, IsServedToClose, Serves, ServesLife, fault_at_end}
+use Rattle.coord_admin.specs.LifeLimit.{HasKept as KeepsSteps}
+use Rattle.coord_server.specs.EngineDesk.{DeskKeeps, DeskState}
+use Rattle.coord_server.specs.Ending.{AddsWorkers, HasKept, HasRun, IsLife, IsOfStart, IsOneHistory, IsServedToClose, Serves, ServesLife, fault_at_end, new_desk}
 use Rattle.coord_server.specs.Lives.{HasLived, HasLivedToClose, IsOver, Lives, Rests, life_steps, met_any}
 use Rattle.coord_server.specs.declared.fault.ServerFault.{ServerFault}
-use Rattle.coord_server.specs.declared.left.Left.{Left}
-use Rattle.coord_server.specs.declared.left.Left.TheVariants.{Resting, Ended}
+use Rattle.coord_server.specs.declared.fault.ServerFault.TheVariants as fault
+use Rattle.coord_server.specs.declared.life.Life.{Life}
+use Rattle.coord_server.specs.declared.life_end.LifeEnd.{LifeEnd}
+use Rattle.coord_server.specs.declared.life_end.LifeEnd.TheVariants.{Resting, Ended}
+use Rattle.coord_server.specs.declared.server_end.ServerEnd.{ServerEnd}
 
 pub adds_worker : (first all later : List (List Note)) (notes : List Note) → AddsWorkers first all → later ≡ all ++ notes ∷ [] → All IsOfPacket notes → AddsWorkers first later
 adds_worker first all later notes added pushed packets = (added.0 ++ notes ∷ [], pushed ∙ ap (λ l. l ++ notes ∷ []) added.1 ∙ append_assoc first added.0 (notes ∷ []), All-push (All IsOfPacket) added.0 notes added.2 packets)
@@ -27,99 +32,113 @@ named_of shares count before trail none named =
     let same : count + 0 ≡ count = omega arith in
     subst (λ n. IsNamed shares n trail) same at
 
-one_history : {D : Type 0} (b : Basis D) (own : List Note) (shares : List (List Note)) (store : Kept D) (base : World) (trail : List Step) (settled : ℕ) → b.before ≡ [] → AddsWorkers (own ∷ []) shares → IsSince b.base b.before shares base trail → AtSomeMoment b (Closes {D = D} store base trail settled shares) → IsOneHistory b own store base trail settled
-one_history {D} b own shares store base trail settled none added since closed =
-    let named : IsNamed shares b.base.count trail = named_of shares b.base.count b.before trail none since.named in
-    let here : IsNamed shares base.count trail = subst (λ (w : World). IsNamed shares w.count trail) (sym since.same_base) named in
-    record { workers = added.0; of_packets = added.2; same_base = since.same_base; named = subst (λ l. IsNamed l base.count trail) added.1 here; closed = subst (λ l. AtSomeMoment b (Closes {D = D} store base trail settled l)) added.1 closed }
+one_history : {D : Type 0} (b : Basis D) (own : List Note) (shares : List (List Note)) (left : Closed D) → b.before ≡ [] → AddsWorkers (own ∷ []) shares
+    → IsSince b.base b.before shares left.base left.trail.items → AtSomeMoment b (Closes {D = D} left.store left.base left.trail.items left.settled shares) → IsOneHistory b own left
+one_history {D} b own shares left none added since closed =
+    let named : IsNamed shares b.base.count left.trail.items = named_of shares b.base.count b.before left.trail.items none since.named in
+    let here : IsNamed shares left.base.count left.trail.items = subst (λ (w : World). IsNamed shares w.count left.trail.items) (sym since.same_base) named in
+    record {
+      workers = added.0;
+      of_packets = added.2;
+      same_base = since.same_base;
+      named = subst (λ l. IsNamed l left.base.count left.trail.items) added.1 here;
+      closed = subst (λ l. AtSomeMoment b (Closes {D = D} left.store left.base left.trail.items left.settled l)) added.1 closed;
+    }
 
-module _ {D : Type 0} (b : Basis D) {V : Type 0} (met : V → List Talk → V → Type 0) where
-  closed_if_none : (stopped : Bool) (served : Option ServerFault) (is_broken : Bool) (v w : V) (desk : DeskState) → fault_at_end stopped served is_broken ≡ None → Serves b met v w desk served → IsServedToClose b desk
+-- an engine of which a desk tells so many steps has kept them
+pub kept_most : {D : Type 0} (b : Basis D) (desk : DeskState) (most : ℕ) → KeepsSteps (DeskKeeps b) desk most → HasKept b most
+kept_most b desk most (kept, moment, enough) = record { state = moment.state; held = moment.held; so = omega (arith, moment.so, enough) }
+
+module _ {D : Type 0} (b : Basis D) {V : Type 0} (met : V → List Talk → V → Type 0) (failed : V → V → Type 0) (most : ℕ) where
+  closed_if_none : (stopped : Bool) (served : Option ServerFault) (is_broken : Bool) (v w : V) (desk : DeskState) → fault_at_end stopped served is_broken ≡ None → Serves b met failed most v w desk served → IsServedToClose b desk
   closed_if_none false None false v w desk none s = (s.0, s.1, s.2, tt, s.4, s.5, s.6)
   closed_if_none false None true v w desk none s = absurd cc
-  closed_if_none false (Some fault) is_broken v w desk none s = absurd cc
+  closed_if_none false (Some met_fault) is_broken v w desk none s = absurd cc
   closed_if_none true served is_broken v w desk none s = absurd cc
 
+  -- a fault that is met before anyone is served
+  pub serves_nobody : (v : V) (desk : DeskState) (met_fault : ServerFault) → IsOfStart met_fault → met v [] v → desk ≡ new_desk → ServesLife b met failed most v v desk (Ended (Some met_fault))
+  serves_nobody v desk fault.OutOfMemory start still new = (still, new)
+  serves_nobody v desk fault.Write start still new = (still, new)
+  serves_nobody v desk fault.Socket start still new = inl (still, new)
+  serves_nobody v desk fault.Device start still new = absurd start
+  serves_nobody v desk (fault.NotClosed why) start still new = absurd start
+
   -- the desk's notes, in the share that it gave back
-  pub serves_with : (most : ℕ) (v w u : V) (desk : DeskState) (left : Left) (notes : List Note) → ServesLife b met most v w desk left → notes ≡ desk.notes → u ≡ w → (seen : ℕ) × ServesLife b met most v u (record { notes = notes; seen = seen }) left
-  serves_with most v w u desk left notes s same same_w = (desk.seen, subst (λ x. ServesLife b met most v x (record { notes = notes; seen = desk.seen }) left) (sym same_w) (subst (λ n. ServesLife b met most v w (record { notes = n; seen = desk.seen }) left) (sym same) s))
+  pub serves_with : (v w : V) (desk : DeskState) (left : LifeEnd) (notes : List Note) → ServesLife b met failed most v w desk left → notes ≡ desk.notes → (seen : ℕ) × ServesLife b met failed most v w (record { notes = notes; seen = seen }) left
+  serves_with v w desk left notes s same = (desk.seen, subst (λ n. ServesLife b met failed most v w (record { notes = n; seen = desk.seen }) left) (sym same) s)
 
   -- the shares of the desk and of the workers, once all are back
-  pub has_run : (most : ℕ) (v w : V) (left : Left) (own : List Note) (shares : List (List Note)) → (seen : ℕ) × ServesLife b met most v w (record { notes = own; seen = seen }) left
-      → AddsWorkers (own ∷ []) shares → length shares ≡ 9 → HasRun b met most v w left shares
-  has_run most v w left own shares s added all = record { desk = record { notes = own; seen = s.0 }; served = s.1; added = added; all = all }
+  pub has_run : (v w : V) (left : LifeEnd) (own : List Note) (shares : List (List Note)) → (seen : ℕ) × ServesLife b met failed most v w (record { notes = own; seen = seen }) left
+      → AddsWorkers (own ∷ []) shares → length shares ≡ 9 → HasRun b met failed most v w left shares
+  has_run v w left own shares s added all = record { desk = record { notes = own; seen = s.0 }; served = s.1; added = added; all = all }
 
   -- one life: how the desk went on, and what is left of the engine, which was taken apart with all shares
-  pub lived : (most : ℕ) (v u w : V) (ran left : Left) (shares : List (List Note)) (store : Kept D) (base : World) (trail : List Step) (settled : ℕ) → b.before ≡ []
-      → HasRun b met most v u ran shares → IsSince b.base b.before shares base trail → AtSomeMoment b (Closes {D = D} store base trail settled shares)
-      → w ≡ u → left ≡ ran → IsLife b met most v w left store base trail settled
-  lived most v u w ran left shares store base trail settled none is since closed same_w same = record {
+  pub lived : (v u : V) (ran : LifeEnd) (shares : List (List Note)) (life : Life D V) → b.before ≡ [] → HasRun b met failed most v u ran shares
+      → IsSince b.base b.before shares life.closed.base life.closed.trail.items → AtSomeMoment b (Closes {D = D} life.closed.store life.closed.base life.closed.trail.items life.closed.settled shares)
+      → life.callers ≡ u → life.left ≡ ran → IsLife b met failed most v life
+  lived v u ran shares life none is since closed same_w same = record {
     desk = is.desk;
-    served = subst (λ (x : V). ServesLife b met most v x is.desk left) (sym same_w) (subst (λ (l : Left). ServesLife b met most v u is.desk l) (sym same) is.served);
-    history = one_history b is.desk.notes shares store base trail settled none is.added since closed;
+    served = subst (λ (x : V). ServesLife b met failed most v x is.desk life.left) (sym same_w) (subst (λ (l : LifeEnd). ServesLife b met failed most v u is.desk l) (sym same) is.served);
+    history = one_history b is.desk.notes shares life.closed none is.added since closed;
   }
+
+  -- a last life that ended so
+  served_so : (v w : V) (desk : DeskState) (served : Option ServerFault) → ServesLife b met failed most v w desk (Ended served) → Serves b met failed most v w desk served
+  served_so v w desk None s = s
+  served_so v w desk (Some fault.OutOfMemory) s = s
+  served_so v w desk (Some fault.Write) s = s
+  served_so v w desk (Some fault.Socket) s = s
+  served_so v w desk (Some fault.Device) s = absurd s
+  served_so v w desk (Some (fault.NotClosed why)) s = s
+
+  served_at_last : (v w : V) (desk : DeskState) (left : LifeEnd) (served : Option ServerFault) → ServesLife b met failed most v w desk left → IsOver left served → Serves b met failed most v w desk served
+  served_at_last v w desk Resting served s over = subst (Serves b met failed most v w desk) (sym over) s
+  served_at_last v w desk (Ended met_fault) served s over = subst (Serves b met failed most v w desk) (sym over) (served_so v w desk met_fault s)
 
 -- ---- lives
 
-module _ {D : Type 0} (keeps_model : D → Bool) (present : D → Present) {V : Type 0} (met : V → List Talk → V → Type 0) (most : ℕ) where
+module _ {D : Type 0} (keeps_model : D → Bool) (present : D → Present) {V : Type 0} (met : V → List Talk → V → Type 0) (failed : V → V → Type 0) (most : ℕ) where
   abbrev b : World → Basis D
   b world = based_on keeps_model present world []
 
-  -- a last life has this end
-  served_at_last : (world : World) (v w : V) (desk : DeskState) (left : Left) (served : Option ServerFault) → ServesLife (b world) met most v w desk left → IsOver left served → Serves (b world) met v w desk served
-  served_at_last world v w desk Resting served s over = subst (Serves (b world) met v w desk) (sym over) s.0
-  served_at_last world v w desk (Ended fault_at_end) served s over = subst (Serves (b world) met v w desk) (sym over) s
+  rests : (world : World) (v : V) (life : Life D V) → life.left ≡ Resting → IsLife (b world) met failed most v life → has_stopped life.closed.store ≡ false → life.closed.settled ≡ life.closed.base.count + length life.closed.trail.items
+      → Rests keeps_model present met most world v life.callers life.closed.store.world
+  rests world v life is so going all =
+      let rested = subst (ServesLife (b world) met failed most v life.callers so.desk) is so.served in
+      record { desk = so.desk; left = life.closed; served = rested.0; old = rested.1; history = so.history; all_settled = all; going = going; goes_on = refl }
 
-  rested : (world : World) (v w : V) (left : Left) (desk : DeskState) → left ≡ Resting → ServesLife (b world) met most v w desk left → ServesLife (b world) met most v w desk Resting
-  rested world v w left desk is = subst (ServesLife (b world) met most v w desk) is
-
-  rests : (world : World) (v w : V) (left : Left) (store : Kept D) (base : World) (trail : List Step) (settled : ℕ) → left ≡ Resting → IsLife (b world) met most v w left store base trail settled
-      → has_stopped store ≡ false → settled ≡ base.count + length trail → Rests keeps_model present met most world v w store.world
-  rests world v w left store base trail settled is life going all = record {
-    desk = life.desk;
-    store = store;
-    base = base;
-    trail = trail;
-    settled = settled;
-    served = (rested world v w left life.desk is life.served).0;
-    old = (rested world v w left life.desk is life.served).1;
-    history = life.history;
-    all_settled = all;
-    going = going;
-    goes_on = refl;
-  }
-
-  -- one more life has rested
-  pub lives_on : (began world : World) (v u w : V) (left : Left) (store : Kept D) (base : World) (trail : List Step) (settled : ℕ) → (n : ℕ) × Lives keeps_model present met most n began v world u → left ≡ Resting
-      → IsLife (b world) met most u w left store base trail settled
-      → has_stopped store ≡ false → settled ≡ base.count + length trail → (n : ℕ) × Lives keeps_model present met most n began v store.world w
-  lives_on began world v u w left store base trail settled lives is life going all = (suc lives.0, (world, u, lives.1, rests world u w left store base trail settled is life going all))
-
-  -- the same by other names: what the next life begins with
-  pub lives_next : (began world : World) (v u w others : V) (left : Left) (store next : Kept D) (base : World) (trail : List Step) (settled : ℕ) → (n : ℕ) × Lives keeps_model present met most n began v world u
-      → IsLife (b world) met most u w left store base trail settled
-      → left ≡ Resting → next ≡ store → others ≡ w → has_stopped store ≡ false → settled ≡ base.count + length trail
+  -- one more life has rested, and the next one begins with this
+  pub lives_next : (began world : World) (v u others : V) (life : Life D V) (next : Kept D) → (n : ℕ) × Lives keeps_model present met most n began v world u → IsLife (b world) met failed most u life
+      → life.left ≡ Resting → next ≡ life.closed.store → others ≡ life.callers → has_stopped life.closed.store ≡ false → life.closed.settled ≡ life.closed.base.count + length life.closed.trail.items
       → ((n : ℕ) × Lives keeps_model present met most n began v next.world others) × (has_stopped next ≡ false)
-  lives_next began world v u w others left store next base trail settled lives life is same same_w going all =
-      let on = lives_on began world v u w left store base trail settled lives is life going all in (
-        subst (λ x. (n : ℕ) × Lives keeps_model present met most n began v next.world x) (sym same_w) (subst (λ (k : Kept D). (n : ℕ) × Lives keeps_model present met most n began v k.world w) (sym same) on),
+  lives_next began world v u others life next lives so is same same_w going all =
+      let on : (n : ℕ) × Lives keeps_model present met most n began v life.closed.store.world life.callers = (suc lives.0, (world, u, lives.1, rests world u life is so going all)) in (
+        subst (λ x. (n : ℕ) × Lives keeps_model present met most n began v next.world x) (sym same_w) (subst (λ (k : Kept D). (n : ℕ) × Lives keeps_model present met most n began v k.world life.callers) (sym same) on),
         subst (λ (k : Kept D). has_stopped k ≡ false) (sym same) going,
       )
 
   -- and the last one has ended
-  pub lives_end : (began world : World) (v u w : V) (left : Left) (served : Option ServerFault) (store : Kept D) (base : World) (trail : List Step) (settled : ℕ) → (n : ℕ) × Lives keeps_model present met most n began v world u
-      → IsLife (b world) met most u w left store base trail settled
-      → IsOver left served → HasLived keeps_model present met most began v w served store base trail settled
-  lives_end began world v u w left served store base trail settled lives life over = (lives.0, world, u, lives.1, (life.desk, served_at_last world u w life.desk left served life.served over, life.history))
+  pub lives_end : (began world : World) (v u : V) (life : Life D V) (ended : ServerEnd D V) → (n : ℕ) × Lives keeps_model present met most n began v world u → IsLife (b world) met failed most u life
+      → IsOver life.left ended.served → ended.closed ≡ life.closed → ended.callers ≡ life.callers → HasLived keeps_model present met failed most began v ended
+  lives_end began world v u life ended lives so over same same_w = (
+    lives.0,
+    world,
+    u,
+    lives.1,
+    (
+      so.desk,
+      subst (λ w. Serves (b world) met failed most u w so.desk ended.served) (sym same_w) (served_at_last (b world) met failed most u life.callers so.desk life.left ended.served so.served over),
+      subst (IsOneHistory (b world) so.desk.notes) (sym same) so.history,
+    ),
+  )
 
+module _ {D : Type 0} (keeps_model : D → Bool) (present : D → Present) {V : Type 0} (met : V → List Talk → V → Type 0) (most : ℕ) where
   -- whoever called
   rested_any : (world next : World) (v w : V) → Rests keeps_model present met most world v w next → Rests keeps_model present met_any most world tt tt next
   rested_any world next v w r = record {
     desk = r.desk;
-    store = r.store;
-    base = r.base;
-    trail = r.trail;
-    settled = r.settled;
+    left = r.left;
     served = (r.served.0, tt, r.served.2);
     old = r.old;
     history = r.history;
@@ -133,10 +152,15 @@ module _ {D : Type 0} (keeps_model : D → Bool) (present : D → Present) {V : 
   lives_any (suc n) began next v w is = (is.0, tt, lives_any n began is.0 v is.1 is.2, rested_any is.0 next is.1 w is.3)
 
 -- of a server whose lives have the steps that its own have
-module _ {D : Type 0} (keeps_model : D → Bool) (present : D → Present) {V : Type 0} (met : V → List Talk → V → Type 0) where
-  pub closed_lives : (stopped : Bool) (served : Option ServerFault) (is_broken : Bool) (began : World) (v w : V) (store : Kept D) (base : World) (trail : List Step) (settled : ℕ) → fault_at_end stopped served is_broken ≡ None → HasLived keeps_model present met life_steps began v w served store base trail settled → HasLivedToClose keeps_model present began store base trail settled
-  closed_lives stopped served is_broken began v w store base trail settled none is =
-      (is.0, is.1, lives_any keeps_model present met life_steps is.0 began is.1 v is.2 is.3, (is.4.0, closed_if_none (based_on keeps_model present is.1 []) met stopped served is_broken is.2 w is.4.0 none is.4.1, is.4.2))
+pub closed_lives : {D : Type 0} (keeps_model : D → Bool) (present : D → Present) {V : Type 0} (met : V → List Talk → V → Type 0) (failed : V → V → Type 0) (began : World) (v : V) (ended : ServerEnd D V)
+    → fault_at_end (has_stopped ended.closed.store) ended.served ended.is_broken ≡ None → HasLived keeps_model present met failed life_steps began v ended → HasLivedToClose keeps_model present began ended.closed
+closed_lives keeps_model present met failed began v ended none is =
+    let b = based_on keeps_model present is.1 [] in (
+      is.0,
+      is.1,
+      lives_any keeps_model present met life_steps is.0 began is.1 v is.2 is.3,
+      (is.4.0, closed_if_none b met failed life_steps (has_stopped ended.closed.store) ended.served ended.is_broken is.2 ended.callers is.4.0 none is.4.1, is.4.2),
+    )
 
 -- a store that has not stopped: each image of its disk gives its world
 pub only_world : {D : Type 0} (present : D → Present) (store : Kept D) → has_stopped store ≡ false → ImagesGive present store → (image : List ℕ) → IsImage (present store.disk) image → Recovered image store.world

@@ -5,38 +5,38 @@ use Rattle.std.proofs.lemmas.Grind.{flat_map-append}
 use Rattle.std.specs.List.{range_with_len}
 use Rattle.coord_disk.specs.Model.Present.{Present}
 use Rattle.coord_types.specs.declared.steps.Step.{Step}
-use Rattle.coord_store.specs.Kept.{Kept}
 use Rattle.coord_world.specs.laws.Trails.{IsSound, IsTrail}
 use Rattle.coord_world.specs.Facade.{StepOutcome, World, fold, next, outputs, outs, reply}
 use Rattle.coord_world.proofs.Facade.{EachFresh, fold-append, fold_counts, trail_each_fresh, trail_of}
 use Rattle.coord_ledger.specs.declared.ticket.Note.{Note}
 use Rattle.coord_admin.specs.Connections.{Talk}
 use Rattle.coord_engine.specs.State.{Basis, based_on}
+use Rattle.coord_engine.specs.declared.closed.Closed.{Closed}
 use Rattle.coord_server.specs.Ending.{IsOneHistory}
-use Rattle.coord_server.specs.Lives.{AreOneHistory, ClosedLivesAreOne, EndsOneHistory, HasLived, LifeSteps, Lives, LivesAreOne, Rests, all_given, all_steps, life_steps, met_any, steps_of}
-use Rattle.coord_server.specs.declared.fault.ServerFault.{ServerFault}
+use Rattle.coord_server.specs.Lives.{AreOneHistory, ClosedLivesAreOne, EndsOneHistory, HasLived, LifeSteps, Lives, LivesAreOne, Rests, all_given, all_steps, life_steps, met_any, steps_in, steps_of}
+use Rattle.coord_server.specs.declared.server_end.ServerEnd.{ServerEnd}
 
 -- ---- one life
 
--- what a life that began with a world tells of its trail, and of the store that it left
-record Tells {D : Type 0} (world : World) (store : Kept D) (base : World) (trail : List Step) (settled : ℕ) : Type 0 where
-  from : base ≡ world
-  steps : IsTrail world trail
+-- what a life that began with a world and left this tells of its trail and its store
+record Tells {D : Type 0} (world : World) (left : Closed D) : Type 0 where
+  from : left.base ≡ world
+  steps : IsTrail world left.trail.items
   done : ℕ
-  within : done ≤ length trail
-  counted : settled ≡ world.count + done
-  kept : store.world ≡ fold world (take done trail)
+  within : done ≤ length left.trail.items
+  counted : left.settled ≡ world.count + done
+  kept : left.store.world ≡ fold world (take done left.trail.items)
 
 -- a history tells so: the log under the lock was consistent, and its settled world is the store's
-tells : {D : Type 0} (b : Basis D) (desk : List Note) (store : Kept D) (base : World) (trail : List Step) (settled : ℕ) → IsOneHistory b desk store base trail settled → Tells b.base store base trail settled
-tells {D} b desk store base trail settled history =
+tells : {D : Type 0} (b : Basis D) (desk : List Note) (left : Closed D) → IsOneHistory b desk left → Tells b.base left
+tells {D} b desk left history =
     let log = history.closed.state.ledger.log in
     let held = history.closed.held in
     let so = history.closed.so in
     let same : log.base ≡ b.base = held.grown.same_base in
     let here : IsTrail b.base log.trail = subst (λ (w : World). IsTrail w log.trail) same held.log.trail in
     let over : fold log.base (take log.settled log.trail) ≡ fold b.base (take log.settled log.trail) = ap (λ (w : World). fold w (take log.settled log.trail)) same in
-    let by : fold b.base (take log.settled log.trail) ≡ fold b.base (take log.settled trail) = ap (λ (l : List Step). fold b.base (take log.settled l)) (sym so.2) in
+    let by : fold b.base (take log.settled log.trail) ≡ fold b.base (take log.settled left.trail.items) = ap (λ (l : List Step). fold b.base (take log.settled l)) (sym so.2) in
     record {
       from = history.same_base;
       steps = subst (λ (l : List Step). IsTrail b.base l) (sym so.2) here;
@@ -47,11 +47,11 @@ tells {D} b desk store base trail settled history =
     }
 
 -- and a life of which all is settled leaves the world after its trail
-leaves_all : {D : Type 0} (world : World) (store : Kept D) (base : World) (trail : List Step) (settled : ℕ) → Tells world store base trail settled → settled ≡ base.count + length trail → store.world ≡ fold world trail
-leaves_all world store base trail settled t all =
-    let same : base.count ≡ world.count = ap (λ (w : World). w.count) t.from in
-    let whole : t.done ≡ length trail = omega (arith, t.counted, all, same) in
-    t.kept ∙ ap (λ n. fold world (take n trail)) whole ∙ ap (fold world) (take-length trail)
+leaves_all : {D : Type 0} (world : World) (left : Closed D) → Tells world left → left.settled ≡ left.base.count + length left.trail.items → left.store.world ≡ fold world left.trail.items
+leaves_all world left t all =
+    let same : left.base.count ≡ world.count = ap (λ (w : World). w.count) t.from in
+    let whole : t.done ≡ length left.trail.items = omega (arith, t.counted, all, same) in
+    t.kept ∙ ap (λ n. fold world (take n left.trail.items)) whole ∙ ap (fold world) (take-length left.trail.items)
 
 -- ---- lives one behind the other
 
@@ -117,17 +117,18 @@ numbers (s ∷ ss) w = ap (λ l. (w.count + 1) ∷ l) (numbers ss (next w s))
 -- ---- all lives
 
 -- lives, and the last one, are one history
-one_history : {D : Type 0} (began world : World) (ls : List LifeSteps) (store : Kept D) (base : World) (trail : List Step) (settled : ℕ) → GoOn began ls world → Tells world store base trail settled → AreOneHistory began (ls ++ record { base = base; trail = trail } ∷ []) store settled
-one_history {D} began world ls store base trail settled here t =
-    let last : LifeSteps = record { base = base; trail = trail } in
+one_history : {D : Type 0} (began world : World) (ls : List LifeSteps) (left : Closed D) → GoOn began ls world → Tells world left → AreOneHistory began (ls ++ steps_in left ∷ []) left.store left.settled
+one_history {D} began world ls left here t =
+    let trail = left.trail.items in
+    let last : LifeSteps = steps_in left in
     let lives : List LifeSteps = ls ++ last ∷ [] in
     let on : GoOn began lives (fold world trail) = goes_on ls began world (fold world trail) last here t.from t.steps refl in
     let steps : all_steps lives ≡ all_steps ls ++ trail = flat_map-append (λ (l : LifeSteps). l.trail) ls (last ∷ []) ∙ ap (λ (s : List Step). all_steps ls ++ s) (append-nil trail) in
     let there : world ≡ fold began (all_steps ls) = end_of ls began world here in
     let count : world.count ≡ began.count + length (all_steps ls) = ap (λ (w : World). w.count) there ∙ fold_counts began (all_steps ls) in
     let long : length (all_steps lives) ≡ length (all_steps ls) + length trail = ap length steps ∙ length-append (all_steps ls) trail in
-    let by : settled - began.count ≡ length (all_steps ls) + t.done = omega (arith, t.counted, count) in
-    let first : take (settled - began.count) (all_steps lives) ≡ all_steps ls ++ take t.done trail = ap (λ n. take n (all_steps lives)) by ∙ ap (take (length (all_steps ls) + t.done)) steps ∙ take-append-add (all_steps ls) trail t.done in
+    let by : left.settled - began.count ≡ length (all_steps ls) + t.done = omega (arith, t.counted, count) in
+    let first : take (left.settled - began.count) (all_steps lives) ≡ all_steps ls ++ take t.done trail = ap (λ n. take n (all_steps lives)) by ∙ ap (take (length (all_steps ls) + t.done)) steps ∙ take-append-add (all_steps ls) trail t.done in
     let whole : fold world (take t.done trail) ≡ fold began (all_steps ls ++ take t.done trail) = ap (λ (w : World). fold w (take t.done trail)) there ∙ sym (fold-append (all_steps ls) (take t.done trail) began) in
     record {
       trail = trail_of (all_steps lives) began (sound_first ls last began (fold world trail) on) (all_fresh lives began (fold world trail) on);
@@ -141,23 +142,24 @@ one_history {D} began world ls store base trail settled here t =
 
 module _ {D : Type 0} (keeps_model : D → Bool) (present : D → Present) {V : Type 0} (met : V → List Talk → V → Type 0) (most : ℕ) where
   -- a life that rests goes on to the next one
-  rest_goes_on : (began world next : World) (ls : List LifeSteps) (v w : V) (r : Rests keeps_model present met most world v w next) → GoOn began ls world → GoOn began (ls ++ record { base = r.base; trail = r.trail } ∷ []) next
+  rest_goes_on : (began world next : World) (ls : List LifeSteps) (v w : V) (r : Rests keeps_model present met most world v w next) → GoOn began ls world → GoOn began (ls ++ steps_in r.left ∷ []) next
   rest_goes_on began world next ls v w r here =
-      let t = tells (based_on keeps_model present world []) r.desk.notes r.store r.base r.trail r.settled r.history in
-      goes_on ls began world next (record { base = r.base; trail = r.trail }) here t.from t.steps (r.goes_on ∙ leaves_all world r.store r.base r.trail r.settled t r.all_settled)
+      let t = tells (based_on keeps_model present world []) r.desk.notes r.left r.history in
+      goes_on ls began world next (steps_in r.left) here t.from t.steps (r.goes_on ∙ leaves_all world r.left t r.all_settled)
 
   lives_go_on : (n : ℕ) (began next : World) (v w : V) (lives : Lives keeps_model present met most n began v next w) → GoOn began (steps_of keeps_model present met most n began v next w lives) next
   lives_go_on zero began next v w lives = lives.0
   lives_go_on (suc n) began next v w lives = rest_goes_on began lives.0 next (steps_of keeps_model present met most n began v lives.0 lives.1 lives.2) lives.1 w lives.3 (lives_go_on n began lives.0 v lives.1 lives.2)
 
-  pub lives_are_one : LivesAreOne keeps_model present met most
-  lives_are_one began v w served store base trail settled lived =
-      one_history began lived.1 (steps_of keeps_model present met most lived.0 began v lived.1 lived.2 lived.3) store base trail settled (lives_go_on lived.0 began lived.1 v lived.2 lived.3) (tells (based_on keeps_model present lived.1 []) lived.4.0.notes store base trail settled lived.4.2)
+module _ {D : Type 0} (keeps_model : D → Bool) (present : D → Present) {V : Type 0} (met : V → List Talk → V → Type 0) (failed : V → V → Type 0) (most : ℕ) where
+  pub lives_are_one : LivesAreOne keeps_model present met failed most
+  lives_are_one began v ended lived =
+      one_history began lived.1 (steps_of keeps_model present met most lived.0 began v lived.1 lived.2 lived.3) ended.closed (lives_go_on keeps_model present met most lived.0 began lived.1 v lived.2 lived.3) (tells (based_on keeps_model present lived.1 []) lived.4.0.notes ended.closed lived.4.2)
 
   -- so is what they leave
-  pub ends : (began : World) (v w : V) (served : Option ServerFault) (store : Kept D) (base : World) (trail : List Step) (settled : ℕ) → HasLived keeps_model present met most began v w served store base trail settled → EndsOneHistory began store base trail settled
-  ends began v w served store base trail settled lived = (steps_of keeps_model present met most lived.0 began v lived.1 lived.2 lived.3, lives_are_one began v w served store base trail settled lived)
+  pub ends : (began : World) (v : V) (ended : ServerEnd D V) → HasLived keeps_model present met failed most began v ended → EndsOneHistory began ended.closed
+  ends began v ended lived = (steps_of keeps_model present met most lived.0 began v lived.1 lived.2 lived.3, lives_are_one began v ended lived)
 
 pub closed_lives_are_one : {D : Type 0} (keeps_model : D → Bool) (present : D → Present) → ClosedLivesAreOne keeps_model present
-closed_lives_are_one {D} keeps_model present began store base trail settled lived =
-    one_history began lived.1 (steps_of keeps_model present met_any life_steps lived.0 began tt lived.1 tt lived.2) store base trail settled (lives_go_on keeps_model present met_any life_steps lived.0 began lived.1 tt tt lived.2) (tells (based_on keeps_model present lived.1 []) lived.3.0.notes store base trail settled lived.3.2)
+closed_lives_are_one {D} keeps_model present began left lived =
+    one_history began lived.1 (steps_of keeps_model present met_any life_steps lived.0 began tt lived.1 tt lived.2) left (lives_go_on keeps_model present met_any life_steps lived.0 began lived.1 tt tt lived.2) (tells (based_on keeps_model present lived.1 []) lived.3.0.notes left lived.3.2)

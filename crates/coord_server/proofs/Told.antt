@@ -4,13 +4,14 @@ use Rattle.coord_disk.specs.Model.Present.{IsImage, Present}
 use Rattle.coord_types.specs.declared.refusals.Refusal.{Refusal}
 use Rattle.coord_types.specs.declared.steps.Reply.{Reply}
 use Rattle.coord_types.specs.declared.steps.Step.{Step}
-use Rattle.coord_store.specs.Kept.{Kept, has_stopped}
+use Rattle.coord_store.specs.Kept.{has_stopped}
 use Rattle.coord_store.specs.Recovered.{Recovered}
 use Rattle.coord_world.specs.Facade.{World, fold}
 use Rattle.coord_world.specs.declared.verdicts.Verdict.{Verdict}
 use Rattle.coord_world.specs.declared.verdicts.Verdict.TheVariants.{Fresh, Repeat}
 use Rattle.coord_ledger.specs.declared.ticket.Note.{Note}
 use Rattle.coord_ledger.specs.Facade.{Claim, IsCollectable, LedgerGives, LedgerState, Log, GivesSettled as LogGives, reply_of, settled_world}
+use Rattle.coord_engine.specs.declared.closed.Closed.{Closed}
 use Rattle.coord_engine.specs.Facade.{AnswersStep, AtSomeMoment, Basis, GuardedState, LedgerAndNotes, engine_verdict, note_of}
 use Rattle.coord_server.specs.EngineDesk.{Orders}
 use Rattle.coord_server.specs.Ending.{IsOneHistory}
@@ -46,17 +47,17 @@ replies_name_steps D b s reply before after (claim, accepted, collected) =
 of_disk : {D : Type 0} (o : Option D) (d : D) (P : D → Type 0) → o ≡ Some d → IfSome o P → P d
 of_disk o d P is so = subst (λ x. IfSome x P) is so
 
-gives : {D : Type 0} (store : Kept D) (base : World) (trail : List Step) (settled : ℕ) (log : Log) (doubt : Option ℕ) (image : List ℕ) → log.doubt ≡ doubt
-    → base ≡ log.base → trail ≡ log.trail → settled ≡ log.base.count + log.settled → store.world ≡ settled_world log → has_stopped store ≡ is_some log.doubt
-    → IfSome doubt (λ size. log.settled + size ≤ length log.trail) → LogGives log doubt image → GivesSettled store base trail settled image
-gives store base trail settled log None image at same_base same_trail counted world stopped fits is = inl (subst (Recovered image) (sym world) is)
-gives store base trail settled log (Some size) image at same_base same_trail counted world stopped fits (inl is) = inl (subst (Recovered image) (sym world) is)
-gives store base trail settled log (Some size) image at same_base same_trail counted world stopped fits (inr is) =
-    let count : base.count ≡ log.base.count = ap (λ (w : World). w.count) same_base in
-    let long : length trail ≡ length log.trail = ap length same_trail in
-    let place : log.settled + size ≡ settled - base.count + size = omega (arith, counted, count) in
-    let here : fold log.base (take (log.settled + size) log.trail) ≡ fold base (take (settled - base.count + size) trail) =
-    ap (λ n. fold log.base (take n log.trail)) place ∙ ap (λ (l : List Step). fold log.base (take (settled - base.count + size) l)) (sym same_trail) ∙ ap (λ (w : World). fold w (take (settled - base.count + size) trail)) (sym same_base) in
+gives : {D : Type 0} (left : Closed D) (log : Log) (doubt : Option ℕ) (image : List ℕ) → log.doubt ≡ doubt
+    → left.base ≡ log.base → left.trail.items ≡ log.trail → left.settled ≡ log.base.count + log.settled → left.store.world ≡ settled_world log → has_stopped left.store ≡ is_some log.doubt
+    → IfSome doubt (λ size. log.settled + size ≤ length log.trail) → LogGives log doubt image → GivesSettled left image
+gives left log None image at same_base same_trail counted world stopped fits is = inl (subst (Recovered image) (sym world) is)
+gives left log (Some size) image at same_base same_trail counted world stopped fits (inl is) = inl (subst (Recovered image) (sym world) is)
+gives left log (Some size) image at same_base same_trail counted world stopped fits (inr is) =
+    let count : left.base.count ≡ log.base.count = ap (λ (w : World). w.count) same_base in
+    let long : length left.trail.items ≡ length log.trail = ap length same_trail in
+    let place : log.settled + size ≡ left.settled - left.base.count + size = omega (arith, counted, count) in
+    let here : fold log.base (take (log.settled + size) log.trail) ≡ fold left.base (take (left.settled - left.base.count + size) left.trail.items) =
+    ap (λ n. fold log.base (take n log.trail)) place ∙ ap (λ (l : List Step). fold log.base (take (left.settled - left.base.count + size) l)) (sym same_trail) ∙ ap (λ (w : World). fold w (take (left.settled - left.base.count + size) left.trail.items)) (sym same_base) in
     inr (size, stopped ∙ ap is_some at, omega (arith, counted, count, long, fits), subst (Recovered image) here is)
 
 fits_of : (log : Log) (doubt : Option ℕ) (P : ℕ → Type 0) → IfSome doubt (λ size. (1 ≤ size) × (log.settled + size ≤ length log.trail) × P size) → IfSome doubt (λ size. log.settled + size ≤ length log.trail)
@@ -64,9 +65,9 @@ fits_of log None P is = tt
 fits_of log (Some size) P is = is.1
 
 pub lives_leave_steps : (D : Type 0) → LivesLeaveSteps D
-lives_leave_steps D b desk store base trail settled history keeps image is =
+lives_leave_steps D b desk left history keeps image is =
     let g = history.closed.state in
     let so = history.closed.so in
     let held = history.closed.held in
-    let images : LedgerGives b.present g.ledger store.disk = of_disk g.ledger.disk store.disk (λ disk. b.keeps_model disk ≡ true → LedgerGives b.present g.ledger disk) so.4 held.images keeps in
-    gives store base trail settled g.ledger.log g.ledger.log.doubt image refl so.1 so.2 so.3 so.5 so.6 (fits_of g.ledger.log g.ledger.log.doubt (λ _. g.ledger.out ≡ None) held.doubt) (images image is)
+    let images : LedgerGives b.present g.ledger left.store.disk = of_disk g.ledger.disk left.store.disk (λ disk. b.keeps_model disk ≡ true → LedgerGives b.present g.ledger disk) so.4 held.images keeps in
+    gives left g.ledger.log g.ledger.log.doubt image refl so.1 so.2 so.3 so.5 so.6 (fits_of g.ledger.log g.ledger.log.doubt (λ _. g.ledger.out ≡ None) held.doubt) (images image is)

@@ -1,29 +1,28 @@
 -- How a server ends, and what it leaves of its engine.
-use Rattle.std.specs.Prelude.{◌≡◌, ℕ, ◌≤◌, ◌<◌, List, [], ◌∷◌, ◌++◌, All, Bool, true, false, Option, Some, None, length}
-use Rattle.coord_types.specs.declared.steps.Step.{Step}
-use Rattle.coord_store.specs.Kept.{Kept}
-use Rattle.coord_world.specs.protocol.NumberedWorld.{World}
+use Rattle.std.specs.Prelude.{◌≡◌, ◌⊎◌, ℕ, ◌≤◌, List, [], ◌∷◌, ◌++◌, All, Bool, true, false, Option, Some, None, length}
 use Rattle.coord_ledger.specs.declared.ticket.Note.{Note}
 use Rattle.coord_engine.specs.Facade.{AtSomeMoment, Basis, Closes, IsNamed, IsOfPacket}
+use Rattle.coord_engine.specs.declared.closed.Closed.{Closed}
 use Rattle.coord_admin.specs.Connections.{Talk, ServedOpen, ServedToClose}
 use Rattle.coord_admin.specs.declared.answer.Answer.{Answer}
 use Rattle.coord_server.specs.EngineDesk.{DeskState, DeskAnswers}
 use Rattle.coord_server.specs.declared.fault.ServerFault.{ServerFault}
 use Rattle.coord_server.specs.declared.fault.ServerFault.TheVariants as fault
-use Rattle.coord_server.specs.declared.left.Left.{Left}
-use Rattle.coord_server.specs.declared.left.Left.TheVariants as left
+use Rattle.coord_server.specs.declared.life.Life.{Life}
+use Rattle.coord_server.specs.declared.life_end.LifeEnd.{LifeEnd}
+use Rattle.coord_server.specs.declared.life_end.LifeEnd.TheVariants as end
 
 -- a desk that has noted nothing and seen nothing
 abbrev pub new_desk : DeskState
 new_desk = record { notes = []; seen = 0 }
 
 -- One history: what the desk and the workers noted are the steps that were accepted since the store was opened, each once and each one's own in order. What workers noted are steps of packets. The store has the world after those that are settled.
-pub record IsOneHistory {D : Type 0} (b : Basis D) (desk : List Note) (store : Kept D) (base : World) (trail : List Step) (settled : ℕ) : Type 0 where
+pub record IsOneHistory {D : Type 0} (b : Basis D) (desk : List Note) (left : Closed D) : Type 0 where
   pub workers : List (List Note)
   pub of_packets : All (All IsOfPacket) workers
-  pub same_base : base ≡ b.base
-  pub named : IsNamed (desk ∷ workers) base.count trail
-  pub closed : AtSomeMoment b (Closes {D = D} store base trail settled (desk ∷ workers))
+  pub same_base : left.base ≡ b.base
+  pub named : IsNamed (desk ∷ workers) left.base.count left.trail.items
+  pub closed : AtSomeMoment b (Closes {D = D} left.store left.base left.trail.items left.settled (desk ∷ workers))
 
 -- behind these shares those of workers were put, whose notes are all of packets
 abbrev pub AddsWorkers : List (List Note) → List (List Note) → Type 0
@@ -32,10 +31,6 @@ AddsWorkers first all = (workers : List (List Note)) × (all ≡ first ++ worker
 -- an engine has kept so many steps
 abbrev pub HasKept : {D : Type 0} → Basis D → ℕ → Type 0
 HasKept b most = AtSomeMoment b (λ g. most ≤ length g.ledger.log.trail)
-
--- or fewer
-abbrev pub HasKeptFewer : {D : Type 0} → Basis D → ℕ → Type 0
-HasKeptFewer b most = AtSomeMoment b (λ g. length g.ledger.log.trail < most)
 
 -- `met v talks w`: those who call were v, had these talks, and then are w
 module _ {D : Type 0} (b : Basis D) {V : Type 0} (met : V → List Talk → V → Type 0) where
@@ -47,32 +42,34 @@ module _ {D : Type 0} (b : Basis D) {V : Type 0} (met : V → List Talk → V �
   abbrev pub IsLeft : V → V → DeskState → Type 0
   IsLeft v w desk = ServedOpen (DeskAnswers b) met v new_desk w desk
 
-  -- how the desk went on until the serving ended so: a store that has stopped is met where a life rests
-  abbrev pub Serves : V → V → DeskState → Option ServerFault → Type 0
-  Serves v w desk None = IsClosed v w desk
-  Serves v w desk (Some fault.Socket) = IsLeft v w desk
-  Serves v w desk (Some fault.Device) = IsLeft v w desk
-  Serves v w desk (Some fault.OutOfMemory) = met v [] w × (desk ≡ new_desk)
-  Serves v w desk (Some fault.Write) = met v [] w × (desk ≡ new_desk)
-  Serves v w desk (Some other) = ⊥
+  -- `failed v w`: those who call were v, and have failed
+  module _ (failed : V → V → Type 0) (most : ℕ) where
+    -- How the desk went on in a life of so many steps. It rests only once its engine has kept them; and it ends by a close, by a fault before anyone was served, or because those who call have failed.
+    abbrev pub ServesLife : V → V → DeskState → LifeEnd → Type 0
+    ServesLife v w desk end.Resting = IsLeft v w desk × HasKept b most
+    ServesLife v w desk (end.Ended None) = IsClosed v w desk
+    ServesLife v w desk (end.Ended (Some fault.OutOfMemory)) = met v [] w × (desk ≡ new_desk)
+    ServesLife v w desk (end.Ended (Some fault.Write)) = met v [] w × (desk ≡ new_desk)
+    ServesLife v w desk (end.Ended (Some fault.Socket)) = (met v [] w × (desk ≡ new_desk)) ⊎ ((last : V) × IsLeft v last desk × failed last w)
+    ServesLife v w desk (end.Ended (Some other)) = ⊥
 
-  -- how the desk went on in a life of so many steps: it rests only once its engine has kept them
-  abbrev pub ServesLife : ℕ → V → V → DeskState → Left → Type 0
-  ServesLife most v w desk left.Resting = IsLeft v w desk × HasKept b most
-  ServesLife most v w desk (left.Ended served) = Serves v w desk served
+    -- and in the last life of a server that ends so: a store that has stopped is met where a life rests
+    abbrev pub Serves : V → V → DeskState → Option ServerFault → Type 0
+    Serves v w desk (Some fault.Device) = ServesLife v w desk end.Resting
+    Serves v w desk served = ServesLife v w desk (end.Ended served)
 
-  -- the threads of a life have run: the desk served until this end, and with its share all nine are back, the desk's and those of eight workers
-  pub record HasRun (most : ℕ) (v w : V) (left : Left) (shares : List (List Note)) : Type 0 where
-    pub desk : DeskState
-    pub served : ServesLife most v w desk left
-    pub added : AddsWorkers (desk.notes ∷ []) shares
-    pub all : length shares ≡ 9
+    -- the threads of a life have run: the desk served until this end, and with its share all nine are back, the desk's and those of eight workers
+    pub record HasRun (v w : V) (left : LifeEnd) (shares : List (List Note)) : Type 0 where
+      pub desk : DeskState
+      pub served : ServesLife v w desk left
+      pub added : AddsWorkers (desk.notes ∷ []) shares
+      pub all : length shares ≡ 9
 
-  -- one life, which left this: the desk served until this end, and it is one history
-  pub record IsLife (most : ℕ) (v w : V) (left : Left) (store : Kept D) (base : World) (trail : List Step) (settled : ℕ) : Type 0 where
-    pub desk : DeskState
-    pub served : ServesLife most v w desk left
-    pub history : IsOneHistory b desk.notes store base trail settled
+    -- one life: the desk served until this end, and what is left is one history
+    pub record IsLife (v : V) (life : Life D V) : Type 0 where
+      pub desk : DeskState
+      pub served : ServesLife v life.callers desk life.left
+      pub history : IsOneHistory b desk.notes life.closed
 
 -- a desk that began with nothing was served over some connections, the last of which closed it
 abbrev pub IsServedToClose : {D : Type 0} → Basis D → DeskState → Type 0

@@ -1,5 +1,6 @@
 -- What a desk over an engine may answer. Other threads call the engine too, so each answer is one that it can give in some state that it can have.
-use Rattle.std.specs.Prelude.{◌≡◌, ◌⊎◌, ℕ, List, max, length, Result, Ok, Err}
+use Rattle.std.specs.Prelude.{◌≡◌, ◌⊎◌, ℕ, Bool, List, max, length, Result, Ok, Err}
+use Rattle.coord_types.specs.declared.packets.Packet.{Packet}
 use Rattle.coord_types.specs.declared.refusals.Refusal.{Refusal}
 use Rattle.coord_types.specs.declared.refusals.Refusal.TheVariants.{OutOfMemory}
 use Rattle.coord_types.specs.declared.steps.Reply.{Reply}
@@ -9,8 +10,8 @@ use Rattle.coord_ledger.specs.declared.release.Release.{Release}
 use Rattle.coord_ledger.specs.declared.ticket.Note.{Note}
 use Rattle.coord_ledger.specs.ledger.State.{Claim}
 use Rattle.coord_view.specs.Shown as shown
-use Rattle.coord_engine.specs.Facade.{Basis, CollectsAs}
-use Rattle.coord_engine.specs.Threads.{AtSomeMoment, RefusesShow, SendsAgain, Shows, Submits}
+use Rattle.coord_engine.specs.Facade.{AreAsked, Basis, CollectsAs, deliveries_of}
+use Rattle.coord_engine.specs.Threads.{AnswersShow, AtSomeMoment, SendsAgain, Submits}
 use Rattle.coord_engine.specs.declared.collected.Collected.TheVariants.{Settled, Refused}
 use Rattle.coord_admin.specs.Replies.{order_answer, resend_answer, show_answer}
 use Rattle.coord_admin.specs.declared.answer.Answer.{Answer}
@@ -45,21 +46,21 @@ Replies {D} b (Ok claim) (Err refusal) = AtSomeMoment b (λ g. CollectsAs {D = D
 Replies {D} b (Err why) (Ok reply) = ⊥
 Replies {D} b (Err why) (Err refusal) = refusal ≡ why
 
--- the settled world is shown, of which the desk has seen no more
-abbrev pub ShowsTo : {D : Type 0} → Basis D → Result shown.Shown Refusal → ℕ → ℕ → Type 0
-ShowsTo {D} b (Ok view) before after = AtSomeMoment b (Shows {D = D} view before after)
-ShowsTo {D} b (Err refusal) before after = AtSomeMoment b (RefusesShow {D = D} refusal before) × (after ≡ before)
-
 -- how many packets were sent again
 abbrev pub Resends : {D : Type 0} → Basis D → Result ℕ Refusal → Type 0
 Resends {D} b (Ok count) = (released : List Release) × AtSomeMoment b (SendsAgain {D = D} released) × (count ≡ length released)
 Resends {D} b (Err refusal) = refusal ≡ OutOfMemory
 
+-- What may have been lost was asked of a port again, each packet once and in order, and so many they are. `carried`, `signalled`: what the port may be once it was asked so.
+abbrev pub HandsAgain : {D P : Type 0} → Basis D → (P → ℕ → Packet → Bool → P → Type 0) → (P → ℕ → ℕ → Bool → P → Type 0) → ℕ → P → P → Type 0
+HandsAgain {D} b carried signalled count port later =
+    (released : List Release) × AtSomeMoment b (SendsAgain {D = D} released) × (count ≡ length released) × AreAsked carried signalled port (deliveries_of released) later
+
 abbrev pub DeskAnswers : {D : Type 0} → Basis D → DeskState → Request → Answer → DeskState → Type 0
 DeskAnswers {D} b d (request.Order client number command) answer e =
     (result : Result Reply Refusal) × (answer ≡ order_answer result) × Orders b (step.Order client number command) result d.notes e.notes × (e.seen ≡ seen_after result d.seen)
 DeskAnswers {D} b d request.Show answer e =
-    (result : Result shown.Shown Refusal) × (answer ≡ show_answer result) × ShowsTo b result d.seen e.seen × (e.notes ≡ d.notes)
+    (result : Result shown.Shown Refusal) × (answer ≡ show_answer result) × AnswersShow b result d.seen e.seen × (e.notes ≡ d.notes)
 DeskAnswers {D} b d request.Resend answer e = (result : Result ℕ Refusal) × (answer ≡ resend_answer result) × Resends b result × (e ≡ d)
 DeskAnswers {D} b d request.Close answer e = (answer ≡ Closed) × (e ≡ d)
 
@@ -71,3 +72,7 @@ DeskPosts {D} b d request posted e = ⊥
 -- then its reply is waited for, and nothing more is noted
 abbrev pub DeskReplies : {D : Type 0} → Basis D → DeskState → Result Claim Refusal → Result Reply Refusal → DeskState → Type 0
 DeskReplies {D} b d posted reply e = Replies b posted reply × (e.notes ≡ d.notes) × (e.seen ≡ seen_after reply d.seen)
+
+-- how many steps its engine has kept
+abbrev pub DeskKeeps : {D : Type 0} → Basis D → DeskState → ℕ → Type 0
+DeskKeeps {D} b d kept = AtSomeMoment {D = D} b (λ g. kept ≡ length g.ledger.log.trail)

@@ -8,17 +8,19 @@ use Rattle.coord_world.specs.laws.Trails.{IsTrail}
 use Rattle.coord_world.specs.Facade.{StepOutcome, World, fold, outs}
 use Rattle.coord_admin.specs.Connections.{Talk}
 use Rattle.coord_engine.specs.State.{Basis, based_on}
+use Rattle.coord_engine.specs.declared.closed.Closed.{Closed}
 use Rattle.coord_server.specs.EngineDesk.{DeskState}
 use Rattle.coord_server.specs.Ending.{HasKept, IsLeft, IsOneHistory, IsServedToClose, Serves}
 use Rattle.coord_server.specs.declared.fault.ServerFault.{ServerFault}
 use Rattle.coord_server.specs.declared.fault.ServerFault.TheVariants as fault
-use Rattle.coord_server.specs.declared.left.Left.{Left}
-use Rattle.coord_server.specs.declared.left.Left.TheVariants as left
+use Rattle.coord_server.specs.declared.life_end.LifeEnd.{LifeEnd}
+use Rattle.coord_server.specs.declared.life_end.LifeEnd.TheVariants as end
+use Rattle.coord_server.specs.declared.server_end.ServerEnd.{ServerEnd}
 
 -- how a server ends whose last life was left so: one that rests over a store that has stopped ends it too
-abbrev pub IsOver : Left → Option ServerFault → Type 0
-IsOver left.Resting served = served ≡ Some fault.Device
-IsOver (left.Ended met) served = served ≡ met
+abbrev pub IsOver : LifeEnd → Option ServerFault → Type 0
+IsOver end.Resting served = served ≡ Some fault.Device
+IsOver (end.Ended met) served = served ≡ met
 
 -- nobody is told apart from anybody
 abbrev pub met_any : Unit {0} → List Talk → Unit {0} → Type 0
@@ -37,33 +39,30 @@ module _ {D : Type 0} (keeps_model : D → Bool) (present : D → Present) {V : 
   -- A life that rests: no line has closed it, it has kept the steps of a life, it is one history, all that was accepted is settled, and its store has not stopped. The next one begins over the world of that store.
   pub record Rests (began : World) (v w : V) (next : World) : Type 0 where
     pub desk : DeskState
-    pub store : Kept D
-    pub base : World
-    pub trail : List Step
-    pub settled : ℕ
+    pub left : Closed D
     pub served : IsLeft (begun_over began) met v w desk
     pub old : HasKept (begun_over began) most
-    pub history : IsOneHistory (begun_over began) desk.notes store base trail settled
-    pub all_settled : settled ≡ base.count + length trail
-    pub going : has_stopped store ≡ false
-    pub goes_on : next ≡ store.world
+    pub history : IsOneHistory (begun_over began) desk.notes left
+    pub all_settled : left.settled ≡ left.base.count + length left.trail.items
+    pub going : has_stopped left.store ≡ false
+    pub goes_on : next ≡ left.store.world
 
   -- so many lives that rest, each of which begins where the one before ended
   abbrev pub Lives : ℕ → World → V → World → V → Type 0
   Lives zero began v next w = (next ≡ began) × (w ≡ v)
   Lives (suc n) began v next w = (world : World) × (u : V) × Lives n began v world u × Rests world u w next
 
-  -- some lives that rest, and then a last one, which leaves this
-  abbrev pub HasLived : World → V → V → Option ServerFault → Kept D → World → List Step → ℕ → Type 0
-  HasLived began v w served store base trail settled =
-      (n : ℕ) × (world : World) × (u : V) × Lives n began v world u
-      × ((desk : DeskState) × Serves (begun_over world) met u w desk served × IsOneHistory (begun_over world) desk.notes store base trail settled)
+-- some lives that rest, and then a last one, which leaves this. `failed v w`: those who call were v, and have failed
+abbrev pub HasLived : {D : Type 0} → (D → Bool) → (D → Present) → {V : Type 0} → (V → List Talk → V → Type 0) → (V → V → Type 0) → ℕ → World → V → ServerEnd D V → Type 0
+HasLived {D} keeps_model present {V} met failed most began v ended =
+    (n : ℕ) × (world : World) × (u : V) × Lives keeps_model present met most n began v world u
+    × ((desk : DeskState) × Serves (based_on keeps_model present world []) met failed most u ended.callers desk ended.served × IsOneHistory (based_on keeps_model present world []) desk.notes ended.closed)
 
 -- the same where a line has closed the last one, and each life has the steps of a server's
-abbrev pub HasLivedToClose : {D : Type 0} → (D → Bool) → (D → Present) → World → Kept D → World → List Step → ℕ → Type 0
-HasLivedToClose {D} keeps_model present began store base trail settled =
+abbrev pub HasLivedToClose : {D : Type 0} → (D → Bool) → (D → Present) → World → Closed D → Type 0
+HasLivedToClose {D} keeps_model present began left =
     (n : ℕ) × (world : World) × Lives keeps_model present met_any life_steps n began tt world tt
-    × ((desk : DeskState) × IsServedToClose (based_on keeps_model present world []) desk × IsOneHistory (based_on keeps_model present world []) desk.notes store base trail settled)
+    × ((desk : DeskState) × IsServedToClose (based_on keeps_model present world []) desk × IsOneHistory (based_on keeps_model present world []) desk.notes left)
 
 -- ---- all lives are one history
 
@@ -71,6 +70,10 @@ HasLivedToClose {D} keeps_model present began store base trail settled =
 pub record LifeSteps : Type 0 where
   pub base : World
   pub trail : List Step
+
+-- what a life did that left this
+abbrev pub steps_in : {D : Type 0} → Closed D → LifeSteps
+steps_in left = record { base = left.base; trail = left.trail.items }
 
 -- the steps of all these lives, those of each behind those of the life before
 abbrev pub all_steps : List LifeSteps → List Step
@@ -94,22 +97,20 @@ module _ {D : Type 0} (keeps_model : D → Bool) (present : D → Present) {V : 
   -- what each of these lives did, the first one first
   abbrev pub steps_of : (n : ℕ) (began : World) (v : V) (next : World) (w : V) → Lives keeps_model present met most n began v next w → List LifeSteps
   steps_of zero began v next w lives = []
-  steps_of (suc n) began v next w lives = steps_of n began v lives.0 lives.1 lives.2 ++ record { base = lives.3.base; trail = lives.3.trail } ∷ []
+  steps_of (suc n) began v next w lives = steps_of n began v lives.0 lives.1 lives.2 ++ steps_in lives.3.left ∷ []
 
-  -- lives that rest, and the one behind them that left this, are one history
-  abbrev pub LivesAreOne : Type 0
-  LivesAreOne =
-      (began : World) (v w : V) (served : Option ServerFault) (store : Kept D) (base : World) (trail : List Step) (settled : ℕ)
-      → (lived : HasLived keeps_model present met most began v w served store base trail settled)
-      → AreOneHistory began (steps_of lived.0 began v lived.1 lived.2 lived.3 ++ record { base = base; trail = trail } ∷ []) store settled
+-- lives that rest, and the one behind them that left this, are one history
+abbrev pub LivesAreOne : {D : Type 0} → (D → Bool) → (D → Present) → {V : Type 0} → (V → List Talk → V → Type 0) → (V → V → Type 0) → ℕ → Type 0
+LivesAreOne {D} keeps_model present {V} met failed most =
+    (began : World) (v : V) (ended : ServerEnd D V) (lived : HasLived keeps_model present met failed most began v ended)
+    → AreOneHistory began (steps_of keeps_model present met most lived.0 began v lived.1 lived.2 lived.3 ++ steps_in ended.closed ∷ []) ended.closed.store ended.closed.settled
 
 -- the same where a line has closed the last one
 abbrev pub ClosedLivesAreOne : {D : Type 0} → (D → Bool) → (D → Present) → Type 0
 ClosedLivesAreOne {D} keeps_model present =
-    (began : World) (store : Kept D) (base : World) (trail : List Step) (settled : ℕ)
-    → (lived : HasLivedToClose keeps_model present began store base trail settled)
-    → AreOneHistory began (steps_of keeps_model present met_any life_steps lived.0 began tt lived.1 tt lived.2 ++ record { base = base; trail = trail } ∷ []) store settled
+    (began : World) (left : Closed D) (lived : HasLivedToClose keeps_model present began left)
+    → AreOneHistory began (steps_of keeps_model present met_any life_steps lived.0 began tt lived.1 tt lived.2 ++ steps_in left ∷ []) left.store left.settled
 
 -- this is what lives, all of them one history, have left
-abbrev pub EndsOneHistory : {D : Type 0} → World → Kept D → World → List Step → ℕ → Type 0
-EndsOneHistory began store base trail settled = (earlier : List LifeSteps) × AreOneHistory began (earlier ++ record { base = base; trail = trail } ∷ []) store settled
+abbrev pub EndsOneHistory : {D : Type 0} → World → Closed D → Type 0
+EndsOneHistory began left = (earlier : List LifeSteps) × AreOneHistory began (earlier ++ steps_in left ∷ []) left.store left.settled

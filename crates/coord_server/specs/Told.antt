@@ -3,13 +3,14 @@ use Rattle.std.specs.Prelude.{◌≡◌, ◌⊎◌, ℕ, ◌+◌, ◌-◌, ◌�
 use Rattle.coord_disk.specs.Model.Present.{IsImage}
 use Rattle.coord_types.specs.declared.steps.Reply.{Reply}
 use Rattle.coord_types.specs.declared.steps.Step.{Step}
-use Rattle.coord_store.specs.Kept.{Kept, has_stopped}
+use Rattle.coord_store.specs.Kept.{has_stopped}
 use Rattle.coord_store.specs.Recovered.{Recovered}
-use Rattle.coord_world.specs.Facade.{World, fold}
+use Rattle.coord_world.specs.Facade.{fold}
 use Rattle.coord_ledger.specs.declared.ticket.Note.{Note}
 use Rattle.coord_ledger.specs.Facade.{IsCollectable}
 use Rattle.coord_engine.specs.State.{Basis}
 use Rattle.coord_engine.specs.Threads.{AtSomeMoment}
+use Rattle.coord_engine.specs.declared.closed.Closed.{Closed}
 use Rattle.coord_server.specs.EngineDesk.{Orders}
 use Rattle.coord_server.specs.Ending.{IsOneHistory}
 
@@ -23,13 +24,14 @@ abbrev pub RepliesNameSteps : Type 0 → Type 0
 RepliesNameSteps D = (b : Basis D) (s : Step) (reply : Reply) (before after : List Note) → Orders b s (Ok reply) before after → NamesItsStep b s reply before after
 
 -- these bytes give the world after the settled steps of a life; or after a stop that of those and the next ones, which were in doubt
-abbrev pub GivesSettled : {D : Type 0} → Kept D → World → List Step → ℕ → List ℕ → Type 0
-GivesSettled store base trail settled bytes =
-    Recovered bytes store.world
-    ⊎ ((size : ℕ) × (has_stopped store ≡ true) × (settled + size ≤ base.count + length trail) × Recovered bytes (fold base (take (settled - base.count + size) trail)))
+abbrev pub GivesSettled : {D : Type 0} → Closed D → List ℕ → Type 0
+GivesSettled left bytes =
+    Recovered bytes left.store.world
+    ⊎ ((size : ℕ) × (has_stopped left.store ≡ true) × (left.settled + size ≤ left.base.count + length left.trail.items)
+    × Recovered bytes (fold left.base (take (left.settled - left.base.count + size) left.trail.items)))
 
 -- whatever a crash may leave of the disk of a life gives so
 abbrev pub LivesLeaveSteps : Type 0 → Type 0
 LivesLeaveSteps D =
-    (b : Basis D) (desk : List Note) (store : Kept D) (base : World) (trail : List Step) (settled : ℕ) → IsOneHistory b desk store base trail settled
-    → b.keeps_model store.disk ≡ true → (image : List ℕ) → IsImage (b.present store.disk) image → GivesSettled store base trail settled image
+    (b : Basis D) (desk : List Note) (left : Closed D) → IsOneHistory b desk left
+    → b.keeps_model left.store.disk ≡ true → (image : List ℕ) → IsImage (b.present left.store.disk) image → GivesSettled left image

@@ -1,9 +1,9 @@
 //! A desk over an engine.
 
-ghost use Rattle.std.specs.Prelude.{◌≡◌};
+ghost use Rattle.std.specs.Prelude.{◌≡◌, IfOk};
 ghost use Rattle.coord_types.specs.declared.refusals.Refusal.TheVariants.{OutOfMemory};
 ghost use Rattle.coord_engine.specs.State.{based_on};
-ghost use Rattle.coord_server.specs.EngineDesk.{Replies, Resends, ShowsTo};
+ghost use Rattle.coord_server.specs.EngineDesk.{HandsAgain, Replies, Resends};
 
 use coord_admin::Desk;
 use coord_disk::Disk;
@@ -20,7 +20,7 @@ use std::sync::Wait;
 pub struct EngineDesk<'a, D: Disk, L: Origin, P: Port, R: Wait> {
     rt: &'a R,
     engine: &'a Engine<D, L>,
-    port: &'a P,
+    port: P,
     share: Share<L>,
     seen: Seen,
 }
@@ -33,9 +33,9 @@ impl<'a, D: Disk, L: Origin, P: Port, R: Wait> Model for EngineDesk<'a, D, L, P,
     ghost view = { λ d. record { notes = d.share; seen = d.seen } };
 }
 
-impl<'a, D: Disk, L: Origin, P: Port, R: Wait> EngineDesk<'a, D, L, P, R> {
+impl<'a, D: Disk, L: Origin, P: Port + Drop, R: Wait> EngineDesk<'a, D, L, P, R> {
     /// A desk that has seen nothing yet.
-    pub fn new(rt: &'a R, engine: &'a Engine<D, L>, port: &'a P, share: Share<L>) -> Self
+    pub fn new(rt: &'a R, engine: &'a Engine<D, L>, port: P, share: Share<L>) -> Self
         ensures { result ≡ record { notes = share; seen = 0 } }
     {
         EngineDesk {
@@ -81,24 +81,16 @@ fn collect<D: Disk, L: Origin, R: Wait>(
     }
 }
 
-/// Shows the settled world, which is no older than what the desk has shown before.
-fn show<D: Disk, L: Origin, R: Wait>(
-    rt: &R,
-    engine: &Engine<D, L>,
-    seen: &mut Seen,
-) -> Result<View, Refusal>
-    ensures { ShowsTo (based_on D.keeps_model D.present L.base L.before) result seen.old seen.new }
-{
-    engine.show(rt, seen)
-}
-
 /// Hands to a port again what may have been lost, and answers how many packets that are.
 fn resend<D: Disk, L: Origin, P: Port, R: Wait>(
     rt: &R,
     engine: &Engine<D, L>,
-    port: &P,
+    port: &mut P,
 ) -> Result<u64, Refusal>
-    ensures { Resends (based_on D.keeps_model D.present L.base L.before) result }
+    ensures counted { Resends (based_on D.keeps_model D.present L.base L.before) result }
+    ensures handed { IfOk result (λ count. HandsAgain
+        (based_on D.keeps_model D.present L.base L.before) P.carried P.signalled count port.old
+        port.new) }
 {
     match engine.resend(rt) {
         Ok(releases) => Ok(hand_over(rt, engine, port, releases)),
@@ -108,7 +100,9 @@ fn resend<D: Disk, L: Origin, P: Port, R: Wait>(
 
 impl<'a, D: Disk, L: Origin, P: Port, R: Wait> Desk for EngineDesk<'a, D, L, P, R> {
     ghost use Rattle.coord_engine.specs.State.{based_on};
-    ghost use Rattle.coord_server.specs.EngineDesk.{DeskAnswers, DeskPosts, DeskReplies};
+    ghost use Rattle.coord_admin.specs.Replies.{resend_answer};
+    ghost use Rattle.coord_admin.specs.declared.request.Request.TheVariants as request;
+    ghost use Rattle.coord_server.specs.EngineDesk.{DeskAnswers, DeskKeeps, DeskPosts, DeskReplies, HandsAgain};
     ghost use Rattle.coord_server.specs.Halves.{desk_answered, desk_apart};
 
     /// A ticket for the reply, or why the order was refused.
@@ -119,6 +113,12 @@ impl<'a, D: Disk, L: Origin, P: Port, R: Wait> Desk for EngineDesk<'a, D, L, P, 
     ghost posts = { DeskPosts (based_on D.keeps_model D.present L.base L.before) };
 
     ghost replies = { DeskReplies (based_on D.keeps_model D.present L.base L.before) };
+
+    ghost keeps = { DeskKeeps (based_on D.keeps_model D.present L.base L.before) };
+
+    fn kept(&self) -> usize {
+        self.engine.kept(self.rt)
+    }
 
     fn post(&mut self, client: Client, number: u64, command: Command) -> Result<Ticket, Refusal> {
         let step = Step::Order(client, number, command);
@@ -132,11 +132,17 @@ impl<'a, D: Disk, L: Origin, P: Port, R: Wait> Desk for EngineDesk<'a, D, L, P, 
     }
 
     fn show(&mut self) -> Result<View, Refusal> {
-        show(self.rt, self.engine, &mut self.seen)
+        self.engine.show(self.rt, &mut self.seen)
     }
 
-    fn resend(&mut self) -> Result<u64, Refusal> {
-        resend(self.rt, self.engine, self.port)
+    fn resend(&mut self) -> Result<u64, Refusal>
+        ensures answered { DeskAnswers (based_on D.keeps_model D.present L.base L.before) self.old
+            request.Resend (resend_answer result) self.new }
+        ensures handed { IfOk result (λ count. (port : P) × (later : P) × HandsAgain
+            (based_on D.keeps_model D.present L.base L.before) P.carried P.signalled count port
+            later) }
+    {
+        resend(self.rt, self.engine, &mut self.port)
     }
 
     fn close(&mut self) {}

@@ -12,26 +12,24 @@
 //! served.
 #![tactic(auto)]
 
-mod age;
-mod crew;
 mod desk;
-mod ended;
 mod fault;
 pub mod laws;
-mod left;
 mod life;
+mod life_end;
 mod lives;
 mod local;
 mod printer;
 mod printing;
-mod resting;
+mod server_end;
 mod serving;
 mod setting;
+mod threads;
 
 pub use desk::EngineDesk;
-pub use ended::Ended;
 pub use fault::ServerFault;
 pub use lives::serve_lives;
 pub use local::{LocalPort, Signal, WORKERS};
 pub use printer::Printer;
+pub use server_end::ServerEnd;
 pub use serving::{LIFE_STEPS, serve_callers, serve_store};

@@ -7,14 +7,14 @@ ghost use Rattle.coord_engine.specs.Closing.{IsSince};
 ghost use Rattle.coord_engine.specs.Threads.{AtSomeMoment, Closes};
 ghost use Rattle.coord_server.specs.Ending.{IsLife};
 
-use crate::crew::{Begun, Ran, run};
-use crate::left::Left;
+use crate::life_end::LifeEnd;
 use crate::printing::Opening;
 use crate::setting::Setting;
-use crate::{LocalPort, ServerFault, WORKERS};
+use crate::threads::{Begun, Ran, run};
+use crate::{ServerFault, WORKERS};
 use coord_admin::Callers;
 use coord_disk::Disk;
-use coord_engine::{Closed, Engine, Origin, Share};
+use coord_engine::{Closed, Engine, Origin};
 use coord_ledger::Ledger;
 use coord_store::Store;
 use coord_types::Packet;
@@ -32,7 +32,7 @@ use std::time::Clock;
 pub struct Life<D: Disk, C> {
     pub closed: Closed<D>,
     pub callers: C,
-    pub left: Left,
+    pub left: LifeEnd,
 }
 
 /// Serves a store to those who call, until a line closes it or the life is old, and gives back what
@@ -48,23 +48,19 @@ pub fn serve_life<
     setting: &Setting<'_, R>,
     store: Store<D>,
     callers: C,
-    port: &LocalPort<&R>,
     opening: Option<Opening<W>>,
 ) -> Result<Life<D, C>, ServerFault>
     requires { has_stopped store ≡ false }
-    ensures { IfOk result (λ life.
-        IsLife (based_on D.keeps_model D.present store.world []) C.met setting.now.life_steps callers
-        life.callers life.left life.closed.store life.closed.base life.closed.trail.items life.closed.settled) }
+    ensures { IfOk result
+        (IsLife (based_on D.keeps_model D.present store.world []) C.met C.failed setting.now.life_steps callers) }
 {
-    match Ledger::adopt(setting.alloc, store) {
-        Ok(ledger) => {
-            let blank = Blank::new(65536);
-            serve_ledger::<D, Brand, C, W, R>(setting, blank, ledger, callers, port, opening)
-        }
-        Err(_) => Err(ServerFault::OutOfMemory),
-    }
+    let Ok(ledger) = Ledger::adopt(setting.alloc, store) else {
+        return Err(ServerFault::OutOfMemory);
+    };
+    serve_ledger::<D, Brand, C, W, R>(setting, Blank::new(65536), ledger, callers, opening)
 }
 
+/// Runs the threads of a life over an engine, and takes the engine apart. `L` names the ledger.
 fn serve_ledger<
     D: Disk + Send,
     L: Origin + Send + Sync,
@@ -76,7 +72,6 @@ fn serve_ledger<
     blank: Blank,
     ledger: Ledger<D>,
     callers: C,
-    port: &LocalPort<&R>,
     opening: Option<Opening<W>>,
 ) -> Result<Life<D, C>, ServerFault>
     requires name { blank.name ≡ L.name }
@@ -84,80 +79,30 @@ fn serve_ledger<
     requires home { ledger.out ≡ None }
     requires base { ledger.log.base ≡ L.base }
     requires before { (ledger.log.trail ≡ L.before) × (L.before ≡ []) }
-    ensures { IfOk result (λ life.
-        IsLife (based_on D.keeps_model D.present L.base L.before) C.met setting.now.life_steps callers
-        life.callers life.left life.closed.store life.closed.base life.closed.trail.items life.closed.settled) }
+    ensures { IfOk result
+        (IsLife (based_on D.keeps_model D.present L.base L.before) C.met C.failed setting.now.life_steps callers) }
 {
     let engine: Engine<D, L> = Engine::new(setting.alloc, blank, ledger);
-    match begin(setting, &engine, port) {
-        Ok(begun) => live_and_close(setting, engine, begun, callers, port, opening),
-        Err(fault) => {
-            drop(engine);
-            drop(callers);
-            drop(opening);
-            Err(fault)
-        }
-    }
+    let begun = begin(setting, &engine)?;
+    let ran = run(setting, &engine, begun, callers, opening)?;
+    closed_life(engine, ran)
 }
 
-/// Makes room for all that a life may not lose and a channel for each worker, and gives out the
-/// desk's share.
+/// Gives out the desk's share, makes room for all that a life may not lose, and connects the port to
+/// a channel for each worker.
 fn begin<D: Disk, L: Origin, R: Wait>(
     setting: &Setting<'_, R>,
     engine: &Engine<D, L>,
-    port: &LocalPort<&R>,
 ) -> Result<Begun<L>, ServerFault>
     ensures { IfErr result (λ fault. fault ≡ ServerFault.OutOfMemory) }
 {
     let Some(own) = engine.share(setting.rt) else {
         return Err(ServerFault::OutOfMemory);
     };
-    Ok(begun_with(setting.alloc, port, own)?)
-}
-
-/// What a life begins with, whose desk has this share. From now on the port carries packets to the
-/// workers of this life.
-fn begun_with<L: Origin, R: Wait>(
-    alloc: Global,
-    port: &LocalPort<&R>,
-    own: Share<L>,
-) -> Result<Begun<L>, AllocError>
-    requires { own ≡ [] }
-{
-    let room = Vec::with_capacity(alloc, usize::from(WORKERS) + 1)?;
-    let (to, packets) = channels(alloc)?;
-    port.connect(to);
+    let room = Vec::with_capacity(setting.alloc, usize::from(WORKERS) + 1)?;
+    let (to, packets) = channels(setting.alloc)?;
+    setting.port.connect(to);
     Ok(Begun { own, room, packets })
-}
-
-/// Runs the threads of a life, and takes its engine apart.
-fn live_and_close<
-    D: Disk + Send,
-    L: Origin + Send + Sync,
-    C: Callers + Drop,
-    W: Write + Drop,
-    R: Threads + Wait + Clock + Sync,
->(
-    setting: &Setting<'_, R>,
-    engine: Engine<D, L>,
-    begun: Begun<L>,
-    callers: C,
-    port: &LocalPort<&R>,
-    opening: Option<Opening<W>>,
-) -> Result<Life<D, C>, ServerFault>
-    requires parts { L.parts ≡ 65536 }
-    requires before { L.before ≡ [] }
-    ensures { IfOk result (λ life.
-        IsLife (based_on D.keeps_model D.present L.base L.before) C.met setting.now.life_steps callers
-        life.callers life.left life.closed.store life.closed.base life.closed.trail.items life.closed.settled) }
-{
-    match run(setting, &engine, port, begun, callers, opening) {
-        Ok(ran) => closed_life(engine, ran),
-        Err(fault) => {
-            drop(engine);
-            Err(fault)
-        }
-    }
 }
 
 /// What is left of a life, once its engine is taken apart with all shares.
@@ -178,34 +123,12 @@ fn closed_life<D: Disk, L: Origin, C: Drop>(
         callers,
         left,
     } = ran;
-    match close(engine, shares) {
+    match engine.close(shares) {
         Ok(closed) => Ok(Life {
             closed,
             callers,
             left,
         }),
-        Err(fault) => {
-            drop(callers);
-            Err(fault)
-        }
-    }
-}
-
-/// Takes an engine apart, with the shares of the desk and of the workers.
-fn close<D: Disk, L: Origin>(
-    engine: Engine<D, L>,
-    shares: Vec<Share<L>>,
-) -> Result<Closed<D>, ServerFault>
-    requires parts { L.parts ≡ 65536 }
-    requires all { length shares.items ≡ 9 }
-    ensures since { IfOk result (λ closed.
-        IsSince L.base L.before shares.items closed.base closed.trail.items) }
-    ensures closed { IfOk result (λ closed.
-        AtSomeMoment (based_on D.keeps_model D.present L.base L.before)
-        (Closes closed.store closed.base closed.trail.items closed.settled shares.items)) }
-{
-    match engine.close(shares) {
-        Ok(closed) => Ok(closed),
         Err((fault, _engine, _shares)) => Err(ServerFault::NotClosed(fault)),
     }
 }

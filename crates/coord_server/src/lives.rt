@@ -3,14 +3,14 @@
 ghost use Rattle.std.specs.Prelude.{◌≡◌, ◌+◌, false, true, is_some, length, IfErr, IfOk, OnOk};
 ghost use Rattle.std.specs.Thread.{IsSend, IsSync};
 ghost use Rattle.coord_store.specs.Kept.{has_stopped};
-ghost use Rattle.coord_server.specs.declared.left.Left.TheVariants as LeftAs;
+ghost use Rattle.coord_server.specs.declared.life_end.LifeEnd.TheVariants as LifeEndAs;
 ghost use Rattle.coord_server.specs.Lives.{EndsOneHistory, HasLived, IsOver};
 
-use crate::left::Left;
 use crate::life::{Life, serve_life};
+use crate::life_end::LifeEnd;
 use crate::printing::{Opening, Outlet, Printing};
 use crate::setting::Setting;
-use crate::{Ended, LocalPort, ServerFault};
+use crate::{ServerEnd, ServerFault};
 use coord_admin::Callers;
 use coord_disk::Disk;
 use coord_engine::Closed;
@@ -49,28 +49,23 @@ pub fn serve_lives<
     store: Store<D>,
     callers: C,
     output: W,
-) -> Result<Ended<D, C>, ServerFault>
+) -> Result<ServerEnd<D, C>, ServerFault>
     requires { has_stopped store ≡ false }
-    ensures lives { IfOk result (λ ended.
-        HasLived D.keeps_model D.present C.met most store.world callers ended.callers ended.served
-        ended.closed.store ended.closed.base ended.closed.trail.items ended.closed.settled) }
-    ensures whole { IfOk result (λ ended.
-        EndsOneHistory store.world ended.closed.store ended.closed.base ended.closed.trail.items
-        ended.closed.settled) }
+    ensures lives { IfOk result (HasLived D.keeps_model D.present C.met C.failed most store.world callers) }
+    ensures whole { IfOk result (λ ended. EndsOneHistory store.world ended.closed) }
 {
+    let Outlet {
+        port,
+        opening,
+        printing,
+    } = Outlet::new(rt, alloc, output)?;
     let setting = Setting {
         rt,
         alloc,
+        port: &port,
         life_steps: most,
     };
-    match Outlet::new(rt, alloc, output) {
-        Ok(outlet) => serve_and_print(&setting, store, callers, outlet),
-        Err(_) => {
-            drop(store);
-            drop(callers);
-            Err(ServerFault::OutOfMemory)
-        }
-    }
+    serve_and_print(&setting, store, callers, opening, printing)
 }
 
 /// Lives in a scope with what prints the port's signals.
@@ -83,31 +78,22 @@ fn serve_and_print<
     setting: &Setting<'_, R>,
     store: Store<D>,
     callers: C,
-    outlet: Outlet<&R, W>,
-) -> Result<Ended<D, C>, ServerFault>
+    opening: Opening<W>,
+    printing: Printing<W>,
+) -> Result<ServerEnd<D, C>, ServerFault>
     requires { has_stopped store ≡ false }
-    ensures { IfOk result (λ ended.
-        HasLived D.keeps_model D.present C.met setting.now.life_steps store.world callers ended.callers ended.served
-        ended.closed.store ended.closed.base ended.closed.trail.items ended.closed.settled) }
+    ensures { IfOk result (HasLived D.keeps_model D.present C.met C.failed setting.now.life_steps store.world callers) }
 {
-    let Outlet {
-        port,
-        opening,
-        printing,
-    } = outlet;
-    let port = &port;
     thread::scope(
         thread::scope_env(),
         setting.rt,
-        |scope| -> Result<Ended<D, C>, ServerFault>
+        |scope| -> Result<ServerEnd<D, C>, ServerFault>
             requires { IsSend D.row × IsSend W.row × IsSync R.row × (has_stopped store ≡ false) }
-            ensures { IfOk result (λ ended.
-                HasLived D.keeps_model D.present C.met setting.entry.now.life_steps store.world callers ended.callers
-                ended.served ended.closed.store ended.closed.base ended.closed.trail.items
-                ended.closed.settled) }
+            ensures { IfOk result
+                (HasLived D.keeps_model D.present C.met C.failed setting.entry.now.life_steps store.world callers) }
         {
             let printing = start_printing(scope, setting.rt, printing);
-            print_and_live(setting, store, callers, port, opening, printing)
+            print_and_live(setting, store, callers, opening, printing)
         },
     )
 }
@@ -133,24 +119,19 @@ fn print_and_live<
     setting: &Setting<'_, R>,
     store: Store<D>,
     callers: C,
-    port: &LocalPort<&R>,
     opening: Opening<W>,
     printing: Option<JoinHandle<bool>>,
-) -> Result<Ended<D, C>, ServerFault>
+) -> Result<ServerEnd<D, C>, ServerFault>
     requires { has_stopped store ≡ false }
     ensures printed { OnOk result (is_some printing ≡ true) }
-    ensures lived { IfOk result (λ ended.
-        HasLived D.keeps_model D.present C.met setting.now.life_steps store.world callers ended.callers ended.served
-        ended.closed.store ended.closed.base ended.closed.trail.items ended.closed.settled) }
+    ensures lived { IfOk result
+        (HasLived D.keeps_model D.present C.met C.failed setting.now.life_steps store.world callers) }
 {
     let Some(printing) = printing else {
-        drop(store);
-        drop(callers);
-        drop(opening);
         return Err(ServerFault::OutOfMemory);
     };
-    let lived = live(setting, store, callers, port, opening);
-    port.fall_silent();
+    let lived = live(setting, store, callers, opening);
+    setting.port.fall_silent();
     let is_broken = printing.join(setting.rt);
     let mut ended = lived?;
     ended.is_broken = is_broken;
@@ -163,19 +144,17 @@ fn live<D: Disk + Send, C: Callers + Drop, W: Write + Drop, R: Threads + Wait + 
     setting: &Setting<'_, R>,
     store: Store<D>,
     callers: C,
-    port: &LocalPort<&R>,
     opening: Opening<W>,
-) -> Result<Ended<D, C>, ServerFault>
+) -> Result<ServerEnd<D, C>, ServerFault>
     requires { has_stopped store ≡ false }
-    ensures { IfOk result (λ ended.
-        HasLived D.keeps_model D.present C.met setting.now.life_steps store.world callers ended.callers ended.served
-        ended.closed.store ended.closed.base ended.closed.trail.items ended.closed.settled) }
+    ensures { IfOk result
+        (HasLived D.keeps_model D.present C.met C.failed setting.now.life_steps store.world callers) }
 {
     let mut store = store;
     let mut callers = callers;
     let mut opening = Some(opening);
     for _ in setting.rt.forever() {
-        let life = serve_life(setting, store, callers, port, opening.take())?;
+        let life = serve_life(setting, store, callers, opening.take())?;
         match next_of(life) {
             Ok((left, others)) => {
                 store = left;
@@ -201,8 +180,8 @@ fn is_settled<D: Disk>(closed: &Closed<D>) -> bool
 
 /// The store and the callers with which the next life begins, or how the server ends. It ends also
 /// where a life rests over a store that has stopped.
-fn next_of<D: Disk, C>(life: Life<D, C>) -> Result<(Store<D>, C), Ended<D, C>>
-    ensures next { IfOk result (λ next. (life.left ≡ LeftAs.Resting) ×
+fn next_of<D: Disk, C>(life: Life<D, C>) -> Result<(Store<D>, C), ServerEnd<D, C>>
+    ensures next { IfOk result (λ next. (life.left ≡ LifeEndAs.Resting) ×
         (next.0 ≡ life.closed.store) × (next.1 ≡ life.callers)) }
     ensures settled { IfOk result (λ next. (has_stopped life.closed.store ≡ false) ×
         (life.closed.settled ≡ life.closed.base.count + length life.closed.trail.items)) }
@@ -215,11 +194,11 @@ fn next_of<D: Disk, C>(life: Life<D, C>) -> Result<(Store<D>, C), Ended<D, C>>
         left,
     } = life;
     let served = match left {
-        Left::Resting if is_settled(&closed) => return Ok((closed.store, callers)),
-        Left::Resting => Some(ServerFault::Device),
-        Left::Ended(served) => served,
+        LifeEnd::Resting if is_settled(&closed) => return Ok((closed.store, callers)),
+        LifeEnd::Resting => Some(ServerFault::Device),
+        LifeEnd::Ended(served) => served,
     };
-    Err(Ended {
+    Err(ServerEnd {
         closed,
         callers,
         served,

@@ -73,14 +73,14 @@ fn send<R: Wait>(rt: &R, channels: &[Sender<Packet>], packet: Packet) -> bool {
     }
 }
 
-impl<R: Wait> Port for LocalPort<R> {
+impl<R: Wait> Port for &LocalPort<R> {
     /// A packet says itself where it goes.
-    fn carry(&self, _to: NodeId, packet: Packet) -> bool {
+    fn carry(&mut self, _to: NodeId, packet: Packet) -> bool {
         let channels = self.channels.lock(&self.rt);
         send(&self.rt, &channels, packet)
     }
 
-    fn signal(&self, node: NodeId, epoch: u64) -> bool {
+    fn signal(&mut self, node: NodeId, epoch: u64) -> bool {
         match &*self.signals.lock(&self.rt) {
             Some(signals) => signals.send(&self.rt, Signal { node, epoch }).is_ok(),
             None => false,

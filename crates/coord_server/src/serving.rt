@@ -9,7 +9,7 @@ ghost use Rattle.coord_server.specs.Ending.{fault_at_end};
 ghost use Rattle.coord_server.specs.Lives.{EndsOneHistory, HasLived, HasLivedToClose, life_steps};
 
 use crate::lives::serve_lives;
-use crate::{Ended, ServerFault};
+use crate::{ServerEnd, ServerFault};
 use coord_admin::{Accepted, Callers, Patience};
 use coord_disk::Disk;
 use coord_engine::Closed;
@@ -38,11 +38,8 @@ pub fn serve_store<
 >(rt: &R, alloc: Global, store: Store<D>, listener: &A, output: W) -> Result<Closed<D>, ServerFault>
     requires { has_stopped store ≡ false }
     ensures going { IfOk result (λ closed. has_stopped closed.store ≡ false) }
-    ensures lives { IfOk result (λ closed.
-        HasLivedToClose D.keeps_model D.present store.world closed.store closed.base
-        closed.trail.items closed.settled) }
-    ensures whole { IfOk result (λ closed.
-        EndsOneHistory store.world closed.store closed.base closed.trail.items closed.settled) }
+    ensures lives { IfOk result (HasLivedToClose D.keeps_model D.present store.world) }
+    ensures whole { IfOk result (EndsOneHistory store.world) }
     ensures images { IfOk result (λ closed. D.keeps_model closed.store.disk ≡ true →
         (image : List ℕ) → IsImage (D.present closed.store.disk) image →
         Recovered image closed.store.world) }
@@ -68,11 +65,8 @@ fn serve_accepted<
     requires going { has_stopped store ≡ false }
     requires patience { IsUsual callers }
     ensures going { IfOk result (λ closed. has_stopped closed.store ≡ false) }
-    ensures lives { IfOk result (λ closed.
-        HasLivedToClose D.keeps_model D.present store.world closed.store closed.base
-        closed.trail.items closed.settled) }
-    ensures whole { IfOk result (λ closed.
-        EndsOneHistory store.world closed.store closed.base closed.trail.items closed.settled) }
+    ensures lives { IfOk result (HasLivedToClose D.keeps_model D.present store.world) }
+    ensures whole { IfOk result (EndsOneHistory store.world) }
     ensures images { IfOk result (λ closed. D.keeps_model closed.store.disk ≡ true →
         (image : List ℕ) → IsImage (D.present closed.store.disk) image →
         Recovered image closed.store.world) }
@@ -82,14 +76,14 @@ fn serve_accepted<
 }
 
 /// What is left, unless there is a fault to be told.
-fn closed_of<D: Disk, C: Drop>(ended: Ended<D, C>) -> Result<Closed<D>, ServerFault>
+fn closed_of<D: Disk, C: Drop>(ended: ServerEnd<D, C>) -> Result<Closed<D>, ServerFault>
     ensures closed { IfOk result (λ closed. (closed ≡ ended.closed) ×
         (fault_at_end (has_stopped ended.closed.store) ended.served ended.is_broken ≡ None)) }
     ensures fault { IfErr result (λ fault.
         fault_at_end (has_stopped ended.closed.store) ended.served ended.is_broken ≡ Some fault) }
 {
     let fault = ended.fault();
-    let Ended {
+    let ServerEnd {
         closed,
         callers,
         served: _,
@@ -112,14 +106,17 @@ pub fn serve_callers<
     C: Callers + Drop,
     W: Write + Send + Drop,
     R: Threads + Wait + Clock + Sync,
->(rt: &R, alloc: Global, store: Store<D>, callers: C, output: W) -> Result<Ended<D, C>, ServerFault>
+>(
+    rt: &R,
+    alloc: Global,
+    store: Store<D>,
+    callers: C,
+    output: W,
+) -> Result<ServerEnd<D, C>, ServerFault>
     requires { has_stopped store ≡ false }
-    ensures lives { IfOk result (λ ended.
-        HasLived D.keeps_model D.present C.met life_steps store.world callers ended.callers ended.served
-        ended.closed.store ended.closed.base ended.closed.trail.items ended.closed.settled) }
-    ensures whole { IfOk result (λ ended.
-        EndsOneHistory store.world ended.closed.store ended.closed.base ended.closed.trail.items
-        ended.closed.settled) }
+    ensures lives { IfOk result
+        (HasLived D.keeps_model D.present C.met C.failed life_steps store.world callers) }
+    ensures whole { IfOk result (λ ended. EndsOneHistory store.world ended.closed) }
     ensures images { IfOk result (λ ended. D.keeps_model ended.closed.store.disk ≡ true →
         ImagesGive D.present ended.closed.store) }
 {

@@ -1,11 +1,14 @@
 //! What all lives of a server share.
 
+use crate::LocalPort;
 use std::alloc::Global;
+use std::sync::Wait;
 
-/// The runtime and the memory of a server, and after how many steps a life of it ends.
+/// The runtime, the memory and the port of a server, and after how many steps a life of it ends.
 #[derive(Drop)]
-pub struct Setting<'r, R> {
+pub struct Setting<'r, R: Wait> {
     pub rt: &'r R,
     pub alloc: Global,
+    pub port: &'r LocalPort<&'r R>,
     pub life_steps: usize,
 }

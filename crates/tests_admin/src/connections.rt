@@ -6,6 +6,7 @@ use std::alloc::Global;
 use std::io::{Read, Write};
 use std::net::{Net, Shutdown, SocketAddr, TcpListener, TcpStream};
 use std::process::Abort;
+use std::sync::Wait;
 use std::thread::Threads;
 use std::time::{Clock, Duration, Instant};
 use std::{io, thread};
@@ -54,10 +55,15 @@ fn is_text(text: String, wanted: &str) -> bool {
 }
 
 /// Serves clients until one of them closes the desk.
-fn serves<R: Clock + Abort>(rt: &R, alloc: Global, listener: &TcpListener, patience: Patience) {
+fn serves<R: Clock + Wait + Abort>(
+    rt: &R,
+    alloc: Global,
+    listener: &TcpListener,
+    patience: Patience,
+) {
     let mut callers = Accepted::new(rt, listener, patience);
     let mut desk = CountDesk::new(alloc, 0);
-    let served = serve_connections(alloc, &mut callers, &mut desk);
+    let served = serve_connections(rt, alloc, usize::MAX, &mut callers, &mut desk);
     drop(callers);
     drop(desk);
     served.expect(rt, "no close");
@@ -65,10 +71,9 @@ fn serves<R: Clock + Abort>(rt: &R, alloc: Global, listener: &TcpListener, patie
 
 /// Whether a client that sends byte by byte gets its replies, and then one that closes the desk its
 /// own.
-fn is_served<R: Net<Stream = TcpStream, Listener = TcpListener> + Threads + Clock + Abort + Sync>(
-    rt: &R,
-    alloc: Global,
-) -> bool {
+fn is_served<
+    R: Net<Stream = TcpStream, Listener = TcpListener> + Threads + Wait + Clock + Abort + Sync,
+>(rt: &R, alloc: Global) -> bool {
     let lines = worked_lines(alloc).expect(rt, "no memory");
     let (listener, address) = listens(rt);
     let slow = TcpStream::connect(rt, address).expect(rt, "no connection");
@@ -152,11 +157,9 @@ fn patience(holder: Holder) -> Patience {
 }
 
 /// Whether a client that holds its connection is cut off, so that the next one is served soon.
-fn is_cut_off<R: Net<Stream = TcpStream, Listener = TcpListener> + Threads + Clock + Sync + Abort>(
-    rt: &R,
-    alloc: Global,
-    holder: Holder,
-) -> bool {
+fn is_cut_off<
+    R: Net<Stream = TcpStream, Listener = TcpListener> + Threads + Wait + Clock + Sync + Abort,
+>(rt: &R, alloc: Global, holder: Holder) -> bool {
     let start = Instant::now(rt).expect(rt, "no time");
     let (listener, address) = listens(rt);
     let mut holding = TcpStream::connect(rt, address).expect(rt, "no connection");
@@ -207,7 +210,7 @@ fn ask_on<R: Clock>(rt: &R, stream: &mut TcpStream) -> u64 {
 
 /// Whether a client that asks on is answered for longer than it may be silent.
 fn is_answered_on<
-    R: Net<Stream = TcpStream, Listener = TcpListener> + Threads + Clock + Sync + Abort,
+    R: Net<Stream = TcpStream, Listener = TcpListener> + Threads + Wait + Clock + Sync + Abort,
 >(rt: &R, alloc: Global) -> bool {
     let mut patience = Patience::usual();
     patience.silence = Duration::from_millis(1_000);
@@ -365,10 +368,9 @@ fn reads_its_answer<R: Net<Stream = TcpStream, Listener = TcpListener> + Abort>(
 }
 
 /// Whether a client that has sent more behind its close still reads the answer.
-fn is_answered<R: Net<Stream = TcpStream, Listener = TcpListener> + Threads + Clock + Sync + Abort>(
-    rt: &R,
-    alloc: Global,
-) -> bool {
+fn is_answered<
+    R: Net<Stream = TcpStream, Listener = TcpListener> + Threads + Wait + Clock + Sync + Abort,
+>(rt: &R, alloc: Global) -> bool {
     let (listener, address) = listens(rt);
     let ((), is_answered) = thread::join(
         rt,

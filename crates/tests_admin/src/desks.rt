@@ -39,6 +39,12 @@ impl Desk for OneLink {
 
     ghost replies = { λ _ _ _ _. ⊤ };
 
+    ghost keeps = { λ _ _. ⊤ };
+
+    fn kept(&self) -> usize {
+        0
+    }
+
     fn post(&mut self, _client: Client, _number: u64, _command: Command) {}
 
     fn reply(&mut self, _posted: ()) -> Result<Reply, Refusal> {

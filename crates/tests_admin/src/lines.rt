@@ -35,7 +35,7 @@ pub(crate) fn serve_halves<R: Read, W: Write, D: Desk>(
     desk: &mut D,
 ) -> Result<Ended, ServeFault> {
     let mut halves = Halves { reader, writer };
-    serve(alloc, &mut halves, desk)
+    serve(alloc, usize::MAX, &mut halves, desk)
 }
 
 const RESET: &str = "{\"op\":\"reset\",\"client\":1,\"number\":1,\"node\":1}";

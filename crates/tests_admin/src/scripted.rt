@@ -1,9 +1,12 @@
 //! Clients by a script, and a listener that fails.
 
-use coord_admin::{ACCEPT_TRIES, Accepted, CountDesk, DISCARD_READS, Patience, serve_connections};
+use coord_admin::{
+    ACCEPT_TRIES, Accepted, CountDesk, DISCARD_READS, Patience, Stop, serve_connections,
+};
 use std::alloc::Global;
 use std::io::{ErrorKind, Read, Write};
 use std::net::{IpAddr, Ipv4Addr, OpenListener, OpenStream, Shutdown, SocketAddr};
+use std::sync::Wait;
 use std::sync::atomic::{AtomicU64, Ordering};
 use std::time::{Clock, Duration};
 use std::{io, thread};
@@ -191,7 +194,7 @@ struct Met {
     read_on: u64,
 }
 
-fn ended<T: Clock>(rt: &T, alloc: Global, clients: [Client; 6], patience: Patience) -> Met {
+fn ended<T: Clock + Wait>(rt: &T, alloc: Global, clients: [Client; 6], patience: Patience) -> Met {
     let script = Script {
         clock: rt,
         clients,
@@ -204,7 +207,8 @@ fn ended<T: Clock>(rt: &T, alloc: Global, clients: [Client; 6], patience: Patien
     let listener = &script;
     let mut callers = Accepted::new(rt, &listener, patience);
     let mut desk = CountDesk::new(alloc, 0);
-    let is_closed = serve_connections(alloc, &mut callers, &mut desk).is_ok();
+    let served = serve_connections(rt, alloc, usize::MAX, &mut callers, &mut desk);
+    let is_closed = matches!(served, Ok(Stop::Closed));
     drop(callers);
     drop(desk);
     let met = script.met(is_closed);
@@ -277,7 +281,7 @@ fn a_reply_that_is_taken_slowly(rt: HostRuntime) {
 }
 
 /// How often a client that has closed the desk and sends on is read, where that is waited for so long.
-fn read_on<T: Clock>(rt: &T, alloc: Global, discard: Duration) -> u64 {
+fn read_on<T: Clock + Wait>(rt: &T, alloc: Global, discard: Duration) -> u64 {
     let mut patience = patience();
     patience.discard = discard;
     ended(rt, alloc, [Client::SendsOn; 6], patience).read_on
@@ -321,7 +325,7 @@ const PASSING: [i32; 16] = [
 const LASTING: [i32; 4] = [9, 14, 22, 88];
 
 /// What becomes of a client that closes the desk behind a listener that fails so once.
-fn behind_failure<T: Clock>(rt: &T, alloc: Global, code: i32) -> Met {
+fn behind_failure<T: Clock + Wait>(rt: &T, alloc: Global, code: i32) -> Met {
     let mut clients = [Client::Closes; 6];
     clients[0] = Client::Fails(code);
     ended(rt, alloc, clients, patience())

@@ -59,6 +59,12 @@ impl Desk for Told {
 
     ghost replies = { λ _ _ _ _. ⊤ };
 
+    ghost keeps = { λ _ _. ⊤ };
+
+    fn kept(&self) -> usize {
+        0
+    }
+
     fn post(&mut self, _client: Client, _number: u64, _command: Command) -> Posted {
         self.keep('p');
         self.step = self.step.saturating_add(1);
@@ -178,7 +184,7 @@ fn serve_pieces<D: Desk>(
     pieces: &mut Pieces<'_>,
     desk: &mut D,
 ) -> Result<Ended, ServeFault> {
-    serve(alloc, pieces, desk)
+    serve(alloc, usize::MAX, pieces, desk)
 }
 
 /// Three orders, a show, two orders, a line with a fault, an order, a close, and an order behind it.
@@ -444,7 +450,7 @@ fn are_posted_over_a_socket<R: Net<Stream = TcpStream, Listener = TcpListener> +
     await_bytes(rt, alloc, &stream, lines.len());
     let mut line = TimedStream::new(rt, stream, Patience::usual()).expect(rt, "no time");
     let mut desk = Told::new(alloc);
-    let ended = serve(alloc, &mut line, &mut desk);
+    let ended = serve(alloc, usize::MAX, &mut line, &mut desk);
     let are_so = are_first_and_then(&desk.letters, 'p', 'r');
     drop(desk);
     drop(line);

@@ -53,13 +53,13 @@ fn count_one<R: Wait>(rt: &R, count: &Mutex<u64>) {
     *count = count.wrapping_add(1);
 }
 
-impl<R: Wait> Port for Counting<R> {
-    fn carry(&self, _to: NodeId, _packet: Packet) -> bool {
+impl<R: Wait> Port for &Counting<R> {
+    fn carry(&mut self, _to: NodeId, _packet: Packet) -> bool {
         count_one(&self.rt, &self.carried);
         true
     }
 
-    fn signal(&self, _node: NodeId, _epoch: u64) -> bool {
+    fn signal(&mut self, _node: NodeId, _epoch: u64) -> bool {
         count_one(&self.rt, &self.signalled);
         true
     }
@@ -70,12 +70,12 @@ fn hands_each_once<D: Disk, L: Origin, R: Wait>(
     rt: &R,
     engine: &Engine<D, L>,
 ) -> Result<bool, Fail> {
-    let port = Counting::new(rt);
+    let counting = Counting::new(rt);
     let Some(releases) = engine.flush_once(rt)? else {
         return Ok(false);
     };
-    let count = hand_over(rt, engine, &port, releases);
-    Ok(count == 2 && port.carried() == 1 && port.signalled() == 1)
+    let count = hand_over(rt, engine, &mut &counting, releases);
+    Ok(count == 2 && counting.carried() == 1 && counting.signalled() == 1)
 }
 
 fn hand_each<D: Disk, L: Origin, R: Wait + Abort>(
@@ -134,11 +134,11 @@ fn flushes_all<D: Disk, L: Origin, R: Wait + Clock + Abort>(
     requires before { ledger.log.trail ≡ L.before }
 {
     let engine: Engine<D, L> = engine(rt, alloc, blank, ledger);
-    let port = Counting::new(rt);
+    let counting = Counting::new(rt);
     engine.finish(rt);
-    flusher(rt, &engine, &port);
+    flusher(rt, &engine, &mut &counting);
     drop(engine);
-    port.carried() == 0 && port.signalled() == u64::from(NODES)
+    counting.carried() == 0 && counting.signalled() == u64::from(NODES)
 }
 
 // Nodes that are alone, each of which is reset, by one client.

@@ -29,12 +29,12 @@ struct Epochs<R: Wait> {
     last: Mutex<u64>,
 }
 
-impl<R: Wait> Port for Epochs<R> {
-    fn carry(&self, _to: NodeId, _packet: Packet) -> bool {
+impl<R: Wait> Port for &Epochs<R> {
+    fn carry(&mut self, _to: NodeId, _packet: Packet) -> bool {
         true
     }
 
-    fn signal(&self, node: NodeId, epoch: u64) -> bool {
+    fn signal(&mut self, node: NodeId, epoch: u64) -> bool {
         let mut last = self.last.lock(&self.rt);
         let is_next = node.number() == NODE && last.checked_add(1) == Some(epoch);
         if is_next {
@@ -65,7 +65,7 @@ fn flies<D: Disk, L: Origin, R: Wait>(
         }
     }
     match engine.flush_once(rt) {
-        Ok(Some(releases)) => hand_over(rt, engine, port, releases) == STEPS,
+        Ok(Some(releases)) => hand_over(rt, engine, &mut { port }, releases) == STEPS,
         Ok(None) | Err(_) => false,
     }
 }

@@ -5,7 +5,7 @@ use crate::asking::{CLOSE, ask, close, is_text, ring_lines};
 use crate::rings::{goes_on, left, listens, printed_nodes};
 use coord_admin::{Accepted, Patience};
 use coord_disk::{Call, Choice, CrashDisk, Disk, FailingDisk, MemDisk, Rule};
-use coord_server::{Ended, serve_callers};
+use coord_server::{ServerEnd, serve_callers};
 use coord_store::Store;
 use std::alloc::Global;
 use std::io::{ErrorKind, Write};
@@ -79,7 +79,7 @@ fn served<D: Disk + Send, W: Write + Send + Drop, R: Threads + Wait + Clock + Sy
     assert!(rt; !store.stopped());
     let callers = Accepted::new(rt, listener, Patience::usual());
     let ended = serve_callers(rt, alloc, store, callers, output).expect(rt, "no end");
-    let Ended {
+    let ServerEnd {
         closed,
         callers,
         served: _,

@@ -58,6 +58,7 @@ fn comes_once<R: Wait>(
     packet: Packet,
 ) -> bool {
     let node = goes_to(&packet);
+    let mut port = port;
     if !port.carry(node, packet) {
         return false;
     }
@@ -103,6 +104,7 @@ fn all_told<R: Wait>(
     signals: &Receiver<Signal>,
     node: NodeId,
 ) -> bool {
+    let mut port = port;
     for epoch in NUMBERS {
         if !port.signal(node, epoch) {
             return false;

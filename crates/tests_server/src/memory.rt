@@ -44,6 +44,12 @@ impl<E: Desk> Desk for Forgetful<E> {
 
     ghost replies = { λ _ _ _ _. Unit {0} };
 
+    ghost keeps = { λ _ _. Unit {0} };
+
+    fn kept(&self) -> usize {
+        self.desk.kept()
+    }
+
     fn post(&mut self, client: Client, number: u64, command: Command) -> E::Posted {
         self.desk.post(client, number, command)
     }
@@ -82,7 +88,7 @@ fn is_replied<E: Desk>(alloc: Global, desk: &mut E) -> Option<bool> {
         reader: LINE,
         writer: &mut told,
     };
-    let served = serve(alloc, &mut halves, desk).is_ok();
+    let served = serve(alloc, usize::MAX, &mut halves, desk).is_ok();
     let is_refused = told.as_slice() == NO_MEMORY.as_bytes();
     let is_reply = told.as_slice() == REPLY.as_bytes();
     drop(told);
@@ -122,7 +128,10 @@ fn run<D: Disk + Send, L: Origin + Send + Sync, R: Threads + Wait + Clock + Sync
                 has_forgotten: false,
             };
             let flushing = scope
-                .spawn(move || flusher(rt, engine, port))
+                .spawn(move || {
+                    let mut port = port;
+                    flusher(rt, engine, &mut port);
+                })
                 .ok()
                 .expect(rt, "no thread");
             let is_replied = is_replied_at_last(alloc, &mut desk);

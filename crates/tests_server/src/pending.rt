@@ -6,7 +6,7 @@ ghost use Rattle.std.specs.Thread.{IsSend, IsSync};
 use crate::rings::created;
 use coord_admin::{Desk, Halves, serve};
 use coord_disk::{Disk, MemDisk};
-use coord_engine::{Engine, Origin, Port, Share, flusher};
+use coord_engine::{Engine, Origin, Share, flusher};
 use coord_ledger::{Ledger, View};
 use coord_server::{EngineDesk, LocalPort};
 use coord_types::{Client, Command, Group, NodeId, Refusal, Reply, Step};
@@ -57,6 +57,12 @@ impl<'a, E: Desk> Desk for Telling<'a, E> {
 
     ghost replies = { λ _ _ _ _. Unit {0} };
 
+    ghost keeps = { λ _ _. Unit {0} };
+
+    fn kept(&self) -> usize {
+        self.desk.kept()
+    }
+
     fn post(&mut self, client: Client, number: u64, command: Command) -> E::Posted {
         self.desk.post(client, number, command)
     }
@@ -90,17 +96,17 @@ fn are_replied<E: Desk>(alloc: Global, desk: &mut E) -> bool {
         reader: LINES,
         writer: &mut told,
     };
-    let served = serve(alloc, &mut halves, desk).is_ok();
+    let served = serve(alloc, usize::MAX, &mut halves, desk).is_ok();
     let are_replies = told.as_slice() == REPLIES.as_bytes();
     drop(told);
     served && are_replies
 }
 
 /// Flushes once a reply is waited for.
-fn flush_then<D: Disk, L: Origin, P: Port, R: Wait + Clock>(
+fn flush_then<D: Disk, L: Origin, R: Wait + Clock>(
     rt: &R,
     engine: &Engine<D, L>,
-    port: &P,
+    port: &LocalPort<&R>,
     is_waiting: &AtomicBool,
 ) {
     for _ in 0..LOOKS {
@@ -109,7 +115,8 @@ fn flush_then<D: Disk, L: Origin, P: Port, R: Wait + Clock>(
         }
         thread::sleep(rt, Duration::from_millis(1));
     }
-    flusher(rt, engine, port);
+    let mut port = port;
+    flusher(rt, engine, &mut port);
 }
 
 /// The first step adds the node, and each other one resets it.

@@ -4,7 +4,7 @@ use crate::asking::{ask, close, is_text};
 use crate::rings::{left, listens};
 use coord_admin::{Accepted, Patience};
 use coord_disk::{Call, Disk, FailingDisk, MemDisk, Rule};
-use coord_server::{Ended, serve_callers};
+use coord_server::{ServerEnd, serve_callers};
 use coord_store::Store;
 use std::alloc::{AllocError, Global};
 use std::fmt::Write as _;
@@ -208,7 +208,7 @@ fn serves<D: Disk + Send, W: Write + Send + Drop, R: Threads + Wait + Clock + Sy
     assert!(rt; !store.stopped());
     let callers = Accepted::new(rt, listener, Patience::usual());
     let ended = serve_callers(rt, alloc, store, callers, output).expect(rt, "no end");
-    let Ended {
+    let ServerEnd {
         closed,
         callers,
         served: _,

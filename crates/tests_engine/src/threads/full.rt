@@ -67,6 +67,6 @@ pub(super) fn is_met_full<D: Disk, L: Origin, R: Wait + Clock>(
         Ok(None) | Err(_) => return false,
     };
     let is_full = is_filled(rt, engine, share, MOST + 1);
-    let count = hand_over(rt, engine, ring, releases);
+    let count = hand_over(rt, engine, &mut { ring }, releases);
     count > 0 && have_received(rt, ring) && is_full
 }

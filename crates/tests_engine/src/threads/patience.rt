@@ -32,15 +32,15 @@ const TRIES: u64 = 8;
 const OTHER: u8 = 9;
 
 /// A port that loses all that it takes, and doesn't know.
-#[derive(Drop)]
+#[derive(Clone, Copy, Drop)]
 struct Sink;
 
 impl Port for Sink {
-    fn carry(&self, _to: NodeId, _packet: Packet) -> bool {
+    fn carry(&mut self, _to: NodeId, _packet: Packet) -> bool {
         true
     }
 
-    fn signal(&self, _node: NodeId, _epoch: u64) -> bool {
+    fn signal(&mut self, _node: NodeId, _epoch: u64) -> bool {
         true
     }
 }
@@ -109,8 +109,6 @@ fn run<D: Disk + Send, L: Origin + Send + Sync, R: Threads + Wait + Clock + Sync
     rt: &R,
     engine: &Engine<D, L>,
 ) -> bool {
-    let port = Sink;
-    let port = &port;
     thread::scope(
         thread::scope_env(),
         rt,
@@ -118,7 +116,7 @@ fn run<D: Disk + Send, L: Origin + Send + Sync, R: Threads + Wait + Clock + Sync
             requires { IsSend D.row × IsSend L.row × IsSync L.row × IsSync R.row }
         {
             let mut share = engine.share(rt).expect(rt, "no share");
-            let flushing = start_flusher(scope, rt, engine, port);
+            let flushing = start_flusher(scope, rt, engine, Sink);
             let is_quick = is_quick_once(rt, engine, &mut share);
             engine.finish(rt);
             flushing.join(rt);

@@ -196,12 +196,12 @@ impl<R: Wait> Ring<R> {
     }
 }
 
-impl<R: Wait> Port for Ring<R> {
-    fn carry(&self, to: NodeId, packet: Packet) -> bool {
+impl<R: Wait> Port for &Ring<R> {
+    fn carry(&mut self, to: NodeId, packet: Packet) -> bool {
         self.carrier.lock(&self.rt).carry(&self.rt, to, packet)
     }
 
-    fn signal(&self, node: NodeId, epoch: u64) -> bool {
+    fn signal(&mut self, node: NodeId, epoch: u64) -> bool {
         let mut signals = self.signals.lock(&self.rt);
         signals.push(Signal { node, epoch }).is_ok()
     }

@@ -20,7 +20,7 @@ use std::sync::Wait;
 use std::sync::ledger::Blank;
 use std::thread;
 use std::thread::{JoinHandle, Scope, Threads};
-use std::time::{Clock, Duration};
+use std::time::{Clock, Duration, Instant};
 
 /// How many nodes there are.
 pub(super) const NODES: u8 = 8;
@@ -43,7 +43,7 @@ fn channels<R: Abort>(rt: &R, alloc: Global) -> (Vec<Sender<Packet>>, Vec<Receiv
 // Sends again what may have been lost.
 fn resend<D: Disk, L: Origin, R: Wait>(rt: &R, engine: &Engine<D, L>, ring: &Ring<&R>) {
     if let Ok(releases) = engine.resend(rt) {
-        hand_over(rt, engine, ring, releases);
+        hand_over(rt, engine, &mut { ring }, releases);
     }
 }
 
@@ -108,7 +108,7 @@ fn run<D: Disk + Send, L: Origin + Send + Sync, R: Threads + Wait + Clock + Sync
             for packets in channels {
                 let share = engine.share(rt).expect(rt, "no share");
                 let started = scope
-                    .spawn(move || worker(rt, alloc, engine, packets, share))
+                    .spawn(move || worker(rt, alloc, engine, packets.iter(rt), share))
                     .ok()
                     .expect(rt, "no thread");
                 running.push(started).expect(rt, "no memory");
@@ -137,11 +137,14 @@ pub(super) fn start_flusher<
     E,
     D: Disk + Send,
     L: Origin + Send + Sync,
-    P: Port + Sync,
+    P: Port + Send + Drop + 'p,
     R: Wait + Clock + Sync + Abort,
->(scope: &Scope<'s, E>, rt: &'r R, engine: &'e Engine<D, L>, port: &'p P) -> JoinHandle<()> {
+>(scope: &Scope<'s, E>, rt: &'r R, engine: &'e Engine<D, L>, port: P) -> JoinHandle<()> {
     scope
-        .spawn(move || flusher(rt, engine, port))
+        .spawn(move || {
+            let mut port = port;
+            flusher(rt, engine, &mut port)
+        })
         .ok()
         .expect(rt, "no thread")
 }
@@ -198,4 +201,33 @@ fn all_nodes_of_a_lossy_ring_signal(rt: HostRuntime) {
 #[test]
 fn all_nodes_of_a_full_ring_signal(rt: HostRuntime) {
     assert!(rt; all_nodes_signal(&rt, rt.alloc(), Manner::Full));
+}
+
+/// How often a ring is reset to see how quick that is, since the machine may be busy.
+const TRIES: u64 = 20;
+
+/// In how many milliseconds it has to be done once. It takes twelve flights at least, and were packets
+/// waited for that have come, each of them would wait for 5.
+const MOST: u64 = 50;
+
+// Whether a ring is reset in time.
+fn is_quick<R: Threads + Wait + Clock + Sync + Abort>(rt: &R, alloc: Global) -> bool {
+    let start = Instant::now(rt).expect(rt, "no time");
+    assert!(rt; all_nodes_signal(rt, alloc, Manner::Faithful));
+    start.elapsed(rt).expect(rt, "no time") < Duration::from_millis(MOST)
+}
+
+// Whether one is, if that is tried again and again.
+fn is_quick_once<R: Threads + Wait + Clock + Sync + Abort>(rt: &R, alloc: Global) -> bool {
+    for _ in 0..TRIES {
+        if is_quick(rt, alloc) {
+            return true;
+        }
+    }
+    false
+}
+
+#[test]
+fn packets_that_came_are_waited_for_no_more(rt: HostRuntime) {
+    assert!(rt; is_quick_once(&rt, rt.alloc()));
 }

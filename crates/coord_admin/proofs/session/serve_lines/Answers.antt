@@ -52,46 +52,62 @@ returns-in-Ok-eq0-clause-served g c =
 pub returns-in_err-take-in-Ok-clause-served : goal.returns-in_err-take-in-Ok-clause-served
 returns-in_err-take-in-Ok-clause-served g c =
     let inv = c.loop.invariant in
-    let came = take c.in-Ok.count c.receive.new.buffer in
+    let bytes_read = take c.in-Ok.count c.receive_in_life.new.buffer in
     let ready = so-far-some g.D.Desk.answers g.D.Desk.posts g.C.Duplex.exchanged g.met.C.Duplex.in_turn c.args.desk.now _ _ c.args.connection.now _ _ inv.1.0 c.loop.line _ _ inv.1.2 c.in_ok-answer_before_wait.ensures.whole in
-    let cut = so-far-cut g.D.Desk.answers g.D.Desk.posts g.C.Duplex.exchanged g.met.C.Duplex.in_turn c.args.desk.now _ _ c.args.connection.now _ _ _ inv.1.0 came c.loop.line _ ready c.in-Ok.ensures.bytes c.in_err-take-in-Ok.ensures.failed in
-    served-in-part g.D.Desk.answers g.D.Desk.posts g.C.Duplex.exchanged c.args.desk.now _ c.args.connection.now _ (inv.1.0 ++ came) _ c.from_residual-in_err-take-in-Ok.ensures.1 cut
+    let cut = so-far-cut g.D.Desk.answers g.D.Desk.posts g.C.Duplex.exchanged g.met.C.Duplex.in_turn c.args.desk.now _ _ c.args.connection.now _ _ _ inv.1.0 bytes_read c.loop.line _ ready c.in-Ok.ensures.bytes c.in_err-take-in-Ok.ensures.failed in
+    served-in-part g.D.Desk.answers g.D.Desk.posts g.C.Duplex.exchanged c.args.desk.now _ c.args.connection.now _ (inv.1.0 ++ bytes_read) _ c.from_residual-in_err-take-in-Ok.ensures.1 cut
 
 pub returns-then-branch-clause-served : goal.returns-then-branch-clause-served
 returns-then-branch-clause-served g c =
     let inv = c.loop.invariant in
-    let came = take c.in-Ok.count c.receive.new.buffer in
+    let bytes_read = take c.in-Ok.count c.receive_in_life.new.buffer in
     let ready = so-far-some g.D.Desk.answers g.D.Desk.posts g.C.Duplex.exchanged g.met.C.Duplex.in_turn c.args.desk.now _ _ c.args.connection.now _ _ inv.1.0 c.loop.line _ _ inv.1.2 c.in_ok-answer_before_wait.ensures.whole in
-    let closed = so-far-closed g.D.Desk.answers g.D.Desk.posts g.C.Duplex.exchanged g.met.C.Duplex.in_turn c.args.desk.now _ _ c.args.connection.now _ _ _ inv.1.0 came c.loop.line _ ready c.in-Ok.ensures.bytes (c.in_ok-take-in-Ok.ensures.closed (search rules)) in
-    (inv.1.0 ++ came, closed.0, closed.1, closed.2)
+    let closed = so-far-closed g.D.Desk.answers g.D.Desk.posts g.C.Duplex.exchanged g.met.C.Duplex.in_turn c.args.desk.now _ _ c.args.connection.now _ _ _ inv.1.0 bytes_read c.loop.line _ ready c.in-Ok.ensures.bytes (c.in_ok-take-in-Ok.ensures.closed (search rules)) in
+    (inv.1.0 ++ bytes_read, closed.0, closed.1, closed.2)
 
-pub returns-in_err-answer_all-in-Err-clause-served : goal.returns-in_err-answer_all-in-Err-clause-served
-returns-in_err-answer_all-in-Err-clause-served g c =
+pub returns-in_err-answer_all-in-Err-Failed-clause-served : goal.returns-in_err-answer_all-in-Err-Failed-clause-served
+returns-in_err-answer_all-in-Err-Failed-clause-served g c =
     let inv = c.loop.invariant in
     let ready = so-far-some g.D.Desk.answers g.D.Desk.posts g.C.Duplex.exchanged g.met.C.Duplex.in_turn c.args.desk.now _ _ c.args.connection.now _ _ inv.1.0 c.loop.line _ _ inv.1.2 c.in_ok-answer_before_wait.ensures.whole in
-    let read = so-far-still g.D.Desk.answers g.D.Desk.posts g.C.Duplex.exchanged g.met.C.Duplex.in_turn c.args.desk.now _ c.args.connection.now _ _ inv.1.0 c.loop.line _ ready c.in-Err.ensures.failed in
-    let broken = so-far-broken g.D.Desk.answers g.D.Desk.posts g.C.Duplex.exchanged g.met.C.Duplex.in_turn c.args.desk.now _ _ c.args.connection.now _ _ inv.1.0 c.loop.line _ read c.in_err-answer_all-in-Err.ensures.part in
-    served-in-part g.D.Desk.answers g.D.Desk.posts g.C.Duplex.exchanged c.args.desk.now _ c.args.connection.now _ inv.1.0 _ c.from_residual-in_err-answer_all-in-Err.ensures.1 broken
+    let read = so-far-still g.D.Desk.answers g.D.Desk.posts g.C.Duplex.exchanged g.met.C.Duplex.in_turn c.args.desk.now _ c.args.connection.now _ _ inv.1.0 c.loop.line _ ready c.in-Err-Failed.ensures.failed in
+    let broken = so-far-broken g.D.Desk.answers g.D.Desk.posts g.C.Duplex.exchanged g.met.C.Duplex.in_turn c.args.desk.now _ _ c.args.connection.now _ _ inv.1.0 c.loop.line _ read c.in_err-answer_all-in-Err-Failed.ensures.part in
+    served-in-part g.D.Desk.answers g.D.Desk.posts g.C.Duplex.exchanged c.args.desk.now _ c.args.connection.now _ inv.1.0 _ c.from_residual-in_err-answer_all-in-Err-Failed.ensures.1 broken
 
-pub returns-in-Err-clause-served : goal.returns-in-Err-clause-served
-returns-in-Err-clause-served g c =
+pub returns-in-Err-Failed-clause-served : goal.returns-in-Err-Failed-clause-served
+returns-in-Err-Failed-clause-served g c =
     let inv = c.loop.invariant in
     let ready = so-far-some g.D.Desk.answers g.D.Desk.posts g.C.Duplex.exchanged g.met.C.Duplex.in_turn c.args.desk.now _ _ c.args.connection.now _ _ inv.1.0 c.loop.line _ _ inv.1.2 c.in_ok-answer_before_wait.ensures.whole in
-    let read = so-far-still g.D.Desk.answers g.D.Desk.posts g.C.Duplex.exchanged g.met.C.Duplex.in_turn c.args.desk.now _ c.args.connection.now _ _ inv.1.0 c.loop.line _ ready c.in-Err.ensures.failed in
-    let all = so-far-all g.D.Desk.answers g.D.Desk.posts g.C.Duplex.exchanged g.met.C.Duplex.in_turn c.args.desk.now _ _ c.args.connection.now _ _ inv.1.0 c.loop.line _ read c.in_ok-answer_all-in-Err.ensures.whole in
+    let read = so-far-still g.D.Desk.answers g.D.Desk.posts g.C.Duplex.exchanged g.met.C.Duplex.in_turn c.args.desk.now _ c.args.connection.now _ _ inv.1.0 c.loop.line _ ready c.in-Err-Failed.ensures.failed in
+    let all = so-far-all g.D.Desk.answers g.D.Desk.posts g.C.Duplex.exchanged g.met.C.Duplex.in_turn c.args.desk.now _ _ c.args.connection.now _ _ inv.1.0 c.loop.line _ read c.in_ok-answer_all-in-Err-Failed.ensures.whole in
+    (inv.1.0, reply_lines all.1, all.3, stops-at g.D.Desk.answers c.args.desk.now _ inv.1.0 c.loop.line all.0 all.1 all.2 all.4)
+
+pub returns-in_err-answer_all-in-Err-Over-clause-served : goal.returns-in_err-answer_all-in-Err-Over-clause-served
+returns-in_err-answer_all-in-Err-Over-clause-served g c =
+    let inv = c.loop.invariant in
+    let ready = so-far-some g.D.Desk.answers g.D.Desk.posts g.C.Duplex.exchanged g.met.C.Duplex.in_turn c.args.desk.now _ _ c.args.connection.now _ _ inv.1.0 c.loop.line _ _ inv.1.2 c.in_ok-answer_before_wait.ensures.whole in
+    let read = so-far-still g.D.Desk.answers g.D.Desk.posts g.C.Duplex.exchanged g.met.C.Duplex.in_turn c.args.desk.now _ c.args.connection.now _ _ inv.1.0 c.loop.line _ ready c.in-Err-Over.ensures.failed in
+    let broken = so-far-broken g.D.Desk.answers g.D.Desk.posts g.C.Duplex.exchanged g.met.C.Duplex.in_turn c.args.desk.now _ _ c.args.connection.now _ _ inv.1.0 c.loop.line _ read c.in_err-answer_all-in-Err-Over.ensures.part in
+    served-in-part g.D.Desk.answers g.D.Desk.posts g.C.Duplex.exchanged c.args.desk.now _ c.args.connection.now _ inv.1.0 _ c.from_residual-in_err-answer_all-in-Err-Over.ensures.1 broken
+
+pub returns-in-Err-Over-clause-served : goal.returns-in-Err-Over-clause-served
+returns-in-Err-Over-clause-served g c =
+    let inv = c.loop.invariant in
+    let ready = so-far-some g.D.Desk.answers g.D.Desk.posts g.C.Duplex.exchanged g.met.C.Duplex.in_turn c.args.desk.now _ _ c.args.connection.now _ _ inv.1.0 c.loop.line _ _ inv.1.2 c.in_ok-answer_before_wait.ensures.whole in
+    let read = so-far-still g.D.Desk.answers g.D.Desk.posts g.C.Duplex.exchanged g.met.C.Duplex.in_turn c.args.desk.now _ c.args.connection.now _ _ inv.1.0 c.loop.line _ ready c.in-Err-Over.ensures.failed in
+    let all = so-far-all g.D.Desk.answers g.D.Desk.posts g.C.Duplex.exchanged g.met.C.Duplex.in_turn c.args.desk.now _ _ c.args.connection.now _ _ inv.1.0 c.loop.line _ read c.in_ok-answer_all-in-Err-Over.ensures.whole in
     (inv.1.0, reply_lines all.1, all.3, stops-at g.D.Desk.answers c.args.desk.now _ inv.1.0 c.loop.line all.0 all.1 all.2 all.4)
 
 pub loop-preserved : goal.loop-preserved
 loop-preserved g c =
     let inv = c.loop.invariant in
-    let came = take c.in-Ok.count c.receive.new.buffer in
+    let bytes_read = take c.in-Ok.count c.receive_in_life.new.buffer in
     let some : 1 ≤ c.in-Ok.count = search rules in
     let ready = so-far-some g.D.Desk.answers g.D.Desk.posts g.C.Duplex.exchanged g.met.C.Duplex.in_turn c.args.desk.now _ _ c.args.connection.now _ _ inv.1.0 c.loop.line _ _ inv.1.2 c.in_ok-answer_before_wait.ensures.whole in (
       search rules,
       (
-        inv.1.0 ++ came,
-        omega (arith, inv.1.1, some, length-append inv.1.0 came, length-take-le c.in-Ok.count c.receive.new.buffer (search rules)),
-        so-far-more g.D.Desk.answers g.D.Desk.posts g.C.Duplex.exchanged g.met.C.Duplex.in_turn c.args.desk.now _ _ c.args.connection.now _ _ _ inv.1.0 came c.loop.line _ _ _ ready c.in-Ok.ensures.bytes (c.in_ok-take-in-Ok.ensures.open (search rules)),
+        inv.1.0 ++ bytes_read,
+        omega (arith, inv.1.1, some, length-append inv.1.0 bytes_read, length-take-le c.in-Ok.count c.receive_in_life.new.buffer (search rules)),
+        so-far-more g.D.Desk.answers g.D.Desk.posts g.C.Duplex.exchanged g.met.C.Duplex.in_turn c.args.desk.now _ _ c.args.connection.now _ _ _ inv.1.0 bytes_read c.loop.line _ _ _ ready c.in-Ok.ensures.bytes (c.in_ok-take-in-Ok.ensures.open (search rules)),
       ),
     )
 

@@ -17,7 +17,7 @@ returns-in_err-closed-in-Ok-clause-fault g c =
 pub returns-in_ok-closed-in-Ok-clause-served : goal.returns-in_ok-closed-in-Ok-clause-served
 returns-in_ok-closed-in-Ok-clause-served g c =
     let closed = c.in_ok-closed-in-Ok.closed in
-    served_to_end g.F.Disk.Disk.keeps_model g.F.Disk.Disk.present (g.F.Folder.holds c.args.folder.now c.args.file.now) (g.F.Folder.holds c.close.new.self c.args.file.now) c.in_ok-disk.disk c.left.result c.in_ok-store.store.world closed.store closed.base closed.trail.items closed.settled
+    served_to_end g.F.Disk.Disk.keeps_model g.F.Disk.Disk.present (g.F.Folder.holds c.args.folder.now c.args.file.now) (g.F.Folder.holds c.close.new.self c.args.file.now) c.in_ok-disk.disk c.left.result c.in_ok-store.store.world closed
     c.in_ok-disk.ensures.taken c.in_ok-store.ensures.world c.in_ok-closed-in-Ok.ensures.lives c.left.ensures c.close.ensures
 
 pub returns-in-Err-clause-fault : goal.returns-in-Err-clause-fault

@@ -1,10 +1,17 @@
-use Rattle.std.proofs.Common.{◌≡◌, subst}
-use Rattle.coord_engine.specs.State.{based_on}
-use Rattle.coord_engine.specs.Working.{AddsPackets}
-use Rattle.coord_engine.proofs.Worked.{worked_adds}
+use Rattle.std.proofs.Common.{[]}
+use Rattle.coord_engine.specs.Facade.{based_on}
+use Rattle.coord_engine.proofs.Worked.{works_adds, works_last}
 use Rattle.coord_engine.proofs.working.worker.Goals as goal
+
+pub loop-packet-preserved : goal.loop-packet-preserved
+loop-packet-preserved g c =
+    let b = based_on g.D.Disk.keeps_model g.D.Disk.present g.L.Origin.base g.L.Origin.before in
+    let goes = c.in-Some.ensures.goes in (
+      goes.keeps,
+      (goes.on c.loop-packet.invariant.1).1,
+      works_last b c.args.share c.loop-packet.share c.take.new.share c.try_waiting.new.share [] c.loop-packet.yielded c.loop-packet.waiting c.take.new.waiting c.try_waiting.new.waiting c.in-Some.packet c.loop-packet.invariant.2 c.take.ensures c.try_waiting.ensures,
+    )
 
 pub returns-clause-packets : goal.returns-clause-packets
 returns-clause-packets g c =
-    let same : c.work.new.bench ≡ c.bench.inside.share = cc in
-    subst (AddsPackets c.args.share) same (worked_adds (based_on g.D.Disk.keeps_model g.D.Disk.present g.L.Origin.base g.L.Origin.before) c.args.share c.work.new.bench c.work.ensures)
+    works_adds (based_on g.D.Disk.keeps_model g.D.Disk.present g.L.Origin.base g.L.Origin.before) c.args.share c.loop-packet.share [] c.loop-packet.yielded c.loop-packet.waiting c.loop-packet.invariant.2

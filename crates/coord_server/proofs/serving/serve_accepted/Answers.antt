@@ -8,10 +8,9 @@ use Rattle.coord_server.proofs.serving.serve_accepted.Goals as goal
 
 pub returns-clause-lives : goal.returns-clause-lives
 returns-clause-lives g c =
-    let ended = c.in_ok-ended.ended in
     IfOk-weaker c.closed_of.result _ _
-    (λ closed is. subst (λ k. HasLivedToClose g.D.Disk.keeps_model g.D.Disk.present c.args.store.world k.store k.base k.trail.items k.settled) (sym is.0)
-    (closed_lives g.D.Disk.keeps_model g.D.Disk.present (λ _ _ _. ⊤) (has_stopped ended.closed.store) ended.served ended.is_broken c.args.store.world c.args.callers ended.callers ended.closed.store ended.closed.base ended.closed.trail.items ended.closed.settled is.1 c.in_ok-ended.ensures.lives))
+    (λ closed is. subst (HasLivedToClose g.D.Disk.keeps_model g.D.Disk.present c.args.store.world) (sym is.0)
+    (closed_lives g.D.Disk.keeps_model g.D.Disk.present (λ _ _ _. ⊤) (λ _ _. ⊤) c.args.store.world c.args.callers c.in_ok-ended.ended is.1 c.in_ok-ended.ensures.lives))
     c.closed_of.ensures.closed
 
 pub returns-clause-images : goal.returns-clause-images
@@ -25,6 +24,4 @@ returns-clause-images g c =
 
 pub returns-clause-whole : goal.returns-clause-whole
 returns-clause-whole g c =
-    IfOk-weaker c.closed_of.result _ _
-    (λ closed is. subst (λ k. EndsOneHistory c.args.store.world k.store k.base k.trail.items k.settled) (sym is.0) c.in_ok-ended.ensures.whole)
-    c.closed_of.ensures.closed
+    IfOk-weaker c.closed_of.result _ _ (λ closed is. subst (EndsOneHistory c.args.store.world) (sym is.0) c.in_ok-ended.ensures.whole) c.closed_of.ensures.closed

@@ -1,0 +1,4 @@
+use Rattle.coord_engine.proofs.engine.Engine.lock_for_flight.Given as goal
+
+abbrev pub invariant-loop : goal.invariant-loop
+invariant-loop g l = (goal.iterator-loop g).can_next l.iterator' × (goal.iterator-loop g).is_finite l.iterator'

@@ -1,0 +1,7 @@
+use Rattle.std.proofs.Common.{◌≡◌, drop, take}
+use Rattle.coord_engine.specs.Facade.{AreAsked, deliveries_of}
+use Rattle.coord_engine.proofs.flushing.hand_over.Given as goal
+
+-- the port was asked for those that were taken so far
+abbrev pub invariant-loop-handed : goal.invariant-loop-handed
+invariant-loop-handed g l = (l.left ≡ drop l._handed l.fn.releases) × AreAsked g.P.Port.carried g.P.Port.signalled l.fn.port (deliveries_of (take l._handed l.fn.releases)) l.port

@@ -1,8 +1,0 @@
-use Rattle.std.proofs.Common.{rules}
-use Rattle.coord_engine.specs.State.{based_on}
-use Rattle.coord_server.proofs.Ends.{has_run}
-use Rattle.coord_server.proofs.crew.run_in.Goals as goal
-
-pub returns : goal.returns
-returns g c =
-    has_run (based_on g.D.Disk.keeps_model g.D.Disk.present g.L.Origin.base g.L.Origin.before) g.C.Callers.met c.args.setting.now.life_steps c.args.callers _ _ _ c.all_joined.result.items c.serve_over-own.ensures c.all_joined.ensures.added (search rules)

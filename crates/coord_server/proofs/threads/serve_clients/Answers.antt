@@ -1,0 +1,10 @@
+use Rattle.std.proofs.Common.{rules}
+use Rattle.coord_engine.specs.State.{based_on}
+use Rattle.coord_server.proofs.Ends.{kept_most}
+use Rattle.coord_server.proofs.threads.serve_clients.Goals as goal
+
+pub returns-in-Ok-Old-clause-served : goal.returns-in-Ok-Old-clause-served
+returns-in-Ok-Old-clause-served g c =
+    let b = based_on g.D.Disk.keeps_model g.D.Disk.present g.L.Origin.base g.L.Origin.before in
+    let old = c.serve_connections.ensures.old (search rules) in
+    (old.0, kept_most b c.serve_connections.new.desk c.args.setting.now.life_steps old.1)

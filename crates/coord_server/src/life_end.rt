@@ -1,0 +1,12 @@
+//! How a life of the server ends.
+
+use crate::ServerFault;
+
+/// What ended the serving in one life.
+#[derive(Clone, Copy, Debug, PartialEq, Eq, Drop)]
+pub enum LifeEnd {
+    /// The life is old; the server goes on with the next one.
+    Resting,
+    /// The server ends, by a close or by this fault.
+    Ended(Option<ServerFault>),
+}

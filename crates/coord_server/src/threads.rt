@@ -1,0 +1,270 @@
+//! The threads of one life of a server, while connections are served.
+
+ghost use Rattle.std.specs.Prelude.{◌≡◌, ◌⊎◌, ◌+◌, ◌≤◌, [], ◌∷◌, ℕ, IfErr, IfOk, IfSome, Some, length, vec_capacity, vec_len};
+ghost use Rattle.std.specs.Thread.{IsSend, IsSync};
+ghost use Rattle.coord_engine.specs.State.{based_on};
+ghost use Rattle.coord_server.specs.EngineDesk.{HandsAgain};
+ghost use Rattle.coord_server.specs.Ending.{AddsWorkers, HasRun, IsOfStart, ServesLife, new_desk};
+
+use crate::life_end::LifeEnd;
+use crate::printing::Opening;
+use crate::setting::Setting;
+use crate::{EngineDesk, ServerFault};
+use coord_admin::{Callers, Desk, Stop, serve_connections};
+use coord_disk::Disk;
+use coord_engine::{Engine, Origin, PacketShare, Port, Share, flusher, packet_worker};
+use coord_types::Packet;
+use crossbeam_channel::Receiver;
+use std::io::Write;
+use std::sync::Wait;
+use std::sync::ledger::Ledger as Count;
+use std::thread;
+use std::thread::{JoinHandle, Scope, Threads};
+use std::time::Clock;
+
+/// What the threads of a life begin with.
+#[derive(Drop)]
+pub struct Begun<L: Count> {
+    /// The desk's share.
+    pub own: Share<L>,
+    /// Room for all shares: none of them may be lost for want of memory.
+    pub room: Vec<Share<L>>,
+    /// What the workers receive.
+    pub packets: Vec<Receiver<Packet>>,
+    pub ghost unused: { own ≡ [] },
+    pub ghost has_room: { (room.items ≡ []) × (9 ≤ vec_capacity room) },
+    pub ghost eight: { length packets.items ≡ 8 },
+}
+
+/// What they leave: all shares, the desk's first.
+#[derive(Drop)]
+pub struct Ran<L: Count, C> {
+    pub shares: Vec<Share<L>>,
+    pub callers: C,
+    pub left: LifeEnd,
+}
+
+/// The threads of a life: its flusher, and a worker for each channel.
+#[derive(Drop)]
+struct Crew<L: Count> {
+    flushing: JoinHandle<()>,
+    workers: Vec<JoinHandle<PacketShare<L>>>,
+}
+
+/// Starts a flusher, and a worker on each channel. Once all of them run, it opens the output, sends
+/// again what may have been lost, and serves those who call until the life is old. An error says
+/// that a thread could not be started: then nothing was printed, and nobody was served.
+pub fn run<
+    D: Disk + Send,
+    L: Origin + Send + Sync,
+    C: Callers + Drop,
+    W: Write + Drop,
+    R: Threads + Wait + Clock + Sync,
+>(
+    setting: &Setting<'_, R>,
+    engine: &Engine<D, L>,
+    begun: Begun<L>,
+    callers: C,
+    opening: Option<Opening<W>>,
+) -> Result<Ran<L, C>, ServerFault>
+    ensures { IfOk result (λ ran.
+        HasRun (based_on D.keeps_model D.present L.base L.before) C.met C.failed setting.now.life_steps
+        callers ran.callers ran.left ran.shares.items) }
+{
+    thread::scope(
+        thread::scope_env(),
+        setting.rt,
+        |scope| -> Result<Ran<L, C>, ServerFault>
+            requires { IsSend D.row × IsSend L.row × IsSync L.row × IsSync R.row }
+            ensures { IfOk result (λ ran.
+                HasRun (based_on D.keeps_model D.present L.base L.before) C.met C.failed
+                setting.entry.now.life_steps callers ran.callers ran.left ran.shares.items) }
+        { run_in(scope, setting, engine, begun, callers, opening) },
+    )
+}
+
+/// Serves while the threads of a scope run, and then ends them in order: the flusher first, so that
+/// all that was accepted is settled and handed out; then the workers.
+fn run_in<
+    's,
+    'r: 's,
+    'e: 's,
+    E,
+    D: Disk + Send,
+    L: Origin + Send + Sync,
+    C: Callers + Drop,
+    W: Write + Drop,
+    R: Threads + Wait + Clock + Sync,
+>(
+    scope: &Scope<'s, E>,
+    setting: &Setting<'r, R>,
+    engine: &'e Engine<D, L>,
+    begun: Begun<L>,
+    callers: C,
+    opening: Option<Opening<W>>,
+) -> Result<Ran<L, C>, ServerFault>
+    ensures { IfOk result (λ ran.
+        HasRun (based_on D.keeps_model D.present L.base L.before) C.met C.failed setting.now.life_steps
+        callers ran.callers ran.left ran.shares.items) }
+{
+    let rt = setting.rt;
+    let mut callers = callers;
+    let Begun { own, room, packets } = begun;
+    let Some(crew) = start(scope, setting, engine, packets) else {
+        engine.finish(rt);
+        setting.port.hang_up();
+        return Err(ServerFault::OutOfMemory);
+    };
+    let Crew { flushing, workers } = crew;
+    let (own, left) = serve_over(setting, &*engine, own, &mut callers, opening);
+    engine.finish(rt);
+    flushing.join(rt);
+    setting.port.hang_up();
+    Ok(Ran {
+        shares: all_joined(rt, room, own, workers),
+        callers,
+        left,
+    })
+}
+
+/// Starts a flusher, and a worker on each channel. None where one of them can't be had.
+fn start<'s, 'r: 's, 'e: 's, E, D: Disk + Send, L: Origin + Send + Sync, R: Wait + Clock + Sync>(
+    scope: &Scope<'s, E>,
+    setting: &Setting<'r, R>,
+    engine: &'e Engine<D, L>,
+    packets: Vec<Receiver<Packet>>,
+) -> Option<Crew<L>>
+    ensures { IfSome result (λ crew. vec_len crew.workers ≡ vec_len packets) }
+{
+    let (rt, port) = (setting.rt, setting.port);
+    let flushing = scope
+        .spawn(move || {
+            let mut port = port;
+            flusher(rt, engine, &mut port);
+        })
+        .ok()?;
+    let workers = start_workers(scope, setting, engine, packets)?;
+    Some(Crew { flushing, workers })
+}
+
+/// Starts a worker on each channel. None where one of them can't be had: the others then end with
+/// the scope.
+fn start_workers<'s, 'r: 's, 'e: 's, E, D: Disk + Send, L: Origin + Send + Sync, R: Wait + Sync>(
+    scope: &Scope<'s, E>,
+    setting: &Setting<'r, R>,
+    engine: &'e Engine<D, L>,
+    packets: Vec<Receiver<Packet>>,
+) -> Option<Vec<JoinHandle<PacketShare<L>>>>
+    ensures { IfSome result (λ running. vec_len running ≡ vec_len packets) }
+{
+    let mut running = Vec::new(setting.alloc);
+    for inbox in packets {
+        let worker = start_worker(scope, setting, engine, inbox)?;
+        if running.push(worker).is_err() {
+            return None;
+        }
+    }
+    Some(running)
+}
+
+/// Starts a worker with a share of its own, unless no thread or no share can be had.
+fn start_worker<'s, 'r: 's, 'e: 's, E, D: Disk + Send, L: Origin + Send + Sync, R: Wait + Sync>(
+    scope: &Scope<'s, E>,
+    setting: &Setting<'r, R>,
+    engine: &'e Engine<D, L>,
+    packets: Receiver<Packet>,
+) -> Option<JoinHandle<PacketShare<L>>> {
+    let (rt, alloc) = (setting.rt, setting.alloc);
+    let share = PacketShare::new(engine.share(rt)?);
+    scope
+        .spawn(move || packet_worker(rt, alloc, engine, packets, share))
+        .ok()
+}
+
+/// Opens the output, and serves those who call by a desk with this share. What ended that, and the
+/// share.
+fn serve_over<D: Disk, L: Origin, C: Callers, W: Write + Drop, R: Wait>(
+    setting: &Setting<'_, R>,
+    engine: &Engine<D, L>,
+    own: Share<L>,
+    callers: &mut C,
+    opening: Option<Opening<W>>,
+) -> (Share<L>, LifeEnd)
+    requires { own ≡ [] }
+    ensures { (seen : ℕ) × ServesLife
+        (based_on D.keeps_model D.present L.base L.before) C.met C.failed setting.now.life_steps callers.old
+        callers.new (record { notes = result.0; seen = seen }) result.1 }
+{
+    let opened = open(setting.rt, &*callers, opening);
+    let mut desk = EngineDesk::new(setting.rt, engine, setting.port, own);
+    let left = serve_clients(setting, opened, callers, &mut desk);
+    (desk.into_share(), left)
+}
+
+/// Opens the output, where that was not done before; or says why it can't be opened.
+fn open<C: Callers, W: Write + Drop, R: Wait>(
+    rt: &R,
+    callers: &C,
+    opening: Option<Opening<W>>,
+) -> Result<(), ServerFault>
+    ensures { IfErr result IsOfStart }
+{
+    match opening {
+        Some(opening) => opening.open(rt, callers),
+        None => Ok(()),
+    }
+}
+
+/// Once the output is open, sends again what may have been lost, and serves those who call until
+/// the life is old. What ended it: where the output could not be opened, why.
+fn serve_clients<D: Disk, L: Origin, C: Callers, P: Port, R: Wait>(
+    setting: &Setting<'_, R>,
+    opened: Result<(), ServerFault>,
+    callers: &mut C,
+    desk: &mut EngineDesk<'_, D, L, P, R>,
+) -> LifeEnd
+    requires start { IfErr opened IsOfStart }
+    requires new { desk.old ≡ new_desk }
+    ensures told { IfErr opened (λ fault. result ≡ LifeEnd.Ended (Some fault)) }
+    ensures resent { IfOk opened (λ _.
+        (result ≡ LifeEnd.Ended (Some ServerFault.OutOfMemory)) ⊎ ((count : ℕ) × (port : P) ×
+        (later : P) × HandsAgain (based_on D.keeps_model D.present L.base L.before) P.carried
+        P.signalled count port later)) }
+    ensures served { ServesLife (based_on D.keeps_model D.present L.base L.before) C.met C.failed
+        setting.now.life_steps callers.old callers.new desk.new result }
+{
+    if let Err(fault) = opened {
+        return LifeEnd::Ended(Some(fault));
+    }
+    let Ok(_) = desk.resend() else {
+        return LifeEnd::Ended(Some(ServerFault::OutOfMemory));
+    };
+    match serve_connections(setting.rt, setting.alloc, setting.life_steps, callers, desk) {
+        Ok(Stop::Closed) => LifeEnd::Ended(None),
+        Ok(Stop::Old) => LifeEnd::Resting,
+        Err(_) => LifeEnd::Ended(Some(ServerFault::Socket)),
+    }
+}
+
+/// The desk's share, and behind it those of all workers, which are waited for.
+fn all_joined<L: Count, R: Threads + Wait>(
+    rt: &R,
+    room: Vec<Share<L>>,
+    own: Share<L>,
+    running: Vec<JoinHandle<PacketShare<L>>>,
+) -> Vec<Share<L>>
+    requires { (room.items ≡ []) × (vec_len running + 1 ≤ vec_capacity room) }
+    ensures added { AddsWorkers (own ∷ []) result.items }
+    ensures all { vec_len result ≡ vec_len running + 1 }
+{
+    let mut shares = room;
+    let Ok(()) = shares.push(own) else {
+        unreachable!()
+    };
+    for worker in running {
+        let Ok(()) = shares.push(worker.join(rt).into_share()) else {
+            unreachable!()
+        };
+    }
+    shares
+}
