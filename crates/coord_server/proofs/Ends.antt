@@ -13,7 +13,7 @@ use Rattle.coord_world.specs.protocol.NumberedWorld.{World}
 use Rattle.coord_admin.specs.Connections.{Talk}
 use Rattle.coord_admin.specs.LifeLimit.{HasKept as KeepsSteps}
 use Rattle.coord_server.specs.EngineDesk.{DeskKeeps, DeskState}
-use Rattle.coord_server.specs.Ending.{AddsWorkers, HasKept, HasRun, IsLife, IsOfStart, IsOneHistory, IsServedToClose, Serves, ServesLife, fault_at_end, new_desk}
+use Rattle.coord_server.specs.Ending.{AddsWorkers, HasKept, HasRun, IsLife, IsOneHistory, IsServedToClose, Serves, ServesLife, fault_at_end}
 use Rattle.coord_server.specs.Lives.{HasLived, HasLivedToClose, IsOver, Lives, Rests, life_steps, met_any}
 use Rattle.coord_server.specs.declared.fault.ServerFault.{ServerFault}
 use Rattle.coord_server.specs.declared.fault.ServerFault.TheVariants as fault
@@ -55,14 +55,6 @@ module _ {D : Type 0} (b : Basis D) {V : Type 0} (met : V → List Talk → V �
   closed_if_none false None true v w desk none s = absurd cc
   closed_if_none false (Some met_fault) is_broken v w desk none s = absurd cc
   closed_if_none true served is_broken v w desk none s = absurd cc
-
-  -- a fault that is met before anyone is served
-  pub serves_nobody : (v : V) (desk : DeskState) (met_fault : ServerFault) → IsOfStart met_fault → met v [] v → desk ≡ new_desk → ServesLife b met failed most v v desk (Ended (Some met_fault))
-  serves_nobody v desk fault.OutOfMemory start still new = (still, new)
-  serves_nobody v desk fault.Write start still new = (still, new)
-  serves_nobody v desk fault.Socket start still new = inl (still, new)
-  serves_nobody v desk fault.Device start still new = absurd start
-  serves_nobody v desk (fault.NotClosed why) start still new = absurd start
 
   -- the desk's notes, in the share that it gave back
   pub serves_with : (v w : V) (desk : DeskState) (left : LifeEnd) (notes : List Note) → ServesLife b met failed most v w desk left → notes ≡ desk.notes → (seen : ℕ) × ServesLife b met failed most v w (record { notes = notes; seen = seen }) left
